@@ -1,0 +1,8 @@
+//! IPv6 addresses and prefixes, and their texts.
+#![tactic(auto)]
+
+mod addr;
+mod prefix;
+
+pub use addr::Addr6;
+pub use prefix::{Prefix, prefixes_are_sets};
