@@ -1,0 +1,11 @@
+pub mod Config
+pub mod Received
+pub mod Faults
+pub mod Offers
+pub mod Adoption
+pub mod Hearing
+pub mod Meeting
+pub mod Ageing
+pub mod Output
+pub mod Changes
+pub mod Machine
