@@ -15,6 +15,6 @@ mod listed;
 
 pub use answer::{Answer, Destination, Note, NoteKind, Outgoing};
 pub use arrival::{Arrival, Fault};
-pub use config::{Interface, RouterConfig};
+pub use config::{ConfigRefused, INTERFACE_LIMIT, Interface, OWNED_LIMIT, RouterConfig};
 pub use laws::{changes_replay, held_is_size, pieces_join, start_replays};
 pub use listed::Listed;
