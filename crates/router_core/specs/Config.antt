@@ -1,6 +1,6 @@
 -- What a router is configured with, and which configurations are lawful. The tests, their order and their names are this
 -- project's choice; the ranges are those of RFC 2080, 2.1 and 2.4.2.
-use Rattle.std.specs.Prelude.{◌≡◌, ℕ, ◌==◌, ◌&&◌, ◌||◌, not, nat_lt, Bool, List, [], ◌∷◌, ◌++◌, length, take, flat_map, Option, None, All, unwrap_or, option_map, slice_get}
+use Rattle.std.specs.Prelude.{◌≡◌, ℕ, ◌==◌, ◌&&◌, not, nat_lt, nat_le, Bool, List, [], ◌∷◌, ◌++◌, length, take, flat_map, Option, None, All, unwrap_or, option_map, slice_get}
 use Rattle.std.specs.List.{list_any, enumerate_from}
 use Rattle.prefix6.specs.Addr.{is_link_local}
 use Rattle.prefix6.specs.Prefix.{Prefix6, IsPrefix, same_prefix, is_routable}
@@ -26,30 +26,43 @@ cost_at config iface = unwrap_or (option_map (λ i. i.cost) (slice_get config.in
 abbrev pub mtu_at : Config → ℕ → ℕ
 mtu_at config iface = unwrap_or (option_map (λ i. i.mtu) (slice_get config.interfaces iface)) 1280
 
+abbrev pub has_address : List Interface → ℕ → Bool
+has_address interfaces a = list_any (λ i. i.addr == a) interfaces
+
+abbrev pub has_prefix : List (Prefix6 × ℕ) → Prefix6 → Bool
+has_prefix owned p = list_any (λ t. same_prefix t.0 p) owned
+
 -- an address of one of the router's interfaces
 abbrev pub is_own_address : Config → ℕ → Bool
-is_own_address config a = list_any (λ i. i.addr == a) config.interfaces
+is_own_address config a = has_address config.interfaces a
 
 -- ---- which configurations are lawful: each test stands with whether it fails
+
+-- 1 to 15 hops
+abbrev pub is_usable_cost : ℕ → Bool
+is_usable_cost cost = nat_le 1 cost && nat_lt cost infinity
+
+abbrev pub is_usable_mtu : ℕ → Bool
+is_usable_mtu mtu = nat_le 1280 mtu && nat_le mtu 65535
 
 -- the tests of an interface behind earlier ones
 abbrev pub interface_tests : List Interface → Interface → List (Bool × ConfigRefused)
 interface_tests earlier i =
     (not (is_link_local i.addr), AddressNotLinkLocal)
-    ∷ (list_any (λ e. e.addr == i.addr) earlier, AddressTwice)
-    ∷ (i.cost == 0 || not (nat_lt i.cost infinity), BadCost)
-    ∷ (nat_lt i.mtu 1280 || nat_lt 65535 i.mtu, BadMtu)
+    ∷ (has_address earlier i.addr, AddressTwice)
+    ∷ (not (is_usable_cost i.cost), BadCost)
+    ∷ (not (is_usable_mtu i.mtu), BadMtu)
     ∷ []
 
 -- the tests of an owned prefix behind earlier ones
 abbrev pub prefix_tests : List (Prefix6 × ℕ) → Prefix6 × ℕ → List (Bool × ConfigRefused)
 prefix_tests earlier t =
-    (list_any (λ e. same_prefix e.0 t.0) earlier, PrefixTwice)
+    (has_prefix earlier t.0, PrefixTwice)
     ∷ (not (is_routable t.0), PrefixNotAllowed)
     ∷ []
 
 -- the tests of each member of a list behind the earlier ones, in order
-abbrev pub each_tested : {X : Type 0} → (List X → X → List (Bool × ConfigRefused)) → List X → List (Bool × ConfigRefused)
+abbrev pub each_tested : {X F : Type 0} → (List X → X → List (Bool × F)) → List X → List (Bool × F)
 each_tested tests xs = flat_map (λ t. tests (take t.0 xs) t.1) (enumerate_from 0 xs)
 
 abbrev pub config_tests : Config → List (Bool × ConfigRefused)

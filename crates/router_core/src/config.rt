@@ -1,10 +1,10 @@
 //! What a router is configured with: its interfaces, the prefixes that it owns, and whether it keeps quiet.
 
-ghost use Rattle.std.specs.Prelude.{◌≡◌, All, IfOk, OnOk};
+ghost use Rattle.std.specs.Prelude.{◌≡◌, All, Bool, IfOk, OnOk};
 ghost use Rattle.std.specs.Result.{result_err};
 ghost use Rattle.prefix6.specs.Prefix.{IsPrefix};
 ghost use Rattle.ripng_wire.specs.Wire.{first_failing};
-ghost use Rattle.router_core.specs.Config.{IsConfig, config, config_fault, each_tested, interface_tests, prefix_tests, is_own_address};
+ghost use Rattle.router_core.specs.Config.{IsConfig, config, config_fault, each_tested, interface_tests, prefix_tests, is_own_address, has_address, has_prefix, is_usable_cost, is_usable_mtu};
 
 use prefix6::{Addr6, Prefix};
 use route_table::INFINITY;
@@ -78,23 +78,49 @@ impl Model for RouterConfig {
     }) };
 }
 
+// Whether one of the interfaces has the address.
+fn has_address(interfaces: &[Interface], addr: Addr6) -> bool
+    ensures { result ≡ has_address interfaces.now addr }
+{
+    interfaces.iter().any(|i| i.addr == addr)
+}
+
+// Whether the prefix is one of those that are owned.
+fn has_prefix(owned: &[(Prefix, u16)], prefix: Prefix) -> bool
+    ensures { result ≡ has_prefix owned.now prefix }
+{
+    owned.iter().any(|(p, _)| p.addr() == prefix.addr() && p.len() == prefix.len())
+}
+
+// Whether a route over it may be usable.
+fn is_usable_cost(cost: u8) -> bool
+    ensures { result ≡ is_usable_cost cost }
+{
+    1 <= cost && cost < INFINITY
+}
+
+// Whether packets of IPv6 fit, and lengths their fields.
+fn is_usable_mtu(mtu: u32) -> bool
+    ensures { result ≡ is_usable_mtu mtu }
+{
+    1280 <= mtu && mtu <= 65_535
+}
+
 // The first test that an interface behind earlier ones fails.
 fn check_interface(earlier: &[Interface], interface: &Interface) -> Result<(), ConfigRefused>
     ensures { result_err result ≡ first_failing (interface_tests earlier.now interface.now) }
 {
     if !interface.addr.is_link_local() {
-        return Err(ConfigRefused::AddressNotLinkLocal);
+        Err(ConfigRefused::AddressNotLinkLocal)
+    } else if has_address(earlier, interface.addr) {
+        Err(ConfigRefused::AddressTwice)
+    } else if !is_usable_cost(interface.cost) {
+        Err(ConfigRefused::BadCost)
+    } else if !is_usable_mtu(interface.mtu) {
+        Err(ConfigRefused::BadMtu)
+    } else {
+        Ok(())
     }
-    if earlier.iter().any(|e| e.addr == interface.addr) {
-        return Err(ConfigRefused::AddressTwice);
-    }
-    if interface.cost == 0 || interface.cost >= INFINITY {
-        return Err(ConfigRefused::BadCost);
-    }
-    if interface.mtu < 1280 || interface.mtu > 65_535 {
-        return Err(ConfigRefused::BadMtu);
-    }
-    Ok(())
 }
 
 // The first test that an interface fails.
@@ -110,15 +136,15 @@ fn check_interfaces(interfaces: &[Interface]) -> Result<(), ConfigRefused>
 // The first test that an owned prefix behind earlier ones fails.
 fn check_prefix(earlier: &[(Prefix, u16)], owned: &(Prefix, u16)) -> Result<(), ConfigRefused>
     ensures fault { result_err result ≡ first_failing (prefix_tests earlier.now owned.now) }
-    ensures prefix { IsPrefix owned.now.0 }
+    ensures prefix { OnOk result (IsPrefix owned.now.0) }
 {
-    if earlier.iter().any(|e| e.0 == owned.0) {
-        return Err(ConfigRefused::PrefixTwice);
+    if has_prefix(earlier, owned.0) {
+        Err(ConfigRefused::PrefixTwice)
+    } else if !owned.0.is_routable() {
+        Err(ConfigRefused::PrefixNotAllowed)
+    } else {
+        Ok(())
     }
-    if !owned.0.is_routable() {
-        return Err(ConfigRefused::PrefixNotAllowed);
-    }
-    Ok(())
 }
 
 // The first test that an owned prefix fails.
@@ -130,6 +156,24 @@ fn check_prefixes(prefixes: &[(Prefix, u16)]) -> Result<(), ConfigRefused>
         check_prefix(&prefixes[..place], owned)?;
     }
     Ok(())
+}
+
+// The first test that interfaces and owned prefixes fail.
+fn check_lists(interfaces: &[Interface], prefixes: &[(Prefix, u16)]) -> Result<(), ConfigRefused>
+    ensures fault { (quiet : Bool) → result_err result ≡ config_fault (config interfaces.now prefixes.now quiet) }
+    ensures prefixes { OnOk result (All (λ t. IsPrefix t.0) prefixes.now) }
+{
+    if interfaces.is_empty() {
+        return Err(ConfigRefused::NoInterface);
+    }
+    if interfaces.len() > INTERFACE_LIMIT {
+        return Err(ConfigRefused::TooManyInterfaces);
+    }
+    check_interfaces(interfaces)?;
+    if prefixes.len() > OWNED_LIMIT {
+        return Err(ConfigRefused::TooManyPrefixes);
+    }
+    check_prefixes(prefixes)
 }
 
 impl RouterConfig {
@@ -147,17 +191,7 @@ impl RouterConfig {
         ensures kept { IfOk result (λ c. c ≡ config interfaces.items prefixes.items is_quiet) }
         ensures lawful { IfOk result IsConfig }
     {
-        if interfaces.is_empty() {
-            return Err(ConfigRefused::NoInterface);
-        }
-        if interfaces.len() > INTERFACE_LIMIT {
-            return Err(ConfigRefused::TooManyInterfaces);
-        }
-        check_interfaces(&interfaces)?;
-        if prefixes.len() > OWNED_LIMIT {
-            return Err(ConfigRefused::TooManyPrefixes);
-        }
-        check_prefixes(&prefixes)?;
+        check_lists(&interfaces, &prefixes)?;
         Ok(RouterConfig {
             interfaces,
             prefixes,
@@ -192,6 +226,6 @@ impl RouterConfig {
     pub fn is_own_address(&self, addr: Addr6) -> bool
         ensures { result ≡ is_own_address self.now addr }
     {
-        self.interfaces.iter().any(|i| i.addr == addr)
+        has_address(&self.interfaces, addr)
     }
 }
