@@ -1,8 +1,11 @@
 -- The one form in which an address is written: RFC 5952, 4.1 to 4.3, and never the dotted form of 5.
-use Rattle.std.specs.Prelude.{◌≡◌, ℕ, ◌+◌, ◌≤◌, ◌⊎◌, List, ◌++◌, length, take, drop, replicate, codes, decimal, nat_lt, if◌then◌else◌}
+use Rattle.std.specs.Prelude.{◌≡◌, ℕ, ◌+◌, ◌≤◌, ◌⊎◌, List, ◌++◌, length, take, drop, replicate, slice_index, codes, decimal, nat_lt, if◌then◌else◌}
 use Rattle.std.specs.Net.Text.{groups_text, longest_zero_run}
+use Rattle.std.specs.Int.{IsInRange}
+use Rattle.std.specs.List.{All}
 use Rattle.prefix6.specs.Addr.{groups_of}
 use Rattle.prefix6.specs.Prefix.{Prefix6}
+use Rattle.prefix6.specs.Text.{IsGroup}
 
 -- `::` in place of the groups of a run
 abbrev pub shortened : List ℕ → ℕ × ℕ → List ℕ
@@ -42,3 +45,13 @@ pub record IsShortest (groups text : List ℕ) : Type 0 where
 abbrev pub IsCanonical : List ℕ → List ℕ → Type 0
 IsCanonical groups text = IsShortest groups text
     ⊎ (((s l : ℕ) → IsZeroRun groups s l → l ≤ 1) × (text ≡ groups_text groups))
+
+-- a decimal digit, or one of `a` to `f`
+abbrev pub IsLowerCase : ℕ → Type 0
+IsLowerCase c = IsInRange 48 57 c ⊎ IsInRange 97 102 c
+
+-- what RFC 5952, 4.1 and 4.3 ask of a group: its digits in lower case, with no leading zero
+pub record IsPlainGroup (text : List ℕ) (group : ℕ) : Type 0 where
+  pub reads : IsGroup text group
+  pub lower_case : All IsLowerCase text
+  pub no_leading_zero : slice_index text 0 ≡ 48 → length text ≡ 1

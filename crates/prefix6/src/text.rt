@@ -5,7 +5,8 @@ ghost use Rattle.std.specs.Prelude.{◌≡◌, ℕ, ◌<◌, ◌≤◌, ◌^◌,
 ghost use Rattle.prefix6.specs.Addr.{groups_of};
 ghost use Rattle.prefix6.specs.Prefix.{Prefix6, IsPrefix};
 ghost use Rattle.prefix6.specs.Text.{ReadsAs, Reads, ReadsPrefix, IsLengthText, address_part};
-ghost use Rattle.prefix6.specs.Written.{written, written_addr, written_prefix, IsCanonical};
+ghost use Rattle.prefix6.specs.Written.{written, written_addr, written_prefix, IsCanonical, IsPlainGroup};
+ghost use Rattle.std.specs.Net.Text.{hex};
 ghost use Rattle.prefix6.specs.declared.error.PrefixError.TheVariants.{BadAddressText, BadLengthText};
 
 use crate::addr::Addr6;
@@ -113,6 +114,22 @@ impl Display for Prefix {
         write!(f, "{}/{}", self.addr(), self.len())
     }
 }
+
+/// What is written is read back, and a text that is read has one meaning.
+pub fn written_texts_are_read_back()
+    ensures address { (a : ℕ) → a < 2 ^ 128 → Reads (written_addr a) a }
+    ensures prefix { (p : Prefix6) → IsPrefix p → ReadsPrefix (written_prefix p) p }
+    ensures one_address { (text : List ℕ) (a b : ℕ) → Reads text a → Reads text b → a ≡ b }
+    ensures one_prefix { (text : List ℕ) (p q : Prefix6) → ReadsPrefix text p → ReadsPrefix text q → p ≡ q }
+    ensures an_address { (text groups : List ℕ) → ReadsAs text groups → (a : ℕ) × Reads text a × (groups ≡ groups_of a) }
+{}
+
+/// The written form is the one that RFC 5952 asks for: `::` stands for the first of the longest runs
+/// of two zero groups or more, and each group is in lower case and has no leading zero.
+pub fn written_texts_are_canonical()
+    ensures exact { (groups text : List ℕ) → IsCanonical groups text ↔ (text ≡ written groups) }
+    ensures group { (n : ℕ) → n < 2 ^ 16 → IsPlainGroup (hex n) n }
+{}
 
 #[cfg(test)]
 mod tests;
