@@ -51,16 +51,21 @@ groups-fit (g ∷ n ∷ groups) text h =
     let (first, rest, spelled, group, more) = h in
     (group-fits first g group, groups-fit (n ∷ groups) rest more)
 
-read_groups-fit : (text groups : List ℕ) → ReadsAs text groups → Fit groups
-read_groups-fit text groups (inl h) = groups-fit groups text h.0
-read_groups-fit text groups (inr h) =
+all_groups-fit : (text groups : List ℕ) → ReadsAs text groups → Fit groups
+all_groups-fit text groups (inl h) = groups-fit groups text h.0
+all_groups-fit text groups (inr h) =
     subst Fit (sym h.value) (Fit-append _ h.back (Fit-append h.front _ (groups-fit h.front h.front_text h.front_groups) (Fit-zeros _)) (groups-fit h.back h.back_text h.back_groups))
+
+-- each group of a text fits 16 bits
+pub read_groups-fit : (text groups : List ℕ) → ReadsAs text groups → (k : ℕ) → get_or groups k 0 < 65536
+read_groups-fit text groups h = Fit-at groups (all_groups-fit text groups h)
 
 length-zeros : (n : ℕ) → length {A = ℕ} (replicate n 0) ≡ n
 length-zeros zero = refl
 length-zeros (suc n) = ap suc (length-zeros n)
 
-read_groups-eight : (text groups : List ℕ) → ReadsAs text groups → length groups ≡ 8
+-- a text has eight groups
+pub read_groups-eight : (text groups : List ℕ) → ReadsAs text groups → length groups ≡ 8
 read_groups-eight text groups (inl h) = h.1
 read_groups-eight text groups (inr h) =
     ap length h.value ∙ omega (arith, length-append (h.front ++ replicate (8 - length h.front - length h.back) 0) h.back, length-append h.front (replicate (8 - length h.front - length h.back) 0), length-zeros (8 - length h.front - length h.back), h.missing)
@@ -68,6 +73,6 @@ read_groups-eight text groups (inr h) =
 -- the groups of a text are those of an address
 pub read_address : (text groups : List ℕ) → ReadsAs text groups → (a : ℕ) × Reads text a × (groups ≡ groups_of a)
 read_address text groups h =
-    let fits = Fit-at groups (read_groups-fit text groups h) in
+    let fits = read_groups-fit text groups h in
     let same = groups_of-address_of groups (read_groups-eight text groups h) fits in
     (address_of groups, record { in_range = address_of-lt groups fits; groups = subst (ReadsAs text) (sym same) h }, sym same)

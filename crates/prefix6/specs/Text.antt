@@ -1,6 +1,6 @@
 -- The texts that are read: of addresses the first two forms of RFC 4291, 2.2, and of prefixes that of 2.3.
 use Rattle.std.specs.Prelude.{◌≡◌, ℕ, ◌+◌, ◌-◌, ◌^◌, ◌<◌, ◌≤◌, ◌==◌, ◌⊎◌, List, [], ◌∷◌, ◌++◌, length, replicate, slice_index, codes}
-use Rattle.std.specs.List.{before_first}
+use Rattle.std.specs.List.{before_first, after_first}
 use Rattle.std.specs.Str.Parse.{IsNumeral, digits_value}
 use Rattle.prefix6.specs.Addr.{groups_of}
 use Rattle.prefix6.specs.Prefix.{Prefix6, cleared}
@@ -57,6 +57,18 @@ pub record ReadsPrefix (text : List ℕ) (p : Prefix6) : Type 0 where
   pub len : IsLengthText len_text p.len
   pub value : p ≡ cleared addr p.len
 
--- the text up to the first slash, or the whole
+-- the text up to the first slash, or the whole; and what stands after it, or nothing
 abbrev pub address_part : List ℕ → List ℕ
 address_part text = before_first (λ c. c == 47) text
+
+abbrev pub length_part : List ℕ → List ℕ
+length_part text = after_first (λ c. c == 47) text
+
+-- no address stands before the first slash
+abbrev pub HasNoAddress : List ℕ → Type 0
+HasNoAddress text = (a : ℕ) → ¬ (Reads (address_part text) a)
+
+-- an address stands there, and no length after it
+abbrev pub HasNoLength : List ℕ → Type 0
+HasNoLength text = ((a : ℕ) × Reads (address_part text) a)
+    × ((len : ℕ) → ¬ (IsLengthText (length_part text) len))

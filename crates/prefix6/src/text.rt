@@ -1,13 +1,13 @@
 //! Texts of addresses and prefixes: the two forms that are read (RFC 4291, section 2.2) and the one
 //! that is written (RFC 5952, sections 4.1 to 4.3).
 
-ghost use Rattle.std.specs.Prelude.{◌≡◌, ℕ, ◌<◌, ◌≤◌, ◌^◌, ◌↔◌, ◌⊎◌, IfErr, List};
+ghost use Rattle.std.specs.Prelude.{◌≡◌, ◌≢◌, ℕ, ◌<◌, ◌^◌, ◌↔◌, IfErr, List, Some, Ok};
 ghost use Rattle.prefix6.specs.Addr.{groups_of};
 ghost use Rattle.prefix6.specs.Prefix.{Prefix6, IsPrefix};
-ghost use Rattle.prefix6.specs.Text.{ReadsAs, Reads, ReadsPrefix, IsLengthText, address_part};
+ghost use Rattle.prefix6.specs.Text.{ReadsAs, Reads, ReadsPrefix, IsLengthText, address_part, length_part, HasNoAddress, HasNoLength};
 ghost use Rattle.prefix6.specs.Written.{written, written_addr, written_prefix, IsCanonical, IsPlainGroup};
 ghost use Rattle.std.specs.Net.Text.{hex};
-ghost use Rattle.prefix6.specs.declared.error.PrefixError.TheVariants.{BadAddressText, BadLengthText};
+ghost use Rattle.prefix6.specs.declared.error.PrefixError.TheVariants.{LengthTooLarge, BadAddressText, BadLengthText};
 
 use crate::addr::Addr6;
 use crate::error::PrefixError;
@@ -50,6 +50,14 @@ fn parse_len(text: &str) -> Result<u8, PrefixError>
     }
 }
 
+/// What stands before the first slash and after it; where there is none, the whole and nothing.
+fn split_at_slash(text: &str) -> (&str, &str)
+    ensures address { result.0.now ≡ address_part text.now }
+    ensures length { result.1.now ≡ length_part text.now }
+{
+    text.split_once('/').unwrap_or((text, ""))
+}
+
 /// Reads the text of a prefix: an address as of [`parse_addr`], a slash, and the length in decimal,
 /// up to 128, with no leading zero. Bits past the length are cleared.
 ///
@@ -58,13 +66,11 @@ fn parse_len(text: &str) -> Result<u8, PrefixError>
 /// `BadLengthText` where that is one, and no length or no slash follows.
 pub fn parse_prefix(text: &str) -> Result<Prefix, PrefixError>
     ensures reads { (p : Prefix6) → (result ≡ Ok p) ↔ ReadsPrefix text.now p }
-    ensures bad_address { (result ≡ Err BadAddressText) ↔ ((a : ℕ) → ¬ (Reads (address_part text.now) a)) }
-    ensures refused { IfErr result (λ e. (e ≡ BadAddressText) ⊎ (e ≡ BadLengthText)) }
+    ensures bad_address { (result ≡ Err BadAddressText) ↔ HasNoAddress text.now }
+    ensures bad_length { (result ≡ Err BadLengthText) ↔ HasNoLength text.now }
+    ensures no_other { result ≢ Err LengthTooLarge }
 {
-    let Some((addr, len)) = text.split_once('/') else {
-        parse_addr(text)?;
-        return Err(PrefixError::BadLengthText);
-    };
+    let (addr, len) = split_at_slash(text);
     let addr = parse_addr(addr)?;
     let len = parse_len(len)?;
     Prefix::new(addr, len)
