@@ -5,19 +5,28 @@ use Rattle.std.proofs.lemmas.Bool.Decides.{nat_tests}
 use Rattle.std.proofs.lemmas.List.Elements.{All-nil, All-cons, All-head, All-tail}
 use Rattle.std.specs.Char.{digit_char, digit_value}
 use Rattle.std.specs.Int.{IsInRange}
-use Rattle.std.specs.Net.Text.{hex, hex_groups_text, longest_zero_run}
+use Rattle.std.specs.Net.Text.{hex, hex_groups_text, hex_groups_addr, longest_zero_run}
+use Rattle.std.specs.Net.Addr.{ipv6_segments, IsIpv6OfBits}
+use Rattle.std.specs.declared.net.ipv6_addr.Ipv6Addr.{Ipv6Addr}
+use Rattle.std.specs.declared.net.display.HexGroups.{HexGroups}
 use Rattle.std.proofs.NetLemmas.Alphabet.{All-hex_groups_text, IsHexOrColon}
 use Rattle.std.proofs.NetLemmas.Texts.{IsColonHex-hex_groups_text, IsZeroRun-longest_zero_run, longest_zero_run_first}
 use Rattle.prefix6.specs.Addr.{groups_of}
 use Rattle.prefix6.specs.Text.{ReadsAs, Reads, IsGroup}
 use Rattle.prefix6.specs.Written.{written, written_addr, shortened, IsZeroRun, IsShortest, IsCanonical, IsLowerCase, IsPlainGroup}
 use Rattle.prefix6.proofs.Grammar.{Lacks, from_colon_hex}
-use Rattle.prefix6.proofs.Groups.{length-groups_of, groups_of-fit}
+use Rattle.prefix6.proofs.Groups.{segments-groups_of, length-groups_of, groups_of-fit}
 
 -- std writes the same
 pub hex_groups_text-written : (groups : List ℕ) → hex_groups_text groups ≡ written groups
 unfolding hex_groups_text written
 hex_groups_text-written groups = refl
+
+-- what std shows of the address of a number
+pub shown : (g : HexGroups) (addr : Ipv6Addr) (n : ℕ) → hex_groups_addr g ≡ addr → IsIpv6OfBits addr n → hex_groups_text (ipv6_segments (hex_groups_addr g)) ≡ written_addr n
+unfolding IsIpv6OfBits written_addr
+shown g addr n is of_bits =
+    ap (λ (x : Ipv6Addr). hex_groups_text (ipv6_segments x)) is ∙ hex_groups_text-written (ipv6_segments addr) ∙ ap written (of_bits ∙ segments-groups_of n)
 
 Lacks-from_all : (b : ℕ) (P : ℕ → Type 0) → ((c : ℕ) → P c → c ≢ b) → (xs : List ℕ) → All P xs → Lacks b xs
 Lacks-from_all b P other [] h = tt
