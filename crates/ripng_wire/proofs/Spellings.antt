@@ -42,10 +42,16 @@ spelling_passes command entries bytes s =
     let len = spelling_length command entries bytes s in
     let at = λ (i : ℕ). ap (λ (x : List ℕ). get_or x i 0) s.bytes_are in (
       le-ltb _ _ (omega arith),
-      (le-ltb _ _ (omega (arith, s.few)), (ap not (eq-eqb _ _ (omega arith)), (
-        ap (λ (b : ℕ). not (b == 1 || b == 2)) (at 0) ∙ header_passes command,
-        (ap (λ (b : ℕ). not (b == VERSION)) (at 1), (rw (at 2, at 3) refl, tt)),
-      ))),
+      (
+        le-ltb _ _ (omega (arith, s.few)),
+        (
+          ap not (eq-eqb _ _ (omega arith)),
+          (
+            ap (λ (b : ℕ). not (b == 1 || b == 2)) (at 0) ∙ header_passes command,
+            (ap (λ (b : ℕ). not (b == VERSION)) (at 1), (rw (at 2, at 3) refl, tt)),
+          ),
+        ),
+      ),
     )
 
 -- bytes that spell a datagram have no fault

@@ -12,15 +12,12 @@ ghost use Rattle.ripng_wire.specs.Reading.{IsMessage, Message, entries_of, entry
 ghost use Rattle.ripng_wire.specs.Wire.{wire_fault};
 
 use crate::error::WireError;
-use crate::rte::{Command, ENTRY_LEN, HEADER_LEN, MAX_ENTRIES, Rte, VERSION};
+use crate::rte::{Command, ENTRY_LEN, HEADER_LEN, MAX_ENTRIES, MAX_LEN, Rte, VERSION};
 use byteorder::{ByteOrder, NetworkEndian};
 use std::marker::Model;
 
-/// The bytes of a datagram with the most entries.
-const MAX_LEN: usize = HEADER_LEN + ENTRY_LEN * MAX_ENTRIES;
-
 /// A datagram, over the bytes that it was read from.
-#[derive(Drop)]
+#[derive(Debug, Drop)]
 pub struct Datagram<'a> {
     command: Command,
     body: &'a [u8],
@@ -53,7 +50,7 @@ impl<'a> Datagram<'a> {
 }
 
 /// The entries of a datagram that are left, an iterator over its bytes.
-#[derive(Drop)]
+#[derive(Debug, Drop)]
 pub struct Rtes<'a> {
     left: &'a [u8],
 }
@@ -106,7 +103,7 @@ fn rte_of(bytes: &[u8]) -> Rte
 }
 
 /// The command of bytes that fail no test of the wire, or the first test that they fail.
-fn check(bytes: &[u8]) -> Result<Command, WireError>
+fn check_layout(bytes: &[u8]) -> Result<Command, WireError>
     ensures fault { result_err result ≡ wire_fault bytes.now }
     ensures command { IfOk result (λ c. slice_index bytes.now 0 ≡ command_byte c) }
 {
@@ -142,7 +139,7 @@ pub fn decode(bytes: &[u8]) -> Result<Datagram<'_>, WireError>
 
     ensures fault { result_err result ≡ wire_fault bytes.now }
 {
-    let command = check(bytes)?;
+    let command = check_layout(bytes)?;
     Ok(Datagram {
         command,
         body: &bytes[HEADER_LEN..],

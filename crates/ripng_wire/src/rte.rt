@@ -12,9 +12,11 @@ pub(crate) const HEADER_LEN: usize = 4;
 /// The bytes of an entry.
 pub(crate) const ENTRY_LEN: usize = 20;
 
-/// The most entries of a datagram: as many as fit the payload that UDP can carry, so that no datagram is longer than
-/// 65,524 bytes.
+/// The most entries of a datagram: the length that UDP can give leaves room for no more.
 pub const MAX_ENTRIES: usize = 3276;
+
+/// The bytes of a datagram with the most entries.
+pub(crate) const MAX_LEN: usize = HEADER_LEN + ENTRY_LEN * MAX_ENTRIES;
 
 /// The metric that marks an entry as a next hop and no route (RFC 2080, section 2.1.1).
 pub const NEXT_HOP_METRIC: u8 = 0xff;

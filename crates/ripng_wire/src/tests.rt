@@ -64,18 +64,40 @@ fn takes_at_most_3276_entries(rt: HostRuntime) -> Result<(), Fail> {
 }
 
 #[test]
-fn numbers_and_names_the_refusals(rt: HostRuntime) {
-    for (refusal, number, name) in [
-        (WireError::Short, 1, "Short"),
-        (WireError::TooLong, 2, "TooLong"),
-        (WireError::Ragged, 3, "Ragged"),
-        (WireError::BadCommand, 4, "BadCommand"),
-        (WireError::BadVersion, 5, "BadVersion"),
-        (WireError::NotZero, 6, "NotZero"),
+fn numbers_and_names_the_refusals(rt: HostRuntime) -> Result<(), Fail> {
+    for (refusal, number, name, text) in [
+        (WireError::Short, 1, "Short", "fewer than 4 bytes"),
+        (WireError::TooLong, 2, "TooLong", "more than 65524 bytes"),
+        (
+            WireError::Ragged,
+            3,
+            "Ragged",
+            "the last entry is cut short",
+        ),
+        (
+            WireError::BadCommand,
+            4,
+            "BadCommand",
+            "the command is neither 1 nor 2",
+        ),
+        (
+            WireError::BadVersion,
+            5,
+            "BadVersion",
+            "the version is not 1",
+        ),
+        (
+            WireError::NotZero,
+            6,
+            "NotZero",
+            "a byte that must be zero is not",
+        ),
     ] {
         assert_eq!(rt; refusal.number(), number);
         assert_eq!(rt; refusal.name(), name);
+        assert_eq!(rt; format!(in rt.alloc(); "{refusal}")?.as_str(), text);
     }
+    Ok(())
 }
 
 fn read(bytes: &[u8]) -> Result<Datagram<'_>, Fail> {
