@@ -1,0 +1,41 @@
+-- The layout of a RIPng datagram (RFC 2080, 2.1): a header of 4 bytes, then entries of 20 bytes each.
+-- Numbers stand highest byte first.
+use Rattle.std.specs.Prelude.{◌≡◌, ℕ, ◌-◌, ◌/◌, ◌^◌, ◌<◌, ◌≤◌, ◌==◌, Bool, List, [], ◌∷◌, ◌++◌, length, flat_map, All}
+use Rattle.byteorder.specs.Endian.{big_bytes}
+use Rattle.ripng_wire.specs.declared.rte.Command.{Command}
+use Rattle.ripng_wire.specs.declared.rte.Command.TheVariants.{Request, Response}
+use Rattle.ripng_wire.specs.declared.rte.Rte.{Rte}
+use Rattle.ripng_wire.specs.declared.rte.TheConstants.{MAX_ENTRIES, NEXT_HOP_METRIC, VERSION}
+
+-- every number of an entry is within its bytes
+pub record Fits (e : Rte) : Type 0 where
+  pub addr : e.addr < 2 ^ 128
+  pub tag : e.tag < 2 ^ 16
+  pub len : e.len < 2 ^ 8
+  pub metric : e.metric < 2 ^ 8
+
+-- the 16 bytes of the address, 2 of the route tag, 1 of the prefix length and 1 of the metric
+unfoldable pub entry_bytes : Rte → List ℕ
+entry_bytes e = big_bytes 16 e.addr ++ big_bytes 2 e.tag ++ e.len ∷ e.metric ∷ []
+
+abbrev pub command_byte : Command → ℕ
+command_byte Request = 1
+command_byte Response = 2
+
+-- the most entries of a datagram
+abbrev pub most_entries : ℕ
+most_entries = MAX_ENTRIES
+
+-- command, version, two zero bytes, and the entries in order
+pub record Spells (command : Command) (entries : List Rte) (bytes : List ℕ) : Type 0 where
+  pub bytes_are : bytes ≡ command_byte command ∷ VERSION ∷ 0 ∷ 0 ∷ flat_map entry_bytes entries
+  pub few : length entries ≤ most_entries
+  pub fit : All Fits entries
+
+-- how many entries the MTU of a link leaves room for, behind 52 bytes of headers: 40 of IPv6, 8 of UDP and 4 of RIPng
+abbrev pub entries_for_mtu : ℕ → ℕ
+entries_for_mtu mtu = (mtu - 52) / 20
+
+-- a next hop entry (RFC 2080, 2.1.1)
+abbrev pub is_next_hop : Rte → Bool
+is_next_hop e = e.metric == NEXT_HOP_METRIC

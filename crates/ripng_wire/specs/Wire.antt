@@ -1,0 +1,48 @@
+-- Which bytes are no datagram (RFC 2080, 2.1; the tests' order, numbers and names are this project's choice).
+use Rattle.std.specs.Prelude.{ℕ, ◌+◌, ◌-◌, ◌*◌, ◌%◌, ◌==◌, ◌&&◌, ◌||◌, not, nat_lt, Bool, if◌then◌else◌, List, [], ◌∷◌, length, slice_index, codes, Option, Some, None}
+use Rattle.ripng_wire.specs.declared.error.WireError.{WireError}
+use Rattle.ripng_wire.specs.declared.error.WireError.TheVariants.{Short, TooLong, Ragged, BadCommand, BadVersion, NotZero}
+use Rattle.ripng_wire.specs.declared.rte.TheConstants.{VERSION}
+use Rattle.ripng_wire.specs.Layout.{most_entries}
+
+-- the name of the first test that fails
+abbrev pub first_failing : {F : Type 0} → List (Bool × F) → Option F
+first_failing [] = None
+first_failing (test ∷ tests) = if test.0 then Some test.1 else first_failing tests
+
+-- each test of the bytes, with whether it fails
+abbrev pub wire_tests : List ℕ → List (Bool × WireError)
+wire_tests bytes =
+    (nat_lt (length bytes) 4, Short)
+    ∷ (nat_lt (4 + 20 * most_entries) (length bytes), TooLong)
+    ∷ (not ((length bytes - 4) % 20 == 0), Ragged)
+    ∷ (not (slice_index bytes 0 == 1 || slice_index bytes 0 == 2), BadCommand)
+    ∷ (not (slice_index bytes 1 == VERSION), BadVersion)
+    ∷ (not (slice_index bytes 2 == 0 && slice_index bytes 3 == 0), NotZero)
+    ∷ []
+
+-- why the bytes are no datagram, if they are none
+abbrev pub wire_fault : List ℕ → Option WireError
+wire_fault bytes = first_failing (wire_tests bytes)
+
+-- the command is that of a Response, the only one but Request
+abbrev pub is_response : List ℕ → Bool
+is_response bytes = slice_index bytes 0 == 2
+
+-- ---- the refusals as they are shown
+
+abbrev pub refusal_number : WireError → ℕ
+refusal_number Short = 1
+refusal_number TooLong = 2
+refusal_number Ragged = 3
+refusal_number BadCommand = 4
+refusal_number BadVersion = 5
+refusal_number NotZero = 6
+
+abbrev pub refusal_name : WireError → List ℕ
+refusal_name Short = codes "Short"
+refusal_name TooLong = codes "TooLong"
+refusal_name Ragged = codes "Ragged"
+refusal_name BadCommand = codes "BadCommand"
+refusal_name BadVersion = codes "BadVersion"
+refusal_name NotZero = codes "NotZero"

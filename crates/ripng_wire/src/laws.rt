@@ -1,0 +1,22 @@
+//! Laws of the layout: a spelling is read in one way, and bytes are a spelling exactly where no test fails.
+
+ghost use Rattle.std.specs.Prelude.{◌≡◌, ◌<◌, ◌^◌, ℕ, List, All, None};
+ghost use Rattle.ripng_wire.specs.declared.rte.Command.{Command};
+ghost use Rattle.ripng_wire.specs.declared.rte.Rte.{Rte};
+ghost use Rattle.ripng_wire.specs.Layout.{Spells};
+ghost use Rattle.ripng_wire.specs.Wire.{wire_fault};
+
+/// No bytes spell two datagrams, so what [`decode`](crate::decode) answers for what
+/// [`encode`](crate::encode) was given is that very command with those entries.
+pub fn one_datagram()
+    ensures { (c d : Command) (es fs : List Rte) (bytes : List ℕ)
+        → Spells c es bytes → Spells d fs bytes → (c ≡ d) × (es ≡ fs) }
+{}
+
+/// Bytes spell a datagram exactly where they fail no test of the wire.
+pub fn spelled_has_no_fault()
+    ensures passes { (command : Command) (entries : List Rte) (bytes : List ℕ)
+        → Spells command entries bytes → wire_fault bytes ≡ None }
+    ensures spelled { (bytes : List ℕ) → All (λ b. b < 2 ^ 8) bytes → wire_fault bytes ≡ None
+        → (command : Command) × ((entries : List Rte) × Spells command entries bytes) }
+{}

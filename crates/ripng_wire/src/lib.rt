@@ -1,0 +1,17 @@
+//! RIPng datagrams as bytes: read and written (RFC 2080, section 2.1).
+#![tactic(auto)]
+
+mod error;
+mod laws;
+mod reading;
+mod rte;
+mod writing;
+
+pub use error::WireError;
+pub use laws::{one_datagram, spelled_has_no_fault};
+pub use reading::{Datagram, Rtes, decode};
+pub use rte::{Command, MAX_ENTRIES, NEXT_HOP_METRIC, Rte, entries_for_mtu};
+pub use writing::encode;
+
+#[cfg(test)]
+mod tests;

@@ -1,0 +1,67 @@
+//! What a datagram says: a command and route table entries, and how many of these it may hold.
+
+ghost use Rattle.std.specs.Prelude.{◌≡◌, ◌≤◌};
+ghost use Rattle.ripng_wire.specs.Layout.{entries_for_mtu};
+
+/// The version of RIPng (RFC 2080, section 2.1).
+pub(crate) const VERSION: u8 = 1;
+
+/// The bytes before the first entry: command, version and two zero bytes.
+pub(crate) const HEADER_LEN: usize = 4;
+
+/// The bytes of an entry.
+pub(crate) const ENTRY_LEN: usize = 20;
+
+/// The most entries of a datagram: the length that UDP can give leaves room for no more.
+pub const MAX_ENTRIES: usize = 3276;
+
+/// The bytes of a datagram with the most entries.
+pub(crate) const MAX_LEN: usize = HEADER_LEN + ENTRY_LEN * MAX_ENTRIES;
+
+/// The metric that marks an entry as a next hop and no route (RFC 2080, section 2.1.1).
+pub const NEXT_HOP_METRIC: u8 = 0xff;
+
+/// What a datagram is for (RFC 2080, section 2.1).
+#[derive(Clone, Copy, Debug, PartialEq, Eq, Hash)]
+pub enum Command {
+    /// Asks for routes.
+    Request = 1,
+    /// Tells routes, asked for or not.
+    Response = 2,
+}
+
+/// A route table entry as it stands on the wire, whatever its values: none is judged here.
+#[derive(Clone, Copy, Debug, PartialEq, Eq, Hash)]
+pub struct Rte {
+    /// The address of the prefix, or of the next hop; its highest byte stands first.
+    pub addr: u128,
+    /// The route tag, which routers pass on.
+    pub tag: u16,
+    /// The length of the prefix in bits.
+    pub len: u8,
+    /// The metric in hops, or [`NEXT_HOP_METRIC`].
+    pub metric: u8,
+}
+
+impl Rte {
+    ghost use Rattle.ripng_wire.specs.Layout.{is_next_hop};
+
+    /// Whether the entry names the next hop of those that follow it (RFC 2080, section 2.1.1).
+    pub fn is_next_hop(self) -> bool
+        ensures { result ≡ is_next_hop self }
+    {
+        self.metric == NEXT_HOP_METRIC
+    }
+}
+
+/// How many entries a datagram has room for on a link whose MTU is `mtu` bytes, after the headers of IPv6 (40 bytes)
+/// and UDP (8 bytes) and that of RIPng (RFC 2080, section 2.1).
+pub fn entries_for_mtu(mtu: u32) -> usize
+    requires low { 1280 ≤ mtu }
+    requires high { mtu ≤ 65535 }
+    ensures count { result ≡ entries_for_mtu mtu }
+    ensures least { 61 ≤ result }
+    ensures most { result ≤ MAX_ENTRIES }
+{
+    (mtu as usize - 40 - 8 - HEADER_LEN) / ENTRY_LEN
+}

@@ -1,0 +1,39 @@
+//! Datagrams written as bytes.
+
+ghost use Rattle.std.specs.Prelude.{◌≡◌, ◌≤◌, length, IfOk};
+ghost use Rattle.ripng_wire.specs.Layout.{Fits, Spells, command_byte, entry_bytes};
+
+use crate::rte::{Command, ENTRY_LEN, HEADER_LEN, MAX_ENTRIES, Rte, VERSION};
+use byteorder::{ByteOrder, NetworkEndian};
+use std::alloc::{AllocError, Global};
+
+/// The bytes of a datagram with these entries, in their order. The only error is want of memory.
+pub fn encode(alloc: Global, command: Command, entries: &[Rte]) -> Result<Vec<u8>, AllocError>
+    requires { length entries.now ≤ MAX_ENTRIES }
+    ensures { IfOk result (λ bytes. Spells command entries.now bytes.items) }
+{
+    let mut bytes = Vec::with_capacity(alloc, HEADER_LEN + ENTRY_LEN * entries.len())?;
+    bytes.extend_from_slice(&[byte_of(command), VERSION, 0, 0])?;
+    for entry in entries {
+        bytes.extend_from_slice(&bytes_of(*entry))?;
+    }
+    Ok(bytes)
+}
+
+fn byte_of(command: Command) -> u8
+    ensures { result ≡ command_byte command }
+{
+    command as u8
+}
+
+fn bytes_of(entry: Rte) -> [u8; ENTRY_LEN]
+    ensures layout { result ≡ entry_bytes entry }
+    ensures fits { Fits entry }
+{
+    let mut bytes = [0; ENTRY_LEN];
+    NetworkEndian::write_u128(&mut bytes, entry.addr);
+    NetworkEndian::write_u16(&mut bytes[16..], entry.tag);
+    bytes[18] = entry.len;
+    bytes[19] = entry.metric;
+    bytes
+}
