@@ -1,3 +1,4 @@
 pub mod TableLaws
+pub mod TableSteps
 pub mod SortedEntries
 pub mod SortedTable
