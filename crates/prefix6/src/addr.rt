@@ -1,6 +1,7 @@
 //! IPv6 addresses, and the kinds of them that RIPng tells apart (RFC 4291, section 2.4).
 
 ghost use Rattle.std.specs.Prelude.{◌≡◌, ◌<◌, ◌^◌};
+ghost use Rattle.std.specs.Int.{w128, to_be_bytes, from_be_bytes};
 ghost use Rattle.prefix6.specs.Addr.{is_link_local, is_multicast, is_unspecified};
 
 use std::marker::Model;
@@ -35,6 +36,22 @@ impl Addr6 {
         ensures in_range { self < 2 ^ 128 }
     {
         self.bits
+    }
+
+    /// The address of its sixteen octets, in the order of the wire.
+    pub fn from_octets(octets: [u8; 16]) -> Addr6
+        ensures { result ≡ from_be_bytes w128 octets }
+    {
+        Addr6 {
+            bits: u128::from_be_bytes(octets),
+        }
+    }
+
+    /// The sixteen octets of the address, in the order of the wire.
+    pub fn octets(self) -> [u8; 16]
+        ensures { result ≡ to_be_bytes w128 self }
+    {
+        self.bits.to_be_bytes()
     }
 
     /// Whether the address is in FE80::/10: it holds on one link alone (RFC 4291, section 2.5.6).

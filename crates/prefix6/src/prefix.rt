@@ -1,9 +1,11 @@
 //! Prefixes: the addresses that agree on their first bits (RFC 4291, section 2.3).
 
-ghost use Rattle.std.specs.Prelude.{◌≡◌, ℕ, ◌≤◌, ◌<◌, ◌^◌};
-ghost use Rattle.prefix6.specs.Prefix.{Prefix6, IsPrefix, Holds, cleared, is_routable, contains};
+ghost use Rattle.std.specs.Prelude.{◌≡◌, ℕ, ◌≤◌, ◌<◌, ◌^◌, ◌↔◌, IsTrue, IsOk, IfOk, IfErr};
+ghost use Rattle.prefix6.specs.Prefix.{Prefix6, IsPrefix, Holds, first_bits, cleared, is_routable};
+ghost use Rattle.prefix6.specs.declared.error.PrefixError.TheVariants.{LengthTooLarge};
 
 use crate::addr::Addr6;
+use crate::error::PrefixError;
 use std::marker::Model;
 
 /// A prefix: a length of at most 128 bits, and an address whose bits past that length are zero. In
@@ -26,7 +28,38 @@ impl Model for Prefix {
     ghost inverse = { λ v. record { addr = v.addr; len = v.len } };
 }
 
+/// The first `len` bits of an address, as a number.
+fn leading_bits(addr: Addr6, len: u8) -> u128
+    requires { len ≤ 128 }
+    ensures { result ≡ first_bits addr len }
+{
+    addr.bits().checked_shr(128 - u32::from(len)).unwrap_or(0)
+}
+
 impl Prefix {
+    /// The prefix of a length that holds an address: its bits past the length are cleared.
+    ///
+    /// # Errors
+    /// `LengthTooLarge` exactly where `len` is above 128.
+    pub fn new(addr: Addr6, len: u8) -> Result<Prefix, PrefixError>
+        ensures accepted { IsOk result ↔ (len ≤ 128) }
+        ensures refused { IfErr result (λ e. e ≡ LengthTooLarge) }
+
+        ensures cleared { IfOk result (λ p. p ≡ cleared addr len) }
+        ensures prefix { IfOk result IsPrefix }
+        ensures holds { IfOk result (λ p. Holds p addr) }
+    {
+        if len > 128 {
+            return Err(PrefixError::LengthTooLarge);
+        }
+        let shift = 128 - u32::from(len);
+        let bits = leading_bits(addr, len).checked_shl(shift).unwrap_or(0);
+        Ok(Prefix {
+            addr: Addr6::from_bits(bits),
+            len,
+        })
+    }
+
     /// The first address of the prefix.
     pub fn addr(&self) -> Addr6
         ensures value { result ≡ self.now.addr }
@@ -42,11 +75,26 @@ impl Prefix {
     {
         self.len
     }
+
+    /// Whether the address is one of the prefix: whether it begins with the bits of the prefix.
+    pub fn contains(&self, addr: Addr6) -> bool
+        ensures { IsTrue result ↔ Holds self.now addr }
+    {
+        leading_bits(addr, self.len) == leading_bits(self.addr, self.len)
+    }
+
+    /// Whether routes may be told for the prefix: whether its address is neither multicast nor
+    /// link-local.
+    pub fn is_routable(&self) -> bool
+        ensures { result ≡ is_routable self.now }
+    {
+        !self.addr.is_multicast() && !self.addr.is_link_local()
+    }
 }
 
 /// A prefix is the set of its addresses.
 pub fn prefixes_are_sets()
     ensures cleared_is { (a len : ℕ) → a < 2 ^ 128 → len ≤ 128 → IsPrefix (cleared a len) × Holds (cleared a len) a }
     ensures only { (p : Prefix6) (a : ℕ) → IsPrefix p → Holds p a → p ≡ cleared a p.len }
-    ensures same { (p q : Prefix6) → IsPrefix p → IsPrefix q → p.len ≡ q.len → ((a : ℕ) → Holds p a → Holds q a) → p ≡ q }
+    ensures same { (p q : Prefix6) → IsPrefix p → IsPrefix q → p.len ≡ q.len → (((a : ℕ) → Holds p a → Holds q a) ↔ (p ≡ q)) }
 {}
