@@ -1,0 +1,3 @@
+pub mod Route
+pub mod Table
+pub mod Place

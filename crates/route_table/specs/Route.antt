@@ -1,0 +1,38 @@
+-- Routes (RFC 2080, 2.2 and 2.3).
+use Rattle.std.specs.Prelude.{◌≡◌, ℕ, ◌≤◌, ◌==◌, Bool, true, false, IsTrue}
+use Rattle.route_table.specs.declared.route.Origin.{Origin}
+use Rattle.route_table.specs.declared.route.Origin.TheVariants.{Own, Learned}
+use Rattle.route_table.specs.declared.route.Clock.{Clock}
+use Rattle.route_table.specs.declared.route.Clock.TheVariants.{Fixed, Dying}
+
+-- a route as contracts see it
+pub record RouteValue : Type 0 where
+  pub metric : ℕ
+  pub tag : ℕ
+  pub origin : Origin
+  pub clock : Clock
+  pub changed : Bool
+
+-- the metric that means unreachable
+abbrev pub infinity : ℕ
+infinity = 16
+
+abbrev pub is_own : Origin → Bool
+is_own Own = true
+is_own (Learned iface from next_hop) = false
+
+abbrev pub is_fixed : Clock → Bool
+is_fixed Fixed = true
+is_fixed _ = false
+
+abbrev pub is_dying : Clock → Bool
+is_dying (Dying until) = true
+is_dying _ = false
+
+-- the metric is usable or infinity, infinity exactly where the route is dying, and an own route is exactly one that never ages
+pub record IsRoute (r : RouteValue) : Type 0 where
+  pub positive : 1 ≤ r.metric
+  pub in_range : r.metric ≤ infinity
+  pub dying : is_dying r.clock ≡ (r.metric == infinity)
+  pub own : is_own r.origin ≡ is_fixed r.clock
+  pub direct : IsTrue (is_own r.origin) → r.metric ≡ 1

@@ -1,0 +1,40 @@
+-- Tables of routes: finite maps from prefixes, in the order of address, then length.
+use Rattle.std.specs.Prelude.{ℕ, Bool, true, List, Option, Some, None, filter_map, option_map, find}
+use Rattle.std.specs.Ordering.{is_lt}
+use Rattle.std.specs.FinMap as map
+use Rattle.prefix6.specs.Prefix.{Prefix6, prefix_cmp}
+use Rattle.route_table.specs.Route.{RouteValue}
+use Rattle.route_table.specs.declared.store.TheConstants.{TABLE_LIMIT}
+
+-- a finite map from prefixes
+abbrev pub ByPrefix : Type 0 → Type 0
+ByPrefix X = map.FinMap prefix_cmp X
+
+abbrev pub Table : Type 0
+Table = ByPrefix RouteValue
+
+-- the most routes of a table
+abbrev pub table_limit : ℕ
+table_limit = TABLE_LIMIT
+
+-- f of the value of each entry, where f gives one
+abbrev pub map_entries : {X Y : Type 0} → (X → Option Y) → List (Prefix6 × X) → List (Prefix6 × Y)
+map_entries f = filter_map (λ e. option_map (λ y. (e.0, y)) (f e.1))
+
+-- f of each value, where f gives one
+abbrev pub map_values : {X Y : Type 0} → (X → Option Y) → ByPrefix X → ByPrefix Y
+map_values f m = map.from_entries (map_entries f (map.entries m))
+
+-- the map with this value at a prefix, or with none there
+abbrev pub with_value : {X : Type 0} → ByPrefix X → Prefix6 → Option X → ByPrefix X
+with_value m p None = map.remove m p
+with_value m p (Some x) = map.insert m p x
+
+-- whether a prefix comes after the given one, if any
+abbrev pub is_past : Option Prefix6 → Prefix6 → Bool
+is_past None p = true
+is_past (Some after) p = is_lt (prefix_cmp after p)
+
+-- the first entry past a prefix, or the first of all
+abbrev pub first_past : Option Prefix6 → Table → Option (Prefix6 × RouteValue)
+first_past after table = find (λ e. is_past after e.0) (map.entries table)

@@ -1,0 +1,74 @@
+//! What a table of routes is, whatever it is made of.
+
+ghost use Rattle.std.specs.Prelude.{◌≡◌, ◌≤◌, ◌↔◌, None, IsTrue, IsSome, OnOk, OnErr};
+ghost use Rattle.std.specs.FinMap as map;
+ghost use Rattle.route_table.specs.Table.{Table, table_limit, first_past};
+
+use crate::route::Route;
+use prefix6::Prefix;
+use std::alloc::Global;
+use thiserror::Error;
+
+/// The most routes that a table holds.
+pub const TABLE_LIMIT: usize = 4096;
+
+/// Why a route was not added. The table is then as it was.
+#[derive(Clone, Copy, Debug, PartialEq, Eq, Error)]
+pub enum AddRefused {
+    /// The table holds as many routes as it may.
+    #[error("the table of routes is full")]
+    Full,
+
+    /// Memory for the route was refused.
+    #[error("no memory for another route")]
+    NoMemory,
+}
+
+/// A table of routes: a finite map from prefix to route, of at most `TABLE_LIMIT` routes. No call
+/// but `add` takes memory.
+pub trait RouteStore: Drop {
+    /// The map.
+    ghost table: { Self → Table };
+
+    /// A table without a route.
+    fn empty(alloc: Global) -> Self
+        ensures { table result ≡ map.empty };
+
+    /// How many routes the table holds, at most `TABLE_LIMIT`.
+    fn len(&self) -> usize
+        ensures value { result ≡ map.len (table self.now) }
+        ensures bound { result ≤ table_limit };
+
+    /// Whether the table holds no route.
+    fn is_empty(&self) -> bool
+        ensures { IsTrue result ↔ (map.len (table self.now) ≡ 0) }
+    {
+        self.len() == 0
+    }
+
+    /// The route to exactly this prefix, if there is one.
+    fn get(&self, prefix: &Prefix) -> Option<Route>
+        ensures { result ≡ map.get (table self.now) prefix.now };
+
+    /// The route of the least prefix past the given one, or of the least prefix of all. Prefixes
+    /// are in the order of address, then length.
+    fn walk(&self, after: Option<Prefix>) -> Option<(Prefix, Route)>
+        ensures { result ≡ first_past after (table self.now) };
+
+    /// Adds a route to a prefix that has none. That the table is full is tested first.
+    fn add(&mut self, prefix: Prefix, route: Route) -> Result<(), AddRefused>
+        requires absent { map.get (table self.old) prefix ≡ None }
+        ensures ok { OnOk result (table self.new ≡ map.insert (table self.old) prefix route) }
+        ensures full { (result ≡ Err AddRefused.Full) ↔ (table_limit ≤ map.len (table self.old)) }
+        ensures err { OnErr result (table self.new ≡ table self.old) };
+
+    /// Puts another route in the place of the one to this prefix.
+    fn replace(&mut self, prefix: &Prefix, route: Route)
+        requires present { IsSome (map.get (table self.old) prefix.now) }
+        ensures { table self.new ≡ map.insert (table self.old) prefix.now route };
+
+    /// Takes out the route to this prefix.
+    fn remove(&mut self, prefix: &Prefix)
+        requires present { IsSome (map.get (table self.old) prefix.now) }
+        ensures { table self.new ≡ map.remove (table self.old) prefix.now };
+}
