@@ -7,7 +7,7 @@ mod sorted;
 mod store;
 
 pub use moment::{Deadline, Moment};
-pub use route::{Clock, Origin, Route};
+pub use route::{Clock, INFINITY, Origin, Route};
 pub use sorted::SortedRoutes;
 pub use store::{AddRefused, RouteStore, TABLE_LIMIT};
 

@@ -7,7 +7,8 @@ use crate::moment::Deadline;
 use prefix6::Addr6;
 use std::marker::Model;
 
-const INFINITY: u8 = 16;
+/// The metric that means unreachable, in hops (RFC 2080, section 2.1).
+pub const INFINITY: u8 = 16;
 
 /// Where a route comes from.
 #[derive(Clone, Copy, Debug, PartialEq, Eq)]

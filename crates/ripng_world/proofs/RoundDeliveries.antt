@@ -1,0 +1,424 @@
+-- The deliveries of a quiet round: each bounds the metrics of the receiver, from then on.
+use Rattle.std.proofs.Common.{◌≡◌, ◌≢◌, ◌⊎◌, inl, inr, ℕ, zero, suc, ◌+◌, min, max, ◌<◌, ◌≤◌, Bool, true, false, cond, ◌||◌, ◌==◌, MatchBool, MatchOption, List, [], ◌∷◌, ◌++◌, map, length, All, Option, Some, None, option_map, unwrap_or, slice_get, slice_set, refl, ap, sym, subst, ◌∙◌, arith, le_refl, le_trans}
+use Rattle.std.specs.Prelude.{⊤}
+use Rattle.std.specs.List.{AllByRecursion, list_any}
+use Rattle.std.specs.FinMap as map_of
+use Rattle.std.proofs.lemmas.Bool.{eq-eqb, eqb-true}
+use Rattle.prefix6.specs.Prefix.{Prefix6}
+use Rattle.prefix6.specs.Addr.{is_link_local}
+use Rattle.ripng_wire.specs.declared.rte.Rte.{Rte}
+use Rattle.ripng_wire.specs.declared.rte.Command.TheVariants.{Response}
+use Rattle.ripng_wire.specs.Layout.{Spells}
+use Rattle.ripng_wire.specs.Wire.{is_response}
+use Rattle.ripng_wire.proofs.OneReading.{one_reading}
+use Rattle.route_table.specs.Route.{RouteValue, infinity}
+use Rattle.route_table.specs.declared.route.Clock.{Clock}
+use Rattle.route_table.specs.declared.route.Clock.TheVariants.{Live}
+use Rattle.route_table.proofs.TableLaws.{Some-same, None-Some}
+use Rattle.router_core.specs.Config.{cost_at, is_own_address}
+use Rattle.router_core.specs.Received.{Received}
+use Rattle.router_core.specs.Faults.{fault}
+use Rattle.router_core.specs.Offers.{offer_at, prefix_named}
+use Rattle.router_core.specs.Adoption.{Gateway, is_through, metric_through, timeout}
+use Rattle.router_core.specs.Hearing.{Hearing}
+use Rattle.router_core.specs.Output.{is_learned_on}
+use Rattle.router_core.specs.Machine.{State, Arrives, Hears, Replies, Refuses, gateway_of}
+use Rattle.router_core.specs.declared.answer.Answer.{Answer}
+use Rattle.router_core.specs.declared.arrival.Fault.{Fault}
+use Rattle.router_core.specs.declared.answer.NoteKind.TheVariants.{NoMemory}
+use Rattle.ripng_world.specs.declared.network.NetInterface.{NetInterface}
+use Rattle.ripng_world.specs.declared.sent.Sent.{Sent}
+use Rattle.ripng_world.specs.Network.{Network, Node, config_of, interface_at, AreLinked, HasDistinctAddresses}
+use Rattle.ripng_world.specs.Walks.{cost_of_interface}
+use Rattle.ripng_world.specs.Truth.{IsNeighbor}
+use Rattle.router_core.proofs.HearingSteps.{at_place}
+use Rattle.ripng_world.specs.World.{World, Event, Deliver, Stranger, Tick, Restart, RouterMoves, Delivers, address_at, arrival_of}
+use Rattle.ripng_world.specs.Rounds.{router_of, moment_of, IsDeliveryOf, AllHeard}
+use Rattle.ripng_world.specs.Network.{IsUsable}
+use Rattle.ripng_world.specs.Convergence.{FitsTables}
+use Rattle.ripng_world.proofs.Each.{each_at_place}
+use Rattle.ripng_world.proofs.Members.{At, get_left, get_right}
+use Rattle.ripng_world.proofs.Running.{in_node, cost_is, any_at, not_own}
+use Rattle.ripng_world.proofs.Undamaged.{no_fault, spelled_response}
+use Rattle.ripng_world.proofs.Improving.{RouteAt, one_route, IsFine, IsBetter, FineOption, IsFreshThrough, IsHeardStep}
+use Rattle.ripng_world.proofs.RoundHearing.{IsToldEntry, hearing_steps, hearing_bounds}
+use Rattle.ripng_world.proofs.RoundTicks.{later_fine}
+
+-- what becomes of the states when one of them moves
+pub state_after : (xs : List State) (i : ℕ) (old new : State) → slice_get xs i ≡ Some old → (j : ℕ) (s : State) → slice_get xs j ≡ Some s
+    → ((i ≡ j) × (s ≡ old) × (slice_get (slice_set xs i new) j ≡ Some new)) ⊎ (slice_get (slice_set xs i new) j ≡ Some s)
+state_after [] i old new e j s f = absurd (None-Some old e)
+state_after (x ∷ xs) zero old new e zero s f = inl (refl, Some-same s old (sym f ∙ e), refl)
+state_after (x ∷ xs) zero old new e (suc j) s f = inr f
+state_after (x ∷ xs) (suc i) old new e zero s f = inr f
+state_after (x ∷ xs) (suc i) old new e (suc j) s f =
+    elim (state_after xs i old new e j s f) [ inl a ↦ inl (ap suc a.0, a.1, a.2) | inr b ↦ inr b ]
+
+pub set_here : (xs : List State) (i : ℕ) (old new : State) → slice_get xs i ≡ Some old → slice_get (slice_set xs i new) i ≡ Some new
+set_here [] i old new e = absurd (None-Some old e)
+set_here (x ∷ xs) zero old new e = refl
+set_here (x ∷ xs) (suc i) old new e = set_here xs i old new e
+
+state_before : (xs : List State) (i : ℕ) (new : State) (j : ℕ) (s : State) → slice_get (slice_set xs i new) j ≡ Some s → ((i ≡ j) × (new ≡ s)) ⊎ (slice_get xs j ≡ Some s)
+state_before [] i new j s e = inr e
+state_before (x ∷ xs) zero new zero s e = inl (refl, Some-same new s e)
+state_before (x ∷ xs) zero new (suc j) s e = inr e
+state_before (x ∷ xs) (suc i) new zero s e = inr e
+state_before (x ∷ xs) (suc i) new (suc j) s e =
+    elim (state_before xs i new j s e) [ inl a ↦ inl (ap suc a.0, a.1) | inr b ↦ inr b ]
+
+-- ---- neighbors
+
+source_is : (net : Network) (d : Sent) (router iface : ℕ) (linked : AreLinked net d.router d.iface router iface) → address_at net d.router d.iface ≡ linked.here.interface.addr
+source_is net d router iface linked = ap (λ o. unwrap_or (option_map (λ (i : NetInterface). i.interface.addr) o) 0) linked.here_is
+
+neighbor : (net : Network) (d : Sent) (router iface now moment : ℕ) (s : State) (node : Node) → slice_get net router ≡ Some node → s.config ≡ config_of node
+    → AreLinked net d.router d.iface router iface → router ≢ d.router → IsNeighbor net router (gateway_of s now (arrival_of net d iface moment)) d.router d.iface
+neighbor net d router iface now moment s node node_is config linked other =
+    record {
+      linked = record { here = linked.there; there = linked.here; here_is = linked.there_is; there_is = linked.here_is; same_link = sym linked.same_link };
+      apart = other;
+      from = ap (option_map (λ (i : NetInterface). i.interface.addr)) linked.here_is ∙ ap Some (sym (source_is net d router iface linked));
+      cost = ap (λ c. cost_at c iface) config ∙ cost_is net router iface node node_is;
+    }
+
+is_another : (net : Network) (d : Sent) (router iface : ℕ) (s : State) (node : Node) → slice_get net router ≡ Some node → s.config ≡ config_of node
+    → (linked : AreLinked net d.router d.iface router iface) → is_own_address s.config (address_at net d.router d.iface) ≡ false → router ≢ d.router
+is_another net d router iface s node node_is config linked not_mine same =
+    let here : slice_get node.interfaces d.iface ≡ Some linked.here = sym (in_node net router d.iface node node_is) ∙ ap (λ r. interface_at net r d.iface) same ∙ linked.here_is in
+    let own : is_own_address (config_of node) (address_at net d.router d.iface) ≡ true =
+    any_at (λ i. i.addr == address_at net d.router d.iface) (λ (i : NetInterface). i.interface) node.interfaces d.iface linked.here here (eq-eqb _ _ (sym (source_is net d router iface linked))) in
+    clash (sym (ap (λ c. is_own_address c (address_at net d.router d.iface)) config ∙ own) ∙ not_mine)
+  where
+    clash : true ≡ false → ⊥
+    clash e = cc
+
+-- an address of another router is not its own
+any_from : {X Y : Type 0} (test : Y → Bool) (f : X → Y) (xs : List X) → list_any test (map f xs) ≡ true → (i : ℕ) × (x : X) × (slice_get xs i ≡ Some x) × (test (f x) ≡ true)
+any_from test f [] e = absurd (cc)
+any_from {X = X} test f (x ∷ xs) e = by_test (test (f x)) refl e (any_from test f xs)
+  where
+    by_test : (b : Bool) → test (f x) ≡ b → (b || list_any test (map f xs)) ≡ true → (list_any test (map f xs) ≡ true → (i : ℕ) × (y : X) × (slice_get xs i ≡ Some y) × (test (f y) ≡ true))
+        → (i : ℕ) × (y : X) × (slice_get (x ∷ xs) i ≡ Some y) × (test (f y) ≡ true)
+    by_test true is e later = (0, x, refl, is)
+    by_test false is e later = let l = later e in (suc l.0, l.1, l.2, l.3)
+
+not_mine : (net : Network) → HasDistinctAddresses net → (d : Sent) (router iface : ℕ) (s : State) (node : Node) → slice_get net router ≡ Some node → s.config ≡ config_of node
+    → (linked : AreLinked net d.router d.iface router iface) → router ≢ d.router → is_own_address s.config (address_at net d.router d.iface) ≡ false
+not_mine net distinct d router iface s node node_is config linked other =
+    ap (λ c. is_own_address c (address_at net d.router d.iface)) config ∙ by_answer (is_own_address (config_of node) (address_at net d.router d.iface)) refl
+  where
+    by_answer : (b : Bool) → is_own_address (config_of node) (address_at net d.router d.iface) ≡ b → is_own_address (config_of node) (address_at net d.router d.iface) ≡ false
+    by_answer false e = e
+    by_answer true e =
+        let f = any_from (λ i. i.addr == address_at net d.router d.iface) (λ (i : NetInterface). i.interface) node.interfaces e in
+        absurd (other (distinct router f.0 d.router d.iface f.1 linked.here (in_node net router f.0 node node_is ∙ f.2) linked.here_is
+        (eqb-true f.1.interface.addr (address_at net d.router d.iface) f.3 ∙ source_is net d router iface linked)).0)
+
+-- ---- rows
+
+-- a gateway as far as a route names it
+abbrev pub gateway_at : ℕ → ℕ → Gateway
+gateway_at iface from = record { iface = iface; cost = 0; from = from; now = 0 }
+
+abbrev pub IsFreshClock : (ℕ → Type 0) → Clock → Type 0
+IsFreshClock current c = (until : ℕ) × (x : ℕ) × (c ≡ Live until) × current x × (x + timeout ≤ until)
+
+-- the route is not worse, and if it has the gateway its clock is fresh if it was
+abbrev pub IsRowStep : (ℕ → Type 0) → Option RouteValue → Option RouteValue → Type 0
+IsRowStep current None b = ⊤
+IsRowStep current (Some r) None = ⊥
+IsRowStep current (Some r) (Some s) =
+    (s.metric ≤ r.metric) × ((iface from : ℕ) → (is_through (gateway_at iface from) r.origin ≡ true → IsFreshClock current r.clock) → is_through (gateway_at iface from) s.origin ≡ true → IsFreshClock current s.clock)
+
+row_trans : (current : ℕ → Type 0) (a b c : Option RouteValue) → IsRowStep current a b → IsRowStep current b c → IsRowStep current a c
+row_trans current None b c x y = tt
+row_trans current (Some r) None c x y = absurd x
+row_trans current (Some r) (Some s) None x y = absurd y
+row_trans current (Some r) (Some s) (Some t) x y = (le_trans y.0 x.0, λ i f was. y.1 i f (x.1 i f was))
+
+row_refl : (current : ℕ → Type 0) (a : Option RouteValue) → IsRowStep current a a
+row_refl current None = tt
+row_refl current (Some r) = (le_refl _, λ i f was. was)
+
+module _ (net : Network) (usable : IsUsable net) (distinct : HasDistinctAddresses net) (fits : FitsTables net) (base : World) (k : ℕ) (both current : ℕ → ℕ → Type 0)
+    (among : (router x : ℕ) → current router x → both router x) (close : (router x y : ℕ) → both router x → current router y → y < x + timeout) where
+  -- a router during the deliveries
+  pub record IsHearing (router : ℕ) (s : State) : Type 0 where
+    pub old : State
+    pub old_is : slice_get base.states router ≡ Some old
+    pub node : Node
+    pub node_is : slice_get net router ≡ Some node
+    pub config_is : s.config ≡ config_of node
+    pub fine : (p : Prefix6) (r : RouteValue) → map_of.get s.table p ≡ Some r → IsFine net base (suc k) (both router) router s.last p r
+    pub better : (p : Prefix6) (r : RouteValue) → map_of.get old.table p ≡ Some r → (x : RouteValue) × (map_of.get s.table p ≡ Some x) × (x.metric ≤ r.metric)
+
+  abbrev pub IsUpdateOf : Sent → Type 0
+  IsUpdateOf d = (entries : List Rte) × Spells Response entries d.bytes × AllByRecursion (IsToldEntry net base k d.router d.iface) entries
+
+  -- the route is at most the bound, and its clock is fresh if it is through the gateway
+  abbrev pub IsBoundedRow : ℕ → ℕ → ℕ → ℕ → Option RouteValue → Type 0
+  IsBoundedRow router bound iface from o =
+      (x : RouteValue) × (o ≡ Some x) × (x.metric ≤ bound) × (is_through (gateway_at iface from) x.origin ≡ true → IsFreshClock (current router) x.clock)
+
+  row_keeps : (router bound iface from : ℕ) (a b : Option RouteValue) → IsRowStep (current router) a b → IsBoundedRow router bound iface from a → IsBoundedRow router bound iface from b
+  row_keeps router bound iface from a b step row = go b (subst (λ (o : Option RouteValue). IsRowStep (current router) o b) row.1 step)
+    where
+      go : (b : Option RouteValue) → IsRowStep (current router) (Some row.0) b → IsBoundedRow router bound iface from b
+      go None s = absurd s
+      go (Some y) s = (y, refl, le_trans s.0 row.2, s.1 iface from row.3)
+
+  -- the router waits
+  waited : (router : ℕ) (s : State) (now n : ℕ) → IsHearing router s → current router now → n ≡ max s.last now → IsHearing router (record s { last = n })
+  waited router s now n t now_of n_is =
+      record {
+        old = t.old;
+        old_is = t.old_is;
+        node = t.node;
+        node_is = t.node_is;
+        config_is = t.config_is;
+        better = t.better;
+        fine = λ p r is. later_fine net base (suc k) (suc k) (both router) (both router) router s.last now n p r (le_refl _) (λ x m. m) n_is (λ x m. close router x now m now_of) (t.fine p r is);
+      }
+
+  module _ (router iface : ℕ) (d : Sent) (linked : AreLinked net d.router d.iface router iface) (u : IsUpdateOf d) (other : router ≢ d.router)
+      (s : State) (t : IsHearing router s) (now : ℕ) (now_of : current router now) (answer : Answer) (new : State)
+      (hears : Hears s (max s.last now) (arrival_of net d iface now) answer new) (memory : All (λ n. n.kind ≢ NoMemory) answer.notes) where
+    abbrev h : Hearing
+    h = record { config = s.config; gateway = gateway_of s (max s.last now) (arrival_of net d iface now); entries = hears.entries; before = s.table; notes = answer.notes }
+
+    near : IsNeighbor net router h.gateway d.router d.iface
+    near = neighbor net d router iface (max s.last now) now s t.node t.node_is t.config_is linked other
+
+    same_entries : u.0 ≡ hears.entries
+    same_entries = (one_reading Response Response u.0 hears.entries d.bytes u.1 hears.read).1
+
+    all_told : (place : ℕ) (e : Rte) → slice_get h.entries place ≡ Some e → IsToldEntry net base k d.router d.iface e
+    all_told place e is = each_at_place (IsToldEntry net base k d.router d.iface) hears.entries (subst (AllByRecursion (IsToldEntry net base k d.router d.iface)) same_entries u.2) place e is
+
+    steps : (p : Prefix6) → IsHeardStep net distinct base k (both router) router s.last h.gateway d.router d.iface near (current router) (among router) now now_of refl (λ x m. close router x now m now_of) p (map_of.get s.table p) (map_of.get hears.table p)
+    steps p = hearing_steps net distinct fits base k (both router) router s.last h d.router d.iface near (current router) (among router) now now_of refl (λ x m. close router x now m now_of) all_told t.fine hears.table hears.heard memory p
+
+    pub heard_row : (p : Prefix6) → IsRowStep (current router) (map_of.get s.table p) (map_of.get hears.table p)
+    heard_row p = go (map_of.get s.table p) (map_of.get hears.table p) (steps p).better (steps p).fresh
+      where
+        go : (a b : Option RouteValue)
+            → IsBetter net distinct base k (both router) router s.last h.gateway d.router d.iface near (current router) (among router) now now_of refl (λ x m. close router x now m now_of) p a b
+            → ((g : Gateway) → IsFreshThrough net distinct base k (both router) router s.last h.gateway d.router d.iface near (current router) (among router) now now_of refl (λ x m. close router x now m now_of) p g a
+            → IsFreshThrough net distinct base k (both router) router s.last h.gateway d.router d.iface near (current router) (among router) now now_of refl (λ x m. close router x now m now_of) p g b)
+            → IsRowStep (current router) a b
+        go None b better fresh = tt
+        go (Some r) None better fresh = absurd better
+        go (Some r) (Some q) better fresh = (better, λ i f was. fresh (gateway_at i f) was)
+
+    pub heard_state : IsHearing router (record s { table = hears.table; last = max s.last now })
+    heard_state =
+        record {
+          old = t.old;
+          old_is = t.old_is;
+          node = t.node;
+          node_is = t.node_is;
+          config_is = t.config_is;
+          fine = λ p r is. subst (FineOption net distinct base k (both router) router s.last h.gateway d.router d.iface near (current router) (among router) now now_of refl (λ x m. close router x now m now_of) p) is (steps p).fine;
+          better = λ p r is. go p r (t.better p r is);
+        }
+      where
+        go : (p : Prefix6) (r : RouteValue) → ((x : RouteValue) × (map_of.get s.table p ≡ Some x) × (x.metric ≤ r.metric)) → (x : RouteValue) × (map_of.get hears.table p ≡ Some x) × (x.metric ≤ r.metric)
+        go p r b = by_end (map_of.get hears.table p) refl (subst (λ (o : Option RouteValue). IsRowStep (current router) o (map_of.get hears.table p)) b.1 (heard_row p))
+          where
+            by_end : (o : Option RouteValue) → map_of.get hears.table p ≡ o → IsRowStep (current router) (Some b.0) o → (x : RouteValue) × (map_of.get hears.table p ≡ Some x) × (x.metric ≤ r.metric)
+            by_end None is step = absurd step
+            by_end (Some y) is step = (y, is, le_trans step.0 b.2)
+
+    pub heard_bound : (e : Rte) → At u.0 e → (r : RouteValue) → RouteAt base d.router (prefix_named e) r → is_learned_on d.iface r.origin ≡ false
+        → cost_of_interface net router iface + r.metric < infinity
+        → IsBoundedRow router (cost_of_interface net router iface + r.metric) iface (address_at net d.router d.iface) (map_of.get hears.table (prefix_named e))
+    heard_bound e a r at clean low =
+        let listed : slice_get h.entries a.0 ≡ Some e = ap (λ es. slice_get es a.0) (sym same_entries) ∙ a.1 in
+        let v = all_told a.0 e listed in
+        let same : v.route ≡ r = one_route base d.router (prefix_named e) v.route r (subst (λ (q : Prefix6). RouteAt base d.router q v.route) (sym v.named) v.at) at in
+        let metric : e.metric ≡ r.metric = v.metric ∙ ap (λ (x : RouteValue). cond (is_learned_on d.iface x.origin) infinity x.metric) same ∙ ap (λ b. cond b infinity r.metric) clean in
+        let bound : metric_through h.gateway (offer_at h.config h.gateway.from h.entries a.0 e) ≡ cost_of_interface net router iface + r.metric = total e.metric r.metric h.gateway.cost (cost_of_interface net router iface) metric near.cost low in
+        let b = hearing_bounds net distinct fits base k (both router) router s.last h d.router d.iface near (current router) (among router) now now_of refl (λ x m. close router x now m now_of) all_told t.fine hears.table hears.heard memory a.0 e listed
+        (subst (λ n. n < infinity) (sym bound) low) in (
+          b.0,
+          b.1,
+          subst (λ n. b.0.metric ≤ n) bound b.2,
+          subst (IsFreshThrough net distinct base k (both router) router s.last h.gateway d.router d.iface near (current router) (among router) now now_of refl (λ x m. close router x now m now_of) (prefix_named e) h.gateway) b.1 b.3,
+        )
+      where
+        total : (m r c d : ℕ) → m ≡ r → c ≡ d → d + r < 16 → min (m + c) 16 ≡ d + r
+        total m r c d e f g = omega arith
+
+  -- ---- the network during the deliveries
+
+  module _ (new : List Sent) (updates : AllByRecursion IsUpdateOf new) where
+    pub record AreHearing (w : World) : Type 0 where
+      pub states : (router : ℕ) (s : State) → slice_get w.states router ≡ Some s → IsHearing router s
+      pub kept : (i : ℕ) (d : Sent) → slice_get (base.sent ++ new) i ≡ Some d → slice_get w.sent i ≡ Some d
+
+    abbrev pub IsBoundAt : World → ℕ → Prefix6 → ℕ → ℕ → ℕ → Type 0
+    IsBoundAt w router p bound iface from = (s : State) × (slice_get w.states router ≡ Some s) × IsBoundedRow router bound iface from (map_of.get s.table p)
+
+    -- the router has heard the datagram on the interface
+    abbrev pub HasHeard : World → ℕ → ℕ → ℕ → Type 0
+    HasHeard w datagram router iface =
+        (d : Sent) → slice_get (base.sent ++ new) datagram ≡ Some d → AreLinked net d.router d.iface router iface → router ≢ d.router
+        → (entries : List Rte) → Spells Response entries d.bytes → (e : Rte) → At entries e
+        → (r : RouteValue) → RouteAt base d.router (prefix_named e) r → is_learned_on d.iface r.origin ≡ false → cost_of_interface net router iface + r.metric < infinity
+        → IsBoundAt w router (prefix_named e) (cost_of_interface net router iface + r.metric) iface (address_at net d.router d.iface)
+
+    abbrev pub StepsTo : World → World → Type 0
+    StepsTo w w' = (router : ℕ) (s : State) → slice_get w.states router ≡ Some s
+        → (t : State) × (slice_get w'.states router ≡ Some t) × ((p : Prefix6) → IsRowStep (current router) (map_of.get s.table p) (map_of.get t.table p))
+
+    bound_stays : (w w' : World) → StepsTo w w' → (router : ℕ) (p : Prefix6) (bound iface from : ℕ) → IsBoundAt w router p bound iface from → IsBoundAt w' router p bound iface from
+    bound_stays w w' steps router p bound iface from b =
+        let t = steps router b.0 b.1 in
+        (t.0, t.1, row_keeps router bound iface from (map_of.get b.0.table p) (map_of.get t.0.table p) (t.2 p) b.2)
+
+    heard_stays : (w w' : World) → StepsTo w w' → (datagram router iface : ℕ) → HasHeard w datagram router iface → HasHeard w' datagram router iface
+    heard_stays w w' steps datagram router iface h d is linked other entries spelled e at r here clean low =
+        bound_stays w w' steps router (prefix_named e) _ iface _ (h d is linked other entries spelled e at r here clean low)
+
+    -- what a router's move does, by what it does to its state
+    move_done : (w w' : World) (router : ℕ) (x : Received) (answer : Answer) (m : RouterMoves w router (Arrives x) answer w') → AreHearing w
+        → IsHearing router m.new → ((p : Prefix6) → IsRowStep (current router) (map_of.get m.old.table p) (map_of.get m.new.table p)) → AreHearing w' × StepsTo w w'
+    move_done w w' router x answer m all state row = (
+      record {
+        states = λ r s is. elim (state_before w.states router m.new r s (ap (λ (ss : List State). slice_get ss r) (sym m.states) ∙ is)) [
+          | inl same ↦ subst (λ q. IsHearing q s) same.0 (subst (IsHearing router) same.1 state)
+          | inr there ↦ all.states r s there
+        ];
+        kept = λ i d is. ap (λ (ds : List Sent). slice_get ds i) m.sent ∙ get_left w.sent _ i d (all.kept i d is);
+      },
+      λ r s is. elim (state_after w.states router m.old m.new m.old_is r s is) [
+        | inl a ↦ (
+          m.new,
+          ap (λ (ss : List State). slice_get ss r) m.states ∙ a.2,
+          subst (λ q. (p : Prefix6) → IsRowStep (current q) (map_of.get s.table p) (map_of.get m.new.table p)) a.0 (subst (λ (o : State). (p : Prefix6) → IsRowStep (current router) (map_of.get o.table p) (map_of.get m.new.table p)) (sym a.1) row),
+        )
+        | inr b ↦ (s, ap (λ (ss : List State). slice_get ss r) m.states ∙ b, λ p. row_refl (current r) (map_of.get s.table p))
+      ],
+    )
+
+    pub record IsDelivered (w w' : World) (datagram router iface : ℕ) : Type 0 where
+      pub hearing : AreHearing w'
+      pub steps : StepsTo w w'
+      pub heard : HasHeard w' datagram router iface
+
+    module _ (w w' : World) (all : AreHearing w) (datagram router iface now : ℕ) (now_of : current router now) (answer : Answer) (memory : All (λ n. n.kind ≢ NoMemory) answer.notes)
+        (late : length base.sent ≤ datagram) (d : Delivers net w datagram router iface now answer w') (is : slice_get (base.sent ++ new) datagram ≡ Some d.sent) where
+      update : IsUpdateOf d.sent
+      update = let a = get_right base.sent new datagram d.sent late is in each_at_place IsUpdateOf new updates a.0 d.sent a.1
+
+      abbrev old : State
+      old = d.moves.old
+
+      abbrev x : Received
+      x = arrival_of net d.sent iface now
+
+      state : IsHearing router old
+      state = all.states router old d.moves.old_is
+
+      stayed : (n : ℕ) → n ≡ max old.last now → d.moves.new ≡ record old { last = n } → AreHearing w' × StepsTo w w'
+      stayed n n_is new_is =
+          move_done w w' router x answer d.moves all (subst (IsHearing router) (sym new_is) (waited router old now n state now_of n_is))
+          (λ p. subst (λ (s : State). IsRowStep (current router) (map_of.get old.table p) (map_of.get s.table p)) (sym new_is) (row_refl (current router) (map_of.get old.table p)))
+
+      -- the same datagram, to a router that takes it
+      heard_by : (other : router ≢ d.sent.router) (hears : Hears old (max old.last now) x answer d.moves.new) → IsDelivered w w' datagram router iface
+      heard_by other hears =
+          let both_done = move_done w w' router x answer d.moves all
+          (subst (IsHearing router) (sym hears.state) (heard_state router iface d.sent d.linked update other old state now now_of answer d.moves.new hears memory))
+          (λ p. subst (λ (s : State). IsRowStep (current router) (map_of.get old.table p) (map_of.get s.table p)) (sym hears.state) (heard_row router iface d.sent d.linked update other old state now now_of answer d.moves.new hears memory p)) in
+          record { hearing = both_done.0; steps = both_done.1; heard = bounds }
+        where
+          moved_to : slice_get w'.states router ≡ Some d.moves.new
+          moved_to = ap (λ (ss : List State). slice_get ss router) d.moves.states ∙ set_here w.states router old d.moves.new d.moves.old_is
+
+          at_sent : (linked : AreLinked net d.sent.router d.sent.iface router iface) → (entries : List Rte) → Spells Response entries d.sent.bytes → (e : Rte) → At entries e
+              → (r : RouteValue) → RouteAt base d.sent.router (prefix_named e) r → is_learned_on d.sent.iface r.origin ≡ false → cost_of_interface net router iface + r.metric < infinity
+              → IsBoundAt w' router (prefix_named e) (cost_of_interface net router iface + r.metric) iface (address_at net d.sent.router d.sent.iface)
+          at_sent linked entries spelled e at r here clean low =
+              let same : entries ≡ update.0 = (one_reading Response Response entries update.0 d.sent.bytes spelled update.1).1 in (
+                d.moves.new,
+                moved_to,
+                subst (λ (s : State). IsBoundedRow router (cost_of_interface net router iface + r.metric) iface (address_at net d.sent.router d.sent.iface) (map_of.get s.table (prefix_named e))) (sym hears.state)
+                    (heard_bound router iface d.sent d.linked update other old state now now_of answer d.moves.new hears memory e (subst (λ (es : List Rte). At es e) same at) r here clean low),
+              )
+
+          bounds : HasHeard w' datagram router iface
+          bounds e is' linked other' entries spelled entry at r here clean low =
+              (subst (λ (q : Sent). (linked : AreLinked net q.router q.iface router iface) → (entries : List Rte) → Spells Response entries q.bytes → (e : Rte) → At entries e
+              → (r : RouteValue) → RouteAt base q.router (prefix_named e) r → is_learned_on q.iface r.origin ≡ false → cost_of_interface net router iface + r.metric < infinity
+              → IsBoundAt w' router (prefix_named e) (cost_of_interface net router iface + r.metric) iface (address_at net q.router q.iface))
+              (Some-same d.sent e (sym is ∙ is')) at_sent) linked entries spelled entry at r here clean low
+
+      delivered : (o : Option Fault) (b : Bool) → fault old.config x ≡ o → is_response d.sent.bytes ≡ b
+          → MatchOption o (MatchBool b (Hears old (max old.last now) x answer d.moves.new) (Replies old (max old.last now) x answer d.moves.new)) (λ why. Refuses old (max old.last now) why answer d.moves.new)
+          → IsDelivered w w' datagram router iface
+      delivered o false none response moves = absurd (clash (sym (spelled_response update.0 d.sent.bytes update.1) ∙ response))
+        where
+          clash : true ≡ false → ⊥
+          clash e = cc
+      delivered None true none response hears =
+          heard_by (is_another net d.sent router iface old state.node state.node_is state.config_is d.linked (not_own old.config x none response)) hears
+      delivered (Some why) true none response refuses =
+          let done = stayed (max old.last now) refl refuses.state in
+          record { hearing = done.0; steps = done.1; heard = bounds }
+        where
+          sound : router ≢ d.sent.router → fault old.config x ≡ None
+          sound other =
+              no_fault old.config x update.0 update.1 refl
+              (ap is_link_local (source_is net d.sent router iface d.linked) ∙ usable.local d.sent.router d.sent.iface d.linked.here d.linked.here_is)
+              (not_mine net distinct d.sent router iface old state.node state.node_is state.config_is d.linked other) refl
+
+          bounds : HasHeard w' datagram router iface
+          bounds e is' linked other entries spelled entry at r here clean low =
+              absurd (None-Some why (sym (sound (λ same. other (same ∙ ap (λ (q : Sent). q.router) (Some-same d.sent e (sym is ∙ is'))))) ∙ none))
+
+    -- what a delivery leaves
+    abbrev pub HasHeardEvent : World → Event → Type 0
+    HasHeardEvent w (Deliver datagram router iface now) = HasHeard w datagram router iface
+    HasHeardEvent w _ = ⊤
+
+    event_stays : (w w' : World) → StepsTo w w' → (e : Event) → HasHeardEvent w e → HasHeardEvent w' e
+    event_stays w w' steps (Deliver datagram router iface now) h = heard_stays w w' steps datagram router iface h
+    event_stays w w' steps (Stranger router x) h = tt
+    event_stays w w' steps (Tick router now word) h = tt
+    event_stays w w' steps (Restart router now) h = tt
+
+    steps_trans : (a b c : World) → StepsTo a b → StepsTo b c → StepsTo a c
+    steps_trans a b c f g router s is =
+        let t = f router s is in
+        let u = g router t.0 t.1 in
+        (u.0, u.1, λ p. row_trans (current router) (map_of.get s.table p) (map_of.get t.0.table p) (map_of.get u.0.table p) (t.2 p) (u.2 p))
+
+    -- the deliveries of the round, one after another
+    pub record AreDelivered (w w' : World) (events : List Event) : Type 0 where
+      pub hearing : AreHearing w'
+      pub steps : StepsTo w w'
+      pub heard : AllByRecursion (HasHeardEvent w') events
+
+    known : (datagram : ℕ) → datagram < length (base.sent ++ new) → (d : Sent) × (slice_get (base.sent ++ new) datagram ≡ Some d)
+    known datagram h = at_place (base.sent ++ new) datagram h
+
+    pub deliveries_done : (events : List Event) (w w' : World) → AreHearing w → AllByRecursion (λ e. current (router_of e) (moment_of e)) events
+        → AllByRecursion (IsDeliveryOf (length base.sent) (length (base.sent ++ new))) events → AllHeard net w events w' → AreDelivered w w' events
+    deliveries_done [] w w' all moments these is =
+        record { hearing = subst AreHearing (sym is) all; steps = subst (StepsTo w) (sym is) (λ r s here. (s, here, λ p. row_refl (current r) (map_of.get s.table p))); heard = tt }
+    deliveries_done (Deliver datagram router iface now ∷ events) w w' all moments these run =
+        let e : (d : Sent) × (slice_get (base.sent ++ new) datagram ≡ Some d) = known datagram these.0.1 in
+        let d : Delivers net w datagram router iface now run.1 run.0 = run.2 in
+        let is : slice_get (base.sent ++ new) datagram ≡ Some d.sent = e.1 ∙ ap Some (Some-same e.0 d.sent (sym (all.kept datagram e.0 e.1) ∙ d.sent_is)) in
+        let one = delivered w run.0 all datagram router iface now moments.0 run.1 run.3 these.0.0 d is _ _ refl refl d.moves.moves in
+        let rest = deliveries_done events run.0 w' one.hearing moments.1 these.1 run.4 in
+        record {
+          hearing = rest.hearing;
+          steps = steps_trans w run.0 w' one.steps rest.steps;
+          heard = (heard_stays run.0 w' rest.steps datagram router iface one.heard, rest.heard);
+        }
+    deliveries_done (Stranger router x ∷ events) w w' all moments these run = absurd these.0
+    deliveries_done (Tick router now word ∷ events) w w' all moments these run = absurd these.0
+    deliveries_done (Restart router now ∷ events) w w' all moments these run = absurd these.0

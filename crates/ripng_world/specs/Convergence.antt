@@ -1,0 +1,32 @@
+-- Cold convergence in counted rounds.
+use Rattle.std.specs.Prelude.{◌≡◌, ℕ, ◌<◌, ◌≤◌, IsFalse, List, length, Contains, Some, slice_get}
+use Rattle.std.specs.FinMap as map_of
+use Rattle.prefix6.specs.Prefix.{Prefix6}
+use Rattle.route_table.specs.Route.{RouteValue, infinity}
+use Rattle.route_table.specs.Table.{Table, table_limit}
+use Rattle.ripng_world.specs.declared.network.NetInterface.{NetInterface}
+use Rattle.ripng_world.specs.Network.{Network, Node, Owns, interface_at}
+use Rattle.ripng_world.specs.Walks.{IsWithin}
+use Rattle.router_core.specs.Machine.{State}
+use Rattle.ripng_world.specs.World.{World}
+
+abbrev pub IsNeverQuiet : Network → Type 0
+IsNeverQuiet net = (router : ℕ) (node : Node) → slice_get net router ≡ Some node → IsFalse node.quiet
+
+-- at most one interface of a router on a link
+abbrev pub HasOneInterfaceALink : Network → Type 0
+HasOneInterfaceALink net =
+    (router i j : ℕ) (a b : NetInterface) → interface_at net router i ≡ Some a → interface_at net router j ≡ Some b → a.link ≡ b.link → i ≡ j
+
+-- no more distinct owned prefixes than a table holds
+abbrev pub FitsTables : Network → Type 0
+FitsTables net =
+    (owned : List Prefix6) × (length owned ≤ table_limit) × ((router : ℕ) (p : Prefix6) (tag : ℕ) → Owns net router p tag → Contains owned p)
+
+-- the routes below infinity have exactly the least costs within so many hops
+pub record IsConverged (net : Network) (k router : ℕ) (table : Table) : Type 0 where
+  pub least : (p : Prefix6) (r : RouteValue) → map_of.get table p ≡ Some r → r.metric < infinity → IsWithin net k router p r.metric
+  pub found : (p : Prefix6) (metric : ℕ) → IsWithin net k router p metric → (r : RouteValue) × (map_of.get table p ≡ Some r) × (r.metric ≡ metric)
+
+abbrev pub AreConverged : Network → ℕ → World → Type 0
+AreConverged net k w = (router : ℕ) (state : State) → slice_get w.states router ≡ Some state → IsConverged net k router state.table

@@ -1,0 +1,60 @@
+-- Networks: routers with interfaces on links.
+use Rattle.std.specs.Prelude.{◌≡◌, ℕ, ◌<◌, ◌≤◌, Bool, IsTrue, List, map, Option, Some, slice_get, option_and_then}
+use Rattle.prefix6.specs.Addr.{is_link_local}
+use Rattle.prefix6.specs.Prefix.{Prefix6, IsPrefix, is_routable}
+use Rattle.route_table.specs.Route.{infinity}
+use Rattle.router_core.specs.Config.{Config}
+use Rattle.ripng_world.specs.declared.network.NetInterface.{NetInterface}
+
+-- what one router of a network is configured with
+pub record Node : Type 0 where
+  pub interfaces : List NetInterface
+  pub prefixes : List (Prefix6 × ℕ)  -- that it owns, with their tags
+  pub quiet : Bool
+
+abbrev pub Network : Type 0
+Network = List Node
+
+abbrev pub config_of : Node → Config
+config_of node = record { interfaces = map (λ i. i.interface) node.interfaces; prefixes = node.prefixes; quiet = node.quiet }
+
+abbrev pub interface_at : Network → ℕ → ℕ → Option NetInterface
+interface_at net router iface = option_and_then (λ node. slice_get node.interfaces iface) (slice_get net router)
+
+-- two interfaces of one link
+pub record AreLinked (net : Network) (router iface router' iface' : ℕ) : Type 0 where
+  pub here : NetInterface
+  pub there : NetInterface
+  pub here_is : interface_at net router iface ≡ Some here
+  pub there_is : interface_at net router' iface' ≡ Some there
+  pub same_link : here.link ≡ there.link
+
+-- the router owns the prefix, with the tag
+pub record Owns (net : Network) (router : ℕ) (p : Prefix6) (tag : ℕ) : Type 0 where
+  pub node : Node
+  pub node_is : slice_get net router ≡ Some node
+  pub place : ℕ
+  pub listed : slice_get node.prefixes place ≡ Some (p, tag)
+
+-- owned prefixes are prefixes
+abbrev pub OwnsPrefixes : Network → Type 0
+OwnsPrefixes net = (router : ℕ) (p : Prefix6) (tag : ℕ) → Owns net router p tag → IsPrefix p
+
+-- no address is that of two interfaces
+abbrev pub HasDistinctAddresses : Network → Type 0
+HasDistinctAddresses net =
+    (r i s j : ℕ) (a b : NetInterface) → interface_at net r i ≡ Some a → interface_at net s j ≡ Some b
+    → a.interface.addr ≡ b.interface.addr → (r ≡ s) × (i ≡ j)
+
+-- each interface and each owned prefix is one that a router may have
+pub record IsUsable (net : Network) : Type 0 where
+  pub costs : (router iface : ℕ) (i : NetInterface) → interface_at net router iface ≡ Some i → (1 ≤ i.interface.cost) × (i.interface.cost < infinity)
+  pub local : (router iface : ℕ) (i : NetInterface) → interface_at net router iface ≡ Some i → IsTrue (is_link_local i.interface.addr)
+  pub mtus : (router iface : ℕ) (i : NetInterface) → interface_at net router iface ≡ Some i → (1280 ≤ i.interface.mtu) × (i.interface.mtu ≤ 65535)
+  pub routable : (router : ℕ) (p : Prefix6) (tag : ℕ) → Owns net router p tag → IsTrue (is_routable p)
+
+-- what a network needs, and a check of its configuration sees to
+pub record IsNetwork (net : Network) : Type 0 where
+  pub owns_prefixes : OwnsPrefixes net
+  pub distinct : HasDistinctAddresses net
+  pub usable : IsUsable net

@@ -1,0 +1,87 @@
+-- Rounds in which every router tells all that it has, and every datagram arrives.
+use Rattle.std.specs.Prelude.{◌≡◌, ◌≢◌, ℕ, ◌+◌, ◌<◌, ◌≤◌, max, ◌⊎◌, List, [], ◌∷◌, ◌++◌, map, length, All, Contains, Some, slice_get, nat_eq, flat_map}
+use Rattle.std.specs.List.{IsDistinct}
+use Rattle.router_core.specs.Adoption.{timeout}
+use Rattle.router_core.specs.Machine.{State}
+use Rattle.router_core.specs.declared.answer.Answer.{Answer}
+use Rattle.router_core.specs.declared.answer.NoteKind.TheVariants.{NoMemory}
+use Rattle.ripng_world.specs.Network.{Network, AreLinked}
+use Rattle.ripng_world.specs.World.{World, Event, Deliver, Stranger, Tick, Restart, Happens}
+use Rattle.ripng_world.specs.declared.sent.Sent.{Sent}
+
+pub record Round : Type 0 where
+  pub ticks : List Event
+  pub deliveries : List Event
+
+abbrev pub router_of : Event → ℕ
+router_of (Deliver datagram router iface now) = router
+router_of (Stranger router x) = router
+router_of (Tick router now word) = router
+router_of (Restart router now) = router
+
+abbrev pub moment_of : Event → ℕ
+moment_of (Deliver datagram router iface now) = now
+moment_of (Stranger router x) = x.now
+moment_of (Tick router now word) = now
+moment_of (Restart router now) = now
+
+-- a tick at which the router's regular update is due
+abbrev pub IsDueTick : World → Event → Type 0
+IsDueTick w (Tick router now word) = (state : State) × (slice_get w.states router ≡ Some state) × (state.regular ≤ max state.last now)
+IsDueTick w _ = ⊥
+
+abbrev pub AllTick : Network → World → List Event → World → Type 0
+AllTick net w [] w' = w' ≡ w
+AllTick net w (e ∷ events) w' = (mid : World) × (answer : Answer) × IsDueTick w e × Happens net w e answer mid × AllTick net mid events w'
+
+-- a delivery of a datagram that is numbered from one number up to another
+abbrev pub IsDeliveryOf : ℕ → ℕ → Event → Type 0
+IsDeliveryOf first end (Deliver datagram router iface now) = (first ≤ datagram) × (datagram < end)
+IsDeliveryOf first end _ = ⊥
+
+-- the events happen one after another, and no new route wants for memory
+abbrev pub AllHeard : Network → World → List Event → World → Type 0
+AllHeard net w [] w' = w' ≡ w
+AllHeard net w (e ∷ events) w' =
+    (mid : World) × (answer : Answer) × Happens net w e answer mid × All (λ n. n.kind ≢ NoMemory) answer.notes × AllHeard net mid events w'
+
+-- each router ticks once, and then each datagram of these ticks comes at least once to each other interface of its link
+pub record IsQuietRound (net : Network) (w : World) (round : Round) (w' : World) : Type 0 where
+  pub told : World
+  pub each_ticks : (router : ℕ) → router < length net → Contains (map router_of round.ticks) router
+  pub once : IsDistinct nat_eq (map router_of round.ticks)
+  pub all_tick : AllTick net w round.ticks told
+  pub only_these : All (IsDeliveryOf (length w.sent) (length told.sent)) round.deliveries
+  pub each_delivered : (datagram router iface : ℕ) (d : Sent)
+      → length w.sent ≤ datagram → slice_get told.sent datagram ≡ Some d → AreLinked net d.router d.iface router iface
+      → (router ≢ d.router) ⊎ (iface ≢ d.iface)
+      → (now : ℕ) × Contains round.deliveries (Deliver datagram router iface now)
+  pub elsewhere : (datagram router iface now : ℕ) (d : Sent)
+      → Contains round.deliveries (Deliver datagram router iface now) → slice_get told.sent datagram ≡ Some d
+      → (router ≢ d.router) ⊎ (iface ≢ d.iface)
+  pub all_heard : AllHeard net told round.deliveries w'
+
+abbrev pub QuietRounds : Network → World → List Round → World → Type 0
+QuietRounds net w [] w' = w' ≡ w
+QuietRounds net w (round ∷ rounds) w' = (mid : World) × IsQuietRound net w round mid × QuietRounds net mid rounds w'
+
+-- all events of the rounds, in order
+abbrev pub events_of : List Round → List Event
+events_of rounds = flat_map (λ round. round.ticks ++ round.deliveries) rounds
+
+-- the router moves at that moment in the round
+pub record IsMomentOf (round : Round) (router moment : ℕ) : Type 0 where
+  pub event : Event
+  pub happens : Contains (round.ticks ++ round.deliveries) event
+  pub router_is : router_of event ≡ router
+  pub moment_is : moment_of event ≡ moment
+
+-- moments of a router in one round, or in it and the round before, are less than a timeout apart
+abbrev pub AreCloseAfter : (ℕ → ℕ → Type 0) → List Round → Type 0
+AreCloseAfter before [] = Unit {0}
+AreCloseAfter before (round ∷ rounds) =
+    ((router x y : ℕ) → before router x ⊎ IsMomentOf round router x → IsMomentOf round router y → (x < y + timeout) × (y < x + timeout))
+    × AreCloseAfter (IsMomentOf round) rounds
+
+abbrev pub AreClose : List Round → Type 0
+AreClose rounds = AreCloseAfter (λ _ _. ⊥) rounds

@@ -1,0 +1,95 @@
+-- A network that runs: the state of each router, and every datagram ever sent.
+use Rattle.std.specs.Prelude.{◌≡◌, ℕ, ◌<◌, suc, Bool, true, false, ◌&&◌, List, [], ◌∷◌, ◌++◌, length, map, Some, is_none, unwrap_or, option_map, slice_get, slice_set, IsFalse}
+use Rattle.ripng_wire.specs.Wire.{is_response}
+use Rattle.router_core.specs.Received.{Received}
+use Rattle.router_core.specs.Faults.{fault, ripng_port}
+use Rattle.router_core.specs.Machine.{State, Happening, Arrives, Ticks, Restarts, Moves, Starts}
+use Rattle.router_core.specs.declared.answer.Answer.{Answer}
+use Rattle.router_core.specs.declared.answer.Outgoing.{Outgoing}
+use Rattle.router_core.specs.declared.answer.Destination.{Destination}
+use Rattle.router_core.specs.declared.answer.Destination.TheVariants.{Group, Peer}
+use Rattle.ripng_world.specs.Network.{Network, Node, AreLinked, config_of, interface_at}
+use Rattle.ripng_world.specs.declared.sent.Sent.{Sent}
+
+pub record World : Type 0 where
+  pub states : List State
+  pub sent : List Sent
+
+pub data Event : Type 0 where
+  Deliver : (datagram router iface now : ℕ) → Event
+  Stranger : (router : ℕ) → Received → Event
+  Tick : (router now word : ℕ) → Event
+  Restart : (router now : ℕ) → Event
+
+abbrev pub sent_by : ℕ → Outgoing → Sent
+sent_by router o = record { router = router; iface = o.iface; to = o.to; bytes = o.bytes }
+
+-- one router moves, what it sends is added, and all else stays
+pub record RouterMoves (w : World) (router : ℕ) (happening : Happening) (answer : Answer) (w' : World) : Type 0 where
+  pub old : State
+  pub new : State
+  pub old_is : slice_get w.states router ≡ Some old
+  pub moves : Moves old happening answer new
+  pub states : w'.states ≡ slice_set w.states router new
+  pub sent : w'.sent ≡ w.sent ++ map (sent_by router) answer.sends
+
+abbrev pub is_to_group : Destination → Bool
+is_to_group Group = true
+is_to_group (Peer addr port) = false
+
+abbrev pub address_at : Network → ℕ → ℕ → ℕ
+address_at net router iface = unwrap_or (option_map (λ i. i.interface.addr) (interface_at net router iface)) 0
+
+-- a datagram of the network as it comes to an interface of its link
+abbrev pub arrival_of : Network → Sent → ℕ → ℕ → Received
+arrival_of net d iface now =
+    record {
+      now = now;
+      iface = iface;
+      source = address_at net d.router d.iface;
+      source_port = ripng_port;
+      hop_limit = 255;
+      to_group = is_to_group d.to;
+      bytes = d.bytes;
+    }
+
+-- any datagram ever sent, to any interface of the link that it was sent on
+pub record Delivers (net : Network) (w : World) (datagram router iface now : ℕ) (answer : Answer) (w' : World) : Type 0 where
+  pub sent : Sent
+  pub sent_is : slice_get w.sent datagram ≡ Some sent
+  pub linked : AreLinked net sent.router sent.iface router iface
+  pub moves : RouterMoves w router (Arrives (arrival_of net sent iface now)) answer w'
+
+-- a Response that a router takes to be of its link
+abbrev pub is_heard : State → Received → Bool
+is_heard s x = is_none (fault s.config x) && is_response x.bytes
+
+-- any arrival but such a Response
+pub record Intrudes (w : World) (router : ℕ) (x : Received) (answer : Answer) (w' : World) : Type 0 where
+  pub moves : RouterMoves w router (Arrives x) answer w'
+  pub known : x.iface < length moves.old.config.interfaces
+  pub unheard : IsFalse (is_heard moves.old x)
+
+-- the event may happen, with this answer of the router that moves
+abbrev pub Happens : Network → World → Event → Answer → World → Type 0
+Happens net w (Deliver datagram router iface now) answer w' = Delivers net w datagram router iface now answer w'
+Happens net w (Stranger router x) answer w' = Intrudes w router x answer w'
+Happens net w (Tick router now word) answer w' = RouterMoves w router (Ticks now word) answer w'
+Happens net w (Restart router now) answer w' = RouterMoves w router (Restarts now) answer w'
+
+-- the events happen one after another
+abbrev pub WorldRun : Network → World → List Event → World → Type 0
+WorldRun net w [] w' = w' ≡ w
+WorldRun net w (e ∷ events) w' = (mid : World) × (answer : Answer) × Happens net w e answer mid × WorldRun net mid events w'
+
+-- the routers from a number on start in order, each at its moment
+abbrev pub StartsFrom : ℕ → List Node → List ℕ → List State → List Sent → Type 0
+StartsFrom n [] [] [] sent = sent ≡ []
+StartsFrom n (node ∷ nodes) (now ∷ moments) (s ∷ states) sent =
+    (answer : Answer) × (rest : List Sent) × Starts (config_of node) now answer s × StartsFrom (suc n) nodes moments states rest
+    × (sent ≡ map (sent_by n) answer.sends ++ rest)
+StartsFrom n _ _ _ sent = ⊥
+
+-- every router has just started
+abbrev pub IsCold : Network → List ℕ → World → Type 0
+IsCold net moments w = StartsFrom 0 net moments w.states w.sent

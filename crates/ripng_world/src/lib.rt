@@ -1,0 +1,13 @@
+//! Networks of routers: what may happen in one, and what then holds of every route and every datagram.
+#![tactic(auto)]
+
+mod laws;
+mod network;
+mod sent;
+
+pub use laws::{
+    converges_in_rounds, invents_no_distance, keeps_routes_backed, rounds_are_run, runs_go_on,
+    tells_only_walks,
+};
+pub use network::NetInterface;
+pub use sent::Sent;

@@ -1,0 +1,8 @@
+pub mod Vectors
+pub mod HearingSteps
+pub mod Replaying
+pub mod Cutting
+pub mod AgeReplaying
+pub mod MovesReplay
+pub mod WholeResponse
+mod CutPieces

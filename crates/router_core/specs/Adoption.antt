@@ -1,0 +1,83 @@
+-- What an offer makes of a route (RFC 2080, 2.4.2).
+use Rattle.std.specs.Prelude.{ℕ, ◌+◌, min, ◌==◌, ◌&&◌, ◌||◌, not, nat_lt, nat_le, Bool, true, false, if◌then◌else◌, Option, Some, None}
+use Rattle.route_table.specs.Route.{RouteValue, infinity}
+use Rattle.route_table.specs.declared.route.Origin.{Origin}
+use Rattle.route_table.specs.declared.route.Origin.TheVariants.{Own, Learned}
+use Rattle.route_table.specs.declared.route.Clock.{Clock}
+use Rattle.route_table.specs.declared.route.Clock.TheVariants.{Fixed, Live, Dying}
+use Rattle.router_core.specs.Offers.{Offer}
+
+abbrev pub timeout : ℕ
+timeout = 180_000
+
+-- after which an equal metric from another gateway wins
+abbrev pub half_timeout : ℕ
+half_timeout = 90_000
+
+abbrev pub garbage_time : ℕ
+garbage_time = 120_000
+
+-- from where and when offers come: an interface and its cost, the address of the sender, and the moment
+pub record Gateway : Type 0 where
+  pub iface : ℕ
+  pub cost : ℕ
+  pub from : ℕ
+  pub now : ℕ
+
+-- the metric through the gateway
+abbrev pub metric_through : Gateway → Offer → ℕ
+metric_through g o = min (o.metric + g.cost) infinity
+
+abbrev pub is_reachable : ℕ → Bool
+is_reachable metric = nat_lt metric infinity
+
+-- the route through the gateway
+abbrev pub taken : Gateway → Offer → RouteValue
+taken g o =
+    record {
+      metric = metric_through g o;
+      tag = o.tag;
+      origin = Learned g.iface g.from o.next_hop;
+      clock = Live (g.now + timeout);
+      changed = true;
+    }
+
+-- unreachable, and kept until it has been told
+abbrev pub lost : ℕ → RouteValue → RouteValue
+lost now r = record r { metric = infinity; clock = Dying (now + garbage_time); changed = true }
+
+abbrev pub is_through : Gateway → Origin → Bool
+is_through g Own = false
+is_through g (Learned iface from next_hop) = iface == g.iface && from == g.from
+
+abbrev pub has_next_hop : ℕ → Origin → Bool
+has_next_hop h Own = false
+has_next_hop h (Learned iface from next_hop) = next_hop == h
+
+-- whether the offer says what the route says
+abbrev pub is_repeated : Gateway → Offer → RouteValue → Bool
+is_repeated g o r = r.metric == metric_through g o && r.tag == o.tag && has_next_hop o.next_hop r.origin
+
+-- a live route whose own gateway speaks
+abbrev pub refreshed : Gateway → Offer → RouteValue → RouteValue
+refreshed g o r =
+    if is_reachable (metric_through g o)
+    then record (taken g o) { changed = r.changed || not (is_repeated g o r) }
+    else lost g.now r
+
+-- a lower metric wins at once, and an equal one when half of the timeout has passed
+abbrev pub is_preferred : Gateway → Offer → ℕ → ℕ → Bool
+is_preferred g o metric until =
+    nat_lt (metric_through g o) metric || (metric_through g o == metric && nat_le until (g.now + half_timeout))
+
+-- what the offer makes of a route, by its clock: one that never ages stays
+abbrev pub adopted_by_clock : Gateway → Offer → RouteValue → Clock → RouteValue
+adopted_by_clock g o r Fixed = r
+adopted_by_clock g o r (Live until) =
+    if is_through g r.origin then refreshed g o r else if is_preferred g o r.metric until then taken g o else r
+adopted_by_clock g o r (Dying until) = if is_reachable (metric_through g o) then taken g o else r
+
+-- the route, if any, after the offer
+abbrev pub adopted : Gateway → Option RouteValue → Offer → Option RouteValue
+adopted g None o = if is_reachable (metric_through g o) then Some (taken g o) else None
+adopted g (Some r) o = Some (adopted_by_clock g o r r.clock)

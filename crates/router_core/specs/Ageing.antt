@@ -1,0 +1,26 @@
+-- How routes age (RFC 2080, 2.3).
+use Rattle.std.specs.Prelude.{ℕ, nat_le, if◌then◌else◌, false, Option, Some, None}
+use Rattle.route_table.specs.Route.{RouteValue}
+use Rattle.route_table.specs.Table.{Table, map_values}
+use Rattle.route_table.specs.declared.route.Clock.{Clock}
+use Rattle.route_table.specs.declared.route.Clock.TheVariants.{Fixed, Live, Dying}
+use Rattle.router_core.specs.Adoption.{lost}
+
+abbrev pub aged_by_clock : ℕ → RouteValue → Clock → Option RouteValue
+aged_by_clock now r Fixed = Some r
+aged_by_clock now r (Live until) = if nat_le until now then Some (lost now r) else Some r
+aged_by_clock now r (Dying until) = if nat_le until now then None else Some r
+
+-- what is left of a route at a moment
+abbrev pub aged : ℕ → RouteValue → Option RouteValue
+aged now r = aged_by_clock now r r.clock
+
+abbrev pub aged_table : ℕ → Table → Table
+aged_table now table = map_values (aged now) table
+
+abbrev pub without_mark : RouteValue → Option RouteValue
+without_mark r = Some (record r { changed = false })
+
+-- with no route marked as changed
+abbrev pub unmarked : Table → Table
+unmarked table = map_values without_mark table

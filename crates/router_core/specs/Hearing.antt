@@ -1,0 +1,78 @@
+-- What a Response makes of a table: each prefix is judged by itself, on the entries that name it (RFC 2080, 2.4.2).
+use Rattle.std.specs.Prelude.{◌≡◌, ℕ, ◌+◌, ◌<◌, ◌==◌, ◌&&◌, not, nat_lt, nat_le, Bool, true, false, if◌then◌else◌, List, [], ◌∷◌, map, length, take, filter, find, fold, count_by, All, Contains, Option, Some, None, is_some, is_none, option_map, slice_get}
+use Rattle.std.specs.List.{enumerate_from}
+use Rattle.std.specs.List.Sorted.{IsStrictlyIncreasing}
+use Rattle.std.specs.FinMap as map_of
+use Rattle.prefix6.specs.Prefix.{Prefix6}
+use Rattle.ripng_wire.specs.declared.rte.Rte.{Rte}
+use Rattle.ripng_wire.specs.Layout.{is_next_hop}
+use Rattle.route_table.specs.Route.{RouteValue}
+use Rattle.route_table.specs.Table.{Table, table_limit}
+use Rattle.router_core.specs.Config.{Config}
+use Rattle.router_core.specs.Offers.{offers, offer_at, is_offer, flaw, prefix_named}
+use Rattle.router_core.specs.Adoption.{Gateway, adopted}
+use Rattle.router_core.specs.declared.answer.Note.{Note}
+use Rattle.router_core.specs.declared.answer.NoteKind.{NoteKind}
+use Rattle.router_core.specs.declared.answer.NoteKind.TheVariants.{TableFull, NoMemory}
+
+-- the entries of a Response from a gateway, the table that they meet, and the notes that were made
+pub record Hearing : Type 0 where
+  pub config : Config
+  pub gateway : Gateway
+  pub entries : List Rte
+  pub before : Table
+  pub notes : List Note
+
+abbrev pub hearing : Config → Gateway → List Rte → Table → List Note → Hearing
+hearing config gateway entries before notes =
+    record { config = config; gateway = gateway; entries = entries; before = before; notes = notes }
+
+abbrev pub is_refusal : Option NoteKind → Bool
+is_refusal (Some TableFull) = true
+is_refusal (Some NoMemory) = true
+is_refusal _ = false
+
+-- the note at an entry
+abbrev pub note_at : Hearing → ℕ → Option NoteKind
+note_at h place = option_map (λ n. n.kind) (find (λ n. n.entry == place) h.notes)
+
+-- a new route had no room
+abbrev pub is_refused : Hearing → ℕ → Bool
+is_refused h place = is_refusal (note_at h place)
+
+-- the route to a prefix after the entries before a place
+abbrev pub route_after : Hearing → ℕ → Prefix6 → Option RouteValue
+route_after h place p =
+    fold (adopted h.gateway) (map_of.get h.before p)
+    (filter (λ o. nat_lt o.place place && not (is_refused h o.place)) (offers h.config h.gateway.from h.entries p))
+
+-- the entry offers a first route to its prefix
+abbrev pub would_add : Hearing → ℕ → Rte → Bool
+would_add h place e =
+    is_offer e && is_none (route_after h place (prefix_named e))
+    && is_some (adopted h.gateway None (offer_at h.config h.gateway.from h.entries place e))
+
+-- how many routes the table holds after the entries before a place
+abbrev pub held_after : Hearing → ℕ → ℕ
+held_after h place =
+    map_of.len h.before
+    + count_by (λ t. would_add h t.0 t.1 && not (is_refused h t.0)) (take place (enumerate_from 0 h.entries))
+
+-- the notes that a new route may get
+abbrev pub notes_of_new : Hearing → ℕ → List (Option NoteKind)
+notes_of_new h place = if nat_le table_limit (held_after h place) then Some TableFull ∷ [] else None ∷ Some NoMemory ∷ []
+
+abbrev pub notes_of_offer : Hearing → ℕ → Rte → Option NoteKind → List (Option NoteKind)
+notes_of_offer h place e (Some kind) = Some kind ∷ []
+notes_of_offer h place e None = if would_add h place e then notes_of_new h place else None ∷ []
+
+-- the notes that an entry may get
+abbrev pub allowed_notes : Hearing → ℕ → Rte → List (Option NoteKind)
+allowed_notes h place e = if is_next_hop e then None ∷ [] else notes_of_offer h place e (flaw e)
+
+-- the table after all entries, with the notes on the way
+pub record Heard (h : Hearing) (after : Table) : Type 0 where
+  pub routes : (p : Prefix6) → map_of.get after p ≡ route_after h (length h.entries) p
+  pub noted : (place : ℕ) (e : Rte) → slice_get h.entries place ≡ Some e → Contains (allowed_notes h place e) (note_at h place)
+  pub in_order : IsStrictlyIncreasing (map (λ n. n.entry) h.notes)
+  pub placed : All (λ n. n.entry < length h.entries) h.notes

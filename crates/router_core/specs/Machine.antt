@@ -1,0 +1,137 @@
+-- The steps of a router: what it may answer, and what it then is (RFC 2080, 2.3 to 2.5).
+use Rattle.std.specs.Prelude.{◌≡◌, ℕ, ◌+◌, ◌%◌, max, ◌&&◌, nat_le, Bool, false, if◌then◌else◌, MatchBool, MatchOption, List, [], map, Some, None}
+use Rattle.std.specs.List.{list_any}
+use Rattle.std.specs.FinMap as map_of
+use Rattle.ripng_wire.specs.declared.rte.Rte.{Rte}
+use Rattle.ripng_wire.specs.declared.rte.Command.TheVariants.{Request, Response}
+use Rattle.ripng_wire.specs.Layout.{Spells}
+use Rattle.ripng_wire.specs.Wire.{is_response}
+use Rattle.route_table.specs.Route.{RouteValue}
+use Rattle.route_table.specs.Table.{Table}
+use Rattle.route_table.specs.declared.route.Origin.TheVariants.{Own}
+use Rattle.route_table.specs.declared.route.Clock.TheVariants.{Fixed}
+use Rattle.router_core.specs.Config.{Config, cost_at}
+use Rattle.router_core.specs.Received.{Received}
+use Rattle.router_core.specs.Faults.{fault}
+use Rattle.router_core.specs.Adoption.{Gateway}
+use Rattle.router_core.specs.Hearing.{Hearing, Heard, hearing}
+use Rattle.router_core.specs.Ageing.{aged_table, unmarked}
+use Rattle.router_core.specs.Output.{Message, AreSpelled, start_messages, update_messages, reply_messages, every_route, is_changed}
+use Rattle.fib.specs.Forwarding.{Forwarding}
+use Rattle.router_core.specs.Changes.{forwards, changes_of_start, changes_of_ageing, changes_of_hearing}
+use Rattle.router_core.specs.declared.answer.Answer.{Answer}
+use Rattle.router_core.specs.declared.arrival.Fault.{Fault}
+use Rattle.router_core.specs.declared.answer.Note.{Note}
+use Rattle.fib.specs.declared.change.RouteChange.{RouteChange}
+
+pub record State : Type 0 where
+  pub config : Config
+  pub table : Table
+  pub last : ℕ  -- the moment of the last step
+  pub regular : ℕ  -- when the next regular update is due
+  pub hold : ℕ  -- until when triggered updates are held
+
+-- what may happen to a router that runs
+pub data Happening : Type 0 where
+  Arrives : Received → Happening
+  Ticks : (now word : ℕ) → Happening
+  Restarts : (now : ℕ) → Happening
+
+-- an answer with no fault, of these messages, changes and notes
+pub record Tells (messages : List Message) (changes : List RouteChange) (notes : List Note) (answer : Answer) : Type 0 where
+  pub fault : answer.fault ≡ None
+  pub sends : AreSpelled messages answer.sends
+  pub changes_are : answer.changes ≡ changes
+  pub notes_are : answer.notes ≡ notes
+
+-- an owned prefix never ages and is never replaced
+abbrev pub owned_route : ℕ → RouteValue
+owned_route tag = record { metric = 1; tag = tag; origin = Own; clock = Fixed; changed = false }
+
+abbrev pub owned_table : Config → Table
+owned_table config = map_of.from_entries (map (λ t. (t.0, owned_route t.1)) config.prefixes)
+
+abbrev pub started : Config → ℕ → State
+started config now = record { config = config; table = owned_table config; last = now; regular = now; hold = now }
+
+pub record Starts (config : Config) (now : ℕ) (answer : Answer) (new : State) : Type 0 where
+  pub state : new ≡ started config now
+  pub told : Tells (start_messages config) (changes_of_start (owned_table config)) [] answer
+
+-- a refused arrival is answered by its fault alone
+pub record Refuses (old : State) (now : ℕ) (why : Fault) (answer : Answer) (new : State) : Type 0 where
+  pub state : new ≡ record old { last = now }
+  pub answer_is : answer ≡ record { fault = Some why; sends = []; changes = []; notes = [] }
+
+abbrev pub gateway_of : State → ℕ → Received → Gateway
+gateway_of old now x = record { iface = x.iface; cost = cost_at old.config x.iface; from = x.source; now = now }
+
+abbrev pub hearing_of : State → ℕ → Received → List Rte → List Note → Hearing
+hearing_of old now x entries notes = hearing old.config (gateway_of old now x) entries old.table notes
+
+-- a Response is heard
+pub record Hears (old : State) (now : ℕ) (x : Received) (answer : Answer) (new : State) : Type 0 where
+  pub entries : List Rte
+  pub read : Spells Response entries x.bytes
+  pub table : Table
+  pub heard : Heard (hearing_of old now x entries answer.notes) table
+  pub state : new ≡ record old { table = table; last = now }
+  pub told : Tells [] (changes_of_hearing (hearing_of old now x entries answer.notes)) answer.notes answer
+
+-- a Request is answered
+pub record Replies (old : State) (now : ℕ) (x : Received) (answer : Answer) (new : State) : Type 0 where
+  pub entries : List Rte
+  pub read : Spells Request entries x.bytes
+  pub state : new ≡ record old { last = now }
+  pub told : Tells (reply_messages old.config old.table x entries) [] [] answer
+
+abbrev pub Accepts : State → ℕ → Received → Answer → State → Type 0
+Accepts old now x answer new = MatchBool (is_response x.bytes) (Hears old now x answer new) (Replies old now x answer new)
+
+abbrev pub is_regular_due : State → ℕ → Bool
+is_regular_due old now = nat_le old.regular now
+
+abbrev pub is_triggered_due : State → ℕ → Bool
+is_triggered_due old now = nat_le old.hold now && list_any (λ t. t.1.changed) (map_of.entries (aged_table now old.table))
+
+abbrev pub tick_messages : State → ℕ → List Message
+tick_messages old now =
+    if is_regular_due old now then update_messages old.config every_route (aged_table now old.table)
+    else if is_triggered_due old now then update_messages old.config is_changed (aged_table now old.table)
+    else []
+
+-- when the next regular update is due: 15 to 45 seconds after one, by a random word (RFC 2080, 2.3)
+abbrev pub next_regular : ℕ → ℕ → ℕ
+next_regular now word = now + 15_000 + word % 30_001
+
+-- until when triggered updates are held: 1 to 5 seconds after one, by a random word (RFC 2080, 2.5.1)
+abbrev pub next_hold : ℕ → ℕ → ℕ
+next_hold now word = now + 1_000 + word % 4_001
+
+-- the state after a tick: routes age, and what was told is no longer marked
+abbrev pub ticked : State → ℕ → ℕ → State
+ticked old now word =
+    if is_regular_due old now
+    then record old { table = unmarked (aged_table now old.table); last = now; regular = next_regular now word }
+    else if is_triggered_due old now
+    then record old { table = unmarked (aged_table now old.table); last = now; hold = next_hold now word }
+    else record old { table = aged_table now old.table; last = now }
+
+pub record Updates (old : State) (now word : ℕ) (answer : Answer) (new : State) : Type 0 where
+  pub state : new ≡ ticked old now word
+  pub told : Tells (tick_messages old now) (changes_of_ageing now old.table) [] answer
+
+-- the router may answer so, and is then so. Time does not go back, but at a restart
+abbrev pub Moves : State → Happening → Answer → State → Type 0
+Moves old (Restarts now) answer new = Starts old.config now answer new
+Moves old (Ticks now word) answer new = Updates old (max old.last now) word answer new
+Moves old (Arrives x) answer new =
+    MatchOption (fault old.config x)
+    (Accepts old (max old.last x.now) x answer new)
+    (λ why. Refuses old (max old.last x.now) why answer new)
+
+-- the forwarding table that the changes of an answer are for: a restart forgets it
+abbrev pub forwards_before : State → Happening → Forwarding
+forwards_before old (Restarts now) = map_of.empty
+forwards_before old (Ticks now word) = forwards old.table
+forwards_before old (Arrives x) = forwards old.table

@@ -1,0 +1,55 @@
+-- What the entries of a Response offer (RFC 2080, 2.1.1 and 2.4.2).
+use Rattle.std.specs.Prelude.{ℕ, ◌==◌, ◌&&◌, ◌||◌, not, nat_lt, Bool, if◌then◌else◌, List, [], ◌∷◌, map, reverse, take, filter, find, Option, Some, None, is_none}
+use Rattle.std.specs.List.{enumerate_from}
+use Rattle.prefix6.specs.Addr.{is_link_local}
+use Rattle.prefix6.specs.Prefix.{Prefix6, cleared, is_routable, same_prefix}
+use Rattle.ripng_wire.specs.declared.rte.Rte.{Rte}
+use Rattle.ripng_wire.specs.Layout.{is_next_hop}
+use Rattle.ripng_wire.specs.Wire.{first_failing}
+use Rattle.route_table.specs.Route.{infinity}
+use Rattle.router_core.specs.Config.{Config, is_own_address}
+use Rattle.router_core.specs.declared.answer.NoteKind.{NoteKind}
+use Rattle.router_core.specs.declared.answer.NoteKind.TheVariants.{BadLength, BadPrefix, BadMetric}
+
+-- the prefix that an entry names
+abbrev pub prefix_named : Rte → Prefix6
+prefix_named e = cleared e.addr e.len
+
+-- each with whether it fails
+abbrev pub entry_tests : Rte → List (Bool × NoteKind)
+entry_tests e =
+    (nat_lt 128 e.len, BadLength)
+    ∷ (not (is_routable (prefix_named e)), BadPrefix)
+    ∷ (e.metric == 0 || nat_lt infinity e.metric, BadMetric)
+    ∷ []
+
+abbrev pub flaw : Rte → Option NoteKind
+flaw e = first_failing (entry_tests e)
+
+abbrev pub is_offer : Rte → Bool
+is_offer e = not (is_next_hop e) && is_none (flaw e)
+
+-- the address of a next hop entry where it is a neighbor's, and else the source
+abbrev pub usable_hop : Config → ℕ → Option Rte → ℕ
+usable_hop config source None = source
+usable_hop config source (Some e) = if is_link_local e.addr && not (is_own_address config e.addr) then e.addr else source
+
+-- the next hop of the entry at a place: that of the last next hop entry before it
+abbrev pub next_hop_at : Config → ℕ → List Rte → ℕ → ℕ
+next_hop_at config source entries place = usable_hop config source (find is_next_hop (reverse (take place entries)))
+
+pub record Offer : Type 0 where
+  pub metric : ℕ
+  pub tag : ℕ
+  pub next_hop : ℕ
+  pub place : ℕ
+
+abbrev pub offer_at : Config → ℕ → List Rte → ℕ → Rte → Offer
+offer_at config source entries place e =
+    record { metric = e.metric; tag = e.tag; next_hop = next_hop_at config source entries place; place = place }
+
+-- what the entries offer for one prefix, in their order
+abbrev pub offers : Config → ℕ → List Rte → Prefix6 → List Offer
+offers config source entries p =
+    map (λ t. offer_at config source entries t.0 t.1)
+    (filter (λ t. is_offer t.1 && same_prefix (prefix_named t.1) p) (enumerate_from 0 entries))

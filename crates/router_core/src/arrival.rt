@@ -1,0 +1,60 @@
+//! Datagrams that come to a router, and why one may change nothing.
+
+use prefix6::Addr6;
+use ripng_wire::WireError;
+use route_table::Moment;
+use std::marker::Model;
+
+/// A datagram as it came to an interface.
+#[derive(Drop)]
+pub struct Arrival<'a> {
+    /// When it came.
+    pub now: Moment,
+    /// The number of the interface.
+    pub iface: usize,
+    /// The address that it came from.
+    pub source: Addr6,
+    /// The UDP port that it came from.
+    pub source_port: u16,
+    /// The hop limit that was left, 255 if no router forwarded it.
+    pub hop_limit: u8,
+    /// Whether it was sent to the group of all RIPng routers, FF02::9, and not to this router.
+    pub to_group: bool,
+    /// What it holds.
+    pub bytes: &'a [u8],
+}
+
+impl<'a> Model for Arrival<'a> {
+    ghost use Rattle.router_core.specs.Received.{Received};
+
+    ghost Value = { Received };
+
+    ghost view = { λ a. record {
+      now = a.now;
+      iface = a.iface;
+      source = a.source;
+      source_port = a.source_port;
+      hop_limit = a.hop_limit;
+      to_group = a.to_group;
+      bytes = a.bytes.now;
+    } };
+}
+
+/// Why an arrival changes nothing: the first test that it fails (RFC 2080, sections 2.4.1 and 2.4.2).
+#[derive(Clone, Copy, Debug, PartialEq, Eq)]
+pub enum Fault {
+    /// Its bytes are no datagram: faults 1 to 6.
+    Wire(WireError),
+    /// 7: a Response that is not from port 521.
+    NotRipngPort,
+    /// 8: the source is not link-local.
+    NotLinkLocal,
+    /// 9: the source is an address of this router.
+    OwnAddress,
+    /// 10: it came to the group with a hop limit other than 255.
+    HopLimit,
+    /// 11: a Request without entries.
+    EmptyRequest,
+    /// 12: a Request from no unicast address, or from port 0.
+    BadSource,
+}

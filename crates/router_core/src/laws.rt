@@ -1,0 +1,41 @@
+//! Laws of the step, each the contract of a function with nothing to do: what follows from the definitions alone.
+
+ghost use Rattle.std.specs.Prelude.{◌≡◌, ℕ, ◌+◌, ◌<◌, ◌≤◌, List, length, flat_map, slice_get, Some};
+ghost use Rattle.std.specs.FinMap as map_of;
+ghost use Rattle.fib.specs.Forwarding.{Replays};
+ghost use Rattle.prefix6.specs.Prefix.{Prefix6};
+ghost use Rattle.ripng_wire.specs.declared.rte.Rte.{Rte};
+ghost use Rattle.route_table.specs.Table.{Table};
+ghost use Rattle.router_core.specs.Changes.{forwards};
+ghost use Rattle.router_core.specs.Config.{Config};
+ghost use Rattle.router_core.specs.Hearing.{Hearing, route_after, held_after};
+ghost use Rattle.router_core.specs.Machine.{State, Happening, Moves, Starts, forwards_before};
+ghost use Rattle.router_core.specs.Output.{pieces};
+ghost use Rattle.router_core.specs.declared.answer.Answer.{Answer};
+
+/// The changes of each answer, replayed onto the forwarding table before it, give that after it.
+pub fn changes_replay()
+    ensures { (old new : State) (happening : Happening) (answer : Answer) → Moves old happening answer new
+        → Replays (forwards_before old happening) answer.changes (forwards new.table) }
+{}
+
+/// A table that is as heard so far holds as many routes as are said to be held.
+pub fn held_is_size()
+    ensures { (h : Hearing) (place : ℕ) → place ≤ length h.entries
+        → (t : Table) → ((p : Prefix6) → map_of.get t p ≡ route_after h place p) → map_of.len t ≡ held_after h place }
+{}
+
+/// The changes of a start, replayed onto nothing, give the forwarding table.
+pub fn start_replays()
+    ensures { (config : Config) (now : ℕ) (answer : Answer) (new : State) → Starts config now answer new
+        → Replays map_of.empty answer.changes (forwards new.table) }
+{}
+
+/// The pieces of a list join to it; all but the last are full, and the last has one element at least.
+pub fn pieces_join()
+    ensures joined { (size : ℕ) (xs : List Rte) → 0 < size → flat_map (λ p. p) (pieces size xs) ≡ xs }
+    ensures full { (size place : ℕ) (xs piece : List Rte) → 0 < size → place + 1 < length (pieces size xs)
+        → slice_get (pieces size xs) place ≡ Some piece → length piece ≡ size }
+    ensures sized { (size place : ℕ) (xs piece : List Rte) → 0 < size → slice_get (pieces size xs) place ≡ Some piece
+        → (0 < length piece) × (length piece ≤ size) }
+{}
