@@ -86,7 +86,8 @@ impl Prefix {
     /// Whether routes may be told for the prefix: whether its address is neither multicast nor
     /// link-local.
     pub fn is_routable(&self) -> bool
-        ensures { result ≡ is_routable self.now }
+        ensures value { result ≡ is_routable self.now }
+        ensures prefix { IsPrefix self.now }
     {
         !self.addr.is_multicast() && !self.addr.is_link_local()
     }
