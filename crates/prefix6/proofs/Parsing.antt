@@ -11,7 +11,7 @@ use Rattle.prefix6.specs.declared.error.PrefixError.{PrefixError}
 use Rattle.prefix6.specs.declared.error.PrefixError.TheVariants.{LengthTooLarge, BadAddressText, BadLengthText}
 use Rattle.prefix6.specs.Addr.{groups_of}
 use Rattle.prefix6.specs.Prefix.{Prefix6, cleared}
-use Rattle.prefix6.specs.Text.{ReadsAs, Reads, ReadsPrefix, IsLengthText, address_part, length_part, HasNoAddress, HasNoLength}
+use Rattle.prefix6.specs.Text.{ReadsAs, Reads, ReadsPrefix, IsLengthText, address_part, length_part, HasNoAddress, HasNoLength, ParsesAddr, ParsesPrefix}
 use Rattle.prefix6.proofs.Grammar.{Lacks, Lacks-text, to_colon_hex, from_colon_hex}
 use Rattle.prefix6.proofs.Groups.{address_of, address_of-lt, groups_of-address_of, from_segments}
 use Rattle.prefix6.proofs.Values.{Reads_unique, read_groups-eight, read_groups-fit}
@@ -41,13 +41,17 @@ lacks b (x ∷ xs) h =
       | inr other ↦ (other, lacks b xs (rw (ne_eqb x b other) at h))
     ]
 
+-- where no address is read, refusal 2 is the answer
+refuses : (text : List ℕ) → ((a : ℕ) → ¬ (Reads text a)) → ParsesAddr text (Err BadAddressText)
+refuses text none = record { reads = none_ok (Reads text) _ none; refused = refl }
+
 -- a text with a dot reads as no address
-pub dotted_reads_none : (text : List ℕ) → list_any (λ y. y == 46) text ≡ true → (a : ℕ) → ¬ (Reads text a)
-dotted_reads_none text dot a h =
-    true≢false (sym dot ∙ has_none 46 text (Lacks-text 46 text _ (omega arith) (omega arith) h.groups))
+pub refuses_dots : (text : List ℕ) → list_any (λ y. y == 46) text ≡ true → ParsesAddr text (Err BadAddressText)
+refuses_dots text dot =
+    refuses text (λ a h. true≢false (sym dot ∙ has_none 46 text (Lacks-text 46 text _ (omega arith) (omega arith) h.groups)))
 
 -- what std reads of a text without dots
-pub reads_std : (text : List ℕ) (addr : Ipv6Addr) (n : ℕ) → list_any (λ y. y == 46) text ≡ false → IsIpv6Text text addr → n ≡ ipv6_bits addr → Reads text n
+reads_std : (text : List ℕ) (addr : Ipv6Addr) (n : ℕ) → list_any (λ y. y == 46) text ≡ false → IsIpv6Text text addr → n ≡ ipv6_bits addr → Reads text n
 unfolding ipv6_bits
 reads_std text addr n none h is =
     let groups : ReadsAs text (ipv6_segments addr) = from_colon_hex text (ipv6_segments addr) (lacks 46 text none) h in
@@ -59,9 +63,13 @@ reads_std text addr n none h is =
       groups = subst (ReadsAs text) (sym (groups_of-address_of (ipv6_segments addr) eight fits)) groups;
     })
 
--- where std reads no address
-pub reads_none_std : (text : List ℕ) → ((addr : Ipv6Addr) → ¬ (IsIpv6Text text addr)) → (a : ℕ) → ¬ (Reads text a)
-reads_none_std text none a h = none (record { segments = groups_of a }) (to_colon_hex text (groups_of a) h.groups)
+pub takes_std : (text : List ℕ) (addr : Ipv6Addr) (n : ℕ) → list_any (λ y. y == 46) text ≡ false → IsIpv6Text text addr → n ≡ ipv6_bits addr → ParsesAddr text (Ok n)
+takes_std text addr n none h is = record { reads = one_ok (Reads text) n (reads_std text addr n none h is) (Reads_unique text); refused = tt }
+
+-- where std reads no address there is none
+pub refuses_std : (text : List ℕ) → ((addr : Ipv6Addr) → ¬ (IsIpv6Text text addr)) → ParsesAddr text (Err BadAddressText)
+refuses_std text none =
+    refuses text (λ a h. none (record { segments = groups_of a }) (to_colon_hex text (groups_of a) h.groups))
 
 -- the first slash of a text is the one after the address
 first_at : (b : ℕ) (xs ys : List ℕ) → Lacks b xs → position_or_len (λ c. c == b) (xs ++ (b ∷ ys)) ≡ length xs
@@ -78,14 +86,7 @@ prefix_parts text p h =
     let back : length_part text ≡ h.len_text = ap (drop (position_or_len (λ c. c == 47) text + 1)) h.spelled ∙ drop_at (h.addr_text ++ (47 ∷ [])) h.len_text _ past in
     (subst (λ t. Reads t h.addr) (sym front) h.reads, subst (λ t. IsLengthText t p.len) (sym back) h.len)
 
--- what the reader of prefixes answers
-pub record AnswersPrefix (text : List ℕ) (r : Result Prefix6 PrefixError) : Type 0 where
-  pub reads : (p : Prefix6) → (r ≡ Ok p) ↔ ReadsPrefix text p
-  pub bad_address : (r ≡ Err BadAddressText) ↔ HasNoAddress text
-  pub bad_length : (r ≡ Err BadLengthText) ↔ HasNoLength text
-  pub no_other : r ≢ Err LengthTooLarge
-
-pub no_address : (text : List ℕ) → HasNoAddress text → AnswersPrefix text (Err BadAddressText)
+pub no_address : (text : List ℕ) → HasNoAddress text → ParsesPrefix text (Err BadAddressText)
 no_address text none = record {
   reads = none_ok (ReadsPrefix text) _ (λ p h. none h.addr (prefix_parts text p h).0);
   bad_address = (λ same. none, λ h. refl);
@@ -93,7 +94,7 @@ no_address text none = record {
   no_other = λ same. cc;
 }
 
-pub no_length : (text : List ℕ) (a : ℕ) → Reads (address_part text) a → ((len : ℕ) → ¬ (IsLengthText (length_part text) len)) → AnswersPrefix text (Err BadLengthText)
+pub no_length : (text : List ℕ) (a : ℕ) → Reads (address_part text) a → ((len : ℕ) → ¬ (IsLengthText (length_part text) len)) → ParsesPrefix text (Err BadLengthText)
 no_length text a h none = record {
   reads = none_ok (ReadsPrefix text) _ (λ p k. none p.len (prefix_parts text p k).1);
   bad_address = (λ same. cc, λ k. absurd (k a h));
@@ -112,7 +113,7 @@ parted text len h =
       | inr none ↦ absurd (omega (arith, h.digits, length-drop (first + 1) text))
     ]
 
-pub a_prefix : (text : List ℕ) (a len : ℕ) → Reads (address_part text) a → IsLengthText (length_part text) len → AnswersPrefix text (Ok (cleared a len))
+pub a_prefix : (text : List ℕ) (a len : ℕ) → Reads (address_part text) a → IsLengthText (length_part text) len → ParsesPrefix text (Ok (cleared a len))
 a_prefix text a len h k =
     let reads : ReadsPrefix text (cleared a len) = record {
       addr_text = address_part text;

@@ -1,9 +1,11 @@
 -- The texts that are read: of addresses the first two forms of RFC 4291, 2.2, and of prefixes that of 2.3.
-use Rattle.std.specs.Prelude.{◌≡◌, ℕ, ◌+◌, ◌-◌, ◌^◌, ◌<◌, ◌≤◌, ◌==◌, ◌⊎◌, List, [], ◌∷◌, ◌++◌, length, replicate, slice_index, codes}
+use Rattle.std.specs.Prelude.{◌≡◌, ◌≢◌, ◌↔◌, ℕ, ◌+◌, ◌-◌, ◌^◌, ◌<◌, ◌≤◌, ◌==◌, ◌⊎◌, List, [], ◌∷◌, ◌++◌, length, replicate, slice_index, codes, Result, Ok, Err, IfErr}
 use Rattle.std.specs.List.{before_first, after_first}
 use Rattle.std.specs.Str.Parse.{IsNumeral, digits_value}
 use Rattle.prefix6.specs.Addr.{groups_of}
 use Rattle.prefix6.specs.Prefix.{Prefix6, cleared}
+use Rattle.prefix6.specs.declared.error.PrefixError.{PrefixError}
+use Rattle.prefix6.specs.declared.error.PrefixError.TheVariants.{LengthTooLarge, BadAddressText, BadLengthText}
 
 -- one to four hexadecimal digits of either case, and the number that they write
 pub record IsGroup (text : List ℕ) (group : ℕ) : Type 0 where
@@ -40,6 +42,11 @@ pub record Reads (text : List ℕ) (a : ℕ) : Type 0 where
   pub in_range : a < 2 ^ 128
   pub groups : ReadsAs text (groups_of a)
 
+-- what a reader of addresses answers: the address, exactly where the text reads as one
+pub record ParsesAddr (text : List ℕ) (r : Result ℕ PrefixError) : Type 0 where
+  pub reads : (a : ℕ) → (r ≡ Ok a) ↔ Reads text a
+  pub refused : IfErr r (λ e. e ≡ BadAddressText)
+
 -- a length: decimal digits with no leading zero, at most 128
 pub record IsLengthText (text : List ℕ) (len : ℕ) : Type 0 where
   pub digits : IsNumeral 10 text
@@ -72,3 +79,10 @@ HasNoAddress text = (a : ℕ) → ¬ (Reads (address_part text) a)
 abbrev pub HasNoLength : List ℕ → Type 0
 HasNoLength text = ((a : ℕ) × Reads (address_part text) a)
     × ((len : ℕ) → ¬ (IsLengthText (length_part text) len))
+
+-- what a reader of prefixes answers: the prefix, exactly where the text reads as one, and which refusal
+pub record ParsesPrefix (text : List ℕ) (r : Result Prefix6 PrefixError) : Type 0 where
+  pub reads : (p : Prefix6) → (r ≡ Ok p) ↔ ReadsPrefix text p
+  pub bad_address : (r ≡ Err BadAddressText) ↔ HasNoAddress text
+  pub bad_length : (r ≡ Err BadLengthText) ↔ HasNoLength text
+  pub no_other : r ≢ Err LengthTooLarge

@@ -4,7 +4,7 @@
 ghost use Rattle.std.specs.Prelude.{◌≡◌, ◌≢◌, ℕ, ◌<◌, ◌^◌, ◌↔◌, IfErr, List, Some, Ok};
 ghost use Rattle.prefix6.specs.Addr.{groups_of};
 ghost use Rattle.prefix6.specs.Prefix.{Prefix6, IsPrefix};
-ghost use Rattle.prefix6.specs.Text.{ReadsAs, Reads, ReadsPrefix, IsLengthText, address_part, length_part, HasNoAddress, HasNoLength};
+ghost use Rattle.prefix6.specs.Text.{ReadsAs, Reads, ReadsPrefix, IsLengthText, address_part, length_part, ParsesAddr, ParsesPrefix};
 ghost use Rattle.prefix6.specs.Written.{written, written_addr, written_prefix, IsCanonical, IsPlainGroup};
 ghost use Rattle.std.specs.Net.Text.{hex};
 ghost use Rattle.prefix6.specs.declared.error.PrefixError.TheVariants.{LengthTooLarge, BadAddressText, BadLengthText};
@@ -22,8 +22,7 @@ use std::str::FromStr;
 /// # Errors
 /// `BadAddressText` for any other text, also for one with an address of IPv4 in it.
 pub fn parse_addr(text: &str) -> Result<Addr6, PrefixError>
-    ensures reads { (a : ℕ) → (result ≡ Ok a) ↔ Reads text.now a }
-    ensures refused { IfErr result (λ e. e ≡ BadAddressText) }
+    ensures { ParsesAddr text.now result }
 {
     let bytes = text.as_bytes();
     if bytes.contains(&b'.') {
@@ -65,10 +64,7 @@ fn split_at_slash(text: &str) -> (&str, &str)
 /// `BadAddressText` where what stands before the first slash, or the whole, is no address;
 /// `BadLengthText` where that is one, and no length or no slash follows.
 pub fn parse_prefix(text: &str) -> Result<Prefix, PrefixError>
-    ensures reads { (p : Prefix6) → (result ≡ Ok p) ↔ ReadsPrefix text.now p }
-    ensures bad_address { (result ≡ Err BadAddressText) ↔ HasNoAddress text.now }
-    ensures bad_length { (result ≡ Err BadLengthText) ↔ HasNoLength text.now }
-    ensures no_other { result ≢ Err LengthTooLarge }
+    ensures { ParsesPrefix text.now result }
 {
     let (addr, len) = split_at_slash(text);
     let addr = parse_addr(addr)?;
@@ -79,9 +75,7 @@ pub fn parse_prefix(text: &str) -> Result<Prefix, PrefixError>
 impl FromStr for Addr6 {
     type Err = PrefixError;
 
-    ghost use Rattle.prefix6.specs.Text.{Reads};
-
-    ghost from_str_gives = { λ text r. (a : ℕ) → (r ≡ Ok a) ↔ Reads text a };
+    ghost from_str_gives = { ParsesAddr };
 
     /// As [`parse_addr`].
     fn from_str(text: &str) -> Result<Addr6, PrefixError> {
@@ -92,9 +86,7 @@ impl FromStr for Addr6 {
 impl FromStr for Prefix {
     type Err = PrefixError;
 
-    ghost use Rattle.prefix6.specs.Text.{ReadsPrefix};
-
-    ghost from_str_gives = { λ text r. (p : Prefix6) → (r ≡ Ok p) ↔ ReadsPrefix text p };
+    ghost from_str_gives = { ParsesPrefix };
 
     /// As [`parse_prefix`].
     fn from_str(text: &str) -> Result<Prefix, PrefixError> {
