@@ -144,7 +144,7 @@ module _ (front rest : List (Prefix6 × RouteValue)) (p : Prefix6) (r : RouteVal
   here : IsAt (front ++ (p, r) ∷ rest) p (length front)
   here = record {
     in_range = simp length-append (omega arith);
-    has_key = λ d. ap (λ (e : Prefix6 × RouteValue). e.0) (get_or-append_seam front (p, r) rest d);
+    has_prefix = λ d. ap (λ (e : Prefix6 × RouteValue). e.0) (get_or-append_seam front (p, r) rest d);
   }
 
   pub get-middle : map.get t p ≡ Some r

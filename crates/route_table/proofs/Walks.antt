@@ -1,5 +1,5 @@
 -- Walks over a table that stays, entry by entry.
-use Rattle.std.proofs.Common.{◌≡◌, ℕ, zero, suc, ◌+◌, ◌-◌, ◌<◌, ◌≤◌, Bool, true, false, ◌||◌, [], ◌∷◌, ◌++◌, length, take, drop, Option, Some, None, slice_get, refl, sym, ap, ◌∙◌, arith, add-one}
+use Rattle.std.proofs.Common.{◌≡◌, ℕ, zero, suc, ◌+◌, ◌<◌, ◌≤◌, Bool, true, false, ◌||◌, [], ◌∷◌, ◌++◌, length, take, drop, Option, Some, None, slice_get, refl, sym, ap, ◌∙◌, arith, add-one}
 use Rattle.std.specs.Prelude.{T}
 use Rattle.std.specs.List.{list_any, filter_map, cons_option}
 use Rattle.std.specs.Option.{option_map, option_to_list}
@@ -44,7 +44,7 @@ start_before es (suc k) h le = from_entry (slice_get es k) refl
   where
     from_entry : (o : Option Entry) → slice_get es k ≡ o → IsStartPast es (option_map (λ (e : Entry). e.0) (slice_get es k)) (suc k)
     from_entry None is = absurd (present_at es k (omega arith) is)
-    from_entry (Some e) is = rw (is, ← add-one k) (start_after es e.0 k h (record { in_range = omega arith; has_key = λ d. ap (λ (x : Entry). x.0) (get_or_from_slice_get es k e d is) }))
+    from_entry (Some e) is = rw (is, ← add-one k) (start_after es e.0 k h (record { in_range = omega arith; has_prefix = λ d. ap (λ (x : Entry). x.0) (get_or_from_slice_get es k e d is) }))
 
 -- ---- a walk over a table that stays
 -- past the prefix before a place comes the entry of that place

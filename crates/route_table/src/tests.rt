@@ -127,3 +127,15 @@ fn a_full_table_refuses_until_a_route_is_removed(rt: HostRuntime) -> Result<(), 
     );
     Ok(())
 }
+
+#[test]
+fn refusals_say_why(rt: HostRuntime) -> Result<(), Fail> {
+    for (refusal, text) in [
+        (AddRefused::Full, "the table of routes is full"),
+        (AddRefused::NoMemory, "no memory for another route"),
+    ] {
+        let said = format!(in rt.alloc(); "{refusal}")?;
+        assert_eq!(rt; said.as_str(), text);
+    }
+    Ok(())
+}
