@@ -1,17 +1,16 @@
 -- What the readers of texts answer, from what std's parser answers and from the parts of a text.
-use Rattle.std.proofs.Common.{◌≡◌, ◌≢◌, ℕ, zero, suc, ◌+◌, ◌^◌, ◌<◌, ◌≤◌, ◌==◌, Bool, true, false, List, [], ◌∷◌, ◌++◌, length, get_or, take, drop, Result, Ok, Err, IsOk, IfOk, refl, sym, ap, ◌∙◌, ◌↔◌, subst, arith, inl, inr, append_assoc, eq-eqb, ne_eqb, true≢false, take_at, drop_at, length-append, length-drop}
+use Rattle.std.proofs.Common.{◌≡◌, ℕ, ◌+◌, ◌≤◌, ◌==◌, true, false, List, [], ◌∷◌, ◌++◌, length, get_or, drop, Result, Ok, Err, IsOk, IfOk, refl, sym, ap, ◌∙◌, ◌↔◌, subst, arith, inl, inr, append_assoc, eq-eqb, ne_eqb, true≢false, take_at, drop_at, length-append, length-drop}
 use Rattle.std.proofs.lemmas.Bool.{cases_eq, cases_lt, eqb-true}
 use Rattle.std.proofs.lemmas.List.Sums.{passes_at_first, split_at_first}
-use Rattle.std.proofs.lemmas.Bool.Decides.{nat_tests}
 use Rattle.std.specs.List.{list_any, position_or_len}
 use Rattle.std.specs.declared.net.ipv6_addr.Ipv6Addr.{Ipv6Addr}
 use Rattle.std.specs.Net.Addr.{ipv6_segments, ipv6_bits}
 use Rattle.std.specs.Net.Grammar.{IsIpv6Text}
 use Rattle.prefix6.specs.declared.error.PrefixError.{PrefixError}
-use Rattle.prefix6.specs.declared.error.PrefixError.TheVariants.{LengthTooLarge, BadAddressText, BadLengthText}
+use Rattle.prefix6.specs.declared.error.PrefixError.TheVariants.{BadAddressText, BadLengthText}
 use Rattle.prefix6.specs.Addr.{groups_of}
 use Rattle.prefix6.specs.Prefix.{Prefix6, cleared}
-use Rattle.prefix6.specs.Text.{ReadsAs, Reads, ReadsPrefix, IsLengthText, address_part, length_part, HasNoAddress, HasNoLength, ParsesAddr, ParsesPrefix}
+use Rattle.prefix6.specs.Text.{ReadsAs, Reads, ReadsPrefix, IsLengthText, address_part, length_part, HasNoAddress, ParsesAddr, ParsesPrefix}
 use Rattle.prefix6.proofs.Grammar.{Lacks, Lacks-text, to_colon_hex, from_colon_hex}
 use Rattle.prefix6.proofs.Groups.{address_of, address_of-lt, groups_of-address_of, from_segments}
 use Rattle.prefix6.proofs.Values.{Reads_unique, read_groups-eight, read_groups-fit}

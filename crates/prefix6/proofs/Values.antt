@@ -1,11 +1,11 @@
 -- What a text reads as: eight groups of 16 bits, the groups of one address, and no other.
-use Rattle.std.proofs.Common.{◌≡◌, ℕ, zero, suc, ◌+◌, ◌-◌, ◌^◌, ◌<◌, ◌≤◌, List, [], ◌∷◌, ◌++◌, length, get_or, replicate, Some, refl, sym, ap, ◌∙◌, subst, arith, inl, inr, lit≤, append-nil, length-append}
+use Rattle.std.proofs.Common.{◌≡◌, ℕ, zero, suc, ◌-◌, ◌^◌, ◌<◌, ◌≤◌, List, [], ◌∷◌, ◌++◌, length, get_or, replicate, refl, sym, ap, ◌∙◌, subst, arith, inl, inr, lit≤, length-append}
 use Rattle.std.proofs.lemmas.Int.Digits.{digits_value-lt}
 use Rattle.std.proofs.Math.Nat.{pow-le-pow_right}
 use Rattle.std.proofs.NetLemmas.Options.{same_parts}
 use Rattle.std.proofs.NetLemmas.Ipv6.{read_ipv6_complete, EndsGroups-nil}
 use Rattle.prefix6.specs.Addr.{groups_of}
-use Rattle.prefix6.specs.Text.{IsGroup, AreGroups, IsCompressed, ReadsAs, Reads}
+use Rattle.prefix6.specs.Text.{IsGroup, AreGroups, ReadsAs, Reads}
 use Rattle.prefix6.proofs.Grammar.{to_colon_hex}
 use Rattle.prefix6.proofs.Groups.{groups_of-injective, groups_of-address_of, address_of, address_of-lt}
 

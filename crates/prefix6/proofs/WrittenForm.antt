@@ -1,10 +1,9 @@
 -- What is written of an address is in the grammar, and is what RFC 5952 asks for.
-use Rattle.std.proofs.Common.{◌≡◌, ◌≢◌, ℕ, ◌+◌, ◌/◌, ◌%◌, ◌^◌, ◌<◌, ◌≤◌, List, [], ◌∷◌, All, length, get_or, refl, sym, ap, ap₂, ◌∙◌, ◌↔◌, ◌⊎◌, subst, arith, inl, inr, le-leb, le-ltb, lt-ltb}
+use Rattle.std.proofs.Common.{◌≡◌, ◌≢◌, ℕ, ◌/◌, ◌%◌, ◌^◌, ◌<◌, ◌≤◌, List, [], ◌∷◌, All, length, get_or, refl, sym, ap, ap₂, ◌∙◌, ◌↔◌, subst, arith, inl, inr, le-leb, le-ltb, lt-ltb}
 use Rattle.std.proofs.lemmas.Bool.{cases_lt, lt-leb}
 use Rattle.std.proofs.lemmas.Bool.Decides.{nat_tests}
 use Rattle.std.proofs.lemmas.List.Elements.{All-nil, All-cons, All-head, All-tail}
 use Rattle.std.specs.Char.{digit_char, digit_value}
-use Rattle.std.specs.Int.{IsInRange}
 use Rattle.std.specs.Net.Text.{hex, hex_groups_text, hex_groups_addr, longest_zero_run}
 use Rattle.std.specs.Net.Addr.{ipv6_segments, IsIpv6OfBits}
 use Rattle.std.specs.declared.net.ipv6_addr.Ipv6Addr.{Ipv6Addr}
@@ -12,7 +11,7 @@ use Rattle.std.specs.declared.net.display.HexGroups.{HexGroups}
 use Rattle.std.proofs.NetLemmas.Alphabet.{All-hex_groups_text, IsHexOrColon}
 use Rattle.std.proofs.NetLemmas.Texts.{IsColonHex-hex_groups_text, IsZeroRun-longest_zero_run, longest_zero_run_first}
 use Rattle.prefix6.specs.Addr.{groups_of}
-use Rattle.prefix6.specs.Text.{ReadsAs, Reads, IsGroup}
+use Rattle.prefix6.specs.Text.{ReadsAs, Reads}
 use Rattle.prefix6.specs.Written.{written, written_addr, shortened, IsZeroRun, IsShortest, IsCanonical, IsLowerCase, IsPlainGroup}
 use Rattle.prefix6.proofs.Grammar.{Lacks, from_colon_hex}
 use Rattle.prefix6.proofs.Groups.{segments-groups_of, length-groups_of, groups_of-fit}

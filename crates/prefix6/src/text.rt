@@ -99,6 +99,7 @@ impl FromStr for Prefix {
 impl Display for Addr6 {
     ghost output = { λ a. Some (written_addr a) };
 
+    #[tactic(auto, using(crate::proofs::WrittenForm::shown))]
     fn fmt<W: fmt::Write>(&self, f: &mut fmt::Formatter<W>) -> fmt::Result {
         Display::fmt(&Ipv6Addr::from_bits(self.bits()).hex_groups(), f)
     }

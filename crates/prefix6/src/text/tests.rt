@@ -6,38 +6,37 @@ use crate::error::PrefixError;
 use crate::prefix::Prefix;
 use std::test::Fail;
 
-// Texts of addresses, each beside the text that is written of it.
-const ADDRESSES: [(&str, &str); 15] = [
-    ("2001:DB8:0:0:1:0:0:1", "2001:db8::1:0:0:1"),
-    ("1:2:3:4:5:6:7::", "1:2:3:4:5:6:7:0"),
-    ("::2:3:4:5:6:7:8", "0:2:3:4:5:6:7:8"),
-    ("2001:db8:0:1:1:1:1:1", "2001:db8:0:1:1:1:1:1"),
-    ("::ffff:102:304", "::ffff:102:304"),
-    ("0:0:0:0:0:FFFF:0102:0304", "::ffff:102:304"),
-    ("::", "::"),
-    ("0:0:0:0:0:0:0:0", "::"),
-    ("::1", "::1"),
-    ("1::", "1::"),
-    ("fe80::0001", "fe80::1"),
-    ("2001:0:0:1:0:0:0:1", "2001:0:0:1::1"),
-    ("1:0:0:2:3:0:0:4", "1::2:3:0:0:4"),
-    (
-        "2001:0DB8:85A3:08D3:1319:8A2E:0370:7344",
-        "2001:db8:85a3:8d3:1319:8a2e:370:7344",
-    ),
-    (
-        "AbCd:eF01:2345:6789:abcd:EF01:2345:6789",
-        "abcd:ef01:2345:6789:abcd:ef01:2345:6789",
-    ),
-];
-
 #[test]
 fn addresses_are_written_in_one_form(rt: HostRuntime) -> Result<(), Fail> {
-    for (text, written) in ADDRESSES {
+    // Texts of addresses, each beside the text that is written of it.
+    for (text, written) in [
+        ("2001:DB8:0:0:1:0:0:1", "2001:db8::1:0:0:1"),
+        ("1:2:3:4:5:6:7::", "1:2:3:4:5:6:7:0"),
+        ("::2:3:4:5:6:7:8", "0:2:3:4:5:6:7:8"),
+        ("2001:db8:0:1:1:1:1:1", "2001:db8:0:1:1:1:1:1"),
+        ("::ffff:102:304", "::ffff:102:304"),
+        ("0:0:0:0:0:FFFF:0102:0304", "::ffff:102:304"),
+        ("::", "::"),
+        ("0:0:0:0:0:0:0:0", "::"),
+        ("::1", "::1"),
+        ("1::", "1::"),
+        ("fe80::0001", "fe80::1"),
+        ("2001:0:0:1:0:0:0:1", "2001:0:0:1::1"),
+        ("1:0:0:2:3:0:0:4", "1::2:3:0:0:4"),
+        (
+            "2001:0DB8:85A3:08D3:1319:8A2E:0370:7344",
+            "2001:db8:85a3:8d3:1319:8a2e:370:7344",
+        ),
+        (
+            "AbCd:eF01:2345:6789:abcd:EF01:2345:6789",
+            "abcd:ef01:2345:6789:abcd:ef01:2345:6789",
+        ),
+    ] {
         let addr = parse_addr(text)?;
         let shown = format!(in rt.alloc(); "{addr}")?;
         assert!(rt; shown.as_str() == written, "{text} is written {shown}");
-        assert_eq!(rt; written.parse::<Addr6>(), Ok(addr), "at {written}");
+        let read: Addr6 = written.parse()?;
+        assert!(rt; read == addr);
     }
     Ok(())
 }
@@ -81,25 +80,24 @@ fn other_texts_are_no_addresses(rt: HostRuntime) {
     }
 }
 
-// Texts of prefixes, each beside the text that is written of it.
-const PREFIXES: [(&str, &str); 8] = [
-    ("2001:db8::ffff/32", "2001:db8::/32"),
-    ("2001:DB8:FFFF::/33", "2001:db8:8000::/33"),
-    ("::/0", "::/0"),
-    ("ffff::/0", "::/0"),
-    ("::/128", "::/128"),
-    ("::ffff:102:304/128", "::ffff:102:304/128"),
-    ("::1/127", "::/127"),
-    ("fe80::1/10", "fe80::/10"),
-];
-
 #[test]
 fn prefixes_are_cleared_and_written(rt: HostRuntime) -> Result<(), Fail> {
-    for (text, written) in PREFIXES {
+    // Texts of prefixes, each beside the text that is written of it.
+    for (text, written) in [
+        ("2001:db8::ffff/32", "2001:db8::/32"),
+        ("2001:DB8:FFFF::/33", "2001:db8:8000::/33"),
+        ("::/0", "::/0"),
+        ("ffff::/0", "::/0"),
+        ("::/128", "::/128"),
+        ("::ffff:102:304/128", "::ffff:102:304/128"),
+        ("::1/127", "::/127"),
+        ("fe80::1/10", "fe80::/10"),
+    ] {
         let prefix = parse_prefix(text)?;
         let shown = format!(in rt.alloc(); "{prefix}")?;
         assert!(rt; shown.as_str() == written, "{text} is written {shown}");
-        assert_eq!(rt; written.parse::<Prefix>(), Ok(prefix), "at {written}");
+        let read: Prefix = written.parse()?;
+        assert!(rt; read == prefix);
     }
     Ok(())
 }
