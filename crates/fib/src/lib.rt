@@ -2,5 +2,9 @@
 #![tactic(auto)]
 
 mod change;
+mod fib;
+#[cfg(test)]
+mod tests;
 
 pub use change::{Hop, RouteChange};
+pub use fib::Fib;
