@@ -1,5 +1,5 @@
 -- The longest match: how it is found by length, and that there is one at most.
-use Rattle.std.proofs.Common.{◌≡◌, ℕ, ◌<◌, ◌≤◌, Bool, true, false, Option, Some, None, IsTrue, IsSomeAnd, is_some, option_map, refl, sym, ap, subst, ◌∙◌, inl, inr, arith}
+use Rattle.std.proofs.Common.{◌≡◌, ℕ, ◌<◌, ◌≤◌, Bool, true, false, Option, Some, None, IsTrue, IfSome, IsSomeAnd, is_some, option_map, refl, sym, ap, subst, ◌∙◌, inl, inr, arith}
 use Rattle.std.specs.FinMap as map
 use Rattle.std.proofs.lemmas.Bool.{cases_lt}
 use Rattle.prefix6.specs.Prefix.{Prefix6, IsPrefix, Holds, cleared}
@@ -22,35 +22,6 @@ none_as_long table addr len p h p_is is none longer k low high = elim (cases_lt 
   | inl lt ↦ longer k lt high
   | inr ge ↦ let same : k ≡ len = omega arith in ap (λ n. map.get table (cleared addr n)) same ∙ ap (map.get table) (sym p_is) ∙ no_entry (map.get table p) h is none
 ]
-
-not_present : (table : Forwarding) (addr : ℕ) (p : Prefix6) → IsMatch table addr p → map.get table (cleared addr p.len) ≡ None → ⊥
-not_present table addr p m none = false_true (sym (ap is_some (ap (map.get table) (is_the_one p addr m.is_prefix m.holds) ∙ none)) ∙ m.present)
-  where
-    false_true : false ≡ true → ⊥
-    false_true e = cc
-
--- no prefix of the table holds the address, where none of any length does
-pub no_match : (table : Forwarding) (addr : ℕ) → ((k : ℕ) → k ≤ 128 → map.get table (cleared addr k) ≡ None) → (p : Prefix6) → ¬ (IsMatch table addr p)
-no_match table addr none p m = not_present table addr p m (none p.len m.is_prefix.short)
-
-its_entry : (o : Option Forward) (hop : Hop) → Some hop ≡ option_map (λ f. f.hop) o → record { present : IsTrue (is_some o); its_hop : IsSomeAnd o (λ f. f.hop ≡ hop) }
-its_entry None hop is = absurd (cc)
-its_entry (Some f) hop is = record { present = refl; its_hop = cc }
-
--- the prefix found at a length is the longest, where none is longer
-pub is_longest : (table : Forwarding) (addr len : ℕ) (p : Prefix6) (hop : Hop) → IsPrefix p → Holds p addr → p ≡ cleared addr len → Some hop ≡ option_map (λ f. f.hop) (map.get table p)
-    → NoneLonger table addr len → IsLongestMatch table addr hop
-is_longest table addr len p hop is_prefix holds p_is is longer =
-    let entry = its_entry (map.get table p) hop is in
-    record {
-      prefix = p;
-      matches = record { is_prefix = is_prefix; present = entry.present; holds = holds };
-      longest = λ q m. let long : p.len ≡ len = ap (λ (r : Prefix6). r.len) p_is in elim (cases_lt len q.len) [
-        | inl lt ↦ absurd (not_present table addr q m (longer q.len lt m.is_prefix.short))
-        | inr ge ↦ omega arith
-      ];
-      its_hop = entry.its_hop;
-    }
 
 one_hop : (o : Option Forward) (h k : Hop) → IsSomeAnd o (λ f. f.hop ≡ h) → IsSomeAnd o (λ f. f.hop ≡ k) → h ≡ k
 one_hop None h k a b = absurd a

@@ -1,21 +1,51 @@
--- Laws of replay: what one change does, changes one after another, and that the table after is determined.
-use Rattle.std.proofs.Common.{◌≡◌, ℕ, Bool, true, false, cond, ◌&&◌, List, [], ◌∷◌, ◌++◌, reverse, find, Option, Some, None, option_map, unwrap_or, refl, sym, ap, ◌∙◌}
+-- Laws of changes and of replay: what one change does, changes one after another, and that the table after is determined.
+use Rattle.std.proofs.Common.{◌≡◌, ◌==◌, ℕ, Bool, true, false, cond, ◌&&◌, List, [], ◌∷◌, ◌++◌, reverse, find, Option, Some, None, option_map, unwrap_or, refl, sym, ap, ap₂, ◌∙◌}
 use Rattle.std.specs.FinMap as map
 use Rattle.std.specs.Option.{option_or}
 use Rattle.std.specs.Ordering.{eq_by_cmp}
+use Rattle.std.proofs.lemmas.Bool.{eqb-true}
 use Rattle.std.proofs.lemmas.List.{reverse-append}
 use Rattle.std.proofs.lemmas.List.Folds.{find-append}
 use Rattle.prefix6.specs.Prefix.{Prefix6, prefix_cmp, same_prefix}
-use Rattle.prefix6.proofs.PrefixLaws.{prefixes_total, exact_prefixes, same_prefix-tie}
+use Rattle.prefix6.proofs.PrefixLaws.{prefixes_total, exact_prefixes, same_prefix-tie, and_left, and_right}
 use Rattle.fib.specs.declared.change.Hop.{Hop}
+use Rattle.fib.specs.declared.change.Hop.TheVariants.{Direct, Via}
 use Rattle.fib.specs.declared.change.RouteChange.{RouteChange}
 use Rattle.fib.specs.declared.change.RouteChange.TheVariants.{Install, Withdraw}
-use Rattle.fib.specs.Forwarding.{Forward, Forwarding, prefix_of, forward_of, last_change, Replays}
+use Rattle.fib.specs.Forwarding.{Forward, Forwarding, same_hop, same_forward, prefix_of, forward_of, change_to, last_change, Replays}
 
 -- tables that have the same at each prefix are one
 pub same_forwarding : (m n : Forwarding) → ((p : Prefix6) → map.get m p ≡ map.get n p) → m ≡ n
 same_forwarding m n same = map.same_map prefixes_total exact_prefixes m n same
 
+-- ---- the change between two entries
+same_hop-true : (h k : Hop) → same_hop h k ≡ true → h ≡ k
+same_hop-true Direct Direct e = refl
+same_hop-true Direct (Via j k) e = absurd (cc)
+same_hop-true (Via i h) Direct e = absurd (cc)
+same_hop-true (Via i h) (Via j k) e = ap₂ Via (eqb-true i j (and_left (i == j) (h == k) e)) (eqb-true h k (and_right (i == j) (h == k) e))
+
+-- entries that test alike are one
+pub same_forward-true : (a b : Option Forward) → same_forward a b ≡ true → a ≡ b
+same_forward-true None None e = refl
+same_forward-true None (Some g) e = absurd (cc)
+same_forward-true (Some f) None e = absurd (cc)
+same_forward-true (Some f) (Some g) e =
+    let hop : f.hop ≡ g.hop = same_hop-true f.hop g.hop (and_left (same_hop f.hop g.hop) (f.metric == g.metric) e) in
+    let metric : f.metric ≡ g.metric = eqb-true f.metric g.metric (and_right (same_hop f.hop g.hop) (f.metric == g.metric) e) in
+    λ i. Some (record { hop = hop i; metric = metric i })
+
+-- the change that leaves an entry at a prefix is about that prefix
+pub prefix_of-change_to : (p : Prefix6) (f : Option Forward) → prefix_of (change_to p f) ≡ p
+prefix_of-change_to p None = refl
+prefix_of-change_to p (Some f) = refl
+
+-- and leaves that entry
+pub forward_of-change_to : (p : Prefix6) (f : Option Forward) → forward_of (change_to p f) ≡ f
+forward_of-change_to p None = refl
+forward_of-change_to p (Some f) = refl
+
+-- ---- the last change
 -- the last change of two lists is that of the second, or else of the first
 pub last_change-append : (cs ds : List RouteChange) (p : Prefix6) → last_change (cs ++ ds) p ≡ option_or (last_change ds p) (last_change cs p)
 last_change-append cs ds p =
@@ -26,6 +56,7 @@ last_change-append cs ds p =
 pub last_change-push : (cs : List RouteChange) (c : RouteChange) (p : Prefix6) → last_change (cs ++ c ∷ []) p ≡ cond (same_prefix (prefix_of c) p) (Some c) (last_change cs p)
 last_change-push cs c p = ap (find (λ d. same_prefix (prefix_of d) p)) (reverse-append cs (c ∷ []))
 
+-- ---- replay
 left_by_both : (later earlier : Option RouteChange) (old : Option Forward) → unwrap_or (option_map forward_of (option_or later earlier)) old ≡ unwrap_or (option_map forward_of later) (unwrap_or (option_map forward_of earlier) old)
 left_by_both None earlier old = refl
 left_by_both (Some c) earlier old = refl

@@ -3,6 +3,7 @@
 
 mod change;
 mod fib;
+pub mod laws;
 #[cfg(test)]
 mod tests;
 

@@ -1,5 +1,5 @@
 use Rattle.std.proofs.Common.{sym, ◌∙◌, arith}
-use Rattle.fib.proofs.LongestMatch.{none_as_long, no_match, is_longest}
+use Rattle.fib.proofs.LongestMatch.{none_as_long}
 use Rattle.fib.proofs.fib.Fib.lookup.Goals as goal
 
 pub loop-len-preserved : goal.loop-len-preserved
