@@ -1,0 +1,3 @@
+pub mod EntryLists
+pub mod LongestMatch
+pub mod ReplayLaws

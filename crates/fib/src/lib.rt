@@ -2,5 +2,10 @@
 #![tactic(auto)]
 
 mod change;
+mod fib;
+pub mod laws;
+#[cfg(test)]
+mod tests;
 
 pub use change::{Hop, RouteChange};
+pub use fib::Fib;

@@ -7,6 +7,7 @@ use Rattle.ripng_wire.specs.Wire.{first_failing}
 abbrev pub EachPasses : {F : Type 0} → List (Bool × F) → Type 0
 EachPasses tests = AllByRecursion (λ test. test.0 ≡ false) tests
 
+-- where no test of some fails, the first of them passes and none of the others fails
 none_here : {X : Type 0} (b : Bool) (x : X) (o : Option X) → cond b (Some x) o ≡ None → (b ≡ false) × (o ≡ None)
 none_here true x o e = absurd cc
 none_here false x o e = (refl, e)

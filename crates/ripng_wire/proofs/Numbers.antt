@@ -8,25 +8,30 @@ use Rattle.std.specs.Int.{byte_at, bytes_high_first}
 use Rattle.byteorder.specs.Endian.{big_from}
 use Rattle.byteorder.specs.Numbers.{big_from-cons, big_from-lt, big_from-take, big_number-reads_back, length-bytes_high_first}
 
+-- each number is a byte
 abbrev pub IsBytes : List ℕ → Type 0
 IsBytes bytes = (i : ℕ) → get_or bytes i 0 < 256
 
+-- what is left behind the first n bytes is bytes
 pub IsBytes-drop : (n : ℕ) (bytes : List ℕ) → IsBytes bytes → IsBytes (drop n bytes)
 IsBytes-drop n bytes h i = rw get_or-drop (h (n + i))
 
-pub IsBytes-take : (n : ℕ) (bytes : List ℕ) → IsBytes bytes → IsBytes (take n bytes)
+-- the first n bytes are bytes
+IsBytes-take : (n : ℕ) (bytes : List ℕ) → IsBytes bytes → IsBytes (take n bytes)
 IsBytes-take n bytes h i =
     elim (cases_lt i n) [
       | inl lt ↦ rw (get_or-take n bytes i 0 lt) (h i)
       | inr le ↦ rw (get_or_past (take n bytes) i 0 (omega (arith, length-take n bytes))) (omega arith)
     ]
 
+-- a number and what is below its unit are known from their sum
 same_head : (m x y r s : ℕ) → r < m → s < m → x * m + r ≡ y * m + s → (x ≡ y) × (r ≡ s)
 same_head m x y r s hr hs e =
     let same : x ≡ y = sym (div-mul-add x m r hr) ∙ ap (λ (v : ℕ). v / m) e ∙ div-mul-add y m s hs in
     let high : x * m ≡ y * m = ap (λ (v : ℕ). v * m) same in
     (same, omega arith)
 
+-- n bytes are known from their number
 same_number : (n : ℕ) (xs ys : List ℕ) → length xs ≡ n → length ys ≡ n → IsBytes xs → IsBytes ys → big_from 0 n xs ≡ big_from 0 n ys → xs ≡ ys
 same_number zero xs ys lx ly bx by_ e = nil_from_length xs lx ∙ sym (nil_from_length ys ly)
 same_number (suc n) [] ys lx ly bx by_ e = absurd (omega arith)
@@ -40,15 +45,18 @@ same_number (suc n) (x ∷ xs) (y ∷ ys) lx ly bx by_ e =
     let tails : xs ≡ ys = same_number n xs ys (omega arith) (omega arith) bxs bys parts.1 in
     cc (parts.0, tails)
 
+-- each byte of a number is one
 byte_at-lt : (k x : ℕ) → byte_at k x < 256
 byte_at-lt zero x = mod-lt x (omega arith)
 byte_at-lt (suc k) x = mod-lt (x / 256 ^ suc k) (omega arith)
 
-pub bytes_fit : (n x : ℕ) → IsBytes (bytes_high_first n x)
+-- the bytes of a number are bytes
+bytes_fit : (n x : ℕ) → IsBytes (bytes_high_first n x)
 bytes_fit zero x i = omega arith
 bytes_fit (suc n) x zero = byte_at-lt n x
 bytes_fit (suc n) x (suc i) = bytes_fit n x i
 
+-- the n bytes of the number of n bytes are these bytes
 number_bytes : (n : ℕ) (xs : List ℕ) → length xs ≡ n → IsBytes xs → bytes_high_first n (big_from 0 n xs) ≡ xs
 number_bytes n xs len fits =
     let v = big_from 0 n xs in

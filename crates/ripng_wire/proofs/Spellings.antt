@@ -15,23 +15,28 @@ use Rattle.ripng_wire.proofs.Numbers.{IsBytes, IsBytes-drop}
 use Rattle.ripng_wire.proofs.Entries.{first_whole, first_fit, length-first, length_entries, entries_again}
 use Rattle.ripng_wire.proofs.FirstFailing.{EachPasses, each_passes, none_fails}
 
+-- a test whose negation is false passes
 not_false : (b : Bool) → not b ≡ false → b ≡ true
 not_false true e = refl
 not_false false e = absurd cc
 
+-- both of two tests hold where both together do
 both : (a b : Bool) → (a && b) ≡ true → (a ≡ true) × (b ≡ true)
 both true b e = (refl, e)
 both false b e = absurd cc
 
+-- one of two tests holds where one or the other does
 either : (a b : Bool) → (a || b) ≡ true → (a ≡ true) ⊎ (b ≡ true)
 either true b e = inl refl
 either false b e = inr e
 
 -- ---- a spelling passes each test
 
+-- a spelling has the bytes of its header and of its entries
 spelling_length : (command : Command) (entries : List Rte) (bytes : List ℕ) → Spells command entries bytes → length bytes ≡ 4 + 20 * length entries
 spelling_length command entries bytes s = ap length s.bytes_are ∙ omega (arith, length_entries entries)
 
+-- the byte of a command is one of the two
 header_passes : (command : Command) → not (command_byte command == 1 || command_byte command == 2) ≡ false
 header_passes Request = refl
 header_passes Response = refl
@@ -60,6 +65,7 @@ spelling_has_no_fault command entries bytes s = none_fails (wire_tests bytes) (s
 
 -- ---- bytes that pass each test are a spelling
 
+-- bytes from their first four
 four_and_rest : (bytes : List ℕ) (a : ℕ) → 4 ≤ length bytes → get_or bytes 0 0 ≡ a → get_or bytes 1 0 ≡ VERSION → get_or bytes 2 0 ≡ 0 → get_or bytes 3 0 ≡ 0 → bytes ≡ a ∷ VERSION ∷ 0 ∷ 0 ∷ drop 4 bytes
 four_and_rest [] a le h0 h1 h2 h3 = absurd (omega arith)
 four_and_rest (x ∷ []) a le h0 h1 h2 h3 = absurd (omega arith)
@@ -87,6 +93,7 @@ is_spelling command bytes fits none code =
       fit = All-from_recursion Fits (first_entries n body) (first_fit n body fits_body);
     }
 
+-- the first byte of bytes without a fault is that of a command
 command_of : (bytes : List ℕ) → wire_fault bytes ≡ None → (command : Command) × (get_or bytes 0 0 ≡ command_byte command)
 command_of bytes none =
     let passes = each_passes (wire_tests bytes) none in
@@ -95,6 +102,7 @@ command_of bytes none =
       | inr response ↦ (Response, eqb-true _ _ response)
     ]
 
+-- a list of bytes gives a byte, or 0, at each place
 all_bytes : (bytes : List ℕ) → All (λ b. b < 2 ^ 8) bytes → IsBytes bytes
 all_bytes bytes all i =
     elim (cases_lt i (length bytes)) [
@@ -115,6 +123,7 @@ pub spelling_entries : (command : Command) (entries : List Rte) (bytes : List �
 spelling_entries command entries bytes s =
     ap (λ (x : List ℕ). entries_of (drop 4 x)) s.bytes_are ∙ entries_again entries (recursion_from_All Fits entries s.fit)
 
+-- commands are known from their bytes
 same_command : (a b : Command) → command_byte a ≡ command_byte b → a ≡ b
 same_command Request Request e = refl
 same_command Request Response e = absurd (omega arith)

@@ -18,6 +18,7 @@ pub record Fits (e : Rte) : Type 0 where
 unfoldable pub entry_bytes : Rte → List ℕ
 entry_bytes e = big_bytes 16 e.addr ++ big_bytes 2 e.tag ++ e.len ∷ e.metric ∷ []
 
+-- the byte of a command
 abbrev pub command_byte : Command → ℕ
 command_byte Request = 1
 command_byte Response = 2
@@ -32,7 +33,7 @@ pub record Spells (command : Command) (entries : List Rte) (bytes : List ℕ) : 
   pub few : length entries ≤ most_entries
   pub fit : All Fits entries
 
--- how many entries the MTU of a link leaves room for, behind 52 bytes of headers: 40 of IPv6, 8 of UDP and 4 of RIPng
+-- how many entries the MTU of a link leaves room for, behind the headers of IPv6 (40 bytes), UDP (8) and RIPng (4)
 abbrev pub entries_for_mtu : ℕ → ℕ
 entries_for_mtu mtu = (mtu - 52) / 20
 

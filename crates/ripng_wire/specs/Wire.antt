@@ -29,8 +29,7 @@ wire_fault bytes = first_failing (wire_tests bytes)
 abbrev pub is_response : List ℕ → Bool
 is_response bytes = slice_index bytes 0 == 2
 
--- ---- the refusals as they are shown
-
+-- the number of a refusal
 abbrev pub refusal_number : WireError → ℕ
 refusal_number Short = 1
 refusal_number TooLong = 2
@@ -39,6 +38,7 @@ refusal_number BadCommand = 4
 refusal_number BadVersion = 5
 refusal_number NotZero = 6
 
+-- the name of a refusal
 abbrev pub refusal_name : WireError → List ℕ
 refusal_name Short = codes "Short"
 refusal_name TooLong = codes "TooLong"

@@ -1,12 +1,11 @@
 //! Datagrams read from bytes, which are borrowed: reading takes no memory.
 
-ghost use Rattle.std.specs.Prelude.{◌≡◌, ◌≤◌, ◌+◌, ◌*◌, length, slice_index, List, All, Some, IfOk, IsOkAnd, IfSome};
+ghost use Rattle.std.specs.Prelude.{◌≡◌, ◌≤◌, length, slice_index, List, All, Some, IfOk, IsOkAnd, IfSome};
 ghost use Rattle.std.specs.Result.{result_err};
 ghost use Rattle.std.specs.Iterator.{UpTo, YieldsFirst, at_most, item_count};
 ghost use Rattle.std.specs.Iterator.SizeHint.{IsWithinCount};
 ghost use Rattle.ripng_wire.specs.declared.rte.Command.{Command};
 ghost use Rattle.ripng_wire.specs.declared.rte.Rte.{Rte};
-ghost use Rattle.ripng_wire.specs.declared.rte.TheConstants.{ENTRY_LEN, MAX_ENTRIES};
 ghost use Rattle.ripng_wire.specs.Layout.{Fits, Spells, command_byte};
 ghost use Rattle.ripng_wire.specs.Reading.{IsMessage, Message, entries_of, entry_of};
 ghost use Rattle.ripng_wire.specs.Wire.{wire_fault};
@@ -102,7 +101,7 @@ fn rte_of(bytes: &[u8]) -> Rte
     }
 }
 
-/// The command of bytes that fail no test of the wire, or the first test that they fail.
+/// The command of bytes laid out as a datagram, or the first test that they fail.
 fn check_layout(bytes: &[u8]) -> Result<Command, WireError>
     ensures fault { result_err result ≡ wire_fault bytes.now }
     ensures command { IfOk result (λ c. slice_index bytes.now 0 ≡ command_byte c) }

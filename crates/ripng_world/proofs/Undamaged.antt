@@ -13,15 +13,12 @@ use Rattle.router_core.specs.Received.{Received}
 use Rattle.router_core.specs.Faults.{fault, arrival_tests, response_tests, request_tests}
 use Rattle.router_core.specs.declared.arrival.Fault.{Fault}
 use Rattle.router_core.specs.declared.arrival.Fault.TheVariants.{Wire}
+use Rattle.ripng_wire.proofs.Entries.{length_entries}
 use Rattle.ripng_world.proofs.Each.{each_append}
 
 all_pass : {F : Type 0} (ts : List (Bool × F)) → AllByRecursion (λ t. t.0 ≡ false) ts → first_failing ts ≡ None
 all_pass [] all = refl
 all_pass (t ∷ ts) all = ap (λ b. cond b (Some t.1) (first_failing ts)) all.0 ∙ all_pass ts all.1
-
-length_entries : (es : List Rte) → length (flat_map entry_bytes es) ≡ 20 * length es
-length_entries [] = refl
-length_entries (e ∷ es) = let rest = length_entries es in omega arith
 
 long_enough : (n : ℕ) → nat_lt (suc (suc (suc (suc n)))) 4 ≡ false
 long_enough n = grind (arith, nat_tests)

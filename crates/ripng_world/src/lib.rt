@@ -5,6 +5,9 @@ mod laws;
 mod network;
 mod sent;
 
-pub use laws::{converges_in_rounds, invents_no_distance, keeps_routes_backed, rounds_are_run, runs_go_on, tells_only_walks};
+pub use laws::{
+    converges_in_rounds, invents_no_distance, keeps_routes_backed, rounds_are_run, runs_go_on,
+    tells_only_walks,
+};
 pub use network::NetInterface;
 pub use sent::Sent;

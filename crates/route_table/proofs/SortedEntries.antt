@@ -1,5 +1,5 @@
 -- What a place in a sorted list of routes says of finding, putting and taking out a prefix.
-use Rattle.std.proofs.Common.{◌≡◌, ℕ, zero, suc, ◌+◌, ◌<◌, ◌≤◌, Bool, true, false, cond, not, ◌&&◌, [], ◌∷◌, length, get_or, set, Some, None, Result, Ok, Err, slice_get, refl, sym, ap, subst, ◌∙◌, inl, inr, arith, IfOk, IfErr}
+use Rattle.std.proofs.Common.{◌≡◌, ℕ, zero, suc, ◌+◌, ◌<◌, ◌≤◌, Bool, true, false, cond, not, [], ◌∷◌, length, get_or, set, Some, None, Result, Ok, Err, slice_get, refl, sym, ap, subst, ◌∙◌, inl, inr, arith, IfOk, IfErr}
 use Rattle.std.specs.Prelude.{T}
 use Rattle.std.specs.List.{find as first, insert, remove}
 use Rattle.std.specs.List.Sorted.{IsNonDecreasingBy, IsSearchInRange, IsBinarySearchResult}
@@ -12,15 +12,8 @@ use Rattle.std.proofs.lemmas.Bool.Decides.{nat_tests}
 use Rattle.prefix6.specs.Prefix.{Prefix6, prefix_cmp}
 use Rattle.prefix6.proofs.PrefixLaws.{prefixes_total, exact_prefixes}
 use Rattle.route_table.specs.Route.{RouteValue}
-use Rattle.route_table.specs.Place.{Entries, key_at, IsAt, IsGap, IsStartPast}
-
-and_left : (a b : Bool) → T (a && b) → T a
-and_left true b h = tt
-and_left false b h = h
-
-and_right : (a b : Bool) → T (a && b) → T b
-and_right true b h = h
-and_right false b h = absurd h
+use Rattle.route_table.proofs.TableLaws.{and_left, and_right}
+use Rattle.route_table.specs.Place.{Entries, prefix_at, IsAt, IsGap, IsStartPast}
 
 is_less : (r : Ordering) → T (is_lt r) → r ≡ Less
 is_less Less h = refl
@@ -30,12 +23,12 @@ is_less Greater h = absurd h
 turned : (x y : Prefix6) (r : Ordering) → prefix_cmp x y ≡ r → prefix_cmp y x ≡ ordering_reverse r
 turned x y r h = prefixes_total.antisymm y x ∙ ap ordering_reverse h
 
-pub below_at : (x : Prefix6) (es : Entries) (i : ℕ) (d : Prefix6 × RouteValue) → T (below_all prefix_cmp x es) → i < length es → prefix_cmp x (key_at es i d) ≡ Less
+pub below_at : (x : Prefix6) (es : Entries) (i : ℕ) (d : Prefix6 × RouteValue) → T (below_all prefix_cmp x es) → i < length es → prefix_cmp x (prefix_at es i d) ≡ Less
 below_at x [] i d h lt = absurd (omega arith)
 below_at x (e ∷ es) zero d h lt = is_less _ (and_left _ _ h)
 below_at x (e ∷ es) (suc i) d h lt = below_at x es i d (and_right _ _ h) (omega arith)
 
-pub sorted_at : (es : Entries) (i j : ℕ) (d : Prefix6 × RouteValue) → T (is_sorted prefix_cmp es) → i < j → j < length es → prefix_cmp (key_at es i d) (key_at es j d) ≡ Less
+pub sorted_at : (es : Entries) (i j : ℕ) (d : Prefix6 × RouteValue) → T (is_sorted prefix_cmp es) → i < j → j < length es → prefix_cmp (prefix_at es i d) (prefix_at es j d) ≡ Less
 sorted_at [] i j d h lt in_range = absurd (omega arith)
 sorted_at (e ∷ es) zero zero d h lt in_range = absurd (omega arith)
 sorted_at (e ∷ es) zero (suc j) d h lt in_range = below_at e.0 es j d (and_left _ _ h) (omega arith)
@@ -59,10 +52,10 @@ comparisons_rise es k h i j d le in_range = elim (cases_lt i j) [
   | inr ge ↦ let e : i ≡ j = omega arith in rw e (omega arith)
 ]
 
--- a binary search ends at the key, or at the gap for it
+-- a binary search ends at the prefix, or at the gap for it
 pub searched : (es : Entries) (k : Prefix6) → T (is_sorted prefix_cmp es) → (r : Result ℕ ℕ) → IsSearchInRange r (length es) → IsBinarySearchResult (λ e. prefix_cmp e.0 k) es r → record { found : IfOk r (IsAt es k); absent : IfErr r (IsGap es k) }
 searched es k h (Ok at_i) in_range equal = record {
-  found = record { in_range = in_range; has_key = λ d. exact_prefixes _ k (equal d) };
+  found = record { in_range = in_range; has_prefix = λ d. exact_prefixes _ k (equal d) };
   absent = tt;
 }
 searched es k h (Err at_i) in_range parted = record {
@@ -74,20 +67,20 @@ searched es k h (Err at_i) in_range parted = record {
   };
 }
 
--- ---- at the place of a key
+-- ---- at the place of a prefix
 itself : (k : Prefix6) → prefix_cmp k k ≡ Equal
 itself k = grind (arith, nat_tests)
 
 at_tail : (e : Prefix6 × RouteValue) (es : Entries) (k : Prefix6) (i : ℕ) → IsAt (e ∷ es) k (suc i) → IsAt es k i
-at_tail e es k i a = record { in_range = omega (arith, a.in_range); has_key = a.has_key }
+at_tail e es k i a = record { in_range = omega (arith, a.in_range); has_prefix = a.has_prefix }
 
--- the first key is above k where it stands later
+-- the first prefix is above k where it stands later
 first_less : (e : Prefix6 × RouteValue) (es : Entries) (k : Prefix6) (i : ℕ) → T (is_sorted prefix_cmp (e ∷ es)) → IsAt (e ∷ es) k (suc i) → prefix_cmp k e.0 ≡ Greater
-first_less e es k i h a = turned e.0 k Less (subst (λ z. prefix_cmp e.0 z ≡ Less) (a.has_key e) (below_at e.0 es i e (and_left _ _ h) (omega (arith, a.in_range))))
+first_less e es k i h a = turned e.0 k Less (subst (λ z. prefix_cmp e.0 z ≡ Less) (a.has_prefix e) (below_at e.0 es i e (and_left _ _ h) (omega (arith, a.in_range))))
 
 pub find_at : (es : Entries) (k : Prefix6) (i : ℕ) (d : Prefix6 × RouteValue) → T (is_sorted prefix_cmp es) → IsAt es k i → find prefix_cmp k es ≡ Some (get_or es i d).1
 find_at [] k i d h a = absurd (omega (arith, a.in_range))
-find_at (e ∷ es) k zero d h a = rw (a.has_key d, itself k) refl
+find_at (e ∷ es) k zero d h a = rw (a.has_prefix d, itself k) refl
 find_at (e ∷ es) k (suc i) d h a = rw (first_less e es k i h a) (find_at es k i d (and_right _ _ h) (at_tail e es k i a))
 
 put_here : (e : Prefix6 × RouteValue) (es : Entries) (k : Prefix6) (v : RouteValue) → e.0 ≡ k → put prefix_cmp k v (e ∷ es) ≡ (k, v) ∷ es
@@ -95,10 +88,10 @@ put_here e es k v is = subst (λ r. by_order r ((k, v) ∷ e ∷ es) ((e.0, v) �
 
 pub put_at : (es : Entries) (k : Prefix6) (v : RouteValue) (i : ℕ) → T (is_sorted prefix_cmp es) → IsAt es k i → put prefix_cmp k v es ≡ set es i (k, v)
 put_at [] k v i h a = absurd (omega (arith, a.in_range))
-put_at (e ∷ es) k v zero h a = put_here e es k v (a.has_key e)
+put_at (e ∷ es) k v zero h a = put_here e es k v (a.has_prefix e)
 put_at (e ∷ es) k v (suc i) h a = subst (λ r. by_order r ((k, v) ∷ e ∷ es) ((e.0, v) ∷ es) (e ∷ put prefix_cmp k v es) ≡ e ∷ set es i (k, v)) (sym (first_less e es k i h a)) (ap (λ l. e ∷ l) (put_at es k v i (and_right _ _ h) (at_tail e es k i a)))
 
--- nothing goes where the key is not
+-- nothing goes where the prefix is not
 where_other : (k : Prefix6) (es : Entries) → T (below_all prefix_cmp k es) → where_key prefix_cmp (λ x. not (eq_by_cmp prefix_cmp k x)) es ≡ es
 where_other k [] h = refl
 where_other k (e ∷ es) h =
@@ -108,12 +101,12 @@ where_other k (e ∷ es) h =
 
 pub where_at : (es : Entries) (k : Prefix6) (i : ℕ) → T (is_sorted prefix_cmp es) → IsAt es k i → where_key prefix_cmp (λ x. not (eq_by_cmp prefix_cmp k x)) es ≡ remove es i
 where_at [] k i h a = absurd (omega (arith, a.in_range))
-where_at (e ∷ es) k zero h a = rw (a.has_key e, itself k) (where_other k es (subst (λ z. T (below_all prefix_cmp z es)) (a.has_key e) (and_left _ _ h)))
+where_at (e ∷ es) k zero h a = rw (a.has_prefix e, itself k) (where_other k es (subst (λ z. T (below_all prefix_cmp z es)) (a.has_prefix e) (and_left _ _ h)))
 where_at (e ∷ es) k (suc i) h a =
     let rest = where_key prefix_cmp (λ x. not (eq_by_cmp prefix_cmp k x)) es in
     subst (λ r. cond (not (is_eq r)) (e ∷ rest) rest ≡ e ∷ remove es i) (sym (first_less e es k i h a)) (ap (λ l. e ∷ l) (where_at es k i (and_right _ _ h) (at_tail e es k i a)))
 
--- ---- at the gap for a key
+-- ---- at the gap for a prefix
 gap_tail : (e : Prefix6 × RouteValue) (es : Entries) (k : Prefix6) (i : ℕ) → IsGap (e ∷ es) k (suc i) → IsGap es k i
 gap_tail e es k i a = record {
   in_range = omega (arith, a.in_range);
@@ -146,7 +139,7 @@ first_at p [] i before here = refl
 first_at p (e ∷ es) zero before here = rw (here e (omega arith)) refl
 first_at p (e ∷ es) (suc i) before here = rw (before 0 e (omega arith) (omega arith)) (first_at p es i (λ j d lt in_range. before (suc j) d (omega arith) (omega arith)) (λ d lt. here d (omega arith)))
 
--- where the routes past a key begin
+-- where the routes past a prefix begin
 past_of_less : (r : Ordering) → r ≡ Less → is_lt (ordering_reverse r) ≡ false
 past_of_less r h = rw h refl
 
@@ -157,15 +150,15 @@ pub start_after : (es : Entries) (k : Prefix6) (i : ℕ) → T (is_sorted prefix
 start_after es k i h a = record {
   in_range = omega (arith, a.in_range);
   before = λ j d lt in_range. elim (cases_lt j i) [
-    | inl below ↦ rw (prefixes_total.antisymm k (key_at es j d)) (past_of_less _ (subst (λ z. prefix_cmp (key_at es j d) z ≡ Less) (a.has_key d) (sorted_at es j i d h below a.in_range)))
-    | inr above ↦ let j_is : j ≡ i = omega arith in rw (j_is, a.has_key d, itself k) refl
+    | inl below ↦ rw (prefixes_total.antisymm k (prefix_at es j d)) (past_of_less _ (subst (λ z. prefix_cmp (prefix_at es j d) z ≡ Less) (a.has_prefix d) (sorted_at es j i d h below a.in_range)))
+    | inr above ↦ let j_is : j ≡ i = omega arith in rw (j_is, a.has_prefix d, itself k) refl
   ];
-  here = λ d lt. ap is_lt (subst (λ z. prefix_cmp z (key_at es (i + 1) d) ≡ Less) (a.has_key d) (sorted_at es i (i + 1) d h (omega arith) lt));
+  here = λ d lt. ap is_lt (subst (λ z. prefix_cmp z (prefix_at es (i + 1) d) ≡ Less) (a.has_prefix d) (sorted_at es i (i + 1) d h (omega arith) lt));
 }
 
 pub start_at_gap : (es : Entries) (k : Prefix6) (i : ℕ) → IsGap es k i → IsStartPast es (Some k) i
 start_at_gap es k i a = record {
   in_range = a.in_range;
-  before = λ j d lt in_range. rw (prefixes_total.antisymm k (key_at es j d)) (past_of_less _ (a.before j d lt));
-  here = λ d lt. rw (prefixes_total.antisymm k (key_at es i d)) (past_of_greater _ (a.after i d (omega arith) lt));
+  before = λ j d lt in_range. rw (prefixes_total.antisymm k (prefix_at es j d)) (past_of_less _ (a.before j d lt));
+  here = λ d lt. rw (prefixes_total.antisymm k (prefix_at es i d)) (past_of_greater _ (a.after i d (omega arith) lt));
 }

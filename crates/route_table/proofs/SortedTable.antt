@@ -16,11 +16,8 @@ use Rattle.prefix6.proofs.PrefixLaws.{prefixes_total, exact_prefixes}
 use Rattle.route_table.specs.Route.{RouteValue}
 use Rattle.route_table.specs.Table.{Table, first_past, is_past}
 use Rattle.route_table.specs.Place.{Entries, IsAt, IsGap, IsStartPast}
+use Rattle.route_table.proofs.TableLaws.{entries-empty}
 use Rattle.route_table.proofs.SortedEntries.{find_at, find_gap, put_gap, first_at}
-
-no_entries : (es : Entries) → length es ≡ 0 → es ≡ []
-no_entries [] h = refl
-no_entries (e ∷ es) h = absurd (omega arith)
 
 -- what `get` and `copied` answer
 pub copied_at : (es : Entries) (i : ℕ) (o : Option (Bor (Prefix6 × RouteValue))) → IsItemAt es i o → option_copied o ≡ slice_get es i
@@ -32,7 +29,7 @@ start_all es = record { in_range = omega arith; before = λ j d lt. absurd (omeg
 
 -- the empty list
 pub table_none : (es : Entries) → es ≡ [] → from_sorted {R = prefix_cmp} es ≡ map.empty
-table_none es none = rw none (same_entries_map _ _ (entries-from_sorted prefix_cmp [] tt ∙ sym (no_entries (entries map.empty) (sym (len-entries map.empty) ∙ map.len-empty prefix_cmp RouteValue))))
+table_none es none = rw none (same_entries_map _ _ (entries-from_sorted prefix_cmp [] tt ∙ sym entries-empty))
 
 module _ (es : Entries) (h : T (is_sorted prefix_cmp es)) (t : Table) (is : from_sorted es ≡ t) where
   pub entries_are : entries t ≡ es
@@ -71,7 +68,7 @@ module _ (es : Entries) (h : T (is_sorted prefix_cmp es)) (t : Table) (is : from
     pub table_put : from_sorted fs ≡ map.insert t k v
     table_put = same_entries_map _ _ (entries-from_sorted prefix_cmp fs sorted_put ∙ sym put_entries)
 
-  -- a list without the entry of a key
+  -- a list without the entry of a prefix
   module _ (k : Prefix6) (fs : Entries) (p : where_key prefix_cmp (λ x. not (eq_by_cmp prefix_cmp k x)) es ≡ fs) where
     pub sorted_without : T (is_sorted prefix_cmp fs)
     sorted_without = subst (λ l. T (is_sorted prefix_cmp l)) p (is_sorted-where_key prefix_cmp _ es h)

@@ -10,3 +10,6 @@ pub use moment::{Deadline, Moment};
 pub use route::{Clock, INFINITY, Origin, Route};
 pub use sorted::SortedRoutes;
 pub use store::{AddRefused, RouteStore, TABLE_LIMIT};
+
+#[cfg(test)]
+mod tests;

@@ -7,16 +7,20 @@ ghost use Rattle.route_table.specs.Table.{Table, table_limit, first_past};
 use crate::route::Route;
 use prefix6::Prefix;
 use std::alloc::Global;
+use thiserror::Error;
 
 /// The most routes that a table holds.
 pub const TABLE_LIMIT: usize = 4096;
 
 /// Why a route was not added. The table is then as it was.
-#[derive(Clone, Copy, Debug, PartialEq, Eq)]
+#[derive(Clone, Copy, Debug, PartialEq, Eq, Error)]
 pub enum AddRefused {
     /// The table holds as many routes as it may.
+    #[error("the table of routes is full")]
     Full,
+
     /// Memory for the route was refused.
+    #[error("no memory for another route")]
     NoMemory,
 }
 
