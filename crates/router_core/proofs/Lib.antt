@@ -8,3 +8,4 @@ pub mod WholeResponse
 mod CutPieces
 pub mod EachTested
 pub mod ConfigTests
+mod AgedTables

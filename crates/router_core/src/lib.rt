@@ -12,6 +12,7 @@ mod forwarding;
 mod hear;
 mod laws;
 mod listed;
+mod ticking;
 
 pub use answer::{Answer, Destination, Note, NoteKind, Outgoing};
 pub use arrival::{Arrival, Fault};

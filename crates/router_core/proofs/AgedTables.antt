@@ -1,0 +1,41 @@
+-- What a tick makes of a whole table, from what it makes of each route.
+use Rattle.std.proofs.Common.{◌≡◌, ℕ, Bool, true, false, ◌||◌, List, [], ◌∷◌, Option, Some, None, unwrap_or, option_map, option_and_then, if◌then◌else◌, refl, ap, sym, ◌∙◌}
+use Rattle.std.specs.List.{list_any, cons_option}
+use Rattle.std.specs.FinMap as map
+use Rattle.prefix6.specs.Prefix.{Prefix6}
+use Rattle.prefix6.proofs.PrefixLaws.{prefixes_total, exact_prefixes}
+use Rattle.route_table.specs.Route.{RouteValue}
+use Rattle.route_table.specs.Table.{Table, map_entries, map_values}
+use Rattle.route_table.proofs.TableLaws.{get-map_values, entries-map_values}
+use Rattle.router_core.specs.Ageing.{aged, aged_table, without_mark, unmarked}
+use Rattle.router_core.specs.Settling.{settled, is_marked}
+
+-- one map of values after another is the map of both
+pub map_values-twice : (f g : RouteValue → Option RouteValue) (t : Table) → map_values g (map_values f t) ≡ map_values (λ r. option_and_then g (f r)) t
+map_values-twice f g t =
+    map.same_map prefixes_total exact_prefixes _ _ (λ p.
+    get-map_values g (map_values f t) p ∙ ap (option_and_then g) (get-map_values f t p) ∙ after (map.get t p)
+    ∙ sym (get-map_values (λ r. option_and_then g (f r)) t p))
+  where
+    after : (o : Option RouteValue) → option_and_then g (option_and_then f o) ≡ option_and_then (λ r. option_and_then g (f r)) o
+    after None = refl
+    after (Some r) = refl
+
+-- the table after each route was settled
+pub settled-table : (now : ℕ) (is_told : Bool) (t : Table) → map_values (settled now is_told) t ≡ (if is_told then unmarked (aged_table now t) else aged_table now t)
+settled-table now true t = sym (map_values-twice (aged now) without_mark t)
+settled-table now false t = refl
+
+marked_entries : (now : ℕ) (es : List (Prefix6 × RouteValue)) → list_any (λ t. is_marked now t.1) es ≡ list_any (λ t. t.1.changed) (map_entries (aged now) es)
+marked_entries now [] = refl
+marked_entries now (e ∷ es) = by_left (aged now e.1) (marked_entries now es)
+  where
+    by_left : (o : Option RouteValue) → list_any (λ t. is_marked now t.1) es ≡ list_any (λ t. t.1.changed) (map_entries (aged now) es)
+        → (unwrap_or (option_map (λ left. left.changed) o) false || list_any (λ t. is_marked now t.1) es)
+        ≡ list_any (λ t. t.1.changed) (cons_option (option_map (λ y. (e.0, y)) o) (map_entries (aged now) es))
+    by_left None rest = rest
+    by_left (Some r) rest = ap (λ b. r.changed || b) rest
+
+-- a route is marked after all have aged where one is that has aged
+pub marked-table : (now : ℕ) (t : Table) → list_any (λ t. is_marked now t.1) (map.entries t) ≡ list_any (λ t. t.1.changed) (map.entries (aged_table now t))
+marked-table now t = marked_entries now (map.entries t) ∙ ap (list_any (λ t. t.1.changed)) (sym (entries-map_values (aged now) t))
