@@ -9,3 +9,4 @@ mod CutPieces
 pub mod EachTested
 pub mod ConfigTests
 mod AgedTables
+mod EmptyRequests

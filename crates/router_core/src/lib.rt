@@ -8,6 +8,7 @@ mod answer;
 mod arrival;
 mod config;
 mod entries;
+mod faults;
 mod forwarding;
 mod hear;
 mod laws;
