@@ -6,3 +6,5 @@ pub mod AgeReplaying
 pub mod MovesReplay
 pub mod WholeResponse
 mod CutPieces
+pub mod NotesKept
+pub mod HearingLoop

@@ -5,9 +5,16 @@ use Rattle.prefix6.specs.Prefix.{Prefix6}
 use Rattle.route_table.specs.Route.{RouteValue}
 use Rattle.route_table.specs.Table.{Table, table_limit, with_value}
 use Rattle.router_core.specs.Adoption.{Gateway, adopted}
+use Rattle.ripng_wire.specs.declared.rte.Rte.{Rte}
+use Rattle.fib.specs.declared.change.RouteChange.{RouteChange}
+use Rattle.router_core.specs.Changes.{change}
 use Rattle.router_core.specs.Offers.{Offer}
 use Rattle.router_core.specs.declared.answer.NoteKind.{NoteKind}
 use Rattle.router_core.specs.declared.answer.NoteKind.TheVariants.{TableFull, NoMemory}
+
+-- what an entry offers by a next hop, at its place
+abbrev pub offer_of : Rte → ℕ → ℕ → Offer
+offer_of e next_hop place = record { metric = e.metric; tag = e.tag; next_hop = next_hop; place = place }
 
 -- the route to the prefix after the offer
 abbrev pub met : Gateway → Offer → Prefix6 → Table → Option RouteValue
@@ -16,6 +23,10 @@ met g o p table = adopted g (map_of.get table p) o
 -- the table after the offer
 abbrev pub table_met : Gateway → Offer → Prefix6 → Table → Table
 table_met g o p table = with_value table p (met g o p table)
+
+-- what the offer changes in the forwarding table
+abbrev pub change_met : Gateway → Offer → Prefix6 → Table → Option RouteChange
+change_met g o p table = change p (map_of.get table p) (met g o p table)
 
 -- the offer is for a first route to the prefix
 abbrev pub adds : Gateway → Offer → Prefix6 → Table → Bool
