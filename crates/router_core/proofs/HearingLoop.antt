@@ -1,17 +1,16 @@
 -- A Response heard up to a place, and one entry further: a next hop entry, one that is refused, or an offer that is met.
 use Rattle.std.proofs.Common.{◌≡◌, ℕ, zero, suc, ◌+◌, ◌<◌, ◌≤◌, Bool, true, false, cond, not, ◌&&◌, List, [], ◌∷◌, ◌++◌, map, take, length, drop, reverse, find, All, Contains, IsTrue, Option, Some, None, is_none, is_some, unwrap_or, slice_get, refl, ap, ap₂, sym, subst, ◌∙◌, inl, inr, arith, add-one, append-nil}
-use Rattle.std.specs.Prelude.{nat_lt, nat_le, if◌then◌else◌, slice_index, option_and_then, filter_map}
+use Rattle.std.specs.Prelude.{nat_le, if◌then◌else◌, slice_index, option_and_then, filter_map}
 use Rattle.std.specs.List.{enumerate_from, cons_option}
 use Rattle.std.specs.List.Sorted.{IsStrictlyIncreasing}
 use Rattle.std.specs.FinMap as map_of
-use Rattle.std.specs.Ordering.{eq_by_cmp}
 use Rattle.std.proofs.lemmas.Bool.{cases_lt, lt-leb}
 use Rattle.std.proofs.lemmas.Bool.Decides.{nat_tests}
 use Rattle.std.proofs.lemmas.List.{reverse-append, take_all, map-append}
 use Rattle.std.proofs.lemmas.List.FromFn.{length-enumerate_from}
 use Rattle.std.proofs.lemmas.List.Elements.{All-map, All-weaker, All-push}
 use Rattle.std.proofs.lemmas.Option.{slice_get_within}
-use Rattle.prefix6.specs.Prefix.{Prefix6, prefix_cmp, same_prefix}
+use Rattle.prefix6.specs.Prefix.{Prefix6, same_prefix}
 use Rattle.prefix6.proofs.PrefixLaws.{same_prefix-true}
 use Rattle.fib.specs.declared.change.Hop.{Hop}
 use Rattle.fib.specs.declared.change.Hop.TheVariants.{Direct, Via}
@@ -22,11 +21,10 @@ use Rattle.ripng_wire.specs.Layout.{is_next_hop}
 use Rattle.route_table.specs.Route.{RouteValue}
 use Rattle.route_table.specs.Table.{Table, table_limit}
 use Rattle.route_table.proofs.TableSteps.{get-with_value}
-use Rattle.route_table.proofs.TableLaws.{Some-same}
 use Rattle.router_core.specs.Config.{Config}
 use Rattle.router_core.specs.Offers.{Offer, offer_at, is_offer, flaw, prefix_named, next_hop_at, usable_hop}
 use Rattle.router_core.specs.Adoption.{Gateway, adopted}
-use Rattle.router_core.specs.Hearing.{Hearing, Heard, is_refused, is_refusal, route_after, would_add, held_after, notes_of_new, notes_of_offer, allowed_notes, note_at}
+use Rattle.router_core.specs.Hearing.{Hearing, Heard, is_refused, is_refusal, route_after, would_add, held_after, notes_of_offer, allowed_notes, note_at}
 use Rattle.router_core.specs.Changes.{forward, change, change_at, changes_of_hearing}
 use Rattle.router_core.specs.Meeting.{met, table_met, adds, refusal_of_new}
 use Rattle.router_core.specs.declared.answer.Note.{Note}

@@ -10,12 +10,11 @@ use Rattle.prefix6.specs.Prefix.{Prefix6}
 use Rattle.ripng_wire.specs.declared.rte.Rte.{Rte}
 use Rattle.ripng_wire.specs.Layout.{is_next_hop}
 use Rattle.fib.specs.declared.change.RouteChange.{RouteChange}
-use Rattle.route_table.specs.Route.{RouteValue}
 use Rattle.route_table.specs.Table.{Table, table_limit}
 use Rattle.router_core.specs.Config.{Config}
 use Rattle.router_core.specs.Offers.{offers, offer_at, is_offer, flaw, prefix_named}
 use Rattle.router_core.specs.Adoption.{Gateway, adopted}
-use Rattle.router_core.specs.Hearing.{Hearing, hearing, is_refusal, is_refused, note_at, route_after, would_add, held_after, notes_of_offer, allowed_notes}
+use Rattle.router_core.specs.Hearing.{Hearing, hearing, is_refusal, is_refused, route_after, would_add, held_after, notes_of_offer, allowed_notes}
 use Rattle.router_core.specs.Changes.{change, change_at}
 use Rattle.router_core.specs.declared.answer.Note.{Note}
 use Rattle.router_core.specs.declared.answer.NoteKind.{NoteKind}
