@@ -26,7 +26,7 @@ use Rattle.router_core.specs.Offers.{Offer, offer_at, is_offer, flaw, prefix_nam
 use Rattle.router_core.specs.Adoption.{Gateway, adopted}
 use Rattle.router_core.specs.Hearing.{Hearing, Heard, is_refused, is_refusal, route_after, would_add, held_after, notes_of_offer, allowed_notes, note_at}
 use Rattle.router_core.specs.Changes.{forward, change, change_at, changes_of_hearing}
-use Rattle.router_core.specs.Meeting.{met, table_met, adds, refusal_of_new}
+use Rattle.router_core.specs.Meeting.{Meeting, entry_meeting, met, table_met, change_met, adds, refusal_of_new}
 use Rattle.router_core.specs.declared.answer.Note.{Note}
 use Rattle.router_core.specs.declared.answer.NoteKind.{NoteKind}
 use Rattle.router_core.specs.declared.answer.NoteKind.TheVariants.{TableFull, NoMemory}
@@ -147,10 +147,10 @@ module _ (config : Config) (gateway : Gateway) (entries : List Rte) (before : Ta
       in_order = o.in_order;
       placed = o.placed;
       changed =
-        o.changed
-        ∙ ap₂ (λ cs c. cs ++ cons_option c []) (heard.changed ∙ sym (changes_before-same config gateway entries before more notes place fits o.kept))
-        (ap₂ (λ a b. if is_offer e then change (prefix_named e) a b else None) (before_is (prefix_named e)) (after_is (prefix_named e)))
-        ∙ sym (changes_before-push (heard_by more) place e is);
+          o.changed
+          ∙ ap₂ (λ cs c. cs ++ cons_option c []) (heard.changed ∙ sym (changes_before-same config gateway entries before more notes place fits o.kept))
+          (ap₂ (λ a b. if is_offer e then change (prefix_named e) a b else None) (before_is (prefix_named e)) (after_is (prefix_named e)))
+          ∙ sym (changes_before-push (heard_by more) place e is);
     }
       where
         before_is : (p : Prefix6) → map_of.get now p ≡ route_after (heard_by more) place p
@@ -182,24 +182,24 @@ module _ (config : Config) (gateway : Gateway) (entries : List Rte) (before : Ta
     next_hop_heard hop = on notes changes now (record {
       kept = λ k h. refl;
       here = subst (λ o. Contains (allowed_notes (heard_by notes) place e) o) (sym no_note)
-        (subst (λ (b : Bool). Contains (if b then None ∷ [] else notes_of_offer (heard_by notes) place e (flaw e)) None) (sym hop) (0, omega arith, refl));
+          (subst (λ (b : Bool). Contains (if b then None ∷ [] else notes_of_offer (heard_by notes) place e (flaw e)) None) (sym hop) (0, omega arith, refl));
       in_order = heard.in_order;
       placed = placed_still;
       routes = λ p. ap (λ b. cond (((not b && is_none (flaw e)) && same_prefix (prefix_named e) p) && not (is_refused (heard_by notes) place))
-        (adopted gateway (map_of.get now p) (offer_at config gateway.from entries place e)) (map_of.get now p)) (sym hop);
+          (adopted gateway (map_of.get now p) (offer_at config gateway.from entries place e)) (map_of.get now p)) (sym hop);
       changed = sym (append-nil changes)
-        ∙ ap (λ b. changes ++ cons_option (if (not b && is_none (flaw e)) then change (prefix_named e) (map_of.get now (prefix_named e)) (map_of.get now (prefix_named e)) else None) []) (sym hop);
+          ∙ ap (λ b. changes ++ cons_option (if (not b && is_none (flaw e)) then change (prefix_named e) (map_of.get now (prefix_named e)) (map_of.get now (prefix_named e)) else None) []) (sym hop);
     })
 
     -- ---- offers and refused entries
     module _ (not_hop : is_next_hop e ≡ false) (hop : ℕ) (hop_is : hop ≡ next_hop_at config gateway.from entries place) where
-      abbrev offer : Offer
-      offer = record { metric = e.metric; tag = e.tag; next_hop = hop; place = place }
+      abbrev this_meeting : Meeting
+      this_meeting = entry_meeting gateway e hop place now
 
       abbrev named : Prefix6
       named = prefix_named e
 
-      offer_is : offer ≡ offer_at config gateway.from entries place e
+      offer_is : this_meeting.offer ≡ offer_at config gateway.from entries place e
       offer_is = ap (λ x. record { metric = e.metric; tag = e.tag; next_hop = x; place = place }) hop_is
 
       is_offer-by : (f : Option NoteKind) → flaw e ≡ f → is_offer e ≡ is_none f
@@ -208,7 +208,7 @@ module _ (config : Config) (gateway : Gateway) (entries : List Rte) (before : Ta
       allowed-by : (more : List Note) (f : Option NoteKind) → flaw e ≡ f → allowed_notes (heard_by more) place e ≡ notes_of_offer (heard_by more) place e f
       allowed-by more f flawed = ap₂ (λ b x. if b then None ∷ [] else notes_of_offer (heard_by more) place e x) not_hop flawed
 
-      would_add-is : (more : List Note) → SameBelow config gateway entries before more notes place → flaw e ≡ None → would_add (heard_by more) place e ≡ adds gateway offer named now
+      would_add-is : (more : List Note) → SameBelow config gateway entries before more notes place → flaw e ≡ None → would_add (heard_by more) place e ≡ adds this_meeting
       would_add-is more kept flawless =
           ap₂ (λ b r. b && is_none r && is_some (adopted gateway None (offer_at config gateway.from entries place e)))
           (is_offer-by None flawless) (route_after-same config gateway entries before more notes place kept named ∙ sym (heard.routes named))
@@ -219,28 +219,28 @@ module _ (config : Config) (gateway : Gateway) (entries : List Rte) (before : Ta
       held-is more kept = sym (size_after (heard_by more) place fits now (λ p. heard.routes p ∙ sym (route_after-same config gateway entries before more notes place kept p)))
 
       -- the offer meets the table
-      pub offer_heard : flaw e ≡ None → (IsTrue (adds gateway offer named now) → map_of.len now < table_limit)
-          → (made : Option RouteChange) → made ≡ change named (map_of.get now named) (met gateway offer named now)
-          → (new : Table) → new ≡ table_met gateway offer named now
+      pub offer_heard : flaw e ≡ None → (IsTrue (adds this_meeting) → map_of.len now < table_limit)
+          → (made : Option RouteChange) → made ≡ change_met this_meeting
+          → (new : Table) → new ≡ table_met this_meeting
           → HeardBefore (heard_by notes) new (changes ++ cons_option made []) (place + 1)
       offer_heard flawless room made made_is new new_is = on notes (changes ++ cons_option made []) new (record {
         kept = λ k h. refl;
         here = subst (λ o. Contains (allowed_notes (heard_by notes) place e) o) (sym no_note)
-          (subst (λ l. Contains l None) (sym (allowed-by notes None flawless))
-          (none_allowed (would_add (heard_by notes) place e) (held_after (heard_by notes) place) has_room));
+            (subst (λ l. Contains l None) (sym (allowed-by notes None flawless))
+            (none_allowed (would_add (heard_by notes) place e) (held_after (heard_by notes) place) has_room));
         in_order = heard.in_order;
         placed = placed_still;
         routes = routes_at;
         changed = ap (λ c. changes ++ cons_option c []) (made_is
-          ∙ ap (change named (map_of.get now named)) (sym new_here)
-          ∙ ap (λ b. if b then change named (map_of.get now named) (map_of.get new named) else None) (sym (is_offer-by None flawless)));
+            ∙ ap (change named (map_of.get now named)) (sym new_here)
+            ∙ ap (λ b. if b then change named (map_of.get now named) (map_of.get new named) else None) (sym (is_offer-by None flawless)));
       })
         where
           has_room : would_add (heard_by notes) place e ≡ true → held_after (heard_by notes) place < table_limit
           has_room adding = subst (λ n. n < table_limit) (sym (held-is notes (λ k h. refl))) (room (sym (would_add-is notes (λ k h. refl) flawless) ∙ adding))
 
           at_prefix : (p : Prefix6) (b : Bool) → same_prefix named p ≡ b
-              → cond b (met gateway offer named now) (map_of.get now p) ≡ cond b (adopted gateway (map_of.get now p) (offer_at config gateway.from entries place e)) (map_of.get now p)
+              → cond b (met this_meeting) (map_of.get now p) ≡ cond b (adopted gateway (map_of.get now p) (offer_at config gateway.from entries place e)) (map_of.get now p)
           at_prefix p true same = ap₂ (λ (q : Prefix6) o. adopted gateway (map_of.get now q) o) (same_prefix-true named p same) offer_is
           at_prefix p false same = refl
 
@@ -251,8 +251,8 @@ module _ (config : Config) (gateway : Gateway) (entries : List Rte) (before : Ta
           routes_at : (p : Prefix6) → map_of.get new p ≡ heard_one (heard_by notes) place e p (map_of.get now p)
           routes_at p =
               ap (λ t. map_of.get t p) new_is
-              ∙ get-with_value now named (met gateway offer named now) p
-              ∙ ap (λ b. cond b (met gateway offer named now) (map_of.get now p)) (sym (same_as_key named p))
+              ∙ get-with_value now named (met this_meeting) p
+              ∙ ap (λ b. cond b (met this_meeting) (map_of.get now p)) (sym (same_as_key named p))
               ∙ at_prefix p (same_prefix named p) refl
               ∙ ap (λ b. cond b (adopted gateway (map_of.get now p) (offer_at config gateway.from entries place e)) (map_of.get now p))
               (sym (ap₂ (λ a o. (a && same_prefix named p) && not (is_refusal o)) (is_offer-by None flawless) no_note ∙ and_true (same_prefix named p)))
@@ -260,14 +260,14 @@ module _ (config : Config) (gateway : Gateway) (entries : List Rte) (before : Ta
           itself : same_prefix named named ≡ true
           itself = grind (arith, nat_tests)
 
-          new_here : map_of.get new named ≡ met gateway offer named now
+          new_here : map_of.get new named ≡ met this_meeting
           new_here =
               ap (λ t. map_of.get t named) new_is
-              ∙ get-with_value now named (met gateway offer named now) named
-              ∙ ap (λ b. cond b (met gateway offer named now) (map_of.get now named)) (sym (same_as_key named named) ∙ itself)
+              ∙ get-with_value now named (met this_meeting) named
+              ∙ ap (λ b. cond b (met this_meeting) (map_of.get now named)) (sym (same_as_key named named) ∙ itself)
 
       -- the entry gets a note
-      pub refusal_heard : (kind : NoteKind) → kind ≡ unwrap_or (flaw e) (refusal_of_new now) → (flaw e ≡ None → IsTrue (adds gateway offer named now))
+      pub refusal_heard : (kind : NoteKind) → kind ≡ unwrap_or (flaw e) (refusal_of_new now) → (flaw e ≡ None → IsTrue (adds this_meeting))
           → (new : Table) → new ≡ now
           → HeardBefore (heard_by (notes ++ record { entry = place; kind = kind } ∷ [])) new changes (place + 1)
       refusal_heard kind kind_is adding new same = by_flaw (flaw e) refl
@@ -291,7 +291,7 @@ module _ (config : Config) (gateway : Gateway) (entries : List Rte) (before : Ta
             kept = kept;
             here = subst (λ o. Contains (allowed_notes (heard_by (notes ++ record { entry = place; kind = kind } ∷ [])) place e) o) (sym note_is) allowed;
             in_order = subst IsStrictlyIncreasing (sym (map-append (λ (n : Note). n.entry) notes (record { entry = place; kind = kind } ∷ [])))
-              (increasing_push (map (λ (n : Note). n.entry) notes) place heard.in_order (All-map (λ x. x < place) (λ (n : Note). n.entry) notes heard.placed));
+                (increasing_push (map (λ (n : Note). n.entry) notes) place heard.in_order (All-map (λ x. x < place) (λ (n : Note). n.entry) notes heard.placed));
             placed = All-push (λ (n : Note). n.entry < place + 1) notes (record { entry = place; kind = kind }) placed_still (omega arith);
             routes = λ p.
                 ap (λ t. map_of.get t p) same

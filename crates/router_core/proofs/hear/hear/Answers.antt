@@ -66,7 +66,7 @@ loop-place-preserved-in-Ok-None g c =
       left = ap (λ k. drop k c.args.entries) steps.2 ∙ first.1;
       within = omega (arith, steps.2, first.2);
       heard = rw more (subst (λ cs. HeardBefore (hearing c.args.config.now c.args.gateway.now c.args.entries (g.S.RouteStore.table c.args.store.now) c.loop-place.notes.items) (g.S.RouteStore.table c.hear_entry.new.store) cs (c.in-Some.place + 1)) (append-nil c.loop-place.changes.items)
-        (offer_heard _ _ _ _ c.in-Some.place c.in-Some.entry found _ _ _ heard not_hop c.loop-place.next_hop hop_is e.sound e.room None (sym c.in-Ok-None.field-0-is ∙ e.change) _ e.table));
+          (offer_heard _ _ _ _ c.in-Some.place c.in-Some.entry found _ _ _ heard not_hop c.loop-place.next_hop hop_is e.sound e.room None (sym c.in-Ok-None.field-0-is ∙ e.change) _ e.table));
       hop = hop_stays;
       notes_few = omega (arith, steps.2, inv.notes_few);
       notes_room = inv.notes_room;
@@ -118,7 +118,7 @@ loop-place-preserved g c =
       ends = search;
       left = ap (λ k. drop k c.args.entries) steps.2 ∙ first.1;
       within = omega (arith, steps.2, first.2);
-      heard = rw (more, pushed.items) (refusal_heard _ _ _ _ c.in-Some.place c.in-Some.entry found _ _ _ heard not_hop c.loop-place.next_hop hop_is c.in-Err.kind e.why e.new _ e.kept);
+      heard = rw (more, pushed.items) (refusal_heard _ _ _ _ c.in-Some.place c.in-Some.entry found _ _ _ heard not_hop c.loop-place.next_hop hop_is c.in-Err.kind e.refusal e.new _ e.kept);
       hop = hop_stays;
       notes_few = omega (arith, steps.2, inv.notes_few, pushed.len);
       notes_room = rw pushed.capacity inv.notes_room;
