@@ -267,65 +267,57 @@ module _ (config : Config) (gateway : Gateway) (entries : List Rte) (before : Ta
               ∙ ap (λ b. cond b (met this_meeting) (map_of.get now named)) (sym (same_as_key named named) ∙ itself)
 
       -- the entry gets a note
-      pub refusal_heard : (kind : NoteKind) → kind ≡ unwrap_or (flaw e) (refusal_of_new now) → (flaw e ≡ None → IsTrue (adds this_meeting))
-          → (new : Table) → new ≡ now
-          → HeardBefore (heard_by (notes ++ record { entry = place; kind = kind } ∷ [])) new changes (place + 1)
-      refusal_heard kind kind_is adding new same = by_flaw (flaw e) refl
-        where
-          the_note : Note
-          the_note = record { entry = place; kind = kind }
+      module _ (kind : NoteKind) (new : Table) (same : new ≡ now) where
+        abbrev noted_more : List Note
+        noted_more = notes ++ record { entry = place; kind = kind } ∷ []
 
-          more : List Note
-          more = notes ++ the_note ∷ []
+        kept : SameBelow config gateway entries before noted_more notes place
+        kept k lt = noted_at-push_other notes (record { entry = place; kind = kind }) k (omega arith)
 
-          kept : SameBelow config gateway entries before (notes ++ record { entry = place; kind = kind } ∷ []) notes place
-          kept k lt = noted_at-push_other notes (record { entry = place; kind = kind }) k (omega arith)
+        note_is : noted_at noted_more place ≡ Some kind
+        note_is = noted_at-push_here notes (record { entry = place; kind = kind }) heard.placed
 
-          note_is : noted_at (notes ++ record { entry = place; kind = kind } ∷ []) place ≡ Some kind
-          note_is = noted_at-push_here notes (record { entry = place; kind = kind }) heard.placed
+        -- an entry with a note changes nothing, whether it is an offer or not
+        unchanged : Contains (allowed_notes (heard_by noted_more) place e) (Some kind) → (is_offer e && not (is_refusal (Some kind))) ≡ false
+            → HeardBefore (heard_by noted_more) new changes (place + 1)
+        unchanged allowed unmet = on noted_more changes new (record {
+          kept = kept;
+          here = subst (λ o. Contains (allowed_notes (heard_by noted_more) place e) o) (sym note_is) allowed;
+          in_order = subst IsStrictlyIncreasing (sym (map-append (λ (n : Note). n.entry) notes (record { entry = place; kind = kind } ∷ [])))
+              (increasing_push (map (λ (n : Note). n.entry) notes) place heard.in_order (All-map (λ x. x < place) (λ (n : Note). n.entry) notes heard.placed));
+          placed = All-push (λ (n : Note). n.entry < place + 1) notes (record { entry = place; kind = kind }) placed_still (omega arith);
+          routes = λ p.
+              ap (λ t. map_of.get t p) same
+              ∙ ap (λ b. cond b (adopted gateway (map_of.get now p) (offer_at config gateway.from entries place e)) (map_of.get now p))
+              (sym (ap (λ o. (is_offer e && same_prefix named p) && not (is_refusal o)) note_is ∙ unmet_at (is_offer e) (same_prefix named p) (is_refusal (Some kind)) unmet));
+          changed = sym (append-nil changes) ∙ ap (λ c. changes ++ cons_option c []) (sym (no_change (is_offer e)));
+        })
+          where
+            unmet_at : (a s r : Bool) → (a && not r) ≡ false → ((a && s) && not r) ≡ false
+            unmet_at true true r none = none
+            unmet_at true false r none = refl
+            unmet_at false s r none = refl
 
-          goes_on : Contains (allowed_notes (heard_by (notes ++ record { entry = place; kind = kind } ∷ [])) place e) (Some kind)
-              → (is_offer e && not (is_refusal (Some kind))) ≡ false
-              → HeardBefore (heard_by (notes ++ record { entry = place; kind = kind } ∷ [])) new changes (place + 1)
-          goes_on allowed unmet = on (notes ++ record { entry = place; kind = kind } ∷ []) changes new (record {
-            kept = kept;
-            here = subst (λ o. Contains (allowed_notes (heard_by (notes ++ record { entry = place; kind = kind } ∷ [])) place e) o) (sym note_is) allowed;
-            in_order = subst IsStrictlyIncreasing (sym (map-append (λ (n : Note). n.entry) notes (record { entry = place; kind = kind } ∷ [])))
-                (increasing_push (map (λ (n : Note). n.entry) notes) place heard.in_order (All-map (λ x. x < place) (λ (n : Note). n.entry) notes heard.placed));
-            placed = All-push (λ (n : Note). n.entry < place + 1) notes (record { entry = place; kind = kind }) placed_still (omega arith);
-            routes = λ p.
-                ap (λ t. map_of.get t p) same
-                ∙ ap (λ b. cond b (adopted gateway (map_of.get now p) (offer_at config gateway.from entries place e)) (map_of.get now p))
-                (sym (ap (λ o. (is_offer e && same_prefix named p) && not (is_refusal o)) note_is ∙ unmet_at (is_offer e) (same_prefix named p) (is_refusal (Some kind)) unmet));
-            changed = sym (append-nil changes) ∙ ap (λ c. changes ++ cons_option c []) (sym (no_change (is_offer e) ∙ refl));
-          })
-            where
-              unmet_at : (a s r : Bool) → (a && not r) ≡ false → ((a && s) && not r) ≡ false
-              unmet_at true true r none = none
-              unmet_at true false r none = refl
-              unmet_at false s r none = refl
+            no_change : (b : Bool) → (if b then change named (map_of.get now named) (map_of.get new named) else None) ≡ None
+            no_change true = ap (λ t. change named (map_of.get now named) (map_of.get t named)) same ∙ change-same named (map_of.get now named)
+            no_change false = refl
 
-              no_change : (b : Bool) → (if b then change named (map_of.get now named) (map_of.get new named) else None) ≡ None
-              no_change true = ap (λ t. change named (map_of.get now named) (map_of.get t named)) same ∙ change-same named (map_of.get now named)
-              no_change false = refl
+        flaw_heard : (f : Option NoteKind) → flaw e ≡ f → kind ≡ unwrap_or f (refusal_of_new now) → (f ≡ None → IsTrue (adds this_meeting))
+            → HeardBefore (heard_by noted_more) new changes (place + 1)
+        flaw_heard (Some other) flawed kind_is adding = unchanged
+            (subst (λ l. Contains l (Some kind)) (sym (allowed-by noted_more (Some other) flawed)) (0, omega arith, ap (λ k. Some k) (sym kind_is)))
+            (ap (λ b. b && not (is_refusal (Some kind))) (is_offer-by (Some other) flawed))
+        flaw_heard None flawless kind_is adding = unchanged
+            (subst (λ l. Contains l (Some kind)) (sym (allowed-by noted_more None flawless
+            ∙ ap₂ (λ b n. if b then (if nat_le table_limit n then Some TableFull ∷ [] else None ∷ Some NoMemory ∷ []) else None ∷ [])
+            (would_add-is noted_more kept flawless ∙ adding refl) (held-is noted_more kept)))
+            (subst (λ k. Contains (if nat_le table_limit (map_of.len now) then Some TableFull ∷ [] else None ∷ Some NoMemory ∷ []) (Some k)) (sym kind_is)
+            (refusal_allowed (nat_le table_limit (map_of.len now)))))
+            (ap₂ (λ b r. b && not r) (is_offer-by None flawless) (ap (λ k. is_refusal (Some k)) kind_is ∙ refusal_is (nat_le table_limit (map_of.len now))))
 
-          by_flaw : (f : Option NoteKind) → flaw e ≡ f → HeardBefore (heard_by (notes ++ record { entry = place; kind = kind } ∷ [])) new changes (place + 1)
-          by_flaw (Some other) flawed =
-              let kind_same : kind ≡ other = kind_is ∙ ap (λ f. unwrap_or f (refusal_of_new now)) flawed in
-              goes_on
-              (subst (λ l. Contains l (Some kind)) (sym (allowed-by (notes ++ record { entry = place; kind = kind } ∷ []) (Some other) flawed))
-              (0, omega arith, ap (λ k. Some k) (sym kind_same)))
-              (ap (λ b. b && not (is_refusal (Some kind))) (is_offer-by (Some other) flawed))
-          by_flaw None flawless =
-              let kind_same : kind ≡ refusal_of_new now = kind_is ∙ ap (λ f. unwrap_or f (refusal_of_new now)) flawless in
-              goes_on
-              (subst (λ l. Contains l (Some kind)) (sym (allowed-by (notes ++ record { entry = place; kind = kind } ∷ []) None flawless
-              ∙ ap₂ (λ b n. if b then (if nat_le table_limit n then Some TableFull ∷ [] else None ∷ Some NoMemory ∷ []) else None ∷ [])
-              (would_add-is (notes ++ record { entry = place; kind = kind } ∷ []) kept flawless ∙ adding flawless)
-              (held-is (notes ++ record { entry = place; kind = kind } ∷ []) kept)))
-              (subst (λ k. Contains (if nat_le table_limit (map_of.len now) then Some TableFull ∷ [] else None ∷ Some NoMemory ∷ []) (Some k)) (sym kind_same)
-              (refusal_allowed (nat_le table_limit (map_of.len now)))))
-              (ap₂ (λ b r. b && not r) (is_offer-by None flawless) (ap (λ k. is_refusal (Some k)) kind_same ∙ refusal_is (nat_le table_limit (map_of.len now))))
+        pub refusal_heard : kind ≡ unwrap_or (flaw e) (refusal_of_new now) → (flaw e ≡ None → IsTrue (adds this_meeting))
+            → HeardBefore (heard_by noted_more) new changes (place + 1)
+        refusal_heard kind_is adding = flaw_heard (flaw e) refl kind_is adding
 
 -- ---- the next hop
 
