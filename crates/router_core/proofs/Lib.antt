@@ -10,3 +10,5 @@ pub mod EachTested
 pub mod ConfigTests
 mod AgedTables
 mod EmptyRequests
+pub mod NotesKept
+pub mod HearingLoop

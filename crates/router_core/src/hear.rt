@@ -1,13 +1,14 @@
 //! A Response is heard: its entries in order, each meeting the routes that those before it left (RFC 2080, section
 //! 2.4.2).
 
-ghost use Rattle.std.specs.Prelude.{◌≡◌, ◌<◌, ◌≤◌, ◌↔◌, [], IsTrue, IsSome, false, IfOk, IfErr, OnOk, OnErr, length};
+ghost use Rattle.std.specs.Prelude.{◌≡◌, ◌<◌, ◌≤◌, ◌↔◌, [], IsTrue, IsSome, None, false, unwrap_or, IfOk, IfErr, OnOk, OnErr, length};
 ghost use Rattle.std.specs.Vec.{vec_capacity};
 ghost use Rattle.std.specs.FinMap as map_of;
 ghost use Rattle.route_table.specs.Table.{table_limit};
-ghost use Rattle.router_core.specs.Changes.{change, changes_of_hearing};
+ghost use Rattle.router_core.specs.Changes.{changes_of_hearing};
 ghost use Rattle.router_core.specs.Hearing.{Heard, hearing};
-ghost use Rattle.router_core.specs.Meeting.{met, table_met, adds, refusal_of_new};
+ghost use Rattle.router_core.specs.Meeting.{meeting, entry_meeting, table_met, change_met, adds, refusal_of_new};
+ghost use Rattle.router_core.specs.Offers.{flaw};
 
 use crate::adopt::{Gateway, Offer};
 use crate::answer::{Note, NoteKind};
@@ -44,18 +45,19 @@ fn place<S: RouteStore>(
     }
 }
 
-/// One offer meets the routes: the change that it makes, or why its first route to a prefix is refused.
+// One offer meets the routes: the change that it makes, or why its first route to a prefix is refused.
 fn meet<S: RouteStore>(
     store: &mut S,
     gateway: &Gateway,
     prefix: Prefix,
     offer: &Offer,
 ) -> Result<Option<RouteChange>, NoteKind>
-    ensures table { OnOk result (S.table store.new ≡ table_met gateway.now offer.now prefix (S.table store.old)) }
-    ensures change { IfOk result (λ c. c ≡ change prefix (map_of.get (S.table store.old) prefix) (met gateway.now offer.now prefix (S.table store.old))) }
-    ensures room { OnOk result (IsTrue (adds gateway.now offer.now prefix (S.table store.old)) → map_of.len (S.table store.old) < table_limit) }
+    ensures table { OnOk result (S.table store.new ≡ table_met (meeting gateway.now offer.now prefix (S.table store.old))) }
+    ensures change { IfOk result (λ c. c ≡ change_met (meeting gateway.now offer.now prefix (S.table store.old))) }
+    ensures room { OnOk result (IsTrue (adds (meeting gateway.now offer.now prefix (S.table store.old)))
+        → map_of.len (S.table store.old) < table_limit) }
     ensures kept { OnErr result (S.table store.new ≡ S.table store.old) }
-    ensures new { OnErr result (IsTrue (adds gateway.now offer.now prefix (S.table store.old))) }
+    ensures new { OnErr result (IsTrue (adds (meeting gateway.now offer.now prefix (S.table store.old)))) }
     ensures refusal { IfErr result (λ kind. kind ≡ refusal_of_new (S.table store.old)) }
 {
     let old = store.get(&prefix);
@@ -66,14 +68,23 @@ fn meet<S: RouteStore>(
     Ok(change(prefix, old, new))
 }
 
-// One entry that is no next hop entry.
+// One entry that is no next hop entry: the change that its offer makes, or why it is skipped.
 fn hear_entry<S: RouteStore>(
     store: &mut S,
     gateway: &Gateway,
     entry: &Rte,
     next_hop: Addr6,
     place: usize,
-) -> Result<Option<RouteChange>, NoteKind> {
+) -> Result<Option<RouteChange>, NoteKind>
+    ensures sound { OnOk result (flaw entry.now ≡ None) }
+    ensures table { OnOk result (S.table store.new ≡ table_met (entry_meeting gateway.now entry.now next_hop place (S.table store.old))) }
+    ensures change { IfOk result (λ c. c ≡ change_met (entry_meeting gateway.now entry.now next_hop place (S.table store.old))) }
+    ensures room { OnOk result (IsTrue (adds (entry_meeting gateway.now entry.now next_hop place (S.table store.old)))
+        → map_of.len (S.table store.old) < table_limit) }
+    ensures kept { OnErr result (S.table store.new ≡ S.table store.old) }
+    ensures refusal { IfErr result (λ kind. kind ≡ unwrap_or (flaw entry.now) (refusal_of_new (S.table store.old))) }
+    ensures new { OnErr result (flaw entry.now ≡ None → IsTrue (adds (entry_meeting gateway.now entry.now next_hop place (S.table store.old)))) }
+{
     let prefix = judge(entry)?;
     let offer = Offer {
         metric: entry.metric,
