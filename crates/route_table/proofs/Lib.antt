@@ -1,4 +1,6 @@
 pub mod TableLaws
 pub mod TableSteps
+pub mod Walks
+pub mod Midway
 pub mod SortedEntries
 pub mod SortedTable

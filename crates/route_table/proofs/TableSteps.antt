@@ -1,5 +1,5 @@
 -- What a map by prefixes has, and how many, after a value is added, replaced or removed.
-use Rattle.std.proofs.Common.{◌≡◌, ◌+◌, ◌-◌, ◌<◌, Bool, true, false, cond, T, List, [], ◌∷◌, ◌++◌, Option, Some, None, is_some, IsSome, length, refl, ap, sym, subst, ◌∙◌, arith}
+use Rattle.std.proofs.Common.{◌≡◌, ◌+◌, ◌-◌, ◌<◌, Bool, true, false, cond, T, List, [], ◌∷◌, ◌++◌, Option, Some, None, is_some, IsSome, length, take, drop, add-one, length-append, refl, ap, sym, subst, ◌∙◌, arith}
 use Rattle.std.specs.FinMap as map
 use Rattle.std.specs.FinMap.Entries.{find, put, by_order}
 use Rattle.std.specs.Ordering.{is_eq, eq_by_cmp}
@@ -7,9 +7,16 @@ use Rattle.std.specs.Cmp.{tied_itself}
 use Rattle.std.specs.declared.cmp.Ordering.{Ordering}
 use Rattle.std.specs.declared.cmp.Ordering.TheVariants.{Less, Equal, Greater}
 use Rattle.std.proofs.lemmas.Map.Views.{tells_apart}
+use Rattle.std.specs.FinMap.{is_sorted}
+use Rattle.std.specs.List.{remove}
+use Rattle.std.proofs.Math.Seq.{get_or-append_seam, set-append_seam, take-append_seam, drop-append-add}
 use Rattle.prefix6.specs.Prefix.{Prefix6, prefix_cmp}
 use Rattle.prefix6.proofs.PrefixLaws.{prefixes_total, exact_prefixes}
-use Rattle.route_table.specs.Table.{ByPrefix, with_value}
+use Rattle.route_table.specs.Place.{IsAt}
+use Rattle.route_table.specs.Route.{RouteValue}
+use Rattle.route_table.specs.Table.{ByPrefix, Table, with_value}
+use Rattle.route_table.proofs.SortedEntries.{find_at, put_at, where_at}
+use Rattle.route_table.proofs.SortedTable.{sorted_without, table_without}
 use Rattle.route_table.proofs.TableLaws.{None-Some, Some-same}
 
 tie_itself : (p : Prefix6) → eq_by_cmp prefix_cmp p p ≡ true
@@ -128,3 +135,39 @@ module _ {X : Type 0} where
   entries-add m p none =
       let h = place_of (map.entries m) p (sym (map.get-entries m p) ∙ none) in
       record { front = h.front; rest = h.rest; parts = h.parts; added = λ x. map.entries-insert prefixes_total m p x ∙ h.placed x }
+
+-- ---- the entries after a route in the middle is replaced or removed
+module _ (front rest : List (Prefix6 × RouteValue)) (p : Prefix6) (r : RouteValue) (t : Table) (is : map.entries t ≡ front ++ (p, r) ∷ rest) where
+  sorted_now : T (is_sorted prefix_cmp (front ++ (p, r) ∷ rest))
+  sorted_now = subst (λ l. T (is_sorted prefix_cmp l)) is (map.entries_sorted t)
+
+  here : IsAt (front ++ (p, r) ∷ rest) p (length front)
+  here = record {
+    in_range = simp length-append (omega arith);
+    has_key = λ d. ap (λ (e : Prefix6 × RouteValue). e.0) (get_or-append_seam front (p, r) rest d);
+  }
+
+  pub get-middle : map.get t p ≡ Some r
+  get-middle =
+      map.get-entries t p ∙ ap (find prefix_cmp p) is ∙ find_at _ p (length front) (p, r) sorted_now here
+      ∙ ap (λ (e : Prefix6 × RouteValue). Some e.1) (get_or-append_seam front (p, r) rest (p, r))
+
+  pub entries-replace : (new : RouteValue) → map.entries (map.insert t p new) ≡ front ++ (p, new) ∷ rest
+  entries-replace new =
+      map.entries-insert prefixes_total t p new ∙ ap (put prefix_cmp p new) is
+      ∙ put_at _ p new (length front) sorted_now here ∙ set-append_seam front (p, r) rest (p, new)
+
+  itself : map.from_sorted (front ++ (p, r) ∷ rest) ≡ t
+  itself = map.same_entries_map _ _ (map.entries-from_sorted prefix_cmp _ sorted_now ∙ sym is)
+
+  pub entries-remove : map.entries (map.remove t p) ≡ front ++ rest
+  entries-remove =
+      let w = where_at _ p (length front) sorted_now here ∙ seam in
+      ap map.entries (sym (table_without _ sorted_now t itself p (front ++ rest) w))
+      ∙ map.entries-from_sorted prefix_cmp (front ++ rest) (sorted_without _ sorted_now t itself p (front ++ rest) w)
+    where
+      seam : remove (front ++ (p, r) ∷ rest) (length front) ≡ front ++ rest
+      seam =
+          ap (λ n. take (length front) (front ++ (p, r) ∷ rest) ++ drop n (front ++ (p, r) ∷ rest)) (sym (add-one (length front)))
+          ∙ ap (λ l. l ++ drop (length front + 1) (front ++ (p, r) ∷ rest)) (take-append_seam front ((p, r) ∷ rest))
+          ∙ ap (λ l. front ++ l) (drop-append-add front ((p, r) ∷ rest) 1)

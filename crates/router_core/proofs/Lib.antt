@@ -6,3 +6,4 @@ pub mod AgeReplaying
 pub mod MovesReplay
 pub mod WholeResponse
 mod CutPieces
+pub mod Sending

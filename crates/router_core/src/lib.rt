@@ -7,11 +7,15 @@ mod age;
 mod answer;
 mod arrival;
 mod config;
+mod cut;
 mod entries;
 mod forwarding;
 mod hear;
 mod laws;
 mod listed;
+mod reply;
+mod start;
+mod tell;
 
 pub use answer::{Answer, Destination, Note, NoteKind, Outgoing};
 pub use arrival::{Arrival, Fault};
