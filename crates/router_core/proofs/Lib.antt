@@ -7,3 +7,5 @@ pub mod MovesReplay
 pub mod WholeResponse
 mod CutPieces
 pub mod Sending
+pub mod ConfigLaws
+pub mod Owning

@@ -1,6 +1,10 @@
 -- Messages and the datagrams that spell them, put together piece by piece.
-use Rattle.std.proofs.Common.{◌≡◌, ℕ, zero, suc, ◌+◌, ◌-◌, ◌*◌, ◌/◌, ◌<◌, ◌≤◌, List, [], ◌∷◌, ◌++◌, map, min, take, drop, length, slice_range, refl, ap, ap₂, sym, subst, ◌∙◌, arith, inl, inr, append-nil, append_assoc, mul-suc}
+use Rattle.std.proofs.Common.{◌≡◌, ℕ, zero, suc, ◌+◌, ◌-◌, ◌*◌, ◌/◌, ◌<◌, ◌≤◌, List, [], ◌∷◌, ◌++◌, map, min, take, drop, length, slice_range, slice_get, get_or, Some, add-one, refl, ap, ap₂, sym, subst, ◌∙◌, arith, inl, inr, append-nil, append_assoc, mul-suc}
+use Rattle.std.specs.List.{enumerate_from, flat_map}
 use Rattle.std.proofs.lemmas.Bool.{cases_lt}
+use Rattle.std.proofs.lemmas.Grind.{flat_map-append}
+use Rattle.std.proofs.lemmas.List.FromFn.{length-enumerate_from}
+use Rattle.std.proofs.lemmas.Option.{slice_get-get_or}
 use Rattle.std.proofs.lemmas.List.{length-drop, map-append, take_all, drop_all}
 use Rattle.std.proofs.lemmas.Nat.{le-div, div_below}
 use Rattle.std.proofs.Math.Nat.{mul-zero, mul_comm, div-add-mod}
@@ -11,6 +15,7 @@ use Rattle.ripng_wire.specs.Layout.{Spells, entries_for_mtu}
 use Rattle.router_core.specs.declared.answer.Destination.{Destination}
 use Rattle.router_core.specs.Output.{responses_at, Message, AreSpelled, AddsSpelled, IsSpelled, pieces, numbers_below}
 use Rattle.router_core.specs.declared.answer.Outgoing.{Outgoing}
+use Rattle.router_core.proofs.HearingSteps.{take_push, numbered_at}
 
 -- what spells two lists spells both, one behind the other
 pub AreSpelled-append : (ms ns : List Message) (os ps : List Outgoing) → AreSpelled ms os → AreSpelled ns ps → AreSpelled (ms ++ ns) (os ++ ps)
@@ -131,3 +136,38 @@ module _ (mtu iface : ℕ) (to : Destination) (some : 0 < entries_for_mtu mtu) w
       SpelledTo-next all (responses_at mtu iface to after) old new (response piece) o
       (subst (λ (ms : List Message). SpelledTo all ms old new) cut so_far)
       (record { iface = on; to = destined; bytes = spells })
+
+-- ---- messages of each element of a list with its number
+pub take_numbered : {X : Type 0} (xs : List X) (i : ℕ) (x : X) → slice_get xs i ≡ Some x
+    → take (i + 1) (enumerate_from 0 xs) ≡ take i (enumerate_from 0 xs) ++ (i, x) ∷ []
+take_numbered {X = X} xs i x is =
+    ap (λ n. take n (enumerate_from 0 xs)) (add-one i)
+    ∙ take_push (enumerate_from 0 xs) i (i, x) (numbered_at 0 xs i x is ∙ ap (λ (m : ℕ). Some (m, x)) (omega arith))
+
+-- one message of each
+pub AreSpelled-map : {X : Type 0} (f : ℕ × X → Message) (xs : List X) (i : ℕ) (x : X) (os : List Outgoing) (o : Outgoing) → slice_get xs i ≡ Some x
+    → AreSpelled (map f (take i (enumerate_from 0 xs))) os → IsSpelled (f (i, x)) o
+    → AreSpelled (map f (take (i + 1) (enumerate_from 0 xs))) (os ++ o ∷ [])
+AreSpelled-map f xs i x os o is before spells =
+    subst (λ (ms : List Message). AreSpelled ms (os ++ o ∷ []))
+    (sym (ap (map f) (take_numbered xs i x is) ∙ map-append f (take i (enumerate_from 0 xs)) ((i, x) ∷ [])))
+    (AreSpelled-append (map f (take i (enumerate_from 0 xs))) (f (i, x) ∷ []) os (o ∷ []) before (spells, tt))
+
+-- some messages of each
+pub AreSpelled-flat_map : {X : Type 0} (f : ℕ × X → List Message) (xs : List X) (i : ℕ) (x : X) (old new : List Outgoing) → slice_get xs i ≡ Some x
+    → AreSpelled (flat_map f (take i (enumerate_from 0 xs))) old → AddsSpelled (f (i, x)) old new
+    → AreSpelled (flat_map f (take (i + 1) (enumerate_from 0 xs))) new
+AreSpelled-flat_map f xs i x old new is before adds =
+    subst (λ (os : List Outgoing). AreSpelled (flat_map f (take (i + 1) (enumerate_from 0 xs))) os) (sym adds.behind)
+    (subst (λ (ms : List Message). AreSpelled ms (old ++ adds.added))
+    (sym (ap (flat_map f) (take_numbered xs i x is) ∙ flat_map-append f (take i (enumerate_from 0 xs)) ((i, x) ∷ [])
+    ∙ ap (λ ms. flat_map f (take i (enumerate_from 0 xs)) ++ ms) (append-nil (f (i, x)))))
+    (AreSpelled-append (flat_map f (take i (enumerate_from 0 xs))) (f (i, x)) old adds.added before adds.spelled))
+
+-- the element that a loop over a list has come to
+pub element_at : {X : Type 0} (xs : List X) (i : ℕ) (x : X) → i < length xs → x ≡ get_or xs i x → slice_get xs i ≡ Some x
+element_at xs i x lt is = slice_get-get_or xs i x lt ∙ ap Some (sym is)
+
+-- all of them, once a loop is over
+pub take_all_numbered : {X : Type 0} (xs : List X) (i : ℕ) → length xs ≤ i → take i (enumerate_from 0 xs) ≡ enumerate_from 0 xs
+take_all_numbered xs i le = take_all i (enumerate_from 0 xs) (omega (arith, length-enumerate_from 0 xs))

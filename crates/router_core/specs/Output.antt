@@ -34,9 +34,13 @@ told_entry iface t =
       metric = if is_learned_on iface t.1.origin then infinity else t.1.metric;
     }
 
+-- what is told on an interface of those routes of a list
+abbrev pub told_of : ℕ → (RouteValue → Bool) → List (Prefix6 × RouteValue) → List Rte
+told_of iface which routes = map (told_entry iface) (filter (λ t. which t.1) routes)
+
 -- what is told on an interface of those routes of a table
 abbrev pub told : ℕ → (RouteValue → Bool) → Table → List Rte
-told iface which table = map (told_entry iface) (filter (λ t. which t.1) (map_of.entries table))
+told iface which table = told_of iface which (map_of.entries table)
 
 abbrev pub every_route : RouteValue → Bool
 every_route r = true

@@ -93,9 +93,9 @@ pub fn reply<S: RouteStore>(
     arrival: &Arrival<'_>,
     request: &Datagram<'_>,
 ) -> Result<Vec<Outgoing>, AllocError>
-    ensures spelled { IfOk result (λ sends. AreSpelled (reply_messages config.now (S.table store.now) arrival.now request.now.entries) sends.items) }
+    ensures spelled { IfOk result (λ sends. AreSpelled (reply_messages config.now (S.table store.now) arrival.entry.now request.now.entries) sends.items) }
     ensures few { IfOk result (λ sends. length sends.items ≤ max (map_of.len (S.table store.now)) (length request.now.entries)) }
-    ensures quiet { config.now.quiet ≡ true → arrival.now.source_port ≡ ripng_port → IsOk result }
+    ensures quiet { config.now.quiet ≡ true → arrival.entry.now.source_port ≡ ripng_port → IsOk result }
 {
     let mut sends = Vec::new(alloc);
     if config.is_quiet() && arrival.source_port == RIPNG_PORT {

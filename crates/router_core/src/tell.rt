@@ -5,7 +5,7 @@ ghost use Rattle.std.specs.Prelude.{◌≡◌, ◌≤◌, ◌*◌, true, length,
 ghost use Rattle.std.specs.FinMap.{entries};
 ghost use Rattle.route_table.specs.Table.{Table, map_entries};
 ghost use Rattle.router_core.specs.Ageing.{aged};
-ghost use Rattle.router_core.specs.Output.{AreSpelled, selected, told, told_entry, update_messages};
+ghost use Rattle.router_core.specs.Output.{AreSpelled, selected, told_of, told_entry, update_messages};
 
 use crate::age::age;
 use crate::answer::{Destination, Outgoing};
@@ -97,7 +97,7 @@ pub fn listed_at<S: RouteStore>(
         .collect(alloc)
 }
 
-/// What is told on an interface of the routes of a table.
+/// What is told on an interface of these routes.
 ///
 /// # Errors
 /// Only want of memory.
@@ -107,8 +107,7 @@ pub fn told_on(
     which: Told,
     routes: &[(Prefix, Route)],
 ) -> Result<Vec<Rte>, AllocError>
-    ensures told { (table : Table) → routes.now ≡ entries table
-        → IfOk result (λ v. v.items ≡ told iface (selected which) table) }
+    ensures value { IfOk result (λ v. v.items ≡ told_of iface (selected which) routes.now) }
     ensures few { IfOk result (λ v. length v.items ≤ length routes.now) }
 {
     routes
