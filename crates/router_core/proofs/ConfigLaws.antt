@@ -1,12 +1,12 @@
 -- What the tests of a configuration say of each interface and of the owned prefixes.
-use Rattle.std.proofs.Common.{◌≡◌, ℕ, zero, suc, ◌+◌, ◌<◌, ◌≤◌, Bool, true, false, cond, not, ◌||◌, nat_lt, List, [], ◌∷◌, ◌++◌, take, length, Option, Some, None, slice_get, refl, ap, sym, subst, ◌∙◌, arith}
+use Rattle.std.proofs.Common.{◌≡◌, ℕ, zero, suc, ◌+◌, ◌<◌, ◌≤◌, Bool, true, false, cond, not, ◌||◌, nat_lt, List, [], ◌∷◌, ◌++◌, take, length, Option, Some, None, unwrap_or, option_map, slice_get, refl, ap, sym, subst, ◌∙◌, arith}
 use Rattle.std.specs.List.{enumerate_from, flat_map, list_any, AllByRecursion}
 use Rattle.std.proofs.lemmas.Bool.Decides.{nat_tests}
 use Rattle.prefix6.specs.Prefix.{Prefix6, same_prefix}
 use Rattle.ripng_wire.specs.Wire.{first_failing}
 use Rattle.ripng_wire.proofs.FirstFailing.{EachPasses, each_passes}
 use Rattle.route_table.specs.Route.{infinity}
-use Rattle.router_core.specs.Config.{Config, IsConfig, config_tests, each_tested, interface_tests, prefix_tests}
+use Rattle.router_core.specs.Config.{Config, IsConfig, mtu_at, config_tests, each_tested, interface_tests, prefix_tests}
 use Rattle.router_core.specs.declared.config.ConfigRefused.{ConfigRefused}
 use Rattle.router_core.specs.declared.config.Interface.{Interface}
 use Rattle.router_core.specs.declared.config.TheConstants.{INTERFACE_LIMIT, OWNED_LIMIT}
@@ -60,6 +60,9 @@ module _ (c : Config) (lawful : IsConfig c) where
 
     pub mtu_high : x.mtu ≤ 65535
     mtu_high = let h = interface_passes.1.1.1.0 in grind (arith, nat_tests, h)
+
+    pub mtu_at-interface : mtu_at c i ≡ x.mtu
+    mtu_at-interface = ap (λ o. unwrap_or (option_map (λ (j : Interface). j.mtu) o) 1280) is
 
     -- each cost is 1 to 15 hops
     pub cost_low : 1 ≤ x.cost

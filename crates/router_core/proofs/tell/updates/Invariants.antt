@@ -7,7 +7,7 @@ use Rattle.router_core.proofs.tell.updates.Given as goal
 abbrev pub invariant-loop-iface : goal.invariant-loop-iface
 invariant-loop-iface l = record {
   spelled : AreSpelled
-      (flat_map (λ t. responses l.config t.0 Group (told_of t.0 (selected l.which) l.routes)) (take l.iface (enumerate_from 0 l.config.interfaces)))
+      (flat_map (λ t. responses l.fn.config t.0 Group (told_of t.0 (selected l.fn.which) l.fn.routes)) (take l.iface (enumerate_from 0 l.fn.config.interfaces)))
       l.sends.items;
-  few : length l.sends.items ≤ length l.routes * l.iface;
+  few : length l.sends.items ≤ length l.fn.routes * l.iface;
 }
