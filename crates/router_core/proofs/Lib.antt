@@ -12,3 +12,6 @@ mod AgedTables
 mod EmptyRequests
 pub mod NotesKept
 pub mod HearingLoop
+pub mod Sending
+pub mod ConfigLaws
+pub mod Owning

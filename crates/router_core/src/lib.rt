@@ -7,12 +7,16 @@ mod age;
 mod answer;
 mod arrival;
 mod config;
+mod cut;
 mod entries;
 mod faults;
 mod forwarding;
 mod hear;
 mod laws;
 mod listed;
+mod reply;
+mod start;
+mod tell;
 mod ticking;
 
 pub use answer::{Answer, Destination, Note, NoteKind, Outgoing};
