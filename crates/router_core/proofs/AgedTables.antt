@@ -8,7 +8,9 @@ use Rattle.route_table.specs.Route.{RouteValue}
 use Rattle.route_table.specs.Table.{Table, map_entries, map_values}
 use Rattle.route_table.proofs.TableLaws.{get-map_values, entries-map_values}
 use Rattle.router_core.specs.Ageing.{aged, aged_table, without_mark, unmarked}
-use Rattle.router_core.specs.Settling.{settled, is_marked}
+use Rattle.router_core.specs.Output.{selected}
+use Rattle.router_core.specs.declared.tell.Told.{Told}
+use Rattle.router_core.specs.Settling.{settled, is_told}
 
 -- one map of values after another is the map of both
 pub map_values-twice : (f g : RouteValue → Option RouteValue) (t : Table) → map_values g (map_values f t) ≡ map_values (λ r. option_and_then g (f r)) t
@@ -22,20 +24,20 @@ map_values-twice f g t =
     after (Some r) = refl
 
 -- the table after each route was settled
-pub settled-table : (now : ℕ) (is_told : Bool) (t : Table) → map_values (settled now is_told) t ≡ (if is_told then unmarked (aged_table now t) else aged_table now t)
+pub settled-table : (now : ℕ) (was_told : Bool) (t : Table) → map_values (settled now was_told) t ≡ (if was_told then unmarked (aged_table now t) else aged_table now t)
 settled-table now true t = sym (map_values-twice (aged now) without_mark t)
 settled-table now false t = refl
 
-marked_entries : (now : ℕ) (es : List (Prefix6 × RouteValue)) → list_any (λ t. is_marked now t.1) es ≡ list_any (λ t. t.1.changed) (map_entries (aged now) es)
-marked_entries now [] = refl
-marked_entries now (e ∷ es) = by_left (aged now e.1) (marked_entries now es)
+told_entries : (now : ℕ) (which : Told) (es : List (Prefix6 × RouteValue)) → list_any (λ t. is_told now which t.1) es ≡ list_any (λ t. selected which t.1) (map_entries (aged now) es)
+told_entries now which [] = refl
+told_entries now which (e ∷ es) = by_left (aged now e.1) (told_entries now which es)
   where
-    by_left : (o : Option RouteValue) → list_any (λ t. is_marked now t.1) es ≡ list_any (λ t. t.1.changed) (map_entries (aged now) es)
-        → (unwrap_or (option_map (λ left. left.changed) o) false || list_any (λ t. is_marked now t.1) es)
-        ≡ list_any (λ t. t.1.changed) (cons_option (option_map (λ y. (e.0, y)) o) (map_entries (aged now) es))
+    by_left : (o : Option RouteValue) → list_any (λ t. is_told now which t.1) es ≡ list_any (λ t. selected which t.1) (map_entries (aged now) es)
+        → (unwrap_or (option_map (selected which) o) false || list_any (λ t. is_told now which t.1) es)
+        ≡ list_any (λ t. selected which t.1) (cons_option (option_map (λ y. (e.0, y)) o) (map_entries (aged now) es))
     by_left None rest = rest
-    by_left (Some r) rest = ap (λ b. r.changed || b) rest
+    by_left (Some r) rest = ap (λ b. selected which r || b) rest
 
--- a route is marked after all have aged where one is that has aged
-pub marked-table : (now : ℕ) (t : Table) → list_any (λ t. is_marked now t.1) (map.entries t) ≡ list_any (λ t. t.1.changed) (map.entries (aged_table now t))
-marked-table now t = marked_entries now (map.entries t) ∙ ap (list_any (λ t. t.1.changed)) (sym (entries-map_values (aged now) t))
+-- there is a route to be told once all have aged where one is that has aged
+pub told-table : (now : ℕ) (which : Told) (t : Table) → list_any (λ t. is_told now which t.1) (map.entries t) ≡ list_any (λ t. selected which t.1) (map.entries (aged_table now t))
+told-table now which t = told_entries now which (map.entries t) ∙ ap (list_any (λ t. selected which t.1)) (sym (entries-map_values (aged now) t))

@@ -27,7 +27,7 @@ pub enum Told {
 
 impl Told {
     // Whether an update of this kind tells the route.
-    fn selects(self, route: &Route) -> bool
+    pub fn selects(self, route: &Route) -> bool
         ensures { result ≡ selected self route.now }
     {
         match self {

@@ -6,10 +6,12 @@ ghost use Rattle.std.specs.FinMap.{entries, get};
 ghost use Rattle.route_table.specs.Table.{with_value};
 ghost use Rattle.router_core.specs.Ageing.{aged, aged_table, unmarked};
 ghost use Rattle.router_core.specs.Changes.{change, changes_of_ageing};
-ghost use Rattle.router_core.specs.Settling.{is_marked, settled};
+ghost use Rattle.router_core.specs.Output.{selected};
+ghost use Rattle.router_core.specs.Settling.{is_told, settled};
 
 use crate::age::age;
 use crate::forwarding::change;
+use crate::tell::Told;
 use fib::RouteChange;
 use prefix6::Prefix;
 use route_table::{Moment, Route, RouteStore};
@@ -48,26 +50,26 @@ pub fn changes_of_ageing<S: RouteStore>(
     Ok(changes)
 }
 
-// Whether a route is marked as changed after it has aged.
-fn is_marked(route: Route, now: Moment) -> bool
-    ensures { result ≡ is_marked now route }
+// Whether a route is told once it has aged.
+fn is_told(route: Route, which: Told, now: Moment) -> bool
+    ensures { result ≡ is_told now which route }
 {
     match age(route, now) {
-        Some(left) => left.is_changed(),
+        Some(left) => which.selects(&left),
         None => false,
     }
 }
 
-/// Whether a route is marked as changed after all have aged.
-pub fn has_changed<S: RouteStore>(store: &S, now: Moment) -> bool
-    ensures { result ≡ list_any (λ t. t.1.changed) (entries (aged_table now (S.table store.now))) }
+/// Whether there is a route to be told once all have aged.
+pub fn has_told<S: RouteStore>(store: &S, which: Told, now: Moment) -> bool
+    ensures { result ≡ list_any (λ t. selected which t.1) (entries (aged_table now (S.table store.now))) }
 {
     let mut after = None;
     for _ in 0..store.len() {
         let Some(entry) = store.walk(after) else {
             unreachable!()
         };
-        if is_marked(entry.1, now) {
+        if is_told(entry.1, which, now) {
             return true;
         }
         after = Some(entry.0);
@@ -76,11 +78,11 @@ pub fn has_changed<S: RouteStore>(store: &S, now: Moment) -> bool
 }
 
 // What is left of a route at a moment, without its mark if it was told.
-fn settled(route: Route, now: Moment, is_told: bool) -> Option<Route>
-    ensures { result ≡ settled now is_told route }
+fn settled(route: Route, now: Moment, was_told: bool) -> Option<Route>
+    ensures { result ≡ settled now was_told route }
 {
     let left = age(route, now)?;
-    if is_told {
+    if was_told {
         Some(left.with_mark(false))
     } else {
         Some(left)
@@ -88,26 +90,26 @@ fn settled(route: Route, now: Moment, is_told: bool) -> Option<Route>
 }
 
 // Puts what is left of a route in its place.
-fn settle<S: RouteStore>(store: &mut S, prefix: Prefix, route: Route, now: Moment, is_told: bool)
+fn settle<S: RouteStore>(store: &mut S, prefix: Prefix, route: Route, now: Moment, was_told: bool)
     requires { get (S.table store.old) prefix ≡ Some route }
-    ensures { S.table store.new ≡ with_value (S.table store.old) prefix (settled now is_told route) }
+    ensures { S.table store.new ≡ with_value (S.table store.old) prefix (settled now was_told route) }
 {
-    match settled(route, now, is_told) {
+    match settled(route, now, was_told) {
         Some(left) => store.replace(&prefix, left),
         None => store.remove(&prefix),
     }
 }
 
 /// Every route ages, and loses its mark if it was told.
-pub fn settle_all<S: RouteStore>(store: &mut S, now: Moment, is_told: bool)
-    ensures { S.table store.new ≡ (if is_told then unmarked (aged_table now (S.table store.old)) else aged_table now (S.table store.old)) }
+pub fn settle_all<S: RouteStore>(store: &mut S, now: Moment, was_told: bool)
+    ensures { S.table store.new ≡ (if was_told then unmarked (aged_table now (S.table store.old)) else aged_table now (S.table store.old)) }
 {
     let mut after = None;
     for _ in 0..store.len() {
         let Some(entry) = store.walk(after) else {
             unreachable!()
         };
-        settle(store, entry.0, entry.1, now, is_told);
+        settle(store, entry.0, entry.1, now, was_told);
         after = Some(entry.0);
     }
 }

@@ -23,4 +23,4 @@ loop-preserved g c =
 pub returns : goal.returns
 returns g c =
     WalksMidway-end c.loop.invariant.walks (omega (arith, c.loop.invariant.end, c.loop-test.false))
-    ∙ settled-table c.args.now c.args.is_told (g.S.RouteStore.table c.args.store.now)
+    ∙ settled-table c.args.now c.args.was_told (g.S.RouteStore.table c.args.store.now)

@@ -7,6 +7,6 @@ use Rattle.router_core.proofs.ticking.settle_all.Given as goal
 -- the routes that the walk has met are settled
 abbrev pub invariant-loop : goal.invariant-loop
 invariant-loop g l = let t = g.S.RouteStore.table l.fn.store in record {
-  walks : WalksMidway (settled l.now l.is_told) t (g.S.RouteStore.table l.store) l.after l.counter;
+  walks : WalksMidway (settled l.now l.was_told) t (g.S.RouteStore.table l.store) l.after l.counter;
   end : l.end ≡ len t;
 }
