@@ -15,3 +15,5 @@ pub mod HearingLoop
 pub mod Sending
 pub mod ConfigLaws
 pub mod Owning
+mod Silence
+mod RouterSteps

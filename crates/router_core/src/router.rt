@@ -1,12 +1,13 @@
 //! A router over any store of routes: the step of RIPng (RFC 2080, sections 2.3 to 2.5).
 
-ghost use Rattle.std.specs.Prelude.{◌≡◌, ◌<◌, ◌≤◌, ◌*◌, max, [], None, Some, IsSome, IsOk, IfOk, OnOk, OnErr, length};
+ghost use Rattle.std.specs.Prelude.{◌≡◌, ◌<◌, ◌≤◌, ◌*◌, ◌↔◌, max, [], IsTrue, None, Some, IsSome, IsOk, IfOk, OnOk, OnErr, length};
 ghost use Rattle.std.specs.FinMap as map_of;
 ghost use Rattle.fib.specs.Forwarding.{Replays};
 ghost use Rattle.ripng_wire.specs.Layout.{Spells};
 ghost use Rattle.ripng_wire.specs.declared.rte.Command.TheVariants.{Request, Response};
 ghost use Rattle.route_table.specs.Route.{infinity};
 ghost use Rattle.router_core.specs.Changes.{forwards, changes_of_ageing, changes_of_hearing, changes_of_start};
+ghost use Rattle.router_core.specs.Config.{cost_at};
 ghost use Rattle.router_core.specs.Faults.{fault};
 ghost use Rattle.router_core.specs.Hearing.{Heard, hearing};
 ghost use Rattle.router_core.specs.Machine.{Happening, Hears, Moves, Replies, Starts, gateway_of, owned_table, started, tick_messages};
@@ -80,6 +81,15 @@ fn told(sends: Vec<Outgoing>, changes: Vec<RouteChange>, notes: Vec<Note>) -> An
         changes: Listed::from_vec(changes),
         notes: Listed::from_vec(notes),
     }
+}
+
+// The cost of an interface in hops, below 16.
+fn cost_at(config: &RouterConfig, iface: usize) -> u8
+    requires { iface < length config.now.interfaces }
+    ensures value { result ≡ cost_at config.now iface }
+    ensures usable { result < infinity }
+{
+    config.interfaces()[iface].cost
 }
 
 // The routes of a router that comes up, and what it answers.
@@ -209,6 +219,15 @@ impl<S: RouteStore> Router<S> {
         }
     }
 
+    // Whether an update has no datagram.
+    fn is_silent(&self, which: Told, now: Moment) -> bool
+        ensures { IsTrue result ↔ (update_of self.now now (Some which) ≡ []) }
+    {
+        self.config.is_quiet()
+            || self.config.interfaces().is_empty()
+            || !has_told(&self.store, which, now)
+    }
+
     // The datagrams of an update.
     fn update(&self, due: Option<Told>, now: Moment) -> Result<Vec<Outgoing>, AllocError>
         ensures spelled { IfOk result (λ sends. AreSpelled (update_of self.now now due) sends.items) }
@@ -218,7 +237,7 @@ impl<S: RouteStore> Router<S> {
         let Some(which) = due else {
             return Ok(Vec::new(self.alloc));
         };
-        if self.config.is_quiet() || !has_told(&self.store, which, now) {
+        if self.is_silent(which, now) {
             return Ok(Vec::new(self.alloc));
         }
         let routes = listed_at(self.alloc, &self.store, now)?;
@@ -279,34 +298,39 @@ impl<S: RouteStore> Router<S> {
     {
         Gateway {
             iface: arrival.iface,
-            cost: self.config.interfaces()[arrival.iface].cost,
+            cost: cost_at(&self.config, arrival.iface),
             from: arrival.source,
             moment: now,
         }
     }
 
     // A Response is heard. Room for a note and a change of each entry is made first.
-    fn hear(&mut self, gateway: &Gateway, response: &Datagram<'_>) -> Result<Answer, AllocError>
-        ensures heard { IfOk result (λ answer. Heard (hearing self.old.config gateway.now response.now.entries self.old.table answer.notes) self.new.table) }
-        ensures state { OnOk result (self.new ≡ record self.old { table = self.new.table; last = gateway.now.now }) }
-        ensures fault { IfOk result (λ answer. answer.fault ≡ None) }
+    fn hear(
+        &mut self,
+        arrival: &Arrival<'_>,
+        response: &Datagram<'_>,
+        now: Moment,
+    ) -> Result<Answer, AllocError>
+        requires { arrival.now.iface < length self.old.config.interfaces }
+        ensures hears { IfOk result (λ answer. Spells Response response.now.entries arrival.entry.now.bytes → Hears self.old now arrival.entry.now answer self.new) }
+        ensures replays { IfOk result (λ answer. Replays (forwards self.old.table) answer.changes (forwards self.new.table)) }
         ensures sends { IfOk result (λ answer. answer.sends ≡ []) }
-        ensures changes { IfOk result (λ answer. answer.changes ≡ changes_of_hearing (hearing self.old.config gateway.now response.now.entries self.old.table answer.notes)) }
         ensures err { OnErr result (self.new ≡ self.old) }
         ensures empty_is_free { response.now.entries ≡ [] → IsOk result }
     {
+        let gateway = self.gateway(arrival, now);
         let entries = response.entries();
         let mut notes = Vec::with_capacity(self.alloc, entries.len())?;
         let mut changes = Vec::with_capacity(self.alloc, entries.len())?;
         hear(
             &mut self.store,
-            gateway,
+            &gateway,
             &self.config,
             entries,
             &mut notes,
             &mut changes,
         );
-        self.last = gateway.moment;
+        self.last = now;
         Ok(told(Vec::new(self.alloc), changes, notes))
     }
 
@@ -331,7 +355,7 @@ impl<S: RouteStore> Router<S> {
             Err(fault) => return Ok(self.refuse(now, fault)),
         };
         match datagram.command() {
-            Command::Response => self.hear(&self.gateway(&arrival, now), &datagram),
+            Command::Response => self.hear(&arrival, &datagram, now),
             Command::Request => self.reply(&arrival, &datagram, now),
         }
     }
