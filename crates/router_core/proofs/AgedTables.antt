@@ -5,7 +5,7 @@ use Rattle.std.specs.FinMap as map
 use Rattle.prefix6.specs.Prefix.{Prefix6}
 use Rattle.prefix6.proofs.PrefixLaws.{prefixes_total, exact_prefixes}
 use Rattle.route_table.specs.Route.{RouteValue}
-use Rattle.route_table.specs.Table.{Table, map_entries, map_values}
+use Rattle.route_table.specs.Table.{ByPrefix, Table, map_entries, map_values}
 use Rattle.route_table.proofs.TableLaws.{get-map_values, entries-map_values}
 use Rattle.router_core.specs.Ageing.{aged, aged_table, without_mark, unmarked}
 use Rattle.router_core.specs.Output.{selected}
@@ -13,15 +13,15 @@ use Rattle.router_core.specs.declared.tell.Told.{Told}
 use Rattle.router_core.specs.Settling.{settled, is_told}
 
 -- one map of values after another is the map of both
-pub map_values-twice : (f g : RouteValue → Option RouteValue) (t : Table) → map_values g (map_values f t) ≡ map_values (λ r. option_and_then g (f r)) t
-map_values-twice f g t =
+pub map_values-twice : {X Y Z : Type 0} (f : X → Option Y) (g : Y → Option Z) (t : ByPrefix X) → map_values g (map_values f t) ≡ map_values (λ x. option_and_then g (f x)) t
+map_values-twice {X = X} f g t =
     map.same_map prefixes_total exact_prefixes _ _ (λ p.
     get-map_values g (map_values f t) p ∙ ap (option_and_then g) (get-map_values f t p) ∙ after (map.get t p)
-    ∙ sym (get-map_values (λ r. option_and_then g (f r)) t p))
+    ∙ sym (get-map_values (λ x. option_and_then g (f x)) t p))
   where
-    after : (o : Option RouteValue) → option_and_then g (option_and_then f o) ≡ option_and_then (λ r. option_and_then g (f r)) o
+    after : (o : Option X) → option_and_then g (option_and_then f o) ≡ option_and_then (λ x. option_and_then g (f x)) o
     after None = refl
-    after (Some r) = refl
+    after (Some x) = refl
 
 -- the table after each route was settled
 pub settled-table : (now : ℕ) (was_told : Bool) (t : Table) → map_values (settled now was_told) t ≡ (if was_told then unmarked (aged_table now t) else aged_table now t)

@@ -41,27 +41,32 @@ flat_map-none : {X Y : Type 0} (f : X → List Y) (xs : List X) → ((x : X) →
 flat_map-none f [] none = refl
 flat_map-none f (x ∷ xs) none = ap (λ l. l ++ flat_map f xs) (none x) ∙ flat_map-none f xs none
 
+-- the MTU of IPv6 leaves room for an entry
+room : (mtu : ℕ) → 1280 ≤ mtu → 0 < entries_for_mtu mtu
+room mtu low = let h : 61 ≤ (mtu - 52) / 20 = le-div 61 (mtu - 52) 20 (omega arith) (omega arith) in omega arith
+
+abbrev response : ℕ → Destination → List Rte → Message
+response iface to entries = record { iface = iface; to = to; command = Response; entries = entries }
+
 module _ (c : Config) (lawful : IsConfig c) where
   -- an MTU leaves room for an entry
   some_room : (i : ℕ) → 0 < entries_for_mtu (mtu_at c i)
   some_room i = by_interface (slice_get c.interfaces i) refl
     where
       by_interface : (o : Option Interface) → slice_get c.interfaces i ≡ o → 0 < entries_for_mtu (mtu_at c i)
-      by_interface None is = subst (λ (m : ℕ). 0 < entries_for_mtu m) (sym (ap (λ o. unwrap_or (option_map (λ (j : Interface). j.mtu) o) 1280) is)) (omega arith)
+      by_interface None is = subst (λ (m : ℕ). 0 < entries_for_mtu m) (sym (ap (λ o. unwrap_or (option_map (λ (j : Interface). j.mtu) o) 1280) is)) (room 1280 (omega arith))
       by_interface (Some x) is =
           let low = mtu_low c lawful i x is in
           subst (λ (m : ℕ). 0 < entries_for_mtu m) (sym (mtu_at-interface c lawful i x is)) (room x.mtu low)
-      room : (mtu : ℕ) → 1280 ≤ mtu → 0 < entries_for_mtu mtu
-      room mtu low = let h : 61 ≤ (mtu - 52) / 20 = le-div 61 (mtu - 52) 20 (omega arith) (omega arith) in omega arith
 
   -- nothing is said on an interface of no entries
   no_responses : (i : ℕ) (to : Destination) → responses c i to [] ≡ []
-  no_responses i to = ap (map (λ piece. record { iface = i; to = to; command = Response; entries = piece })) (pieces-nil (entries_for_mtu (mtu_at c i)) (some_room i))
+  no_responses i to = ap (map (response i to)) (pieces-nil (entries_for_mtu (mtu_at c i)) (some_room i))
 
   -- and something of some
   some_responses : (i : ℕ) (to : Destination) (es : List Rte) → 0 < length es → 0 < length (responses c i to es)
   some_responses i to es some =
-      subst (λ (l : List (List Rte)). 0 < length (map (λ piece. record { iface = i; to = to; command = Response; entries = piece }) l))
+      subst (λ (l : List (List Rte)). 0 < length (map (response i to) l))
       (sym (pieces-cons (entries_for_mtu (mtu_at c i)) (some_room i) es some))
       (omega arith)
 
@@ -88,17 +93,22 @@ module _ (c : Config) (lawful : IsConfig c) where
         let first = some_responses 0 Group (told 0 which t) (something_told some 0) in
         omega (arith, length-append (said (0, x)) (flat_map said (enumerate_from 1 is)))
 
-    -- an update is silent exactly where the router is quiet, has no interface, or has no route to tell
-    pub silent : (c.quiet || (length c.interfaces == 0) || not (list_any (λ e. which e.1) (map_of.entries t))) ≡ true → update_messages c which t ≡ []
-    silent is = by_quiet c.quiet refl (list_any (λ e. which e.1) (map_of.entries t)) refl
+    -- an update of no route has no datagram
+    untold : list_any (λ e. which e.1) (map_of.entries t) ≡ false → update_messages c which t ≡ []
+    untold none = by_quiet c.quiet
       where
-        by_quiet : (b : Bool) → c.quiet ≡ b → (d : Bool) → list_any (λ e. which e.1) (map_of.entries t) ≡ d → cond b [] (flat_map said (enumerate_from 0 c.interfaces)) ≡ []
-        by_quiet true q d told = refl
-        by_quiet false q false told = said-nothing told
-        by_quiet false q true told = let positive = some_interface c lawful in absurd (grind (arith, nat_tests, is, q, told))
+        by_quiet : (b : Bool) → cond b [] (flat_map said (enumerate_from 0 c.interfaces)) ≡ []
+        by_quiet true = refl
+        by_quiet false = said-nothing none
 
-    pub not_silent : c.quiet ≡ false → list_any (λ e. which e.1) (map_of.entries t) ≡ true → update_messages c which t ≡ [] → ⊥
-    not_silent active some none =
+    -- and one of some has one, unless the router is quiet
+    told_is_said : c.quiet ≡ false → list_any (λ e. which e.1) (map_of.entries t) ≡ true → update_messages c which t ≡ [] → ⊥
+    told_is_said active some none =
         let positive = said-something some c.interfaces (some_interface c lawful) in
-        let says : update_messages c which t ≡ flat_map said (enumerate_from 0 c.interfaces) = rw active in
+        let says : update_messages c which t ≡ flat_map said (enumerate_from 0 c.interfaces) = ap (λ b. cond b [] (flat_map said (enumerate_from 0 c.interfaces))) active in
         omega (arith, positive, ap length (sym says ∙ none))
+
+    -- an update of a router that is not quiet has no datagram exactly where there is no route to tell
+    pub is_untold : (some : Bool) → some ≡ list_any (λ e. which e.1) (map_of.entries t) → c.quiet ≡ false → IsTrue (not some) ↔ (update_messages c which t ≡ [])
+    is_untold true is active = (λ h. absurd (cc), λ none. absurd (told_is_said active (sym is) none))
+    is_untold false is active = (λ h. untold (sym is), λ none. refl)

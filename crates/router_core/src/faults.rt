@@ -42,7 +42,10 @@ fn check_response(config: &RouterConfig, arrival: &Arrival<'_>) -> Result<(), Fa
 fn check_asker(arrival: &Arrival<'_>) -> Result<(), Fault>
     ensures { result_err result ≡ first_failing (asker_tests arrival.entry.now) }
 {
-    if arrival.source.is_multicast() || arrival.source.is_unspecified() || arrival.source_port == 0 {
+    if arrival.source.is_multicast()
+        || arrival.source.is_unspecified()
+        || arrival.source_port == 0
+    {
         Err(Fault::BadSource)
     } else {
         Ok(())

@@ -33,10 +33,12 @@ use std::marker::Model;
 
 /// The least time between two regular updates, and by how much a random word makes it longer (RFC 2080, section 2.3).
 const REGULAR_LEAST_MS: u32 = 15_000;
+
 const REGULAR_SPREAD_MS: u32 = 30_001;
 
 /// The least time between two triggered updates, and by how much a random word makes it longer (RFC 2080, section 2.5.1).
 const HOLD_LEAST_MS: u32 = 1_000;
+
 const HOLD_SPREAD_MS: u32 = 4_001;
 
 /// A router over a store of routes.
@@ -93,10 +95,7 @@ fn cost_at(config: &RouterConfig, iface: usize) -> u8
 }
 
 // The routes of a router that comes up, and what it answers.
-fn come_up<S: RouteStore>(
-    alloc: Global,
-    config: &RouterConfig,
-) -> Result<(S, Answer), AllocError>
+fn come_up<S: RouteStore>(alloc: Global, config: &RouterConfig) -> Result<(S, Answer), AllocError>
     ensures owned { IfOk result (λ r. S.table r.0 ≡ owned_table config.now) }
     ensures fault { IfOk result (λ r. r.1.fault ≡ None) }
     ensures sends { IfOk result (λ r. AreSpelled (start_messages config.now) r.1.sends) }
