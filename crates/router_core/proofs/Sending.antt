@@ -65,12 +65,12 @@ count_next n k some more =
     let one : suc q * n ≡ n * q + n = mul_comm (suc q) n ∙ mul-suc n q in
     let two : suc (suc q) * n ≡ n * q + n + n = mul_comm (suc (suc q)) n ∙ mul-suc n (suc q) ∙ ap (λ m. m + n) (mul-suc n q) in
     let fits : n * q + n ≤ k + (n - 1) =
-        elim (cases_lt k n) [
-          | inl below ↦ let none : q < 1 = div_below ((k - n) + (n - 1)) n 1 some (omega arith) in
-              let zeroth : n * q ≡ 0 = ap (λ j. n * j) (omega arith) ∙ mul-zero n in
-              omega arith
-          | inr above ↦ omega arith
-        ] in
+    elim (cases_lt k n) [
+      | inl below ↦ let none : q < 1 = div_below ((k - n) + (n - 1)) n 1 some (omega arith) in
+          let zeroth : n * q ≡ 0 = ap (λ j. n * j) (omega arith) ∙ mul-zero n in
+          omega arith
+      | inr above ↦ omega arith
+    ] in
     let low : suc q ≤ (k + (n - 1)) / n = le-div (suc q) (k + (n - 1)) n some (omega arith) in
     let high : (k + (n - 1)) / n < suc (suc q) = div_below (k + (n - 1)) n (suc (suc q)) some (omega arith) in
     omega arith
@@ -131,8 +131,8 @@ module _ (mtu iface : ℕ) (to : Destination) (some : 0 < entries_for_mtu mtu) w
   response-next all rest piece after old new o more so_far front back on destined spells =
       let n = entries_for_mtu mtu in
       let cut : responses_at mtu iface to rest ≡ response piece ∷ responses_at mtu iface to after =
-          ap (map response) (pieces-cons n some rest more)
-          ∙ ap₂ (λ p ps. response p ∷ map response (pieces n ps)) (sym (front ∙ take_min n rest)) (sym (back ∙ drop_min n rest)) in
+      ap (map response) (pieces-cons n some rest more)
+      ∙ ap₂ (λ p ps. response p ∷ map response (pieces n ps)) (sym (front ∙ take_min n rest)) (sym (back ∙ drop_min n rest)) in
       SpelledTo-next all (responses_at mtu iface to after) old new (response piece) o
       (subst (λ (ms : List Message). SpelledTo all ms old new) cut so_far)
       (record { iface = on; to = destined; bytes = spells })

@@ -13,7 +13,7 @@ loop-rest-preserved c =
     let some : 0 < entries_for_mtu c.args.mtu = omega (arith, c.entries_for_mtu-room.ensures.count, c.entries_for_mtu-room.ensures.least) in
     let o : Outgoing = record { iface = c.args.iface; to = c.args.to; bytes = c.from_vec-bytes.result } in
     let room : c.min.result ≡ min (entries_for_mtu c.args.mtu) (length c.loop-rest.rest.now) =
-        c.min.ensures ∙ ap (λ n. min n (length c.loop-rest.rest.now)) c.entries_for_mtu-room.ensures.count in
+    c.min.ensures ∙ ap (λ n. min n (length c.loop-rest.rest.now)) c.entries_for_mtu-room.ensures.count in
     record {
       so_far =
           rw c.in_ok-push.ensures.items

@@ -34,7 +34,7 @@ loop-iface-preserved c =
     let is : slice_get config.interfaces i ≡ Some x = element_at config.interfaces i x lt (rw c.interfaces-interface-items.ensures.value at c.interface-item.is) in
     let entries : c.deref.result.now ≡ told_of i (selected c.args.which) routes = c.deref.ensures.value ∙ c.in_ok-entries.ensures.value in
     let messages : responses_at x.mtu i Group c.deref.result.now ≡ responses config i Group (told_of i (selected c.args.which) routes) =
-        ap₂ (λ (mtu : ℕ) (es : List Rte). responses_at mtu i Group es) (sym (mtu_at-interface config c.interfaces-interface-items.ensures.lawful i x is)) entries in
+    ap₂ (λ (mtu : ℕ) (es : List Rte). responses_at mtu i Group es) (sym (mtu_at-interface config c.interfaces-interface-items.ensures.lawful i x is)) entries in
     record {
       spelled = AreSpelled-flat_map (λ t. responses config t.0 Group (told_of t.0 (selected c.args.which) routes)) config.interfaces i x
           c.loop-iface.sends.items c.push_responses.new.sends.items is c.loop-iface.invariant.spelled
