@@ -69,7 +69,7 @@ pub fn listed<S: RouteStore>(alloc: Global, store: &S) -> Result<Vec<(Prefix, Ro
 {
     let mut routes = Vec::with_capacity(alloc, store.len())?;
     let mut after = None;
-    for k in 0..store.len() {
+    for _k in 0..store.len() {
         let Some(entry) = store.walk(after) else {
             unreachable!()
         };

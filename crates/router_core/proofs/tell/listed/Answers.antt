@@ -15,7 +15,7 @@ loop-k-preserved g c =
       room = omega (arith, c.push_reserved.ensures.capacity, c.loop-k.invariant.room);
       listed =
           c.push_reserved.ensures.items ∙ ap (λ l. l ++ c.in-Some.entry ∷ []) c.loop-k.invariant.listed
-          ∙ sym (take_next (entries (g.S.RouteStore.table c.args.store.now)) c.loop-k.k c.in-Some.entry here.is);
+          ∙ sym (take_next (entries (g.S.RouteStore.table c.args.store.now)) c.loop-k._k c.in-Some.entry here.is);
     }
 
 pub returns : goal.returns
