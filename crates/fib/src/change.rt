@@ -27,5 +27,7 @@ pub enum RouteChange {
         metric: u8,
     },
     /// Packets to the prefix go nowhere.
-    Withdraw { prefix: Prefix },
+    Withdraw {
+        prefix: Prefix,
+    },
 }
