@@ -12,10 +12,10 @@ use Rattle.std.specs.List.{remove}
 use Rattle.std.proofs.Math.Seq.{get_or-append_seam, set-append_seam, take-append_seam, drop-append-add}
 use Rattle.prefix6.specs.Prefix.{Prefix6, prefix_cmp}
 use Rattle.prefix6.proofs.PrefixLaws.{prefixes_total, exact_prefixes}
-use Rattle.route_table.specs.Place.{IsAt}
+use Rattle.prefix6.specs.Places.{IsAt}
 use Rattle.route_table.specs.Route.{RouteValue}
 use Rattle.route_table.specs.Table.{ByPrefix, Table, map_values, with_value}
-use Rattle.route_table.proofs.SortedEntries.{find_at, put_at, where_at}
+use Rattle.prefix6.proofs.SortedEntries.{find_at, put_at, where_at}
 use Rattle.route_table.proofs.SortedTable.{sorted_without, table_without}
 use Rattle.route_table.proofs.TableLaws.{None-Some, Some-same, get-map_values}
 
