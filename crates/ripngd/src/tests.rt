@@ -120,7 +120,8 @@ fn a_fault_of_the_command_line_is_explained(rt: HostRuntime) {
     let mut err = Vec::new(rt.alloc());
     let status = program(&rt, &["ripngd", "show"], &mut out, &mut err);
     assert_eq!(rt; status, 2);
-    let text = "error: the following required arguments were not provided:\n  <HEX>\n\nUsage: ripngd show <HEX>\n\nFor more information, try '--help'.\n";
+    let text =
+        "error: the following required arguments were not provided:\n  <HEX>\n\nUsage: ripngd show <HEX>\n\nFor more information, try '--help'.\n";
     assert!(rt; err.as_slice() == text.as_bytes());
 }
 
@@ -219,7 +220,11 @@ fn a_failed_write_ends_show(rt: HostRuntime) {
         assert!(rt; writes > 0, "at {hex}");
         for left in 0..writes {
             let mut out = Failing { left };
-            assert_eq!(rt; show(rt.alloc(), hex, &mut out), Err(ShowFault::Write), "after {left} writes");
+            assert_eq!(rt;
+                show(rt.alloc(), hex, &mut out),
+                Err(ShowFault::Write),
+                "after {left} writes"
+            );
         }
     }
 }
@@ -246,7 +251,13 @@ fn a_failed_standard_error_changes_no_status(rt: HostRuntime) {
     let mut none = Failing { left: 0 };
     let mut out = Vec::new(rt.alloc());
     let mut err = Failing { left: 0 };
-    assert_eq!(rt; program(&rt, &["ripngd", "show", "02"], &mut out, &mut err), 1);
+    assert_eq!(rt;
+        program(&rt, &["ripngd", "show", "02"], &mut out, &mut err),
+        1
+    );
     assert_eq!(rt; program(&rt, &["ripngd", "show"], &mut out, &mut err), 2);
-    assert_eq!(rt; program(&rt, &["ripngd", "show", "02"], &mut none, &mut err), 3);
+    assert_eq!(rt;
+        program(&rt, &["ripngd", "show", "02"], &mut none, &mut err),
+        3
+    );
 }
