@@ -1,6 +1,8 @@
 //! The program on two writers: each subcommand with its exit status.
 
-ghost use Rattle.std.specs.Prelude.{◌≤◌};
+ghost use Rattle.std.specs.Prelude.{◌≡◌, ◌≢◌, ◌⊎◌, ◌≤◌, IfOk, Ok, false, map, true};
+ghost use Rattle.clap.specs.Words.{kind_of};
+ghost use Rattle.ripngd.specs.Exit.{AnswersAsk, AnswersWords, AsksForHelp, HasFault};
 
 use crate::asked::Ask;
 use crate::command_line::ask;
@@ -54,15 +56,39 @@ pub fn program<R: AllocGlobal, O: Write, E: Write>(
     out: &mut O,
     err: &mut E,
 ) -> u8
-    ensures { result ≤ 3 }
+    ensures done { result ≡ 0 → AnswersWords (map (λ w. w.now) words.now) true (O.contents out.old) (O.contents out.new)
+        ⊎ AsksForHelp (map (λ w. w.now) words.now) }
+    ensures refused { result ≡ 1
+        → AnswersWords (map (λ w. w.now) words.now) false (O.contents out.old) (O.contents out.new) }
+    ensures usage { result ≡ 2 → HasFault (map (λ w. w.now) words.now) }
+    ensures in_range { result ≤ 3 }
 {
-    let outcome = match ask(rt.alloc(), words) {
-        Ok(asked) => answer(rt, asked, out),
-        Err(error) => explain(&error, out, err),
+    let status = match outcome(rt, words, out, err) {
+        Ok(status) => status,
+        Err(failure) => report(failure, err),
     };
-    let status = outcome.unwrap_or_else(|failure| report(failure, err));
     let _ = err.flush();
     status as u8
+}
+
+/// Does what the words ask for.
+fn outcome<R: AllocGlobal, O: Write, E: Write>(
+    rt: &R,
+    words: &[&str],
+    out: &mut O,
+    err: &mut E,
+) -> Result<Status, Failure>
+    ensures done { result ≡ Ok Status.Done
+        → AnswersWords (map (λ w. w.now) words.now) true (O.contents out.old) (O.contents out.new)
+        ⊎ AsksForHelp (map (λ w. w.now) words.now) }
+    ensures refused { result ≡ Ok Status.Refused
+        → AnswersWords (map (λ w. w.now) words.now) false (O.contents out.old) (O.contents out.new) }
+    ensures usage { result ≡ Ok Status.Usage → HasFault (map (λ w. w.now) words.now) }
+{
+    match ask(rt.alloc(), words) {
+        Ok(asked) => answer(rt, asked, out),
+        Err(error) => explain(&error, out, err),
+    }
 }
 
 /// Does what is asked.
@@ -70,11 +96,17 @@ fn answer<R: AllocGlobal, O: Write>(
     rt: &R,
     asked: Ask<'_>,
     out: &mut O,
-) -> Result<Status, Failure> {
+) -> Result<Status, Failure>
+    ensures done { result ≡ Ok Status.Done → AnswersAsk asked.entry true (O.contents out.old) (O.contents out.new) }
+    ensures refused { result ≡ Ok Status.Refused → AnswersAsk asked.entry false (O.contents out.old) (O.contents out.new) }
+    ensures no_usage { result ≢ Ok Status.Usage }
+{
     let accepted = match asked {
         Ask::Show(hex) => show(rt.alloc(), hex, out)?,
     };
-    out.flush().map_err(|_| Failure::Write)?;
+    if out.flush().is_err() {
+        return Err(Failure::Write);
+    }
     Ok(if accepted {
         Status::Done
     } else {
@@ -87,21 +119,34 @@ fn explain<O: Write, E: Write>(
     error: &clap::Error,
     out: &mut O,
     err: &mut E,
-) -> Result<Status, Failure> {
-    if error.kind() == ErrorKind::OutOfMemory {
-        return Err(Failure::OutOfMemory);
+) -> Result<Status, Failure>
+    ensures done { result ≡ Ok Status.Done → kind_of error.now ≡ ErrorKind.DisplayHelp }
+    ensures usage { result ≡ Ok Status.Usage → kind_of error.now ≢ ErrorKind.OutOfMemory }
+    ensures not_refused { result ≢ Ok Status.Refused }
+{
+    match error.kind() {
+        ErrorKind::OutOfMemory => Err(Failure::OutOfMemory),
+        ErrorKind::DisplayHelp => print(error, out),
+        _ => {
+            let _ = write!(err, "{error}");
+            Ok(Status::Usage)
+        }
     }
-    if error.use_stderr() {
-        let _ = write!(err, "{error}");
-        return Ok(Status::Usage);
-    }
-    write!(out, "{error}").map_err(|_| Failure::Write)?;
+}
+
+/// Writes help that was asked for.
+fn print<O: Write>(help: &clap::Error, out: &mut O) -> Result<Status, Failure>
+    ensures { IfOk result (λ status. status ≡ Status.Done) }
+{
+    write!(out, "{help}").map_err(|_| Failure::Write)?;
     out.flush().map_err(|_| Failure::Write)?;
     Ok(Status::Done)
 }
 
 /// Writes what failed to `err`.
-fn report<E: Write>(failure: Failure, err: &mut E) -> Status {
+fn report<E: Write>(failure: Failure, err: &mut E) -> Status
+    ensures { result ≡ Status.Failed }
+{
     let _ = writeln!(err, "ripngd: {failure}");
     Status::Failed
 }
