@@ -92,11 +92,7 @@ fn outcome<R: AllocGlobal, O: Write, E: Write>(
 }
 
 /// Does what is asked.
-fn answer<R: AllocGlobal, O: Write>(
-    rt: &R,
-    asked: Ask<'_>,
-    out: &mut O,
-) -> Result<Status, Failure>
+fn answer<R: AllocGlobal, O: Write>(rt: &R, asked: Ask<'_>, out: &mut O) -> Result<Status, Failure>
     ensures done { result ≡ Ok Status.Done → AnswersAsk asked.entry true (O.contents out.old) (O.contents out.new) }
     ensures refused { result ≡ Ok Status.Refused → AnswersAsk asked.entry false (O.contents out.old) (O.contents out.new) }
     ensures no_usage { result ≢ Ok Status.Usage }

@@ -1,8 +1,19 @@
 pub mod Vectors
 pub mod HearingSteps
+pub mod HearingLoop
+pub mod NotesKept
 pub mod Replaying
 pub mod Cutting
 pub mod AgeReplaying
 pub mod MovesReplay
 pub mod WholeResponse
+pub mod EachTested
+pub mod ConfigTests
 mod CutPieces
+pub mod Sending
+pub mod ConfigLaws
+pub mod Owning
+mod AgedTables
+mod EmptyRequests
+mod Silence
+mod RouterSteps

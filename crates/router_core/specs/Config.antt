@@ -1,14 +1,23 @@
--- What a router is configured with.
-use Rattle.std.specs.Prelude.{ℕ, ◌==◌, Bool, List, unwrap_or, option_map, slice_get}
-use Rattle.std.specs.List.{list_any}
-use Rattle.prefix6.specs.Prefix.{Prefix6}
+-- What a router is configured with, and which configurations are lawful. The tests, their order and their names are this
+-- project's choice; the ranges are those of RFC 2080, 2.1 and 2.4.2.
+use Rattle.std.specs.Prelude.{◌≡◌, ℕ, ◌==◌, ◌&&◌, not, nat_lt, nat_le, Bool, List, [], ◌∷◌, ◌++◌, length, take, flat_map, Option, None, All, unwrap_or, option_map, slice_get}
+use Rattle.std.specs.List.{list_any, enumerate_from}
+use Rattle.prefix6.specs.Addr.{is_link_local}
+use Rattle.prefix6.specs.Prefix.{Prefix6, IsPrefix, same_prefix, is_routable}
+use Rattle.ripng_wire.specs.Wire.{first_failing}
 use Rattle.route_table.specs.Route.{infinity}
+use Rattle.router_core.specs.declared.config.ConfigRefused.{ConfigRefused}
+use Rattle.router_core.specs.declared.config.ConfigRefused.TheVariants.{NoInterface, TooManyInterfaces, AddressNotLinkLocal, AddressTwice, BadCost, BadMtu, TooManyPrefixes, PrefixTwice, PrefixNotAllowed}
 use Rattle.router_core.specs.declared.config.Interface.{Interface}
+use Rattle.router_core.specs.declared.config.TheConstants.{INTERFACE_LIMIT, OWNED_LIMIT}
 
 pub record Config : Type 0 where
   pub interfaces : List Interface
   pub prefixes : List (Prefix6 × ℕ)  -- with their tags
   pub quiet : Bool
+
+abbrev pub config : List Interface → List (Prefix6 × ℕ) → Bool → Config
+config interfaces prefixes quiet = record { interfaces = interfaces; prefixes = prefixes; quiet = quiet }
 
 -- the cost of an interface; one that is not there reaches nothing
 abbrev pub cost_at : Config → ℕ → ℕ
@@ -17,6 +26,58 @@ cost_at config iface = unwrap_or (option_map (λ i. i.cost) (slice_get config.in
 abbrev pub mtu_at : Config → ℕ → ℕ
 mtu_at config iface = unwrap_or (option_map (λ i. i.mtu) (slice_get config.interfaces iface)) 1280
 
+abbrev pub has_address : List Interface → ℕ → Bool
+has_address interfaces a = list_any (λ i. i.addr == a) interfaces
+
+abbrev pub has_prefix : List (Prefix6 × ℕ) → Prefix6 → Bool
+has_prefix owned p = list_any (λ t. same_prefix t.0 p) owned
+
 -- an address of one of the router's interfaces
 abbrev pub is_own_address : Config → ℕ → Bool
-is_own_address config a = list_any (λ i. i.addr == a) config.interfaces
+is_own_address config a = has_address config.interfaces a
+
+-- ---- which configurations are lawful: each test stands with whether it fails
+
+-- 1 to 15 hops
+abbrev pub is_usable_cost : ℕ → Bool
+is_usable_cost cost = nat_le 1 cost && nat_lt cost infinity
+
+abbrev pub is_usable_mtu : ℕ → Bool
+is_usable_mtu mtu = nat_le 1280 mtu && nat_le mtu 65535
+
+-- the tests of an interface behind earlier ones
+abbrev pub interface_tests : List Interface → Interface → List (Bool × ConfigRefused)
+interface_tests earlier i =
+    (not (is_link_local i.addr), AddressNotLinkLocal)
+    ∷ (has_address earlier i.addr, AddressTwice)
+    ∷ (not (is_usable_cost i.cost), BadCost)
+    ∷ (not (is_usable_mtu i.mtu), BadMtu)
+    ∷ []
+
+-- the tests of an owned prefix behind earlier ones
+abbrev pub prefix_tests : List (Prefix6 × ℕ) → Prefix6 × ℕ → List (Bool × ConfigRefused)
+prefix_tests earlier t =
+    (has_prefix earlier t.0, PrefixTwice)
+    ∷ (not (is_routable t.0), PrefixNotAllowed)
+    ∷ []
+
+-- the tests of each member of a list behind the earlier ones, in order
+abbrev pub each_tested : {X F : Type 0} → (List X → X → List (Bool × F)) → List X → List (Bool × F)
+each_tested tests xs = flat_map (λ t. tests (take t.0 xs) t.1) (enumerate_from 0 xs)
+
+abbrev pub config_tests : Config → List (Bool × ConfigRefused)
+config_tests c =
+    (length c.interfaces == 0, NoInterface)
+    ∷ (nat_lt INTERFACE_LIMIT (length c.interfaces), TooManyInterfaces)
+    ∷ each_tested interface_tests c.interfaces
+    ++ (nat_lt OWNED_LIMIT (length c.prefixes), TooManyPrefixes)
+    ∷ each_tested prefix_tests c.prefixes
+
+-- the first test that fails
+abbrev pub config_fault : Config → Option ConfigRefused
+config_fault c = first_failing (config_tests c)
+
+-- a configuration that fails no test, of prefixes that are prefixes
+pub record IsConfig (c : Config) : Type 0 where
+  pub passes : config_fault c ≡ None
+  pub prefixes : All (λ t. IsPrefix t.0) c.prefixes

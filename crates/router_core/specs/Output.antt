@@ -17,6 +17,8 @@ use Rattle.router_core.specs.Received.{Received}
 use Rattle.router_core.specs.declared.answer.Destination.{Destination}
 use Rattle.router_core.specs.declared.answer.Destination.TheVariants.{Group, Peer}
 use Rattle.router_core.specs.declared.answer.Outgoing.{Outgoing}
+use Rattle.router_core.specs.declared.tell.Told.{Told}
+use Rattle.router_core.specs.declared.tell.Told.TheVariants.{Every, Changed}
 
 abbrev pub is_learned_on : ℕ → Origin → Bool
 is_learned_on iface Own = false
@@ -32,15 +34,24 @@ told_entry iface t =
       metric = if is_learned_on iface t.1.origin then infinity else t.1.metric;
     }
 
+-- what is told on an interface of those routes of a list
+abbrev pub told_of : ℕ → (RouteValue → Bool) → List (Prefix6 × RouteValue) → List Rte
+told_of iface which routes = map (told_entry iface) (filter (λ t. which t.1) routes)
+
 -- what is told on an interface of those routes of a table
 abbrev pub told : ℕ → (RouteValue → Bool) → Table → List Rte
-told iface which table = map (told_entry iface) (filter (λ t. which t.1) (map_of.entries table))
+told iface which table = told_of iface which (map_of.entries table)
 
 abbrev pub every_route : RouteValue → Bool
 every_route r = true
 
 abbrev pub is_changed : RouteValue → Bool
 is_changed r = r.changed
+
+-- the routes that an update tells
+abbrev pub selected : Told → RouteValue → Bool
+selected Every = every_route
+selected Changed = is_changed
 
 -- 0, 1, .., n - 1
 abbrev pub numbers_below : ℕ → List ℕ
@@ -77,11 +88,14 @@ pub record Message : Type 0 where
   pub command : Command
   pub entries : List Rte
 
--- a list as Responses, each of what the interface's MTU leaves room for
-abbrev pub responses : Config → ℕ → Destination → List Rte → List Message
-responses config iface to entries =
+-- a list as Responses, each of what the MTU of an interface leaves room for
+abbrev pub responses_at : ℕ → ℕ → Destination → List Rte → List Message
+responses_at mtu iface to entries =
     map (λ piece. record { iface = iface; to = to; command = Response; entries = piece })
-    (pieces (entries_for_mtu (mtu_at config iface)) entries)
+    (pieces (entries_for_mtu mtu) entries)
+
+abbrev pub responses : Config → ℕ → Destination → List Rte → List Message
+responses config iface to entries = responses_at (mtu_at config iface) iface to entries
 
 -- the Requests of a router that comes up
 abbrev pub start_messages : Config → List Message
@@ -112,3 +126,9 @@ AreSpelled [] [] = Unit {0}
 AreSpelled (m ∷ ms) (o ∷ os) = IsSpelled m o × AreSpelled ms os
 AreSpelled [] (o ∷ os) = ⊥
 AreSpelled (m ∷ ms) [] = ⊥
+
+-- datagrams that spell the messages stand behind the old ones
+pub record AddsSpelled (messages : List Message) (old new : List Outgoing) : Type 0 where
+  pub added : List Outgoing
+  pub behind : new ≡ old ++ added
+  pub spelled : AreSpelled messages added

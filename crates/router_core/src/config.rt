@@ -1,9 +1,13 @@
 //! What a router is configured with: its interfaces, the prefixes that it owns, and whether it keeps quiet.
 
-ghost use Rattle.std.specs.Prelude.{◌≡◌};
-ghost use Rattle.router_core.specs.Config.{is_own_address};
+ghost use Rattle.std.specs.Prelude.{◌≡◌, All, Bool, IfOk, OnOk};
+ghost use Rattle.std.specs.Result.{result_err};
+ghost use Rattle.prefix6.specs.Prefix.{IsPrefix};
+ghost use Rattle.ripng_wire.specs.Wire.{first_failing};
+ghost use Rattle.router_core.specs.Config.{IsConfig, config, config_fault, each_tested, interface_tests, prefix_tests, is_own_address, has_address, has_prefix, is_usable_cost, is_usable_mtu};
 
 use prefix6::{Addr6, Prefix};
+use route_table::INFINITY;
 use std::marker::Model;
 
 /// An interface of a router.
@@ -17,6 +21,37 @@ pub struct Interface {
     pub mtu: u32,
 }
 
+/// The most interfaces of a router.
+pub const INTERFACE_LIMIT: usize = 16;
+
+/// The most prefixes that a router owns. Each fits its table.
+pub const OWNED_LIMIT: usize = 256;
+
+const _: () = prove!(OWNED_LIMIT <= route_table::TABLE_LIMIT);
+
+/// Why a configuration is refused: the first test that it fails, in this order.
+#[derive(Clone, Copy, Debug, PartialEq, Eq)]
+pub enum ConfigRefused {
+    /// 1: it has no interface.
+    NoInterface,
+    /// 2: it has more than `INTERFACE_LIMIT` interfaces.
+    TooManyInterfaces,
+    /// 3: the address of an interface is not link-local.
+    AddressNotLinkLocal,
+    /// 4: the address of an interface is that of an earlier one.
+    AddressTwice,
+    /// 5: the cost of an interface is not 1 to 15 hops.
+    BadCost,
+    /// 6: the MTU of an interface is not 1,280 to 65,535 bytes.
+    BadMtu,
+    /// 7: it has more than `OWNED_LIMIT` prefixes.
+    TooManyPrefixes,
+    /// 8: a prefix is an earlier one.
+    PrefixTwice,
+    /// 9: a prefix is multicast or link-local.
+    PrefixNotAllowed,
+}
+
 /// A lawful configuration.
 #[derive(Drop)]
 pub struct RouterConfig {
@@ -26,7 +61,7 @@ pub struct RouterConfig {
 }
 
 impl Model for RouterConfig {
-    ghost use Rattle.router_core.specs.Config.{Config};
+    ghost use Rattle.router_core.specs.Config.{Config, IsConfig};
 
     ghost Value = { Config };
 
@@ -35,19 +70,147 @@ impl Model for RouterConfig {
       prefixes = c.prefixes.items;
       quiet = c.quiet;
     } };
+
+    ghost invariant = { λ c. IsConfig (record {
+      interfaces = c.interfaces.items;
+      prefixes = c.prefixes.items;
+      quiet = c.quiet;
+    }) };
+}
+
+// Whether one of the interfaces has the address.
+fn has_address(interfaces: &[Interface], addr: Addr6) -> bool
+    ensures { result ≡ has_address interfaces.now addr }
+{
+    interfaces.iter().any(|i| i.addr == addr)
+}
+
+// Whether the prefix is one of those that are owned.
+fn has_prefix(owned: &[(Prefix, u16)], prefix: Prefix) -> bool
+    ensures { result ≡ has_prefix owned.now prefix }
+{
+    owned.iter().any(|(p, _)| p.addr() == prefix.addr() && p.len() == prefix.len())
+}
+
+// Whether a route over it may be usable.
+fn is_usable_cost(cost: u8) -> bool
+    ensures { result ≡ is_usable_cost cost }
+{
+    1 <= cost && cost < INFINITY
+}
+
+// Whether packets of IPv6 fit, and lengths their fields.
+fn is_usable_mtu(mtu: u32) -> bool
+    ensures { result ≡ is_usable_mtu mtu }
+{
+    1280 <= mtu && mtu <= 65_535
+}
+
+// The first test that an interface behind earlier ones fails.
+fn check_interface(earlier: &[Interface], interface: &Interface) -> Result<(), ConfigRefused>
+    ensures { result_err result ≡ first_failing (interface_tests earlier.now interface.now) }
+{
+    if !interface.addr.is_link_local() {
+        Err(ConfigRefused::AddressNotLinkLocal)
+    } else if has_address(earlier, interface.addr) {
+        Err(ConfigRefused::AddressTwice)
+    } else if !is_usable_cost(interface.cost) {
+        Err(ConfigRefused::BadCost)
+    } else if !is_usable_mtu(interface.mtu) {
+        Err(ConfigRefused::BadMtu)
+    } else {
+        Ok(())
+    }
+}
+
+// The first test that an interface fails.
+fn check_interfaces(interfaces: &[Interface]) -> Result<(), ConfigRefused>
+    ensures { result_err result ≡ first_failing (each_tested interface_tests interfaces.now) }
+{
+    for (place, interface) in interfaces.iter().enumerate() {
+        check_interface(&interfaces[..place], interface)?;
+    }
+    Ok(())
+}
+
+// The first test that an owned prefix behind earlier ones fails.
+fn check_prefix(earlier: &[(Prefix, u16)], owned: &(Prefix, u16)) -> Result<(), ConfigRefused>
+    ensures fault { result_err result ≡ first_failing (prefix_tests earlier.now owned.now) }
+    ensures prefix { OnOk result (IsPrefix owned.now.0) }
+{
+    if has_prefix(earlier, owned.0) {
+        Err(ConfigRefused::PrefixTwice)
+    } else if !owned.0.is_routable() {
+        Err(ConfigRefused::PrefixNotAllowed)
+    } else {
+        Ok(())
+    }
+}
+
+// The first test that an owned prefix fails.
+fn check_prefixes(prefixes: &[(Prefix, u16)]) -> Result<(), ConfigRefused>
+    ensures fault { result_err result ≡ first_failing (each_tested prefix_tests prefixes.now) }
+    ensures prefixes { OnOk result (All (λ t. IsPrefix t.0) prefixes.now) }
+{
+    for (place, owned) in prefixes.iter().enumerate() {
+        check_prefix(&prefixes[..place], owned)?;
+    }
+    Ok(())
+}
+
+// The first test that interfaces and owned prefixes fail.
+fn check_lists(interfaces: &[Interface], prefixes: &[(Prefix, u16)]) -> Result<(), ConfigRefused>
+    ensures fault { (quiet : Bool) → result_err result ≡ config_fault (config interfaces.now prefixes.now quiet) }
+    ensures prefixes { OnOk result (All (λ t. IsPrefix t.0) prefixes.now) }
+{
+    if interfaces.is_empty() {
+        return Err(ConfigRefused::NoInterface);
+    }
+    if interfaces.len() > INTERFACE_LIMIT {
+        return Err(ConfigRefused::TooManyInterfaces);
+    }
+    check_interfaces(interfaces)?;
+    if prefixes.len() > OWNED_LIMIT {
+        return Err(ConfigRefused::TooManyPrefixes);
+    }
+    check_prefixes(prefixes)
 }
 
 impl RouterConfig {
+    /// A configuration of these interfaces and owned prefixes, each with its route tag; a quiet router only listens, and
+    /// answers askers that are no routers. Takes no memory.
+    ///
+    /// # Errors
+    /// The first test that fails; what was given is dropped.
+    pub fn check(
+        interfaces: Vec<Interface>,
+        prefixes: Vec<(Prefix, u16)>,
+        is_quiet: bool,
+    ) -> Result<RouterConfig, ConfigRefused>
+        ensures refused { result_err result ≡ config_fault (config interfaces.items prefixes.items is_quiet) }
+        ensures kept { IfOk result (λ c. c ≡ config interfaces.items prefixes.items is_quiet) }
+        ensures lawful { IfOk result IsConfig }
+    {
+        check_lists(&interfaces, &prefixes)?;
+        Ok(RouterConfig {
+            interfaces,
+            prefixes,
+            quiet: is_quiet,
+        })
+    }
+
     /// The interfaces, numbered from 0.
     pub fn interfaces(&self) -> &[Interface]
-        ensures { result.now ≡ self.now.interfaces }
+        ensures value { result.now ≡ self.now.interfaces }
+        ensures lawful { IsConfig self.now }
     {
         &self.interfaces
     }
 
     /// The owned prefixes with their route tags.
     pub fn prefixes(&self) -> &[(Prefix, u16)]
-        ensures { result.now ≡ self.now.prefixes }
+        ensures value { result.now ≡ self.now.prefixes }
+        ensures lawful { IsConfig self.now }
     {
         &self.prefixes
     }
@@ -63,6 +226,6 @@ impl RouterConfig {
     pub fn is_own_address(&self, addr: Addr6) -> bool
         ensures { result ≡ is_own_address self.now addr }
     {
-        self.interfaces.iter().any(|i| i.addr == addr)
+        has_address(&self.interfaces, addr)
     }
 }

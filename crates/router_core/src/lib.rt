@@ -2,14 +2,27 @@
 //! restarts go in; datagrams, route changes and notes on what was refused come out.
 #![tactic(auto)]
 
+mod adopt;
+mod age;
 mod answer;
 mod arrival;
 mod config;
+mod cut;
+mod entries;
+mod faults;
+mod forwarding;
+mod hear;
 mod laws;
 mod listed;
+mod reply;
+mod router;
+mod start;
+mod tell;
+mod ticking;
 
 pub use answer::{Answer, Destination, Note, NoteKind, Outgoing};
 pub use arrival::{Arrival, Fault};
-pub use config::{Interface, RouterConfig};
+pub use config::{ConfigRefused, INTERFACE_LIMIT, Interface, OWNED_LIMIT, RouterConfig};
 pub use laws::{changes_replay, held_is_size, pieces_join, start_replays};
 pub use listed::Listed;
+pub use router::Router;

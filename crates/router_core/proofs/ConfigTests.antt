@@ -1,0 +1,35 @@
+-- Which test of a configuration fails first, by the part that it tests.
+use Rattle.std.proofs.Common.{◌≡◌, ◌==◌, nat_lt, true, false, cond, ◌∷◌, ◌++◌, length, Option, Some, None, ap, ◌∙◌}
+use Rattle.ripng_wire.specs.Wire.{first_failing}
+use Rattle.router_core.specs.Config.{Config, each_tested, interface_tests, prefix_tests, config_fault}
+use Rattle.router_core.specs.declared.config.ConfigRefused.{ConfigRefused}
+use Rattle.router_core.specs.declared.config.ConfigRefused.TheVariants.{NoInterface, TooManyInterfaces, TooManyPrefixes}
+use Rattle.router_core.specs.declared.config.TheConstants.{INTERFACE_LIMIT, OWNED_LIMIT}
+use Rattle.router_core.proofs.EachTested.{first_failing-append, first_failing-found}
+
+-- a lawful number of interfaces
+module _ (c : Config) (some : (length c.interfaces == 0) ≡ false) (few : nat_lt INTERFACE_LIMIT (length c.interfaces) ≡ false) where
+  abbrev behind_interfaces : Option ConfigRefused
+  behind_interfaces = first_failing ((nat_lt OWNED_LIMIT (length c.prefixes), TooManyPrefixes) ∷ each_tested prefix_tests c.prefixes)
+
+  abbrev behind_counts : Option ConfigRefused
+  behind_counts = first_failing (each_tested interface_tests c.interfaces ++ (nat_lt OWNED_LIMIT (length c.prefixes), TooManyPrefixes) ∷ each_tested prefix_tests c.prefixes)
+
+  counts_pass : config_fault c ≡ behind_counts
+  counts_pass =
+      ap (λ b. cond b (Some NoInterface) (cond (nat_lt INTERFACE_LIMIT (length c.interfaces)) (Some TooManyInterfaces) behind_counts)) some
+      ∙ ap (λ b. cond b (Some TooManyInterfaces) behind_counts) few
+
+  pub by_interfaces : (why : ConfigRefused) → first_failing (each_tested interface_tests c.interfaces) ≡ Some why → config_fault c ≡ Some why
+  by_interfaces why fails = counts_pass ∙ first_failing-found (each_tested interface_tests c.interfaces) _ why fails
+
+  -- interfaces that pass
+  module _ (pass : first_failing (each_tested interface_tests c.interfaces) ≡ None) where
+    interfaces_pass : config_fault c ≡ behind_interfaces
+    interfaces_pass = counts_pass ∙ first_failing-append (each_tested interface_tests c.interfaces) _ pass
+
+    pub by_count : nat_lt OWNED_LIMIT (length c.prefixes) ≡ true → config_fault c ≡ Some TooManyPrefixes
+    by_count many = interfaces_pass ∙ ap (λ b. cond b (Some TooManyPrefixes) (first_failing (each_tested prefix_tests c.prefixes))) many
+
+    pub by_prefixes : nat_lt OWNED_LIMIT (length c.prefixes) ≡ false → config_fault c ≡ first_failing (each_tested prefix_tests c.prefixes)
+    by_prefixes fit = interfaces_pass ∙ ap (λ b. cond b (Some TooManyPrefixes) (first_failing (each_tested prefix_tests c.prefixes))) fit

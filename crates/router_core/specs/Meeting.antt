@@ -1,0 +1,51 @@
+-- What one offer does to a table.
+use Rattle.std.specs.Prelude.{ℕ, nat_le, Bool, ◌&&◌, if◌then◌else◌, Option, is_none, is_some}
+use Rattle.std.specs.FinMap as map_of
+use Rattle.prefix6.specs.Prefix.{Prefix6}
+use Rattle.fib.specs.declared.change.RouteChange.{RouteChange}
+use Rattle.ripng_wire.specs.declared.rte.Rte.{Rte}
+use Rattle.route_table.specs.Route.{RouteValue}
+use Rattle.route_table.specs.Table.{Table, table_limit, with_value}
+use Rattle.router_core.specs.Adoption.{Gateway, adopted}
+use Rattle.router_core.specs.Changes.{change}
+use Rattle.router_core.specs.Offers.{Offer, prefix_named}
+use Rattle.router_core.specs.declared.answer.NoteKind.{NoteKind}
+use Rattle.router_core.specs.declared.answer.NoteKind.TheVariants.{TableFull, NoMemory}
+
+-- an offer for a prefix comes from a gateway to a table
+pub record Meeting : Type 0 where
+  pub gateway : Gateway
+  pub offer : Offer
+  pub prefix : Prefix6
+  pub table : Table
+
+abbrev pub meeting : Gateway → Offer → Prefix6 → Table → Meeting
+meeting g o p table = record { gateway = g; offer = o; prefix = p; table = table }
+
+-- that of an entry at its place, by the next hop that is set there
+abbrev pub entry_meeting : Gateway → Rte → ℕ → ℕ → Table → Meeting
+entry_meeting g e next_hop place table =
+    meeting g (record { metric = e.metric; tag = e.tag; next_hop = next_hop; place = place }) (prefix_named e) table
+
+-- the routes to the prefix before and after
+abbrev pub held : Meeting → Option RouteValue
+held m = map_of.get m.table m.prefix
+
+abbrev pub met : Meeting → Option RouteValue
+met m = adopted m.gateway (held m) m.offer
+
+-- the table after it
+abbrev pub table_met : Meeting → Table
+table_met m = with_value m.table m.prefix (met m)
+
+-- what it changes in the forwarding table
+abbrev pub change_met : Meeting → Option RouteChange
+change_met m = change m.prefix (held m) (met m)
+
+-- the offer is for a first route to the prefix
+abbrev pub adds : Meeting → Bool
+adds m = is_none (held m) && is_some (met m)
+
+-- why a first route is refused: the table is full, or else memory was wanting
+abbrev pub refusal_of_new : Table → NoteKind
+refusal_of_new table = if nat_le table_limit (map_of.len table) then TableFull else NoMemory

@@ -1,0 +1,53 @@
+//! What the forwarding table is told of a router's routes: the changes of its entries.
+
+ghost use Rattle.std.specs.Prelude.{◌≡◌, option_map, option_and_then};
+ghost use Rattle.router_core.specs.Changes.{hop_of, forward, change};
+
+use fib::{Hop, RouteChange};
+use prefix6::Prefix;
+use route_table::{INFINITY, Origin, Route};
+
+// Where packets go by a route.
+fn hop_of(origin: Origin) -> Hop
+    ensures { result ≡ hop_of origin }
+{
+    match origin {
+        Origin::Own => Hop::Direct,
+        Origin::Learned {
+            iface,
+            next_hop,
+            ..
+        } => Hop::Via { iface, next_hop },
+    }
+}
+
+// Hop and metric of a route that is not unreachable.
+fn forward(route: Option<Route>) -> Option<(Hop, u8)>
+    ensures { result ≡ option_map (λ f. (f.hop, f.metric)) (option_and_then forward route) }
+{
+    let route = route?;
+    if route.metric() < INFINITY {
+        Some((hop_of(route.origin()), route.metric()))
+    } else {
+        None
+    }
+}
+
+/// The change of a prefix's forwarding entry from one route to another, if the entry differs.
+pub fn change(prefix: Prefix, old: Option<Route>, new: Option<Route>) -> Option<RouteChange>
+    ensures { result ≡ change prefix old new }
+{
+    let before = forward(old);
+    let after = forward(new);
+    if before == after {
+        return None;
+    }
+    match after {
+        Some((hop, metric)) => Some(RouteChange::Install {
+            prefix,
+            hop,
+            metric,
+        }),
+        None => Some(RouteChange::Withdraw { prefix }),
+    }
+}

@@ -1,0 +1,126 @@
+//! A Response is heard: its entries in order, each meeting the routes that those before it left (RFC 2080, section
+//! 2.4.2).
+
+ghost use Rattle.std.specs.Prelude.{◌≡◌, ◌<◌, ◌≤◌, ◌↔◌, [], IsTrue, IsSome, None, false, unwrap_or, IfOk, IfErr, OnOk, OnErr, length};
+ghost use Rattle.std.specs.Vec.{vec_capacity};
+ghost use Rattle.std.specs.FinMap as map_of;
+ghost use Rattle.route_table.specs.Table.{table_limit};
+ghost use Rattle.router_core.specs.Changes.{changes_of_hearing};
+ghost use Rattle.router_core.specs.Hearing.{Heard, hearing};
+ghost use Rattle.router_core.specs.Meeting.{meeting, entry_meeting, table_met, change_met, adds, refusal_of_new};
+ghost use Rattle.router_core.specs.Offers.{flaw};
+
+use crate::adopt::{Gateway, Offer};
+use crate::answer::{Note, NoteKind};
+use crate::config::RouterConfig;
+use crate::entries::{judge, usable_hop};
+use crate::forwarding::change;
+use fib::RouteChange;
+use prefix6::{Addr6, Prefix};
+use ripng_wire::{NEXT_HOP_METRIC, Rte, Rtes};
+use route_table::{AddRefused, Route, RouteStore};
+
+// Puts a route in the place of the old one, or adds it where there is none.
+fn place<S: RouteStore>(
+    store: &mut S,
+    prefix: Prefix,
+    is_held: bool,
+    route: Route,
+) -> Result<(), NoteKind>
+    requires held { IsTrue is_held ↔ IsSome (map_of.get (S.table store.old) prefix) }
+    ensures placed { OnOk result (S.table store.new ≡ map_of.insert (S.table store.old) prefix route) }
+    ensures kept { OnErr result (S.table store.new ≡ S.table store.old) }
+    ensures new { OnErr result (is_held ≡ false) }
+    ensures refusal { IfErr result (λ kind. kind ≡ refusal_of_new (S.table store.old)) }
+    ensures room { OnOk result (is_held ≡ false → map_of.len (S.table store.old) < table_limit) }
+{
+    if is_held {
+        store.replace(&prefix, route);
+        return Ok(());
+    }
+    match store.add(prefix, route) {
+        Ok(()) => Ok(()),
+        Err(AddRefused::Full) => Err(NoteKind::TableFull),
+        Err(AddRefused::NoMemory) => Err(NoteKind::NoMemory),
+    }
+}
+
+// One offer meets the routes: the change that it makes, or why its first route to a prefix is refused.
+fn meet<S: RouteStore>(
+    store: &mut S,
+    gateway: &Gateway,
+    prefix: Prefix,
+    offer: &Offer,
+) -> Result<Option<RouteChange>, NoteKind>
+    ensures table { OnOk result (S.table store.new ≡ table_met (meeting gateway.now offer.now prefix (S.table store.old))) }
+    ensures change { IfOk result (λ c. c ≡ change_met (meeting gateway.now offer.now prefix (S.table store.old))) }
+    ensures room { OnOk result (IsTrue (adds (meeting gateway.now offer.now prefix (S.table store.old)))
+        → map_of.len (S.table store.old) < table_limit) }
+    ensures kept { OnErr result (S.table store.new ≡ S.table store.old) }
+    ensures new { OnErr result (IsTrue (adds (meeting gateway.now offer.now prefix (S.table store.old)))) }
+    ensures refusal { IfErr result (λ kind. kind ≡ refusal_of_new (S.table store.old)) }
+{
+    let old = store.get(&prefix);
+    let new = gateway.adopt(old, offer);
+    if let Some(route) = new {
+        place(store, prefix, old.is_some(), route)?;
+    }
+    Ok(change(prefix, old, new))
+}
+
+// One entry that is no next hop entry: the change that its offer makes, or why it is skipped.
+fn hear_entry<S: RouteStore>(
+    store: &mut S,
+    gateway: &Gateway,
+    entry: &Rte,
+    next_hop: Addr6,
+    place: usize,
+) -> Result<Option<RouteChange>, NoteKind>
+    ensures sound { OnOk result (flaw entry.now ≡ None) }
+    ensures table { OnOk result (S.table store.new ≡ table_met (entry_meeting gateway.now entry.now next_hop place (S.table store.old))) }
+    ensures change { IfOk result (λ c. c ≡ change_met (entry_meeting gateway.now entry.now next_hop place (S.table store.old))) }
+    ensures room { OnOk result (IsTrue (adds (entry_meeting gateway.now entry.now next_hop place (S.table store.old)))
+        → map_of.len (S.table store.old) < table_limit) }
+    ensures kept { OnErr result (S.table store.new ≡ S.table store.old) }
+    ensures refusal { IfErr result (λ kind. kind ≡ unwrap_or (flaw entry.now) (refusal_of_new (S.table store.old))) }
+    ensures new { OnErr result (flaw entry.now ≡ None → IsTrue (adds (entry_meeting gateway.now entry.now next_hop place (S.table store.old)))) }
+{
+    let prefix = judge(entry)?;
+    let offer = Offer {
+        metric: entry.metric,
+        tag: entry.tag,
+        next_hop,
+        place,
+    };
+    meet(store, gateway, prefix, &offer)
+}
+
+/// All entries of a Response, in order. There is room for a note and for a change for each.
+pub fn hear<S: RouteStore>(
+    store: &mut S,
+    gateway: &Gateway,
+    config: &RouterConfig,
+    entries: Rtes<'_>,
+    notes: &mut Vec<Note>,
+    changes: &mut Vec<RouteChange>,
+)
+    requires no_notes { notes.old.items ≡ [] }
+    requires no_changes { changes.old.items ≡ [] }
+    requires notes_room { length entries ≤ vec_capacity notes.old }
+    requires changes_room { length entries ≤ vec_capacity changes.old }
+    ensures heard { Heard (hearing config.now gateway.now entries.entry (S.table store.old) notes.new.items) (S.table store.new) }
+    ensures changed { changes.new.items ≡ changes_of_hearing (hearing config.now gateway.now entries.entry (S.table store.old) notes.new.items) }
+{
+    let mut next_hop = gateway.from;
+    for (place, entry) in entries.enumerate() {
+        if entry.metric == NEXT_HOP_METRIC {
+            next_hop = usable_hop(config, gateway.from, &entry);
+            continue;
+        }
+        match hear_entry(store, gateway, &entry, next_hop, place) {
+            Ok(None) => {}
+            Ok(Some(change)) => changes.push_reserved(change),
+            Err(kind) => notes.push_reserved(Note { entry: place, kind }),
+        }
+    }
+}

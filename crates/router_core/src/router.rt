@@ -1,0 +1,391 @@
+//! A router over any store of routes: the step of RIPng (RFC 2080, sections 2.3 to 2.5).
+
+ghost use Rattle.std.specs.Prelude.{◌≡◌, ◌<◌, ◌≤◌, ◌*◌, ◌↔◌, max, [], IsTrue, None, Some, IsSome, IsOk, IfOk, OnOk, OnErr, length};
+ghost use Rattle.std.specs.FinMap as map_of;
+ghost use Rattle.fib.specs.Forwarding.{Replays};
+ghost use Rattle.ripng_wire.specs.Layout.{Spells};
+ghost use Rattle.ripng_wire.specs.declared.rte.Command.TheVariants.{Request, Response};
+ghost use Rattle.route_table.specs.Route.{infinity};
+ghost use Rattle.router_core.specs.Changes.{forwards, changes_of_ageing, changes_of_hearing, changes_of_start};
+ghost use Rattle.router_core.specs.Config.{cost_at};
+ghost use Rattle.router_core.specs.Faults.{fault};
+ghost use Rattle.router_core.specs.Hearing.{Heard, hearing};
+ghost use Rattle.router_core.specs.Machine.{Happening, Hears, Moves, Replies, Starts, gateway_of, owned_table, started, tick_messages};
+ghost use Rattle.router_core.specs.Output.{AreSpelled, start_messages};
+ghost use Rattle.router_core.specs.Updates.{update_due, update_of, regular_after, hold_after, entries_in};
+
+use crate::adopt::Gateway;
+use crate::answer::{Answer, Note, Outgoing};
+use crate::arrival::{Arrival, Fault};
+use crate::config::RouterConfig;
+use crate::faults::{accept, fault_of};
+use crate::hear::hear;
+use crate::listed::Listed;
+use crate::reply::reply;
+use crate::start::{changes_of_start, owned_routes, requests};
+use crate::tell::{Told, listed_at, updates};
+use crate::ticking::{changes_of_ageing, has_told, settle_all};
+use fib::RouteChange;
+use ripng_wire::{Command, Datagram};
+use route_table::{Deadline, Moment, RouteStore};
+use std::alloc::{AllocError, Global};
+use std::marker::Model;
+
+/// The least time between two regular updates, and by how much a random word makes it longer (RFC 2080, section 2.3).
+const REGULAR_LEAST_MS: u32 = 15_000;
+
+const REGULAR_SPREAD_MS: u32 = 30_001;
+
+/// The least time between two triggered updates, and by how much a random word makes it longer (RFC 2080, section 2.5.1).
+const HOLD_LEAST_MS: u32 = 1_000;
+
+const HOLD_SPREAD_MS: u32 = 4_001;
+
+/// A router over a store of routes.
+#[derive(Drop)]
+pub struct Router<S: RouteStore> {
+    config: RouterConfig,
+    store: S,
+    last: Moment,
+    regular: Deadline,
+    hold: Deadline,
+    alloc: Global,
+}
+
+impl<S: RouteStore> Model for Router<S> {
+    ghost use Rattle.std.specs.Coded.{codes};
+    ghost use Rattle.std.specs.FinMap as map_of;
+    ghost use Rattle.prefix6.specs.Prefix.{prefix_cmp};
+    ghost use Rattle.prefix6.specs.contracts.prefix.Prefix as prefix;
+    ghost use Rattle.route_table.specs.contracts.route.Route as route;
+    ghost use Rattle.router_core.specs.Machine.{State};
+
+    ghost Value = { State };
+
+    ghost coded = { Prim.hlevel (codes, map_of.code {R = prefix_cmp} prefix.the_row.coded route.the_row.coded) };
+
+    ghost view = { λ r. record {
+      config = r.config;
+      table = S.table r.store;
+      last = r.last;
+      regular = r.regular;
+      hold = r.hold;
+    } };
+}
+
+// An answer with no fault.
+fn told(sends: Vec<Outgoing>, changes: Vec<RouteChange>, notes: Vec<Note>) -> Answer
+    ensures { result ≡ record { fault = None; sends = sends.items; changes = changes.items; notes = notes.items } }
+{
+    Answer {
+        fault: None,
+        sends: Listed::from_vec(sends),
+        changes: Listed::from_vec(changes),
+        notes: Listed::from_vec(notes),
+    }
+}
+
+// The cost of an interface in hops, below 16.
+fn cost_at(config: &RouterConfig, iface: usize) -> u8
+    requires { iface < length config.now.interfaces }
+    ensures value { result ≡ cost_at config.now iface }
+    ensures usable { result < infinity }
+{
+    config.interfaces()[iface].cost
+}
+
+// The routes of a router that comes up, and what it answers.
+fn come_up<S: RouteStore>(alloc: Global, config: &RouterConfig) -> Result<(S, Answer), AllocError>
+    ensures owned { IfOk result (λ r. S.table r.0 ≡ owned_table config.now) }
+    ensures fault { IfOk result (λ r. r.1.fault ≡ None) }
+    ensures sends { IfOk result (λ r. AreSpelled (start_messages config.now) r.1.sends) }
+    ensures few { IfOk result (λ r. length r.1.sends ≤ length config.now.interfaces) }
+    ensures changes { IfOk result (λ r. r.1.changes ≡ changes_of_start (owned_table config.now)) }
+    ensures notes { IfOk result (λ r. r.1.notes ≡ []) }
+{
+    let sends = requests(alloc, config)?;
+    let store = owned_routes(alloc, config)?;
+    let changes = changes_of_start(alloc, &store)?;
+    Ok((store, told(sends, changes, Vec::new(alloc))))
+}
+
+impl<S: RouteStore> Router<S> {
+    /// A router comes up: it owns its prefixes alone, has its first regular update due and no triggered one held, and
+    /// asks its neighbors for their tables unless it is quiet.
+    ///
+    /// # Errors
+    /// Only want of memory.
+    pub fn start(
+        alloc: Global,
+        config: RouterConfig,
+        now: Moment,
+    ) -> Result<(Router<S>, Answer), AllocError>
+        ensures starts { IfOk result (λ r. Starts config now r.1 r.0) }
+        ensures few { IfOk result (λ r. length r.1.sends ≤ length config.interfaces) }
+        ensures replays { IfOk result (λ r. Replays map_of.empty r.1.changes (forwards r.0.table)) }
+    {
+        let (store, answer) = come_up(alloc, &config)?;
+        let router = Router {
+            config,
+            store,
+            last: now,
+            regular: now.later(0),
+            hold: now.later(0),
+            alloc,
+        };
+        Ok((router, answer))
+    }
+
+    /// The router comes up again, as a start with its own configuration would leave it: what it has learned is gone, and
+    /// time may go back.
+    ///
+    /// # Errors
+    /// Only want of memory; the router is then as it was.
+    pub fn restart(&mut self, now: Moment) -> Result<Answer, AllocError>
+        ensures moves { IfOk result (λ answer. Moves self.old (Happening.Restarts now) answer self.new) }
+        ensures err { OnErr result (self.new ≡ self.old) }
+        ensures config { self.new.config ≡ self.old.config }
+        ensures few { IfOk result (λ answer. length answer.sends ≤ length self.old.config.interfaces) }
+        ensures replays { IfOk result (λ answer. Replays map_of.empty answer.changes (forwards self.new.table)) }
+    {
+        let (store, answer) = come_up(self.alloc, &self.config)?;
+        self.store = store;
+        self.last = now;
+        self.regular = now.later(0);
+        self.hold = now.later(0);
+        Ok(answer)
+    }
+
+    /// Its routes.
+    pub fn routes(&self) -> &S
+        ensures { S.table result.now ≡ self.now.table }
+    {
+        &self.store
+    }
+
+    /// What it is configured with.
+    pub fn config(&self) -> &RouterConfig
+        ensures { result.now ≡ self.now.config }
+    {
+        &self.config
+    }
+
+    /// The moment of its last step.
+    pub fn last(&self) -> Moment
+        ensures { result ≡ self.now.last }
+    {
+        self.last
+    }
+
+    /// When its next regular update is due.
+    pub fn regular(&self) -> Deadline
+        ensures { result ≡ self.now.regular }
+    {
+        self.regular
+    }
+
+    /// Until when it holds triggered updates.
+    pub fn hold(&self) -> Deadline
+        ensures { result ≡ self.now.hold }
+    {
+        self.hold
+    }
+
+    /// The fault that `arrive` would answer.
+    pub fn fault_of(&self, arrival: &Arrival<'_>) -> Option<Fault>
+        ensures { result ≡ fault self.now.config arrival.entry.now }
+    {
+        fault_of(&self.config, arrival)
+    }
+
+    // A moment before the last one counts as that.
+    fn effective(&self, now: Moment) -> Moment
+        ensures { result ≡ max self.now.last now }
+    {
+        self.last.max(now)
+    }
+
+    // The update that is due.
+    fn update_due(&self, now: Moment) -> Option<Told>
+        ensures { result ≡ update_due self.now now }
+    {
+        if self.regular.reached(now) {
+            Some(Told::Every)
+        } else if self.hold.reached(now) && has_told(&self.store, Told::Changed, now) {
+            Some(Told::Changed)
+        } else {
+            None
+        }
+    }
+
+    // Whether an update has no datagram.
+    fn is_silent(&self, which: Told, now: Moment) -> bool
+        ensures { IsTrue result ↔ (update_of self.now now (Some which) ≡ []) }
+    {
+        self.config.is_quiet()
+            || self.config.interfaces().is_empty()
+            || !has_told(&self.store, which, now)
+    }
+
+    // The datagrams of an update.
+    fn update(&self, due: Option<Told>, now: Moment) -> Result<Vec<Outgoing>, AllocError>
+        ensures spelled { IfOk result (λ sends. AreSpelled (update_of self.now now due) sends.items) }
+        ensures few { IfOk result (λ sends. length sends.items ≤ map_of.len self.now.table * length self.now.config.interfaces) }
+        ensures silent_is_free { update_of self.now now due ≡ [] → IsOk result }
+    {
+        let Some(which) = due else {
+            return Ok(Vec::new(self.alloc));
+        };
+        if self.is_silent(which, now) {
+            return Ok(Vec::new(self.alloc));
+        }
+        let routes = listed_at(self.alloc, &self.store, now)?;
+        updates(self.alloc, &self.config, which, &routes)
+    }
+
+    // When the next regular update is due, after an update.
+    fn next_regular(&self, due: Option<Told>, now: Moment, word: u32) -> Deadline
+        ensures { result ≡ regular_after self.now now word due }
+    {
+        match due {
+            Some(Told::Every) => now.later(REGULAR_LEAST_MS + word % REGULAR_SPREAD_MS),
+            _ => self.regular,
+        }
+    }
+
+    // Until when triggered updates are held, after an update.
+    fn next_hold(&self, due: Option<Told>, now: Moment, word: u32) -> Deadline
+        ensures { result ≡ hold_after self.now now word due }
+    {
+        match due {
+            Some(Told::Changed) => now.later(HOLD_LEAST_MS + word % HOLD_SPREAD_MS),
+            _ => self.hold,
+        }
+    }
+
+    /// Time passes: the routes age, and the update that is due, if one is, is sent. A random word says when the next is
+    /// due, 15 to 45 seconds after a regular one, or until when triggered ones are held, 1 to 5 seconds.
+    ///
+    /// # Errors
+    /// Only want of memory; the router is then as it was. Takes none where no route expires and nothing is sent.
+    pub fn tick(&mut self, now: Moment, word: u32) -> Result<Answer, AllocError>
+        ensures moves { IfOk result (λ answer. Moves self.old (Happening.Ticks now word) answer self.new) }
+        ensures err { OnErr result (self.new ≡ self.old) }
+        ensures config { self.new.config ≡ self.old.config }
+        ensures few { IfOk result (λ answer. length answer.sends ≤ map_of.len self.old.table * length self.old.config.interfaces) }
+        ensures replays { IfOk result (λ answer. Replays (forwards self.old.table) answer.changes (forwards self.new.table)) }
+        ensures idle_is_free { tick_messages self.old (max self.old.last now) ≡ []
+            → changes_of_ageing (max self.old.last now) self.old.table ≡ [] → IsOk result }
+    {
+        let now = self.effective(now);
+        let due = self.update_due(now);
+        let sends = self.update(due, now)?;
+        let changes = changes_of_ageing(self.alloc, &self.store, now)?;
+        let regular = self.next_regular(due, now, word);
+        let hold = self.next_hold(due, now, word);
+        settle_all(&mut self.store, now, due.is_some());
+        self.last = now;
+        self.regular = regular;
+        self.hold = hold;
+        Ok(told(sends, changes, Vec::new(self.alloc)))
+    }
+
+    // The gateway that an arrival came through.
+    fn gateway(&self, arrival: &Arrival<'_>, now: Moment) -> Gateway
+        requires { arrival.now.iface < length self.now.config.interfaces }
+        ensures { result ≡ gateway_of self.now now arrival.entry.now }
+    {
+        Gateway {
+            iface: arrival.iface,
+            cost: cost_at(&self.config, arrival.iface),
+            from: arrival.source,
+            moment: now,
+        }
+    }
+
+    // A Response is heard. Room for a note and a change of each entry is made first.
+    fn hear(
+        &mut self,
+        arrival: &Arrival<'_>,
+        response: &Datagram<'_>,
+        now: Moment,
+    ) -> Result<Answer, AllocError>
+        requires { arrival.now.iface < length self.old.config.interfaces }
+        ensures hears { IfOk result (λ answer. Spells Response response.now.entries arrival.entry.now.bytes → Hears self.old now arrival.entry.now answer self.new) }
+        ensures replays { IfOk result (λ answer. Replays (forwards self.old.table) answer.changes (forwards self.new.table)) }
+        ensures sends { IfOk result (λ answer. answer.sends ≡ []) }
+        ensures err { OnErr result (self.new ≡ self.old) }
+        ensures empty_is_free { response.now.entries ≡ [] → IsOk result }
+    {
+        let gateway = self.gateway(arrival, now);
+        let entries = response.entries();
+        let mut notes = Vec::with_capacity(self.alloc, entries.len())?;
+        let mut changes = Vec::with_capacity(self.alloc, entries.len())?;
+        hear(
+            &mut self.store,
+            &gateway,
+            &self.config,
+            entries,
+            &mut notes,
+            &mut changes,
+        );
+        self.last = now;
+        Ok(told(Vec::new(self.alloc), changes, notes))
+    }
+
+    /// A datagram comes to one of the router's interfaces. Where it fails a test, the fault is answered and no route
+    /// changes; a Response is heard, and a Request is answered.
+    ///
+    /// # Errors
+    /// Only want of memory; the router is then as it was. Takes none at a fault, or at a Response without entries.
+    pub fn arrive(&mut self, arrival: Arrival<'_>) -> Result<Answer, AllocError>
+        requires { arrival.iface < length self.old.config.interfaces }
+        ensures moves { IfOk result (λ answer. Moves self.old (Happening.Arrives arrival.entry) answer self.new) }
+        ensures err { OnErr result (self.new ≡ self.old) }
+        ensures config { self.new.config ≡ self.old.config }
+        ensures few { IfOk result (λ answer. length answer.sends ≤ max (map_of.len self.old.table) (entries_in arrival.entry.bytes)) }
+        ensures replays { IfOk result (λ answer. Replays (forwards self.old.table) answer.changes (forwards self.new.table)) }
+        ensures fault_is_free { IsSome (fault self.old.config arrival.entry) → IsOk result }
+        ensures empty_is_free { Spells Response [] arrival.entry.bytes → IsOk result }
+    {
+        let now = self.effective(arrival.now);
+        let datagram = match accept(&self.config, &arrival) {
+            Ok(datagram) => datagram,
+            Err(fault) => return Ok(self.refuse(now, fault)),
+        };
+        match datagram.command() {
+            Command::Response => self.hear(&arrival, &datagram, now),
+            Command::Request => self.reply(&arrival, &datagram, now),
+        }
+    }
+
+    // A refused arrival is answered by its fault alone.
+    fn refuse(&mut self, now: Moment, fault: Fault) -> Answer
+        ensures answer { result ≡ record { fault = Some fault; sends = []; changes = []; notes = [] } }
+        ensures state { self.new ≡ record self.old { last = now } }
+    {
+        self.last = now;
+        Answer {
+            fault: Some(fault),
+            sends: Listed::from_vec(Vec::new(self.alloc)),
+            changes: Listed::from_vec(Vec::new(self.alloc)),
+            notes: Listed::from_vec(Vec::new(self.alloc)),
+        }
+    }
+
+    // A Request is answered.
+    fn reply(
+        &mut self,
+        arrival: &Arrival<'_>,
+        request: &Datagram<'_>,
+        now: Moment,
+    ) -> Result<Answer, AllocError>
+        ensures replies { IfOk result (λ answer. Spells Request request.now.entries arrival.entry.now.bytes → Replies self.old now arrival.entry.now answer self.new) }
+        ensures few { IfOk result (λ answer. length answer.sends ≤ max (map_of.len self.old.table) (length request.now.entries)) }
+        ensures err { OnErr result (self.new ≡ self.old) }
+    {
+        let sends = reply(self.alloc, &self.store, &self.config, arrival, request)?;
+        self.last = now;
+        Ok(told(sends, Vec::new(self.alloc), Vec::new(self.alloc)))
+    }
+}

@@ -1,0 +1,83 @@
+//! A router comes up: it owns its prefixes, and asks its neighbors for their tables (RFC 2080, section 2.4.1).
+
+ghost use Rattle.std.specs.Prelude.{◌≡◌, ◌≤◌, true, length, IsOk, IfOk};
+ghost use Rattle.router_core.specs.Changes.{changes_of_start};
+ghost use Rattle.router_core.specs.Machine.{owned_table};
+ghost use Rattle.router_core.specs.Output.{AreSpelled, start_messages};
+
+use crate::answer::{Destination, Outgoing};
+use crate::config::RouterConfig;
+use crate::forwarding::change;
+use crate::listed::Listed;
+use crate::tell::listed;
+use fib::RouteChange;
+use ripng_wire::{Command, Rte, encode};
+use route_table::{AddRefused, INFINITY, Route, RouteStore};
+use std::alloc::{AllocError, Global};
+
+/// What asks for a whole table.
+const WHOLE_TABLE: Rte = Rte {
+    addr: 0,
+    tag: 0,
+    len: 0,
+    metric: INFINITY,
+};
+
+/// A Request for the whole table on each interface, to the group. A quiet router sends none.
+///
+/// # Errors
+/// Only want of memory, and never of a quiet router.
+pub fn requests(alloc: Global, config: &RouterConfig) -> Result<Vec<Outgoing>, AllocError>
+    ensures spelled { IfOk result (λ sends. AreSpelled (start_messages config.now) sends.items) }
+    ensures few { IfOk result (λ sends. length sends.items ≤ length config.now.interfaces) }
+    ensures quiet { config.now.quiet ≡ true → IsOk result }
+{
+    if config.is_quiet() {
+        return Ok(Vec::new(alloc));
+    }
+    let mut sends = Vec::with_capacity(alloc, config.interfaces().len())?;
+    for iface in 0..config.interfaces().len() {
+        let bytes = encode(alloc, Command::Request, &[WHOLE_TABLE])?;
+        sends.push_reserved(Outgoing {
+            iface,
+            to: Destination::Group,
+            bytes: Listed::from_vec(bytes),
+        });
+    }
+    Ok(sends)
+}
+
+/// A store of the owned prefixes alone, each with its tag.
+///
+/// # Errors
+/// Only want of memory.
+pub fn owned_routes<S: RouteStore>(alloc: Global, config: &RouterConfig) -> Result<S, AllocError>
+    ensures { IfOk result (λ s. S.table s ≡ owned_table config.now) }
+{
+    let mut store = S::empty(alloc);
+    for &(prefix, tag) in config.prefixes() {
+        match store.add(prefix, Route::own(tag)) {
+            Ok(()) => {}
+            Err(AddRefused::NoMemory) => return Err(AllocError),
+            Err(AddRefused::Full) => unreachable!(),
+        }
+    }
+    Ok(store)
+}
+
+/// What the forwarding table is told of the routes of a router that comes up, in the order of prefixes.
+///
+/// # Errors
+/// Only want of memory.
+pub fn changes_of_start<S: RouteStore>(
+    alloc: Global,
+    store: &S,
+) -> Result<Vec<RouteChange>, AllocError>
+    ensures { IfOk result (λ v. v.items ≡ changes_of_start (S.table store.now)) }
+{
+    let routes = listed(alloc, store)?;
+    routes
+        .iter()
+        .filter_map(|&(prefix, route)| change(prefix, None, Some(route)))
+        .collect(alloc)
+}

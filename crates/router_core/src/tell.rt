@@ -1,0 +1,151 @@
+//! What a router tells of its routes: updates of all or of the changed ones, with poisoned reverse (RFC 2080, sections
+//! 2.5 and 2.6).
+
+ghost use Rattle.std.specs.Prelude.{◌≡◌, ◌≤◌, ◌*◌, true, length, IsOk, IfOk};
+ghost use Rattle.std.specs.FinMap.{entries};
+ghost use Rattle.route_table.specs.Table.{Table, map_entries};
+ghost use Rattle.router_core.specs.Ageing.{aged};
+ghost use Rattle.router_core.specs.Output.{AreSpelled, selected, told_of, told_entry, update_messages};
+
+use crate::age::age;
+use crate::answer::{Destination, Outgoing};
+use crate::config::RouterConfig;
+use crate::cut::push_responses;
+use prefix6::Prefix;
+use ripng_wire::Rte;
+use route_table::{INFINITY, Moment, Origin, Route, RouteStore};
+use std::alloc::{AllocError, Global};
+
+/// Which routes an update tells.
+#[derive(Clone, Copy, Debug, PartialEq, Eq)]
+pub enum Told {
+    /// All of them.
+    Every,
+    /// Those that are marked as changed.
+    Changed,
+}
+
+impl Told {
+    // Whether an update of this kind tells the route.
+    pub fn selects(self, route: &Route) -> bool
+        ensures { result ≡ selected self route.now }
+    {
+        match self {
+            Told::Every => true,
+            Told::Changed => route.is_changed(),
+        }
+    }
+}
+
+// A route as it is told on an interface: unreachable where it was learned.
+fn told_entry(iface: usize, prefix: Prefix, route: Route) -> Rte
+    ensures { result ≡ told_entry iface (prefix, route) }
+{
+    let is_learned_there = match route.origin() {
+        Origin::Own => false,
+        Origin::Learned {
+            iface: learned_on,
+            ..
+        } => learned_on == iface,
+    };
+    Rte {
+        addr: prefix.addr().bits(),
+        tag: route.tag(),
+        len: prefix.len(),
+        metric: if is_learned_there {
+            INFINITY
+        } else {
+            route.metric()
+        },
+    }
+}
+
+/// All routes of a store, in the order of prefixes.
+///
+/// # Errors
+/// Only want of memory.
+pub fn listed<S: RouteStore>(alloc: Global, store: &S) -> Result<Vec<(Prefix, Route)>, AllocError>
+    ensures { IfOk result (λ v. v.items ≡ entries (S.table store.now)) }
+{
+    let mut routes = Vec::with_capacity(alloc, store.len())?;
+    let mut after = None;
+    for _k in 0..store.len() {
+        let Some(entry) = store.walk(after) else {
+            unreachable!()
+        };
+        routes.push_reserved((entry.0, entry.1));
+        after = Some(entry.0);
+    }
+    Ok(routes)
+}
+
+/// What is left of the routes of a store at a moment, in the order of prefixes.
+///
+/// # Errors
+/// Only want of memory.
+pub fn listed_at<S: RouteStore>(
+    alloc: Global,
+    store: &S,
+    now: Moment,
+) -> Result<Vec<(Prefix, Route)>, AllocError>
+    ensures { IfOk result (λ v. v.items ≡ map_entries (aged now) (entries (S.table store.now))) }
+{
+    let routes = listed(alloc, store)?;
+    routes
+        .iter()
+        .filter_map(|&(prefix, route)| age(route, now).map(|route| (prefix, route)))
+        .collect(alloc)
+}
+
+/// What is told on an interface of these routes.
+///
+/// # Errors
+/// Only want of memory.
+pub fn told_on(
+    alloc: Global,
+    iface: usize,
+    which: Told,
+    routes: &[(Prefix, Route)],
+) -> Result<Vec<Rte>, AllocError>
+    ensures value { IfOk result (λ v. v.items ≡ told_of iface (selected which) routes.now) }
+    ensures few { IfOk result (λ v. length v.items ≤ length routes.now) }
+{
+    routes
+        .iter()
+        .filter(|(_, route)| which.selects(route))
+        .map(|&(prefix, route)| told_entry(iface, prefix, route))
+        .collect(alloc)
+}
+
+/// An update of the routes of a table on each interface, to the group. A quiet router sends none.
+///
+/// # Errors
+/// Only want of memory, and never of a quiet router.
+pub fn updates(
+    alloc: Global,
+    config: &RouterConfig,
+    which: Told,
+    routes: &[(Prefix, Route)],
+) -> Result<Vec<Outgoing>, AllocError>
+    ensures spelled { (table : Table) → routes.now ≡ entries table
+        → IfOk result (λ sends. AreSpelled (update_messages config.now (selected which) table) sends.items) }
+    ensures few { IfOk result (λ sends. length sends.items ≤ length routes.now * length config.now.interfaces) }
+    ensures quiet { config.now.quiet ≡ true → IsOk result }
+{
+    let mut sends = Vec::new(alloc);
+    if config.is_quiet() {
+        return Ok(sends);
+    }
+    for (iface, interface) in config.interfaces().iter().enumerate() {
+        let entries = told_on(alloc, iface, which, routes)?;
+        push_responses(
+            alloc,
+            &mut sends,
+            iface,
+            interface.mtu,
+            Destination::Group,
+            &entries,
+        )?;
+    }
+    Ok(sends)
+}
