@@ -1,5 +1,5 @@
 -- What the exit statuses of ripngd tell (they are this project's choice).
-use Rattle.std.specs.Prelude.{◌≡◌, ◌≢◌, ◌⊎◌, ℕ, Bool, true, false, List, [], Option}
+use Rattle.std.specs.Prelude.{◌≢◌, ℕ, Bool, List, [], Option}
 use Rattle.std.specs.Io.KnownBytes.{Appends}
 use Rattle.clap.specs.Faults.{fault_of}
 use Rattle.clap.specs.Kinds.{IsAmong}
@@ -7,6 +7,10 @@ use Rattle.clap.specs.Walk.{Text}
 use Rattle.clap.specs.declared.error.kind.ErrorKind.TheVariants.{DisplayHelp}
 use Rattle.ripngd.specs.declared.asked.Ask.{Ask}
 use Rattle.ripngd.specs.declared.asked.Ask.TheVariants as asks
+use Rattle.ripngd.specs.declared.showing.ShowFault.{ShowFault}
+use Rattle.ripngd.specs.declared.showing.ShowFault.TheVariants as faults
+use Rattle.ripngd.specs.declared.status.Failure.{Failure}
+use Rattle.ripngd.specs.declared.status.Failure.TheVariants as failures
 use Rattle.ripngd.specs.Asked.{Asks}
 use Rattle.ripngd.specs.CommandLine.{ripngd}
 use Rattle.ripngd.specs.Shown.{IsShown}
@@ -30,3 +34,8 @@ AsksForHelp words = IsAmong DisplayHelp (fault_of ripngd words)
 -- the words have a fault
 abbrev pub HasFault : List Text → Type 0
 HasFault words = fault_of ripngd words ≢ []
+
+-- what a fault of `show` is to the program
+abbrev pub failure_of : ShowFault → Failure
+failure_of faults.OutOfMemory = failures.OutOfMemory
+failure_of faults.Write = failures.Write

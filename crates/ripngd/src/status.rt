@@ -2,7 +2,7 @@
 
 ghost use Rattle.std.specs.Prelude.{◌≡◌, ◌≢◌, ◌⊎◌, ◌≤◌, IfOk, Ok, false, map, true};
 ghost use Rattle.clap.specs.Words.{kind_of};
-ghost use Rattle.ripngd.specs.Exit.{AnswersAsk, AnswersWords, AsksForHelp, HasFault};
+ghost use Rattle.ripngd.specs.Exit.{AnswersAsk, AnswersWords, AsksForHelp, HasFault, failure_of};
 
 use crate::asked::Ask;
 use crate::command_line::ask;
@@ -34,6 +34,8 @@ enum Failure {
 }
 
 impl From<ShowFault> for Failure {
+    ghost from_gives = { λ fault failure. failure ≡ failure_of fault };
+
     fn from(fault: ShowFault) -> Failure {
         match fault {
             ShowFault::OutOfMemory => Failure::OutOfMemory,
