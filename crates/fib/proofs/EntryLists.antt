@@ -46,10 +46,9 @@ by_prefix : (es : List Entry) (p : Prefix6) (r : Result ℕ ℕ) → IsBinarySea
 by_prefix es p (Ok i) is = λ d. subst (λ q. prefix_cmp q p ≡ Equal) (sym (same_at es i d)) (is (entry_of d))
 by_prefix es p (Err i) is = λ rises.
     let parts = is (λ j k d le lt.
-        subst (λ q. ordering_index (prefix_cmp q p) ≤ ordering_index (prefix_cmp (get_or es k d).0 p)) (same_at es j (at_prefix d))
-        (subst (λ q. ordering_index (prefix_cmp (get_or (each at_prefix es) j (at_prefix d)).0 p) ≤ ordering_index (prefix_cmp q p)) (same_at es k (at_prefix d))
-        (rises j k (at_prefix d) le (subst (λ n. k < n) (sym (length-map es at_prefix)) lt)))) in
-    (
+    subst (λ q. ordering_index (prefix_cmp q p) ≤ ordering_index (prefix_cmp (get_or es k d).0 p)) (same_at es j (at_prefix d))
+    (subst (λ q. ordering_index (prefix_cmp (get_or (each at_prefix es) j (at_prefix d)).0 p) ≤ ordering_index (prefix_cmp q p)) (same_at es k (at_prefix d))
+    (rises j k (at_prefix d) le (subst (λ n. k < n) (sym (length-map es at_prefix)) lt)))) in (
       λ j d low lt. subst (λ q. prefix_cmp q p ≡ Less) (sym (same_at es j d)) (parts.0 j (entry_of d) low lt),
       λ j d low lt. subst (λ q. prefix_cmp q p ≡ Greater) (sym (same_at es j d)) (parts.1 j (entry_of d) low (subst (λ n. j < n) (length-map es at_prefix) lt)),
     )

@@ -1,11 +1,11 @@
 -- The longest match: how it is found by length, and that there is one at most.
-use Rattle.std.proofs.Common.{◌≡◌, ℕ, ◌<◌, ◌≤◌, Bool, true, false, Option, Some, None, IsTrue, IfSome, IsSomeAnd, is_some, option_map, refl, sym, ap, subst, ◌∙◌, inl, inr, arith}
+use Rattle.std.proofs.Common.{◌≡◌, ℕ, ◌<◌, ◌≤◌, false, Option, Some, None, IsSomeAnd, is_some, option_map, refl, sym, ap, subst, ◌∙◌, inl, inr, arith}
 use Rattle.std.specs.FinMap as map
 use Rattle.std.proofs.lemmas.Bool.{cases_lt}
-use Rattle.prefix6.specs.Prefix.{Prefix6, IsPrefix, Holds, cleared}
+use Rattle.prefix6.specs.Prefix.{Prefix6, cleared}
 use Rattle.prefix6.proofs.PrefixSets.{is_the_one}
 use Rattle.fib.specs.declared.change.Hop.{Hop}
-use Rattle.fib.specs.Forwarding.{Forward, Forwarding, IsMatch, IsLongestMatch}
+use Rattle.fib.specs.Forwarding.{Forward, Forwarding, IsLongestMatch}
 
 -- the table has no prefix that is longer than this and holds the address
 abbrev pub NoneLonger : Forwarding → ℕ → ℕ → Type 0

@@ -1,4 +1,4 @@
-//! What a router tells a forwarding table: where packets to a prefix now go, or that they no longer go anywhere.
+//! What a router tells a forwarding table: the entry that a prefix now has, or that it has none.
 
 use prefix6::{Addr6, Prefix};
 
@@ -19,13 +19,15 @@ pub enum Hop {
 /// A change of what a forwarding table holds for one prefix.
 #[derive(Clone, Copy, Debug, PartialEq, Eq)]
 pub enum RouteChange {
-    /// Packets to the prefix now go this way, whatever was there before.
+    /// The prefix has this entry, whatever it had before.
     Install {
         prefix: Prefix,
         hop: Hop,
-        /// The cost in hops, 1 to 15.
+        /// The cost in hops: a router tells 1 to 15, and the table keeps what it is told.
         metric: u8,
     },
-    /// Packets to the prefix go nowhere.
-    Withdraw { prefix: Prefix },
+    /// The prefix has no entry. A shorter prefix may still hold the addresses of its packets.
+    Withdraw {
+        prefix: Prefix,
+    },
 }

@@ -1,10 +1,10 @@
 //! The forwarding table: where packets go, by the longest prefix that holds their address.
 
-ghost use Rattle.std.specs.Prelude.{◌≡◌, ◌+◌, ◌<◌, ◌≤◌, ◌↔◌, ℕ, [], ◌∷◌, map as each, IsTrue, IsOk, OnOk, OnErr, IfOk, IfErr, IsNone, IfSome, All, option_map, count_by, vec_len, vec_capacity, is_some};
+ghost use Rattle.std.specs.Prelude.{◌≡◌, ◌+◌, ◌<◌, ◌≤◌, ◌↔◌, [], ◌∷◌, map as each, IsTrue, IsOk, OnOk, OnErr, IfOk, IfErr, IsNone, IfSome, option_map, count_by, vec_len, vec_capacity};
 ghost use Rattle.std.specs.FinMap as map;
 ghost use Rattle.prefix6.specs.Places.{IsAt, IsGap};
 ghost use Rattle.prefix6.specs.Prefix.{Prefix6};
-ghost use Rattle.fib.specs.Forwarding.{Forward, is_install, Replays, IsMatch, IsLongestMatch};
+ghost use Rattle.fib.specs.Forwarding.{is_install, Replays, IsMatch, IsLongestMatch};
 ghost use Rattle.fib.specs.Entries.{at_prefix, listed, table_of, AreInOrder};
 
 use crate::change::{Hop, RouteChange};

@@ -1,4 +1,4 @@
-//! Laws of replay and of the longest match.
+//! Laws of replay and of the longest match, each a function whose contract is the law.
 
 ghost use Rattle.std.specs.Prelude.{◌≡◌, ℕ, List, [], ◌++◌};
 ghost use Rattle.fib.specs.declared.change.Hop.{Hop};

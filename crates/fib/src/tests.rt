@@ -13,9 +13,7 @@ fn neighbor() -> Hop {
 
 /// An address of two groups at the front and two at the back: A:B:C::D.
 fn address(first: u32, third: u16, last: u16) -> Addr6 {
-    Addr6::from_bits(
-        (u128::from(first) << 96) + (u128::from(third) << 80) + u128::from(last),
-    )
+    Addr6::from_bits((u128::from(first) << 96) + (u128::from(third) << 80) + u128::from(last))
 }
 
 /// The first address A:B:C:: of a prefix, with its length.
@@ -49,10 +47,12 @@ fn longest_prefix_wins(rt: HostRuntime) -> Result<(), Fail> {
     assert_eq!(rt; fib.lookup(address(0x2001_0db8, 6, 1)), Some(Hop::Direct));
     assert_eq!(rt; fib.lookup(address(0x2001_0db9, 0, 1)), None);
 
-    let longer = RouteChange::Withdraw {
-        prefix: prefix(&rt, 0x2001_0db8, 5, 48),
-    };
-    fib.apply(&[longer, longer])?;
+    let longer = prefix(&rt, 0x2001_0db8, 5, 48);
+    let twice = [
+        RouteChange::Withdraw { prefix: longer },
+        RouteChange::Withdraw { prefix: longer },
+    ];
+    fib.apply(&twice)?;
     assert_eq!(rt; fib.lookup(address(0x2001_0db8, 5, 1)), Some(Hop::Direct));
     assert_eq!(rt; fib.len(), 1);
     Ok(())

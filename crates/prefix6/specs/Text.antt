@@ -47,7 +47,7 @@ pub record ParsesAddr (text : List ℕ) (r : Result ℕ PrefixError) : Type 0 wh
   pub reads : (a : ℕ) → (r ≡ Ok a) ↔ Reads text a
   pub refused : IfErr r (λ e. e ≡ BadAddressText)
 
--- a length: decimal digits with no leading zero, at most 128
+-- a length: decimal digits, of which the first is no 0 (48) where there are more, at most 128
 pub record IsLengthText (text : List ℕ) (len : ℕ) : Type 0 where
   pub digits : IsNumeral 10 text
   pub no_leading_zero : slice_index text 0 ≡ 48 → length text ≡ 1
@@ -64,7 +64,7 @@ pub record ReadsPrefix (text : List ℕ) (p : Prefix6) : Type 0 where
   pub len : IsLengthText len_text p.len
   pub value : p ≡ cleared addr p.len
 
--- the text up to the first slash, or the whole; and what stands after it, or nothing
+-- the text up to the first slash (47), or the whole; and what stands after it, or nothing
 abbrev pub address_part : List ℕ → List ℕ
 address_part text = before_first (λ c. c == 47) text
 

@@ -46,7 +46,7 @@ abbrev pub IsCanonical : List ℕ → List ℕ → Type 0
 IsCanonical groups text = IsShortest groups text
     ⊎ (((s l : ℕ) → IsZeroRun groups s l → l ≤ 1) × (text ≡ groups_text groups))
 
--- a decimal digit, or one of `a` to `f`
+-- a decimal digit (48 to 57), or one of `a` to `f` (97 to 102)
 abbrev pub IsLowerCase : ℕ → Type 0
 IsLowerCase c = IsInRange 48 57 c ⊎ IsInRange 97 102 c
 

@@ -15,9 +15,11 @@ use Rattle.prefix6.specs.Prefix.{Prefix6, prefix_cmp}
 use Rattle.prefix6.proofs.PrefixLaws.{prefixes_total, exact_prefixes}
 use Rattle.route_table.specs.Route.{RouteValue}
 use Rattle.route_table.specs.Table.{Table, first_past, is_past}
-use Rattle.route_table.specs.Place.{Entries, IsAt, IsGap, IsStartPast}
+use Rattle.prefix6.specs.Places.{IsAt, IsGap}
+use Rattle.route_table.specs.Place.{Entries, IsStartPast}
 use Rattle.route_table.proofs.TableLaws.{entries-empty}
-use Rattle.route_table.proofs.SortedEntries.{find_at, find_gap, put_gap, first_at}
+use Rattle.prefix6.proofs.SortedEntries.{find_at, find_gap, put_gap}
+use Rattle.route_table.proofs.SortedEntries.{first_at}
 
 -- what `get` and `copied` answer
 pub copied_at : (es : Entries) (i : ℕ) (o : Option (Bor (Prefix6 × RouteValue))) → IsItemAt es i o → option_copied o ≡ slice_get es i

@@ -1,5 +1,5 @@
 -- What a map by prefixes has, and how many, after a value is added, replaced or removed.
-use Rattle.std.proofs.Common.{◌≡◌, ◌+◌, ◌-◌, ◌<◌, Bool, true, false, cond, T, List, [], ◌∷◌, ◌++◌, Option, Some, None, is_some, IsSome, length, take, drop, add-one, length-append, refl, ap, sym, subst, ◌∙◌, arith}
+use Rattle.std.proofs.Common.{◌≡◌, ◌+◌, ◌-◌, ◌<◌, Bool, true, false, cond, T, List, [], ◌∷◌, ◌++◌, Option, Some, None, is_some, option_and_then, IsSome, length, take, drop, add-one, length-append, refl, ap, sym, subst, ◌∙◌, arith}
 use Rattle.std.specs.FinMap as map
 use Rattle.std.specs.FinMap.Entries.{find, put, by_order}
 use Rattle.std.specs.Ordering.{is_eq, eq_by_cmp}
@@ -12,12 +12,12 @@ use Rattle.std.specs.List.{remove}
 use Rattle.std.proofs.Math.Seq.{get_or-append_seam, set-append_seam, take-append_seam, drop-append-add}
 use Rattle.prefix6.specs.Prefix.{Prefix6, prefix_cmp}
 use Rattle.prefix6.proofs.PrefixLaws.{prefixes_total, exact_prefixes}
-use Rattle.route_table.specs.Place.{IsAt}
+use Rattle.prefix6.specs.Places.{IsAt}
 use Rattle.route_table.specs.Route.{RouteValue}
-use Rattle.route_table.specs.Table.{ByPrefix, Table, with_value}
-use Rattle.route_table.proofs.SortedEntries.{find_at, put_at, where_at}
+use Rattle.route_table.specs.Table.{ByPrefix, Table, map_values, with_value}
+use Rattle.prefix6.proofs.SortedEntries.{find_at, put_at, where_at}
 use Rattle.route_table.proofs.SortedTable.{sorted_without, table_without}
-use Rattle.route_table.proofs.TableLaws.{None-Some, Some-same}
+use Rattle.route_table.proofs.TableLaws.{None-Some, Some-same, get-map_values}
 
 tie_itself : (p : Prefix6) → eq_by_cmp prefix_cmp p p ≡ true
 tie_itself p = tied p
@@ -171,3 +171,14 @@ module _ (front rest : List (Prefix6 × RouteValue)) (p : Prefix6) (r : RouteVal
           ap (λ n. take (length front) (front ++ (p, r) ∷ rest) ++ drop n (front ++ (p, r) ∷ rest)) (sym (add-one (length front)))
           ∙ ap (λ l. l ++ drop (length front + 1) (front ++ (p, r) ∷ rest)) (take-append_seam front ((p, r) ∷ rest))
           ∙ ap (λ l. front ++ l) (drop-append-add front ((p, r) ∷ rest) 1)
+
+-- f of each value, after one value is put in place or taken out
+pub map_values-with_value : {X Y : Type 0} (f : X → Option Y) (m : ByPrefix X) (p : Prefix6) (o : Option X) → map_values f (with_value m p o) ≡ with_value (map_values f m) p (option_and_then f o)
+map_values-with_value {X = X} f m p o =
+    map.same_map prefixes_total exact_prefixes _ _ (λ q.
+    get-map_values f (with_value m p o) q ∙ ap (option_and_then f) (get-with_value m p o q) ∙ inside (eq_by_cmp prefix_cmp q p) (map.get m q)
+    ∙ ap (cond (eq_by_cmp prefix_cmp q p) (option_and_then f o)) (sym (get-map_values f m q)) ∙ sym (get-with_value (map_values f m) p (option_and_then f o) q))
+  where
+    inside : (b : Bool) (other : Option X) → option_and_then f (cond b o other) ≡ cond b (option_and_then f o) (option_and_then f other)
+    inside true other = refl
+    inside false other = refl

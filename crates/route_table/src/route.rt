@@ -81,7 +81,13 @@ impl Model for Route {
 impl Route {
     /// The unmarked route to a prefix of the router's own: metric 1, and it never ages.
     pub fn own(tag: u16) -> Route
-        ensures { result ≡ record { metric = 1; tag = tag; origin = Origin.Own; clock = Clock.Fixed; changed = false } }
+        ensures { result ≡ record {
+          metric = 1;
+          tag = tag;
+          origin = Origin.Own;
+          clock = Clock.Fixed;
+          changed = false;
+        } }
     {
         Route {
             metric: 1,
@@ -97,7 +103,13 @@ impl Route {
         requires positive { 1 ≤ metric }
         requires usable { metric < infinity }
         requires learned { is_own origin ≡ false }
-        ensures { result ≡ record { metric = metric; tag = tag; origin = origin; clock = Clock.Live until; changed = true } }
+        ensures { result ≡ record {
+          metric = metric;
+          tag = tag;
+          origin = origin;
+          clock = Clock.Live until;
+          changed = true;
+        } }
     {
         Route {
             metric,
@@ -108,10 +120,15 @@ impl Route {
         }
     }
 
-    /// The same route, now unreachable and to be deleted at a deadline. It is marked as changed.
+    /// The same route, now unreachable and to be deleted at a deadline. It is marked as changed; its
+    /// tag and origin stay. A route that never ages is never lost.
     pub fn lost(self, until: Deadline) -> Route
         requires ages { is_fixed self.clock ≡ false }
-        ensures { result ≡ record self { metric = infinity; clock = Clock.Dying until; changed = true } }
+        ensures { result ≡ record self {
+          metric = infinity;
+          clock = Clock.Dying until;
+          changed = true;
+        } }
     {
         Route {
             metric: INFINITY,

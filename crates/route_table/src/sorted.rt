@@ -3,7 +3,8 @@
 ghost use Rattle.std.specs.Prelude.{T, IfOk, IfErr};
 ghost use Rattle.std.specs.FinMap.{is_sorted};
 ghost use Rattle.prefix6.specs.Prefix.{prefix_cmp};
-ghost use Rattle.route_table.specs.Place.{IsAt, IsGap, IsStartPast};
+ghost use Rattle.prefix6.specs.Places.{IsAt, IsGap};
+ghost use Rattle.route_table.specs.Place.{IsStartPast};
 
 use crate::route::Route;
 use crate::store::{AddRefused, RouteStore, TABLE_LIMIT};

@@ -1,9 +1,8 @@
 -- What the tests of a configuration say of each interface and of the owned prefixes.
-use Rattle.std.proofs.Common.{◌≡◌, ℕ, zero, suc, ◌+◌, ◌<◌, ◌≤◌, Bool, true, false, cond, not, ◌||◌, nat_lt, List, [], ◌∷◌, ◌++◌, take, length, Option, Some, None, unwrap_or, option_map, slice_get, refl, ap, sym, subst, ◌∙◌, arith}
-use Rattle.std.specs.List.{enumerate_from, flat_map, list_any, AllByRecursion}
+use Rattle.std.proofs.Common.{◌≡◌, ℕ, zero, suc, ◌+◌, ◌<◌, ◌≤◌, Bool, false, nat_lt, List, [], ◌∷◌, ◌++◌, take, length, Some, unwrap_or, option_map, slice_get, ap, subst, arith}
+use Rattle.std.specs.List.{enumerate_from, flat_map, list_any}
 use Rattle.std.proofs.lemmas.Bool.Decides.{nat_tests}
 use Rattle.prefix6.specs.Prefix.{Prefix6, same_prefix}
-use Rattle.ripng_wire.specs.Wire.{first_failing}
 use Rattle.ripng_wire.proofs.FirstFailing.{EachPasses, each_passes}
 use Rattle.route_table.specs.Route.{infinity}
 use Rattle.router_core.specs.Config.{Config, IsConfig, mtu_at, config_tests, each_tested, interface_tests, prefix_tests}

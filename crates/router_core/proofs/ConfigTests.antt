@@ -1,5 +1,5 @@
 -- Which test of a configuration fails first, by the part that it tests.
-use Rattle.std.proofs.Common.{◌≡◌, ◌==◌, nat_lt, Bool, true, false, cond, ◌∷◌, ◌++◌, length, Option, Some, None, ap, ◌∙◌}
+use Rattle.std.proofs.Common.{◌≡◌, ◌==◌, nat_lt, true, false, cond, ◌∷◌, ◌++◌, length, Option, Some, None, ap, ◌∙◌}
 use Rattle.ripng_wire.specs.Wire.{first_failing}
 use Rattle.router_core.specs.Config.{Config, each_tested, interface_tests, prefix_tests, config_fault}
 use Rattle.router_core.specs.declared.config.ConfigRefused.{ConfigRefused}

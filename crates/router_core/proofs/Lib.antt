@@ -1,19 +1,19 @@
 pub mod Vectors
 pub mod HearingSteps
+pub mod HearingLoop
+pub mod NotesKept
 pub mod Replaying
 pub mod Cutting
 pub mod AgeReplaying
 pub mod MovesReplay
 pub mod WholeResponse
-mod CutPieces
 pub mod EachTested
 pub mod ConfigTests
-mod AgedTables
-mod EmptyRequests
-pub mod NotesKept
-pub mod HearingLoop
+mod CutPieces
 pub mod Sending
 pub mod ConfigLaws
 pub mod Owning
+mod AgedTables
+mod EmptyRequests
 mod Silence
 mod RouterSteps

@@ -1,5 +1,5 @@
 -- The steps of a router, put together from what its parts do.
-use Rattle.std.proofs.Common.{◌≡◌, ℕ, ◌+◌, ◌*◌, ◌/◌, ◌-◌, ◌<◌, ◌≤◌, List, length, get_or, slice_get, Bool, true, false, cond, if◌then◌else◌, [], Option, Some, None, refl, unwrap_or, option_map, ap, sym, subst, ◌∙◌, arith}
+use Rattle.std.proofs.Common.{◌≡◌, ℕ, ◌+◌, ◌*◌, ◌<◌, ◌≤◌, List, length, get_or, slice_get, Bool, true, false, cond, if◌then◌else◌, [], Some, None, refl, unwrap_or, option_map, ap, sym, subst, ◌∙◌, arith}
 use Rattle.std.specs.FinMap as map_of
 use Rattle.std.proofs.lemmas.Nat.{le-div}
 use Rattle.fib.specs.declared.change.RouteChange.{RouteChange}

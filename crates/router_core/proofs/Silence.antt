@@ -1,18 +1,16 @@
 -- Where an update has no datagram: a router is quiet, has no interface, or has no route to tell.
-use Rattle.std.proofs.Common.{◌≡◌, ◌↔◌, ℕ, zero, suc, ◌+◌, ◌-◌, ◌/◌, ◌==◌, ◌<◌, ◌≤◌, Bool, true, false, ◌||◌, not, cond, IsTrue, List, [], ◌∷◌, ◌++◌, map, filter, length, slice_get, Option, Some, None, unwrap_or, option_map, length-append, refl, ap, ap₂, sym, subst, ◌∙◌, arith, rules}
+use Rattle.std.proofs.Common.{◌≡◌, ◌↔◌, ℕ, ◌-◌, ◌/◌, ◌<◌, ◌≤◌, Bool, true, false, ◌||◌, not, cond, IsTrue, List, [], ◌∷◌, ◌++◌, map, filter, length, slice_get, Option, Some, None, unwrap_or, option_map, length-append, refl, ap, sym, subst, ◌∙◌, arith}
 use Rattle.std.specs.List.{enumerate_from, flat_map, list_any}
 use Rattle.std.specs.FinMap as map_of
-use Rattle.std.proofs.lemmas.Bool.Decides.{nat_tests}
 use Rattle.std.proofs.lemmas.List.{length-map}
 use Rattle.std.proofs.lemmas.Nat.{le-div}
-use Rattle.prefix6.specs.Prefix.{Prefix6}
 use Rattle.ripng_wire.specs.declared.rte.Rte.{Rte}
 use Rattle.ripng_wire.specs.declared.rte.Command.TheVariants.{Response}
 use Rattle.ripng_wire.specs.Layout.{entries_for_mtu}
 use Rattle.route_table.specs.Route.{RouteValue}
 use Rattle.route_table.specs.Table.{Table}
 use Rattle.router_core.specs.Config.{Config, IsConfig, mtu_at}
-use Rattle.router_core.specs.Output.{Message, pieces, responses, told, told_entry, update_messages}
+use Rattle.router_core.specs.Output.{Message, responses, told, told_entry, update_messages}
 use Rattle.router_core.specs.declared.answer.Destination.{Destination}
 use Rattle.router_core.specs.declared.answer.Destination.TheVariants.{Group}
 use Rattle.router_core.specs.declared.config.Interface.{Interface}

@@ -1,10 +1,10 @@
 -- The definitions of one step, computed on worked examples. Router A has interface 0, fe80::1, with an MTU of 1280, and
 -- interface 1, fe80::1:1, with one of 1500, each of cost 1; it owns nothing. What follows from each example was worked
 -- out by hand from the rules of RFC 2080 and of docs/PROTOCOL.md.
-use Rattle.std.specs.Prelude.{◌≡◌, ℕ, ◌+◌, ◌*◌, ◌^◌, Bool, true, false, List, [], ◌∷◌, ◌++◌, map, length, fold, replicate, refl, Option, Some, None}
+use Rattle.std.specs.Prelude.{◌≡◌, ℕ, ◌+◌, ◌*◌, ◌^◌, Bool, true, false, List, [], ◌∷◌, map, length, fold, refl, Some, None}
 use Rattle.prefix6.specs.Prefix.{Prefix6}
 use Rattle.ripng_wire.specs.declared.rte.Rte.{Rte}
-use Rattle.ripng_wire.specs.declared.error.WireError.TheVariants.{Short, TooLong, Ragged, BadCommand, BadVersion, NotZero}
+use Rattle.ripng_wire.specs.declared.error.WireError.TheVariants.{Short, Ragged, BadCommand, BadVersion, NotZero}
 use Rattle.ripng_wire.specs.Layout.{entry_bytes, entries_for_mtu}
 use Rattle.fib.specs.declared.change.Hop.TheVariants.{Direct, Via}
 use Rattle.fib.specs.declared.change.RouteChange.TheVariants.{Install, Withdraw}
@@ -19,7 +19,7 @@ use Rattle.router_core.specs.Adoption.{Gateway, adopted}
 use Rattle.router_core.specs.Ageing.{aged}
 use Rattle.router_core.specs.Changes.{change}
 use Rattle.router_core.specs.Machine.{owned_route, next_regular, next_hold}
-use Rattle.router_core.specs.Output.{Message, pieces, numbers_below, filled, told_entry, whole_table_request, asks_for_all, start_messages}
+use Rattle.router_core.specs.Output.{pieces, numbers_below, filled, told_entry, whole_table_request, asks_for_all, start_messages}
 use Rattle.router_core.specs.declared.arrival.Fault.TheVariants.{Wire, NotRipngPort, NotLinkLocal, OwnAddress, HopLimit, EmptyRequest, BadSource}
 use Rattle.router_core.specs.declared.answer.Destination.TheVariants.{Group}
 use Rattle.ripng_wire.specs.declared.rte.Command.TheVariants.{Request}

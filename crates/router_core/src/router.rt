@@ -31,16 +31,14 @@ use route_table::{Deadline, Moment, RouteStore};
 use std::alloc::{AllocError, Global};
 use std::marker::Model;
 
-/// The least time from a regular update to the next (RFC 2080, section 2.3).
+/// The least time between two regular updates, and by how much a random word makes it longer (RFC 2080, section 2.3).
 const REGULAR_LEAST_MS: u32 = 15_000;
 
-/// A random word makes that time longer by less than this.
 const REGULAR_SPREAD_MS: u32 = 30_001;
 
-/// The least time for which a triggered update holds the next (RFC 2080, section 2.5.1).
+/// The least time between two triggered updates, and by how much a random word makes it longer (RFC 2080, section 2.5.1).
 const HOLD_LEAST_MS: u32 = 1_000;
 
-/// A random word makes that time longer by less than this.
 const HOLD_SPREAD_MS: u32 = 4_001;
 
 /// A router over a store of routes.
@@ -123,7 +121,7 @@ impl<S: RouteStore> Router<S> {
         now: Moment,
     ) -> Result<(Router<S>, Answer), AllocError>
         ensures starts { IfOk result (λ r. Starts config now r.1 r.0) }
-        ensures few_sends { IfOk result (λ r. length r.1.sends ≤ length config.interfaces) }
+        ensures few { IfOk result (λ r. length r.1.sends ≤ length config.interfaces) }
         ensures replays { IfOk result (λ r. Replays map_of.empty r.1.changes (forwards r.0.table)) }
     {
         let (store, answer) = come_up(alloc, &config)?;
@@ -147,7 +145,7 @@ impl<S: RouteStore> Router<S> {
         ensures moves { IfOk result (λ answer. Moves self.old (Happening.Restarts now) answer self.new) }
         ensures err { OnErr result (self.new ≡ self.old) }
         ensures config { self.new.config ≡ self.old.config }
-        ensures few_sends { IfOk result (λ answer. length answer.sends ≤ length self.old.config.interfaces) }
+        ensures few { IfOk result (λ answer. length answer.sends ≤ length self.old.config.interfaces) }
         ensures replays { IfOk result (λ answer. Replays map_of.empty answer.changes (forwards self.new.table)) }
     {
         let (store, answer) = come_up(self.alloc, &self.config)?;
@@ -274,7 +272,7 @@ impl<S: RouteStore> Router<S> {
         ensures moves { IfOk result (λ answer. Moves self.old (Happening.Ticks now word) answer self.new) }
         ensures err { OnErr result (self.new ≡ self.old) }
         ensures config { self.new.config ≡ self.old.config }
-        ensures few_sends { IfOk result (λ answer. length answer.sends ≤ map_of.len self.old.table * length self.old.config.interfaces) }
+        ensures few { IfOk result (λ answer. length answer.sends ≤ map_of.len self.old.table * length self.old.config.interfaces) }
         ensures replays { IfOk result (λ answer. Replays (forwards self.old.table) answer.changes (forwards self.new.table)) }
         ensures idle_is_free { tick_messages self.old (max self.old.last now) ≡ []
             → changes_of_ageing (max self.old.last now) self.old.table ≡ [] → IsOk result }
@@ -345,7 +343,7 @@ impl<S: RouteStore> Router<S> {
         ensures moves { IfOk result (λ answer. Moves self.old (Happening.Arrives arrival.entry) answer self.new) }
         ensures err { OnErr result (self.new ≡ self.old) }
         ensures config { self.new.config ≡ self.old.config }
-        ensures few_sends { IfOk result (λ answer. length answer.sends ≤ max (map_of.len self.old.table) (entries_in arrival.entry.bytes)) }
+        ensures few { IfOk result (λ answer. length answer.sends ≤ max (map_of.len self.old.table) (entries_in arrival.entry.bytes)) }
         ensures replays { IfOk result (λ answer. Replays (forwards self.old.table) answer.changes (forwards self.new.table)) }
         ensures fault_is_free { IsSome (fault self.old.config arrival.entry) → IsOk result }
         ensures empty_is_free { Spells Response [] arrival.entry.bytes → IsOk result }

@@ -1,5 +1,4 @@
-use Rattle.std.proofs.Common.{◌≡◌, ◌∙◌, sym, ap, Some, None, arith}
-use Rattle.std.specs.Result.{result_err}
+use Rattle.std.proofs.Common.{sym, arith}
 use Rattle.std.proofs.lemmas.Result.{err_from_is_err_and}
 use Rattle.router_core.specs.Config.{interface_tests}
 use Rattle.router_core.proofs.EachTested.{passes_more, passes_all, fails_here}

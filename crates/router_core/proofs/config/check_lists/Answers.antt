@@ -1,4 +1,4 @@
-use Rattle.std.proofs.Common.{◌≡◌, ◌==◌, nat_lt, ◌∙◌, sym, ap, Some, None, true, false, cond, length, arith}
+use Rattle.std.proofs.Common.{◌≡◌, ◌==◌, nat_lt, ◌∙◌, sym, true, false, length, arith}
 use Rattle.std.proofs.lemmas.Bool.Decides.{nat_tests}
 use Rattle.std.proofs.lemmas.Result.{err_from_is_err_and}
 use Rattle.router_core.specs.Config.{config}

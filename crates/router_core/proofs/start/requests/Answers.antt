@@ -1,8 +1,7 @@
-use Rattle.std.proofs.Common.{◌≡◌, ℕ, false, ◌<◌, ◌≤◌, ◌∷◌, [], List, length, map, take, ap, sym, subst, ◌∙◌, refl, arith}
-use Rattle.std.specs.List.{enumerate_from}
+use Rattle.std.proofs.Common.{◌≡◌, ℕ, false, ◌<◌, ◌≤◌, ◌∷◌, [], List, length, map, ap, sym, subst, ◌∙◌, refl, arith}
 use Rattle.std.proofs.lemmas.List.{length-append}
 use Rattle.ripng_wire.specs.declared.rte.Command.TheVariants.{Request}
-use Rattle.router_core.specs.Output.{Message, AreSpelled, start_messages, whole_table_request}
+use Rattle.router_core.specs.Output.{AreSpelled, whole_table_request}
 use Rattle.router_core.specs.declared.config.Interface.{Interface}
 use Rattle.router_core.specs.declared.answer.Destination.TheVariants.{Group}
 use Rattle.router_core.specs.declared.answer.Outgoing.{Outgoing}

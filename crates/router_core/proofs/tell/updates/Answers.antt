@@ -1,4 +1,4 @@
-use Rattle.std.proofs.Common.{◌≡◌, ℕ, false, ◌+◌, ◌*◌, ◌<◌, ◌≤◌, List, take, length, Some, slice_get, ap, ap₂, sym, subst, ◌∙◌, arith, add-one, mul-suc}
+use Rattle.std.proofs.Common.{◌≡◌, ℕ, false, ◌+◌, ◌*◌, ◌<◌, ◌≤◌, List, length, Some, slice_get, ap, ap₂, sym, subst, ◌∙◌, arith, add-one, mul-suc}
 use Rattle.std.specs.List.{enumerate_from, flat_map}
 use Rattle.prefix6.specs.Prefix.{Prefix6}
 use Rattle.ripng_wire.specs.declared.rte.Rte.{Rte}

@@ -1,4 +1,4 @@
-use Rattle.std.proofs.Common.{◌≡◌, ◌≤◌, ◌*◌, take, length}
+use Rattle.std.proofs.Common.{◌≤◌, ◌*◌, take, length}
 use Rattle.std.specs.List.{enumerate_from, flat_map}
 use Rattle.router_core.specs.Output.{AreSpelled, responses, selected, told_of}
 use Rattle.router_core.specs.declared.answer.Destination.TheVariants.{Group}

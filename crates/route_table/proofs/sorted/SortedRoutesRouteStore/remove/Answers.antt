@@ -1,5 +1,5 @@
 use Rattle.std.proofs.Common.{sym, ◌∙◌, arith}
-use Rattle.route_table.proofs.SortedEntries.{where_at}
+use Rattle.prefix6.proofs.SortedEntries.{where_at}
 use Rattle.route_table.proofs.SortedTable.{table_without, sorted_without, present_gap}
 use Rattle.route_table.proofs.sorted.SortedRoutesRouteStore.remove.Goals as goal
 

@@ -1,6 +1,6 @@
 use Rattle.std.proofs.Common.{arith}
 use Rattle.std.proofs.lemmas.Grind.{common_steps}
-use Rattle.route_table.proofs.SortedEntries.{put_at}
+use Rattle.prefix6.proofs.SortedEntries.{put_at}
 use Rattle.route_table.proofs.SortedTable.{table_put, sorted_put, present_gap}
 use Rattle.route_table.proofs.sorted.SortedRoutesRouteStore.replace.Goals as goal
 

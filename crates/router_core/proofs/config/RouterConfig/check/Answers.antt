@@ -1,4 +1,4 @@
-use Rattle.std.proofs.Common.{◌≡◌, All, None, ap₂, subst, sym, ◌∙◌}
+use Rattle.std.proofs.Common.{All, ap₂, subst, sym, ◌∙◌}
 use Rattle.std.proofs.lemmas.Result.{err_from_is_err_and}
 use Rattle.prefix6.specs.Prefix.{IsPrefix}
 use Rattle.router_core.specs.Config.{config, config_fault}

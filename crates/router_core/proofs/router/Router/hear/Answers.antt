@@ -1,6 +1,4 @@
 use Rattle.std.proofs.Common.{sym, subst, ap, ◌∙◌}
-use Rattle.fib.specs.Forwarding.{Replays}
-use Rattle.router_core.specs.Changes.{forwards}
 use Rattle.router_core.specs.Hearing.{hearing}
 use Rattle.router_core.specs.Machine.{State, Hears, gateway_of}
 use Rattle.router_core.specs.declared.answer.Answer.{Answer}

@@ -1,4 +1,4 @@
-use Rattle.std.proofs.Common.{◌≡◌, false, sym, ◌∙◌}
+use Rattle.std.proofs.Common.{sym, ◌∙◌}
 use Rattle.router_core.specs.Output.{selected}
 use Rattle.router_core.specs.Ageing.{aged_table}
 use Rattle.router_core.proofs.Silence.{is_untold}

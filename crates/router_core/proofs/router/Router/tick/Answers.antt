@@ -1,4 +1,4 @@
-use Rattle.std.proofs.Common.{◌≡◌, sym, ap, ◌∙◌, rules}
+use Rattle.std.proofs.Common.{ap, ◌∙◌}
 use Rattle.router_core.specs.Machine.{tick_messages}
 use Rattle.router_core.specs.Updates.{update_of}
 use Rattle.router_core.specs.declared.answer.Answer.{Answer}

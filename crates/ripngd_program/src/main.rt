@@ -1,0 +1,41 @@
+//! The program `ripngd`: its arguments and standard streams, handed to the library of that name.
+#![tactic(auto)]
+
+use std::env;
+use std::io::{self, BufWriter, ErrorKind, Write};
+use std::process::ExitCode;
+use std::rt::Env;
+
+/// Does what the arguments ask for, and answers the exit status.
+///
+/// # Errors
+/// `OutOfMemory`, or `InvalidData` where an argument is not UTF-8.
+fn run<R: AllocGlobal + Env, O: Write + Drop, E: Write>(
+    rt: &R,
+    out: O,
+    err: &mut E,
+) -> io::Result<u8> {
+    let arguments: Vec<String> = env::args(rt)?.collect(rt.alloc())?;
+    let words: Vec<&str> = arguments
+        .iter()
+        .map(|argument| argument.as_str())
+        .collect(rt.alloc())?;
+    let mut out = BufWriter::new(rt.alloc(), out)?;
+    Ok(ripngd::program(rt, &words, &mut out, err))
+}
+
+fn main(rt: HostRuntime) -> ExitCode {
+    let mut err = rt.stderr();
+    let status = match run(&rt, rt.stdout(), &mut err) {
+        Ok(status) => status,
+        Err(error) => {
+            let (why, status) = match error.kind() {
+                ErrorKind::OutOfMemory => ("out of memory", 3),
+                _ => ("an argument is not UTF-8", 2),
+            };
+            let _ = writeln!(err, "ripngd: {why}");
+            status
+        }
+    };
+    ExitCode::from(status)
+}
