@@ -31,14 +31,16 @@ use route_table::{Deadline, Moment, RouteStore};
 use std::alloc::{AllocError, Global};
 use std::marker::Model;
 
-/// The least time between two regular updates, and by how much a random word makes it longer (RFC 2080, section 2.3).
+/// The least time from a regular update to the next (RFC 2080, section 2.3).
 const REGULAR_LEAST_MS: u32 = 15_000;
 
+/// A random word makes that time longer by less than this.
 const REGULAR_SPREAD_MS: u32 = 30_001;
 
-/// The least time between two triggered updates, and by how much a random word makes it longer (RFC 2080, section 2.5.1).
+/// The least time for which a triggered update holds the next (RFC 2080, section 2.5.1).
 const HOLD_LEAST_MS: u32 = 1_000;
 
+/// A random word makes that time longer by less than this.
 const HOLD_SPREAD_MS: u32 = 4_001;
 
 /// A router over a store of routes.
