@@ -1,17 +1,14 @@
 //! Which arrivals are refused, and by which test (RFC 2080, sections 2.4.1 and 2.4.2).
 
-ghost use Rattle.std.specs.Prelude.{◌≡◌, ◌==◌, IfOk, length};
+ghost use Rattle.std.specs.Prelude.{◌≡◌, IfOk};
 ghost use Rattle.std.specs.Result.{result_err};
 ghost use Rattle.ripng_wire.specs.Layout.{Spells};
 ghost use Rattle.ripng_wire.specs.Wire.{first_failing};
 ghost use Rattle.router_core.specs.Faults.{asker_tests, fault, neighbor_tests, request_tests, response_tests};
 
-use crate::arrival::{Arrival, Fault};
+use crate::arrival::{Arrival, Fault, RIPNG_PORT};
 use crate::config::RouterConfig;
 use ripng_wire::{Command, Datagram, decode};
-
-/// The UDP port of RIPng (RFC 2080, section 2).
-const RIPNG_PORT: u16 = 521;
 
 // What a router of the same link shows: its own link-local address, and to the group a hop limit that no router lowered.
 fn check_neighbor(config: &RouterConfig, arrival: &Arrival<'_>) -> Result<(), Fault>

@@ -7,7 +7,7 @@ ghost use Rattle.router_core.specs.Faults.{ripng_port};
 ghost use Rattle.router_core.specs.Output.{AreSpelled, asks_for_all, reply, reply_entry, reply_messages};
 
 use crate::answer::{Destination, Outgoing};
-use crate::arrival::Arrival;
+use crate::arrival::{Arrival, RIPNG_PORT};
 use crate::config::RouterConfig;
 use crate::cut::push_responses;
 use crate::tell::{Told, listed, told_on};
@@ -15,9 +15,6 @@ use prefix6::{Addr6, Prefix};
 use ripng_wire::{Datagram, Rte};
 use route_table::{INFINITY, RouteStore};
 use std::alloc::{AllocError, Global};
-
-/// The UDP port of RIPng.
-const RIPNG_PORT: u16 = 521;
 
 // Whether the entries ask for the whole table: one entry of `::`, length 0 and metric 16, whatever its tag.
 fn asks_for_all(request: &Datagram<'_>) -> bool

@@ -1,16 +1,15 @@
 //! A router over any store of routes: the step of RIPng (RFC 2080, sections 2.3 to 2.5).
 
-ghost use Rattle.std.specs.Prelude.{◌≡◌, ◌<◌, ◌≤◌, ◌*◌, ◌↔◌, max, [], IsTrue, None, Some, IsSome, IsOk, IfOk, OnOk, OnErr, length};
+ghost use Rattle.std.specs.Prelude.{◌≡◌, ◌<◌, ◌≤◌, ◌*◌, ◌↔◌, max, [], IsTrue, None, Some, IsSome, IsOk, IfOk, OnErr, length};
 ghost use Rattle.std.specs.FinMap as map_of;
 ghost use Rattle.fib.specs.Forwarding.{Replays};
 ghost use Rattle.ripng_wire.specs.Layout.{Spells};
 ghost use Rattle.ripng_wire.specs.declared.rte.Command.TheVariants.{Request, Response};
 ghost use Rattle.route_table.specs.Route.{infinity};
-ghost use Rattle.router_core.specs.Changes.{forwards, changes_of_ageing, changes_of_hearing, changes_of_start};
+ghost use Rattle.router_core.specs.Changes.{forwards, changes_of_ageing, changes_of_start};
 ghost use Rattle.router_core.specs.Config.{cost_at};
 ghost use Rattle.router_core.specs.Faults.{fault};
-ghost use Rattle.router_core.specs.Hearing.{Heard, hearing};
-ghost use Rattle.router_core.specs.Machine.{Happening, Hears, Moves, Replies, Starts, gateway_of, owned_table, started, tick_messages};
+ghost use Rattle.router_core.specs.Machine.{Happening, Hears, Moves, Replies, Starts, gateway_of, owned_table, tick_messages};
 ghost use Rattle.router_core.specs.Output.{AreSpelled, start_messages};
 ghost use Rattle.router_core.specs.Updates.{update_due, update_of, regular_after, hold_after, entries_in};
 
