@@ -46,9 +46,3 @@ abbrev pub failed_sends : List Call → ℕ
 failed_sends [] = 0
 failed_sends (Handed s went ∷ calls) = (if went then 0 else 1) + failed_sends calls
 failed_sends (_ ∷ calls) = failed_sends calls
-
--- how many of these calls were a `recv` that failed
-abbrev pub failed_recvs : List Call → ℕ
-failed_recvs [] = 0
-failed_recvs (RecvFailed ∷ calls) = 1 + failed_recvs calls
-failed_recvs (_ ∷ calls) = failed_recvs calls

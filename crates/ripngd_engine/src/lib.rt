@@ -3,7 +3,15 @@
 #![tactic(auto)]
 
 mod clock;
+mod engine;
 mod link;
+mod log;
+mod outlet;
+mod report;
+mod running;
 
 pub use clock::TimeSource;
+pub use engine::Engine;
 pub use link::{Link, LinkFault, Received};
+pub use log::RouteLine;
+pub use report::{EngineFault, Report};
