@@ -1,0 +1,11 @@
+use Rattle.std.proofs.Common.{inr}
+use Rattle.std.proofs.lemmas.Result.{IfErr-weaker, IfOk-weaker}
+use Rattle.ripngd_config.proofs.configuration.read_config.Goals as goal
+
+pub returns-clause-read : goal.returns-clause-read
+returns-clause-read c =
+    IfOk-weaker c.configure.result _ _ (λ made built. (c.in_ok-document.document, c.in_ok-document.ensures.read, built)) c.configure.ensures.made
+
+pub returns-clause-refused : goal.returns-clause-refused
+returns-clause-refused c =
+    IfErr-weaker c.configure.result _ _ (λ e refused. inr (c.in_ok-document.document, c.in_ok-document.ensures.read, refused)) c.configure.ensures.refused
