@@ -4,4 +4,3 @@ pub mod Values
 pub mod Tables
 pub mod Twice
 pub mod Configuration
-pub mod RouterRefusal

@@ -4,7 +4,6 @@ ghost use Rattle.std.specs.Prelude.{◌≡◌};
 ghost use Rattle.ripngd_config.specs.declared.fault.ConfigFault.TheVariants.{OutOfMemory, Router};
 
 use crate::place::Place;
-use crate::router_refusal::{refusal_name, refusal_number};
 use router_core::ConfigRefused;
 use std::alloc::{AllocError, AllocFailed, Global};
 use thiserror::Error;
@@ -30,7 +29,7 @@ pub enum ConfigFault {
     #[error("5 UnknownKey {0}")]
     UnknownKey(String),
     /// 6: the router's own check refuses its interfaces and prefixes.
-    #[error("6 Router {} {}", refusal_number(*.0), refusal_name(*.0))]
+    #[error("6 Router {} {}", .0.number(), .0.name())]
     Router(ConfigRefused),
     /// 7: the local port of an interface is that of an earlier one.
     #[error("7 PortTwice {0}")]

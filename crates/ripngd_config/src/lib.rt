@@ -10,7 +10,6 @@ mod fault;
 mod from_section;
 mod peer;
 mod place;
-mod router_refusal;
 mod tables;
 mod twice;
 mod values;
