@@ -78,9 +78,9 @@ fn of_a_datagram_that_is_cut_short_only_whole_entries_count(rt: HostRuntime) -> 
         "\
 > router
 > hear-beginnings 0 0 fe80::2 0 61 1
-4 answered Some(Wire(Short))
-1159 answered Some(Wire(Ragged))
-62 answered None
+4 with fault Some(Wire(Short))
+1159 with fault Some(Wire(Ragged))
+62 with fault None
 > size
 61
 ",
