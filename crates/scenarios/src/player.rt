@@ -127,8 +127,10 @@ fn begin(out: &mut String, alloc: Global, line: &str) -> Result<TestRouter, Fail
         return Err(Fail::from("no command"));
     };
     let (router, answer) = Router::start(alloc, config(alloc, rest)?, moment("0")?)?;
-    if *how == "start" {
-        write_answer(out, alloc, &answer)?;
+    match *how {
+        "start" => write_answer(out, alloc, &answer)?,
+        "router" => {}
+        _ => return Err(Fail::from("no such start")),
     }
     Ok(router)
 }
