@@ -204,3 +204,97 @@ last 0 regular 0 hold 0
 ",
     )
 }
+
+#[test]
+fn a_gateway_is_believed_whatever_it_says(rt: HostRuntime) -> Result<(), Fail> {
+    play(
+        &rt,
+        rt.alloc(),
+        "\
+> router
+> tick 0 0
+> hear 0 1 fe80::2 521 255 group 02010000 20010db8 00000000 00000000 00000000 00002001
+install 2001:db8::/32 metric 2 via fe80::2 iface 0
+> tick 1 0
+send 0 group 02010000 20010db8 00000000 00000000 00000000 00002010
+send 1 group 02010000 20010db8 00000000 00000000 00000000 00002002
+> hear 0 1000 fe80::2 521 255 group 02010000 20010db8 00000000 00000000 00000000 00002001
+> show
+2001:db8::/32 metric 2 tag 0 via fe80::2 iface 0 from fe80::2 live until 181000
+last 1000 regular 15000 hold 1001
+> hear 0 2000 fe80::2 521 255 group 02010000 20010db8 00000000 00000000 00000000 00002005
+install 2001:db8::/32 metric 6 via fe80::2 iface 0
+> tick 2000 0
+send 0 group 02010000 20010db8 00000000 00000000 00000000 00002010
+send 1 group 02010000 20010db8 00000000 00000000 00000000 00002006
+> hear 0 3000 fe80::2 521 255 group 02010000 20010db8 00000000 00000000 00000000 00072005
+> show
+2001:db8::/32 metric 6 tag 7 via fe80::2 iface 0 from fe80::2 live until 183000 changed
+last 3000 regular 15000 hold 3000
+",
+    )
+}
+
+#[test]
+fn one_neighbor_on_two_interfaces_is_two_gateways(rt: HostRuntime) -> Result<(), Fail> {
+    play(
+        &rt,
+        rt.alloc(),
+        "\
+> router
+> tick 0 0
+> hear 0 1 fe80::2 521 255 group 02010000 20010db8 00000000 00000000 00000000 00002001
+install 2001:db8::/32 metric 2 via fe80::2 iface 0
+> hear 1 2 fe80::2 521 255 group 02010000 20010db8 00000000 00000000 00000000 00002010
+> hear 1 3 fe80::2 521 255 group 02010000 20010db8 00000000 00000000 00000000 00002001
+> show
+2001:db8::/32 metric 2 tag 0 via fe80::2 iface 0 from fe80::2 live until 180001 changed
+last 3 regular 15000 hold 0
+> hear 0 4 fe80::2 521 255 group 02010000 20010db8 00000000 00000000 00000000 00002005
+install 2001:db8::/32 metric 6 via fe80::2 iface 0
+> hear 1 5 fe80::2 521 255 group 02010000 20010db8 00000000 00000000 00000000 00002001
+install 2001:db8::/32 metric 2 via fe80::2 iface 1
+> tick 5 0
+send 0 group 02010000 20010db8 00000000 00000000 00000000 00002002
+send 1 group 02010000 20010db8 00000000 00000000 00000000 00002010
+> show
+2001:db8::/32 metric 2 tag 0 via fe80::2 iface 1 from fe80::2 live until 180005
+last 5 regular 15000 hold 1005
+",
+    )
+}
+
+#[test]
+fn a_next_hop_that_is_no_neighbor_is_passed_over(rt: HostRuntime) -> Result<(), Fail> {
+    play(
+        &rt,
+        rt.alloc(),
+        "\
+> router
+> hear 0 0 fe80::2 521 255 group 02010000 \
+fe800000 00000000 00000000 00010001 000000ff \
+20010db8 00010000 00000000 00000000 00003001 \
+00000000 00000000 00000000 00000000 000000ff \
+20010db8 00020000 00000000 00000000 00003001
+install 2001:db8:1::/48 metric 2 via fe80::2 iface 0
+install 2001:db8:2::/48 metric 2 via fe80::2 iface 0
+",
+    )
+}
+
+#[test]
+fn an_own_prefix_is_never_replaced(rt: HostRuntime) -> Result<(), Fail> {
+    play(
+        &rt,
+        rt.alloc(),
+        "\
+> router own 2001:db8:a::/48 7
+> hear 0 0 fe80::2 521 255 group 02010000 \
+20010db8 000a0000 00000000 00000000 00003001 \
+20010db8 000a0000 00000000 00000000 00003010
+> show
+2001:db8:a::/48 metric 1 tag 7 own
+last 0 regular 0 hold 0
+",
+    )
+}
