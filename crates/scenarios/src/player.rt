@@ -1,0 +1,158 @@
+//! A player of transcripts. A line `> COMMAND` is done; the lines behind it, up to the next, are what must come out.
+//!
+//! | Command | Does |
+//! |---|---|
+//! | `start ..`, `router ..` | the first line: the router comes up at 0, and its answer is written, or not. It owns no prefix, or with `sites N` those of the numbers below N, or with `own PREFIX TAG` that one; with `quiet` it is quiet |
+//! | `hear IFACE NOW SOURCE PORT HOP group BYTES` | a datagram arrives that was sent to the group, or with `peer` to this router |
+//! | `hear-sites IFACE NOW SOURCE FIRST COUNT METRIC` | a neighbor's Response arrives, with so many prefixes `2001:db8:N::/48` |
+//! | `hear-beginnings IFACE NOW SOURCE FIRST COUNT METRIC` | each beginning of that Response arrives, the shortest first; how many have which fault is written |
+//! | `tick NOW WORD`, `restart NOW` | time passes; the router comes up again |
+//! | `count COMMAND` | does the command, and writes numbers in place of a long answer |
+//! | `show`, `route PREFIX`, `size`, `timers` | writes all that the router holds, one route, how many there are, its moments |
+
+use crate::reading::{
+    arrival, config, datagram, from_neighbor, moment, response_of_sites, words_of,
+};
+use crate::writing::{write_answer, write_route, write_router, write_sizes, write_timers};
+use prefix6::parse_prefix;
+use ripng_wire::WireError;
+use route_table::{RouteStore, SortedRoutes};
+use router_core::{Answer, Arrival, Fault, Router};
+use std::alloc::Global;
+use std::process::Abort;
+use std::test::Fail;
+
+type TestRouter = Router<SortedRoutes>;
+
+// An arrival at an interface that there is. It must be answered by the fault that was foreseen.
+fn arrive(router: &mut TestRouter, arrival: Arrival<'_>) -> Result<Answer, Fail> {
+    if arrival.iface >= router.config().interfaces().len() {
+        return Err(Fail::from("no such interface"));
+    }
+    let foreseen = router.fault_of(&arrival);
+    let answer = router.arrive(arrival)?;
+    if answer.fault == foreseen {
+        Ok(answer)
+    } else {
+        Err(Fail::from("another fault was foreseen"))
+    }
+}
+
+fn hear(alloc: Global, router: &mut TestRouter, words: &[&str]) -> Result<Answer, Fail> {
+    let (how, bytes) = words.split_at(words.len().min(6));
+    let bytes = datagram(alloc, bytes)?;
+    arrive(router, arrival(how, bytes.as_slice())?)
+}
+
+fn hear_sites(alloc: Global, router: &mut TestRouter, words: &[&str]) -> Result<Answer, Fail> {
+    let bytes = response_of_sites(alloc, words)?;
+    arrive(router, from_neighbor(words, bytes.as_slice())?)
+}
+
+// What each beginning of a neighbor's Response is answered by.
+fn faults_of_beginnings(
+    alloc: Global,
+    router: &mut TestRouter,
+    words: &[&str],
+) -> Result<Vec<Option<Fault>>, Fail> {
+    let bytes = response_of_sites(alloc, words)?;
+    let mut faults = Vec::new(alloc);
+    for end in 0..=bytes.len() {
+        let answer = arrive(router, from_neighbor(words, &bytes[..end])?)?;
+        faults.push(answer.fault)?;
+    }
+    Ok(faults)
+}
+
+fn hear_beginnings(
+    out: &mut String,
+    alloc: Global,
+    router: &mut TestRouter,
+    words: &[&str],
+) -> Result<(), Fail> {
+    let faults = faults_of_beginnings(alloc, router, words)?;
+    for fault in [
+        Some(Fault::Wire(WireError::Short)),
+        Some(Fault::Wire(WireError::Ragged)),
+        None,
+    ] {
+        let count = faults.iter().filter(|found| **found == fault).count();
+        writeln!(out, "{count} with fault {fault:?}")?;
+    }
+    Ok(())
+}
+
+// What the router answers to a command.
+fn answer_of(alloc: Global, router: &mut TestRouter, words: &[&str]) -> Result<Answer, Fail> {
+    match words {
+        ["hear", rest @ ..] => hear(alloc, router, rest),
+        ["hear-sites", rest @ ..] => hear_sites(alloc, router, rest),
+        ["tick", now, word] => Ok(router.tick(moment(*now)?, word.parse::<u32>()?)?),
+        ["restart", now] => Ok(router.restart(moment(*now)?)?),
+        _ => Err(Fail::from("no such command")),
+    }
+}
+
+fn show_route(out: &mut String, router: &TestRouter, word: &str) -> Result<(), Fail> {
+    let prefix = parse_prefix(word)?;
+    match router.routes().get(&prefix) {
+        Some(route) => Ok(write_route(out, &prefix, &route)?),
+        None => Ok(writeln!(out, "no route")?),
+    }
+}
+
+// Does a command, and writes what comes out.
+fn obey(
+    out: &mut String,
+    alloc: Global,
+    router: &mut TestRouter,
+    words: &[&str],
+) -> Result<(), Fail> {
+    match words {
+        ["show"] => Ok(write_router(out, router)?),
+        ["route", prefix] => show_route(out, router, *prefix),
+        ["size"] => Ok(writeln!(out, "{}", router.routes().len())?),
+        ["timers"] => Ok(write_timers(out, router)?),
+        ["hear-beginnings", rest @ ..] => hear_beginnings(out, alloc, router, rest),
+        ["count", rest @ ..] => Ok(write_sizes(out, alloc, &answer_of(alloc, router, rest)?)?),
+        _ => Ok(write_answer(out, alloc, &answer_of(alloc, router, words)?)?),
+    }
+}
+
+// The router that the first line starts.
+fn begin(out: &mut String, alloc: Global, line: &str) -> Result<TestRouter, Fail> {
+    writeln!(out, "{line}")?;
+    let words = words_of(alloc, line)?;
+    let [">", how, rest @ ..] = words.as_slice() else {
+        return Err(Fail::from("no command"));
+    };
+    let (router, answer) = Router::start(alloc, config(alloc, rest)?, moment("0")?)?;
+    match *how {
+        "start" => write_answer(out, alloc, &answer)?,
+        "router" => {}
+        _ => return Err(Fail::from("no such start")),
+    }
+    Ok(router)
+}
+
+// The transcript as it turns out.
+fn played(alloc: Global, transcript: &str) -> Result<String, Fail> {
+    let mut out = String::new(alloc);
+    let mut lines = transcript.lines();
+    let mut router = begin(&mut out, alloc, lines.next().unwrap_or(""))?;
+    for line in lines {
+        if let Some(command) = line.strip_prefix("> ") {
+            writeln!(out, "{line}")?;
+            let words = words_of(alloc, command)?;
+            obey(&mut out, alloc, &mut router, words.as_slice())?;
+        }
+    }
+    Ok(out)
+}
+
+/// Plays a transcript, which must turn out as it is written.
+pub fn play(rt: &impl Abort, alloc: Global, transcript: &str) -> Result<(), Fail> {
+    let played = played(alloc, transcript)?;
+    assert_eq!(rt; played.as_str(), transcript);
+    Ok(())
+}

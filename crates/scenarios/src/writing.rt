@@ -1,0 +1,155 @@
+//! What a router answers and holds, as lines of a transcript.
+
+use fib::{Hop, RouteChange};
+use prefix6::Prefix;
+use route_table::{Clock, Origin, Route, RouteStore, SortedRoutes};
+use router_core::{Answer, Destination, Note, NoteKind, Outgoing, Router};
+use std::alloc::{AllocError, Global};
+
+// Bytes as hexadecimal digits, four bytes a word, as RFC 2080 draws a datagram.
+fn write_bytes(out: &mut String, alloc: Global, bytes: &[u8]) -> Result<(), AllocError> {
+    for word in bytes.chunks(4) {
+        write!(out, " {}", hex::encode(alloc, word)?)?;
+    }
+    writeln!(out)
+}
+
+// A datagram that is sent: the interface, to whom, and its bytes.
+fn write_send(out: &mut String, alloc: Global, send: &Outgoing) -> Result<(), AllocError> {
+    write!(out, "send {}", send.iface)?;
+    match send.to {
+        Destination::Group => write!(out, " group")?,
+        Destination::Peer { addr, port } => write!(out, " peer {addr} {port}")?,
+    }
+    write_bytes(out, alloc, send.bytes.as_slice())
+}
+
+// A change of the forwarding table.
+fn write_change(out: &mut String, change: &RouteChange) -> Result<(), AllocError> {
+    match *change {
+        RouteChange::Install {
+            prefix,
+            hop: Hop::Direct,
+            metric,
+        } => writeln!(out, "install {prefix} metric {metric} direct"),
+        RouteChange::Install {
+            prefix,
+            hop: Hop::Via { iface, next_hop },
+            metric,
+        } => writeln!(
+            out,
+            "install {prefix} metric {metric} via {next_hop} iface {iface}"
+        ),
+        RouteChange::Withdraw { prefix } => writeln!(out, "withdraw {prefix}"),
+    }
+}
+
+/// All that a call answered: fault, sends, changes and notes, a line each.
+pub fn write_answer(out: &mut String, alloc: Global, answer: &Answer) -> Result<(), AllocError> {
+    if let Some(fault) = answer.fault {
+        writeln!(out, "fault {fault:?}")?;
+    }
+    for send in answer.sends.as_slice() {
+        write_send(out, alloc, send)?;
+    }
+    for change in answer.changes.as_slice() {
+        write_change(out, change)?;
+    }
+    for note in answer.notes.as_slice() {
+        writeln!(out, "note {} {:?}", note.entry, note.kind)?;
+    }
+    Ok(())
+}
+
+// How many of the notes are of a kind.
+fn count_of(notes: &[Note], kind: NoteKind) -> usize {
+    notes.iter().filter(|note| note.kind == kind).count()
+}
+
+fn write_note_counts(out: &mut String, notes: &[Note]) -> Result<(), AllocError> {
+    for kind in [
+        NoteKind::BadLength,
+        NoteKind::BadPrefix,
+        NoteKind::BadMetric,
+        NoteKind::TableFull,
+        NoteKind::NoMemory,
+    ] {
+        let count = count_of(notes, kind);
+        if count > 0 {
+            writeln!(out, "notes {count} {kind:?}")?;
+        }
+    }
+    Ok(())
+}
+
+/// What a long answer holds, by number: the size of each datagram with its last entry, how many changes there are, and
+/// how many notes of each kind.
+pub fn write_sizes(out: &mut String, alloc: Global, answer: &Answer) -> Result<(), AllocError> {
+    if let Some(fault) = answer.fault {
+        writeln!(out, "fault {fault:?}")?;
+    }
+    for send in answer.sends.as_slice() {
+        let bytes = send.bytes.as_slice();
+        write!(out, "send {} of {} bytes, last", send.iface, bytes.len())?;
+        write_bytes(out, alloc, &bytes[bytes.len().saturating_sub(20)..])?;
+    }
+    let changes = answer.changes.as_slice();
+    if !changes.is_empty() {
+        writeln!(out, "changes {}", changes.len())?;
+    }
+    write_note_counts(out, answer.notes.as_slice())
+}
+
+/// A route: metric, tag, where it comes from, its deadline, and whether it is marked as changed.
+pub fn write_route(out: &mut String, prefix: &Prefix, route: &Route) -> Result<(), AllocError> {
+    write!(
+        out,
+        "{prefix} metric {} tag {}",
+        route.metric(),
+        route.tag()
+    )?;
+    match route.origin() {
+        Origin::Own => write!(out, " own")?,
+        Origin::Learned {
+            iface,
+            from,
+            next_hop,
+        } => write!(out, " via {next_hop} iface {iface} from {from}")?,
+    }
+    let clock = route.clock();
+    match clock {
+        Clock::Fixed => {}
+        Clock::Live(until) => write!(out, " live until {}", until.ms())?,
+        Clock::Dying(until) => write!(out, " dying until {}", until.ms())?,
+    }
+    if route.is_changed() {
+        write!(out, " changed")?;
+    }
+    writeln!(out)
+}
+
+/// The moment of a router's last step, when its next regular update is due, and until when it holds triggered ones.
+pub fn write_timers(out: &mut String, router: &Router<SortedRoutes>) -> Result<(), AllocError> {
+    let (last, regular, hold) = (router.last(), router.regular(), router.hold());
+    writeln!(
+        out,
+        "last {} regular {} hold {}",
+        last.ms(),
+        regular.ms(),
+        hold.ms()
+    )
+}
+
+/// Every route of a router, in order, then its timers.
+pub fn write_router(out: &mut String, router: &Router<SortedRoutes>) -> Result<(), AllocError> {
+    let routes = router.routes();
+    let mut after = None;
+    for _ in 0..routes.len() {
+        let Some(entry) = routes.walk(after) else {
+            break;
+        };
+        write_route(out, &entry.0, &entry.1)?;
+        after = Some(entry.0);
+    }
+    write_timers(out, router)
+}
