@@ -147,6 +147,13 @@ impl<S: RouteStore, L: Link, C: TimeSource, R: Rng + Drop> Engine<S, L, C, R> {
         &self.running.router
     }
 
+    /// The link.
+    pub fn link(&self) -> &L
+        ensures { L.calls result.now ≡ self.now.calls }
+    {
+        &self.running.outlet.link
+    }
+
     /// The forwarding table. Until the engine has answered `OutOfMemory` it is that of the router's routes.
     pub fn fib(&self) -> &Fib
         ensures value { result.now ≡ self.now.fib }

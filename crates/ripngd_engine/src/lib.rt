@@ -6,9 +6,12 @@ mod clock;
 mod engine;
 mod link;
 mod log;
+pub mod memory;
 mod outlet;
 mod report;
 mod running;
+#[cfg(test)]
+mod tests;
 
 pub use clock::TimeSource;
 pub use engine::Engine;
