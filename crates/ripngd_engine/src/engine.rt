@@ -1,6 +1,6 @@
 //! The engine: a router that runs over a link, turn after turn.
 
-ghost use Rattle.std.specs.Prelude.{◌≡◌, false, Err, IfOk, OnErr, length};
+ghost use Rattle.std.specs.Prelude.{◌≡◌, true, false, Err, IfOk, OnErr, length};
 ghost use Rattle.router_core.specs.Changes.{forwards};
 
 use crate::clock::TimeSource;
@@ -114,7 +114,9 @@ impl<S: RouteStore, L: Link, C: TimeSource, R: Rng + Drop> Engine<S, L, C, R> {
     /// `OutOfMemory` where there was no memory for the forwarding table. That step's datagrams were sent and its lines
     /// written, the table is as before it, and every later call answers the same and does nothing.
     pub fn turns<W: Write>(&mut self, n: u32, log: &mut W) -> Result<(), EngineFault>
-        ensures { TurnsAnswer n (seen R.stream W.contents self.old log.old) result (seen R.stream W.contents self.new log.new) }
+        ensures runs { self.old.ended ≡ false → TurnsAnswer n (seen R.stream W.contents self.old log.old) result
+            (seen R.stream W.contents self.new log.new) }
+        ensures ended { self.old.ended ≡ true → (result ≡ Err EngineFault.OutOfMemory) × (self.new ≡ self.old) × (log.new ≡ log.old) }
     {
         if self.running.outlet.ended {
             return Err(EngineFault::OutOfMemory);

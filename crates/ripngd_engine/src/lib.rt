@@ -4,6 +4,7 @@
 
 mod clock;
 mod engine;
+pub mod laws;
 mod link;
 mod log;
 pub mod memory;

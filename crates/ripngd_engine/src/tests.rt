@@ -51,16 +51,21 @@ fn config(rt: &impl Abort, alloc: Global) -> Result<RouterConfig, AllocError>
     Ok(RouterConfig::check(interfaces, Vec::new(alloc), false).expect(rt, "a lawful configuration"))
 }
 
-/// The datagram by which `fe80::2` tells the route on interface 0.
-fn told(alloc: Global, metric: u8) -> Result<Option<Datagram>, AllocError> {
-    Ok(Some(Datagram {
+/// A datagram that `fe80::2` sends to the group on interface 0.
+fn from_neighbor(bytes: Vec<u8>) -> Option<Datagram> {
+    Some(Datagram {
         iface: 0,
         source: link_local(2),
         source_port: 521,
         hop_limit: 255,
         to_group: true,
-        bytes: Vec::from_slice(alloc, &response(metric))?,
-    }))
+        bytes,
+    })
+}
+
+/// The datagram by which it tells the route.
+fn told(alloc: Global, metric: u8) -> Result<Option<Datagram>, AllocError> {
+    Ok(from_neighbor(Vec::from_slice(alloc, &response(metric))?))
 }
 
 /// A clock that gives 0 as often as is said, and then 2 for ever.
@@ -238,5 +243,19 @@ fn a_failed_write_ends_the_log_alone(rt: HostRuntime) -> Result<(), Fail> {
         assert_eq!(rt; log.text() == TOLD_AND_TAKEN_BACK, !failed);
     }
     assert!(rt; writes < 64);
+    Ok(())
+}
+
+#[test]
+fn the_longest_datagram_fits_the_buffer(rt: HostRuntime) -> Result<(), Fail> {
+    let alloc = rt.alloc();
+    let mut link = MemoryLink::new(alloc, 2);
+    link.coming
+        .push_back(from_neighbor(vec![in alloc; 0u8; 65_535]?))?;
+    let mut log = MemoryLog::new(alloc);
+    let mut engine = start(&rt, alloc, link, &mut log)?;
+    assert_eq!(rt; engine.turns(1, &mut log), Ok(()));
+    let calls = engine.link().calls().expect(&rt, "memory for each call");
+    assert!(rt; calls.iter().any(|call| matches!(call, LinkCall::Gave(_))));
     Ok(())
 }
