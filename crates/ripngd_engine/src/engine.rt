@@ -78,12 +78,9 @@ impl<S: RouteStore, L: Link, C: TimeSource, R: Rng + Drop> Engine<S, L, C, R> {
             (fresh (L.calls link) (C.moments clock) (W.contents log.old)) (seen R.stream W.contents e log.new)) }
         ensures err { OnErr result (result ≡ Err EngineFault.OutOfMemory) }
     {
-        let buffer = vec![in alloc; 0u8; BUFFER_LEN].map_err(|_| EngineFault::OutOfMemory)?;
+        let buffer = vec![in alloc; 0u8; BUFFER_LEN]?;
         let now = clock.now();
-        let (router, answer) = match Router::start(alloc, config, now) {
-            Ok(started) => started,
-            Err(_) => return Err(EngineFault::OutOfMemory),
-        };
+        let (router, answer) = Router::start(alloc, config, now)?;
         let mut outlet = Outlet {
             link,
             fib: Fib::new(alloc),
@@ -91,9 +88,7 @@ impl<S: RouteStore, L: Link, C: TimeSource, R: Rng + Drop> Engine<S, L, C, R> {
             log_failed: false,
             ended: false,
         };
-        if outlet.carry_out(answer, log).is_err() {
-            return Err(EngineFault::OutOfMemory);
-        }
+        outlet.carry_out(answer, log)?;
         let running = Running {
             router,
             outlet,
