@@ -254,3 +254,20 @@ Ran-more k a b c ran turn = record {
   turns = Turns-more a.machine ran.traces b.machine turn.trace c.machine ran.turns turn.does;
   shows = rw (all_joined-more ran.traces turn.trace) (Shows-trans a.outside b.outside c.outside _ _ ran.shows turn.shows);
 }
+
+Turns-append : (m : Machine) (ts : List Trace) (k : Machine) (us : List Trace) (n : Machine) → Turns m ts k → Turns k us n → Turns m (ts ++ us) n
+Turns-append m [] k us n p q = subst (λ x. Turns x us n) p q
+Turns-append m (t ∷ ts) k us n p q = (p.0, p.1, Turns-append p.0 ts k us n p.2 q)
+
+all_joined-append : (ts us : List Trace) → all_joined (ts ++ us) ≡ joined (all_joined ts) (all_joined us)
+all_joined-append [] us = refl
+all_joined-append (t ∷ ts) us = ap (joined t) (all_joined-append ts us) ∙ sym (joined-assoc t (all_joined ts) (all_joined us))
+
+-- turns, and then others
+pub Ran-trans : (j k : ℕ) (a b c : Seen) → Ran j a b → Ran k b c → Ran (j + k) a c
+Ran-trans j k a b c first second = record {
+  traces = first.traces ++ second.traces;
+  count_is = rw (length-append first.traces second.traces) (omega (arith, first.count_is, second.count_is));
+  turns = Turns-append a.machine first.traces b.machine second.traces c.machine first.turns second.turns;
+  shows = rw (all_joined-append first.traces second.traces) (Shows-trans a.outside b.outside c.outside _ _ first.shows second.shows);
+}

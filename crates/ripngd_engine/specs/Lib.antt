@@ -5,3 +5,4 @@ pub mod Run
 pub mod Outlet
 pub mod Seen
 pub mod Running
+pub mod Memory

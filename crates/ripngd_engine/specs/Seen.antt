@@ -106,10 +106,9 @@ pub record RanUntilRefused (n : ℕ) (a b : Seen) : Type 0 where
   pub within : count ≤ n
   pub ran : Ran count a b
 
--- what a call for n turns answers: Ok after all of them; a link fault after those before the failed `recv`; or want of
--- memory, after the turn whose changes were refused, or of an engine that has ended before, which does nothing
+-- what a call for n turns answers of an engine that has not ended: Ok after all of them; a link fault after those before
+-- the failed `recv`; or want of memory, after the turn whose changes were refused
 abbrev pub TurnsAnswer : ℕ → Seen → Result (Unit {0}) EngineFault → Seen → Type 0
 TurnsAnswer n a (Ok u) b = (b.machine.ended ≡ false) × Ran n a b
 TurnsAnswer n a (Err (LinkFault done)) b = (b.machine.ended ≡ false) × (done < n) × RanUntilDeaf done a b
-TurnsAnswer n a (Err OutOfMemory) b =
-    (b.machine.ended ≡ true) × (a.machine.ended ≡ true → b ≡ a) × (a.machine.ended ≡ false → RanUntilRefused n a b)
+TurnsAnswer n a (Err OutOfMemory) b = (b.machine.ended ≡ true) × RanUntilRefused n a b

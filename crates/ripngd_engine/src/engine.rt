@@ -1,6 +1,6 @@
 //! The engine: a router that runs over a link, turn after turn.
 
-ghost use Rattle.std.specs.Prelude.{◌≡◌, false, Err, IfOk, OnErr, length};
+ghost use Rattle.std.specs.Prelude.{◌≡◌, true, false, Err, IfOk, OnErr, length};
 ghost use Rattle.router_core.specs.Changes.{forwards};
 
 use crate::clock::TimeSource;
@@ -78,12 +78,9 @@ impl<S: RouteStore, L: Link, C: TimeSource, R: Rng + Drop> Engine<S, L, C, R> {
             (fresh (L.calls link) (C.moments clock) (W.contents log.old)) (seen R.stream W.contents e log.new)) }
         ensures err { OnErr result (result ≡ Err EngineFault.OutOfMemory) }
     {
-        let buffer = vec![in alloc; 0u8; BUFFER_LEN].map_err(|_| EngineFault::OutOfMemory)?;
+        let buffer = vec![in alloc; 0u8; BUFFER_LEN]?;
         let now = clock.now();
-        let (router, answer) = match Router::start(alloc, config, now) {
-            Ok(started) => started,
-            Err(_) => return Err(EngineFault::OutOfMemory),
-        };
+        let (router, answer) = Router::start(alloc, config, now)?;
         let mut outlet = Outlet {
             link,
             fib: Fib::new(alloc),
@@ -91,9 +88,7 @@ impl<S: RouteStore, L: Link, C: TimeSource, R: Rng + Drop> Engine<S, L, C, R> {
             log_failed: false,
             ended: false,
         };
-        if outlet.carry_out(answer, log).is_err() {
-            return Err(EngineFault::OutOfMemory);
-        }
+        outlet.carry_out(answer, log)?;
         let running = Running {
             router,
             outlet,
@@ -114,7 +109,9 @@ impl<S: RouteStore, L: Link, C: TimeSource, R: Rng + Drop> Engine<S, L, C, R> {
     /// `OutOfMemory` where there was no memory for the forwarding table. That step's datagrams were sent and its lines
     /// written, the table is as before it, and every later call answers the same and does nothing.
     pub fn turns<W: Write>(&mut self, n: u32, log: &mut W) -> Result<(), EngineFault>
-        ensures { TurnsAnswer n (seen R.stream W.contents self.old log.old) result (seen R.stream W.contents self.new log.new) }
+        ensures runs { self.old.ended ≡ false → TurnsAnswer n (seen R.stream W.contents self.old log.old) result
+            (seen R.stream W.contents self.new log.new) }
+        ensures ended { self.old.ended ≡ true → (result ≡ Err EngineFault.OutOfMemory) × (self.new ≡ self.old) × (log.new ≡ log.old) }
     {
         if self.running.outlet.ended {
             return Err(EngineFault::OutOfMemory);
@@ -145,6 +142,13 @@ impl<S: RouteStore, L: Link, C: TimeSource, R: Rng + Drop> Engine<S, L, C, R> {
         ensures { result.now ≡ self.now.router }
     {
         &self.running.router
+    }
+
+    /// The link.
+    pub fn link(&self) -> &L
+        ensures { L.calls result.now ≡ self.now.calls }
+    {
+        &self.running.outlet.link
     }
 
     /// The forwarding table. Until the engine has answered `OutOfMemory` it is that of the router's routes.

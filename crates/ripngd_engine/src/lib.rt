@@ -4,11 +4,15 @@
 
 mod clock;
 mod engine;
+pub mod laws;
 mod link;
 mod log;
+pub mod memory;
 mod outlet;
 mod report;
 mod running;
+#[cfg(test)]
+mod tests;
 
 pub use clock::TimeSource;
 pub use engine::Engine;

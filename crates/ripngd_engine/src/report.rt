@@ -1,5 +1,9 @@
 //! What an engine answers and reports.
 
+ghost use Rattle.std.specs.Prelude.{◌≡◌};
+ghost use Rattle.ripngd_engine.specs.declared.report.EngineFault.TheVariants as fault;
+
+use std::alloc::AllocError;
 use thiserror::Error;
 
 /// Why an engine did not make all the turns that it was asked for, or did not start.
@@ -12,6 +16,14 @@ pub enum EngineFault {
     /// 2: there was no memory to start, or none for the forwarding table. The engine makes no more turns.
     #[error("out of memory")]
     OutOfMemory,
+}
+
+impl From<AllocError> for EngineFault {
+    ghost from_gives = { λ _ e. e ≡ fault.OutOfMemory };
+
+    fn from(_: AllocError) -> EngineFault {
+        EngineFault::OutOfMemory
+    }
 }
 
 /// What was lost since an engine started. The counts stay at the greatest `u64`.

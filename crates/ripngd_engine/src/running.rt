@@ -8,6 +8,7 @@ ghost use Rattle.ripngd_engine.specs.Seen.{Acts};
 ghost use Rattle.std.specs.Coded.{Coded-set, →_prop};
 ghost use Rattle.fib.specs.contracts.fib.Fib as forwarding;
 ghost use Rattle.router_core.specs.Changes.{forwards};
+ghost use Rattle.ripngd_engine.specs.declared.running.TurnFault.TheVariants.{NoLink, NoMemory};
 
 use crate::clock::TimeSource;
 use crate::link::{Link, LinkFault, Received};
@@ -25,6 +26,22 @@ pub(crate) enum TurnFault {
     NoLink,
     /// Memory for the forwarding table was refused.
     NoMemory,
+}
+
+impl From<LinkFault> for TurnFault {
+    ghost from_gives = { λ _ fault. fault ≡ NoLink };
+
+    fn from(_: LinkFault) -> TurnFault {
+        TurnFault::NoLink
+    }
+}
+
+impl From<AllocError> for TurnFault {
+    ghost from_gives = { λ _ fault. fault ≡ NoMemory };
+
+    fn from(_: AllocError) -> TurnFault {
+        TurnFault::NoMemory
+    }
 }
 
 /// A router with what its answers are carried out on, and the clock and the random source that it runs by.
@@ -132,16 +149,9 @@ impl<S: RouteStore, L: Link, C: TimeSource, R: Rng + Drop> Running<S, L, C, R> {
         ensures { TurnAnswers (running_seen L.calls C.moments R.stream W.contents self.old log.old) result
             (running_seen L.calls C.moments R.stream W.contents self.new log.new) }
     {
-        let received = match listen(&mut self.outlet.link, buffer) {
-            Ok(received) => received,
-            Err(_) => return Err(TurnFault::NoLink),
-        };
-        if self.take_in(received, buffer.as_slice(), log).is_err() {
-            return Err(TurnFault::NoMemory);
-        }
-        match self.tick(log) {
-            Ok(()) => Ok(()),
-            Err(_) => Err(TurnFault::NoMemory),
-        }
+        let received = listen(&mut self.outlet.link, buffer)?;
+        self.take_in(received, buffer.as_slice(), log)?;
+        self.tick(log)?;
+        Ok(())
     }
 }
