@@ -4,3 +4,4 @@ pub mod Texts
 pub mod Pairs
 pub mod Clashes
 pub mod TablesRefused
+pub mod OneEach

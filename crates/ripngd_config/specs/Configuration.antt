@@ -1,5 +1,5 @@
 -- What a configuration's text makes a router run on, and why a text is refused.
-use Rattle.std.specs.Prelude.{◌≡◌, ◌⊎◌, ℕ, Bool, List, map, Some, None, unwrap_or, ⊤}
+use Rattle.std.specs.Prelude.{◌≡◌, ◌⊎◌, ℕ, Bool, List, length, map, Some, None, unwrap_or, ⊤}
 use Rattle.std.specs.Str.{IsUtf8}
 use Rattle.toml.specs.Data.{Members}
 use Rattle.toml.specs.Parse.{parse_document}
@@ -55,6 +55,11 @@ pub record IsMadeOf (tag : ℕ) (quiet : Bool) (d : Document) (c : Config) : Typ
 -- the configuration is what the text says
 abbrev pub IsConfigured : List ℕ → ℕ → Bool → Config → Type 0
 IsConfigured text tag quiet c = (d : Document) × Says text d × IsMadeOf tag quiet d c
+
+-- a port and a list of peers for each interface
+pub record HasOneEach (c : Config) : Type 0 where
+  pub ports : length c.ports.items ≡ length c.router.interfaces
+  pub peers : length c.peers.items ≡ length c.router.interfaces
 
 -- why a text is refused that is no document of such tables
 abbrev pub RefusesText : List ℕ → ConfigFault → Type 0

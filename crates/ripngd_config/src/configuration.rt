@@ -1,7 +1,7 @@
 //! A configuration, read and checked: all that a router runs on.
 
-ghost use Rattle.std.specs.Prelude.{◌≡◌, IfErr, IfOk, length, map};
-ghost use Rattle.ripngd_config.specs.Configuration.{IsConfigured, IsMadeOf, Refuses, RefusesTables, interfaces_of, owned_by, ports_of};
+ghost use Rattle.std.specs.Prelude.{◌≡◌, IfErr, IfOk, map};
+ghost use Rattle.ripngd_config.specs.Configuration.{HasOneEach, IsConfigured, IsMadeOf, Refuses, RefusesTables, interfaces_of, owned_by, ports_of};
 
 use crate::document::document_of;
 use crate::fault::ConfigFault;
@@ -40,8 +40,7 @@ pub fn read_config(
     quiet: bool,
 ) -> Result<Config, ConfigFault>
     ensures read { IfOk result (IsConfigured text.now default_tag quiet) }
-    ensures ports { IfOk result (λ c. length c.ports.items ≡ length c.router.interfaces) }
-    ensures peers { IfOk result (λ c. length c.peers.items ≡ length c.router.interfaces) }
+    ensures one_each { IfOk result HasOneEach }
     ensures refused { IfErr result (Refuses text.now default_tag quiet) }
 {
     let document = document_of(alloc, text)?;
