@@ -2,8 +2,7 @@
 use Rattle.std.proofs.Common.{◌≡◌, ◌∙◌, ℕ, Bool, List, ap, length, sym}
 use Rattle.std.proofs.lemmas.List.{length-map}
 use Rattle.router_core.specs.Config.{Config as RouterConfig}
-use Rattle.router_core.specs.declared.config.Interface.{Interface}
-use Rattle.ripngd_config.specs.Configuration.{HasOneEach, IsMadeOf, interfaces_of}
+use Rattle.ripngd_config.specs.Configuration.{HasOneEach, IsMadeOf}
 use Rattle.ripngd_config.specs.declared.configuration.Config.{Config}
 use Rattle.ripngd_config.specs.declared.tables.Document.{Document}
 

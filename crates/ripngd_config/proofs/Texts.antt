@@ -1,12 +1,12 @@
 -- Texts of addresses and prefixes, as values of a table.
-use Rattle.std.proofs.Common.{◌≡◌, ℕ, List, ◌∙◌, Option, Some, Ok, Err, Result, MatchOption, Bor, option_map, ap, refl, subst, sym}
+use Rattle.std.proofs.Common.{◌≡◌, ℕ, List, ◌∙◌, Option, Some, Ok, Err, Result, MatchOption, Bor, option_map, ap, subst, sym}
 use Rattle.toml.specs.Data.{Data, array, as_str, boolean, datetime, float, integer, string, table}
 use Rattle.toml.specs.View.{view}
 use Rattle.toml.specs.declared.value.Value.{Value}
 use Rattle.prefix6.specs.Prefix.{Prefix6}
-use Rattle.prefix6.specs.Text.{ParsesAddr, ParsesPrefix, Reads, ReadsPrefix}
+use Rattle.prefix6.specs.Text.{ParsesAddr, ParsesPrefix, ReadsPrefix}
 use Rattle.prefix6.specs.declared.error.PrefixError.{PrefixError}
-use Rattle.ripngd_config.specs.Keys.{AddressFault, PrefixFault}
+use Rattle.ripngd_config.specs.Keys.{PrefixFault}
 use Rattle.ripngd_config.specs.Values.{IsAddress, IsPrefixValue}
 use Rattle.ripngd_config.specs.declared.fault.PathFault.TheVariants.{BadValue}
 

@@ -1,4 +1,4 @@
-use Rattle.std.proofs.Common.{◌≡◌, ◌∙◌, List, ℕ, Bor, ap, length, map, sym, subst, refl, true, false, All}
+use Rattle.std.proofs.Common.{◌≡◌, ◌∙◌, List, Bor, ap, length, map, sym, subst, true, false, All}
 use Rattle.std.specs.Prelude.{String, string_bytes}
 use Rattle.std.specs.declared.alloc.Global.{Global}
 use Rattle.std.proofs.lemmas.Iterator.Consumers.{YieldsList-at, YieldsList-end, YieldsList-from_rest, YieldsList-turn}
