@@ -1,5 +1,5 @@
 -- A lab: a lawful network that has run since a cold start, and what then holds.
-use Rattle.std.specs.Prelude.{◌≡◌, ℕ, ◌<◌, ◌≤◌, ◌==◌, nat_le, not, Bool, false, List, [], ◌∷◌, ◌++◌, map, length, Option, Some, None, is_none, option_map, option_and_then, slice_get}
+use Rattle.std.specs.Prelude.{◌≡◌, ℕ, ◌<◌, ◌≤◌, ◌==◌, nat_le, not, Bool, false, List, [], ◌∷◌, ◌++◌, map, length, Option, Some, None, is_none, unwrap_or, option_map, option_and_then, slice_get}
 use Rattle.std.specs.FinMap as map_of
 use Rattle.std.specs.List.{AllByRecursion}
 use Rattle.std.specs.Option.{option_map_or}
@@ -10,17 +10,21 @@ use Rattle.router_core.specs.Machine.{State}
 use Rattle.router_core.specs.Received.{Received}
 use Rattle.router_core.specs.declared.answer.Answer.{Answer}
 use Rattle.ripng_world.specs.Network.{Network, Node, IsNetwork, interface_at}
+use Rattle.ripng_world.specs.Stations.{StationValue, network_of, world_of}
 use Rattle.ripng_world.specs.Walks.{IsTableBacked, IsLeast}
 use Rattle.ripng_world.specs.Truth.{TellsTruth}
 use Rattle.ripng_world.specs.World.{World, Event, Deliver, Stranger, Tick, Restart, Happens, WorldRun, IsCold, is_heard}
 use Rattle.ripng_world.specs.declared.event.LabError.{LabError}
-use Rattle.ripng_world.specs.declared.event.LabError.TheVariants.{NoSuchRouter, NoSuchInterface, NoSuchDatagram, OtherLink, NotAStranger}
+use Rattle.ripng_world.specs.declared.event.LabError.TheVariants.{NoSuchRouter, NoSuchInterface, NoSuchDatagram, OtherLink, NotAStranger, OutOfMemory}
 use Rattle.ripng_world.specs.declared.sent.Sent.{Sent}
 
 -- what callers see of a lab
 pub record LabValue : Type 0 where
   pub network : Network
   pub world : World
+
+abbrev pub lab_of : List StationValue → List Sent → LabValue
+lab_of stations sent = record { network = network_of stations; world = world_of stations sent }
 
 -- the network is lawful, and the world is what some events made of a cold one
 pub record HasRun (net : Network) (w : World) : Type 0 where
@@ -70,13 +74,13 @@ is_one_link _ _ = false
 
 -- the router would take the arrival for a Response of its link
 abbrev pub is_heard_at : World → ℕ → Received → Bool
-is_heard_at w router x = option_map_or (λ s. is_heard s x) false (slice_get w.states router)
+is_heard_at w router x = option_map_or (λ s. is_heard s x) (slice_get w.states router) false
+
+abbrev pub router_tests : Network → ℕ → List (Bool × LabError)
+router_tests net router = (nat_le (length net) router, NoSuchRouter) ∷ []
 
 abbrev pub place_tests : Network → ℕ → ℕ → List (Bool × LabError)
-place_tests net router iface =
-    (nat_le (length net) router, NoSuchRouter)
-    ∷ (is_none (interface_at net router iface), NoSuchInterface)
-    ∷ []
+place_tests net router iface = router_tests net router ++ (is_none (interface_at net router iface), NoSuchInterface) ∷ []
 
 abbrev pub event_tests : LabValue → Event → List (Bool × LabError)
 event_tests lab (Deliver datagram router iface now) =
@@ -85,9 +89,15 @@ event_tests lab (Deliver datagram router iface now) =
     ∷ (not (is_one_link (link_of_datagram lab datagram) (link_at lab.network router iface)), OtherLink)
     ∷ []
 event_tests lab (Stranger router x) = place_tests lab.network router x.iface ++ (is_heard_at lab.world router x, NotAStranger) ∷ []
-event_tests lab (Tick router now word) = (nat_le (length lab.network) router, NoSuchRouter) ∷ []
-event_tests lab (Restart router now) = (nat_le (length lab.network) router, NoSuchRouter) ∷ []
+event_tests lab (Tick router now word) = router_tests lab.network router
+event_tests lab (Restart router now) = router_tests lab.network router
 
 -- the first test that fails
 abbrev pub event_fault : LabValue → Event → Option LabError
 event_fault lab e = first_failing (event_tests lab e)
+
+-- the event at a place is refused, by its first failing test or else for want of memory
+pub record IsRefusedNext (lab : LabValue) (events : List Event) (place : ℕ) (why : LabError) : Type 0 where
+  pub event : Event
+  pub event_is : slice_get events place ≡ Some event
+  pub reason : why ≡ unwrap_or (event_fault lab event) OutOfMemory

@@ -2,12 +2,16 @@
 #![tactic(auto)]
 
 mod event;
+mod lab;
 mod laws;
+mod moving;
 mod network;
+mod refusing;
 mod sent;
 mod station;
 
 pub use event::{Event, LabError};
+pub use lab::Lab;
 pub use laws::{
     converges_in_rounds, invents_no_distance, keeps_routes_backed, rounds_are_run, runs_go_on,
     tells_only_walks,
