@@ -61,7 +61,8 @@ fn deliver<S: RouteStore>(
     let room = stations[router].answer_room(sent[datagram].bytes.as_slice().len());
     sent.reserve(room)?;
     let arrival = arrival_of(stations, &sent[datagram], iface, now);
-    stations[router].arrive(arrival)
+    let answer = stations[router].arrive(arrival)?;
+    Ok(answer)
 }
 
 // A stranger's datagram comes.
@@ -79,7 +80,7 @@ fn intrude<S: RouteStore>(
 {
     let room = stations[router].answer_room(arrival.bytes.len());
     sent.reserve(room)?;
-    stations[router].arrive(Arrival {
+    let arrival = Arrival {
         now: arrival.now,
         iface: arrival.iface,
         source: arrival.source,
@@ -87,7 +88,9 @@ fn intrude<S: RouteStore>(
         hop_limit: arrival.hop_limit,
         to_group: arrival.to_group,
         bytes: arrival.bytes,
-    })
+    };
+    let answer = stations[router].arrive(arrival)?;
+    Ok(answer)
 }
 
 // Time passes at a router.

@@ -78,7 +78,8 @@ impl<S: RouteStore> Station<S> {
 
     /// No answer to so many bytes has more datagrams than this.
     pub fn answer_room(&self, bytes: usize) -> usize
-        ensures { result ≡ max (map_of.len self.now.state.table) (bytes / 20) }
+        ensures value { result ≡ max (map_of.len self.now.state.table) (bytes / 20) }
+        ensures configured { self.now.state.config ≡ config_of self.now.node }
     {
         self.router.routes().len().max(bytes / 20)
     }
