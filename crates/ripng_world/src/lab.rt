@@ -161,6 +161,8 @@ impl<S: RouteStore> Lab<S> {
         ensures least { AreNoneBelowLeast self.new.network self.new.world }
         ensures truth { IsTruthTold self.new.network self.new.world.sent }
     {
+        // What holds of the lab before the first event.
+        let _ = &self.sent;
         for (done, event) in events.iter().enumerate() {
             if let Err(refusal) = self.step(event) {
                 return (done, Err(refusal));
