@@ -1,7 +1,7 @@
 -- What holds of a network that has run since a cold start, and how runs and cold starts go on.
 use Rattle.std.proofs.Common.{◌≡◌, ℕ, zero, suc, ◌+◌, ◌<◌, List, [], ◌∷◌, ◌++◌, map, take, drop, length, get_or, Some, refl, ap, ap₂, sym, subst, ◌∙◌, arith, append_assoc}
 use Rattle.std.specs.List.{AllByRecursion}
-use Rattle.std.proofs.lemmas.List.{map_more, take-map}
+use Rattle.std.proofs.lemmas.List.{map_more, take-map, map-append, length-map, take_more}
 use Rattle.router_core.specs.Machine.{State, Starts}
 use Rattle.router_core.specs.declared.answer.Answer.{Answer}
 use Rattle.ripng_world.specs.Network.{Network, Node, config_of}
@@ -88,6 +88,37 @@ starts_next n (x ∷ nodes) (m ∷ moments) (t ∷ states) sent node now answer 
       ∙ append_assoc (map (sent_by n) from.0.sends) from.1 (map (sent_by (suc n + length nodes)) answer.sends),
     )
 starts_next n _ _ _ sent node now answer s from starts = absurd from
+
+-- one more station of those that the routers of a network become
+pub listed_on : (stations stations' : List StationValue) (s : StationValue) (node : Node) (left rest all : List Node) → stations' ≡ stations ++ s ∷ []
+    → s.node ≡ node → left ≡ node ∷ rest → network_of stations ++ left ≡ all → network_of stations' ++ rest ≡ all
+listed_on stations stations' s node left rest all more same is so_far =
+    ap (λ (ss : List StationValue). network_of ss ++ rest) more
+    ∙ ap (λ (ns : List Node). ns ++ rest) (map-append (λ (t : StationValue). t.node) stations (s ∷ []))
+    ∙ append_assoc (network_of stations) (s.node ∷ []) rest
+    ∙ ap (λ (n : Node). network_of stations ++ n ∷ rest) same
+    ∙ ap (λ (ns : List Node). network_of stations ++ ns) (sym is)
+    ∙ so_far
+
+pub cold_on : (stations stations' : List StationValue) (moments : List ℕ) (sent sent' : List Sent) (s : StationValue) (now : ℕ) (answer : Answer) (n n' k : ℕ)
+    → stations' ≡ stations ++ s ∷ [] → n ≡ length stations → n' ≡ n + 1 → k ≡ n → sent' ≡ sent ++ map (sent_by k) answer.sends
+    → n < length moments → now ≡ get_or moments k now
+    → StartsFrom 0 (network_of stations) (take n moments) (map (λ t. t.state) stations) sent → Starts (config_of s.node) now answer s.state
+    → StartsFrom 0 (network_of stations') (take n' moments) (map (λ t. t.state) stations') sent'
+cold_on stations stations' moments sent sent' s now answer n n' k more size next number added here is from starts =
+    let nodes : network_of stations' ≡ network_of stations ++ s.node ∷ [] = ap network_of more ∙ map-append (λ (t : StationValue). t.node) stations (s ∷ []) in
+    let states : map (λ (t : StationValue). t.state) stations' ≡ map (λ (t : StationValue). t.state) stations ++ s.state ∷ [] =
+    ap (map (λ (t : StationValue). t.state)) more ∙ map-append (λ (t : StationValue). t.state) stations (s ∷ []) in
+    let times : take n' moments ≡ take n moments ++ now ∷ [] =
+    ap (λ (m : ℕ). take m moments) next ∙ take_more moments n now here
+    ∙ ap (λ (m : ℕ). take n moments ++ m ∷ []) (ap (λ (m : ℕ). get_or moments m now) (sym number) ∙ sym is) in
+    let place : k ≡ 0 + length (network_of stations) = omega (arith, number, size, length-map stations (λ (t : StationValue). t.node)) in
+    let datagrams : sent' ≡ sent ++ map (sent_by (0 + length (network_of stations))) answer.sends = added ∙ ap (λ (m : ℕ). sent ++ map (sent_by m) answer.sends) place in
+    let all = starts_next 0 (network_of stations) (take n moments) (map (λ (t : StationValue). t.state) stations) sent s.node now answer s.state from starts in
+    subst (λ (ns : List Node). StartsFrom 0 ns (take n' moments) (map (λ (t : StationValue). t.state) stations') sent') (sym nodes)
+    (subst (λ (ms : List ℕ). StartsFrom 0 (network_of stations ++ s.node ∷ []) ms (map (λ (t : StationValue). t.state) stations') sent') (sym times)
+    (subst (λ (ss : List State). StartsFrom 0 (network_of stations ++ s.node ∷ []) (take n moments ++ now ∷ []) ss sent') (sym states)
+    (subst (λ (ds : List Sent). StartsFrom 0 (network_of stations ++ s.node ∷ []) (take n moments ++ now ∷ []) (map (λ (t : StationValue). t.state) stations ++ s.state ∷ []) ds) (sym datagrams) all)))
 
 -- a slice that was written back whole
 pub written_back : {X : Type 0} (n : ℕ) (xs ys : List X) → length xs ≡ length ys → n ≡ length ys → take n (xs ++ drop (length xs) ys) ≡ xs
