@@ -18,7 +18,7 @@ loop-router-preserved g c =
     let left_is = c.in-Some.ensures.steps.0 in
     let all_are = c.into_iter-router-iterator.ensures.into_iter_gives in
     let few : c.loop-router.stations.len < length c.args.moments.now =
-    omega (arith, c.requires, ap length c.loop-router.invariant.network, length-append (network_of stations) left, length-map stations (λ (s : StationValue). s.node), ap length left_is, c.loop-router.stations.ok.0, ap length all_are) in
+    omega (arith, c.requires, ap length c.loop-router.invariant.network, length-append (network_of stations) left, length-map stations (λ (s : StationValue). s.node), ap length left_is, c.loop-router.stations.ok.0, ap length all_are.0) in
     record {
       can_next = tt;
       is_finite = tt;
