@@ -59,7 +59,7 @@ mapped_of : {X Y : Type 0} (f : X → Y) (o : Option X) (y : Y) → option_map f
 mapped_of f None y e = absurd (cc)
 mapped_of f (Some x) y e = (x, refl, cc)
 
-then_of : {X Y : Type 0} (f : X → Option Y) (o : Option X) (y : Y) → option_and_then f o ≡ Some y → (x : X) × (o ≡ Some x) × (f x ≡ Some y)
+pub then_of : {X Y : Type 0} (f : X → Option Y) (o : Option X) (y : Y) → option_and_then f o ≡ Some y → (x : X) × (o ≡ Some x) × (f x ≡ Some y)
 then_of f None y e = absurd (cc)
 then_of f (Some x) y e = (x, refl, e)
 

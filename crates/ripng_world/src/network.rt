@@ -1,6 +1,7 @@
 //! Networks: routers with interfaces on links, and which of them are lawful.
 
-ghost use Rattle.std.specs.Prelude.{◌≡◌, ◌≢◌, All, None, Some, IfErr, IfOk, OnOk};
+ghost use Rattle.std.specs.Prelude.{◌≡◌, ◌≢◌, ◌==◌, ◌++◌, All, map, None, Some, IfErr, IfOk, OnOk};
+ghost use Rattle.std.specs.List.{list_any};
 ghost use Rattle.std.specs.Result.{result_err};
 ghost use Rattle.prefix6.specs.Prefix.{IsPrefix};
 ghost use Rattle.ripng_wire.specs.Wire.{first_failing};
@@ -114,6 +115,16 @@ impl Model for NetConfig {
     ghost invariant = { λ n. IsNetwork n.routers.items };
 }
 
+// The interfaces without their links.
+fn without_links(
+    alloc: Global,
+    interfaces: &[NetInterface],
+) -> Result<Vec<Interface>, AllocError>
+    ensures { IfOk result (λ v. v.items ≡ map (λ i. i.interface) interfaces.now) }
+{
+    interfaces.iter().map(|i| i.interface).collect(alloc)
+}
+
 // A router of its configuration, if that is lawful.
 fn check_router(alloc: Global, number: usize, node: Node) -> Result<NetRouter, NetRefused>
     ensures kept { IfOk result (λ r. r ≡ node) }
@@ -121,17 +132,28 @@ fn check_router(alloc: Global, number: usize, node: Node) -> Result<NetRouter, N
     ensures lawful { OnOk result (IsConfig (config_of node)) }
     ensures refused { IfErr result (λ why. why ≢ NetRefused.OutOfMemory → first_failing (faults_of_router number node) ≡ Some why) }
 {
-    let interfaces = node.interfaces.iter().map(|i| i.interface).collect(alloc)?;
-    match RouterConfig::check(interfaces, node.prefixes, node.quiet) {
-        Ok(config) => Ok(NetRouter {
-            interfaces: node.interfaces,
-            config,
-        }),
+    let Node {
+        interfaces,
+        prefixes,
+        quiet,
+    } = node;
+    match RouterConfig::check(without_links(alloc, &interfaces)?, prefixes, quiet) {
+        Ok(config) => Ok(NetRouter { interfaces, config }),
         Err(refusal) => Err(NetRefused::BadRouter {
             router: number,
             refusal,
         }),
     }
+}
+
+// The addresses of more interfaces.
+fn add_addresses(all: &mut Vec<Addr6>, interfaces: &[NetInterface]) -> Result<(), AllocError>
+    ensures { OnOk result (all.new.items ≡ all.old.items ++ map (λ i. i.interface.addr) interfaces.now) }
+{
+    for interface in interfaces {
+        all.push(interface.interface.addr)?;
+    }
+    Ok(())
 }
 
 // The addresses of all interfaces, router by router.
@@ -140,18 +162,23 @@ fn addresses(alloc: Global, routers: &[NetRouter]) -> Result<Vec<Addr6>, AllocEr
 {
     let mut all = Vec::new(alloc);
     for router in routers {
-        for interface in &router.interfaces {
-            all.push(interface.interface.addr)?;
-        }
+        add_addresses(&mut all, &router.interfaces)?;
     }
     Ok(all)
+}
+
+// Whether an address is one of those.
+fn has_address(addresses: &[Addr6], addr: Addr6) -> bool
+    ensures { result ≡ list_any (λ a. a == addr) addresses.now }
+{
+    addresses.iter().any(|&a| a == addr)
 }
 
 // Whether an address is an earlier one.
 fn check_address(earlier: &[Addr6], addr: Addr6) -> Result<(), NetRefused>
     ensures { result_err result ≡ first_failing (address_tests earlier.now addr) }
 {
-    if earlier.iter().any(|&other| other == addr) {
+    if has_address(earlier, addr) {
         Err(NetRefused::AddressSharedInNetwork)
     } else {
         Ok(())
