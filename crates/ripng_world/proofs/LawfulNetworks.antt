@@ -84,10 +84,10 @@ abbrev NoRepeats : List ℕ → Type 0
 NoRepeats xs = (p q a : ℕ) → slice_get xs p ≡ Some a → slice_get xs q ≡ Some a → p ≡ q
 
 any_in : (test : ℕ → Bool) (xs : List ℕ) (q p a : ℕ) → slice_get xs p ≡ Some a → p < q → test a ≡ true → list_any test (take q xs) ≡ true
-any_in test [] q p a is below yes = absurd (None-Some a is)
-any_in test (x ∷ xs) zero p a is below yes = absurd (omega arith)
-any_in test (x ∷ xs) (suc q) zero a is below yes = let same : a ≡ x = cc in ap (λ b. b || list_any test (take q xs)) (ap test (sym same) ∙ yes)
-any_in test (x ∷ xs) (suc q) (suc p) a is below yes = ap (λ b. test x || b) (any_in test xs q p a is (omega arith) yes) ∙ or_true (test x)
+any_in test [] q p a is below passes = absurd (None-Some a is)
+any_in test (x ∷ xs) zero p a is below passes = absurd (omega arith)
+any_in test (x ∷ xs) (suc q) zero a is below passes = let same : a ≡ x = cc in ap (λ b. b || list_any test (take q xs)) (ap test (sym same) ∙ passes)
+any_in test (x ∷ xs) (suc q) (suc p) a is below passes = ap (λ b. test x || b) (any_in test xs q p a is (omega arith) passes) ∙ or_true (test x)
   where
     or_true : (b : Bool) → (b || true) ≡ true
     or_true true = refl
