@@ -78,14 +78,13 @@ starts_next n [] [] [] sent node now answer s from starts =
     append_nil (x ∷ xs) = ap (λ ys. x ∷ ys) (append_nil xs)
 starts_next n (x ∷ nodes) (m ∷ moments) (t ∷ states) sent node now answer s from starts =
     let later = starts_next (suc n) nodes moments states from.1 node now answer s from.3 starts in
-    let place : n + suc (length nodes) ≡ suc n + length nodes = omega arith in
-    (
+    let place : n + suc (length nodes) ≡ suc n + length nodes = omega arith in (
       from.0,
       from.1 ++ map (sent_by (suc n + length nodes)) answer.sends,
       from.2,
       later,
       ap₂ (λ (xs : List Sent) (k : ℕ). xs ++ map (sent_by k) answer.sends) from.4 place
-      ∙ append_assoc (map (sent_by n) from.0.sends) from.1 (map (sent_by (suc n + length nodes)) answer.sends),
+          ∙ append_assoc (map (sent_by n) from.0.sends) from.1 (map (sent_by (suc n + length nodes)) answer.sends),
     )
 starts_next n _ _ _ sent node now answer s from starts = absurd from
 

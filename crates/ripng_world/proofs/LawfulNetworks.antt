@@ -101,9 +101,9 @@ no_repeats xs passes p q a here there = grind (arith, not_before p q here there,
         let new : list_any (λ b. b == a) (take (0 + n) xs) ≡ false = (passes_at (λ t. address_tests (take t.0 xs) t.1) 0 xs n a later passes).0 in
         let order : (m < n → ⊥) → n ≤ m = λ never. grind (arith, never) in
         order (λ before.
-          let old : list_any (λ b. b == a) (take n xs) ≡ true = any_in (λ b. b == a) xs n m a first before (eq-eqb a a refl) in
-          let e : 0 + n ≡ n = omega arith in
-          clash (sym old ∙ subst (λ (k : ℕ). list_any (λ b. b == a) (take k xs) ≡ false) e new))
+        let old : list_any (λ b. b == a) (take n xs) ≡ true = any_in (λ b. b == a) xs n m a first before (eq-eqb a a refl) in
+        let e : 0 + n ≡ n = omega arith in
+        clash (sym old ∙ subst (λ (k : ℕ). list_any (λ b. b == a) (take k xs) ≡ false) e new))
       where
         clash : true ≡ false → ⊥
         clash e = cc
@@ -140,8 +140,8 @@ distinct (n ∷ ns) once (suc r) i zero j a b here there same =
 distinct (n ∷ ns) once (suc r) i (suc s) j a b here there same =
     let own = map (λ (t : NetInterface). t.interface.addr) n.interfaces in
     let rest_once : NoRepeats (addresses ns) = λ p q x at_p at_q.
-        let one = once (length own + p) (length own + q) x (get_shifted own (addresses ns) p ∙ at_p) (get_shifted own (addresses ns) q ∙ at_q) in
-        omega (arith, one) in
+    let one = once (length own + p) (length own + q) x (get_shifted own (addresses ns) p ∙ at_p) (get_shifted own (addresses ns) q ∙ at_q) in
+    omega (arith, one) in
     let later = distinct ns rest_once r i s j a b here there same in
     (ap suc later.0, later.1)
 

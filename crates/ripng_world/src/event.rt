@@ -1,7 +1,7 @@
 //! What may happen in a network, and why an event is refused.
 
-use router_core::Arrival;
 use route_table::Moment;
+use router_core::Arrival;
 use std::alloc::AllocError;
 
 /// What may happen in a network.
@@ -32,7 +32,10 @@ pub enum Event<'a> {
         word: u32,
     },
     /// A router comes up again.
-    Restart { router: usize, now: Moment },
+    Restart {
+        router: usize,
+        now: Moment,
+    },
 }
 
 /// Why an event is refused: the first test that it fails, in this order.

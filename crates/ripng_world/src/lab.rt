@@ -73,11 +73,7 @@ impl<S: RouteStore> Lab<S> {
     ///
     /// # Errors
     /// Only want of memory.
-    pub fn cold(
-        alloc: Global,
-        network: NetConfig,
-        moments: &[Moment],
-    ) -> Result<Lab<S>, LabError>
+    pub fn cold(alloc: Global, network: NetConfig, moments: &[Moment]) -> Result<Lab<S>, LabError>
         requires { length moments.now ≡ length network }
         ensures network { IfOk result (λ lab. lab.network ≡ network) }
         ensures cold { IfOk result (λ lab. IsCold network moments.now lab.world) }

@@ -18,3 +18,6 @@ pub use laws::{
 };
 pub use network::{NetConfig, NetInterface, NetRefused, Node, ROUTER_LIMIT};
 pub use sent::Sent;
+
+#[cfg(test)]
+mod tests;

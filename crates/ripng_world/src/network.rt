@@ -116,10 +116,7 @@ impl Model for NetConfig {
 }
 
 // The interfaces without their links.
-fn without_links(
-    alloc: Global,
-    interfaces: &[NetInterface],
-) -> Result<Vec<Interface>, AllocError>
+fn without_links(alloc: Global, interfaces: &[NetInterface]) -> Result<Vec<Interface>, AllocError>
     ensures { IfOk result (λ v. v.items ≡ map (λ i. i.interface) interfaces.now) }
 {
     interfaces.iter().map(|i| i.interface).collect(alloc)

@@ -15,7 +15,7 @@ returns-clause-moves g c =
     let old = get_or stations router c.index-stations-router-2.result in
     let d = c.index-2.result.now in
     let d_is = slice_get-get_or sent c.args.datagram d (was_sent stations sent c.args.datagram router c.args.iface c.args.now c.requires)
-        ∙ ap Some (sym (c.index-2.ensures ∙ ap (λ ds. get_or ds c.args.datagram d) c.reserve.ensures.items)) in
+    ∙ ap Some (sym (c.index-2.ensures ∙ ap (λ ds. get_or ds c.args.datagram d) c.reserve.ensures.items)) in
     let linked = delivery_linked stations sent c.args.datagram router c.args.iface c.args.now d c.requires d_is in
     let here = slice_get-get_or stations router c.index-stations-router-2.result (within stations router c.args.iface linked.there linked.there_is) in
     delivered stations sent c.args.datagram router c.args.iface c.args.now d old c.arrive.new.self c.in_ok-answer.answer c.requires d_is here c.arrive.ensures.node
@@ -28,7 +28,7 @@ returns-clause-room g c =
     let router = c.args.router in
     let d = c.index-2.result.now in
     let d_is = slice_get-get_or sent c.args.datagram d (was_sent stations sent c.args.datagram router c.args.iface c.args.now c.requires)
-        ∙ ap Some (sym (c.index-2.ensures ∙ ap (λ ds. get_or ds c.args.datagram d) c.reserve.ensures.items)) in
+    ∙ ap Some (sym (c.index-2.ensures ∙ ap (λ ds. get_or ds c.args.datagram d) c.reserve.ensures.items)) in
     let linked = delivery_linked stations sent c.args.datagram router c.args.iface c.args.now d c.requires d_is in
     let here = slice_get-get_or stations router c.index-stations-router-2.result (within stations router c.args.iface linked.there linked.there_is) in
     let same_station = get_or_from_slice_get stations router _ c.index-stations-router.result here in

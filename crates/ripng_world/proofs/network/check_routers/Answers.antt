@@ -17,9 +17,9 @@ returns-in_err-check_router-clause-refused c =
     let taken = c.loop-node.routers.items in
     let is : taken ++ c.in-Some.node ∷ into_iter_items c.next.new.self ≡ nodes = ap (λ (ns : List Node). taken ++ ns) (sym c.in-Some.ensures.steps.0) ∙ c.loop-node.invariant.kept in
     rw (p.1, p.2) (λ other.
-      ap (λ (ns : List Node). first_failing (each_tested router_tests ns)) (sym c.into_iter-node-iterator.ensures.into_iter_gives.0)
-      ∙ fails_at nodes taken (into_iter_items c.next.new.self) c.in-Some.node c.len-number.result is (c.len-number.ensures ∙ c.loop-node.routers.ok.0) _
-      (subst (λ (n : ℕ). PassesBelow router_tests nodes n) (sym c.len-number.ensures) c.loop-node.invariant.passes) (c.in_err-check_router.ensures.refused other))
+    ap (λ (ns : List Node). first_failing (each_tested router_tests ns)) (sym c.into_iter-node-iterator.ensures.into_iter_gives.0)
+    ∙ fails_at nodes taken (into_iter_items c.next.new.self) c.in-Some.node c.len-number.result is (c.len-number.ensures ∙ c.loop-node.routers.ok.0) _
+    (subst (λ (n : ℕ). PassesBelow router_tests nodes n) (sym c.len-number.ensures) c.loop-node.invariant.passes) (c.in_err-check_router.ensures.refused other))
 
 pub loop-node-preserved : goal.loop-node-preserved
 loop-node-preserved c =

@@ -21,8 +21,8 @@ returns-in_err-check_addresses-clause-refused c =
     let few : length c.args.routers.items ≤ ROUTER_LIMIT = omega (arith, c.if-len-gt-ROUTER_LIMIT.false, c.len.ensures, c.args.routers.ok.0) in
     let all = c.deref-2.ensures.value ∙ c.in_ok-addresses.ensures ∙ ap addresses (c.deref.ensures.value ∙ c.in_ok-routers.ensures.kept) in
     rw (p.1, p.2) (λ _.
-      by_addresses c.args.routers.items few c.in_ok-routers.ensures.passes
-      ∙ ap (λ (xs : List ℕ). first_failing (each_tested address_tests xs)) (sym all) ∙ sym c.in_err-check_addresses.ensures)
+    by_addresses c.args.routers.items few c.in_ok-routers.ensures.passes
+    ∙ ap (λ (xs : List ℕ). first_failing (each_tested address_tests xs)) (sym all) ∙ sym c.in_err-check_addresses.ensures)
 
 passes : (c : goal.In_ok-check_addresses) → network_fault c.args.routers.items ≡ None
 passes c =
