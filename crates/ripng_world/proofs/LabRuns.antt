@@ -1,11 +1,10 @@
 -- What holds of a network that has run since a cold start, and how runs and cold starts go on.
-use Rattle.std.proofs.Common.{◌≡◌, ℕ, zero, suc, ◌+◌, ◌<◌, List, [], ◌∷◌, ◌++◌, map, take, drop, length, get_or, Some, refl, ap, ap₂, sym, subst, ◌∙◌, arith, append_assoc}
-use Rattle.std.specs.List.{AllByRecursion}
+use Rattle.std.proofs.Common.{◌≡◌, ℕ, zero, suc, ◌+◌, ◌<◌, List, [], ◌∷◌, ◌++◌, map, take, drop, length, get_or, refl, ap, ap₂, sym, subst, ◌∙◌, arith, append_assoc}
 use Rattle.std.proofs.lemmas.List.{map_more, take-map, map-append, length-map, take_more}
 use Rattle.router_core.specs.Machine.{State, Starts}
 use Rattle.router_core.specs.declared.answer.Answer.{Answer}
 use Rattle.ripng_world.specs.Network.{Network, Node, config_of}
-use Rattle.ripng_world.specs.World.{World, Event, Happens, WorldRun, StartsFrom, IsCold, sent_by}
+use Rattle.ripng_world.specs.World.{World, Event, Happens, WorldRun, StartsFrom, sent_by}
 use Rattle.ripng_world.specs.Events.{event_of}
 use Rattle.ripng_world.specs.Rounds.{router_of}
 use Rattle.ripng_world.specs.Stations.{StationValue, MoveStations, network_of, world_of}

@@ -1,5 +1,5 @@
 -- A network that fails no test is one.
-use Rattle.std.proofs.Common.{◌≡◌, ℕ, zero, suc, ◌+◌, ◌<◌, ◌≤◌, ◌==◌, ◌||◌, nat_lt, not, Bool, true, false, cond, IsTrue, List, [], ◌∷◌, ◌++◌, map, take, length, All, Option, Some, None, get_or, slice_get, option_map, refl, ap, sym, subst, ◌∙◌, arith}
+use Rattle.std.proofs.Common.{◌≡◌, ℕ, zero, suc, ◌+◌, ◌<◌, ◌≤◌, ◌==◌, ◌||◌, nat_lt, not, Bool, true, false, cond, List, [], ◌∷◌, ◌++◌, map, take, length, All, Some, None, slice_get, option_map, refl, ap, sym, subst, ◌∙◌, arith}
 use Rattle.std.specs.List.{enumerate_from, flat_map, list_any}
 use Rattle.std.proofs.lemmas.Bool.{eq-eqb}
 use Rattle.std.proofs.lemmas.Bool.Decides.{nat_tests}
@@ -10,13 +10,12 @@ use Rattle.ripng_wire.specs.Wire.{first_failing}
 use Rattle.ripng_wire.proofs.FirstFailing.{EachPasses, each_passes}
 use Rattle.route_table.proofs.TableLaws.{None-Some}
 use Rattle.router_core.specs.Config.{Config, IsConfig, config_tests, each_tested, interface_tests, prefix_tests}
-use Rattle.router_core.specs.declared.config.ConfigRefused.{ConfigRefused}
 use Rattle.router_core.specs.declared.config.ConfigRefused.TheVariants.{TooManyPrefixes}
 use Rattle.router_core.specs.declared.config.Interface.{Interface}
 use Rattle.router_core.specs.declared.config.TheConstants.{OWNED_LIMIT}
 use Rattle.router_core.proofs.ConfigLaws.{cost_low, cost_high, mtu_low, mtu_high}
 use Rattle.router_core.proofs.EachTested.{first_failing-append, first_failing-found}
-use Rattle.ripng_world.specs.Network.{Network, Node, IsNetwork, IsUsable, Owns, OwnsPrefixes, HasDistinctAddresses, config_of, interface_at}
+use Rattle.ripng_world.specs.Network.{Network, Node, IsNetwork, IsUsable, OwnsPrefixes, HasDistinctAddresses, config_of, interface_at}
 use Rattle.ripng_world.specs.NetworkFaults.{addresses, address_tests, network_fault, network_tests, router_tests}
 use Rattle.ripng_world.specs.declared.network.NetInterface.{NetInterface}
 use Rattle.ripng_world.specs.declared.network.NetRefused.{NetRefused}

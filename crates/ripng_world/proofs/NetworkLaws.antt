@@ -1,29 +1,16 @@
 -- What the tests of a network say of it.
-use Rattle.std.proofs.Common.{◌≡◌, ◌≢◌, ℕ, zero, suc, ◌+◌, ◌<◌, ◌≤◌, ◌==◌, nat_lt, not, Bool, true, false, cond, List, [], ◌∷◌, ◌++◌, map, take, drop, length, All, Option, Some, None, get_or, slice_get, option_map, option_and_then, refl, ap, ap₂, sym, subst, ◌∙◌, arith, append_assoc}
-use Rattle.std.specs.List.{enumerate_from, flat_map, list_any}
-use Rattle.std.proofs.lemmas.Bool.{eq-eqb}
-use Rattle.std.proofs.lemmas.Bool.Decides.{nat_tests}
+use Rattle.std.proofs.Common.{◌≡◌, ℕ, ◌+◌, ◌<◌, Bool, true, false, cond, List, [], ◌∷◌, ◌++◌, map, take, length, All, Some, None, get_or, option_map, refl, ap, ap₂, sym, subst, ◌∙◌, arith}
 use Rattle.std.proofs.lemmas.Grind.{flat_map-append}
 use Rattle.std.proofs.lemmas.List.{take_more, length-append}
 use Rattle.std.proofs.lemmas.List.Elements.{All-more}
 use Rattle.std.proofs.Math.Seq.{get_or-append_seam, take-append_seam}
-use Rattle.std.proofs.lemmas.Option.{slice_get-map, slice_get_within}
-use Rattle.prefix6.specs.Addr.{is_link_local}
-use Rattle.prefix6.specs.Prefix.{Prefix6, IsPrefix, is_routable}
 use Rattle.ripng_wire.specs.Wire.{first_failing}
-use Rattle.ripng_wire.proofs.FirstFailing.{EachPasses, each_passes}
-use Rattle.route_table.proofs.TableLaws.{None-Some, Some-same}
-use Rattle.router_core.specs.Config.{Config, IsConfig, config_tests, each_tested, interface_tests, prefix_tests}
-use Rattle.router_core.specs.declared.config.ConfigRefused.{ConfigRefused}
-use Rattle.router_core.specs.declared.config.Interface.{Interface}
-use Rattle.router_core.specs.declared.config.TheConstants.{OWNED_LIMIT}
-use Rattle.router_core.proofs.ConfigLaws.{cost_low, cost_high, mtu_low, mtu_high}
-use Rattle.router_core.proofs.EachTested.{PassesBelow, passes_more, fails_here, first_failing-append, first_failing-found}
-use Rattle.ripng_world.specs.Network.{Network, Node, IsNetwork, Owns, HasDistinctAddresses, config_of, interface_at}
-use Rattle.ripng_world.specs.NetworkFaults.{addresses, address_tests, faults_of_router, network_fault, network_tests, router_tests}
+use Rattle.router_core.specs.Config.{IsConfig, each_tested}
+use Rattle.router_core.proofs.EachTested.{PassesBelow, passes_more, fails_here}
+use Rattle.ripng_world.specs.Network.{Node, config_of}
+use Rattle.ripng_world.specs.NetworkFaults.{addresses, faults_of_router, router_tests}
 use Rattle.ripng_world.specs.declared.network.NetInterface.{NetInterface}
 use Rattle.ripng_world.specs.declared.network.NetRefused.{NetRefused}
-use Rattle.ripng_world.specs.declared.network.NetRefused.TheVariants.{BadRouter}
 
 -- the addresses of one more router
 pub addresses_more : (nodes : List Node) (i : ℕ) (node : Node) (old new : List ℕ) → i < length nodes → node ≡ get_or nodes i node

@@ -1,20 +1,19 @@
 -- How the move of a router at its place moves the world, and what it means that nothing refuses an event.
-use Rattle.std.proofs.Common.{◌≡◌, ℕ, zero, suc, ◌<◌, ◌≤◌, ◌+◌, max, ◌++◌, nat_le, not, Bool, true, false, ◌==◌, List, [], ◌∷◌, map, length, Option, Some, None, is_none, option_map, option_and_then, slice_get, slice_set, get_or, refl, ap, ap₂, sym, subst, ◌∙◌, arith}
+use Rattle.std.proofs.Common.{◌≡◌, ℕ, zero, suc, ◌<◌, ◌≤◌, ◌+◌, max, ◌++◌, not, Bool, true, false, ◌==◌, List, [], ◌∷◌, map, length, Option, Some, None, is_none, option_map, option_and_then, slice_get, slice_set, refl, ap, sym, subst, ◌∙◌, arith}
 use Rattle.std.specs.Option.{option_map_or}
 use Rattle.std.proofs.lemmas.List.{length-map}
 use Rattle.std.proofs.lemmas.Bool.{eqb-true}
 use Rattle.std.proofs.lemmas.Bool.Decides.{nat_tests}
 use Rattle.std.proofs.lemmas.Option.{slice_get-map, slice_get_within}
 use Rattle.ripng_wire.proofs.FirstFailing.{each_passes}
-use Rattle.route_table.proofs.TableLaws.{None-Some}
 use Rattle.router_core.specs.Config.{Config}
 use Rattle.router_core.specs.Machine.{State, Happening, Arrives, Moves}
 use Rattle.router_core.specs.Received.{Received}
 use Rattle.router_core.specs.declared.answer.Answer.{Answer}
-use Rattle.ripng_world.specs.Network.{Network, Node, AreLinked, config_of, interface_at}
-use Rattle.ripng_world.specs.World.{World, RouterMoves, Deliver, Stranger, Tick, Restart, is_heard, arrival_of, sent_by}
+use Rattle.ripng_world.specs.Network.{Node, AreLinked, config_of, interface_at}
+use Rattle.ripng_world.specs.World.{RouterMoves, Deliver, Stranger, is_heard, arrival_of, sent_by}
 use Rattle.ripng_world.specs.Stations.{StationValue, MoveStations, network_of, world_of}
-use Rattle.ripng_world.specs.Labs.{LabValue, lab_of, event_fault, event_tests, is_heard_at, is_one_link, link_at, link_of_datagram}
+use Rattle.ripng_world.specs.Labs.{lab_of, event_fault, event_tests, is_one_link, link_at, link_of_datagram}
 use Rattle.ripng_world.specs.declared.network.NetInterface.{NetInterface}
 use Rattle.ripng_world.specs.declared.sent.Sent.{Sent}
 

@@ -1,5 +1,5 @@
 -- A lab: a lawful network that has run since a cold start, and what then holds.
-use Rattle.std.specs.Prelude.{◌≡◌, ℕ, ◌<◌, ◌≤◌, ◌==◌, nat_le, not, Bool, false, List, [], ◌∷◌, ◌++◌, map, length, Option, Some, None, is_none, unwrap_or, option_map, option_and_then, slice_get}
+use Rattle.std.specs.Prelude.{◌≡◌, ℕ, ◌<◌, ◌≤◌, ◌==◌, nat_le, not, Bool, false, List, [], ◌∷◌, ◌++◌, length, Option, Some, is_none, unwrap_or, option_map, option_and_then, slice_get}
 use Rattle.std.specs.FinMap as map_of
 use Rattle.std.specs.List.{AllByRecursion}
 use Rattle.std.specs.Option.{option_map_or}
@@ -9,7 +9,7 @@ use Rattle.route_table.specs.Route.{RouteValue, infinity}
 use Rattle.router_core.specs.Machine.{State}
 use Rattle.router_core.specs.Received.{Received}
 use Rattle.router_core.specs.declared.answer.Answer.{Answer}
-use Rattle.ripng_world.specs.Network.{Network, Node, IsNetwork, interface_at}
+use Rattle.ripng_world.specs.Network.{Network, IsNetwork, interface_at}
 use Rattle.ripng_world.specs.Stations.{StationValue, network_of, world_of}
 use Rattle.ripng_world.specs.Walks.{IsTableBacked, IsLeast}
 use Rattle.ripng_world.specs.Truth.{TellsTruth}

@@ -21,12 +21,16 @@ pub enum Event<'a> {
     },
     /// Somebody else sends a datagram to a router. A Response that the router would take for one of its link is refused.
     Stranger {
+        /// The number of the router that it comes to.
         router: usize,
+        /// The datagram as it comes.
         arrival: Arrival<'a>,
     },
     /// Time passes at a router.
     Tick {
+        /// The number of the router.
         router: usize,
+        /// The moment that it is.
         now: Moment,
         /// A random word, for the times of the next updates.
         word: u32,

@@ -91,7 +91,8 @@ impl<S: RouteStore> Lab<S> {
         })
     }
 
-    /// A router of the network.
+    /// A router of the network, if it has one of that number. Each of its routes below 16 hops is backed by a walk, and so
+    /// is not below the least cost.
     pub fn router(&self, router: usize) -> Option<&Router<S>>
         ensures value { option_copied result ≡ slice_get self.now.world.states router }
         ensures backed { IfSome result (λ r. IsTableBacked self.now.network router r.now.table) }
@@ -103,7 +104,7 @@ impl<S: RouteStore> Lab<S> {
         }
     }
 
-    /// All datagrams ever sent, numbered from 0.
+    /// All datagrams ever sent, numbered from 0. Each entry below 16 hops of each Response tells a walk from its sender.
     pub fn sent(&self) -> &[Sent]
         ensures value { result.now ≡ self.now.world.sent }
         ensures truth { IsTruthTold self.now.network result.now }
@@ -111,7 +112,7 @@ impl<S: RouteStore> Lab<S> {
         &self.sent
     }
 
-    /// The number of the link of an interface.
+    /// The number of the link of an interface, if the network has such a router and interface.
     pub fn link(&self, router: usize, iface: usize) -> Option<u16>
         ensures { result ≡ link_at self.now.network router iface }
     {
@@ -157,7 +158,7 @@ impl<S: RouteStore> Lab<S> {
         ensures least { AreNoneBelowLeast self.new.network self.new.world }
         ensures truth { IsTruthTold self.new.network self.new.world.sent }
     {
-        // What holds of the lab before the first event.
+        // The lab is opened, so that what holds of it is known before the first event.
         let _ = &self.sent;
         for (done, event) in events.iter().enumerate() {
             if let Err(refusal) = self.step(event) {

@@ -1,9 +1,7 @@
-use Rattle.std.proofs.Common.{ℕ, List, get_or, length, max, ◌/◌, ◌≤◌, subst, sym, ◌∙◌, ap, arith, Some}
+use Rattle.std.proofs.Common.{ℕ, List, get_or, length, ◌/◌, subst, sym, ◌∙◌, ap, Some}
 use Rattle.std.specs.FinMap as map_of
 use Rattle.std.proofs.lemmas.Option.{slice_get-get_or, get_or_from_slice_get}
 use Rattle.router_core.specs.Machine.{Arrives, Moves}
-use Rattle.ripng_world.specs.Stations.{network_of}
-use Rattle.ripng_world.specs.declared.sent.Sent.{Sent}
 use Rattle.ripng_world.proofs.StationMoves.{enough, within, was_sent, delivery_linked, delivered}
 use Rattle.ripng_world.proofs.moving.deliver.Goals as goal
 

@@ -1,4 +1,4 @@
-use Rattle.std.proofs.Common.{◌++◌, List, ℕ, map, sym, ap, ◌∙◌, arith}
+use Rattle.std.proofs.Common.{◌++◌, List, map, ap, ◌∙◌, arith}
 use Rattle.ripng_world.specs.Network.{Node}
 use Rattle.ripng_world.specs.declared.network.NetInterface.{NetInterface}
 use Rattle.ripng_world.proofs.NetworkLaws.{addresses_more}

@@ -1,5 +1,5 @@
 use Rattle.std.proofs.Common.{◌≡◌, List, map, option_map, sym, ap, ◌∙◌}
-use Rattle.router_core.specs.Config.{Config, config, config_fault, config_tests}
+use Rattle.router_core.specs.Config.{config, config_fault, config_tests}
 use Rattle.router_core.specs.declared.config.Interface.{Interface}
 use Rattle.ripng_world.specs.Network.{config_of}
 use Rattle.ripng_world.specs.declared.network.NetInterface.{NetInterface}

@@ -1,4 +1,4 @@
-use Rattle.std.proofs.Common.{[], sym, subst, ◌∙◌, ap, refl}
+use Rattle.std.proofs.Common.{[], sym, subst, refl}
 use Rattle.ripng_world.specs.Labs.{HasRun}
 use Rattle.ripng_world.specs.Network.{Network, IsNetwork}
 use Rattle.ripng_world.specs.Stations.{network_of, world_of}

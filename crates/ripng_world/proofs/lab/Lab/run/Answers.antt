@@ -1,4 +1,4 @@
-use Rattle.std.proofs.Common.{◌≡◌, ◌<◌, map, length, Ok, refl, Some, option_map, unwrap_or, slice_get, sym, subst, ◌∙◌, ap, arith}
+use Rattle.std.proofs.Common.{◌<◌, length, refl, Some, option_map, unwrap_or, sym, subst, ◌∙◌, ap, arith}
 use Rattle.std.proofs.lemmas.Option.{slice_get-map, slice_get-get_or}
 use Rattle.ripng_world.specs.Events.{event_of}
 use Rattle.ripng_world.specs.Labs.{LabValue, event_fault}

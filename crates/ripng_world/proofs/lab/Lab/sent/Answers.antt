@@ -1,4 +1,3 @@
-use Rattle.std.proofs.Common.{sym, ◌∙◌, ap}
 use Rattle.ripng_world.proofs.LabRuns.{truth}
 use Rattle.ripng_world.proofs.lab.Lab.sent.Goals as goal
 

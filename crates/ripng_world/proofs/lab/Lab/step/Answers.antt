@@ -1,11 +1,10 @@
-use Rattle.std.proofs.Common.{◌≡◌, ℕ, List, [], ◌++◌, map, take, drop, length, sym, subst, ◌∙◌, ap, ap₂, refl}
-use Rattle.router_core.specs.declared.answer.Answer.{Answer}
+use Rattle.std.proofs.Common.{◌≡◌, ℕ, List, ◌++◌, map, take, drop, length, subst, ◌∙◌, ap, ap₂}
 use Rattle.router_core.specs.declared.answer.Outgoing.{Outgoing}
 use Rattle.ripng_world.specs.Events.{event_of}
 use Rattle.ripng_world.specs.Labs.{HasRun}
 use Rattle.ripng_world.specs.Rounds.{router_of}
 use Rattle.ripng_world.specs.Stations.{StationValue, MoveStations, network_of, world_of}
-use Rattle.ripng_world.specs.World.{Happens, sent_by}
+use Rattle.ripng_world.specs.World.{sent_by}
 use Rattle.ripng_world.specs.declared.sent.Sent.{Sent}
 use Rattle.ripng_world.proofs.LabRuns.{backed, least, truth, stepped, stepped_on, written_back}
 use Rattle.ripng_world.proofs.lab.Lab.step.Goals as goal

@@ -1,9 +1,9 @@
-use Rattle.std.proofs.Common.{◌≡◌, ◌≤◌, List, ℕ, length, All, None, sym, subst, ap, ◌∙◌, arith}
+use Rattle.std.proofs.Common.{◌≡◌, ◌≤◌, List, ℕ, length, None, sym, subst, ap, ◌∙◌, arith}
 use Rattle.std.proofs.lemmas.Result.{err_from_is_err_and}
 use Rattle.ripng_wire.specs.Wire.{first_failing}
-use Rattle.router_core.specs.Config.{IsConfig, each_tested}
-use Rattle.ripng_world.specs.Network.{Network, Node, IsNetwork, config_of}
-use Rattle.ripng_world.specs.NetworkFaults.{addresses, address_tests, network_fault, router_tests}
+use Rattle.router_core.specs.Config.{each_tested}
+use Rattle.ripng_world.specs.Network.{IsNetwork}
+use Rattle.ripng_world.specs.NetworkFaults.{addresses, address_tests, network_fault}
 use Rattle.ripng_world.specs.declared.network.TheConstants.{ROUTER_LIMIT}
 use Rattle.ripng_world.proofs.LawfulNetworks.{by_router, by_addresses, is_network}
 use Rattle.ripng_world.proofs.network.NetConfig.check.Goals as goal
