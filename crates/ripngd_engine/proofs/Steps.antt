@@ -1,5 +1,5 @@
 -- The steps of an engine: what was carried out is a step of the run, and steps make turns.
-use Rattle.std.proofs.Common.{◌≡◌, ℕ, ◌+◌, List, [], ◌∷◌, ◌++◌, refl, sym, ap, ◌∙◌, arith, cond, Bool, true, false, subst, inl, inr, append_assoc, append-nil, length, length-append}
+use Rattle.std.proofs.Common.{◌≡◌, ℕ, ◌+◌, List, [], ◌∷◌, ◌++◌, refl, sym, ap, ◌∙◌, arith, Bool, true, false, subst, inl, inr, append_assoc, append-nil, length-append}
 use Rattle.std.specs.Prelude.{Option, None, Some}
 use Rattle.std.specs.FinMap as map_of
 use Rattle.std.specs.Io.KnownBytes.{Appends}
@@ -16,7 +16,7 @@ use Rattle.ripngd_engine.specs.declared.link.Received.{Received}
 use Rattle.ripngd_engine.specs.Telling.{Gains}
 use Rattle.ripngd_engine.specs.Log.{change_text, log_of}
 use Rattle.ripngd_engine.specs.Link.{Call, Gave, Silent, RecvFailed, Handed, Datagram, failed_sends, gave_call}
-use Rattle.ripngd_engine.specs.Run.{Machine, Trace, Step, Moved, Lost, Carries, FollowsUnless, ComesUp, Takes, TakesIn, TicksOnce, TicksUnless, Turn, Turns, arrival, handed, one_call, one_moment, nothing, joined, all_joined, counted}
+use Rattle.ripngd_engine.specs.Run.{Machine, Trace, Step, Carries, FollowsUnless, Takes, TakesIn, TicksOnce, TicksUnless, Turn, Turns, arrival, handed, one_call, one_moment, nothing, joined, all_joined, counted}
 use Rattle.ripngd_engine.specs.Outlet.{OutletSeen, CarriesOut}
 use Rattle.ripngd_engine.specs.Seen.{Seen, Outside, Shows, Acts, Started, Listens, Ran, fresh}
 use Rattle.ripngd_engine.specs.Running.{TakesReceived}

@@ -1,11 +1,11 @@
 -- What links, clocks and logs tell, one call after another.
-use Rattle.std.proofs.Common.{◌≡◌, ℕ, ◌+◌, ◌^◌, ◌-◌, List, [], ◌∷◌, ◌++◌, None, Some, refl, sym, ap, ◌∙◌, append_assoc, append-nil, arith, cond, Bool, true, false, map}
+use Rattle.std.proofs.Common.{◌≡◌, ℕ, ◌+◌, List, [], ◌∷◌, ◌++◌, None, Some, refl, sym, ap, ◌∙◌, append_assoc, append-nil, arith, cond, Bool}
 use Rattle.std.specs.Prelude.{Option}
 use Rattle.std.proofs.lemmas.List.{map-append}
 use Rattle.router_core.specs.declared.answer.Outgoing.{Outgoing}
 use Rattle.ripngd_engine.specs.Telling.{Gains}
 use Rattle.ripngd_engine.specs.Link.{Call, Gave, Silent, RecvFailed, Handed, failed_sends}
-use Rattle.ripngd_engine.specs.Run.{Sends, handed, datagrams_of, counted}
+use Rattle.ripngd_engine.specs.Run.{Sends, handed, counted}
 use Rattle.ripngd_engine.specs.Outlet.{HandsOver}
 
 -- nothing was called

@@ -1,5 +1,5 @@
 -- What the doubles over memory tell.
-use Rattle.std.specs.Prelude.{List, map, Option, None, Some, Bool, true, false}
+use Rattle.std.specs.Prelude.{List, Option, None, Some, Bool, true, false}
 use Rattle.ripngd_engine.specs.Link.{Call, Gave, Silent, RecvFailed, Handed}
 use Rattle.ripngd_engine.specs.declared.memory.LinkCall.{LinkCall}
 use Rattle.ripngd_engine.specs.declared.memory.LinkCall.TheVariants as kept

@@ -1,5 +1,5 @@
 -- A run of an engine: a start, and then one turn after another.
-use Rattle.std.specs.Prelude.{ℕ, ◌≡◌, ◌+◌, ◌-◌, ◌^◌, ◌++◌, min, max, List, [], ◌∷◌, Bool, true, false, MatchBool, map, ◌⊎◌}
+use Rattle.std.specs.Prelude.{ℕ, ◌≡◌, ◌+◌, ◌-◌, ◌^◌, ◌++◌, min, max, List, [], ◌∷◌, Bool, false, MatchBool, map, ◌⊎◌}
 use Rattle.std.specs.FinMap as map_of
 use Rattle.rand_core.specs.Stream.{Stream, next_u32}
 use Rattle.fib.specs.Forwarding.{Forwarding, Replays}

@@ -8,7 +8,7 @@ use Rattle.router_core.specs.Machine.{State}
 use Rattle.ripngd_engine.specs.Telling.{Gains}
 use Rattle.ripngd_engine.specs.Link.{Call, RecvFailed, failed_sends}
 use Rattle.ripngd_engine.specs.Log.{log_of}
-use Rattle.ripngd_engine.specs.Run.{Machine, Trace, ComesUp, Turn, Turns, all_joined, counted}
+use Rattle.ripngd_engine.specs.Run.{Machine, Trace, ComesUp, Turns, all_joined, counted}
 use Rattle.ripngd_engine.specs.declared.report.EngineFault.{EngineFault}
 use Rattle.ripngd_engine.specs.declared.report.EngineFault.TheVariants.{LinkFault, OutOfMemory}
 

@@ -59,8 +59,9 @@ impl<S: RouteStore, L: Link, C: TimeSource, R: Rng + Drop> Model for Engine<S, L
 impl<S: RouteStore, L: Link, C: TimeSource, R: Rng + Drop> Engine<S, L, C, R> {
     ghost use Rattle.ripngd_engine.specs.Seen.{seen, fresh, Started, TurnsAnswer};
 
-    /// Starts a router over a link with as many interfaces: what the start asks the neighbors is sent, and its routes are
-    /// followed and logged. `log` gets a line for each change of a route.
+    /// Starts a router over a link with as many interfaces: what it asks its neighbors is sent, and its routes are
+    /// followed and logged. The log gets a line for each change of a route, in several writes; after one that fails it
+    /// gets no more.
     ///
     /// # Errors
     /// Only want of memory: before anything is sent, or at the forwarding table, and then all else was done. The link
@@ -111,7 +112,8 @@ impl<S: RouteStore, L: Link, C: TimeSource, R: Rng + Drop> Engine<S, L, C, R> {
     pub fn turns<W: Write>(&mut self, n: u32, log: &mut W) -> Result<(), EngineFault>
         ensures runs { self.old.ended ≡ false → TurnsAnswer n (seen R.stream W.contents self.old log.old) result
             (seen R.stream W.contents self.new log.new) }
-        ensures ended { self.old.ended ≡ true → (result ≡ Err EngineFault.OutOfMemory) × (self.new ≡ self.old) × (log.new ≡ log.old) }
+        ensures ended { self.old.ended ≡ true
+            → (result ≡ Err EngineFault.OutOfMemory) × (self.new ≡ self.old) × (log.new ≡ log.old) }
     {
         if self.running.outlet.ended {
             return Err(EngineFault::OutOfMemory);
@@ -128,7 +130,11 @@ impl<S: RouteStore, L: Link, C: TimeSource, R: Rng + Drop> Engine<S, L, C, R> {
 
     /// What was lost since the start.
     pub fn report(&self) -> Report
-        ensures { result ≡ record { lost_sends = self.now.lost_sends; lost_memory = self.now.lost_memory; log_failed = self.now.log_failed } }
+        ensures { result ≡ record {
+          lost_sends = self.now.lost_sends;
+          lost_memory = self.now.lost_memory;
+          log_failed = self.now.log_failed;
+        } }
     {
         Report {
             lost_sends: self.running.outlet.lost_sends,

@@ -1,5 +1,8 @@
 //! The engine of a RIPng router: it runs a router's step over a link, a clock and a source of random words, follows
 //! its route changes with a forwarding table, and keeps a log of them.
+//!
+//! What a run is stands in `specs/Run`; what the contracts of an engine say of one, and of what its link, clock and log
+//! tell, in `specs/Seen`.
 #![tactic(auto)]
 
 mod clock;

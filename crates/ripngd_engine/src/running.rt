@@ -1,6 +1,7 @@
 //! A router that runs: the steps of one turn.
 
 ghost use Rattle.std.specs.Prelude.{◌≡◌, ◌<◌, ◌≤◌, [], ◌∷◌, false, IfOk, IfSome, is_err, length, vec_len};
+ghost use Rattle.rand_core.specs.Stream.{next_u32};
 ghost use Rattle.ripngd_engine.specs.Telling.{Gains};
 ghost use Rattle.ripngd_engine.specs.Link.{recv_call, datagram_in};
 ghost use Rattle.ripngd_engine.specs.Run.{Takes, TicksOnce};
@@ -14,7 +15,7 @@ use crate::clock::TimeSource;
 use crate::link::{Link, LinkFault, Received};
 use crate::outlet::{Outlet, one_more};
 use rand_core::Rng;
-use route_table::RouteStore;
+use route_table::{Moment, RouteStore};
 use router_core::{Arrival, Router};
 use std::alloc::AllocError;
 use std::io::Write;
@@ -66,6 +67,15 @@ fn listen<L: Link>(link: &mut L, buffer: &mut Vec<u8>) -> Result<Option<Received
     link.recv(buffer.as_mut_slice())
 }
 
+/// What a tick goes by: the moment that the clock gives, and the next word of the source.
+fn moment_and_word<C: TimeSource, R: Rng>(clock: &mut C, rng: &mut R) -> (Moment, u32)
+    ensures told { Gains (C.moments clock.old) (C.moments clock.new) (result.0 ∷ []) }
+    ensures drawn { (result.1, R.stream rng.new) ≡ next_u32 (R.stream rng.old) }
+{
+    let now = clock.now();
+    (now, rng.next_u32())
+}
+
 impl<S: RouteStore, L: Link, C: TimeSource, R: Rng + Drop> Running<S, L, C, R> {
     ghost use Rattle.ripngd_engine.specs.Running.{running_seen, TakesReceived, TurnAnswers};
 
@@ -76,8 +86,7 @@ impl<S: RouteStore, L: Link, C: TimeSource, R: Rng + Drop> Running<S, L, C, R> {
             (running_seen L.calls C.moments R.stream W.contents self.new log.new) }
         ensures ended { self.new.outlet.ended ≡ is_err result }
     {
-        let now = self.clock.now();
-        let word = self.rng.next_u32();
+        let (now, word) = moment_and_word(&mut self.clock, &mut self.rng);
         match self.router.tick(now, word) {
             Ok(answer) => self.outlet.carry_out(answer, log),
             Err(_) => {

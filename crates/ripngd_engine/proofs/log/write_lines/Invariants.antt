@@ -1,4 +1,4 @@
-use Rattle.std.proofs.Common.{◌≡◌, take}
+use Rattle.std.proofs.Common.{take}
 use Rattle.std.specs.Io.KnownBytes.{Appends}
 use Rattle.ripngd_engine.specs.Log.{log_of}
 use Rattle.ripngd_engine.proofs.log.write_lines.Given as goal

@@ -1,8 +1,7 @@
-use Rattle.std.proofs.Common.{rules, arith, refl, sym, ap, ◌∙◌, ◌≡◌, ◌+◌, ◌++◌, ◌∷◌, [], length, take, cond}
+use Rattle.std.proofs.Common.{arith, refl, sym, ap, ◌∙◌, ◌≡◌, ◌++◌, ◌∷◌, [], take, cond}
 use Rattle.std.specs.Result.{is_ok}
 use Rattle.std.proofs.lemmas.List.{take_more}
 use Rattle.ripngd_engine.specs.Run.{counted}
-use Rattle.ripngd_engine.specs.Outlet.{HandsOver}
 use Rattle.ripngd_engine.proofs.Tells.{HandsOver-nil, HandsOver-more}
 use Rattle.ripngd_engine.proofs.outlet.hand_over.Goals as goal
 use Rattle.ripngd_engine.proofs.outlet.hand_over.Goals.{then-failed, else-failed}

@@ -11,12 +11,16 @@ invariant_of-self g c = record {
 
 pub returns-in-Ok-clause-acts : goal.returns-in-Ok-clause-acts
 returns-in-Ok-clause-acts g c =
-    Acts-ticks _ _ c.now-now.result c.next_u32-word.result _ c.next_u32-word.ensures
-    (Acts-moved _ _ _ _ _ _ _ c.now-now.result (Ticks c.now-now.result c.next_u32-word.result) c.now-now.ensures.told
+    let now = c.moment_and_word-now.result.0 in
+    let word = c.moment_and_word-now.result.1 in
+    Acts-ticks _ _ now word _ c.moment_and_word-now.ensures.drawn
+    (Acts-moved _ _ _ _ _ _ _ now (Ticks now word) c.moment_and_word-now.ensures.told
     _ c.in-Ok.answer _ c.in-Ok.ensures.moves c.carry_out.ensures.carries)
 
 pub returns-in-Err-clause-acts : goal.returns-in-Err-clause-acts
 returns-in-Err-clause-acts g c =
-    Acts-ticks _ _ c.now-now.result c.next_u32-word.result _ c.next_u32-word.ensures
-    (Acts-lost _ _ _ _ _ _ _ c.now-now.result (Ticks c.now-now.result c.next_u32-word.result) c.now-now.ensures.told
+    let now = c.moment_and_word-now.result.0 in
+    let word = c.moment_and_word-now.result.1 in
+    Acts-ticks _ _ now word _ c.moment_and_word-now.ensures.drawn
+    (Acts-lost _ _ _ _ _ _ _ now (Ticks now word) c.moment_and_word-now.ensures.told
     _ _ c.in-Err.ensures.err c.one_more-self.ensures)
