@@ -178,8 +178,8 @@ fn is_silence(error: &io::Error) -> bool {
     matches!(error.kind(), ErrorKind::WouldBlock | ErrorKind::TimedOut)
 }
 
-/// A call of `recv` looks at one socket, each in its turn. It waits only where all were found empty one after the other:
-/// once a round, so that a datagram is taken in soon on whichever interface it comes.
+/// A call of `recv` looks at one socket, each in its turn. While datagrams come it does not wait, so that many on one of
+/// many interfaces are taken in at once. It waits only from when all sockets were found empty one after the other.
 impl Link for Udp {
     ghost use Rattle.std.specs.Prelude.{None};
 
@@ -205,7 +205,9 @@ impl Link for Udp {
                 Ok(endpoint.received(iface, len, from))
             }
             Err(error) if is_silence(&error) => {
-                self.found_empty = if may_wait { 1 } else { self.found_empty + 1 };
+                if !may_wait {
+                    self.found_empty += 1;
+                }
                 Ok(None)
             }
             Err(_) => Err(LinkFault),

@@ -6,7 +6,7 @@ use prefix6::Addr6;
 use ripngd_config::Peer;
 use ripngd_engine::{Link, LinkFault, Received};
 use router_core::{Destination, Listed, Outgoing};
-use std::alloc::Global;
+use std::alloc::{AllocError, Global};
 use std::io;
 use std::net::{Net, UdpSocket};
 use std::test::Fail;
@@ -50,23 +50,39 @@ fn free_ports<N: Net>(net: &N, alloc: Global, count: usize) -> io::Result<Vec<u1
     Ok(ports)
 }
 
-/// A link with an interface for each list of peers, and its ports.
-fn link<N: Net>(net: &N, alloc: Global, peers: Vec<Vec<Peer>>) -> Result<(Udp, Vec<u16>), Fail> {
-    let ports = free_ports(net, alloc, peers.len())?;
-    if ports.len() != peers.len() {
-        return Err(Fail::from("as many ports"));
+/// So many lists of the same peers.
+fn lists(alloc: Global, peers: &[Peer], count: usize) -> Result<Vec<Vec<Peer>>, AllocError> {
+    let mut lists = Vec::new(alloc);
+    for _ in 0..count {
+        lists.push(Vec::from_slice(alloc, peers)?)?;
     }
-    match Udp::bind(net, alloc, &ports, peers) {
-        Ok(udp) => Ok((udp, ports)),
-        Err(_) => Err(Fail::from("free ports")),
+    Ok(lists)
+}
+
+/// A link with so many interfaces, each with the same peers, and its ports. Where another program has just taken one of
+/// them, others are tried.
+fn link<N: Net>(
+    net: &N,
+    alloc: Global,
+    peers: &[Peer],
+    count: usize,
+) -> Result<(Udp, Vec<u16>), Fail> {
+    for _ in 0..8 {
+        let ports = free_ports(net, alloc, count)?;
+        let lists = lists(alloc, peers, count)?;
+        if ports.len() != lists.len() {
+            return Err(Fail::from("a port for each list"));
+        }
+        if let Ok(udp) = Udp::bind(net, alloc, &ports, lists) {
+            return Ok((udp, ports));
+        }
     }
+    Err(Fail::from("free ports"))
 }
 
 /// A link with one interface, and its port.
 fn link_to<N: Net>(net: &N, alloc: Global, peers: &[Peer]) -> Result<(Udp, u16), Fail> {
-    let mut lists = Vec::new(alloc);
-    lists.push(Vec::from_slice(alloc, peers)?)?;
-    let (udp, ports) = link(net, alloc, lists)?;
+    let (udp, ports) = link(net, alloc, peers, 1)?;
     Ok((udp, ports.first().copied().unwrap_or(0)))
 }
 
@@ -112,12 +128,8 @@ fn a_whole_table_on_one_of_many_interfaces_is_taken_in_at_once(
     rt: HostRuntime,
 ) -> Result<(), Fail> {
     let neighbor = socket(&rt)?;
-    let mut peers = Vec::new(rt.alloc());
-    for _ in 0..16 {
-        let here = [peer(2, port_of(&neighbor)?)];
-        peers.push(Vec::from_slice(rt.alloc(), &here)?)?;
-    }
-    let (mut udp, ports) = link(&rt, rt.alloc(), peers)?;
+    let peers = [peer(2, port_of(&neighbor)?)];
+    let (mut udp, ports) = link(&rt, rt.alloc(), &peers, 16)?;
     flood(
         &neighbor,
         ports.last().copied().unwrap_or(0),
@@ -175,12 +187,12 @@ fn where_nothing_comes_a_turn_waits_and_gives_none(rt: HostRuntime) -> Result<()
 fn a_port_in_use_is_named(rt: HostRuntime) -> Result<(), Fail> {
     let holder = socket(&rt)?;
     let used = port_of(&holder)?;
-    let free = free_ports(&rt, rt.alloc(), 1)?
-        .first()
-        .copied()
-        .unwrap_or(0);
-    let peers = Vec::from_array(rt.alloc(), [Vec::new(rt.alloc()), Vec::new(rt.alloc())])?;
-    let refused = Udp::bind(&rt, rt.alloc(), &[free, used], peers).err();
+    let peers = lists(rt.alloc(), &[], 2)?;
+    if peers.len() != 2 {
+        return Err(Fail::from("two lists"));
+    }
+    // At port 0 the system chooses a free one.
+    let refused = Udp::bind(&rt, rt.alloc(), &[0, used], peers).err();
     assert_eq!(rt; refused, Some(UdpError::Bind(used)));
     Ok(())
 }
