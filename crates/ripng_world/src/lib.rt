@@ -1,13 +1,23 @@
 //! Networks of routers: what may happen in one, and what then holds of every route and every datagram.
 #![tactic(auto)]
 
+mod event;
+mod lab;
 mod laws;
+mod moving;
 mod network;
+mod refusing;
 mod sent;
+mod station;
 
+pub use event::{Event, LabError};
+pub use lab::Lab;
 pub use laws::{
     converges_in_rounds, invents_no_distance, keeps_routes_backed, rounds_are_run, runs_go_on,
     tells_only_walks,
 };
-pub use network::NetInterface;
+pub use network::{NetConfig, NetInterface, NetRefused, Node, ROUTER_LIMIT};
 pub use sent::Sent;
+
+#[cfg(test)]
+mod tests;

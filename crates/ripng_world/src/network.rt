@@ -1,6 +1,21 @@
-//! Interfaces of routers, and the links that they are on.
+//! Networks: routers with interfaces on links, and which of them are lawful.
 
-use router_core::Interface;
+ghost use Rattle.std.specs.Prelude.{◌≡◌, ◌≢◌, ◌==◌, ◌++◌, All, map, None, Some, IfErr, IfOk, OnOk};
+ghost use Rattle.std.specs.List.{list_any};
+ghost use Rattle.std.specs.Result.{result_err};
+ghost use Rattle.prefix6.specs.Prefix.{IsPrefix};
+ghost use Rattle.ripng_wire.specs.Wire.{first_failing};
+ghost use Rattle.router_core.specs.Config.{IsConfig, each_tested};
+ghost use Rattle.ripng_world.specs.Network.{IsNetwork, config_of};
+ghost use Rattle.ripng_world.specs.NetworkFaults.{address_tests, addresses, faults_of_router, network_fault, router_tests};
+
+use prefix6::{Addr6, Prefix};
+use router_core::{ConfigRefused, Interface, RouterConfig};
+use std::alloc::{AllocError, Global};
+use std::marker::Model;
+
+/// The most routers of a network.
+pub const ROUTER_LIMIT: usize = 64;
 
 /// An interface of a router in a network.
 #[derive(Clone, Copy, Debug, PartialEq, Eq)]
@@ -8,4 +23,207 @@ pub struct NetInterface {
     pub interface: Interface,
     /// The number of its link: interfaces of one link hear each other.
     pub link: u16,
+}
+
+/// What one router of a network is asked to be.
+#[derive(Drop)]
+pub struct Node {
+    /// Its interfaces, numbered from 0.
+    pub interfaces: Vec<NetInterface>,
+    /// The prefixes that it owns, each with its route tag.
+    pub prefixes: Vec<(Prefix, u16)>,
+    /// Whether it only listens, and answers askers that are no routers.
+    pub quiet: bool,
+}
+
+impl Model for Node {
+    ghost use Rattle.ripng_world.specs.Network as network;
+
+    ghost Value = { network.Node };
+
+    ghost view = { λ n. record {
+      interfaces = n.interfaces.items;
+      prefixes = n.prefixes.items;
+      quiet = n.quiet;
+    } };
+}
+
+/// Why a network is refused: the first test that it fails, or want of memory. Each router is tested before the addresses
+/// that routers share.
+#[derive(Clone, Copy, Debug, PartialEq, Eq)]
+pub enum NetRefused {
+    /// 1: it has more than `ROUTER_LIMIT` routers.
+    TooManyRouters,
+    /// 2: two interfaces of the network have one address.
+    AddressSharedInNetwork,
+    /// 3: the configuration of a router is refused.
+    BadRouter {
+        /// The number of the first such router, from 0.
+        router: usize,
+        /// Why.
+        refusal: ConfigRefused,
+    },
+    /// 4: memory was refused.
+    OutOfMemory,
+}
+
+impl From<AllocError> for NetRefused {
+    ghost use Rattle.ripng_world.specs.declared.network.NetRefused.TheVariants.{OutOfMemory};
+
+    ghost from_gives = { λ _ refusal. refusal ≡ OutOfMemory };
+
+    fn from(_error: AllocError) -> NetRefused {
+        NetRefused::OutOfMemory
+    }
+}
+
+/// A router of a lawful network: its configuration, and its interfaces with their links.
+#[derive(Drop)]
+pub struct NetRouter {
+    pub(crate) interfaces: Vec<NetInterface>,
+    pub(crate) config: RouterConfig,
+}
+
+impl Model for NetRouter {
+    ghost use Rattle.std.specs.Prelude.{◌≡◌, map};
+    ghost use Rattle.ripng_world.specs.Network as network;
+
+    ghost Value = { network.Node };
+
+    ghost view = { λ r. record {
+      interfaces = r.interfaces.items;
+      prefixes = r.config.prefixes;
+      quiet = r.config.quiet;
+    } };
+
+    ghost invariant = { λ r. map (λ i. i.interface) r.interfaces.items ≡ r.config.interfaces };
+}
+
+/// A lawful network.
+#[derive(Drop)]
+pub struct NetConfig {
+    pub(crate) routers: Vec<NetRouter>,
+}
+
+impl Model for NetConfig {
+    ghost use Rattle.ripng_world.specs.Network.{Network, IsNetwork};
+
+    ghost Value = { Network };
+
+    ghost view = { λ n. n.routers.items };
+
+    ghost invariant = { λ n. IsNetwork n.routers.items };
+}
+
+// The interfaces without their links.
+fn without_links(alloc: Global, interfaces: &[NetInterface]) -> Result<Vec<Interface>, AllocError>
+    ensures { IfOk result (λ v. v.items ≡ map (λ i. i.interface) interfaces.now) }
+{
+    interfaces.iter().map(|i| i.interface).collect(alloc)
+}
+
+// A router of its configuration, if that is lawful.
+fn check_router(alloc: Global, number: usize, node: Node) -> Result<NetRouter, NetRefused>
+    ensures kept { IfOk result (λ r. r ≡ node) }
+    ensures passes { OnOk result (first_failing (faults_of_router number node) ≡ None) }
+    ensures lawful { OnOk result (IsConfig (config_of node)) }
+    ensures refused { IfErr result (λ why. why ≢ NetRefused.OutOfMemory → first_failing (faults_of_router number node) ≡ Some why) }
+{
+    let Node {
+        interfaces,
+        prefixes,
+        quiet,
+    } = node;
+    match RouterConfig::check(without_links(alloc, &interfaces)?, prefixes, quiet) {
+        Ok(config) => Ok(NetRouter { interfaces, config }),
+        Err(refusal) => Err(NetRefused::BadRouter {
+            router: number,
+            refusal,
+        }),
+    }
+}
+
+// The addresses of more interfaces.
+fn add_addresses(all: &mut Vec<Addr6>, interfaces: &[NetInterface]) -> Result<(), AllocError>
+    ensures { OnOk result (all.new.items ≡ all.old.items ++ map (λ i. i.interface.addr) interfaces.now) }
+{
+    for interface in interfaces {
+        all.push(interface.interface.addr)?;
+    }
+    Ok(())
+}
+
+// The addresses of all interfaces, router by router.
+fn addresses(alloc: Global, routers: &[NetRouter]) -> Result<Vec<Addr6>, AllocError>
+    ensures { IfOk result (λ v. v.items ≡ addresses routers.now) }
+{
+    let mut all = Vec::new(alloc);
+    for router in routers {
+        add_addresses(&mut all, &router.interfaces)?;
+    }
+    Ok(all)
+}
+
+// Whether an address is one of those.
+fn has_address(addresses: &[Addr6], addr: Addr6) -> bool
+    ensures { result ≡ list_any (λ a. a == addr) addresses.now }
+{
+    addresses.iter().any(|&a| a == addr)
+}
+
+// Whether an address is an earlier one.
+fn check_address(earlier: &[Addr6], addr: Addr6) -> Result<(), NetRefused>
+    ensures { result_err result ≡ first_failing (address_tests earlier.now addr) }
+{
+    if has_address(earlier, addr) {
+        Err(NetRefused::AddressSharedInNetwork)
+    } else {
+        Ok(())
+    }
+}
+
+// Whether some address is an earlier one.
+fn check_addresses(addresses: &[Addr6]) -> Result<(), NetRefused>
+    ensures { result_err result ≡ first_failing (each_tested address_tests addresses.now) }
+{
+    for (place, &addr) in addresses.iter().enumerate() {
+        check_address(&addresses[..place], addr)?;
+    }
+    Ok(())
+}
+
+// Each router, if all are lawful.
+fn check_routers(alloc: Global, nodes: Vec<Node>) -> Result<Vec<NetRouter>, NetRefused>
+    ensures kept { IfOk result (λ v. v.items ≡ nodes.items) }
+    ensures passes { OnOk result (first_failing (each_tested router_tests nodes.items) ≡ None) }
+    ensures lawful { OnOk result (All (λ node. IsConfig (config_of node)) nodes.items) }
+    ensures refused { IfErr result (λ why. why ≢ NetRefused.OutOfMemory → first_failing (each_tested router_tests nodes.items) ≡ Some why) }
+{
+    let mut routers = Vec::with_capacity(alloc, nodes.len())?;
+    for node in nodes {
+        let number = routers.len();
+        routers.push_reserved(check_router(alloc, number, node)?);
+    }
+    Ok(routers)
+}
+
+impl NetConfig {
+    /// A network of these routers, numbered from 0.
+    ///
+    /// # Errors
+    /// The first test that fails, or want of memory; what was given is dropped.
+    pub fn check(alloc: Global, routers: Vec<Node>) -> Result<NetConfig, NetRefused>
+        ensures kept { IfOk result (λ network. network ≡ routers.items) }
+        ensures passes { OnOk result (network_fault routers.items ≡ None) }
+        ensures lawful { IfOk result IsNetwork }
+        ensures refused { IfErr result (λ why. why ≢ NetRefused.OutOfMemory → network_fault routers.items ≡ Some why) }
+    {
+        if routers.len() > ROUTER_LIMIT {
+            return Err(NetRefused::TooManyRouters);
+        }
+        let routers = check_routers(alloc, routers)?;
+        let addresses = addresses(alloc, &routers)?;
+        check_addresses(&addresses)?;
+        Ok(NetConfig { routers })
+    }
 }

@@ -1,6 +1,6 @@
 -- What a router is configured with, and which configurations are lawful. The tests, their order and their names are this
 -- project's choice; the ranges are those of RFC 2080, 2.1 and 2.4.2.
-use Rattle.std.specs.Prelude.{◌≡◌, ℕ, ◌==◌, ◌&&◌, not, nat_lt, nat_le, Bool, List, [], ◌∷◌, ◌++◌, length, take, flat_map, Option, None, All, unwrap_or, option_map, slice_get}
+use Rattle.std.specs.Prelude.{◌≡◌, ℕ, ◌==◌, ◌&&◌, not, nat_lt, nat_le, Bool, List, [], ◌∷◌, ◌++◌, length, take, flat_map, Option, None, All, unwrap_or, option_map, slice_get, codes}
 use Rattle.std.specs.List.{list_any, enumerate_from}
 use Rattle.prefix6.specs.Addr.{is_link_local}
 use Rattle.prefix6.specs.Prefix.{Prefix6, IsPrefix, same_prefix, is_routable}
@@ -81,3 +81,27 @@ config_fault c = first_failing (config_tests c)
 pub record IsConfig (c : Config) : Type 0 where
   pub passes : config_fault c ≡ None
   pub prefixes : All (λ t. IsPrefix t.0) c.prefixes
+
+-- the number of a refusal
+abbrev pub refused_number : ConfigRefused → ℕ
+refused_number NoInterface = 1
+refused_number TooManyInterfaces = 2
+refused_number AddressNotLinkLocal = 3
+refused_number AddressTwice = 4
+refused_number BadCost = 5
+refused_number BadMtu = 6
+refused_number TooManyPrefixes = 7
+refused_number PrefixTwice = 8
+refused_number PrefixNotAllowed = 9
+
+-- the name of a refusal
+abbrev pub refused_name : ConfigRefused → List ℕ
+refused_name NoInterface = codes "NoInterface"
+refused_name TooManyInterfaces = codes "TooManyInterfaces"
+refused_name AddressNotLinkLocal = codes "AddressNotLinkLocal"
+refused_name AddressTwice = codes "AddressTwice"
+refused_name BadCost = codes "BadCost"
+refused_name BadMtu = codes "BadMtu"
+refused_name TooManyPrefixes = codes "TooManyPrefixes"
+refused_name PrefixTwice = codes "PrefixTwice"
+refused_name PrefixNotAllowed = codes "PrefixNotAllowed"

@@ -4,7 +4,7 @@ ghost use Rattle.std.specs.Prelude.{◌≡◌, All, Bool, IfOk, OnOk};
 ghost use Rattle.std.specs.Result.{result_err};
 ghost use Rattle.prefix6.specs.Prefix.{IsPrefix};
 ghost use Rattle.ripng_wire.specs.Wire.{first_failing};
-ghost use Rattle.router_core.specs.Config.{IsConfig, config, config_fault, each_tested, interface_tests, prefix_tests, is_own_address, has_address, has_prefix, is_usable_cost, is_usable_mtu};
+ghost use Rattle.router_core.specs.Config.{IsConfig, config, config_fault, each_tested, interface_tests, prefix_tests, is_own_address, has_address, has_prefix, is_usable_cost, is_usable_mtu, refused_name, refused_number};
 
 use prefix6::{Addr6, Prefix};
 use route_table::INFINITY;
@@ -32,24 +32,50 @@ const _: () = prove!(OWNED_LIMIT <= route_table::TABLE_LIMIT);
 /// Why a configuration is refused: the first test that it fails, in this order.
 #[derive(Clone, Copy, Debug, PartialEq, Eq)]
 pub enum ConfigRefused {
-    /// 1: it has no interface.
-    NoInterface,
-    /// 2: it has more than `INTERFACE_LIMIT` interfaces.
-    TooManyInterfaces,
-    /// 3: the address of an interface is not link-local.
-    AddressNotLinkLocal,
-    /// 4: the address of an interface is that of an earlier one.
-    AddressTwice,
-    /// 5: the cost of an interface is not 1 to 15 hops.
-    BadCost,
-    /// 6: the MTU of an interface is not 1,280 to 65,535 bytes.
-    BadMtu,
-    /// 7: it has more than `OWNED_LIMIT` prefixes.
-    TooManyPrefixes,
-    /// 8: a prefix is an earlier one.
-    PrefixTwice,
-    /// 9: a prefix is multicast or link-local.
-    PrefixNotAllowed,
+    /// It has no interface.
+    NoInterface = 1,
+    /// It has more than `INTERFACE_LIMIT` interfaces.
+    TooManyInterfaces = 2,
+    /// The address of an interface is not link-local.
+    AddressNotLinkLocal = 3,
+    /// The address of an interface is that of an earlier one.
+    AddressTwice = 4,
+    /// The cost of an interface is not 1 to 15 hops.
+    BadCost = 5,
+    /// The MTU of an interface is not 1,280 to 65,535 bytes.
+    BadMtu = 6,
+    /// It has more than `OWNED_LIMIT` prefixes.
+    TooManyPrefixes = 7,
+    /// A prefix is an earlier one.
+    PrefixTwice = 8,
+    /// A prefix is multicast or link-local.
+    PrefixNotAllowed = 9,
+}
+
+impl ConfigRefused {
+    /// The number of the refusal, 1 to 9.
+    pub fn number(self) -> u8
+        ensures { result ≡ refused_number self }
+    {
+        self as u8
+    }
+
+    /// The name of the refusal, one word.
+    pub fn name(self) -> &'static str
+        ensures { result.now ≡ refused_name self }
+    {
+        match self {
+            ConfigRefused::NoInterface => "NoInterface",
+            ConfigRefused::TooManyInterfaces => "TooManyInterfaces",
+            ConfigRefused::AddressNotLinkLocal => "AddressNotLinkLocal",
+            ConfigRefused::AddressTwice => "AddressTwice",
+            ConfigRefused::BadCost => "BadCost",
+            ConfigRefused::BadMtu => "BadMtu",
+            ConfigRefused::TooManyPrefixes => "TooManyPrefixes",
+            ConfigRefused::PrefixTwice => "PrefixTwice",
+            ConfigRefused::PrefixNotAllowed => "PrefixNotAllowed",
+        }
+    }
 }
 
 /// A lawful configuration.

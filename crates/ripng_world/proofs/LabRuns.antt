@@ -1,0 +1,129 @@
+-- What holds of a network that has run since a cold start, and how runs and cold starts go on.
+use Rattle.std.proofs.Common.{◌≡◌, ℕ, zero, suc, ◌+◌, ◌<◌, List, [], ◌∷◌, ◌++◌, map, take, drop, length, get_or, Some, refl, ap, ap₂, sym, subst, ◌∙◌, arith, append_assoc}
+use Rattle.std.specs.List.{AllByRecursion}
+use Rattle.std.proofs.lemmas.List.{map_more, take-map, map-append, length-map, take_more}
+use Rattle.router_core.specs.Machine.{State, Starts}
+use Rattle.router_core.specs.declared.answer.Answer.{Answer}
+use Rattle.ripng_world.specs.Network.{Network, Node, config_of}
+use Rattle.ripng_world.specs.World.{World, Event, Happens, WorldRun, StartsFrom, IsCold, sent_by}
+use Rattle.ripng_world.specs.Events.{event_of}
+use Rattle.ripng_world.specs.Rounds.{router_of}
+use Rattle.ripng_world.specs.Stations.{StationValue, MoveStations, network_of, world_of}
+use Rattle.ripng_world.specs.Labs.{HasRun, AreRoutesBacked, AreNoneBelowLeast, IsTruthTold}
+use Rattle.ripng_world.specs.declared.sent.Sent.{Sent}
+use Rattle.ripng_world.specs.declared.event.Event as coded
+use Rattle.ripng_world.proofs.Running.{IsGood, run_from_cold}
+use Rattle.ripng_world.proofs.RoundRuns.{run_on}
+
+module _ (net : Network) (w : World) (has_run : HasRun net w) where
+  good : IsGood net has_run.lawful.owns_prefixes w
+  good = run_from_cold net has_run.lawful.owns_prefixes has_run.moments has_run.events has_run.cold w has_run.is_cold has_run.run
+
+  pub backed : AreRoutesBacked net w
+  backed = λ router state here p r at low. ((good.states router state here).sound p r at).backed low
+
+  pub least : AreNoneBelowLeast net w
+  least = λ router state here p r metric at low least.
+      let b = backed router state here p r at low in
+      least.least r.metric r.tag b.0 b.1
+
+  pub truth : IsTruthTold net w.sent
+  truth = good.sent
+
+  pub went_on : (events : List Event) (w' : World) → WorldRun net w events w' → HasRun net w'
+  went_on events w' run =
+      record {
+        lawful = has_run.lawful;
+        moments = has_run.moments;
+        events = has_run.events ++ events;
+        cold = has_run.cold;
+        is_cold = has_run.is_cold;
+        run = run_on net has_run.events events has_run.cold w w' has_run.run run;
+      }
+
+pub one_event : (net : Network) (w w' : World) (e : Event) (answer : Answer) → Happens net w e answer w' → WorldRun net w (e ∷ []) w'
+one_event net w w' e answer happens = (w', answer, happens, refl)
+
+-- a move of stations, once what was sent is added
+module _ (old new : List StationValue) (sent sent' : List Sent) (e : Event) (answer : Answer) (moves : MoveStations old sent e answer new)
+    (added : sent' ≡ sent ++ map (sent_by (router_of e)) answer.sends) where
+  pub stepped : Happens (network_of old) (world_of old sent) e answer (world_of new sent')
+  stepped = subst (λ (ds : List Sent). Happens (network_of old) (world_of old sent) e answer (world_of new ds)) (sym added) moves.happens
+
+  pub stepped_on : HasRun (network_of old) (world_of old sent) → HasRun (network_of new) (world_of new sent')
+  stepped_on has_run =
+      subst (λ (net : Network). HasRun net (world_of new sent')) (sym moves.network)
+      (went_on (network_of old) (world_of old sent) has_run (e ∷ []) (world_of new sent') (one_event (network_of old) (world_of old sent) (world_of new sent') e answer stepped))
+
+-- one more event of a list has happened
+pub run_more : (net : Network) (w mid w' : World) (events : List coded.Event) (n : ℕ) (d : coded.Event) (answer : Answer) → n < length events → d ≡ get_or events n d
+    → WorldRun net w (take n (map event_of events)) mid → Happens net mid (event_of d) answer w' → WorldRun net w (take (n + 1) (map event_of events)) w'
+run_more net w mid w' events n d answer here is run happens =
+    let next : take (n + 1) (map event_of events) ≡ take n (map event_of events) ++ event_of d ∷ [] =
+    take-map event_of (n + 1) events ∙ map_more event_of events n d here
+    ∙ ap₂ (λ (xs : List Event) (x : coded.Event). xs ++ event_of x ∷ []) (sym (take-map event_of n events)) (sym is) in
+    subst (λ (es : List Event). WorldRun net w es w') (sym next)
+    (run_on net (take n (map event_of events)) (event_of d ∷ []) w mid w' run (one_event net mid w' (event_of d) answer happens))
+
+-- one more router has started
+pub starts_next : (n : ℕ) (nodes : List Node) (moments : List ℕ) (states : List State) (sent : List Sent) (node : Node) (now : ℕ) (answer : Answer) (s : State)
+    → StartsFrom n nodes moments states sent → Starts (config_of node) now answer s
+    → StartsFrom n (nodes ++ node ∷ []) (moments ++ now ∷ []) (states ++ s ∷ []) (sent ++ map (sent_by (n + length nodes)) answer.sends)
+starts_next n [] [] [] sent node now answer s from starts =
+    let here : n + 0 ≡ n = omega arith in
+    (answer, [], starts, refl, ap₂ (λ (xs : List Sent) (k : ℕ). xs ++ map (sent_by k) answer.sends) from here ∙ sym (append_nil (map (sent_by n) answer.sends)))
+  where
+    append_nil : {X : Type 0} (xs : List X) → xs ++ [] ≡ xs
+    append_nil [] = refl
+    append_nil (x ∷ xs) = ap (λ ys. x ∷ ys) (append_nil xs)
+starts_next n (x ∷ nodes) (m ∷ moments) (t ∷ states) sent node now answer s from starts =
+    let later = starts_next (suc n) nodes moments states from.1 node now answer s from.3 starts in
+    let place : n + suc (length nodes) ≡ suc n + length nodes = omega arith in (
+      from.0,
+      from.1 ++ map (sent_by (suc n + length nodes)) answer.sends,
+      from.2,
+      later,
+      ap₂ (λ (xs : List Sent) (k : ℕ). xs ++ map (sent_by k) answer.sends) from.4 place
+          ∙ append_assoc (map (sent_by n) from.0.sends) from.1 (map (sent_by (suc n + length nodes)) answer.sends),
+    )
+starts_next n _ _ _ sent node now answer s from starts = absurd from
+
+-- one more station of those that the routers of a network become
+pub listed_on : (stations stations' : List StationValue) (s : StationValue) (node : Node) (left rest all : List Node) → stations' ≡ stations ++ s ∷ []
+    → s.node ≡ node → left ≡ node ∷ rest → network_of stations ++ left ≡ all → network_of stations' ++ rest ≡ all
+listed_on stations stations' s node left rest all more same is so_far =
+    ap (λ (ss : List StationValue). network_of ss ++ rest) more
+    ∙ ap (λ (ns : List Node). ns ++ rest) (map-append (λ (t : StationValue). t.node) stations (s ∷ []))
+    ∙ append_assoc (network_of stations) (s.node ∷ []) rest
+    ∙ ap (λ (n : Node). network_of stations ++ n ∷ rest) same
+    ∙ ap (λ (ns : List Node). network_of stations ++ ns) (sym is)
+    ∙ so_far
+
+pub cold_on : (stations stations' : List StationValue) (moments : List ℕ) (sent sent' : List Sent) (s : StationValue) (now : ℕ) (answer : Answer) (n n' k : ℕ)
+    → stations' ≡ stations ++ s ∷ [] → n ≡ length stations → n' ≡ n + 1 → k ≡ n → sent' ≡ sent ++ map (sent_by k) answer.sends
+    → n < length moments → now ≡ get_or moments k now
+    → StartsFrom 0 (network_of stations) (take n moments) (map (λ t. t.state) stations) sent → Starts (config_of s.node) now answer s.state
+    → StartsFrom 0 (network_of stations') (take n' moments) (map (λ t. t.state) stations') sent'
+cold_on stations stations' moments sent sent' s now answer n n' k more size next number added here is from starts =
+    let nodes : network_of stations' ≡ network_of stations ++ s.node ∷ [] = ap network_of more ∙ map-append (λ (t : StationValue). t.node) stations (s ∷ []) in
+    let states : map (λ (t : StationValue). t.state) stations' ≡ map (λ (t : StationValue). t.state) stations ++ s.state ∷ [] =
+    ap (map (λ (t : StationValue). t.state)) more ∙ map-append (λ (t : StationValue). t.state) stations (s ∷ []) in
+    let times : take n' moments ≡ take n moments ++ now ∷ [] =
+    ap (λ (m : ℕ). take m moments) next ∙ take_more moments n now here
+    ∙ ap (λ (m : ℕ). take n moments ++ m ∷ []) (ap (λ (m : ℕ). get_or moments m now) (sym number) ∙ sym is) in
+    let place : k ≡ 0 + length (network_of stations) = omega (arith, number, size, length-map stations (λ (t : StationValue). t.node)) in
+    let datagrams : sent' ≡ sent ++ map (sent_by (0 + length (network_of stations))) answer.sends = added ∙ ap (λ (m : ℕ). sent ++ map (sent_by m) answer.sends) place in
+    let all = starts_next 0 (network_of stations) (take n moments) (map (λ (t : StationValue). t.state) stations) sent s.node now answer s.state from starts in
+    subst (λ (ns : List Node). StartsFrom 0 ns (take n' moments) (map (λ (t : StationValue). t.state) stations') sent') (sym nodes)
+    (subst (λ (ms : List ℕ). StartsFrom 0 (network_of stations ++ s.node ∷ []) ms (map (λ (t : StationValue). t.state) stations') sent') (sym times)
+    (subst (λ (ss : List State). StartsFrom 0 (network_of stations ++ s.node ∷ []) (take n moments ++ now ∷ []) ss sent') (sym states)
+    (subst (λ (ds : List Sent). StartsFrom 0 (network_of stations ++ s.node ∷ []) (take n moments ++ now ∷ []) (map (λ (t : StationValue). t.state) stations ++ s.state ∷ []) ds) (sym datagrams) all)))
+
+-- a slice that was written back whole
+pub written_back : {X : Type 0} (n : ℕ) (xs ys : List X) → length xs ≡ length ys → n ≡ length ys → take n (xs ++ drop (length xs) ys) ≡ xs
+written_back zero [] [] same all = refl
+written_back (suc n) (x ∷ xs) (y ∷ ys) same all = ap (λ zs. x ∷ zs) (written_back n xs ys (omega arith) (omega arith))
+written_back (suc n) [] [] same all = refl
+written_back zero (x ∷ xs) (y ∷ ys) same all = absurd (omega arith)
+written_back n [] (y ∷ ys) same all = absurd (omega arith)
+written_back n (x ∷ xs) [] same all = absurd (omega arith)

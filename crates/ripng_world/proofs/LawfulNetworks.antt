@@ -1,0 +1,190 @@
+-- A network that fails no test is one.
+use Rattle.std.proofs.Common.{◌≡◌, ℕ, zero, suc, ◌+◌, ◌<◌, ◌≤◌, ◌==◌, ◌||◌, nat_lt, not, Bool, true, false, cond, IsTrue, List, [], ◌∷◌, ◌++◌, map, take, length, All, Option, Some, None, get_or, slice_get, option_map, refl, ap, sym, subst, ◌∙◌, arith}
+use Rattle.std.specs.List.{enumerate_from, flat_map, list_any}
+use Rattle.std.proofs.lemmas.Bool.{eq-eqb}
+use Rattle.std.proofs.lemmas.Bool.Decides.{nat_tests}
+use Rattle.std.proofs.lemmas.Option.{slice_get-map, slice_get_within, get_or_from_slice_get}
+use Rattle.prefix6.specs.Addr.{is_link_local}
+use Rattle.prefix6.specs.Prefix.{Prefix6, IsPrefix, is_routable}
+use Rattle.ripng_wire.specs.Wire.{first_failing}
+use Rattle.ripng_wire.proofs.FirstFailing.{EachPasses, each_passes}
+use Rattle.route_table.proofs.TableLaws.{None-Some}
+use Rattle.router_core.specs.Config.{Config, IsConfig, config_tests, each_tested, interface_tests, prefix_tests}
+use Rattle.router_core.specs.declared.config.ConfigRefused.{ConfigRefused}
+use Rattle.router_core.specs.declared.config.ConfigRefused.TheVariants.{TooManyPrefixes}
+use Rattle.router_core.specs.declared.config.Interface.{Interface}
+use Rattle.router_core.specs.declared.config.TheConstants.{OWNED_LIMIT}
+use Rattle.router_core.proofs.ConfigLaws.{cost_low, cost_high, mtu_low, mtu_high}
+use Rattle.router_core.proofs.EachTested.{first_failing-append, first_failing-found}
+use Rattle.ripng_world.specs.Network.{Network, Node, IsNetwork, IsUsable, Owns, OwnsPrefixes, HasDistinctAddresses, config_of, interface_at}
+use Rattle.ripng_world.specs.NetworkFaults.{addresses, address_tests, network_fault, network_tests, router_tests}
+use Rattle.ripng_world.specs.declared.network.NetInterface.{NetInterface}
+use Rattle.ripng_world.specs.declared.network.NetRefused.{NetRefused}
+use Rattle.ripng_world.specs.declared.network.NetRefused.TheVariants.{TooManyRouters}
+use Rattle.ripng_world.specs.declared.network.TheConstants.{ROUTER_LIMIT}
+use Rattle.ripng_world.proofs.Members.{At, at_flat, get_left, get_past}
+use Rattle.ripng_world.proofs.StationMoves.{then_of}
+
+-- ---- which test fails first
+
+module _ (net : Network) (few : length net ≤ ROUTER_LIMIT) where
+  counted : network_fault net ≡ first_failing (each_tested router_tests net ++ each_tested address_tests (addresses net))
+  counted =
+      let fits : nat_lt ROUTER_LIMIT (length net) ≡ false = grind (arith, nat_tests, few) in
+      ap (λ b. cond b (Some TooManyRouters) (first_failing (each_tested router_tests net ++ each_tested address_tests (addresses net)))) fits
+
+  pub by_router : (why : NetRefused) → first_failing (each_tested router_tests net) ≡ Some why → network_fault net ≡ Some why
+  by_router why fails = counted ∙ first_failing-found (each_tested router_tests net) (each_tested address_tests (addresses net)) why fails
+
+  pub by_addresses : first_failing (each_tested router_tests net) ≡ None → network_fault net ≡ first_failing (each_tested address_tests (addresses net))
+  by_addresses pass = counted ∙ first_failing-append (each_tested router_tests net) (each_tested address_tests (addresses net)) pass
+
+-- ---- what each test says
+
+-- where the tests of two lists pass, those of each pass
+passes-append : {F : Type 0} (these others : List (Bool × F)) → EachPasses (these ++ others) → EachPasses these × EachPasses others
+passes-append [] others h = (tt, h)
+passes-append (t ∷ these) others h = let rest = passes-append these others h.1 in ((h.0, rest.0), rest.1)
+
+-- where the tests made of each element pass, those of the element at a place pass
+passes_at : {X F : Type 0} (f : ℕ × X → List (Bool × F)) (n : ℕ) (xs : List X) (i : ℕ) (x : X) → slice_get xs i ≡ Some x
+    → EachPasses (flat_map f (enumerate_from n xs)) → EachPasses (f (n + i, x))
+passes_at f n [] i x is h = absurd (cc)
+passes_at {F = F} f n (y ∷ xs) zero x is h =
+    let same : y ≡ x = cc in
+    let here = (passes-append (f (n, y)) (flat_map f (enumerate_from (n + 1) xs)) h).0 in
+    let e : n ≡ n + 0 = omega arith in
+    subst (λ z. EachPasses {F = F} (f (n + 0, z))) same (subst (λ (m : ℕ). EachPasses {F = F} (f (m, y))) e here)
+passes_at {F = F} f n (y ∷ xs) (suc i) x is h =
+    let rest = (passes-append (f (n, y)) (flat_map f (enumerate_from (n + 1) xs)) h).1 in
+    let e : n + 1 + i ≡ n + suc i = omega arith in
+    subst (λ (m : ℕ). EachPasses {F = F} (f (m, x))) e (passes_at f (n + 1) xs i x is rest)
+
+not_false : (b : Bool) → not b ≡ false → b ≡ true
+not_false true e = refl
+not_false false e = absurd (cc)
+
+module _ (c : Config) (lawful : IsConfig c) where
+  lists_pass : EachPasses (each_tested interface_tests c.interfaces) × EachPasses ((nat_lt OWNED_LIMIT (length c.prefixes), TooManyPrefixes) ∷ each_tested prefix_tests c.prefixes)
+  lists_pass = passes-append (each_tested interface_tests c.interfaces) ((nat_lt OWNED_LIMIT (length c.prefixes), TooManyPrefixes) ∷ each_tested prefix_tests c.prefixes)
+      (each_passes (config_tests c) lawful.passes).1.1
+
+  interface_local : (i : ℕ) (x : Interface) → slice_get c.interfaces i ≡ Some x → is_link_local x.addr ≡ true
+  interface_local i x is = not_false (is_link_local x.addr) (passes_at (λ t. interface_tests (take t.0 c.interfaces) t.1) 0 c.interfaces i x is lists_pass.0).0
+
+  prefix_routable : (i : ℕ) (t : Prefix6 × ℕ) → slice_get c.prefixes i ≡ Some t → is_routable t.0 ≡ true
+  prefix_routable i t is = not_false (is_routable t.0) (passes_at (λ u. prefix_tests (take u.0 c.prefixes) u.1) 0 c.prefixes i t is lists_pass.1.1).1.0
+
+  prefix_is : (i : ℕ) (t : Prefix6 × ℕ) → slice_get c.prefixes i ≡ Some t → IsPrefix t.0
+  prefix_is i t is = subst (λ (u : Prefix6 × ℕ). IsPrefix u.0) (get_or_from_slice_get c.prefixes i t t is) (lawful.prefixes i t (slice_get_within c.prefixes i t is))
+
+-- ---- no address twice
+
+abbrev NoRepeats : List ℕ → Type 0
+NoRepeats xs = (p q a : ℕ) → slice_get xs p ≡ Some a → slice_get xs q ≡ Some a → p ≡ q
+
+any_in : (test : ℕ → Bool) (xs : List ℕ) (q p a : ℕ) → slice_get xs p ≡ Some a → p < q → test a ≡ true → list_any test (take q xs) ≡ true
+any_in test [] q p a is below passes = absurd (None-Some a is)
+any_in test (x ∷ xs) zero p a is below passes = absurd (omega arith)
+any_in test (x ∷ xs) (suc q) zero a is below passes = let same : a ≡ x = cc in ap (λ b. b || list_any test (take q xs)) (ap test (sym same) ∙ passes)
+any_in test (x ∷ xs) (suc q) (suc p) a is below passes = ap (λ b. test x || b) (any_in test xs q p a is (omega arith) passes) ∙ or_true (test x)
+  where
+    or_true : (b : Bool) → (b || true) ≡ true
+    or_true true = refl
+    or_true false = refl
+
+no_repeats : (xs : List ℕ) → EachPasses (each_tested address_tests xs) → NoRepeats xs
+no_repeats xs passes p q a here there = grind (arith, not_before p q here there, not_before q p there here)
+  where
+    not_before : (m n : ℕ) → slice_get xs m ≡ Some a → slice_get xs n ≡ Some a → n ≤ m
+    not_before m n first later =
+        let new : list_any (λ b. b == a) (take (0 + n) xs) ≡ false = (passes_at (λ t. address_tests (take t.0 xs) t.1) 0 xs n a later passes).0 in
+        let order : (m < n → ⊥) → n ≤ m = λ never. grind (arith, never) in
+        order (λ before.
+        let old : list_any (λ b. b == a) (take n xs) ≡ true = any_in (λ b. b == a) xs n m a first before (eq-eqb a a refl) in
+        let e : 0 + n ≡ n = omega arith in
+        clash (sym old ∙ subst (λ (k : ℕ). list_any (λ b. b == a) (take k xs) ≡ false) e new))
+      where
+        clash : true ≡ false → ⊥
+        clash e = cc
+
+get_shifted : {X : Type 0} (xs ys : List X) (p : ℕ) → slice_get (xs ++ ys) (length xs + p) ≡ slice_get ys p
+get_shifted [] ys p = let e : 0 + p ≡ p = omega arith in ap (slice_get ys) e
+get_shifted (x ∷ xs) ys p = let e : suc (length xs) + p ≡ suc (length xs + p) = omega arith in ap (slice_get (x ∷ xs ++ ys)) e ∙ get_shifted xs ys p
+
+address_at : (net : Network) (s j : ℕ) (b : NetInterface) → interface_at net s j ≡ Some b → At (addresses net) b.interface.addr
+address_at net s j b is =
+    let node = then_of (λ (n : Node). slice_get n.interfaces j) (slice_get net s) b is in
+    at_flat (λ (n : Node). map (λ (i : NetInterface). i.interface.addr) n.interfaces) net node.0 b.interface.addr (s, node.1)
+    (j, slice_get-map (λ (i : NetInterface). i.interface.addr) (node.0).interfaces j ∙ ap (option_map (λ (i : NetInterface). i.interface.addr)) node.2)
+
+distinct : (net : Network) → NoRepeats (addresses net) → HasDistinctAddresses net
+distinct [] once r i s j a b here there same = absurd (None-Some a here)
+distinct (n ∷ ns) once zero i zero j a b here there same =
+    let own = map (λ (t : NetInterface). t.interface.addr) n.interfaces in
+    let at_i = slice_get-map (λ (t : NetInterface). t.interface.addr) n.interfaces i ∙ ap (option_map (λ (t : NetInterface). t.interface.addr)) here in
+    let at_j = slice_get-map (λ (t : NetInterface). t.interface.addr) n.interfaces j ∙ ap (option_map (λ (t : NetInterface). t.interface.addr)) there ∙ ap Some (sym same) in
+    (refl, once i j a.interface.addr (get_left own (addresses ns) i a.interface.addr at_i) (get_left own (addresses ns) j a.interface.addr at_j))
+distinct (n ∷ ns) once zero i (suc s) j a b here there same =
+    let own = map (λ (t : NetInterface). t.interface.addr) n.interfaces in
+    let at_i = slice_get-map (λ (t : NetInterface). t.interface.addr) n.interfaces i ∙ ap (option_map (λ (t : NetInterface). t.interface.addr)) here in
+    let far = get_past own (addresses ns) b.interface.addr (address_at ns s j b there) in
+    let one = once i far.0 a.interface.addr (get_left own (addresses ns) i a.interface.addr at_i) (far.2 ∙ ap Some (sym same)) in
+    absurd (omega (arith, one, far.1, slice_get_within own i a.interface.addr at_i))
+distinct (n ∷ ns) once (suc r) i zero j a b here there same =
+    let own = map (λ (t : NetInterface). t.interface.addr) n.interfaces in
+    let at_j = slice_get-map (λ (t : NetInterface). t.interface.addr) n.interfaces j ∙ ap (option_map (λ (t : NetInterface). t.interface.addr)) there in
+    let far = get_past own (addresses ns) a.interface.addr (address_at ns r i a here) in
+    let one = once j far.0 b.interface.addr (get_left own (addresses ns) j b.interface.addr at_j) (far.2 ∙ ap Some same) in
+    absurd (omega (arith, one, far.1, slice_get_within own j b.interface.addr at_j))
+distinct (n ∷ ns) once (suc r) i (suc s) j a b here there same =
+    let own = map (λ (t : NetInterface). t.interface.addr) n.interfaces in
+    let rest_once : NoRepeats (addresses ns) = λ p q x at_p at_q.
+    let one = once (length own + p) (length own + q) x (get_shifted own (addresses ns) p ∙ at_p) (get_shifted own (addresses ns) q ∙ at_q) in
+    omega (arith, one) in
+    let later = distinct ns rest_once r i s j a b here there same in
+    (ap suc later.0, later.1)
+
+-- ---- all together
+
+module _ (net : Network) (none : network_fault net ≡ None) (lawful : All (λ node. IsConfig (config_of node)) net) where
+  config_at : (router : ℕ) (node : Node) → slice_get net router ≡ Some node → IsConfig (config_of node)
+  config_at router node is = subst (λ (n : Node). IsConfig (config_of n)) (get_or_from_slice_get net router node node is) (lawful router node (slice_get_within net router node is))
+
+  -- an interface in the configuration of its router
+  record IsConfigured (router iface : ℕ) (i : NetInterface) : Type 0 where
+    pub node : Node
+    pub is_config : IsConfig (config_of node)
+    pub interface_is : slice_get (config_of node).interfaces iface ≡ Some i.interface
+
+  configured : (router iface : ℕ) (i : NetInterface) → interface_at net router iface ≡ Some i → IsConfigured router iface i
+  configured router iface i is =
+      let node = then_of (λ (n : Node). slice_get n.interfaces iface) (slice_get net router) i is in
+      record {
+        node = node.0;
+        is_config = config_at router node.0 node.1;
+        interface_is = slice_get-map (λ (t : NetInterface). t.interface) (node.0).interfaces iface ∙ ap (option_map (λ (t : NetInterface). t.interface)) node.2;
+      }
+
+  owned : OwnsPrefixes net
+  owned router p tag o = prefix_is (config_of o.node) (config_at router o.node o.node_is) o.place (p, tag) o.listed
+
+  usable : IsUsable net
+  usable =
+      record {
+        costs = λ router iface i is. let c = configured router iface i is in
+            (cost_low (config_of c.node) c.is_config iface i.interface c.interface_is, cost_high (config_of c.node) c.is_config iface i.interface c.interface_is);
+        local = λ router iface i is. let c = configured router iface i is in interface_local (config_of c.node) c.is_config iface i.interface c.interface_is;
+        mtus = λ router iface i is. let c = configured router iface i is in
+            (mtu_low (config_of c.node) c.is_config iface i.interface c.interface_is, mtu_high (config_of c.node) c.is_config iface i.interface c.interface_is);
+        routable = λ router p tag o. prefix_routable (config_of o.node) (config_at router o.node o.node_is) o.place (p, tag) o.listed;
+      }
+
+  pub is_network : IsNetwork net
+  is_network =
+      record {
+        owns_prefixes = owned;
+        distinct = distinct net (no_repeats (addresses net)
+            (passes-append (each_tested router_tests net) (each_tested address_tests (addresses net)) (each_passes (network_tests net) none).1).1);
+        usable = usable;
+      }

@@ -1,0 +1,72 @@
+-- What the tests of a network say of it.
+use Rattle.std.proofs.Common.{◌≡◌, ◌≢◌, ℕ, zero, suc, ◌+◌, ◌<◌, ◌≤◌, ◌==◌, nat_lt, not, Bool, true, false, cond, List, [], ◌∷◌, ◌++◌, map, take, drop, length, All, Option, Some, None, get_or, slice_get, option_map, option_and_then, refl, ap, ap₂, sym, subst, ◌∙◌, arith, append_assoc}
+use Rattle.std.specs.List.{enumerate_from, flat_map, list_any}
+use Rattle.std.proofs.lemmas.Bool.{eq-eqb}
+use Rattle.std.proofs.lemmas.Bool.Decides.{nat_tests}
+use Rattle.std.proofs.lemmas.Grind.{flat_map-append}
+use Rattle.std.proofs.lemmas.List.{take_more, length-append}
+use Rattle.std.proofs.lemmas.List.Elements.{All-more}
+use Rattle.std.proofs.Math.Seq.{get_or-append_seam, take-append_seam}
+use Rattle.std.proofs.lemmas.Option.{slice_get-map, slice_get_within}
+use Rattle.prefix6.specs.Addr.{is_link_local}
+use Rattle.prefix6.specs.Prefix.{Prefix6, IsPrefix, is_routable}
+use Rattle.ripng_wire.specs.Wire.{first_failing}
+use Rattle.ripng_wire.proofs.FirstFailing.{EachPasses, each_passes}
+use Rattle.route_table.proofs.TableLaws.{None-Some, Some-same}
+use Rattle.router_core.specs.Config.{Config, IsConfig, config_tests, each_tested, interface_tests, prefix_tests}
+use Rattle.router_core.specs.declared.config.ConfigRefused.{ConfigRefused}
+use Rattle.router_core.specs.declared.config.Interface.{Interface}
+use Rattle.router_core.specs.declared.config.TheConstants.{OWNED_LIMIT}
+use Rattle.router_core.proofs.ConfigLaws.{cost_low, cost_high, mtu_low, mtu_high}
+use Rattle.router_core.proofs.EachTested.{PassesBelow, passes_more, fails_here, first_failing-append, first_failing-found}
+use Rattle.ripng_world.specs.Network.{Network, Node, IsNetwork, Owns, HasDistinctAddresses, config_of, interface_at}
+use Rattle.ripng_world.specs.NetworkFaults.{addresses, address_tests, faults_of_router, network_fault, network_tests, router_tests}
+use Rattle.ripng_world.specs.declared.network.NetInterface.{NetInterface}
+use Rattle.ripng_world.specs.declared.network.NetRefused.{NetRefused}
+use Rattle.ripng_world.specs.declared.network.NetRefused.TheVariants.{BadRouter}
+
+-- the addresses of one more router
+pub addresses_more : (nodes : List Node) (i : ℕ) (node : Node) (old new : List ℕ) → i < length nodes → node ≡ get_or nodes i node
+    → old ≡ addresses (take i nodes) → new ≡ old ++ map (λ t. t.interface.addr) node.interfaces → new ≡ addresses (take (i + 1) nodes)
+addresses_more nodes i node old new here is so_far more =
+    let own : Node → List ℕ = λ n. map (λ (t : NetInterface). t.interface.addr) n.interfaces in
+    more ∙ ap (λ (xs : List ℕ). xs ++ own node) so_far
+    ∙ ap (λ (xs : List ℕ). addresses (take i nodes) ++ xs) (sym (append_nil (own node)))
+    ∙ sym (flat_map-append own (take i nodes) (node ∷ []))
+    ∙ ap (λ (ns : List Node). addresses (take i nodes ++ ns)) (ap (λ (n : Node). n ∷ []) is)
+    ∙ ap addresses (sym (take_more nodes i node here))
+  where
+    append_nil : {X : Type 0} (xs : List X) → xs ++ [] ≡ xs
+    append_nil [] = refl
+    append_nil (x ∷ xs) = ap (λ ys. x ∷ ys) (append_nil xs)
+
+-- ---- the tests of a router, with its number
+
+pub first_failing-map : {F G : Type 0} (f : F → G) (ts : List (Bool × F)) → first_failing (map (λ t. (t.0, f t.1)) ts) ≡ option_map f (first_failing ts)
+first_failing-map f [] = refl
+first_failing-map f (t ∷ ts) = by_test t.0 (first_failing-map f ts)
+  where
+    by_test : (b : Bool) → first_failing (map (λ u. (u.0, f u.1)) ts) ≡ option_map f (first_failing ts)
+        → cond b (Some (f t.1)) (first_failing (map (λ u. (u.0, f u.1)) ts)) ≡ option_map f (cond b (Some t.1) (first_failing ts))
+    by_test true rest = refl
+    by_test false rest = rest
+
+-- the router behind those that were taken
+module _ (nodes taken rest : List Node) (node : Node) (n : ℕ) (is : taken ++ node ∷ rest ≡ nodes) (size : n ≡ length taken) where
+  next_within : n < length nodes
+  next_within = omega (arith, size, ap length is, length-append taken (node ∷ rest))
+
+  next_is : node ≡ get_or nodes n node
+  next_is = sym (get_or-append_seam taken node rest node) ∙ ap₂ (λ (xs : List Node) (k : ℕ). get_or xs k node) is (sym size)
+
+  next_number : length (take n nodes) ≡ n
+  next_number = ap₂ (λ (k : ℕ) (xs : List Node). length (take k xs)) size (sym is) ∙ ap length (take-append_seam taken (node ∷ rest)) ∙ sym size
+
+  pub next_lawful : All (λ m. IsConfig (config_of m)) (take n nodes) → IsConfig (config_of node) → All (λ m. IsConfig (config_of m)) (take (n + 1) nodes)
+  next_lawful all here = All-more (λ m. IsConfig (config_of m)) nodes n node next_within all (subst (λ m. IsConfig (config_of m)) next_is here)
+
+  pub passes_on : PassesBelow router_tests nodes n → first_failing (faults_of_router n node) ≡ None → PassesBelow router_tests nodes (n + 1)
+  passes_on below passes = passes_more router_tests nodes n node next_within next_is below (ap (λ (k : ℕ). first_failing (faults_of_router k node)) next_number ∙ passes)
+
+  pub fails_at : (why : NetRefused) → PassesBelow router_tests nodes n → first_failing (faults_of_router n node) ≡ Some why → first_failing (each_tested router_tests nodes) ≡ Some why
+  fails_at why below fails = fails_here router_tests nodes n node why next_within next_is below (ap (λ (k : ℕ). first_failing (faults_of_router k node)) next_number ∙ fails)

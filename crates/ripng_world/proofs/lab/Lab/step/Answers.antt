@@ -1,0 +1,77 @@
+use Rattle.std.proofs.Common.{◌≡◌, ℕ, List, [], ◌++◌, map, take, drop, length, sym, subst, ◌∙◌, ap, ap₂, refl}
+use Rattle.router_core.specs.declared.answer.Answer.{Answer}
+use Rattle.router_core.specs.declared.answer.Outgoing.{Outgoing}
+use Rattle.ripng_world.specs.Events.{event_of}
+use Rattle.ripng_world.specs.Labs.{HasRun}
+use Rattle.ripng_world.specs.Rounds.{router_of}
+use Rattle.ripng_world.specs.Stations.{StationValue, MoveStations, network_of, world_of}
+use Rattle.ripng_world.specs.World.{Happens, sent_by}
+use Rattle.ripng_world.specs.declared.sent.Sent.{Sent}
+use Rattle.ripng_world.proofs.LabRuns.{backed, least, truth, stepped, stepped_on, written_back}
+use Rattle.ripng_world.proofs.lab.Lab.step.Goals as goal
+
+pub returns-in_err-check-clause-backed : goal.returns-in_err-check-clause-backed
+returns-in_err-check-clause-backed g c = rw (← c.self.view_is) (backed _ _ c.self.invariant)
+
+pub returns-in_err-check-clause-least : goal.returns-in_err-check-clause-least
+returns-in_err-check-clause-least g c = rw (← c.self.view_is) (least _ _ c.self.invariant)
+
+pub returns-in_err-check-clause-truth : goal.returns-in_err-check-clause-truth
+returns-in_err-check-clause-truth g c = rw (← c.self.view_is) (truth _ _ c.self.invariant)
+
+-- want of memory leaves the stations
+module _ (g : _) (c : goal.After-from_residual-in_err-answer g) where
+  same_stations : take c.self.inside.stations.len (c.happen.new.stations ++ drop (length c.happen.new.stations) c.self.inside.stations.items) ≡ c.self.inside.stations.items
+  same_stations =
+      written_back c.self.inside.stations.len c.happen.new.stations c.self.inside.stations.items (c.happen.auto.stations ∙ ap length c.deref_mut.ensures.value) c.self.inside.stations.ok.0
+      ∙ c.in_err-answer.ensures.err ∙ c.deref_mut.ensures.value
+
+  kept : HasRun (network_of (take c.self.inside.stations.len (c.happen.new.stations ++ drop (length c.happen.new.stations) c.self.inside.stations.items)))
+      (world_of (take c.self.inside.stations.len (c.happen.new.stations ++ drop (length c.happen.new.stations) c.self.inside.stations.items)) c.happen.new.sent.items)
+  kept = rw (same_stations, c.happen.ensures.sent) c.self.invariant
+
+pub returns-in_err-answer-clause-backed : goal.returns-in_err-answer-clause-backed
+returns-in_err-answer-clause-backed g c = backed _ _ (kept g c)
+
+pub returns-in_err-answer-clause-least : goal.returns-in_err-answer-clause-least
+returns-in_err-answer-clause-least g c = least _ _ (kept g c)
+
+pub returns-in_err-answer-clause-truth : goal.returns-in_err-answer-clause-truth
+returns-in_err-answer-clause-truth g c = truth _ _ (kept g c)
+
+-- what the move left
+module _ (g : _) (c : goal.After-from_vec g) where
+  stations : take c.self.inside.stations.len (c.happen.new.stations ++ drop (length c.happen.new.stations) c.self.inside.stations.items) ≡ c.happen.new.stations
+  stations = written_back c.self.inside.stations.len c.happen.new.stations c.self.inside.stations.items (c.happen.auto.stations ∙ ap length c.deref_mut.ensures.value) c.self.inside.stations.ok.0
+
+  moves : MoveStations c.self.inside.stations.items c.self.inside.sent.items (event_of c.args.event.now) c.in_ok-answer.answer c.happen.new.stations
+  moves =
+      subst (λ (ss : List StationValue). MoveStations ss c.self.inside.sent.items (event_of c.args.event.now) c.in_ok-answer.answer c.happen.new.stations)
+      c.deref_mut.ensures.value c.in_ok-answer.ensures.moves
+
+  added : c.file.new.sent.items ≡ c.self.inside.sent.items ++ map (sent_by (router_of (event_of c.args.event.now))) c.in_ok-answer.answer.sends
+  added = c.file.ensures ∙ ap₂ (λ (ds : List Sent) (r : ℕ). ds ++ map (sent_by r) c.in_ok-answer.answer.sends) c.happen.ensures.sent c.router.ensures
+
+  has_run : HasRun (network_of c.happen.new.stations) (world_of c.happen.new.stations c.file.new.sent.items)
+  has_run = stepped_on c.self.inside.stations.items c.happen.new.stations c.self.inside.sent.items c.file.new.sent.items (event_of c.args.event.now) c.in_ok-answer.answer moves added c.self.invariant
+
+pub invariant_of-self-2 : goal.invariant_of-self-2
+invariant_of-self-2 g c = rw (stations g c) (has_run g c)
+
+pub returns-clause-happens : goal.returns-clause-happens
+returns-clause-happens g c =
+    let answer = c.in_ok-answer.answer in
+    rw (← c.self.view_is, stations g c) (
+      answer,
+      stepped c.self.inside.stations.items c.happen.new.stations c.self.inside.sent.items c.file.new.sent.items (event_of c.args.event.now) answer (moves g c) (added g c),
+      ap (λ (os : List Outgoing). record { fault = answer.fault; sends = os; changes = answer.changes; notes = answer.notes }) (c.from_vec.ensures ∙ c.new.ensures.items),
+    )
+
+pub returns-clause-backed : goal.returns-clause-backed
+returns-clause-backed g c = rw (stations g c) (backed _ _ (has_run g c))
+
+pub returns-clause-least : goal.returns-clause-least
+returns-clause-least g c = rw (stations g c) (least _ _ (has_run g c))
+
+pub returns-clause-truth : goal.returns-clause-truth
+returns-clause-truth g c = rw (stations g c) (truth _ _ (has_run g c))

@@ -1,0 +1,11 @@
+-- What the code and the model call an event, and which events are refused.
+use Rattle.ripng_world.specs.World.{Event, Deliver, Stranger, Tick, Restart}
+use Rattle.ripng_world.specs.declared.event.Event as coded
+use Rattle.ripng_world.specs.declared.event.Event.TheVariants as variants
+
+-- the event of the model
+abbrev pub event_of : coded.Event → Event
+event_of (variants.Deliver datagram router iface now) = Deliver datagram router iface now
+event_of (variants.Stranger router arrival) = Stranger router arrival
+event_of (variants.Tick router now word) = Tick router now word
+event_of (variants.Restart router now) = Restart router now

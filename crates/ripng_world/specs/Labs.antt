@@ -1,0 +1,103 @@
+-- A lab: a lawful network that has run since a cold start, and what then holds.
+use Rattle.std.specs.Prelude.{◌≡◌, ℕ, ◌<◌, ◌≤◌, ◌==◌, nat_le, not, Bool, false, List, [], ◌∷◌, ◌++◌, map, length, Option, Some, None, is_none, unwrap_or, option_map, option_and_then, slice_get}
+use Rattle.std.specs.FinMap as map_of
+use Rattle.std.specs.List.{AllByRecursion}
+use Rattle.std.specs.Option.{option_map_or}
+use Rattle.prefix6.specs.Prefix.{Prefix6}
+use Rattle.ripng_wire.specs.Wire.{first_failing}
+use Rattle.route_table.specs.Route.{RouteValue, infinity}
+use Rattle.router_core.specs.Machine.{State}
+use Rattle.router_core.specs.Received.{Received}
+use Rattle.router_core.specs.declared.answer.Answer.{Answer}
+use Rattle.ripng_world.specs.Network.{Network, Node, IsNetwork, interface_at}
+use Rattle.ripng_world.specs.Stations.{StationValue, network_of, world_of}
+use Rattle.ripng_world.specs.Walks.{IsTableBacked, IsLeast}
+use Rattle.ripng_world.specs.Truth.{TellsTruth}
+use Rattle.ripng_world.specs.World.{World, Event, Deliver, Stranger, Tick, Restart, Happens, WorldRun, IsCold, is_heard}
+use Rattle.ripng_world.specs.declared.event.LabError.{LabError}
+use Rattle.ripng_world.specs.declared.event.LabError.TheVariants.{NoSuchRouter, NoSuchInterface, NoSuchDatagram, OtherLink, NotAStranger, OutOfMemory}
+use Rattle.ripng_world.specs.declared.sent.Sent.{Sent}
+
+-- what callers see of a lab
+pub record LabValue : Type 0 where
+  pub network : Network
+  pub world : World
+
+abbrev pub lab_of : List StationValue → List Sent → LabValue
+lab_of stations sent = record { network = network_of stations; world = world_of stations sent }
+
+-- the network is lawful, and the world is what some events made of a cold one
+pub record HasRun (net : Network) (w : World) : Type 0 where
+  pub lawful : IsNetwork net
+  pub moments : List ℕ
+  pub events : List Event
+  pub cold : World
+  pub is_cold : IsCold net moments cold
+  pub run : WorldRun net cold events w
+
+-- ---- what holds of every network that has run
+
+-- every route below infinity of every router is backed by a walk
+abbrev pub AreRoutesBacked : Network → World → Type 0
+AreRoutesBacked net w = (router : ℕ) (state : State) → slice_get w.states router ≡ Some state → IsTableBacked net router state.table
+
+-- no such route is below the least cost
+abbrev pub IsNoneBelowLeast : Network → ℕ → State → Type 0
+IsNoneBelowLeast net router state =
+    (p : Prefix6) (r : RouteValue) (metric : ℕ) → map_of.get state.table p ≡ Some r → r.metric < infinity → IsLeast net router p metric → metric ≤ r.metric
+
+abbrev pub AreNoneBelowLeast : Network → World → Type 0
+AreNoneBelowLeast net w = (router : ℕ) (state : State) → slice_get w.states router ≡ Some state → IsNoneBelowLeast net router state
+
+-- every entry below infinity of every Response ever sent tells a walk from its sender
+abbrev pub IsTruthTold : Network → List Sent → Type 0
+IsTruthTold net sent = AllByRecursion (λ d. TellsTruth net d.router d.bytes) sent
+
+-- ---- steps
+
+-- the event happens, and its answer is given but for the sends, which are among those that were sent
+abbrev pub HappensGiving : LabValue → Event → Answer → World → Type 0
+HappensGiving lab e given w = (answer : Answer) × Happens lab.network lab.world e answer w × (given ≡ record answer { sends = [] })
+
+-- ---- which events are refused
+
+abbrev pub link_at : Network → ℕ → ℕ → Option ℕ
+link_at net router iface = option_map (λ i. i.link) (interface_at net router iface)
+
+-- the link that a datagram was sent on
+abbrev pub link_of_datagram : LabValue → ℕ → Option ℕ
+link_of_datagram lab datagram = option_and_then (λ d. link_at lab.network d.router d.iface) (slice_get lab.world.sent datagram)
+
+abbrev pub is_one_link : Option ℕ → Option ℕ → Bool
+is_one_link (Some a) (Some b) = a == b
+is_one_link _ _ = false
+
+-- the router would take the arrival for a Response of its link
+abbrev pub is_heard_at : World → ℕ → Received → Bool
+is_heard_at w router x = option_map_or (λ s. is_heard s x) (slice_get w.states router) false
+
+abbrev pub router_tests : Network → ℕ → List (Bool × LabError)
+router_tests net router = (nat_le (length net) router, NoSuchRouter) ∷ []
+
+abbrev pub place_tests : Network → ℕ → ℕ → List (Bool × LabError)
+place_tests net router iface = router_tests net router ++ (is_none (interface_at net router iface), NoSuchInterface) ∷ []
+
+abbrev pub event_tests : LabValue → Event → List (Bool × LabError)
+event_tests lab (Deliver datagram router iface now) =
+    place_tests lab.network router iface
+    ++ (nat_le (length lab.world.sent) datagram, NoSuchDatagram)
+    ∷ (not (is_one_link (link_of_datagram lab datagram) (link_at lab.network router iface)), OtherLink)
+    ∷ []
+event_tests lab (Stranger router x) = place_tests lab.network router x.iface ++ (is_heard_at lab.world router x, NotAStranger) ∷ []
+event_tests lab (Tick router now word) = router_tests lab.network router
+event_tests lab (Restart router now) = router_tests lab.network router
+
+-- the first test that fails
+abbrev pub event_fault : LabValue → Event → Option LabError
+event_fault lab e = first_failing (event_tests lab e)
+
+-- the event at a place is refused, by its first failing test or else for want of memory
+pub record IsRefusedNext (lab : LabValue) (events : List Event) (place : ℕ) (why : LabError) : Type 0 where
+  pub event : Event
+  pub event_is : slice_get events place ≡ Some event
+  pub reason : why ≡ unwrap_or (event_fault lab event) OutOfMemory

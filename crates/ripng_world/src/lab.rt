@@ -1,0 +1,169 @@
+//! A lab: a lawful network that runs, over real routers and bytes. Whatever happens in it, no router has a route, and no
+//! datagram tells one, that no walk through the network backs.
+
+ghost use Rattle.std.specs.Prelude.{◌≡◌, ◌≤◌, List, [], None, IfErr, IfOk, IfSome, OnErr, OnOk, Some, length, map, take, slice_get, unwrap_or};
+ghost use Rattle.std.specs.Option.{option_copied};
+ghost use Rattle.ripng_world.specs.Events.{event_of};
+ghost use Rattle.ripng_world.specs.Labs.{AreRoutesBacked, AreNoneBelowLeast, IsNoneBelowLeast, IsTruthTold, HappensGiving, IsRefusedNext, event_fault, link_at};
+ghost use Rattle.ripng_world.specs.Stations.{network_of, world_of};
+ghost use Rattle.ripng_world.specs.Walks.{IsTableBacked};
+ghost use Rattle.ripng_world.specs.World.{IsCold, WorldRun};
+
+use crate::event::{Event, LabError};
+use crate::moving::{file, happen};
+use crate::network::{NetConfig, NetRouter};
+use crate::refusing::{check, link_at};
+use crate::sent::Sent;
+use crate::station::Station;
+use route_table::{Moment, RouteStore};
+use router_core::{Answer, Listed, Router};
+use std::alloc::{AllocError, Global};
+use std::marker::Model;
+
+/// A network that runs.
+#[derive(Drop)]
+pub struct Lab<S: RouteStore> {
+    stations: Vec<Station<S>>,
+    sent: Vec<Sent>,
+    alloc: Global,
+}
+
+impl<S: RouteStore> Model for Lab<S> {
+    ghost use Rattle.std.specs.Coded.{codes};
+    ghost use Rattle.std.specs.FinMap as map_of;
+    ghost use Rattle.prefix6.specs.Prefix.{prefix_cmp};
+    ghost use Rattle.prefix6.specs.contracts.prefix.Prefix as prefix;
+    ghost use Rattle.route_table.specs.contracts.route.Route as route;
+    ghost use Rattle.ripng_world.specs.Labs.{LabValue, HasRun, lab_of};
+    ghost use Rattle.ripng_world.specs.Stations.{network_of, world_of};
+
+    ghost Value = { LabValue };
+
+    ghost coded = { Prim.hlevel (codes, map_of.code {R = prefix_cmp} prefix.the_row.coded route.the_row.coded) };
+
+    ghost view = { λ l. lab_of l.stations.items l.sent.items };
+
+    ghost invariant = { λ l. HasRun (network_of l.stations.items) (world_of l.stations.items l.sent.items) };
+}
+
+// Each router starts at its moment.
+fn start_all<S: RouteStore>(
+    alloc: Global,
+    routers: Vec<NetRouter>,
+    moments: &[Moment],
+) -> Result<(Vec<Station<S>>, Vec<Sent>), AllocError>
+    requires { length moments.now ≡ length routers.items }
+    ensures network { IfOk result (λ r. network_of r.0.items ≡ routers.items) }
+    ensures cold { IfOk result (λ r. IsCold routers.items moments.now (world_of r.0.items r.1.items)) }
+{
+    let mut stations = Vec::with_capacity(alloc, routers.len())?;
+    let mut sent = Vec::new(alloc);
+    for router in routers {
+        let number = stations.len();
+        let (station, answer) = Station::start(alloc, router, moments[number])?;
+        sent.reserve(answer.sends.as_slice().len())?;
+        file(&mut sent, number, answer.sends);
+        stations.push_reserved(station);
+    }
+    Ok((stations, sent))
+}
+
+impl<S: RouteStore> Lab<S> {
+    /// Every router of a network starts, each at its moment, in order.
+    ///
+    /// # Errors
+    /// Only want of memory.
+    pub fn cold(alloc: Global, network: NetConfig, moments: &[Moment]) -> Result<Lab<S>, LabError>
+        requires { length moments.now ≡ length network }
+        ensures network { IfOk result (λ lab. lab.network ≡ network) }
+        ensures cold { IfOk result (λ lab. IsCold network moments.now lab.world) }
+        ensures only_memory { IfErr result (λ why. why ≡ LabError.OutOfMemory) }
+        ensures backed { IfOk result (λ lab. AreRoutesBacked lab.network lab.world) }
+        ensures least { IfOk result (λ lab. AreNoneBelowLeast lab.network lab.world) }
+        ensures truth { IfOk result (λ lab. IsTruthTold lab.network lab.world.sent) }
+    {
+        let NetConfig { routers } = network;
+        let (stations, sent) = start_all(alloc, routers, moments)?;
+        Ok(Lab {
+            stations,
+            sent,
+            alloc,
+        })
+    }
+
+    /// A router of the network.
+    pub fn router(&self, router: usize) -> Option<&Router<S>>
+        ensures value { option_copied result ≡ slice_get self.now.world.states router }
+        ensures backed { IfSome result (λ r. IsTableBacked self.now.network router r.now.table) }
+        ensures least { IfSome result (λ r. IsNoneBelowLeast self.now.network router r.now) }
+    {
+        match self.stations.get(router) {
+            Some(station) => Some(station.router()),
+            None => None,
+        }
+    }
+
+    /// All datagrams ever sent, numbered from 0.
+    pub fn sent(&self) -> &[Sent]
+        ensures value { result.now ≡ self.now.world.sent }
+        ensures truth { IsTruthTold self.now.network result.now }
+    {
+        &self.sent
+    }
+
+    /// The number of the link of an interface.
+    pub fn link(&self, router: usize, iface: usize) -> Option<u16>
+        ensures { result ≡ link_at self.now.network router iface }
+    {
+        link_at(&self.stations, router, iface)
+    }
+
+    /// An event happens: one router moves, and answers. What it sends is moved to the end of `sent`, and is not in the
+    /// answer that is given.
+    ///
+    /// # Errors
+    /// The first test that the event fails, else want of memory; the lab is then as it was.
+    pub fn step(&mut self, event: &Event<'_>) -> Result<Answer, LabError>
+        ensures happens { IfOk result (λ answer. HappensGiving self.old (event_of event.entry.now) answer self.new.world) }
+        ensures network { self.new.network ≡ self.old.network }
+        ensures passes { OnOk result (event_fault self.old (event_of event.entry.now) ≡ None) }
+        ensures refused { IfErr result (λ why. why ≡ unwrap_or (event_fault self.old (event_of event.entry.now)) LabError.OutOfMemory) }
+        ensures err { OnErr result (self.new ≡ self.old) }
+        ensures backed { AreRoutesBacked self.new.network self.new.world }
+        ensures least { AreNoneBelowLeast self.new.network self.new.world }
+        ensures truth { IsTruthTold self.new.network self.new.world.sent }
+    {
+        check(&self.stations, &self.sent, event)?;
+        let answer = happen(&mut self.stations, &mut self.sent, event)?;
+        file(&mut self.sent, event.router(), answer.sends);
+        Ok(Answer {
+            fault: answer.fault,
+            sends: Listed::from_vec(Vec::new(self.alloc)),
+            changes: answer.changes,
+            notes: answer.notes,
+        })
+    }
+
+    /// Events happen one after another, until one is refused. Says how many were done, and why the next was refused.
+    ///
+    /// # Errors
+    /// The first test that the next event fails, else want of memory; the lab is as the events before it left it.
+    pub fn run(&mut self, events: &[Event<'_>]) -> (usize, Result<(), LabError>)
+        ensures done { WorldRun self.old.network self.old.world (take result.0 (map event_of events.entry.now)) self.new.world }
+        ensures network { self.new.network ≡ self.old.network }
+        ensures all { OnOk result.1 (result.0 ≡ length events.entry.now) }
+        ensures refused { IfErr result.1 (λ why. IsRefusedNext self.new (map event_of events.entry.now) result.0 why) }
+        ensures backed { AreRoutesBacked self.new.network self.new.world }
+        ensures least { AreNoneBelowLeast self.new.network self.new.world }
+        ensures truth { IsTruthTold self.new.network self.new.world.sent }
+    {
+        // What holds of the lab before the first event.
+        let _ = &self.sent;
+        for (done, event) in events.iter().enumerate() {
+            if let Err(refusal) = self.step(event) {
+                return (done, Err(refusal));
+            }
+        }
+        (events.len(), Ok(()))
+    }
+}

@@ -1,0 +1,169 @@
+//! How a router of a network moves, once nothing refuses the event.
+
+ghost use Rattle.std.specs.Prelude.{◌≡◌, ◌+◌, ◌<◌, ◌≤◌, ◌++◌, None, IfOk, OnErr, map, length, vec_len};
+ghost use Rattle.std.specs.Vec.{vec_capacity};
+ghost use Rattle.ripng_world.specs.Events.{event_of};
+ghost use Rattle.ripng_world.specs.Labs.{event_fault, lab_of};
+ghost use Rattle.ripng_world.specs.Stations.{MoveStations, network_of};
+ghost use Rattle.ripng_world.specs.World.{Deliver, Stranger, Tick, Restart, arrival_of, sent_by};
+
+use crate::event::Event;
+use crate::refusing::interface_at;
+use crate::sent::Sent;
+use crate::station::Station;
+use prefix6::Addr6;
+use route_table::{Moment, RouteStore};
+use router_core::{Answer, Arrival, Destination, Listed, Outgoing};
+use std::alloc::AllocError;
+
+/// The UDP port that routers send from (RFC 2080, section 2).
+const RIPNG_PORT: u16 = 521;
+
+/// The hop limit of what no router forwarded.
+const FULL_HOP_LIMIT: u8 = 255;
+
+// A datagram of the network as it comes to an interface of its link.
+fn arrival_of<'a, S: RouteStore>(
+    stations: &[Station<S>],
+    datagram: &'a Sent,
+    iface: usize,
+    now: Moment,
+) -> Arrival<'a>
+    ensures { result ≡ arrival_of (network_of stations.now) datagram.now iface now }
+{
+    let sender = interface_at(stations, datagram.router, datagram.iface);
+    Arrival {
+        now,
+        iface,
+        source: sender.map_or(Addr6::from_bits(0), |i| i.interface.addr),
+        source_port: RIPNG_PORT,
+        hop_limit: FULL_HOP_LIMIT,
+        to_group: matches!(datagram.to, Destination::Group),
+        bytes: datagram.bytes.as_slice(),
+    }
+}
+
+// A datagram of the network is delivered. Room for what is sent is made first, here and below.
+fn deliver<S: RouteStore>(
+    stations: &mut [Station<S>],
+    sent: &mut Vec<Sent>,
+    datagram: usize,
+    router: usize,
+    iface: usize,
+    now: Moment,
+) -> Result<Answer, AllocError>
+    requires { event_fault (lab_of stations.old sent.old.items) (Deliver datagram router iface now) ≡ None }
+    ensures moves { IfOk result (λ answer. MoveStations stations.old sent.old.items (Deliver datagram router iface now) answer stations.new) }
+    ensures room { IfOk result (λ answer. vec_len sent.new + length answer.sends ≤ vec_capacity sent.new) }
+    ensures sent { sent.new.items ≡ sent.old.items }
+    ensures err { OnErr result (stations.new ≡ stations.old) }
+{
+    let room = stations[router].answer_room(sent[datagram].bytes.as_slice().len());
+    sent.reserve(room)?;
+    let arrival = arrival_of(stations, &sent[datagram], iface, now);
+    let answer = stations[router].arrive(arrival)?;
+    Ok(answer)
+}
+
+// A stranger's datagram comes.
+fn intrude<S: RouteStore>(
+    stations: &mut [Station<S>],
+    sent: &mut Vec<Sent>,
+    router: usize,
+    arrival: &Arrival<'_>,
+) -> Result<Answer, AllocError>
+    requires { event_fault (lab_of stations.old sent.old.items) (Stranger router arrival.now) ≡ None }
+    ensures moves { IfOk result (λ answer. MoveStations stations.old sent.old.items (Stranger router arrival.entry.now) answer stations.new) }
+    ensures room { IfOk result (λ answer. vec_len sent.new + length answer.sends ≤ vec_capacity sent.new) }
+    ensures sent { sent.new.items ≡ sent.old.items }
+    ensures err { OnErr result (stations.new ≡ stations.old) }
+{
+    let room = stations[router].answer_room(arrival.bytes.len());
+    sent.reserve(room)?;
+    let arrival = Arrival {
+        now: arrival.now,
+        iface: arrival.iface,
+        source: arrival.source,
+        source_port: arrival.source_port,
+        hop_limit: arrival.hop_limit,
+        to_group: arrival.to_group,
+        bytes: arrival.bytes,
+    };
+    let answer = stations[router].arrive(arrival)?;
+    Ok(answer)
+}
+
+// Time passes at a router.
+fn tick<S: RouteStore>(
+    stations: &mut [Station<S>],
+    sent: &mut Vec<Sent>,
+    router: usize,
+    now: Moment,
+    word: u32,
+) -> Result<Answer, AllocError>
+    requires { router < length stations.old }
+    ensures moves { IfOk result (λ answer. MoveStations stations.old sent.old.items (Tick router now word) answer stations.new) }
+    ensures room { IfOk result (λ answer. vec_len sent.new + length answer.sends ≤ vec_capacity sent.new) }
+    ensures sent { sent.new.items ≡ sent.old.items }
+    ensures err { OnErr result (stations.new ≡ stations.old) }
+{
+    sent.reserve(stations[router].update_room())?;
+    stations[router].tick(now, word)
+}
+
+// A router comes up again.
+fn restart<S: RouteStore>(
+    stations: &mut [Station<S>],
+    sent: &mut Vec<Sent>,
+    router: usize,
+    now: Moment,
+) -> Result<Answer, AllocError>
+    requires { router < length stations.old }
+    ensures moves { IfOk result (λ answer. MoveStations stations.old sent.old.items (Restart router now) answer stations.new) }
+    ensures room { IfOk result (λ answer. vec_len sent.new + length answer.sends ≤ vec_capacity sent.new) }
+    ensures sent { sent.new.items ≡ sent.old.items }
+    ensures err { OnErr result (stations.new ≡ stations.old) }
+{
+    sent.reserve(stations[router].start_room())?;
+    stations[router].restart(now)
+}
+
+/// The router of an event moves. Room for what it sends is made, and nothing is added yet.
+pub fn happen<S: RouteStore>(
+    stations: &mut [Station<S>],
+    sent: &mut Vec<Sent>,
+    event: &Event<'_>,
+) -> Result<Answer, AllocError>
+    requires { event_fault (lab_of stations.old sent.old.items) (event_of event.now) ≡ None }
+    ensures moves { IfOk result (λ answer. MoveStations stations.old sent.old.items (event_of event.entry.now) answer stations.new) }
+    ensures room { IfOk result (λ answer. vec_len sent.new + length answer.sends ≤ vec_capacity sent.new) }
+    ensures sent { sent.new.items ≡ sent.old.items }
+    ensures err { OnErr result (stations.new ≡ stations.old) }
+{
+    match event {
+        Event::Deliver {
+            datagram,
+            router,
+            iface,
+            now,
+        } => deliver(stations, sent, *datagram, *router, *iface, *now),
+        Event::Stranger { router, arrival } => intrude(stations, sent, *router, arrival),
+        Event::Tick { router, now, word } => tick(stations, sent, *router, *now, *word),
+        Event::Restart { router, now } => restart(stations, sent, *router, *now),
+    }
+}
+
+/// What a router sent is added to all that was ever sent.
+pub fn file(sent: &mut Vec<Sent>, router: usize, sends: Listed<Outgoing>)
+    requires { vec_len sent.old + length sends ≤ vec_capacity sent.old }
+    ensures { sent.new.items ≡ sent.old.items ++ map (sent_by router) sends }
+{
+    for outgoing in sends.into_vec() {
+        sent.push_reserved(Sent {
+            router,
+            iface: outgoing.iface,
+            to: outgoing.to,
+            bytes: outgoing.bytes,
+        });
+    }
+}

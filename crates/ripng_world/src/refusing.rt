@@ -1,0 +1,136 @@
+//! Which events of a network are refused.
+
+ghost use Rattle.std.specs.Prelude.{◌≡◌, ℕ, None, Some, IfOk, OnOk, length};
+ghost use Rattle.std.specs.Result.{result_err};
+ghost use Rattle.ripng_wire.specs.Wire.{first_failing};
+ghost use Rattle.ripng_world.specs.Events.{event_of};
+ghost use Rattle.ripng_world.specs.Labs.{event_fault, lab_of, place_tests, router_tests, link_at};
+ghost use Rattle.ripng_world.specs.Network.{interface_at};
+ghost use Rattle.ripng_world.specs.Stations.{network_of};
+ghost use Rattle.ripng_world.specs.World.{Deliver, Stranger, is_heard};
+
+use crate::event::{Event, LabError};
+use crate::network::NetInterface;
+use crate::sent::Sent;
+use crate::station::Station;
+use ripng_wire::Command;
+use route_table::RouteStore;
+use router_core::{Arrival, Router};
+
+/// An interface of a router of the network.
+pub fn interface_at<S: RouteStore>(
+    stations: &[Station<S>],
+    router: usize,
+    iface: usize,
+) -> Option<NetInterface>
+    ensures { result ≡ interface_at (network_of stations.now) router iface }
+{
+    match stations.get(router) {
+        Some(station) => station.interface(iface),
+        None => None,
+    }
+}
+
+/// The link of an interface.
+pub fn link_at<S: RouteStore>(stations: &[Station<S>], router: usize, iface: usize) -> Option<u16>
+    ensures { result ≡ link_at (network_of stations.now) router iface }
+{
+    interface_at(stations, router, iface).map(|i| i.link)
+}
+
+// Whether there is such a router.
+fn check_router<S: RouteStore>(stations: &[Station<S>], router: usize) -> Result<(), LabError>
+    ensures { result_err result ≡ first_failing (router_tests (network_of stations.now) router) }
+{
+    if router < stations.len() {
+        Ok(())
+    } else {
+        Err(LabError::NoSuchRouter)
+    }
+}
+
+// The link of an interface, if there is such a router and interface.
+fn check_place<S: RouteStore>(
+    stations: &[Station<S>],
+    router: usize,
+    iface: usize,
+) -> Result<u16, LabError>
+    ensures fault { result_err result ≡ first_failing (place_tests (network_of stations.now) router iface) }
+    ensures link { IfOk result (λ link. link_at (network_of stations.now) router iface ≡ Some link) }
+{
+    check_router(stations, router)?;
+    match link_at(stations, router, iface) {
+        Some(link) => Ok(link),
+        None => Err(LabError::NoSuchInterface),
+    }
+}
+
+// Whether there is such a datagram, sent on the link of the interface.
+fn check_delivery<S: RouteStore>(
+    stations: &[Station<S>],
+    sent: &[Sent],
+    datagram: usize,
+    router: usize,
+    iface: usize,
+) -> Result<(), LabError>
+    ensures { (now : ℕ) → result_err result ≡ event_fault (lab_of stations.now sent.now) (Deliver datagram router iface now) }
+{
+    let link = check_place(stations, router, iface)?;
+    let Some(datagram) = sent.get(datagram) else {
+        return Err(LabError::NoSuchDatagram);
+    };
+    match link_at(stations, datagram.router, datagram.iface) {
+        Some(own) if own == link => Ok(()),
+        _ => Err(LabError::OtherLink),
+    }
+}
+
+// Whether the router takes the arrival for a Response of its link.
+fn is_heard<S: RouteStore>(router: &Router<S>, arrival: &Arrival<'_>) -> bool
+    ensures { result ≡ is_heard router.now arrival.entry.now }
+{
+    router.fault_of(arrival).is_none()
+        && arrival
+            .bytes
+            .first()
+            .is_some_and(|&command| command == Command::Response as u8)
+}
+
+// Whether the arrival may be a stranger's.
+fn check_stranger<S: RouteStore>(
+    stations: &[Station<S>],
+    sent: &[Sent],
+    router: usize,
+    arrival: &Arrival<'_>,
+) -> Result<(), LabError>
+    ensures { result_err result ≡ event_fault (lab_of stations.now sent.now) (Stranger router arrival.entry.now) }
+{
+    check_place(stations, router, arrival.iface)?;
+    if is_heard(stations[router].router(), arrival) {
+        Err(LabError::NotAStranger)
+    } else {
+        Ok(())
+    }
+}
+
+/// The first test that an event fails.
+pub fn check<S: RouteStore>(
+    stations: &[Station<S>],
+    sent: &[Sent],
+    event: &Event<'_>,
+) -> Result<(), LabError>
+    ensures { result_err result ≡ event_fault (lab_of stations.now sent.now) (event_of event.entry.now) }
+{
+    match event {
+        Event::Deliver {
+            datagram,
+            router,
+            iface,
+            ..
+        } => check_delivery(stations, sent, *datagram, *router, *iface),
+        Event::Stranger { router, arrival } => check_stranger(stations, sent, *router, arrival),
+        Event::Tick { router, .. } | Event::Restart { router, .. } => {
+            check_router(stations, *router)
+        }
+    }
+}

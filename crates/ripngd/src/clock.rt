@@ -1,0 +1,73 @@
+//! The time that has passed since a clock was made, as the system's clock tells it.
+
+ghost use Rattle.std.specs.Prelude.{◌≡◌, ◌/◌, ◌^◌, min};
+ghost use Rattle.std.specs.Duration.{as_nanos};
+
+use ripngd_engine::TimeSource;
+use route_table::Moment;
+use std::rt::Clock;
+use std::time::{Duration, Instant};
+
+/// The last moment, in milliseconds.
+const LAST_MS: u128 = 1 << 60;
+
+/// A clock that tells how long ago it was made, up to the last moment there is. Where the system's clock cannot be read it
+/// tells its last answer again, and the first moment where it has none.
+#[derive(Drop)]
+pub struct Uptime<'a, R: Clock> {
+    rt: &'a R,
+    /// When it was made, if the system's clock could be read.
+    made: Option<Instant>,
+    last: Moment,
+}
+
+/// The moment so long after the first, or the last one that there is.
+fn moment_after(passed: Duration) -> Moment
+    ensures { result ≡ min (as_nanos passed / 1_000_000) (2 ^ 60) }
+{
+    let ms = passed.as_millis().min(LAST_MS) as u64;
+    Moment::new(ms).unwrap()
+}
+
+impl<'a, R: Clock> Uptime<'a, R> {
+    /// A clock that begins at the first moment, now.
+    pub fn new(rt: &'a R) -> Uptime<'a, R> {
+        Uptime {
+            rt,
+            made: Instant::now(rt).ok(),
+            last: Moment::new(0).unwrap(),
+        }
+    }
+}
+
+impl<R: Clock> TimeSource for Uptime<'_, R> {
+    ghost use Rattle.std.specs.Prelude.{None};
+
+    // The system's clock promises nothing.
+    ghost moments = { λ _. None };
+
+    fn now(&mut self) -> Moment {
+        if let Some(made) = self.made {
+            if let Ok(passed) = made.elapsed(self.rt) {
+                self.last = moment_after(passed);
+            }
+        }
+        self.last
+    }
+}
+
+#[cfg(test)]
+mod tests {
+    use super::*;
+    use std::test::Fail;
+
+    #[test]
+    fn begins_at_0_and_tells_what_has_passed(rt: HostRuntime) -> Result<(), Fail> {
+        let mut clock = Uptime::new(&rt);
+        let begun = clock.now().ms();
+        std::thread::sleep(&rt, Duration::from_millis(20));
+        let later = clock.now().ms();
+        assert!(rt; begun < 1_000 && begun.saturating_add(20) <= later && later < 10_000);
+        Ok(())
+    }
+}

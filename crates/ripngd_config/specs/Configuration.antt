@@ -1,0 +1,81 @@
+-- What a configuration's text makes a router run on, and why a text is refused.
+use Rattle.std.specs.Prelude.{◌≡◌, ◌⊎◌, ℕ, Bool, List, length, map, Some, None, unwrap_or, ⊤}
+use Rattle.std.specs.Str.{IsUtf8}
+use Rattle.toml.specs.Data.{Members}
+use Rattle.toml.specs.Parse.{parse_document}
+use Rattle.rand_core.specs.Pcg32Seed.{pcg32_seed}
+use Rattle.rand_pcg.specs.Pcg.{pcg32_of_seed}
+use Rattle.prefix6.specs.Prefix.{Prefix6}
+use Rattle.router_core.specs.Config.{Config as RouterConfig, IsConfig, config, config_fault}
+use Rattle.router_core.specs.declared.config.Interface.{Interface}
+use Rattle.ripngd_config.specs.Faults.{RefusesAt}
+use Rattle.ripngd_config.specs.Keys.{HasFault, document_keys}
+use Rattle.ripngd_config.specs.Tables.{IsDocument}
+use Rattle.ripngd_config.specs.Twice.{AreAllPeersDistinct, ArePortsDistinct}
+use Rattle.ripngd_config.specs.declared.configuration.Config.{Config}
+use Rattle.ripngd_config.specs.declared.fault.ConfigFault.{ConfigFault}
+use Rattle.ripngd_config.specs.declared.fault.ConfigFault.TheVariants.{BadToml, OutOfMemory, PeerTwice, PortTwice, Router}
+use Rattle.ripngd_config.specs.declared.tables.Document.{Document}
+use Rattle.ripngd_config.specs.declared.tables.PrefixTable.{PrefixTable}
+
+abbrev pub interfaces_of : Document → List Interface
+interfaces_of d = map (λ t. t.interface) d.interfaces.items
+
+-- an owned prefix, with the default tag where its table gives none
+abbrev pub owned_of : ℕ → PrefixTable → Prefix6 × ℕ
+owned_of tag t = (t.prefix, unwrap_or t.tag tag)
+
+abbrev pub owned_by : ℕ → Document → List (Prefix6 × ℕ)
+owned_by tag d = map (owned_of tag) d.prefixes.items
+
+abbrev pub ports_of : Document → List ℕ
+ports_of d = map (λ t. t.local_port) d.interfaces.items
+
+-- what the router's own check is given
+abbrev pub router_of : ℕ → Bool → Document → RouterConfig
+router_of tag quiet d = config (interfaces_of d) (owned_by tag d) quiet
+
+-- the text is UTF-8 and TOML, and its tables say this
+pub record Says (text : List ℕ) (d : Document) : Type 0 where
+  pub utf8 : IsUtf8 text
+  pub members : Members
+  pub toml : parse_document text ≡ Some members
+  pub tables : IsDocument members d
+
+-- the router, ports, peers and random source are those of the tables, and each test is met
+pub record IsMadeOf (tag : ℕ) (quiet : Bool) (d : Document) (c : Config) : Type 0 where
+  pub router : c.router ≡ router_of tag quiet d
+  pub ports : c.ports.items ≡ ports_of d
+  pub peers : c.peers.items ≡ map (λ t. t.peers) d.interfaces.items
+  pub rng : c.rng ≡ pcg32_of_seed (pcg32_seed 16 d.seed)
+  pub lawful : IsConfig c.router
+  pub distinct_ports : ArePortsDistinct (ports_of d)
+  pub distinct_peers : AreAllPeersDistinct d.interfaces.items
+
+-- the configuration is what the text says
+abbrev pub IsConfigured : List ℕ → ℕ → Bool → Config → Type 0
+IsConfigured text tag quiet c = (d : Document) × Says text d × IsMadeOf tag quiet d c
+
+-- a port and a list of peers for each interface
+pub record HasOneEach (c : Config) : Type 0 where
+  pub ports : length c.ports.items ≡ length c.router.interfaces
+  pub peers : length c.peers.items ≡ length c.router.interfaces
+
+-- why a text is refused that is no document of such tables
+abbrev pub RefusesText : List ℕ → ConfigFault → Type 0
+RefusesText text BadToml = IsUtf8 text → parse_document text ≡ None
+RefusesText text fault =
+    RefusesAt (λ f. (ms : Members) × (parse_document text ≡ Some ms) × HasFault document_keys f ms) fault
+
+-- which test the tables fail
+abbrev pub RefusesTables : ℕ → Bool → Document → ConfigFault → Type 0
+RefusesTables tag quiet d (Router refused) = config_fault (router_of tag quiet d) ≡ Some refused
+RefusesTables tag quiet d (PortTwice path) = ¬ (ArePortsDistinct (ports_of d))
+RefusesTables tag quiet d (PeerTwice path) = ¬ (AreAllPeersDistinct d.interfaces.items)
+RefusesTables tag quiet d OutOfMemory = ⊤
+RefusesTables tag quiet d _ = ⊥
+
+-- why a text is refused
+abbrev pub Refuses : List ℕ → ℕ → Bool → ConfigFault → Type 0
+Refuses text tag quiet fault =
+    RefusesText text fault ⊎ ((d : Document) × Says text d × RefusesTables tag quiet d fault)

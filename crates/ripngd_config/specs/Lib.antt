@@ -1,0 +1,6 @@
+pub mod Keys
+pub mod Faults
+pub mod Values
+pub mod Tables
+pub mod Twice
+pub mod Configuration

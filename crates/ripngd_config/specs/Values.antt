@@ -1,0 +1,42 @@
+-- What the values of a configuration are read as.
+use Rattle.std.specs.Prelude.{◌≡◌, ◌≤◌, ℕ, pos, Bool, List, [], ◌∷◌, Option, MatchOption, IsSomeAnd, Some}
+use Rattle.toml.specs.Data.{Data, Items, Members, array, boolean, get_member, integer, item, no_items, string, table}
+use Rattle.prefix6.specs.Prefix.{Prefix6}
+use Rattle.prefix6.specs.Text.{Reads, ReadsPrefix}
+
+-- a number from low to high
+abbrev pub IsNumber : ℕ → ℕ → Data → ℕ → Type 0
+IsNumber low high d n = (d ≡ integer (pos n)) × (low ≤ n) × (n ≤ high)
+
+-- a number where there is one
+abbrev pub IsSomeNumber : ℕ → ℕ → Data → Option ℕ → Type 0
+IsSomeNumber low high d o = IsSomeAnd o (IsNumber low high d)
+
+abbrev pub IsAddress : Data → ℕ → Type 0
+IsAddress d a = (text : List ℕ) × (d ≡ string text) × Reads text a
+
+abbrev pub IsPrefixValue : Data → Prefix6 → Type 0
+IsPrefixValue d p = (text : List ℕ) × (d ≡ string text) × ReadsPrefix text p
+
+abbrev pub IsTruth : Data → Bool → Type 0
+IsTruth d b = d ≡ boolean b
+
+-- the value at a key is read as x, or is not there and x is the default
+abbrev pub IsAt : {X : Type 0} → (Data → X → Type 0) → List ℕ → Option X → Members → X → Type 0
+IsAt ReadsAs key default ms x = MatchOption (get_member key ms) (default ≡ Some x) (λ d. ReadsAs d x)
+
+-- a table that is read as x
+abbrev pub IsItem : {X : Type 0} → (Members → X → Type 0) → Data → X → Type 0
+IsItem R (table ms) x = R ms x
+IsItem R _ x = ⊥
+
+-- tables that are read as these values, one by one
+abbrev pub AreTables : {X : Type 0} → (Members → X → Type 0) → Items → List X → Type 0
+AreTables R no_items xs = xs ≡ []
+AreTables R (item d rest) [] = ⊥
+AreTables R (item d rest) (x ∷ xs) = IsItem R d x × AreTables R rest xs
+
+-- an array of such tables
+abbrev pub AreSections : {X : Type 0} → (Members → X → Type 0) → Data → List X → Type 0
+AreSections R (array items) xs = AreTables R items xs
+AreSections R _ xs = ⊥

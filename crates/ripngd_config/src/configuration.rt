@@ -1,0 +1,114 @@
+//! A configuration, read and checked: all that a router runs on.
+
+ghost use Rattle.std.specs.Prelude.{◌≡◌, IfErr, IfOk, map};
+ghost use Rattle.ripngd_config.specs.Configuration.{HasOneEach, IsConfigured, IsMadeOf, Refuses, RefusesTables, interfaces_of, owned_by, ports_of};
+
+use crate::document::document_of;
+use crate::fault::ConfigFault;
+use crate::peer::Peer;
+use crate::tables::{Document, InterfaceTable};
+use crate::twice::{check_all_peers, check_ports};
+use prefix6::Prefix;
+use rand_core::SeedableRng;
+use rand_pcg::Pcg32;
+use router_core::{Interface, RouterConfig};
+use std::alloc::{AllocError, Global};
+
+/// All that a router runs on.
+#[derive(Drop)]
+pub struct Config {
+    /// Its interfaces and the prefixes that it owns.
+    pub router: RouterConfig,
+    /// For each interface, the port of 127.0.0.1 at which it stands; each another.
+    pub ports: Vec<u16>,
+    /// For each interface, its peers, of which no two have the same address or local port.
+    pub peers: Vec<Vec<Peer>>,
+    /// Where its random words come from.
+    pub rng: Pcg32,
+}
+
+/// Reads a configuration. An owned prefix whose table gives no tag gets `default_tag`; a quiet router only listens.
+///
+/// # Errors
+/// The first fault of the text. A table's keys are read in the order that docs/FORMATS.md has, an array's members in
+/// their order, each to its end; a table's other keys come after its own. Then come the router's tests, then the ports,
+/// then the peers.
+pub fn read_config(
+    alloc: Global,
+    text: &[u8],
+    default_tag: u16,
+    quiet: bool,
+) -> Result<Config, ConfigFault>
+    ensures read { IfOk result (IsConfigured text.now default_tag quiet) }
+    ensures one_each { IfOk result HasOneEach }
+    ensures refused { IfErr result (Refuses text.now default_tag quiet) }
+{
+    let document = document_of(alloc, text)?;
+    configure(alloc, document, default_tag, quiet)
+}
+
+/// Checks what the tables say, and makes of it what a router runs on.
+fn configure(
+    alloc: Global,
+    document: Document,
+    tag: u16,
+    quiet: bool,
+) -> Result<Config, ConfigFault>
+    ensures made { IfOk result (IsMadeOf tag quiet document) }
+    ensures refused { IfErr result (RefusesTables tag quiet document) }
+{
+    let interfaces = interfaces_of(alloc, &document)?;
+    let owned = owned_by(alloc, &document, tag)?;
+    let ports = ports_of(alloc, &document)?;
+    let router = RouterConfig::check(interfaces, owned, quiet)?;
+    check_ports(alloc, &ports)?;
+    check_all_peers(alloc, &document.interfaces)?;
+    let rng = Pcg32::seed_from_u64(document.seed);
+    let peers = peers_of(alloc, document.interfaces)?;
+    Ok(Config {
+        router,
+        ports,
+        peers,
+        rng,
+    })
+}
+
+fn interfaces_of(alloc: Global, document: &Document) -> Result<Vec<Interface>, AllocError>
+    ensures { IfOk result (λ v. v.items ≡ interfaces_of document.now) }
+{
+    document
+        .interfaces
+        .iter()
+        .map(|table| table.interface)
+        .collect(alloc)
+}
+
+/// The prefixes that the router owns, with their tags.
+fn owned_by(alloc: Global, document: &Document, tag: u16) -> Result<Vec<(Prefix, u16)>, AllocError>
+    ensures { IfOk result (λ v. v.items ≡ owned_by tag document.now) }
+{
+    document
+        .prefixes
+        .iter()
+        .map(|table| (table.prefix, table.tag.unwrap_or(tag)))
+        .collect(alloc)
+}
+
+fn ports_of(alloc: Global, document: &Document) -> Result<Vec<u16>, AllocError>
+    ensures { IfOk result (λ v. v.items ≡ ports_of document.now) }
+{
+    document
+        .interfaces
+        .iter()
+        .map(|table| table.local_port)
+        .collect(alloc)
+}
+
+fn peers_of(alloc: Global, interfaces: Vec<InterfaceTable>) -> Result<Vec<Vec<Peer>>, AllocError>
+    ensures { IfOk result (λ v. v.items ≡ map (λ t. t.peers) interfaces.items) }
+{
+    interfaces
+        .into_iter()
+        .map(|table| table.peers)
+        .collect(alloc)
+}

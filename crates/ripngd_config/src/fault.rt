@@ -1,0 +1,153 @@
+//! Why a configuration is refused.
+
+ghost use Rattle.std.specs.Prelude.{◌≡◌};
+ghost use Rattle.ripngd_config.specs.declared.fault.ConfigFault.TheVariants.{OutOfMemory, Router};
+
+use crate::place::Place;
+use router_core::ConfigRefused;
+use std::alloc::{AllocError, AllocFailed, Global};
+use thiserror::Error;
+
+/// Why a configuration is refused. Where the fault is one of a key or a table, its path says which, as in
+/// `interface[0].peer[1].port`. Each refusal has a number, which never changes, and a name; its text is what the program
+/// prints after `refused`.
+#[derive(Debug, Drop, Error)]
+pub enum ConfigFault {
+    /// 1: the text is not TOML, or not UTF-8.
+    #[error("1 BadToml")]
+    BadToml,
+    /// 2: a required key is not there.
+    #[error("2 MissingKey {0}")]
+    MissingKey(String),
+    /// 3: the value at a key is of another kind than the key holds.
+    #[error("3 WrongType {0}")]
+    WrongType(String),
+    /// 4: a number is out of range, or a text names no address or prefix.
+    #[error("4 BadValue {0}")]
+    BadValue(String),
+    /// 5: a table has a key that is not one of its own.
+    #[error("5 UnknownKey {0}")]
+    UnknownKey(String),
+    /// 6: the router's own check refuses its interfaces and prefixes.
+    #[error("6 Router {} {}", .0.number(), .0.name())]
+    Router(ConfigRefused),
+    /// 7: the local port of an interface is that of an earlier one.
+    #[error("7 PortTwice {0}")]
+    PortTwice(String),
+    /// 8: a peer has the address or the local port of an earlier peer of its interface.
+    #[error("8 PeerTwice {0}")]
+    PeerTwice(String),
+    /// 9: there was no memory.
+    #[error("9 OutOfMemory")]
+    OutOfMemory,
+}
+
+/// A fault that stands at a path.
+#[derive(Clone, Copy, Debug, PartialEq, Eq)]
+pub(crate) enum PathFault {
+    MissingKey,
+    WrongType,
+    BadValue,
+    UnknownKey,
+    PortTwice,
+    PeerTwice,
+}
+
+impl ConfigFault {
+    ghost use Rattle.ripngd_config.specs.Faults.{RefusesAt, name_of, number_of};
+
+    /// The number of the refusal, 1 to 9.
+    pub fn number(&self) -> u8
+        ensures { result ≡ number_of self.now }
+    {
+        match self {
+            ConfigFault::BadToml => 1,
+            ConfigFault::MissingKey(_) => 2,
+            ConfigFault::WrongType(_) => 3,
+            ConfigFault::BadValue(_) => 4,
+            ConfigFault::UnknownKey(_) => 5,
+            ConfigFault::Router(_) => 6,
+            ConfigFault::PortTwice(_) => 7,
+            ConfigFault::PeerTwice(_) => 8,
+            ConfigFault::OutOfMemory => 9,
+        }
+    }
+
+    /// The name of the refusal, as the variant is spelled.
+    pub fn name(&self) -> &'static str
+        ensures { result.now ≡ name_of self.now }
+    {
+        match self {
+            ConfigFault::BadToml => "BadToml",
+            ConfigFault::MissingKey(_) => "MissingKey",
+            ConfigFault::WrongType(_) => "WrongType",
+            ConfigFault::BadValue(_) => "BadValue",
+            ConfigFault::UnknownKey(_) => "UnknownKey",
+            ConfigFault::Router(_) => "Router",
+            ConfigFault::PortTwice(_) => "PortTwice",
+            ConfigFault::PeerTwice(_) => "PeerTwice",
+            ConfigFault::OutOfMemory => "OutOfMemory",
+        }
+    }
+
+    /// The fault of the value at a key of a table.
+    pub(crate) fn at(alloc: Global, fault: PathFault, place: Place, key: &str) -> ConfigFault
+        ensures { RefusesAt (λ f. f ≡ fault) result }
+    {
+        ConfigFault::of(fault, format!(in alloc; "{place}{key}"))
+    }
+
+    /// The fault of a member of the array at a key of a table.
+    pub(crate) fn at_member(
+        alloc: Global,
+        fault: PathFault,
+        place: Place,
+        key: &str,
+        index: usize,
+    ) -> ConfigFault
+        ensures { RefusesAt (λ f. f ≡ fault) result }
+    {
+        ConfigFault::of(fault, format!(in alloc; "{place}{key}[{index}]"))
+    }
+
+    /// The fault at a path, where there was memory for the path.
+    fn of(fault: PathFault, path: Result<String, AllocError>) -> ConfigFault
+        ensures { RefusesAt (λ f. f ≡ fault) result }
+    {
+        let Ok(path) = path else {
+            return ConfigFault::OutOfMemory;
+        };
+        match fault {
+            PathFault::MissingKey => ConfigFault::MissingKey(path),
+            PathFault::WrongType => ConfigFault::WrongType(path),
+            PathFault::BadValue => ConfigFault::BadValue(path),
+            PathFault::UnknownKey => ConfigFault::UnknownKey(path),
+            PathFault::PortTwice => ConfigFault::PortTwice(path),
+            PathFault::PeerTwice => ConfigFault::PeerTwice(path),
+        }
+    }
+}
+
+impl From<AllocError> for ConfigFault {
+    ghost from_gives = { λ _ fault. fault ≡ OutOfMemory };
+
+    fn from(_error: AllocError) -> ConfigFault {
+        ConfigFault::OutOfMemory
+    }
+}
+
+impl<T: Drop> From<AllocFailed<T>> for ConfigFault {
+    ghost from_gives = { λ _ fault. fault ≡ OutOfMemory };
+
+    fn from(_error: AllocFailed<T>) -> ConfigFault {
+        ConfigFault::OutOfMemory
+    }
+}
+
+impl From<ConfigRefused> for ConfigFault {
+    ghost from_gives = { λ refused fault. fault ≡ Router refused };
+
+    fn from(refused: ConfigRefused) -> ConfigFault {
+        ConfigFault::Router(refused)
+    }
+}

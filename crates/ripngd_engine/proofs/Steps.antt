@@ -1,0 +1,273 @@
+-- The steps of an engine: what was carried out is a step of the run, and steps make turns.
+use Rattle.std.proofs.Common.{◌≡◌, ℕ, ◌+◌, List, [], ◌∷◌, ◌++◌, refl, sym, ap, ◌∙◌, arith, cond, Bool, true, false, subst, inl, inr, append_assoc, append-nil, length, length-append}
+use Rattle.std.specs.Prelude.{Option, None, Some}
+use Rattle.std.specs.FinMap as map_of
+use Rattle.std.specs.Io.KnownBytes.{Appends}
+use Rattle.std.proofs.KnownBytes.{Appends-nil, Appends-trans}
+use Rattle.std.proofs.lemmas.Grind.{flat_map-append}
+use Rattle.rand_core.specs.Stream.{Stream, next_u32}
+use Rattle.fib.specs.Forwarding.{Forwarding, Replays}
+use Rattle.fib.specs.declared.change.RouteChange.{RouteChange}
+use Rattle.fib.proofs.ReplayLaws.{replays_to_one}
+use Rattle.router_core.specs.Config.{Config}
+use Rattle.router_core.specs.Machine.{State, Happening, Arrives, Ticks, Moves, Starts as RouterStarts}
+use Rattle.router_core.specs.declared.answer.Answer.{Answer}
+use Rattle.ripngd_engine.specs.declared.link.Received.{Received}
+use Rattle.ripngd_engine.specs.Telling.{Gains}
+use Rattle.ripngd_engine.specs.Log.{change_text, log_of}
+use Rattle.ripngd_engine.specs.Link.{Call, Gave, Silent, RecvFailed, Handed, Datagram, failed_sends, gave_call}
+use Rattle.ripngd_engine.specs.Run.{Machine, Trace, Step, Moved, Lost, Carries, FollowsUnless, ComesUp, Takes, TakesIn, TicksOnce, TicksUnless, Turn, Turns, arrival, handed, one_call, one_moment, nothing, joined, all_joined, counted}
+use Rattle.ripngd_engine.specs.Outlet.{OutletSeen, CarriesOut}
+use Rattle.ripngd_engine.specs.Seen.{Seen, Outside, Shows, Acts, Started, Listens, Ran, fresh}
+use Rattle.ripngd_engine.specs.Running.{TakesReceived}
+use Rattle.ripngd_engine.proofs.Tells.{Gains-nil, Gains-trans, failed_sends-append}
+
+-- ---- what the outside gained
+pub Shows-nothing : (a : Outside) → Shows a nothing a
+Shows-nothing a = record {
+  calls = Gains-nil a.calls;
+  moments = Gains-nil a.moments;
+  lost_sends = omega arith;
+  log_ends = λ h. (h, refl);
+  log_gains = λ h. Appends-nil a.text;
+}
+
+-- a log that has not failed had not failed before
+was_well : {P : Type 0} (b c : Bool) → (b ≡ true → (c ≡ true) × P) → c ≡ false → b ≡ false
+was_well false c f h = refl
+was_well true c f h = let e : c ≡ true = (f refl).0 in absurd (cc)
+
+log_of-append : (xs ys : List RouteChange) → log_of (xs ++ ys) ≡ log_of xs ++ log_of ys
+log_of-append xs ys = flat_map-append (λ c. change_text c ++ 10 ∷ []) xs ys
+
+pub Shows-trans : (a b c : Outside) (s t : Trace) → Shows a s b → Shows b t c → Shows a (joined s t) c
+Shows-trans a b c s t p q = record {
+  calls = Gains-trans a.calls b.calls c.calls s.calls t.calls p.calls q.calls;
+  moments = Gains-trans a.moments b.moments c.moments s.moments t.moments p.moments q.moments;
+  lost_sends = rw (failed_sends-append s.calls t.calls) (omega (arith, p.lost_sends, q.lost_sends));
+  log_ends = λ h. ((q.log_ends (p.log_ends h).0).0, (q.log_ends (p.log_ends h).0).1 ∙ (p.log_ends h).1);
+  log_gains = λ h. rw (log_of-append s.changes t.changes)
+      (Appends-trans a.text b.text c.text _ _ (p.log_gains (was_well _ _ q.log_ends h)) (q.log_gains h));
+}
+
+-- ---- one step
+-- an outlet, with the rest of a running router
+abbrev pub around : OutletSeen → State → ℕ → Stream → Option (List ℕ) → Seen
+around o router lost_memory stream moments =
+    record {
+      machine = record { router = router; fib = o.fib; ended = o.ended; lost_memory = lost_memory; stream = stream };
+      outside = record {
+        calls = o.calls;
+        moments = moments;
+        text = o.text;
+        lost_sends = o.lost_sends;
+        log_failed = o.log_failed;
+      };
+    }
+
+-- a step, after which the source has these words left
+abbrev pub WithStream : Stream → Happening → ℕ → Machine → Trace → Machine → Type 0
+WithStream stream happening now m t n = Step (record m { stream = stream }) happening now t n
+
+-- what carrying out an answer did
+abbrev pub carried : ℕ → Answer → List Call → Trace
+carried now answer calls = record { calls = calls; moments = now ∷ []; changes = answer.changes }
+
+module _ (o p : OutletSeen) (answer : Answer) (out : CarriesOut o answer p) where
+  pub Shows-carried : (lost new_lost : ℕ) (router new_router : State) (stream new_stream : Stream) (before after : Option (List ℕ)) (now : ℕ) → Gains before after (now ∷ [])
+      → Shows (around o router lost stream before).outside (carried now answer (handed out.hands.sends)) (around p new_router new_lost new_stream after).outside
+  Shows-carried lost new_lost router new_router stream new_stream before after now told = record {
+    calls = out.hands.calls;
+    moments = told;
+    lost_sends = out.hands.count;
+    log_ends = out.log_ends;
+    log_gains = out.log_gains;
+  }
+
+  pub Carries-out : (now : ℕ) (n : Machine) → n.ended ≡ p.ended → n.fib ≡ p.fib → Carries now answer o.fib (carried now answer (handed out.hands.sends)) n
+  Carries-out now n ended fib = record {
+    sends = out.hands.sends;
+    all_sends = out.hands.all_sends;
+    trace = refl;
+    fib = rw (ended, fib) out.fib;
+  }
+
+  -- a forwarding table that followed the router still does
+  pub follows : (old new : Forwarding) → o.fib ≡ old → Replays old answer.changes new → p.ended ≡ false → p.fib ≡ new
+  follows old new same replays on =
+      let followed : FollowsUnless false o.fib answer.changes p.fib = subst (λ e. FollowsUnless e o.fib answer.changes p.fib) on out.fib in
+      replays_to_one old p.fib new answer.changes (subst (λ f. Replays f answer.changes p.fib) same followed) replays
+
+module _ (o : OutletSeen) (router : State) (lost : ℕ) (stream new_stream : Stream) (before after : Option (List ℕ)) (now : ℕ) (happening : Happening) (told : Gains before after (now ∷ [])) where
+  pub Acts-moved : (p : OutletSeen) (answer : Answer) (new_router : State) → Moves router happening answer new_router → CarriesOut o answer p
+      → Acts (WithStream new_stream happening now) (around o router lost stream before) (around p new_router lost new_stream after)
+  Acts-moved p answer new_router moves out = record {
+    trace = carried now answer (handed out.hands.sends);
+    does = inl (record {
+      answer = answer;
+      moves = moves;
+      carries = Carries-out o p answer out now _ refl refl;
+      lost_memory = refl;
+      stream = refl;
+    });
+    shows = Shows-carried o p answer out lost lost router new_router stream new_stream before after now told;
+  }
+
+  pub Acts-lost : (new_router : State) (new_lost : ℕ) → new_router ≡ router → new_lost ≡ counted lost 1
+      → Acts (WithStream new_stream happening now) (around o router lost stream before) (around o new_router new_lost new_stream after)
+  Acts-lost new_router new_lost same more = record {
+    trace = one_moment now;
+    does = inr (record {
+      trace = refl;
+      machine = λ i. record { router = same i; fib = o.fib; ended = o.ended; lost_memory = more i; stream = new_stream };
+    });
+    shows = record {
+      calls = Gains-nil o.calls;
+      moments = told;
+      lost_sends = omega arith;
+      log_ends = λ h. (h, refl);
+      log_gains = λ h. Appends-nil o.text;
+    };
+  }
+
+-- an outlet on which nothing was carried out
+abbrev pub unused : Option (List Call) → Option (List ℕ) → OutletSeen
+unused calls text =
+    record { calls = calls; text = text; fib = map_of.empty; ended = false; lost_sends = 0; log_failed = false }
+
+pub Started-carried : (config : Config) (stream : Stream) (calls : Option (List Call)) (before after text : Option (List ℕ)) (now : ℕ) (p : OutletSeen) (answer : Answer) (router : State)
+    → Gains before after (now ∷ []) → RouterStarts config now answer router → CarriesOut (unused calls text) answer p → p.ended ≡ false
+    → Started config stream (fresh calls before text) (around p router 0 stream after)
+Started-carried config stream calls before after text now p answer router told starts out on = record {
+  trace = carried now answer (handed out.hands.sends);
+  comes_up = record {
+    now = now;
+    answer = answer;
+    starts = starts;
+    carries = Carries-out (unused calls text) p answer out now _ refl refl;
+    going = on;
+    lost_memory = refl;
+    stream_is = refl;
+  };
+  shows = Shows-carried (unused calls text) p answer out 0 0 router router stream stream before after now told;
+}
+
+pub Acts-ticks : (a b : Seen) (now word : ℕ) (stream : Stream) → (word, stream) ≡ next_u32 a.machine.stream
+    → Acts (WithStream stream (Ticks now word) now) a b → Acts TicksOnce a b
+Acts-ticks a b now word stream drawn acts =
+    record { trace = acts.trace; does = record { now = now; word = word; stream = stream; drawn = drawn; step = acts.does }; shows = acts.shows }
+
+pub Acts-takes : (a b : Seen) (now : ℕ) (d : Datagram)
+    → Acts (WithStream a.machine.stream (Arrives (arrival now d)) now) a b → Acts (Takes d) a b
+Acts-takes a b now d acts = record { trace = acts.trace; does = (now, acts.does); shows = acts.shows }
+
+-- ---- one turn
+-- a call that is a `recv`
+abbrev pub IsRecv : Call → Type 0
+IsRecv (Handed s went) = ⊥
+IsRecv Silent = Unit {0}
+IsRecv (Gave d) = Unit {0}
+IsRecv RecvFailed = Unit {0}
+
+failed_sends-recv : (call : Call) → IsRecv call → failed_sends (call ∷ []) ≡ 0
+failed_sends-recv (Handed s went) h = absurd h
+failed_sends-recv Silent h = refl
+failed_sends-recv (Gave d) h = refl
+failed_sends-recv RecvFailed h = refl
+
+pub Shows-listens : (call : Call) (a b : Seen) → IsRecv call → Listens call a b → Shows a.outside (one_call call) b.outside
+Shows-listens call a b is h =
+    let moments : b.outside.moments ≡ a.outside.moments = ap (λ o. o.moments) h.rest in
+    let text : b.outside.text ≡ a.outside.text = ap (λ o. o.text) h.rest in
+    let lost : b.outside.lost_sends ≡ a.outside.lost_sends = ap (λ o. o.lost_sends) h.rest in
+    let failed : b.outside.log_failed ≡ a.outside.log_failed = ap (λ o. o.log_failed) h.rest in
+    record {
+      calls = h.calls;
+      moments = subst (λ x. Gains x b.outside.moments []) moments (Gains-nil b.outside.moments);
+      lost_sends = omega (arith, lost, failed_sends-recv call is);
+      log_ends = λ e. (failed ∙ e, text);
+      log_gains = λ e. subst (λ x. Appends x b.outside.text []) text (Appends-nil b.outside.text);
+    }
+
+gave-IsRecv : (o : Option Received) (buffer : List ℕ) → IsRecv (gave_call o buffer)
+gave-IsRecv None buffer = tt
+gave-IsRecv (Some r) buffer = tt
+
+pub Turn-whole : (a b c d : Seen) (o : Option Received) (buffer : List ℕ) → a.machine.ended ≡ false → Listens (gave_call o buffer) a b → Acts (TakesReceived o buffer) b c
+    → c.machine.ended ≡ false → Acts TicksOnce c d → Acts Turn a d
+Turn-whole a b c d o buffer going listens takes on ticks = record {
+  trace = joined (one_call (gave_call o buffer)) (joined takes.trace ticks.trace);
+  does = record {
+    going = going;
+    call = gave_call o buffer;
+    taken = takes.trace;
+    middle = c.machine;
+    ticked = ticks.trace;
+    takes_in = subst (λ m. TakesIn (gave_call o buffer) m takes.trace c.machine) listens.machine takes.does;
+    ticks = subst (λ e. TicksUnless e c.machine ticks.trace d.machine) (sym on) ticks.does;
+    trace = refl;
+  };
+  shows = Shows-trans a.outside b.outside d.outside _ _ (Shows-listens (gave_call o buffer) a b (gave-IsRecv o buffer) listens)
+      (Shows-trans b.outside c.outside d.outside _ _ takes.shows ticks.shows);
+}
+
+pub Turn-refused : (a b c : Seen) (o : Option Received) (buffer : List ℕ) → a.machine.ended ≡ false → Listens (gave_call o buffer) a b → Acts (TakesReceived o buffer) b c
+    → c.machine.ended ≡ true → Acts Turn a c
+Turn-refused a b c o buffer going listens takes on = record {
+  trace = joined (one_call (gave_call o buffer)) (joined takes.trace nothing);
+  does = record {
+    going = going;
+    call = gave_call o buffer;
+    taken = takes.trace;
+    middle = c.machine;
+    ticked = nothing;
+    takes_in = subst (λ m. TakesIn (gave_call o buffer) m takes.trace c.machine) listens.machine takes.does;
+    ticks = subst (λ e. TicksUnless e c.machine nothing c.machine) (sym on) (refl, refl);
+    trace = refl;
+  };
+  shows = Shows-trans a.outside b.outside c.outside _ _ (Shows-listens (gave_call o buffer) a b (gave-IsRecv o buffer) listens)
+      (Shows-trans b.outside c.outside c.outside _ _ takes.shows (Shows-nothing c.outside));
+}
+
+-- ---- turns
+pub Turns-more : (m : Machine) (ts : List Trace) (k : Machine) (t : Trace) (n : Machine) → Turns m ts k → Turn k t n → Turns m (ts ++ t ∷ []) n
+Turns-more m [] k t n p q = (n, subst (λ x. Turn x t n) p q, refl)
+Turns-more m (s ∷ ts) k t n p q = (p.0, p.1, Turns-more p.0 ts k t n p.2 q)
+
+joined-nothing : (t : Trace) → joined t nothing ≡ t
+joined-nothing t = simp append-nil
+
+joined-assoc : (a b c : Trace) → joined (joined a b) c ≡ joined a (joined b c)
+joined-assoc a b c = simp append_assoc
+
+all_joined-more : (ts : List Trace) (t : Trace) → all_joined (ts ++ t ∷ []) ≡ joined (all_joined ts) t
+all_joined-more [] t = joined-nothing t
+all_joined-more (s ∷ ts) t = ap (joined s) (all_joined-more ts t) ∙ sym (joined-assoc s (all_joined ts) t)
+
+pub Ran-none : (a : Seen) → Ran 0 a a
+Ran-none a = record { traces = []; count_is = refl; turns = refl; shows = Shows-nothing a.outside }
+
+pub Ran-more : (k : ℕ) (a b c : Seen) → Ran k a b → Acts Turn b c → Ran (k + 1) a c
+Ran-more k a b c ran turn = record {
+  traces = ran.traces ++ turn.trace ∷ [];
+  count_is = rw (length-append ran.traces (turn.trace ∷ [])) (omega (arith, ran.count_is));
+  turns = Turns-more a.machine ran.traces b.machine turn.trace c.machine ran.turns turn.does;
+  shows = rw (all_joined-more ran.traces turn.trace) (Shows-trans a.outside b.outside c.outside _ _ ran.shows turn.shows);
+}
+
+Turns-append : (m : Machine) (ts : List Trace) (k : Machine) (us : List Trace) (n : Machine) → Turns m ts k → Turns k us n → Turns m (ts ++ us) n
+Turns-append m [] k us n p q = subst (λ x. Turns x us n) p q
+Turns-append m (t ∷ ts) k us n p q = (p.0, p.1, Turns-append p.0 ts k us n p.2 q)
+
+all_joined-append : (ts us : List Trace) → all_joined (ts ++ us) ≡ joined (all_joined ts) (all_joined us)
+all_joined-append [] us = refl
+all_joined-append (t ∷ ts) us = ap (joined t) (all_joined-append ts us) ∙ sym (joined-assoc t (all_joined ts) (all_joined us))
+
+-- turns, and then others
+pub Ran-trans : (j k : ℕ) (a b c : Seen) → Ran j a b → Ran k b c → Ran (j + k) a c
+Ran-trans j k a b c first second = record {
+  traces = first.traces ++ second.traces;
+  count_is = rw (length-append first.traces second.traces) (omega (arith, first.count_is, second.count_is));
+  turns = Turns-append a.machine first.traces b.machine second.traces c.machine first.turns second.turns;
+  shows = rw (all_joined-append first.traces second.traces) (Shows-trans a.outside b.outside c.outside _ _ first.shows second.shows);
+}

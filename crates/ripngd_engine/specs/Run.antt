@@ -1,0 +1,148 @@
+-- A run of an engine: a start, and then one turn after another.
+use Rattle.std.specs.Prelude.{ℕ, ◌≡◌, ◌+◌, ◌-◌, ◌^◌, ◌++◌, min, max, List, [], ◌∷◌, Bool, true, false, MatchBool, map, ◌⊎◌}
+use Rattle.std.specs.FinMap as map_of
+use Rattle.rand_core.specs.Stream.{Stream, next_u32}
+use Rattle.fib.specs.Forwarding.{Forwarding, Replays}
+use Rattle.fib.specs.declared.change.RouteChange.{RouteChange}
+use Rattle.router_core.specs.Config.{Config}
+use Rattle.router_core.specs.Machine.{State, Happening, Arrives, Ticks, Moves, Starts}
+use Rattle.router_core.specs.Received.{Received}
+use Rattle.router_core.specs.declared.answer.Answer.{Answer}
+use Rattle.router_core.specs.declared.answer.Outgoing.{Outgoing}
+use Rattle.ripngd_engine.specs.Link.{Datagram, Call, Gave, Silent, RecvFailed, Handed}
+
+-- what the turns of an engine go on from
+pub record Machine : Type 0 where
+  pub router : State
+  pub fib : Forwarding
+  pub ended : Bool  -- whether `Fib::apply` was refused
+  pub lost_memory : ℕ  -- how many steps were refused for memory
+  pub stream : Stream  -- the words that the source has left
+
+-- what some steps did on the outside: the calls of the link, the moments that the clock gave, and the changes of
+-- routes, each in order
+pub record Trace : Type 0 where
+  pub calls : List Call
+  pub moments : List ℕ
+  pub changes : List RouteChange
+
+abbrev pub nothing : Trace
+nothing = record { calls = []; moments = []; changes = [] }
+
+abbrev pub one_call : Call → Trace
+one_call call = record { calls = call ∷ []; moments = []; changes = [] }
+
+abbrev pub one_moment : ℕ → Trace
+one_moment now = record { calls = []; moments = now ∷ []; changes = [] }
+
+abbrev pub joined : Trace → Trace → Trace
+joined a b = record { calls = a.calls ++ b.calls; moments = a.moments ++ b.moments; changes = a.changes ++ b.changes }
+
+abbrev pub all_joined : List Trace → Trace
+all_joined [] = nothing
+all_joined (t ∷ ts) = joined t (all_joined ts)
+
+-- ---- a step
+-- datagrams that were handed to a link, each with whether it went out
+abbrev pub Sends : Type 0
+Sends = List (Outgoing × Bool)
+
+abbrev pub datagrams_of : Sends → List Outgoing
+datagrams_of sends = map (λ s. s.0) sends
+
+-- the calls by which they were handed over, each once and in order
+abbrev pub handed : Sends → List Call
+handed sends = map (λ s. Handed s.0 s.1) sends
+
+-- the count after so many more, which stays at the greatest u64
+abbrev pub counted : ℕ → ℕ → ℕ
+counted n more = max n (min (n + more) (2 ^ 64 - 1))
+
+-- the forwarding table follows the changes, or is left as it was where memory for them is refused
+abbrev pub FollowsUnless : Bool → Forwarding → List RouteChange → Forwarding → Type 0
+FollowsUnless refused old changes new = MatchBool refused (new ≡ old) (Replays old changes new)
+
+-- an answer of the router was carried out: its datagrams were handed over, failed or not, and its changes followed
+pub record Carries (now : ℕ) (answer : Answer) (old : Forwarding) (t : Trace) (n : Machine) : Type 0 where
+  pub sends : Sends
+  pub all_sends : datagrams_of sends ≡ answer.sends
+  pub trace : t ≡ record { calls = handed sends; moments = now ∷ []; changes = answer.changes }
+  pub fib : FollowsUnless n.ended old answer.changes n.fib
+
+-- the router moved, and its answer was carried out
+pub record Moved (m : Machine) (happening : Happening) (now : ℕ) (t : Trace) (n : Machine) : Type 0 where
+  pub answer : Answer
+  pub moves : Moves m.router happening answer n.router
+  pub carries : Carries now answer m.fib t n
+  pub lost_memory : n.lost_memory ≡ m.lost_memory
+  pub stream : n.stream ≡ m.stream
+
+-- the step was refused for memory: it has used its moment, and is counted
+pub record Lost (m : Machine) (now : ℕ) (t : Trace) (n : Machine) : Type 0 where
+  pub trace : t ≡ one_moment now
+  pub machine : n ≡ record m { lost_memory = counted m.lost_memory 1 }
+
+abbrev pub Step : Machine → Happening → ℕ → Trace → Machine → Type 0
+Step m happening now t n = Moved m happening now t n ⊎ Lost m now t n
+
+-- ---- a start
+pub record ComesUp (config : Config) (stream : Stream) (t : Trace) (n : Machine) : Type 0 where
+  pub now : ℕ
+  pub answer : Answer
+  pub starts : Starts config now answer n.router
+  pub carries : Carries now answer map_of.empty t n
+  pub going : n.ended ≡ false
+  pub lost_memory : n.lost_memory ≡ 0
+  pub stream_is : n.stream ≡ stream
+
+-- ---- a turn
+abbrev pub arrival : ℕ → Datagram → Received
+arrival now d =
+    record {
+      now = now;
+      iface = d.iface;
+      source = d.source;
+      source_port = d.source_port;
+      hop_limit = d.hop_limit;
+      to_group = d.to_group;
+      bytes = d.bytes;
+    }
+
+-- the arrival of a datagram, at the moment that the clock gave
+abbrev pub Takes : Datagram → Machine → Trace → Machine → Type 0
+Takes d m t n = (now : ℕ) × Step m (Arrives (arrival now d)) now t n
+
+-- what follows what `recv` gave: an arrival, if it gave a datagram
+abbrev pub TakesIn : Call → Machine → Trace → Machine → Type 0
+TakesIn (Gave d) m t n = Takes d m t n
+TakesIn Silent m t n = (t ≡ nothing) × (n ≡ m)
+TakesIn RecvFailed m t n = ⊥
+TakesIn (Handed s went) m t n = ⊥
+
+-- a tick at the moment that the clock gave, with the next word of the source
+pub record TicksOnce (m : Machine) (t : Trace) (n : Machine) : Type 0 where
+  pub now : ℕ
+  pub word : ℕ
+  pub stream : Stream
+  pub drawn : (word, stream) ≡ next_u32 m.stream
+  pub step : Step (record m { stream = stream }) (Ticks now word) now t n
+
+-- nothing follows a step whose changes were refused for memory
+abbrev pub TicksUnless : Bool → Machine → Trace → Machine → Type 0
+TicksUnless ended m t n = MatchBool ended ((t ≡ nothing) × (n ≡ m)) (TicksOnce m t n)
+
+-- one `recv`, an arrival if it gave a datagram, and then a tick
+pub record Turn (m : Machine) (t : Trace) (n : Machine) : Type 0 where
+  pub going : m.ended ≡ false
+  pub call : Call
+  pub taken : Trace
+  pub middle : Machine
+  pub ticked : Trace
+  pub takes_in : TakesIn call m taken middle
+  pub ticks : TicksUnless middle.ended middle ticked n
+  pub trace : t ≡ joined (one_call call) (joined taken ticked)
+
+-- these turns, one after another
+abbrev pub Turns : Machine → List Trace → Machine → Type 0
+Turns m [] n = n ≡ m
+Turns m (t ∷ ts) n = (k : Machine) × Turn m t k × Turns k ts n

@@ -1,0 +1,44 @@
+-- What a contract reads of a running router and its log.
+use Rattle.std.specs.Prelude.{ℕ, ◌≡◌, List, Option, Result, Ok, Err, true, false}
+use Rattle.rand_core.specs.Stream.{Stream}
+use Rattle.ripngd_engine.specs.Link.{Call, RecvFailed, gave_call}
+use Rattle.ripngd_engine.specs.Run.{Machine, Trace, TakesIn, Turn}
+use Rattle.ripngd_engine.specs.Seen.{Seen, Acts, Listens}
+use Rattle.ripngd_engine.specs.declared.link.Received.{Received}
+use Rattle.ripngd_engine.specs.declared.running.Running.{Running}
+use Rattle.ripngd_engine.specs.declared.running.TurnFault.{TurnFault}
+use Rattle.ripngd_engine.specs.declared.running.TurnFault.TheVariants.{NoLink, NoMemory}
+use Rattle.route_table.specs.declared.store.RouteStore as RouteStore
+use Rattle.ripngd_engine.specs.declared.link.Link as Link
+use Rattle.ripngd_engine.specs.declared.clock.TimeSource as TimeSource
+use Rattle.rand_core.specs.declared.Rng as Rng
+
+abbrev pub running_seen : {S L C R W : Type 0} {s : RouteStore.Ghosts S} {l : Link.Ghosts L} {c : TimeSource.Ghosts C} {r : Rng.Ghosts R}
+    → (L → Option (List Call)) → (C → Option (List ℕ)) → (R → Stream) → (W → Option (List ℕ)) → Running S L C R s l c r → W → Seen
+running_seen calls moments stream text e log =
+    record {
+      machine = record {
+        router = e.router;
+        fib = e.outlet.fib;
+        ended = e.outlet.ended;
+        lost_memory = e.lost_memory;
+        stream = stream e.rng;
+      };
+      outside = record {
+        calls = calls e.outlet.link;
+        moments = moments e.clock;
+        text = text log;
+        lost_sends = e.outlet.lost_sends;
+        log_failed = e.outlet.log_failed;
+      };
+    }
+
+-- what follows a `recv` that gave this, with this in the buffer
+abbrev pub TakesReceived : Option Received → List ℕ → Machine → Trace → Machine → Type 0
+TakesReceived received buffer m t n = TakesIn (gave_call received buffer) m t n
+
+-- a turn; or a `recv` that failed, and nothing else
+abbrev pub TurnAnswers : Seen → Result (Unit {0}) TurnFault → Seen → Type 0
+TurnAnswers a (Ok u) b = Acts Turn a b × (b.machine.ended ≡ false)
+TurnAnswers a (Err NoMemory) b = Acts Turn a b × (b.machine.ended ≡ true)
+TurnAnswers a (Err NoLink) b = Listens RecvFailed a b

@@ -1,0 +1,89 @@
+//! The log: a line for each change of a route.
+
+ghost use Rattle.std.specs.Prelude.{◌≡◌, true, false, Some};
+ghost use Rattle.std.specs.Io.KnownBytes.{Appends};
+ghost use Rattle.ripngd_engine.specs.Log.{hop_text, route_text, change_text, log_of};
+
+use fib::{Hop, RouteChange};
+use prefix6::Prefix;
+use std::fmt::{self, Display};
+use std::io::Write;
+
+/// A hop, written `direct` or `via ADDR iface I`.
+#[derive(Clone, Copy)]
+struct HopText(Hop);
+
+impl Display for HopText {
+    ghost output = { λ h. Some (hop_text h.0) };
+
+    fn fmt<W: fmt::Write>(&self, f: &mut fmt::Formatter<W>) -> fmt::Result {
+        match self.0 {
+            Hop::Direct => write!(f, "direct"),
+            Hop::Via { iface, next_hop } => write!(f, "via {next_hop} iface {iface}"),
+        }
+    }
+}
+
+/// An entry of a forwarding table, written `PREFIX metric M direct` or `PREFIX metric M via ADDR iface I`.
+#[derive(Clone, Copy, Debug, PartialEq, Eq)]
+pub struct RouteLine {
+    pub prefix: Prefix,
+    pub hop: Hop,
+    pub metric: u8,
+}
+
+impl Display for RouteLine {
+    ghost output = { λ r. Some (route_text r.prefix r.hop r.metric) };
+
+    fn fmt<W: fmt::Write>(&self, f: &mut fmt::Formatter<W>) -> fmt::Result {
+        let RouteLine {
+            prefix,
+            hop,
+            metric,
+        } = *self;
+        write!(f, "{prefix} metric {metric} {}", HopText(hop))
+    }
+}
+
+/// A change of a route, written `add` and the entry, or `del PREFIX`.
+#[derive(Clone, Copy)]
+struct ChangeLine(RouteChange);
+
+impl Display for ChangeLine {
+    ghost output = { λ c. Some (change_text c.0) };
+
+    fn fmt<W: fmt::Write>(&self, f: &mut fmt::Formatter<W>) -> fmt::Result {
+        match self.0 {
+            RouteChange::Install {
+                prefix,
+                hop,
+                metric,
+            } => {
+                let route = RouteLine {
+                    prefix,
+                    hop,
+                    metric,
+                };
+                write!(f, "add {route}")
+            }
+            RouteChange::Withdraw { prefix } => write!(f, "del {prefix}"),
+        }
+    }
+}
+
+/// Writes a line for each change unless the log has failed, and says whether it has failed now. No line is written after
+/// a write that failed.
+pub(crate) fn write_lines<W: Write>(log: &mut W, changes: &[RouteChange], failed: bool) -> bool
+    ensures ended { failed ≡ true → (result ≡ true) × (log.new ≡ log.old) }
+    ensures lines { result ≡ false → Appends (W.contents log.old) (W.contents log.new) (log_of changes.now) }
+{
+    if failed {
+        return true;
+    }
+    for change in changes {
+        if writeln!(log, "{}", ChangeLine(*change)).is_err() {
+            return true;
+        }
+    }
+    false
+}

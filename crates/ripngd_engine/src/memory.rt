@@ -1,0 +1,278 @@
+//! Doubles for tests: a link, a clock, a random source and a log over memory, which follow a script, fail where they are
+//! told to, and tell their calls.
+
+ghost use Rattle.std.specs.Prelude.{◌≡◌, ◌∷◌, [], map, false, Some, IfOk, OnErr, option_map};
+ghost use Rattle.rand_core.specs.Steps.{stream_of, steps_u32};
+ghost use Rattle.ripngd_engine.specs.Link.{Handed};
+ghost use Rattle.ripngd_engine.specs.Memory.{call_of, told};
+ghost use Rattle.ripngd_engine.specs.Telling.{Gains};
+
+use crate::clock::TimeSource;
+use crate::link::{Link, LinkFault, Received};
+use prefix6::Addr6;
+use rand_core::utils::NextWord;
+use rand_core::{Rng, utils};
+use route_table::Moment;
+use router_core::{Listed, Outgoing};
+use std::alloc::{AllocError, Global};
+use std::collections::VecDeque;
+use std::io::{self, Write};
+
+/// A datagram that a link is to give.
+#[derive(Drop)]
+pub struct Datagram {
+    pub iface: usize,
+    pub source: Addr6,
+    pub source_port: u16,
+    pub hop_limit: u8,
+    pub to_group: bool,
+    pub bytes: Vec<u8>,
+}
+
+/// A call of a link.
+#[derive(Drop)]
+pub enum LinkCall {
+    /// A `recv` that gave a datagram.
+    Gave(Datagram),
+    /// A `recv` that gave none.
+    Silent,
+    RecvFailed,
+    /// A `send` of a datagram, and whether it went out.
+    Handed(Outgoing, bool),
+}
+
+/// A link that gives scripted datagrams and keeps its calls.
+#[derive(Drop)]
+pub struct MemoryLink {
+    pub interfaces: usize,
+    /// What each `recv` gives that does not fail, in order; those past them give none. So does one whose datagram names
+    /// no interface, or does not fit the buffer.
+    pub coming: VecDeque<Option<Datagram>>,
+    /// Which `recv` fails, counted from 0.
+    pub failing_recv: Option<u64>,
+    /// Which `send` fails, counted from 0.
+    pub failing_send: Option<u64>,
+    calls: Vec<LinkCall>,
+    telling: bool,
+    recvs: u64,
+    sends: u64,
+    alloc: Global,
+}
+
+/// The call that a `send` was.
+fn handed(alloc: Global, outgoing: &Outgoing, went: bool) -> Result<LinkCall, AllocError>
+    ensures { IfOk result (λ call. call_of call ≡ Handed outgoing.now went) }
+{
+    let copy = Outgoing {
+        iface: outgoing.iface,
+        to: outgoing.to,
+        bytes: Listed::from_vec(Vec::from_slice(alloc, outgoing.bytes.as_slice())?),
+    };
+    Ok(LinkCall::Handed(copy, went))
+}
+
+impl MemoryLink {
+    /// A link on which nothing comes and nothing fails.
+    pub fn new(alloc: Global, interfaces: usize) -> MemoryLink
+        ensures interfaces { result.interfaces ≡ interfaces }
+        ensures no_call { ⟦<MemoryLink as Link>⟧.calls result ≡ Some [] }
+    {
+        MemoryLink {
+            interfaces,
+            coming: VecDeque::new(alloc),
+            failing_recv: None,
+            failing_send: None,
+            calls: Vec::new(alloc),
+            telling: true,
+            recvs: 0,
+            sends: 0,
+            alloc,
+        }
+    }
+
+    /// Its calls so far. `None` if memory to keep one was refused.
+    pub fn calls(&self) -> Option<&[LinkCall]>
+        ensures { ⟦<MemoryLink as Link>⟧.calls self.now ≡ option_map (λ calls. map call_of calls.now) result }
+    {
+        if self.telling {
+            Some(self.calls.as_slice())
+        } else {
+            None
+        }
+    }
+
+    /// Keeps a call.
+    fn keep(&mut self, call: Result<LinkCall, AllocError>)
+        ensures told { IfOk call (λ it. Gains (told self.old.telling (map call_of self.old.calls.items))
+            (told self.new.telling (map call_of self.new.calls.items)) (call_of it ∷ [])) }
+        ensures lost { OnErr call (self.new.telling ≡ false) }
+        ensures same { self.new.interfaces ≡ self.old.interfaces }
+    {
+        match call {
+            Ok(call) => {
+                if self.calls.push(call).is_err() {
+                    self.telling = false;
+                }
+            }
+            Err(_) => self.telling = false,
+        }
+    }
+}
+
+impl Link for MemoryLink {
+    ghost calls = { λ m. told m.telling (map call_of m.calls.items) };
+
+    ghost interface_count = { λ m. m.interfaces };
+
+    fn interfaces(&self) -> usize {
+        self.interfaces
+    }
+
+    fn recv(&mut self, buffer: &mut [u8]) -> Result<Option<Received>, LinkFault> {
+        let number = self.recvs;
+        self.recvs = number.saturating_add(1);
+        if self.failing_recv == Some(number) {
+            self.keep(Ok(LinkCall::RecvFailed));
+            return Err(LinkFault);
+        }
+        let Some(Some(datagram)) = self.coming.pop_front() else {
+            self.keep(Ok(LinkCall::Silent));
+            return Ok(None);
+        };
+        let len = datagram.bytes.len();
+        if datagram.iface >= self.interfaces || len > buffer.len() {
+            self.keep(Ok(LinkCall::Silent));
+            return Ok(None);
+        }
+        buffer[..len].copy_from_slice(datagram.bytes.as_slice());
+        let received = Received {
+            iface: datagram.iface,
+            source: datagram.source,
+            source_port: datagram.source_port,
+            hop_limit: datagram.hop_limit,
+            to_group: datagram.to_group,
+            len,
+        };
+        self.keep(Ok(LinkCall::Gave(datagram)));
+        Ok(Some(received))
+    }
+
+    fn send(&mut self, outgoing: &Outgoing) -> Result<(), LinkFault> {
+        let number = self.sends;
+        self.sends = number.saturating_add(1);
+        let went = self.failing_send != Some(number);
+        let call = handed(self.alloc, outgoing, went);
+        self.keep(call);
+        if went { Ok(()) } else { Err(LinkFault) }
+    }
+}
+
+/// A clock that gives scripted moments, and then the last of them for ever.
+#[derive(Drop)]
+pub struct MemoryClock {
+    coming: VecDeque<Moment>,
+    last: Moment,
+    given: Vec<Moment>,
+    telling: bool,
+}
+
+impl MemoryClock {
+    /// A clock that gives these moments, and then the last one for ever.
+    pub fn new(alloc: Global, coming: VecDeque<Moment>, last: Moment) -> MemoryClock
+        ensures { ⟦<MemoryClock as TimeSource>⟧.moments result ≡ Some [] }
+    {
+        MemoryClock {
+            coming,
+            last,
+            given: Vec::new(alloc),
+            telling: true,
+        }
+    }
+}
+
+impl TimeSource for MemoryClock {
+    ghost moments = { λ c. told c.telling c.given.items };
+
+    fn now(&mut self) -> Moment {
+        let now = self.coming.pop_front().unwrap_or(self.last);
+        if self.given.push(now).is_err() {
+            self.telling = false;
+        }
+        now
+    }
+}
+
+/// A source that gives one word over and over.
+#[derive(Clone, Copy, Debug, PartialEq, Eq)]
+pub struct SameWord(pub u32);
+
+impl NextWord<u32> for SameWord {
+    ghost step = { λ s. (s.0, s) };
+
+    fn next_word(&mut self) -> u32 {
+        self.0
+    }
+}
+
+impl Rng for SameWord {
+    ghost stream = { stream_of (steps_u32 (λ s. (s.0, s))) };
+
+    fn next_u32(&mut self) -> u32 {
+        self.next_word()
+    }
+
+    fn next_u64(&mut self) -> u64 {
+        utils::next_u64_via_u32(self)
+    }
+
+    fn fill_bytes(&mut self, dst: &mut [u8]) {
+        utils::fill_bytes_via_u32(self, dst)
+    }
+}
+
+/// A log over memory.
+#[derive(Drop)]
+pub struct MemoryLog {
+    /// Which write fails, counted from 0.
+    pub failing_write: Option<u64>,
+    /// How often it was written, failed or not.
+    pub writes: u64,
+    text: Vec<u8>,
+}
+
+impl MemoryLog {
+    /// An empty log of which no write fails.
+    pub fn new(alloc: Global) -> MemoryLog
+        ensures { ⟦<MemoryLog as Write>⟧.contents result ≡ Some [] }
+    {
+        MemoryLog {
+            failing_write: None,
+            writes: 0,
+            text: Vec::new(alloc),
+        }
+    }
+
+    /// What was written.
+    pub fn text(&self) -> &[u8]
+        ensures { ⟦<MemoryLog as Write>⟧.contents self.now ≡ Some result.now }
+    {
+        self.text.as_slice()
+    }
+}
+
+impl Write for MemoryLog {
+    ghost contents = { λ m. Some m.text.items };
+
+    fn write(&mut self, buf: &[u8]) -> io::Result<usize> {
+        let number = self.writes;
+        self.writes = number.saturating_add(1);
+        if self.failing_write == Some(number) {
+            return Err(io::Error::from(io::ErrorKind::Other));
+        }
+        self.text.write(buf)
+    }
+
+    fn flush(&mut self) -> io::Result<()> {
+        Ok(())
+    }
+}

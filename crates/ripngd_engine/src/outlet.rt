@@ -1,0 +1,70 @@
+//! Where the answers of a router go: datagrams to a link, changes to a forwarding table and a log.
+
+ghost use Rattle.std.specs.Prelude.{◌≡◌, is_err};
+ghost use Rattle.ripngd_engine.specs.Run.{counted};
+ghost use Rattle.ripngd_engine.specs.Outlet.{HandsOver};
+
+use crate::link::Link;
+use crate::log::write_lines;
+use fib::Fib;
+use router_core::{Answer, Outgoing};
+use std::alloc::AllocError;
+use std::io::Write;
+
+/// What the answers of a router are carried out on, but for the log.
+#[derive(Drop)]
+pub(crate) struct Outlet<L: Link> {
+    pub(crate) link: L,
+    pub(crate) fib: Fib,
+    pub(crate) lost_sends: u64,
+    pub(crate) log_failed: bool,
+    /// Whether memory for the forwarding table was refused.
+    pub(crate) ended: bool,
+}
+
+/// The count after one more, which stays at the greatest.
+pub(crate) fn one_more(count: u64) -> u64
+    ensures { result ≡ counted count 1 }
+{
+    count.saturating_add(1)
+}
+
+/// Hands each datagram to the link, once and in order, and answers the count of those that failed.
+fn hand_over<L: Link>(link: &mut L, sends: &[Outgoing], lost: u64) -> u64
+    ensures hands { HandsOver (L.calls link.old) (L.calls link.new) sends.now lost result }
+    ensures same { L.interface_count link.new ≡ L.interface_count link.old }
+{
+    let mut total = lost;
+    for outgoing in sends {
+        let failed = link.send(outgoing).is_err();
+        if failed {
+            total = one_more(total);
+        }
+    }
+    total
+}
+
+impl<L: Link> Outlet<L> {
+    ghost use Rattle.ripngd_engine.specs.Outlet.{outlet_seen, CarriesOut};
+
+    /// Hands over the datagrams of an answer, follows its changes and writes their lines, in this order.
+    ///
+    /// # Errors
+    /// Where memory for the forwarding table is refused; it is then as it was. All else is done all the same.
+    pub(crate) fn carry_out<W: Write>(
+        &mut self,
+        answer: Answer,
+        log: &mut W,
+    ) -> Result<(), AllocError>
+        ensures carries { CarriesOut (outlet_seen L.calls W.contents self.old log.old) answer
+            (outlet_seen L.calls W.contents self.new log.new) }
+        ensures ended { self.new.ended ≡ is_err result }
+        ensures same { L.interface_count self.new.link ≡ L.interface_count self.old.link }
+    {
+        self.lost_sends = hand_over(&mut self.link, answer.sends.as_slice(), self.lost_sends);
+        let followed = self.fib.apply(answer.changes.as_slice());
+        self.log_failed = write_lines(log, answer.changes.as_slice(), self.log_failed);
+        self.ended = followed.is_err();
+        followed
+    }
+}

@@ -1,0 +1,157 @@
+//! A router that runs: the steps of one turn.
+
+ghost use Rattle.std.specs.Prelude.{◌≡◌, ◌<◌, ◌≤◌, [], ◌∷◌, false, IfOk, IfSome, is_err, length, vec_len};
+ghost use Rattle.ripngd_engine.specs.Telling.{Gains};
+ghost use Rattle.ripngd_engine.specs.Link.{recv_call, datagram_in};
+ghost use Rattle.ripngd_engine.specs.Run.{Takes, TicksOnce};
+ghost use Rattle.ripngd_engine.specs.Seen.{Acts};
+ghost use Rattle.std.specs.Coded.{Coded-set, →_prop};
+ghost use Rattle.fib.specs.contracts.fib.Fib as forwarding;
+ghost use Rattle.router_core.specs.Changes.{forwards};
+ghost use Rattle.ripngd_engine.specs.declared.running.TurnFault.TheVariants.{NoLink, NoMemory};
+
+use crate::clock::TimeSource;
+use crate::link::{Link, LinkFault, Received};
+use crate::outlet::{Outlet, one_more};
+use rand_core::Rng;
+use route_table::RouteStore;
+use router_core::{Arrival, Router};
+use std::alloc::AllocError;
+use std::io::Write;
+
+/// Why a turn was cut short.
+#[derive(Clone, Copy, Debug, PartialEq, Eq)]
+pub(crate) enum TurnFault {
+    /// The link could not be read.
+    NoLink,
+    /// Memory for the forwarding table was refused.
+    NoMemory,
+}
+
+impl From<LinkFault> for TurnFault {
+    ghost from_gives = { λ _ fault. fault ≡ NoLink };
+
+    fn from(_: LinkFault) -> TurnFault {
+        TurnFault::NoLink
+    }
+}
+
+impl From<AllocError> for TurnFault {
+    ghost from_gives = { λ _ fault. fault ≡ NoMemory };
+
+    fn from(_: AllocError) -> TurnFault {
+        TurnFault::NoMemory
+    }
+}
+
+/// A router with what its answers are carried out on, and the clock and the random source that it runs by.
+#[derive(Drop)]
+pub(crate) struct Running<S: RouteStore, L: Link, C: TimeSource, R: Rng + Drop> {
+    pub(crate) router: Router<S>,
+    pub(crate) outlet: Outlet<L>,
+    pub(crate) clock: C,
+    pub(crate) rng: R,
+    pub(crate) lost_memory: u64,
+    ghost same_interfaces: { L.interface_count outlet.link ≡ length router.config.interfaces },
+    ghost fib_follows: { outlet.ended ≡ false → outlet.fib ≡ forwards router.table } by { →_prop (Coded-set forwarding.the_row.coded outlet.fib (forwards router.table)) },
+}
+
+/// One `recv` into the buffer.
+fn listen<L: Link>(link: &mut L, buffer: &mut Vec<u8>) -> Result<Option<Received>, LinkFault>
+    ensures told { Gains (L.calls link.old) (L.calls link.new) (recv_call result buffer.new.items ∷ []) }
+    ensures interface { IfOk result (λ o. IfSome o (λ r. r.iface < L.interface_count link.old)) }
+    ensures within { IfOk result (λ o. IfSome o (λ r. r.len ≤ vec_len buffer.new)) }
+    ensures same { L.interface_count link.new ≡ L.interface_count link.old }
+{
+    link.recv(buffer.as_mut_slice())
+}
+
+impl<S: RouteStore, L: Link, C: TimeSource, R: Rng + Drop> Running<S, L, C, R> {
+    ghost use Rattle.ripngd_engine.specs.Running.{running_seen, TakesReceived, TurnAnswers};
+
+    /// A tick at the moment that the clock gives, with the next word of the source.
+    fn tick<W: Write>(&mut self, log: &mut W) -> Result<(), AllocError>
+        requires { self.old.outlet.ended ≡ false }
+        ensures acts { Acts TicksOnce (running_seen L.calls C.moments R.stream W.contents self.old log.old)
+            (running_seen L.calls C.moments R.stream W.contents self.new log.new) }
+        ensures ended { self.new.outlet.ended ≡ is_err result }
+    {
+        let now = self.clock.now();
+        let word = self.rng.next_u32();
+        match self.router.tick(now, word) {
+            Ok(answer) => self.outlet.carry_out(answer, log),
+            Err(_) => {
+                self.lost_memory = one_more(self.lost_memory);
+                Ok(())
+            }
+        }
+    }
+
+    /// The arrival of a datagram, at the moment that the clock gives.
+    fn arrive<W: Write>(
+        &mut self,
+        received: Received,
+        buffer: &[u8],
+        log: &mut W,
+    ) -> Result<(), AllocError>
+        requires ended { self.old.outlet.ended ≡ false }
+        requires interface { received.iface < length self.old.router.config.interfaces }
+        requires within { received.len ≤ length buffer.now }
+        ensures acts { Acts (Takes (datagram_in received buffer.now)) (running_seen L.calls C.moments R.stream W.contents self.old log.old)
+            (running_seen L.calls C.moments R.stream W.contents self.new log.new) }
+        ensures ended { self.new.outlet.ended ≡ is_err result }
+    {
+        let arrival = Arrival {
+            now: self.clock.now(),
+            iface: received.iface,
+            source: received.source,
+            source_port: received.source_port,
+            hop_limit: received.hop_limit,
+            to_group: received.to_group,
+            bytes: &buffer[..received.len],
+        };
+        match self.router.arrive(arrival) {
+            Ok(answer) => self.outlet.carry_out(answer, log),
+            Err(_) => {
+                self.lost_memory = one_more(self.lost_memory);
+                Ok(())
+            }
+        }
+    }
+
+    /// An arrival, if a datagram came.
+    fn take_in<W: Write>(
+        &mut self,
+        received: Option<Received>,
+        buffer: &[u8],
+        log: &mut W,
+    ) -> Result<(), AllocError>
+        requires ended { self.old.outlet.ended ≡ false }
+        requires interface { IfSome received (λ r. r.iface < length self.old.router.config.interfaces) }
+        requires within { IfSome received (λ r. r.len ≤ length buffer.now) }
+        ensures acts { Acts (TakesReceived received buffer.now) (running_seen L.calls C.moments R.stream W.contents self.old log.old)
+            (running_seen L.calls C.moments R.stream W.contents self.new log.new) }
+        ensures ended { self.new.outlet.ended ≡ is_err result }
+    {
+        match received {
+            None => Ok(()),
+            Some(received) => self.arrive(received, buffer, log),
+        }
+    }
+
+    /// One `recv` into the buffer, an arrival if it gave a datagram, and then a tick.
+    pub(crate) fn turn<W: Write>(
+        &mut self,
+        buffer: &mut Vec<u8>,
+        log: &mut W,
+    ) -> Result<(), TurnFault>
+        requires { self.old.outlet.ended ≡ false }
+        ensures { TurnAnswers (running_seen L.calls C.moments R.stream W.contents self.old log.old) result
+            (running_seen L.calls C.moments R.stream W.contents self.new log.new) }
+    {
+        let received = listen(&mut self.outlet.link, buffer)?;
+        self.take_in(received, buffer.as_slice(), log)?;
+        self.tick(log)?;
+        Ok(())
+    }
+}
