@@ -91,6 +91,13 @@ impl<S: RouteStore> Lab<S> {
         })
     }
 
+    /// How many routers the network has.
+    pub fn routers(&self) -> usize
+        ensures { result ≡ length self.now.network }
+    {
+        self.stations.len()
+    }
+
     /// A router of the network, if it has one of that number. Each of its routes below 16 hops is backed by a walk, and so
     /// is not below the least cost.
     pub fn router(&self, router: usize) -> Option<&Router<S>>
