@@ -1,16 +1,21 @@
-# make            proves and builds the program, and leaves it at bin/ripngd
-# make show HEX=  decodes one datagram, given as hexadecimal digits
-# make test       the merge gate: every proof from nothing, the edits that must fail, tests and programs
-# make clean      forgets what earlier runs kept
+# make              proves and builds the program, and leaves it at bin/ripngd
+# make lab SCRIPT=  runs a network of routers from a script
+# make show HEX=    decodes one datagram, given as hexadecimal digits
+# make test         the merge gate: every proof from nothing, the edits that must fail, tests and programs
+# make clean        forgets what earlier runs kept
 
 HEX ?= 02010000
+SCRIPT ?= examples/line.lab
 
-.PHONY: all show test clean
+.PHONY: all lab show test clean
 
 all:
 	cd crates/ripngd_program && rt run -- show 02010000 > /dev/null
 	mkdir -p bin
 	cp crates/ripngd_program/out/ripngd_program bin/ripngd
+
+lab: all
+	bin/ripngd lab $(SCRIPT)
 
 show: all
 	bin/ripngd show $(HEX)

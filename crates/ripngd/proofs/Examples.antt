@@ -2,7 +2,7 @@
 use Rattle.std.proofs.Common.{◌≡◌, true, [], ◌∷◌, refl, codes}
 use Rattle.clap.specs.Faults.{fault_of}
 use Rattle.clap.specs.Takes.{takes}
-use Rattle.clap.specs.declared.error.kind.ErrorKind.TheVariants.{DisplayHelp, MissingRequiredArgument, UnknownArgument}
+use Rattle.clap.specs.declared.error.kind.ErrorKind.TheVariants.{DisplayHelp, MissingRequiredArgument, UnknownArgument, ValueValidation}
 use Rattle.clap.proofs.OnLiterals.{clap_on_literals}
 use Rattle.ripngd.specs.CommandLine.{ripngd}
 
@@ -35,3 +35,18 @@ hex_is_missing = refl
 help_is_asked : fault_of ripngd (codes "ripngd" ∷ codes "--help" ∷ []) ≡ DisplayHelp ∷ []
 unfolding clap_on_literals
 help_is_asked = refl
+
+-- `run -qt7 -R log --turns=3 c`: short options in one word, a long one with its value
+run_is_taken : takes ripngd (codes "ripngd" ∷ codes "run" ∷ codes "-qt7" ∷ codes "-R" ∷ codes "log" ∷ codes "--turns=3" ∷ codes "c" ∷ []) ≡ true
+unfolding clap_on_literals
+run_is_taken = refl
+
+-- `run --turns 0 c`
+turns_are_some : fault_of ripngd (codes "ripngd" ∷ codes "run" ∷ codes "--turns" ∷ codes "0" ∷ codes "c" ∷ []) ≡ ValueValidation ∷ []
+unfolding clap_on_literals
+turns_are_some = refl
+
+-- `run -t 65536 c`
+tag_has_two_bytes : fault_of ripngd (codes "ripngd" ∷ codes "run" ∷ codes "-t" ∷ codes "65536" ∷ codes "c" ∷ []) ≡ ValueValidation ∷ []
+unfolding clap_on_literals
+tag_has_two_bytes = refl

@@ -1,9 +1,11 @@
--- The command line of ripngd: its subcommands, with their arguments.
-use Rattle.std.specs.Prelude.{◌≡◌, false, codes, true}
+-- The command line of ripngd: its subcommands, with their options and arguments.
+use Rattle.std.specs.Prelude.{◌≡◌, false, [], ◌∷◌, Some, codes, pos, true}
 use Rattle.clap.specs.Walk.{Rule, Text, rule_of}
 use Rattle.clap.specs.declared.builder.arg.Arg.{Arg}
 use Rattle.clap.specs.declared.builder.command.Command.{Command}
 use Rattle.clap.specs.declared.builder.command.Command.TheViews.{out-Command}
+use Rattle.clap.specs.declared.builder.action.ArgAction.TheVariants.{SetTrue}
+use Rattle.clap.specs.declared.builder.value_parser.ValueParser.TheVariants as parsers
 use Rattle.clap.specs.Simple.{App, app_of, new_app, new_rule, on_top, with_rule, with_subcommand}
 
 -- the argument is one of this rule, at its own command alone
@@ -20,6 +22,32 @@ pub record IsCommand (command : Command) (app : App) : Type 0 where
 abbrev pub positional : Text → Rule
 positional id = record (new_rule id) { required = true }
 
+-- `-q`
+abbrev pub quiet_option : Rule
+quiet_option = record (new_rule (codes "quiet")) { short = Some 113; action = Some SetTrue }
+
+-- `-t TAG`, from 0 to 65,535; 0 if it is not given
+abbrev pub tag_option : Rule
+tag_option = record (new_rule (codes "tag")) {
+  short = Some 116;
+  value_names = 1;
+  parser = Some (parsers.Signed (pos 0) (pos 65535));
+  defaults = codes "0" ∷ [];
+}
+
+-- `-R FILE`
+abbrev pub log_option : Rule
+log_option = record (new_rule (codes "log")) { short = Some 82; value_names = 1 }
+
+-- `--turns N`, from 1 to 4,294,967,295, and that if it is not given
+abbrev pub turns_option : Rule
+turns_option = record (new_rule (codes "turns")) {
+  long = Some (codes "turns");
+  value_names = 1;
+  parser = Some (parsers.Signed (pos 1) (pos 4294967295));
+  defaults = codes "4294967295" ∷ [];
+}
+
 -- a subcommand with one argument
 abbrev pub one_argument : Text → Text → App
 one_argument name id = with_rule (new_app name) (positional id)
@@ -28,7 +56,17 @@ one_argument name id = with_rule (new_app name) (positional id)
 abbrev pub subcommand_required : App → App
 subcommand_required a = on_top (λ s. record s { subcommand_required = true }) a
 
--- `ripngd show HEX`
+-- `run [-q] [-t TAG] [-R FILE] [--turns N] CONFIG`
+abbrev pub run_command : App
+run_command =
+    with_rule (with_rule (with_rule (with_rule (with_rule (new_app (codes "run"))
+    quiet_option) tag_option) log_option) turns_option) (positional (codes "CONFIG"))
+
+-- `ripngd` with `show HEX`, `check CONFIG`, `lab SCRIPT` or `run`
 abbrev pub ripngd : App
-ripngd = with_subcommand (subcommand_required (new_app (codes "ripngd")))
-    (one_argument (codes "show") (codes "HEX")).top
+ripngd = with_subcommand (with_subcommand (with_subcommand (with_subcommand
+    (subcommand_required (new_app (codes "ripngd")))
+    (one_argument (codes "show") (codes "HEX")).top)
+    (one_argument (codes "check") (codes "CONFIG")).top)
+    (one_argument (codes "lab") (codes "SCRIPT")).top)
+    run_command.top

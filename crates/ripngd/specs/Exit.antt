@@ -9,19 +9,19 @@ use Rattle.ripngd.specs.declared.asked.Ask.{Ask}
 use Rattle.ripngd.specs.declared.asked.Ask.TheVariants as asks
 use Rattle.ripngd.specs.declared.showing.ShowFault.{ShowFault}
 use Rattle.ripngd.specs.declared.showing.ShowFault.TheVariants as faults
-use Rattle.ripngd.specs.declared.status.Failure.{Failure}
-use Rattle.ripngd.specs.declared.status.Failure.TheVariants as failures
+use Rattle.ripngd.specs.declared.failure.Failure.{Failure}
+use Rattle.ripngd.specs.declared.failure.Failure.TheVariants as failures
 use Rattle.ripngd.specs.Asked.{Asks}
 use Rattle.ripngd.specs.CommandLine.{ripngd}
 use Rattle.ripngd.specs.Shown.{IsShown}
 
--- the text that answers what is asked, and whether it was accepted
-abbrev pub IsAnswer : Ask → Bool → List ℕ → Type 0
-IsAnswer (asks.Show hex) accepted text = IsShown hex.now accepted text
-
--- the bytes of a writer grew by the answer to what is asked
+-- the bytes of a writer grew by the answer to what is asked: by the lines of a datagram. What the other subcommands
+-- print is not said here
 abbrev pub AnswersAsk : Ask → Bool → Option (List ℕ) → Option (List ℕ) → Type 0
-AnswersAsk ask accepted old new = (text : List ℕ) × IsAnswer ask accepted text × Appends old new text
+AnswersAsk (asks.Show hex) accepted old new = (text : List ℕ) × IsShown hex.now accepted text × Appends old new text
+AnswersAsk (asks.Check file) accepted old new = Unit {0}
+AnswersAsk (asks.Lab file) accepted old new = Unit {0}
+AnswersAsk (asks.Run order) accepted old new = Unit {0}
 
 -- the bytes of a writer grew by the answer to what the words ask
 abbrev pub AnswersWords : List Text → Bool → Option (List ℕ) → Option (List ℕ) → Type 0
@@ -38,4 +38,4 @@ HasFault words = fault_of ripngd words ≢ []
 -- what a fault of `show` is to the program
 abbrev pub failure_of : ShowFault → Failure
 failure_of faults.OutOfMemory = failures.OutOfMemory
-failure_of faults.Write = failures.Write
+failure_of faults.Write = failures.Output

@@ -1,8 +1,29 @@
 //! What a command line asks for.
 
-/// What is asked of the program: a subcommand with its arguments, which are words of the command line.
+/// What is asked of the program: a subcommand with its arguments, whose texts are words of the command line.
 #[derive(Clone, Copy, Debug, PartialEq, Eq)]
 pub enum Ask<'a> {
     /// `show HEX`: the lines of one datagram, which is given as hexadecimal digits.
     Show(&'a str),
+    /// `check CONFIG`: whether a file is a configuration.
+    Check(&'a str),
+    /// `lab SCRIPT`: what a file's script prints.
+    Lab(&'a str),
+    /// `run [-q] [-t TAG] [-R FILE] [--turns N] CONFIG`: one router that runs.
+    Run(Order<'a>),
+}
+
+/// How a router is to run.
+#[derive(Clone, Copy, Debug, PartialEq, Eq)]
+pub struct Order<'a> {
+    /// Whether it sends no Requests and no updates, and answers no router.
+    pub quiet: bool,
+    /// The route tag of each owned prefix that the configuration gives none.
+    pub tag: u16,
+    /// The file that gets a line for each change of a route.
+    pub log: Option<&'a str>,
+    /// How many turns it makes, at least 1.
+    pub turns: u32,
+    /// The file of its configuration.
+    pub config: &'a str,
 }

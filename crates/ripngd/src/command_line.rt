@@ -1,18 +1,18 @@
 //! The command line: the subcommands of `ripngd` with their arguments, and what words ask of it.
 
-ghost use Rattle.std.specs.Prelude.{◌≡◌, IfErr, IfOk, IfSome, List, Some, map, option_map, true};
+ghost use Rattle.std.specs.Prelude.{◌≡◌, ◌≤◌, ◌↔◌, IfErr, IfOk, IfSome, IsTrue, List, Some, codes, map, option_map, true};
 ghost use Rattle.clap.specs.Faults.{fault_of};
 ghost use Rattle.clap.specs.Kinds.{FailsBy};
 ghost use Rattle.clap.specs.Simple.{subcommand_of};
 ghost use Rattle.clap.specs.Takes.{takes};
 ghost use Rattle.clap.specs.Walk.{Row, Text, first_of, rows_of};
 ghost use Rattle.clap.specs.Words.{found_of, kind_of, subcommand_rows_of};
-ghost use Rattle.ripngd.specs.Asked.{Asks, IsAsked};
-ghost use Rattle.ripngd.specs.CommandLine.{IsArg, IsCommand, one_argument, positional, ripngd};
+ghost use Rattle.ripngd.specs.Asked.{Asks, IsAsked, IsNumber, IsSet};
+ghost use Rattle.ripngd.specs.CommandLine.{IsArg, IsCommand, log_option, one_argument, positional, quiet_option, ripngd, run_command, tag_option, turns_option};
 
-use crate::asked::Ask;
+use crate::asked::{Ask, Order};
 use clap::error::ErrorKind;
-use clap::{Arg, ArgMatches, Command, Error};
+use clap::{Arg, ArgAction, ArgMatches, Command, Error, value_parser};
 use std::alloc::{AllocError, Global};
 
 /// An argument that has to be given, by its place.
@@ -20,6 +20,49 @@ fn required<'a>(alloc: Global, id: &'a str) -> Arg<'a>
     ensures { IsArg result (positional id.entry.now) }
 {
     Arg::new(alloc, id).required(true)
+}
+
+/// `-q`: the router sends nothing of its own accord.
+fn quiet<'a>(alloc: Global) -> Arg<'a>
+    ensures { IsArg result quiet_option }
+{
+    Arg::new(alloc, "quiet")
+        .short('q')
+        .action(ArgAction::SetTrue)
+        .help("Send no Requests and no updates, and answer no router")
+}
+
+/// `-t TAG`, from 0 to 65,535.
+fn tag<'a>(alloc: Global) -> Arg<'a>
+    ensures { IsArg result tag_option }
+{
+    Arg::new(alloc, "tag")
+        .short('t')
+        .value_name("TAG")
+        .value_parser(value_parser!(u16))
+        .default_value("0")
+        .help("The route tag of each owned prefix that CONFIG gives none")
+}
+
+/// `-R FILE`.
+fn log<'a>(alloc: Global) -> Arg<'a>
+    ensures { IsArg result log_option }
+{
+    Arg::new(alloc, "log").short('R').value_name("FILE").help(
+        "Write a line to FILE at each change of a route; what FILE held is lost",
+    )
+}
+
+/// `--turns N`, from 1 to 4,294,967,295.
+fn turns<'a>(alloc: Global) -> Arg<'a>
+    ensures { IsArg result turns_option }
+{
+    Arg::new(alloc, "turns")
+        .long("turns")
+        .value_name("N")
+        .value_parser(value_parser!(u32).range(1..))
+        .default_value("4294967295")
+        .help("End after N turns, and print the forwarding table")
 }
 
 /// A subcommand with one argument.
@@ -36,14 +79,45 @@ fn with_one<'a>(
         .arg(required(alloc, id))
 }
 
+/// `run [-q] [-t TAG] [-R FILE] [--turns N] CONFIG`.
+fn run<'a>(alloc: Global) -> Result<Command<'a>, AllocError>
+    ensures { IfOk result (λ c. IsCommand c run_command) }
+{
+    Command::new(alloc, "run")
+        .about("Run one router over UDP on loopback")
+        .arg(quiet(alloc))?
+        .arg(tag(alloc))?
+        .arg(log(alloc))?
+        .arg(turns(alloc))?
+        .arg(required(alloc, "CONFIG"))
+}
+
 /// The command that the program's words are given to.
 fn command<'a>(alloc: Global) -> Result<Command<'a>, AllocError>
     ensures { IfOk result (λ c. IsCommand c ripngd) }
 {
     Command::new(alloc, "ripngd")
-        .about("A router for RIPng")
+        .about("A router for RIPng, the distance vector protocol of IPv6 (RFC 2080)")
         .subcommand_required(true)
-        .subcommand(with_one(alloc, "show", "Decodes one datagram", "HEX")?)
+        .subcommand(with_one(
+            alloc,
+            "show",
+            "Decode one datagram, given as hexadecimal digits",
+            "HEX",
+        )?)?
+        .subcommand(with_one(
+            alloc,
+            "check",
+            "Read a configuration, and say whether a router can run on it",
+            "CONFIG",
+        )?)?
+        .subcommand(with_one(
+            alloc,
+            "lab",
+            "Run the network of routers that a script describes",
+            "SCRIPT",
+        )?)?
+        .subcommand(run(alloc)?)
 }
 
 /// Reads a command line, whose first word is the program's name.
@@ -90,8 +164,24 @@ fn asked_of<'a>(name: &'a str, matches: &ArgMatches<'a>) -> Option<Ask<'a>>
 {
     match name {
         "show" => Some(Ask::Show(text(matches, "HEX")?)),
+        "check" => Some(Ask::Check(text(matches, "CONFIG")?)),
+        "lab" => Some(Ask::Lab(text(matches, "SCRIPT")?)),
+        "run" => run_asked(matches),
         _ => None,
     }
+}
+
+/// A run, with what was found for its options.
+fn run_asked<'a>(matches: &ArgMatches<'a>) -> Option<Ask<'a>>
+    ensures { IfSome result (λ a. IsAsked a (codes "run") (rows_of (found_of matches.now))) }
+{
+    Some(Ask::Run(Order {
+        quiet: is_set(matches, "quiet"),
+        tag: tag_given(matches)?,
+        log: text(matches, "log"),
+        turns: turns_given(matches)?,
+        config: text(matches, "CONFIG")?,
+    }))
 }
 
 /// The value of an argument.
@@ -99,4 +189,25 @@ fn text<'a>(matches: &ArgMatches<'a>, id: &str) -> Option<&'a str>
     ensures { option_map (λ s. s.now) result ≡ first_of id.now (rows_of (found_of matches.now)) }
 {
     matches.get_str(id)
+}
+
+/// Whether a flag was given.
+fn is_set(matches: &ArgMatches<'_>, id: &str) -> bool
+    ensures { IsTrue result ↔ IsSet (rows_of (found_of matches.now)) id.now }
+{
+    matches.get_one::<bool>(id).unwrap_or(false)
+}
+
+fn tag_given(matches: &ArgMatches<'_>) -> Option<u16>
+    ensures { IfSome result (IsNumber (rows_of (found_of matches.now)) (codes "tag")) }
+{
+    matches.get_one::<u16>("tag")
+}
+
+fn turns_given(matches: &ArgMatches<'_>) -> Option<u32>
+    ensures number { IfSome result (IsNumber (rows_of (found_of matches.now)) (codes "turns")) }
+    ensures some { IfSome result (λ n. 1 ≤ n) }
+{
+    let turns = matches.get_one::<u32>("turns")?;
+    if turns == 0 { None } else { Some(turns) }
 }

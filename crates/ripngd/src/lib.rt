@@ -1,17 +1,24 @@
-//! What the program `ripngd` does: its command line, its subcommands, and its exit statuses.
+//! What the program `ripngd` does: its command line, its subcommands, and its exit statuses; and the sockets and the clock
+//! that a router runs on.
 #![tactic(auto)]
 
 mod asked;
+mod checking;
 mod clock;
 mod command_line;
+mod failure;
+mod running;
 mod showing;
 mod status;
 mod udp;
 
-pub use asked::Ask;
+pub use asked::{Ask, Order};
+pub use checking::check;
 pub use clock::Uptime;
 pub use command_line::ask;
 pub use ripngd_config::{Config, ConfigFault, Peer, read_config};
+pub use ripngd_engine::{Engine, EngineFault, Link, LinkFault, Received, Report, TimeSource};
+pub use ripngd_lab::lab;
 pub use showing::{ShowFault, show};
 pub use status::program;
 pub use udp::{Udp, UdpError};

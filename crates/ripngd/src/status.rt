@@ -2,21 +2,28 @@
 
 ghost use Rattle.std.specs.Prelude.{◌≡◌, ◌≢◌, ◌⊎◌, ◌≤◌, IfOk, Ok, false, map, true};
 ghost use Rattle.clap.specs.Words.{kind_of};
-ghost use Rattle.ripngd.specs.Exit.{AnswersAsk, AnswersWords, AsksForHelp, HasFault, failure_of};
+ghost use Rattle.ripngd.specs.Exit.{AnswersAsk, AnswersWords, AsksForHelp, HasFault};
 
 use crate::asked::Ask;
+use crate::checking::check;
 use crate::command_line::ask;
-use crate::showing::{ShowFault, show};
+use crate::failure::Failure;
+use crate::running::run;
+use crate::showing::show;
 use clap::error::ErrorKind;
+use ripngd_lab::lab;
+use std::alloc::Global;
+use std::fs;
 use std::io::Write;
-use thiserror::Error;
+use std::net::Net;
+use std::rt::{Clock, Files};
 
 /// The exit status of the program.
 #[derive(Clone, Copy, Debug, PartialEq, Eq)]
 enum Status {
     /// What was asked is done, help among it.
     Done = 0,
-    /// The datagram was refused; standard output says why.
+    /// The datagram, the configuration or a line of the script was refused; standard output says why.
     Refused = 1,
     /// The command line is not one of the program's; standard error says why.
     Usage = 2,
@@ -24,35 +31,16 @@ enum Status {
     Failed = 3,
 }
 
-/// What failed outside the program.
-#[derive(Clone, Copy, Debug, PartialEq, Eq, Error)]
-enum Failure {
-    #[error("cannot write stdout")]
-    Write,
-    #[error("out of memory")]
-    OutOfMemory,
-}
-
-impl From<ShowFault> for Failure {
-    ghost from_gives = { λ fault failure. failure ≡ failure_of fault };
-
-    fn from(fault: ShowFault) -> Failure {
-        match fault {
-            ShowFault::OutOfMemory => Failure::OutOfMemory,
-            ShowFault::Write => Failure::Write,
-        }
-    }
-}
-
 /// Does what the words of a command line ask for, the first of them the program's name, and answers the exit status:
 ///
 /// - 0 where it is done; help that was asked for is written to `out`;
-/// - 1 where the datagram is refused, as a line on `out` says;
+/// - 1 where the datagram, the configuration or a line of the script is refused, as a line on `out` says;
 /// - 2 at a fault of the command line, whose text is written to `err`;
-/// - 3 where something else failed, as a line on `err` says: `ripngd: cannot write stdout` or `ripngd: out of memory`.
+/// - 3 where something else failed, as a line on `err` says: `ripngd: cannot read FILE`, `ripngd: cannot write FILE` (with
+///   `stdout` for `out`), `ripngd: cannot bind PORT`, `ripngd: link fault after N turns` or `ripngd: out of memory`.
 ///
 /// What was written to `out` is flushed before a status of 0 or 1 is answered. A failure of `err` changes no status.
-pub fn program<R: AllocGlobal, O: Write, E: Write>(
+pub fn program<R: AllocGlobal + Files + Clock + Net, O: Write, E: Write>(
     rt: &R,
     words: &[&str],
     out: &mut O,
@@ -74,12 +62,12 @@ pub fn program<R: AllocGlobal, O: Write, E: Write>(
 }
 
 /// Does what the words ask for.
-fn outcome<R: AllocGlobal, O: Write, E: Write>(
+fn outcome<'a, R: AllocGlobal + Files + Clock + Net, O: Write, E: Write>(
     rt: &R,
-    words: &[&str],
+    words: &'a [&'a str],
     out: &mut O,
     err: &mut E,
-) -> Result<Status, Failure>
+) -> Result<Status, Failure<'a>>
     ensures done { result ≡ Ok Status.Done
         → AnswersWords (map (λ w. w.now) words.now) true (O.contents out.old) (O.contents out.new)
         ⊎ AsksForHelp (map (λ w. w.now) words.now) }
@@ -93,17 +81,40 @@ fn outcome<R: AllocGlobal, O: Write, E: Write>(
     }
 }
 
+/// Does what is asked, and answers whether what was given is accepted.
+fn accepts<'a, R: AllocGlobal + Files + Clock + Net, O: Write>(
+    rt: &R,
+    asked: Ask<'a>,
+    out: &mut O,
+) -> Result<bool, Failure<'a>>
+    ensures { IfOk result (λ accepted. AnswersAsk asked.entry accepted (O.contents out.old) (O.contents out.new)) }
+{
+    match asked {
+        Ask::Show(hex) => Ok(show(rt.alloc(), hex, out)?),
+        Ask::Check(file) => Ok(check(rt.alloc(), read(rt, file)?.as_slice(), out)?),
+        Ask::Lab(file) => Ok(lab(rt.alloc(), read(rt, file)?.as_slice(), out)?),
+        Ask::Run(order) => run(rt, order, out),
+    }
+}
+
+/// What a file holds.
+fn read<'a, R: AllocGlobal + Files>(rt: &R, file: &'a str) -> Result<Vec<u8>, Failure<'a>> {
+    fs::read(rt, file).map_err(|_| Failure::Read(file))
+}
+
 /// Does what is asked.
-fn answer<R: AllocGlobal, O: Write>(rt: &R, asked: Ask<'_>, out: &mut O) -> Result<Status, Failure>
+fn answer<'a, R: AllocGlobal + Files + Clock + Net, O: Write>(
+    rt: &R,
+    asked: Ask<'a>,
+    out: &mut O,
+) -> Result<Status, Failure<'a>>
     ensures done { result ≡ Ok Status.Done → AnswersAsk asked.entry true (O.contents out.old) (O.contents out.new) }
     ensures refused { result ≡ Ok Status.Refused → AnswersAsk asked.entry false (O.contents out.old) (O.contents out.new) }
     ensures no_usage { result ≢ Ok Status.Usage }
 {
-    let accepted = match asked {
-        Ask::Show(hex) => show(rt.alloc(), hex, out)?,
-    };
+    let accepted = accepts(rt, asked, out)?;
     if out.flush().is_err() {
-        return Err(Failure::Write);
+        return Err(Failure::Output);
     }
     Ok(if accepted {
         Status::Done
@@ -113,11 +124,11 @@ fn answer<R: AllocGlobal, O: Write>(rt: &R, asked: Ask<'_>, out: &mut O) -> Resu
 }
 
 /// Writes why the command line asks for nothing: help to `out`, a fault to `err`.
-fn explain<O: Write, E: Write>(
+fn explain<'a, O: Write, E: Write>(
     error: &clap::Error,
     out: &mut O,
     err: &mut E,
-) -> Result<Status, Failure>
+) -> Result<Status, Failure<'a>>
     ensures done { result ≡ Ok Status.Done → kind_of error.now ≡ ErrorKind.DisplayHelp }
     ensures usage { result ≡ Ok Status.Usage → kind_of error.now ≢ ErrorKind.OutOfMemory }
     ensures not_refused { result ≢ Ok Status.Refused }
@@ -133,16 +144,16 @@ fn explain<O: Write, E: Write>(
 }
 
 /// Writes help that was asked for.
-fn print<O: Write>(help: &clap::Error, out: &mut O) -> Result<Status, Failure>
+fn print<'a, O: Write>(help: &clap::Error, out: &mut O) -> Result<Status, Failure<'a>>
     ensures { IfOk result (λ status. status ≡ Status.Done) }
 {
-    write!(out, "{help}").map_err(|_| Failure::Write)?;
-    out.flush().map_err(|_| Failure::Write)?;
+    write!(out, "{help}").map_err(|_| Failure::Output)?;
+    out.flush().map_err(|_| Failure::Output)?;
     Ok(Status::Done)
 }
 
 /// Writes what failed to `err`.
-fn report<E: Write>(failure: Failure, err: &mut E) -> Status
+fn report<E: Write>(failure: Failure<'_>, err: &mut E) -> Status
     ensures { result ≡ Status.Failed }
 {
     let _ = writeln!(err, "ripngd: {failure}");

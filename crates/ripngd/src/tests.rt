@@ -2,6 +2,7 @@
 //! and where a writer fails.
 
 mod captured;
+mod running;
 
 use crate::{Ask, ShowFault, ask, program, show};
 use captured::CAPTURED;
@@ -59,15 +60,19 @@ const SHOWN: [(&str, u8, &str); 18] = [
 ];
 
 /// Command lines that ask for nothing that there is.
-const FAULTS: [&[&str]; 10] = [
+const FAULTS: [&[&str]; 14] = [
     &[],
     &["ripngd"],
     &["ripngd", "show"],
     &["ripngd", "show", "-02"],
     &["ripngd", "show", "02", "01"],
-    &["ripngd", "check", "file"],
-    &["ripngd", "lab", "file"],
-    &["ripngd", "run", "file"],
+    &["ripngd", "check"],
+    &["ripngd", "lab"],
+    &["ripngd", "run"],
+    &["ripngd", "run", "--turns", "0", "file"],
+    &["ripngd", "run", "--turns", "4294967296", "file"],
+    &["ripngd", "run", "-t", "65536", "file"],
+    &["ripngd", "run", "-t", "0x10", "file"],
     &["ripngd", "02"],
     &["ripngd", "--version"],
 ];

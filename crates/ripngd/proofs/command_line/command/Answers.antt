@@ -1,11 +1,14 @@
 use Rattle.std.proofs.Common.{codes}
 use Rattle.clap.specs.Simple.{new_app}
 use Rattle.ripngd.specs.CommandLine.{IsCommand}
-use Rattle.ripngd.proofs.Commands.{about_set, required_set, subcommand_added_ok}
+use Rattle.ripngd.proofs.Commands.{about_set, required_set, subcommand_added, subcommand_added_ok}
 use Rattle.ripngd.proofs.command_line.command.Goals as goal
 
 pub returns : goal.returns
 returns c =
     let made : IsCommand c.new.result (new_app (codes "ripngd")) = record { app_is = c.new.ensures.app; local = c.new.ensures.local } in
-    let named = required_set _ _ _ c.subcommand_required.ensures (about_set _ _ _ _ c.about.ensures made) in
-    subcommand_added_ok _ _ _ _ c.subcommand.result c.subcommand.ensures c.in_ok-with_one.ensures named
+    let s0 = required_set _ _ _ c.subcommand_required.ensures (about_set _ _ _ _ c.about.ensures made) in
+    let s1 = subcommand_added _ _ _ _ _ c.in_ok-subcommand.ensures c.in_ok-with_one.ensures s0 in
+    let s2 = subcommand_added _ _ _ _ _ c.in_ok-subcommand-2.ensures c.in_ok-with_one-2.ensures s1 in
+    let s3 = subcommand_added _ _ _ _ _ c.in_ok-subcommand-3.ensures c.in_ok-with_one-3.ensures s2 in
+    subcommand_added_ok _ _ _ _ c.subcommand-4.result c.subcommand-4.ensures c.in_ok-run.ensures s3

@@ -1,0 +1,256 @@
+//! Routers that run over sockets of loopback. Every port is one that the system chose, so that runs side by side do not
+//! meet.
+
+use crate::{Engine, Udp, Uptime, program, read_config};
+use rand_pcg::Pcg32;
+use route_table::SortedRoutes;
+use std::alloc::{AllocError, Global};
+use std::io;
+use std::net::{IpAddr, Ipv4Addr, Net, SocketAddr, UdpSocket};
+use std::rt::{Clock, Files};
+use std::test::Fail;
+use std::time::Duration;
+
+/// A Request for a whole table.
+const REQUEST: &str = "010100000000000000000000000000000000000000000010";
+
+/// A Response with the route `2001:db9::/32`, tag 0, metric 1.
+const RESPONSE: &str = "0201000020010db900000000000000000000000000002001";
+
+/// An update of the own `2001:db8::/32`, tag 9, and of that route, poisoned.
+const UPDATE: &str =
+    "0201000020010db80000000000000000000000000009200120010db900000000000000000000000000002010";
+
+fn local(port: u16) -> SocketAddr {
+    SocketAddr::new(IpAddr::V4(Ipv4Addr::LOCALHOST), port)
+}
+
+/// A socket at a port that the system chose, and the port.
+fn socket<N: Net>(net: &N) -> io::Result<(UdpSocket, u16)> {
+    let socket = UdpSocket::bind(net, local(0))?;
+    socket.set_read_timeout(Some(Duration::from_millis(500)))?;
+    let port = socket.local_addr()?.port();
+    Ok((socket, port))
+}
+
+/// A port that nothing stands at.
+fn free_port<N: Net>(net: &N) -> io::Result<u16> {
+    Ok(socket(net)?.1)
+}
+
+/// The configuration of `fe80::ME`, which owns `2001:db8::/32` and has one neighbor.
+fn config_text(
+    alloc: Global,
+    prefix: &str,
+    (me, port): (u8, u16),
+    (peer, peer_port): (u8, u16),
+) -> Result<String, AllocError> {
+    format!(in alloc;
+        "seed = 7
+[[interface]]
+address = \"fe80::{me}\"
+cost = 1
+local_port = {port}
+[[interface.peer]]
+address = \"fe80::{peer}\"
+local_port = {peer_port}
+[[prefix]]
+prefix = \"{prefix}\"
+tag = 9
+"
+    )
+}
+
+type TestEngine<'a, R> = Engine<SortedRoutes, Udp, Uptime<'a, R>, Pcg32>;
+
+/// A router that has started.
+fn started<'a, R: Clock + Net + AllocGlobal>(
+    rt: &'a R,
+    text: &str,
+) -> Result<TestEngine<'a, R>, Fail> {
+    let Ok(config) = read_config(rt.alloc(), text.as_bytes(), 0, false) else {
+        return Err(Fail::from("a configuration"));
+    };
+    let link = Udp::bind(rt, rt.alloc(), config.ports.as_slice(), config.peers)?;
+    let clock = Uptime::new(rt);
+    Ok(Engine::start(
+        rt.alloc(),
+        config.router,
+        link,
+        clock,
+        config.rng,
+        &mut io::sink(),
+    )?)
+}
+
+/// Whether a socket holds a datagram of these bytes.
+fn holds(alloc: Global, socket: &UdpSocket, hex: &str) -> Result<bool, Fail> {
+    let mut buffer = [0; 2048];
+    let (len, _) = socket.recv_from(&mut buffer)?;
+    Ok(hex::encode(alloc, &buffer[..len])?.as_str() == hex)
+}
+
+#[test]
+fn a_router_tells_its_neighbor_over_sockets(rt: HostRuntime) -> Result<(), Fail> {
+    let (neighbor, peer_port) = socket(&rt)?;
+    let port = free_port(&rt)?;
+    let text = config_text(rt.alloc(), "2001:db8::/32", (1, port), (2, peer_port))?;
+    let mut engine = started(&rt, text.as_str())?;
+    neighbor.send_to(hex::decode(rt.alloc(), RESPONSE)?.as_slice(), local(port))?;
+    engine.turns(1, &mut io::sink())?;
+    assert!(rt; holds(rt.alloc(), &neighbor, REQUEST)?);
+    assert!(rt; holds(rt.alloc(), &neighbor, UPDATE)?);
+    Ok(())
+}
+
+#[test]
+fn two_routers_learn_from_each_other(rt: HostRuntime) -> Result<(), Fail> {
+    let (east_port, west_port) = (free_port(&rt)?, free_port(&rt)?);
+    let east = config_text(
+        rt.alloc(),
+        "2001:db8:e::/48",
+        (1, east_port),
+        (2, west_port),
+    )?;
+    let west = config_text(
+        rt.alloc(),
+        "2001:db8:f::/48",
+        (2, west_port),
+        (1, east_port),
+    )?;
+    let mut east = started(&rt, east.as_str())?;
+    let mut west = started(&rt, west.as_str())?;
+    for _ in 0..4 {
+        east.turns(1, &mut io::sink())?;
+        west.turns(1, &mut io::sink())?;
+    }
+    let metrics = |engine: &TestEngine<'_, HostRuntime>| {
+        let entries = engine.fib().entries();
+        (entries.first().map(|e| e.2), entries.last().map(|e| e.2))
+    };
+    assert_eq!(rt; metrics(&east), (Some(1), Some(2)));
+    assert_eq!(rt; metrics(&west), (Some(2), Some(1)));
+    Ok(())
+}
+
+/// The status of a command line, what it prints, and what it says on standard error.
+fn outcome(rt: &HostRuntime, words: &[&str]) -> Result<(u8, Vec<u8>, Vec<u8>), Fail> {
+    let mut out = Vec::new(rt.alloc());
+    let mut err = Vec::new(rt.alloc());
+    let status = program(rt, words, &mut out, &mut err);
+    Ok((status, out, err))
+}
+
+#[test]
+fn a_run_prints_its_table_and_keeps_a_log(rt: HostRuntime) -> Result<(), Fail> {
+    let ports = ((1, free_port(&rt)?), (2, free_port(&rt)?));
+    let text = config_text(rt.alloc(), "2001:db8::/32", ports.0, ports.1)?;
+    std::fs::write(&rt, "logged.toml", text.as_str())?;
+    let words = [
+        "ripngd",
+        "run",
+        "--turns",
+        "3",
+        "-R",
+        "logged.txt",
+        "logged.toml",
+    ];
+    let (status, out, err) = outcome(&rt, &words)?;
+    assert!(rt; status == 0 && err.is_empty());
+    assert!(rt; out.as_slice() == b"2001:db8::/32 metric 1 direct\n".as_slice());
+    let log = std::fs::read(&rt, "logged.txt")?;
+    assert!(rt; log.as_slice() == b"add 2001:db8::/32 metric 1 direct\n".as_slice());
+    Ok(())
+}
+
+#[test]
+fn a_full_device_ends_the_log_alone(rt: HostRuntime) -> Result<(), Fail> {
+    let ports = ((1, free_port(&rt)?), (2, free_port(&rt)?));
+    let text = config_text(rt.alloc(), "2001:db8::/32", ports.0, ports.1)?;
+    std::fs::write(&rt, "full.toml", text.as_str())?;
+    let words = [
+        "ripngd",
+        "run",
+        "--turns",
+        "1",
+        "-R",
+        "/dev/full",
+        "full.toml",
+    ];
+    let (status, out, err) = outcome(&rt, &words)?;
+    assert!(rt; status == 0 && err.is_empty());
+    assert!(rt; out.as_slice() == b"2001:db8::/32 metric 1 direct\n".as_slice());
+    Ok(())
+}
+
+#[test]
+fn a_port_in_use_is_said(rt: HostRuntime) -> Result<(), Fail> {
+    let (_holder, port) = socket(&rt)?;
+    let text = config_text(rt.alloc(), "2001:db8::/32", (1, port), (2, free_port(&rt)?))?;
+    std::fs::write(&rt, "in_use.toml", text.as_str())?;
+    let (status, out, err) = outcome(&rt, &["ripngd", "run", "in_use.toml"])?;
+    let said = format!(in rt.alloc(); "ripngd: cannot bind {port}\n")?;
+    assert!(rt; status == 3 && out.is_empty());
+    assert!(rt; err.as_slice() == said.as_bytes());
+    Ok(())
+}
+
+/// Command lines on files, with their status and what they write to standard output or, with status 3, to standard
+/// error. The file `few.toml` has no interface, `few.lab` a router without one.
+const ON_FILES: [(&[&str], u8, &str); 8] = [
+    (
+        &["ripngd", "check", "few.toml"],
+        1,
+        "refused 6 Router 1 NoInterface\n",
+    ),
+    (
+        &["ripngd", "run", "few.toml"],
+        1,
+        "refused 6 Router 1 NoInterface\n",
+    ),
+    (
+        &["ripngd", "lab", "few.lab"],
+        1,
+        "line 2 refused 3 BadRouter 0 1 NoInterface\n",
+    ),
+    (
+        &["ripngd", "lab", "few.toml"],
+        1,
+        "line 1 refused BadLine\n",
+    ),
+    (
+        &["ripngd", "check", "absent"],
+        3,
+        "ripngd: cannot read absent\n",
+    ),
+    (
+        &["ripngd", "lab", "absent"],
+        3,
+        "ripngd: cannot read absent\n",
+    ),
+    (
+        &["ripngd", "run", "absent"],
+        3,
+        "ripngd: cannot read absent\n",
+    ),
+    (
+        &["ripngd", "run", "-R", "absent/log", "one.toml"],
+        3,
+        "ripngd: cannot write absent/log\n",
+    ),
+];
+
+#[test]
+fn files_that_are_refused_or_absent(rt: HostRuntime) -> Result<(), Fail> {
+    std::fs::write(&rt, "few.toml", "seed = 1\n")?;
+    std::fs::write(&rt, "few.lab", "router\ncold 0\n")?;
+    let one = config_text(rt.alloc(), "2001:db8::/32", (1, 9), (2, 10))?;
+    std::fs::write(&rt, "one.toml", one.as_str())?;
+    for (words, status, text) in ON_FILES {
+        let (answered, out, err) = outcome(&rt, words)?;
+        let written = if status == 3 { err } else { out };
+        assert_eq!(rt; answered, status, "at {words:?}");
+        assert!(rt; written.as_slice() == text.as_bytes(), "at {words:?}");
+    }
+    Ok(())
+}

@@ -1,0 +1,102 @@
+//! A script that runs: its routers are listed until they start, and then live in a network.
+
+use crate::line::Line;
+use crate::printing::{print_routes, print_sent};
+use crate::round::make_round;
+use crate::stop::Stop;
+use crate::words::BadLine;
+use ripng_world::{Event, Lab, NetConfig, Node};
+use route_table::{Moment, SortedRoutes};
+use std::alloc::Global;
+use std::io::Write;
+use std::mem;
+
+/// How far a script has come.
+#[derive(Drop)]
+pub enum Session {
+    /// Its routers are listed, and none has started.
+    Listing(Vec<Node>),
+    /// Its routers have started.
+    Running(Lab<SortedRoutes>),
+}
+
+impl Session {
+    /// Nothing is listed yet.
+    pub fn new(alloc: Global) -> Session {
+        Session::Listing(Vec::new(alloc))
+    }
+
+    /// Does what a line says.
+    ///
+    /// # Errors
+    /// Why the script ends here. What was done before it stays done.
+    pub fn obey<W: Write>(&mut self, alloc: Global, line: Line, out: &mut W) -> Result<(), Stop> {
+        match self {
+            Session::Running(lab) => run(alloc, lab, line, out),
+            Session::Listing(nodes) => match line {
+                Line::Cold { now } => {
+                    let nodes = mem::replace(nodes, Vec::new(alloc));
+                    *self = Session::Running(start(alloc, nodes, now)?);
+                    Ok(())
+                }
+                line => list(alloc, nodes, line),
+            },
+        }
+    }
+}
+
+// A line that lists a router, or what one has.
+fn list(alloc: Global, nodes: &mut Vec<Node>, line: Line) -> Result<(), Stop> {
+    match line {
+        Line::Router { quiet } => nodes.push(Node {
+            interfaces: Vec::new(alloc),
+            prefixes: Vec::new(alloc),
+            quiet,
+        })?,
+        Line::Iface(interface) => newest(nodes)?.interfaces.push(interface)?,
+        Line::Own { prefix, tag } => newest(nodes)?.prefixes.push((prefix, tag))?,
+        _ => return Err(Stop::from(BadLine)),
+    }
+    Ok(())
+}
+
+// The router that is being listed.
+fn newest(nodes: &mut [Node]) -> Result<&mut Node, BadLine> {
+    nodes.last_mut().ok_or(BadLine)
+}
+
+// Checks the network and starts its routers at one moment.
+fn start(alloc: Global, nodes: Vec<Node>, now: Moment) -> Result<Lab<SortedRoutes>, Stop> {
+    let moments = vec![in alloc; now; nodes.len()]?;
+    let network = NetConfig::check(alloc, nodes)?;
+    Ok(Lab::cold(alloc, network, moments.as_slice())?)
+}
+
+// A line about routers that run.
+fn run<W: Write>(
+    alloc: Global,
+    lab: &mut Lab<SortedRoutes>,
+    line: Line,
+    out: &mut W,
+) -> Result<(), Stop> {
+    match line {
+        Line::Event(event) => happen(lab, &event),
+        Line::Stranger { router, datagram } => happen(
+            lab,
+            &Event::Stranger {
+                router,
+                arrival: datagram.arrival(),
+            },
+        ),
+        Line::Round { now } => Ok(make_round(lab, now)?),
+        Line::Print => Ok(print_routes(lab, out)?),
+        Line::Sent => Ok(print_sent(alloc, lab, out)?),
+        _ => Err(Stop::from(BadLine)),
+    }
+}
+
+// What the router that moves answers is not printed.
+fn happen(lab: &mut Lab<SortedRoutes>, event: &Event<'_>) -> Result<(), Stop> {
+    let _ = lab.step(event)?;
+    Ok(())
+}

@@ -1,0 +1,105 @@
+//! Why a script ends before its last line.
+
+use crate::words::BadLine;
+use ripng_world::{LabError, NetRefused};
+use std::alloc::{AllocError, AllocFailed};
+use std::{fmt, io};
+
+/// Why a line is refused. Its text is what is printed after `line L refused `.
+#[derive(Clone, Copy, Debug, PartialEq, Eq)]
+pub enum Refusal {
+    /// The line is malformed, or out of place.
+    BadLine,
+    /// The routers make no network.
+    Network(NetRefused),
+    /// The event cannot happen.
+    Event(LabError),
+}
+
+/// Why a script ends before its last line.
+#[derive(Debug, Drop)]
+pub enum Stop {
+    /// A line is refused.
+    Refused(Refusal),
+    /// Memory or the writer failed.
+    Failed(io::Error),
+}
+
+impl From<BadLine> for Stop {
+    fn from(_: BadLine) -> Stop {
+        Stop::Refused(Refusal::BadLine)
+    }
+}
+
+impl From<AllocError> for Stop {
+    fn from(error: AllocError) -> Stop {
+        Stop::Failed(io::Error::from(error))
+    }
+}
+
+impl<T: Drop> From<AllocFailed<T>> for Stop {
+    fn from(error: AllocFailed<T>) -> Stop {
+        Stop::from(AllocError::from(error))
+    }
+}
+
+impl From<io::Error> for Stop {
+    fn from(error: io::Error) -> Stop {
+        Stop::Failed(error)
+    }
+}
+
+impl From<NetRefused> for Stop {
+    fn from(refused: NetRefused) -> Stop {
+        match refused {
+            NetRefused::OutOfMemory => Stop::from(AllocError),
+            _ => Stop::Refused(Refusal::Network(refused)),
+        }
+    }
+}
+
+impl From<LabError> for Stop {
+    fn from(error: LabError) -> Stop {
+        match error {
+            LabError::OutOfMemory => Stop::from(AllocError),
+            _ => Stop::Refused(Refusal::Event(error)),
+        }
+    }
+}
+
+impl fmt::Display for Refusal {
+    fn fmt<W: fmt::Write>(&self, f: &mut fmt::Formatter<W>) -> fmt::Result {
+        match self {
+            Refusal::BadLine => write!(f, "BadLine"),
+            Refusal::Network(refused) => write_network(*refused, f),
+            Refusal::Event(error) => write!(f, "{}", event_text(*error)),
+        }
+    }
+}
+
+fn write_network<W: fmt::Write>(refused: NetRefused, f: &mut fmt::Formatter<W>) -> fmt::Result {
+    match refused {
+        NetRefused::TooManyRouters => write!(f, "1 TooManyRouters"),
+        NetRefused::AddressSharedInNetwork => write!(f, "2 AddressSharedInNetwork"),
+        NetRefused::BadRouter { router, refusal } => {
+            write!(
+                f,
+                "3 BadRouter {router} {} {}",
+                refusal.number(),
+                refusal.name()
+            )
+        }
+        NetRefused::OutOfMemory => write!(f, "4 OutOfMemory"),
+    }
+}
+
+fn event_text(error: LabError) -> &'static str {
+    match error {
+        LabError::NoSuchRouter => "1 NoSuchRouter",
+        LabError::NoSuchInterface => "2 NoSuchInterface",
+        LabError::NoSuchDatagram => "3 NoSuchDatagram",
+        LabError::OtherLink => "4 OtherLink",
+        LabError::NotAStranger => "5 NotAStranger",
+        LabError::OutOfMemory => "6 OutOfMemory",
+    }
+}
