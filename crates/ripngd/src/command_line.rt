@@ -16,10 +16,10 @@ use clap::{Arg, ArgAction, ArgMatches, Command, Error, value_parser};
 use std::alloc::{AllocError, Global};
 
 /// An argument that has to be given, by its place.
-fn required<'a>(alloc: Global, id: &'a str) -> Arg<'a>
+fn required<'a>(alloc: Global, id: &'a str, help: &'a str) -> Arg<'a>
     ensures { IsArg result (positional id.entry.now) }
 {
-    Arg::new(alloc, id).required(true)
+    Arg::new(alloc, id).required(true).help(help)
 }
 
 /// `-q`: the router sends nothing of its own accord.
@@ -71,12 +71,13 @@ fn with_one<'a>(
     name: &'a str,
     about: &'a str,
     id: &'a str,
+    help: &'a str,
 ) -> Result<Command<'a>, AllocError>
     ensures { IfOk result (λ c. IsCommand c (one_argument name.entry.now id.entry.now)) }
 {
     Command::new(alloc, name)
         .about(about)
-        .arg(required(alloc, id))
+        .arg(required(alloc, id, help))
 }
 
 /// `run [-q] [-t TAG] [-R FILE] [--turns N] CONFIG`.
@@ -89,7 +90,7 @@ fn run<'a>(alloc: Global) -> Result<Command<'a>, AllocError>
         .arg(tag(alloc))?
         .arg(log(alloc))?
         .arg(turns(alloc))?
-        .arg(required(alloc, "CONFIG"))
+        .arg(required(alloc, "CONFIG", "The file of its configuration"))
 }
 
 /// The command that the program's words are given to.
@@ -104,18 +105,21 @@ fn command<'a>(alloc: Global) -> Result<Command<'a>, AllocError>
             "show",
             "Decode one datagram, given as hexadecimal digits",
             "HEX",
+            "Its bytes, two digits of either case for each",
         )?)?
         .subcommand(with_one(
             alloc,
             "check",
             "Read a configuration, and say whether a router can run on it",
             "CONFIG",
+            "The file that holds it",
         )?)?
         .subcommand(with_one(
             alloc,
             "lab",
             "Run the network of routers that a script describes",
             "SCRIPT",
+            "The file that holds it",
         )?)?
         .subcommand(run(alloc)?)
 }
