@@ -1,4 +1,4 @@
--- What the code and the model call an event, and which events are refused.
+-- The events of the code as the events of the model.
 use Rattle.ripng_world.specs.World.{Event, Deliver, Stranger, Tick, Restart}
 use Rattle.ripng_world.specs.declared.event.Event as coded
 use Rattle.ripng_world.specs.declared.event.Event.TheVariants as variants

@@ -76,11 +76,11 @@ is_one_link _ _ = false
 abbrev pub is_heard_at : World → ℕ → Received → Bool
 is_heard_at w router x = option_map_or (λ s. is_heard s x) (slice_get w.states router) false
 
-abbrev pub router_tests : Network → ℕ → List (Bool × LabError)
-router_tests net router = (nat_le (length net) router, NoSuchRouter) ∷ []
+abbrev pub presence_tests : Network → ℕ → List (Bool × LabError)
+presence_tests net router = (nat_le (length net) router, NoSuchRouter) ∷ []
 
 abbrev pub place_tests : Network → ℕ → ℕ → List (Bool × LabError)
-place_tests net router iface = router_tests net router ++ (is_none (interface_at net router iface), NoSuchInterface) ∷ []
+place_tests net router iface = presence_tests net router ++ (is_none (interface_at net router iface), NoSuchInterface) ∷ []
 
 abbrev pub event_tests : LabValue → Event → List (Bool × LabError)
 event_tests lab (Deliver datagram router iface now) =
@@ -89,8 +89,8 @@ event_tests lab (Deliver datagram router iface now) =
     ∷ (not (is_one_link (link_of_datagram lab datagram) (link_at lab.network router iface)), OtherLink)
     ∷ []
 event_tests lab (Stranger router x) = place_tests lab.network router x.iface ++ (is_heard_at lab.world router x, NotAStranger) ∷ []
-event_tests lab (Tick router now word) = router_tests lab.network router
-event_tests lab (Restart router now) = router_tests lab.network router
+event_tests lab (Tick router now word) = presence_tests lab.network router
+event_tests lab (Restart router now) = presence_tests lab.network router
 
 -- the first test that fails
 abbrev pub event_fault : LabValue → Event → Option LabError

@@ -15,8 +15,9 @@ use crate::network::{NetConfig, NetRouter};
 use crate::refusing::{check, link_at};
 use crate::sent::Sent;
 use crate::station::Station;
+use fib::RouteChange;
 use route_table::{Moment, RouteStore};
-use router_core::{Answer, Listed, Router};
+use router_core::{Answer, Fault, Listed, Note, Router};
 use std::alloc::{AllocError, Global};
 use std::marker::Model;
 
@@ -66,6 +67,23 @@ fn start_all<S: RouteStore>(
         stations.push_reserved(station);
     }
     Ok((stations, sent))
+}
+
+// What is handed out of an answer whose sends were taken.
+fn handed_out(
+    alloc: Global,
+    fault: Option<Fault>,
+    changes: Listed<RouteChange>,
+    notes: Listed<Note>,
+) -> Answer
+    ensures { result ≡ record { fault = fault; sends = []; changes = changes; notes = notes } }
+{
+    Answer {
+        fault,
+        sends: Listed::from_vec(Vec::new(alloc)),
+        changes,
+        notes,
+    }
 }
 
 impl<S: RouteStore> Lab<S> {
@@ -144,12 +162,7 @@ impl<S: RouteStore> Lab<S> {
         check(&self.stations, &self.sent, event)?;
         let answer = happen(&mut self.stations, &mut self.sent, event)?;
         file(&mut self.sent, event.router(), answer.sends);
-        Ok(Answer {
-            fault: answer.fault,
-            sends: Listed::from_vec(Vec::new(self.alloc)),
-            changes: answer.changes,
-            notes: answer.notes,
-        })
+        Ok(handed_out(self.alloc, answer.fault, answer.changes, answer.notes))
     }
 
     /// Events happen one after another, until one is refused. Says how many were done, and why the next was refused.

@@ -4,7 +4,7 @@ ghost use Rattle.std.specs.Prelude.{◌≡◌, ℕ, None, Some, IfOk, OnOk, leng
 ghost use Rattle.std.specs.Result.{result_err};
 ghost use Rattle.ripng_wire.specs.Wire.{first_failing};
 ghost use Rattle.ripng_world.specs.Events.{event_of};
-ghost use Rattle.ripng_world.specs.Labs.{event_fault, lab_of, place_tests, router_tests, link_at};
+ghost use Rattle.ripng_world.specs.Labs.{event_fault, lab_of, place_tests, presence_tests, link_at};
 ghost use Rattle.ripng_world.specs.Network.{interface_at};
 ghost use Rattle.ripng_world.specs.Stations.{network_of};
 ghost use Rattle.ripng_world.specs.World.{Deliver, Stranger, is_heard};
@@ -40,7 +40,7 @@ pub fn link_at<S: RouteStore>(stations: &[Station<S>], router: usize, iface: usi
 
 // Whether there is such a router.
 fn check_router<S: RouteStore>(stations: &[Station<S>], router: usize) -> Result<(), LabError>
-    ensures { result_err result ≡ first_failing (router_tests (network_of stations.now) router) }
+    ensures { result_err result ≡ first_failing (presence_tests (network_of stations.now) router) }
 {
     if router < stations.len() {
         Ok(())

@@ -1,5 +1,4 @@
 use Rattle.std.proofs.Common.{◌≡◌, ℕ, List, ◌++◌, map, take, drop, length, subst, ◌∙◌, ap, ap₂}
-use Rattle.router_core.specs.declared.answer.Outgoing.{Outgoing}
 use Rattle.ripng_world.specs.Events.{event_of}
 use Rattle.ripng_world.specs.Labs.{HasRun}
 use Rattle.ripng_world.specs.Rounds.{router_of}
@@ -39,7 +38,7 @@ pub returns-in_err-answer-clause-truth : goal.returns-in_err-answer-clause-truth
 returns-in_err-answer-clause-truth g c = truth _ _ (kept g c)
 
 -- what the move left
-module _ (g : _) (c : goal.After-from_vec g) where
+module _ (g : _) (c : goal.After-handed_out g) where
   stations : take c.self.inside.stations.len (c.happen.new.stations ++ drop (length c.happen.new.stations) c.self.inside.stations.items) ≡ c.happen.new.stations
   stations = written_back c.self.inside.stations.len c.happen.new.stations c.self.inside.stations.items (c.happen.auto.stations ∙ ap length c.deref_mut.ensures.value) c.self.inside.stations.ok.0
 
@@ -63,7 +62,7 @@ returns-clause-happens g c =
     rw (← c.self.view_is, stations g c) (
       answer,
       stepped c.self.inside.stations.items c.happen.new.stations c.self.inside.sent.items c.file.new.sent.items (event_of c.args.event.now) answer (moves g c) (added g c),
-      ap (λ (os : List Outgoing). record { fault = answer.fault; sends = os; changes = answer.changes; notes = answer.notes }) (c.from_vec.ensures ∙ c.new.ensures.items),
+      c.handed_out.ensures,
     )
 
 pub returns-clause-backed : goal.returns-clause-backed
