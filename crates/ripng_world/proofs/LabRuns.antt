@@ -1,6 +1,6 @@
 -- What holds of a network that has run since a cold start, and how runs and cold starts go on.
 use Rattle.std.proofs.Common.{◌≡◌, ℕ, zero, suc, ◌+◌, ◌<◌, List, [], ◌∷◌, ◌++◌, map, take, drop, length, get_or, refl, ap, ap₂, sym, subst, ◌∙◌, arith, append_assoc}
-use Rattle.std.proofs.lemmas.List.{map_more, take-map, map-append, length-map, take_more}
+use Rattle.std.proofs.lemmas.List.{append-nil, map_more, take-map, map-append, length-map, take_more}
 use Rattle.router_core.specs.Machine.{State, Starts}
 use Rattle.router_core.specs.declared.answer.Answer.{Answer}
 use Rattle.ripng_world.specs.Network.{Network, Node, config_of}
@@ -70,11 +70,7 @@ pub starts_next : (n : ℕ) (nodes : List Node) (moments : List ℕ) (states : L
     → StartsFrom n (nodes ++ node ∷ []) (moments ++ now ∷ []) (states ++ s ∷ []) (sent ++ map (sent_by (n + length nodes)) answer.sends)
 starts_next n [] [] [] sent node now answer s from starts =
     let here : n + 0 ≡ n = omega arith in
-    (answer, [], starts, refl, ap₂ (λ (xs : List Sent) (k : ℕ). xs ++ map (sent_by k) answer.sends) from here ∙ sym (append_nil (map (sent_by n) answer.sends)))
-  where
-    append_nil : {X : Type 0} (xs : List X) → xs ++ [] ≡ xs
-    append_nil [] = refl
-    append_nil (x ∷ xs) = ap (λ ys. x ∷ ys) (append_nil xs)
+    (answer, [], starts, refl, ap₂ (λ (xs : List Sent) (k : ℕ). xs ++ map (sent_by k) answer.sends) from here ∙ sym (append-nil (map (sent_by n) answer.sends)))
 starts_next n (x ∷ nodes) (m ∷ moments) (t ∷ states) sent node now answer s from starts =
     let later = starts_next (suc n) nodes moments states from.1 node now answer s from.3 starts in
     let place : n + suc (length nodes) ≡ suc n + length nodes = omega arith in (

@@ -1,6 +1,6 @@
 -- A network that fails no test is one.
 use Rattle.std.proofs.Common.{◌≡◌, ℕ, zero, suc, ◌+◌, ◌<◌, ◌≤◌, ◌==◌, ◌||◌, nat_lt, not, Bool, true, false, cond, List, [], ◌∷◌, ◌++◌, map, take, length, All, Some, None, slice_get, option_map, refl, ap, sym, subst, ◌∙◌, arith}
-use Rattle.std.specs.List.{enumerate_from, flat_map, list_any}
+use Rattle.std.specs.List.{list_any}
 use Rattle.std.proofs.lemmas.Bool.{eq-eqb}
 use Rattle.std.proofs.lemmas.Bool.Decides.{nat_tests}
 use Rattle.std.proofs.lemmas.Option.{slice_get-map, slice_get_within, get_or_from_slice_get}
@@ -13,7 +13,7 @@ use Rattle.router_core.specs.Config.{Config, IsConfig, config_tests, each_tested
 use Rattle.router_core.specs.declared.config.ConfigRefused.TheVariants.{TooManyPrefixes}
 use Rattle.router_core.specs.declared.config.Interface.{Interface}
 use Rattle.router_core.specs.declared.config.TheConstants.{OWNED_LIMIT}
-use Rattle.router_core.proofs.ConfigLaws.{cost_low, cost_high, mtu_low, mtu_high}
+use Rattle.router_core.proofs.ConfigLaws.{passes-append, passes_at, cost_low, cost_high, mtu_low, mtu_high}
 use Rattle.router_core.proofs.EachTested.{first_failing-append, first_failing-found}
 use Rattle.ripng_world.specs.Network.{Network, Node, IsNetwork, IsUsable, OwnsPrefixes, HasDistinctAddresses, config_of, interface_at}
 use Rattle.ripng_world.specs.NetworkFaults.{addresses, address_tests, network_fault, network_tests, router_tests}
@@ -39,25 +39,6 @@ module _ (net : Network) (few : length net ≤ ROUTER_LIMIT) where
   by_addresses pass = counted ∙ first_failing-append (each_tested router_tests net) (each_tested address_tests (addresses net)) pass
 
 -- ---- what each test says
-
--- where the tests of two lists pass, those of each pass
-passes-append : {F : Type 0} (these others : List (Bool × F)) → EachPasses (these ++ others) → EachPasses these × EachPasses others
-passes-append [] others h = (tt, h)
-passes-append (t ∷ these) others h = let rest = passes-append these others h.1 in ((h.0, rest.0), rest.1)
-
--- where the tests made of each element pass, those of the element at a place pass
-passes_at : {X F : Type 0} (f : ℕ × X → List (Bool × F)) (n : ℕ) (xs : List X) (i : ℕ) (x : X) → slice_get xs i ≡ Some x
-    → EachPasses (flat_map f (enumerate_from n xs)) → EachPasses (f (n + i, x))
-passes_at f n [] i x is h = absurd (cc)
-passes_at {F = F} f n (y ∷ xs) zero x is h =
-    let same : y ≡ x = cc in
-    let here = (passes-append (f (n, y)) (flat_map f (enumerate_from (n + 1) xs)) h).0 in
-    let e : n ≡ n + 0 = omega arith in
-    subst (λ z. EachPasses {F = F} (f (n + 0, z))) same (subst (λ (m : ℕ). EachPasses {F = F} (f (m, y))) e here)
-passes_at {F = F} f n (y ∷ xs) (suc i) x is h =
-    let rest = (passes-append (f (n, y)) (flat_map f (enumerate_from (n + 1) xs)) h).1 in
-    let e : n + 1 + i ≡ n + suc i = omega arith in
-    subst (λ (m : ℕ). EachPasses {F = F} (f (m, x))) e (passes_at f (n + 1) xs i x is rest)
 
 not_false : (b : Bool) → not b ≡ false → b ≡ true
 not_false true e = refl

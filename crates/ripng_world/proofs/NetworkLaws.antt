@@ -1,7 +1,7 @@
 -- What the tests of a network say of it.
 use Rattle.std.proofs.Common.{◌≡◌, ℕ, ◌+◌, ◌<◌, Bool, true, false, cond, List, [], ◌∷◌, ◌++◌, map, take, length, All, Some, None, get_or, option_map, refl, ap, ap₂, sym, subst, ◌∙◌, arith}
 use Rattle.std.proofs.lemmas.Grind.{flat_map-append}
-use Rattle.std.proofs.lemmas.List.{take_more, length-append}
+use Rattle.std.proofs.lemmas.List.{append-nil, take_more, length-append}
 use Rattle.std.proofs.lemmas.List.Elements.{All-more}
 use Rattle.std.proofs.Math.Seq.{get_or-append_seam, take-append_seam}
 use Rattle.ripng_wire.specs.Wire.{first_failing}
@@ -18,14 +18,10 @@ pub addresses_more : (nodes : List Node) (i : ℕ) (node : Node) (old new : List
 addresses_more nodes i node old new here is so_far more =
     let own : Node → List ℕ = λ n. map (λ (t : NetInterface). t.interface.addr) n.interfaces in
     more ∙ ap (λ (xs : List ℕ). xs ++ own node) so_far
-    ∙ ap (λ (xs : List ℕ). addresses (take i nodes) ++ xs) (sym (append_nil (own node)))
+    ∙ ap (λ (xs : List ℕ). addresses (take i nodes) ++ xs) (sym (append-nil (own node)))
     ∙ sym (flat_map-append own (take i nodes) (node ∷ []))
     ∙ ap (λ (ns : List Node). addresses (take i nodes ++ ns)) (ap (λ (n : Node). n ∷ []) is)
     ∙ ap addresses (sym (take_more nodes i node here))
-  where
-    append_nil : {X : Type 0} (xs : List X) → xs ++ [] ≡ xs
-    append_nil [] = refl
-    append_nil (x ∷ xs) = ap (λ ys. x ∷ ys) (append_nil xs)
 
 -- ---- the tests of a router, with its number
 

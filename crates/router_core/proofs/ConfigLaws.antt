@@ -11,12 +11,12 @@ use Rattle.router_core.specs.declared.config.Interface.{Interface}
 use Rattle.router_core.specs.declared.config.TheConstants.{INTERFACE_LIMIT, OWNED_LIMIT}
 
 -- where the tests of two lists pass, those of each pass
-passes-append : {F : Type 0} (these others : List (Bool × F)) → EachPasses (these ++ others) → EachPasses these × EachPasses others
+pub passes-append : {F : Type 0} (these others : List (Bool × F)) → EachPasses (these ++ others) → EachPasses these × EachPasses others
 passes-append [] others h = (tt, h)
 passes-append (t ∷ these) others h = let rest = passes-append these others h.1 in ((h.0, rest.0), rest.1)
 
 -- where the tests made of each element pass, those of the element at a place pass
-passes_at : {X F : Type 0} (f : ℕ × X → List (Bool × F)) (n : ℕ) (xs : List X) (i : ℕ) (x : X) → slice_get xs i ≡ Some x
+pub passes_at : {X F : Type 0} (f : ℕ × X → List (Bool × F)) (n : ℕ) (xs : List X) (i : ℕ) (x : X) → slice_get xs i ≡ Some x
     → EachPasses (flat_map f (enumerate_from n xs)) → EachPasses (f (n + i, x))
 passes_at f n [] i x is h = absurd (cc)
 passes_at {F = F} f n (y ∷ xs) zero x is h =

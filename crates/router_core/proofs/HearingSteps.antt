@@ -6,6 +6,7 @@ use Rattle.std.specs.Ordering.{eq_by_cmp}
 use Rattle.std.proofs.lemmas.Bool.{lt-ltb, eq-eqb}
 use Rattle.std.specs.Cmp.{tied_itself}
 use Rattle.std.proofs.lemmas.Bool.Decides.{nat_tests}
+use Rattle.std.proofs.lemmas.List.{append-nil}
 use Rattle.std.proofs.lemmas.List.Sums.{fold-append, fold_push}
 use Rattle.std.proofs.lemmas.Map.Views.{tells_apart}
 use Rattle.prefix6.specs.Prefix.{Prefix6, prefix_cmp, same_prefix}
@@ -62,13 +63,9 @@ module _ {X Y : Type 0} (test : ℕ × X → Bool) (make : ℕ × X → Y) (plac
       let e : n + 0 ≡ n = omega arith in
       at_front n (n + 0 + 1) y xs (omega arith)
       ∙ ap (λ rest. given (n, y) ++ rest) (none_yet (n + 1) (n + 0 + 1) xs (omega arith))
-      ∙ append_nil (given (n, y))
+      ∙ append-nil (given (n, y))
       ∙ ap₂ (λ m z. given (m, z)) (sym e) same
       ∙ ap (λ front. front ++ given (n + 0, x)) (sym (none_yet n (n + 0) (y ∷ xs) (omega arith)))
-    where
-      append_nil : (ys : List Y) → ys ++ [] ≡ ys
-      append_nil [] = refl
-      append_nil (z ∷ ys) = ap (λ rest. z ∷ rest) (append_nil ys)
   one_more n (suc i) (y ∷ xs) x is =
       let e : n + 1 + i ≡ n + suc i = omega arith in
       at_front n (n + suc i + 1) y xs (omega arith)
