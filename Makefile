@@ -20,7 +20,9 @@ lab: all
 show: all
 	bin/ripngd show $(HEX)
 
+# The gate runs programs on files of their own, so the examples stand twice: they must be the same.
 test:
+	diff -r examples crates/ripngd_examples/data
 	rt ci
 
 clean:
