@@ -1,9 +1,8 @@
 -- The deliveries of a quiet round: each bounds the metrics of the receiver, from then on.
-use Rattle.std.proofs.Common.{◌≡◌, ◌≢◌, ◌⊎◌, inl, inr, ℕ, zero, suc, ◌+◌, min, max, ◌<◌, ◌≤◌, Bool, true, false, cond, ◌||◌, ◌==◌, MatchBool, MatchOption, List, [], ◌∷◌, ◌++◌, map, length, All, Option, Some, None, option_map, unwrap_or, slice_get, slice_set, refl, ap, sym, subst, ◌∙◌, arith, le_refl, le_trans}
+use Rattle.std.proofs.Common.{◌≡◌, ◌≢◌, inl, inr, ℕ, suc, ◌+◌, min, max, ◌<◌, ◌≤◌, Bool, true, false, cond, MatchBool, MatchOption, List, [], ◌∷◌, ◌++◌, length, All, Option, Some, None, slice_get, refl, ap, sym, subst, ◌∙◌, arith, le_refl, le_trans}
 use Rattle.std.specs.Prelude.{⊤}
-use Rattle.std.specs.List.{AllByRecursion, list_any}
+use Rattle.std.specs.List.{AllByRecursion}
 use Rattle.std.specs.FinMap as map_of
-use Rattle.std.proofs.lemmas.Bool.{eq-eqb, eqb-true}
 use Rattle.prefix6.specs.Prefix.{Prefix6}
 use Rattle.prefix6.specs.Addr.{is_link_local}
 use Rattle.ripng_wire.specs.declared.rte.Rte.{Rte}
@@ -15,7 +14,6 @@ use Rattle.route_table.specs.Route.{RouteValue, infinity}
 use Rattle.route_table.specs.declared.route.Clock.{Clock}
 use Rattle.route_table.specs.declared.route.Clock.TheVariants.{Live}
 use Rattle.route_table.proofs.TableLaws.{Some-same, None-Some}
-use Rattle.router_core.specs.Config.{cost_at, is_own_address}
 use Rattle.router_core.specs.Received.{Received}
 use Rattle.router_core.specs.Faults.{fault}
 use Rattle.router_core.specs.Offers.{offer_at, prefix_named}
@@ -26,9 +24,8 @@ use Rattle.router_core.specs.Machine.{State, Arrives, Hears, Replies, Refuses, g
 use Rattle.router_core.specs.declared.answer.Answer.{Answer}
 use Rattle.router_core.specs.declared.arrival.Fault.{Fault}
 use Rattle.router_core.specs.declared.answer.NoteKind.TheVariants.{NoMemory}
-use Rattle.ripng_world.specs.declared.network.NetInterface.{NetInterface}
 use Rattle.ripng_world.specs.declared.sent.Sent.{Sent}
-use Rattle.ripng_world.specs.Network.{Network, Node, config_of, interface_at, AreLinked, HasDistinctAddresses}
+use Rattle.ripng_world.specs.Network.{Network, Node, config_of, AreLinked, HasDistinctAddresses}
 use Rattle.ripng_world.specs.Walks.{cost_of_interface}
 use Rattle.ripng_world.specs.Truth.{IsNeighbor}
 use Rattle.router_core.proofs.HearingSteps.{at_place}
@@ -38,82 +35,12 @@ use Rattle.ripng_world.specs.Network.{IsUsable}
 use Rattle.ripng_world.specs.Convergence.{FitsTables}
 use Rattle.ripng_world.proofs.Each.{each_at_place}
 use Rattle.ripng_world.proofs.Members.{At, get_left, get_right}
-use Rattle.ripng_world.proofs.Running.{in_node, cost_is, any_at, not_own}
+use Rattle.ripng_world.proofs.Running.{not_own}
 use Rattle.ripng_world.proofs.Undamaged.{no_fault, spelled_response}
 use Rattle.ripng_world.proofs.Improving.{RouteAt, one_route, IsFine, IsBetter, FineOption, IsFreshThrough, IsHeardStep}
 use Rattle.ripng_world.proofs.RoundHearing.{IsToldEntry, hearing_steps, hearing_bounds}
 use Rattle.ripng_world.proofs.RoundTicks.{later_fine}
-
--- what becomes of the states when one of them moves
-pub state_after : (xs : List State) (i : ℕ) (old new : State) → slice_get xs i ≡ Some old → (j : ℕ) (s : State) → slice_get xs j ≡ Some s
-    → ((i ≡ j) × (s ≡ old) × (slice_get (slice_set xs i new) j ≡ Some new)) ⊎ (slice_get (slice_set xs i new) j ≡ Some s)
-state_after [] i old new e j s f = absurd (None-Some old e)
-state_after (x ∷ xs) zero old new e zero s f = inl (refl, Some-same s old (sym f ∙ e), refl)
-state_after (x ∷ xs) zero old new e (suc j) s f = inr f
-state_after (x ∷ xs) (suc i) old new e zero s f = inr f
-state_after (x ∷ xs) (suc i) old new e (suc j) s f =
-    elim (state_after xs i old new e j s f) [ inl a ↦ inl (ap suc a.0, a.1, a.2) | inr b ↦ inr b ]
-
-pub set_here : (xs : List State) (i : ℕ) (old new : State) → slice_get xs i ≡ Some old → slice_get (slice_set xs i new) i ≡ Some new
-set_here [] i old new e = absurd (None-Some old e)
-set_here (x ∷ xs) zero old new e = refl
-set_here (x ∷ xs) (suc i) old new e = set_here xs i old new e
-
-state_before : (xs : List State) (i : ℕ) (new : State) (j : ℕ) (s : State) → slice_get (slice_set xs i new) j ≡ Some s → ((i ≡ j) × (new ≡ s)) ⊎ (slice_get xs j ≡ Some s)
-state_before [] i new j s e = inr e
-state_before (x ∷ xs) zero new zero s e = inl (refl, Some-same new s e)
-state_before (x ∷ xs) zero new (suc j) s e = inr e
-state_before (x ∷ xs) (suc i) new zero s e = inr e
-state_before (x ∷ xs) (suc i) new (suc j) s e =
-    elim (state_before xs i new j s e) [ inl a ↦ inl (ap suc a.0, a.1) | inr b ↦ inr b ]
-
--- ---- neighbors
-
-source_is : (net : Network) (d : Sent) (router iface : ℕ) (linked : AreLinked net d.router d.iface router iface) → address_at net d.router d.iface ≡ linked.here.interface.addr
-source_is net d router iface linked = ap (λ o. unwrap_or (option_map (λ (i : NetInterface). i.interface.addr) o) 0) linked.here_is
-
-neighbor : (net : Network) (d : Sent) (router iface now moment : ℕ) (s : State) (node : Node) → slice_get net router ≡ Some node → s.config ≡ config_of node
-    → AreLinked net d.router d.iface router iface → router ≢ d.router → IsNeighbor net router (gateway_of s now (arrival_of net d iface moment)) d.router d.iface
-neighbor net d router iface now moment s node node_is config linked other =
-    record {
-      linked = record { here = linked.there; there = linked.here; here_is = linked.there_is; there_is = linked.here_is; same_link = sym linked.same_link };
-      apart = other;
-      from = ap (option_map (λ (i : NetInterface). i.interface.addr)) linked.here_is ∙ ap Some (sym (source_is net d router iface linked));
-      cost = ap (λ c. cost_at c iface) config ∙ cost_is net router iface node node_is;
-    }
-
-is_another : (net : Network) (d : Sent) (router iface : ℕ) (s : State) (node : Node) → slice_get net router ≡ Some node → s.config ≡ config_of node
-    → (linked : AreLinked net d.router d.iface router iface) → is_own_address s.config (address_at net d.router d.iface) ≡ false → router ≢ d.router
-is_another net d router iface s node node_is config linked not_mine same =
-    let here : slice_get node.interfaces d.iface ≡ Some linked.here = sym (in_node net router d.iface node node_is) ∙ ap (λ r. interface_at net r d.iface) same ∙ linked.here_is in
-    let own : is_own_address (config_of node) (address_at net d.router d.iface) ≡ true =
-    any_at (λ i. i.addr == address_at net d.router d.iface) (λ (i : NetInterface). i.interface) node.interfaces d.iface linked.here here (eq-eqb _ _ (sym (source_is net d router iface linked))) in
-    clash (sym (ap (λ c. is_own_address c (address_at net d.router d.iface)) config ∙ own) ∙ not_mine)
-  where
-    clash : true ≡ false → ⊥
-    clash e = cc
-
--- an address of another router is not its own
-any_from : {X Y : Type 0} (test : Y → Bool) (f : X → Y) (xs : List X) → list_any test (map f xs) ≡ true → (i : ℕ) × (x : X) × (slice_get xs i ≡ Some x) × (test (f x) ≡ true)
-any_from test f [] e = absurd (cc)
-any_from {X = X} test f (x ∷ xs) e = by_test (test (f x)) refl e (any_from test f xs)
-  where
-    by_test : (b : Bool) → test (f x) ≡ b → (b || list_any test (map f xs)) ≡ true → (list_any test (map f xs) ≡ true → (i : ℕ) × (y : X) × (slice_get xs i ≡ Some y) × (test (f y) ≡ true))
-        → (i : ℕ) × (y : X) × (slice_get (x ∷ xs) i ≡ Some y) × (test (f y) ≡ true)
-    by_test true is e later = (0, x, refl, is)
-    by_test false is e later = let l = later e in (suc l.0, l.1, l.2, l.3)
-
-not_mine : (net : Network) → HasDistinctAddresses net → (d : Sent) (router iface : ℕ) (s : State) (node : Node) → slice_get net router ≡ Some node → s.config ≡ config_of node
-    → (linked : AreLinked net d.router d.iface router iface) → router ≢ d.router → is_own_address s.config (address_at net d.router d.iface) ≡ false
-not_mine net distinct d router iface s node node_is config linked other =
-    ap (λ c. is_own_address c (address_at net d.router d.iface)) config ∙ by_answer (is_own_address (config_of node) (address_at net d.router d.iface)) refl
-  where
-    by_answer : (b : Bool) → is_own_address (config_of node) (address_at net d.router d.iface) ≡ b → is_own_address (config_of node) (address_at net d.router d.iface) ≡ false
-    by_answer false e = e
-    by_answer true e =
-        let f = any_from (λ i. i.addr == address_at net d.router d.iface) (λ (i : NetInterface). i.interface) node.interfaces e in
-        absurd (other (distinct router f.0 d.router d.iface f.1 linked.here (in_node net router f.0 node node_is ∙ f.2) linked.here_is
-        (eqb-true f.1.interface.addr (address_at net d.router d.iface) f.3 ∙ source_is net d router iface linked)).0)
+use Rattle.ripng_world.proofs.RoundNeighbors.{state_after, set_here, state_before, source_is, neighbor, is_another, not_mine}
 
 -- ---- rows
 

@@ -13,48 +13,21 @@ use Rattle.route_table.specs.declared.route.Clock.TheVariants.{Live}
 use Rattle.route_table.proofs.TableLaws.{Some-same, None-Some}
 use Rattle.router_core.specs.Adoption.{is_through, timeout}
 use Rattle.router_core.specs.Output.{is_learned_on}
-use Rattle.router_core.specs.Machine.{State, Happening}
-use Rattle.router_core.specs.declared.answer.Answer.{Answer}
+use Rattle.router_core.specs.Machine.{State}
 use Rattle.ripng_world.specs.declared.network.NetInterface.{NetInterface}
 use Rattle.ripng_world.specs.declared.sent.Sent.{Sent}
 use Rattle.ripng_world.specs.Network.{Network, Node, config_of, interface_at, AreLinked, OwnsPrefixes, HasDistinctAddresses}
 use Rattle.ripng_world.specs.Walks.{Hop, Reaches, cost, cost_of_interface}
-use Rattle.ripng_world.specs.World.{World, Event, Deliver, Stranger, Tick, Restart, RouterMoves, Happens, address_at}
-use Rattle.ripng_world.specs.Rounds.{Round, router_of, moment_of, AllTick, IsDeliveryOf, AllHeard, IsQuietRound, IsMomentOf}
+use Rattle.ripng_world.specs.World.{World, Deliver, address_at}
+use Rattle.ripng_world.specs.Rounds.{Round, router_of, moment_of, IsDeliveryOf, IsQuietRound, IsMomentOf}
 use Rattle.ripng_world.specs.Network.{IsUsable}
 use Rattle.ripng_world.specs.Convergence.{IsNeverQuiet, FitsTables}
 use Rattle.ripng_world.proofs.Each.{each_from_places, each_at_place}
 use Rattle.ripng_world.proofs.Members.{At, at_right, get_left, get_past, at_from_contains}
 use Rattle.ripng_world.proofs.Improving.{RouteAt, IsTight, HasShape, IsFine}
 use Rattle.ripng_world.proofs.RoundTicks.{AreTicking, TellsAll, Tells, ticks_done, IsAfterTicks, like_route}
-use Rattle.ripng_world.proofs.RoundDeliveries.{AreHearing, IsBoundAt, IsFreshClock, gateway_at, deliveries_done, AreDelivered, HasHeardEvent, state_after}
-
--- ---- routers stay
-
-move_stays : (w w' : World) (router : ℕ) (what : Happening) (answer : Answer) → RouterMoves w router what answer w' → (r : ℕ) (s : State) → slice_get w.states r ≡ Some s → (t : State) × (slice_get w'.states r ≡ Some t)
-move_stays w w' router what answer m r s is =
-    elim (state_after w.states router m.old m.new m.old_is r s is) [
-      | inl a ↦ (m.new, ap (λ (ss : List State). slice_get ss r) m.states ∙ a.2)
-      | inr b ↦ (s, ap (λ (ss : List State). slice_get ss r) m.states ∙ b)
-    ]
-
-event_stays : (net : Network) (w w' : World) (e : Event) (answer : Answer) → Happens net w e answer w' → (r : ℕ) (s : State) → slice_get w.states r ≡ Some s → (t : State) × (slice_get w'.states r ≡ Some t)
-event_stays net w w' (Deliver datagram router iface now) answer d r s is = move_stays w w' router _ answer d.moves r s is
-event_stays net w w' (Stranger router x) answer i r s is = move_stays w w' router _ answer i.moves r s is
-event_stays net w w' (Tick router now word) answer m r s is = move_stays w w' router _ answer m r s is
-event_stays net w w' (Restart router now) answer m r s is = move_stays w w' router _ answer m r s is
-
-ticks_stay : (net : Network) (events : List Event) (w w' : World) → AllTick net w events w' → (r : ℕ) (s : State) → slice_get w.states r ≡ Some s → (t : State) × (slice_get w'.states r ≡ Some t)
-ticks_stay net [] w w' run r s is = (s, ap (λ (v : World). slice_get v.states r) run ∙ is)
-ticks_stay net (e ∷ events) w w' run r s is =
-    let one = event_stays net w run.0 e run.1 run.3 r s is in
-    ticks_stay net events run.0 w' run.4 r one.0 one.1
-
-hearings_stay : (net : Network) (events : List Event) (w w' : World) → AllHeard net w events w' → (r : ℕ) (s : State) → slice_get w.states r ≡ Some s → (t : State) × (slice_get w'.states r ≡ Some t)
-hearings_stay net [] w w' run r s is = (s, ap (λ (v : World). slice_get v.states r) run ∙ is)
-hearings_stay net (e ∷ events) w w' run r s is =
-    let one = event_stays net w run.0 e run.1 run.2 r s is in
-    hearings_stay net events run.0 w' run.4 r one.0 one.1
+use Rattle.ripng_world.proofs.RoundDeliveries.{AreHearing, IsBoundAt, IsFreshClock, gateway_at, deliveries_done, AreDelivered, HasHeardEvent}
+use Rattle.ripng_world.proofs.RoundStays.{ticks_stay, hearings_stay}
 
 -- ---- moments
 
