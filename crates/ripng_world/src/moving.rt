@@ -13,11 +13,8 @@ use crate::sent::Sent;
 use crate::station::Station;
 use prefix6::Addr6;
 use route_table::{Moment, RouteStore};
-use router_core::{Answer, Arrival, Destination, Listed, Outgoing};
+use router_core::{Answer, Arrival, Destination, Listed, Outgoing, RIPNG_PORT};
 use std::alloc::AllocError;
-
-/// The UDP port that routers send from (RFC 2080, section 2).
-const RIPNG_PORT: u16 = 521;
 
 /// The hop limit of what no router forwarded.
 const FULL_HOP_LIMIT: u8 = 255;

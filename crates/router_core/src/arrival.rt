@@ -6,7 +6,7 @@ use route_table::Moment;
 use std::marker::Model;
 
 /// The UDP port of RIPng (RFC 2080, section 2).
-pub(crate) const RIPNG_PORT: u16 = 521;
+pub const RIPNG_PORT: u16 = 521;
 
 /// A datagram as it came to an interface.
 #[derive(Drop)]

@@ -21,7 +21,7 @@ mod tell;
 mod ticking;
 
 pub use answer::{Answer, Destination, Note, NoteKind, Outgoing};
-pub use arrival::{Arrival, Fault};
+pub use arrival::{Arrival, Fault, RIPNG_PORT};
 pub use config::{ConfigRefused, INTERFACE_LIMIT, Interface, OWNED_LIMIT, RouterConfig};
 pub use laws::{changes_replay, held_is_size, pieces_join, start_replays};
 pub use listed::Listed;
