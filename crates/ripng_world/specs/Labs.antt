@@ -1,5 +1,5 @@
 -- A lab: a lawful network that has run since a cold start, and what then holds.
-use Rattle.std.specs.Prelude.{◌≡◌, ℕ, ◌<◌, ◌≤◌, ◌==◌, nat_le, not, Bool, false, List, [], ◌∷◌, ◌++◌, length, Option, Some, is_none, unwrap_or, option_map, option_and_then, slice_get}
+use Rattle.std.specs.Prelude.{◌≡◌, ℕ, ◌<◌, ◌≤◌, ◌==◌, nat_le, not, Bool, false, List, [], ◌∷◌, ◌++◌, length, Option, Some, is_none, unwrap_or, option_map, option_and_then, slice_get, codes}
 use Rattle.std.specs.FinMap as map_of
 use Rattle.std.specs.List.{AllByRecursion}
 use Rattle.std.specs.Option.{option_map_or}
@@ -101,3 +101,21 @@ pub record IsRefusedNext (lab : LabValue) (events : List Event) (place : ℕ) (w
   pub event : Event
   pub event_is : slice_get events place ≡ Some event
   pub reason : why ≡ unwrap_or (event_fault lab event) OutOfMemory
+
+-- the number of a refusal
+abbrev pub refusal_number : LabError → ℕ
+refusal_number NoSuchRouter = 1
+refusal_number NoSuchInterface = 2
+refusal_number NoSuchDatagram = 3
+refusal_number OtherLink = 4
+refusal_number NotAStranger = 5
+refusal_number OutOfMemory = 6
+
+-- the name of a refusal
+abbrev pub refusal_name : LabError → List ℕ
+refusal_name NoSuchRouter = codes "NoSuchRouter"
+refusal_name NoSuchInterface = codes "NoSuchInterface"
+refusal_name NoSuchDatagram = codes "NoSuchDatagram"
+refusal_name OtherLink = codes "OtherLink"
+refusal_name NotAStranger = codes "NotAStranger"
+refusal_name OutOfMemory = codes "OutOfMemory"

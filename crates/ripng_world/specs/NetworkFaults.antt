@@ -1,11 +1,11 @@
 -- Which networks are refused. The tests, their order and their names are this project's choice.
-use Rattle.std.specs.Prelude.{ℕ, ◌==◌, nat_lt, Bool, List, [], ◌∷◌, ◌++◌, map, length, flat_map, Option}
+use Rattle.std.specs.Prelude.{ℕ, ◌==◌, nat_lt, Bool, List, [], ◌∷◌, ◌++◌, map, length, flat_map, Option, codes}
 use Rattle.std.specs.List.{list_any}
 use Rattle.ripng_wire.specs.Wire.{first_failing}
 use Rattle.router_core.specs.Config.{config_tests, each_tested}
 use Rattle.ripng_world.specs.Network.{Network, Node, config_of}
 use Rattle.ripng_world.specs.declared.network.NetRefused.{NetRefused}
-use Rattle.ripng_world.specs.declared.network.NetRefused.TheVariants.{TooManyRouters, AddressSharedInNetwork, BadRouter}
+use Rattle.ripng_world.specs.declared.network.NetRefused.TheVariants.{TooManyRouters, AddressSharedInNetwork, BadRouter, OutOfMemory}
 use Rattle.ripng_world.specs.declared.network.TheConstants.{ROUTER_LIMIT}
 
 -- the tests of the configuration of a router with that number
@@ -32,3 +32,17 @@ network_tests net =
 -- the first test that fails
 abbrev pub network_fault : Network → Option NetRefused
 network_fault net = first_failing (network_tests net)
+
+-- the number of a refusal
+abbrev pub refused_number : NetRefused → ℕ
+refused_number TooManyRouters = 1
+refused_number AddressSharedInNetwork = 2
+refused_number (BadRouter router refusal) = 3
+refused_number OutOfMemory = 4
+
+-- the name of a refusal
+abbrev pub refused_name : NetRefused → List ℕ
+refused_name TooManyRouters = codes "TooManyRouters"
+refused_name AddressSharedInNetwork = codes "AddressSharedInNetwork"
+refused_name (BadRouter router refusal) = codes "BadRouter"
+refused_name OutOfMemory = codes "OutOfMemory"

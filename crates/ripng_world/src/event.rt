@@ -45,18 +45,44 @@ pub enum Event<'a> {
 /// Why an event is refused: the first test that it fails, in this order.
 #[derive(Clone, Copy, Debug, PartialEq, Eq)]
 pub enum LabError {
-    /// 1: the network has no such router.
-    NoSuchRouter,
-    /// 2: the router has no such interface.
-    NoSuchInterface,
-    /// 3: no such datagram was sent.
-    NoSuchDatagram,
-    /// 4: the datagram was sent on another link.
-    OtherLink,
-    /// 5: the arrival is a Response without a fault, as a router of the link would send.
-    NotAStranger,
-    /// 6: memory was refused.
-    OutOfMemory,
+    /// The network has no such router.
+    NoSuchRouter = 1,
+    /// The router has no such interface.
+    NoSuchInterface = 2,
+    /// No such datagram was sent.
+    NoSuchDatagram = 3,
+    /// The datagram was sent on another link.
+    OtherLink = 4,
+    /// The arrival is a Response without a fault, as a router of the link would send.
+    NotAStranger = 5,
+    /// Memory was refused.
+    OutOfMemory = 6,
+}
+
+impl LabError {
+    ghost use Rattle.std.specs.Prelude.{◌≡◌};
+    ghost use Rattle.ripng_world.specs.Labs.{refusal_name, refusal_number};
+
+    /// The number of the refusal, 1 to 6.
+    pub fn number(self) -> u8
+        ensures { result ≡ refusal_number self }
+    {
+        self as u8
+    }
+
+    /// The name of the refusal, one word.
+    pub fn name(self) -> &'static str
+        ensures { result.now ≡ refusal_name self }
+    {
+        match self {
+            LabError::NoSuchRouter => "NoSuchRouter",
+            LabError::NoSuchInterface => "NoSuchInterface",
+            LabError::NoSuchDatagram => "NoSuchDatagram",
+            LabError::OtherLink => "OtherLink",
+            LabError::NotAStranger => "NotAStranger",
+            LabError::OutOfMemory => "OutOfMemory",
+        }
+    }
 }
 
 impl From<AllocError> for LabError {

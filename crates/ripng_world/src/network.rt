@@ -52,19 +52,47 @@ impl Model for Node {
 /// that routers share.
 #[derive(Clone, Copy, Debug, PartialEq, Eq)]
 pub enum NetRefused {
-    /// 1: it has more than `ROUTER_LIMIT` routers.
+    /// It has more than `ROUTER_LIMIT` routers.
     TooManyRouters,
-    /// 2: two interfaces of the network have one address.
+    /// Two interfaces of the network have one address.
     AddressSharedInNetwork,
-    /// 3: the configuration of a router is refused.
+    /// The configuration of a router is refused.
     BadRouter {
         /// The number of the first such router, from 0.
         router: usize,
         /// Why.
         refusal: ConfigRefused,
     },
-    /// 4: memory was refused.
+    /// Memory was refused.
     OutOfMemory,
+}
+
+impl NetRefused {
+    ghost use Rattle.ripng_world.specs.NetworkFaults.{refused_name, refused_number};
+
+    /// The number of the refusal, 1 to 4.
+    pub fn number(self) -> u8
+        ensures { result ≡ refused_number self }
+    {
+        match self {
+            NetRefused::TooManyRouters => 1,
+            NetRefused::AddressSharedInNetwork => 2,
+            NetRefused::BadRouter { .. } => 3,
+            NetRefused::OutOfMemory => 4,
+        }
+    }
+
+    /// The name of the refusal, one word.
+    pub fn name(self) -> &'static str
+        ensures { result.now ≡ refused_name self }
+    {
+        match self {
+            NetRefused::TooManyRouters => "TooManyRouters",
+            NetRefused::AddressSharedInNetwork => "AddressSharedInNetwork",
+            NetRefused::BadRouter { .. } => "BadRouter",
+            NetRefused::OutOfMemory => "OutOfMemory",
+        }
+    }
 }
 
 impl From<AllocError> for NetRefused {

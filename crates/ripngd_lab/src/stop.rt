@@ -72,34 +72,18 @@ impl fmt::Display for Refusal {
         match self {
             Refusal::BadLine => write!(f, "BadLine"),
             Refusal::Network(refused) => write_network(*refused, f),
-            Refusal::Event(error) => write!(f, "{}", event_text(*error)),
+            Refusal::Event(error) => write!(f, "{} {}", error.number(), error.name()),
         }
     }
 }
 
+// A network is refused, and if for a router, for which one and why.
 fn write_network<W: fmt::Write>(refused: NetRefused, f: &mut fmt::Formatter<W>) -> fmt::Result {
+    write!(f, "{} {}", refused.number(), refused.name())?;
     match refused {
-        NetRefused::TooManyRouters => write!(f, "1 TooManyRouters"),
-        NetRefused::AddressSharedInNetwork => write!(f, "2 AddressSharedInNetwork"),
         NetRefused::BadRouter { router, refusal } => {
-            write!(
-                f,
-                "3 BadRouter {router} {} {}",
-                refusal.number(),
-                refusal.name()
-            )
+            write!(f, " {router} {} {}", refusal.number(), refusal.name())
         }
-        NetRefused::OutOfMemory => write!(f, "4 OutOfMemory"),
-    }
-}
-
-fn event_text(error: LabError) -> &'static str {
-    match error {
-        LabError::NoSuchRouter => "1 NoSuchRouter",
-        LabError::NoSuchInterface => "2 NoSuchInterface",
-        LabError::NoSuchDatagram => "3 NoSuchDatagram",
-        LabError::OtherLink => "4 OtherLink",
-        LabError::NotAStranger => "5 NotAStranger",
-        LabError::OutOfMemory => "6 OutOfMemory",
+        _ => Ok(()),
     }
 }
