@@ -1,7 +1,7 @@
 //! Routers that run over sockets of loopback. Every port is one that the system chose, so that runs side by side do not
 //! meet.
 
-use crate::{Engine, Udp, Uptime, program, read_config};
+use crate::{Config, Engine, Udp, Uptime, program, read_config};
 use rand_pcg::Pcg32;
 use route_table::SortedRoutes;
 use std::alloc::{AllocError, Global};
@@ -71,16 +71,16 @@ fn started<'a, R: Clock + Net + AllocGlobal>(
     let Ok(config) = read_config(rt.alloc(), text.as_bytes(), 0, false) else {
         return Err(Fail::from("a configuration"));
     };
-    let link = Udp::bind(rt, rt.alloc(), config.ports.as_slice(), config.peers)?;
+    let Config {
+        router,
+        ports,
+        peers,
+        rng,
+    } = config;
+    let link = Udp::bind(rt, rt.alloc(), ports.as_slice(), peers)?;
     let clock = Uptime::new(rt);
-    Ok(Engine::start(
-        rt.alloc(),
-        config.router,
-        link,
-        clock,
-        config.rng,
-        &mut io::sink(),
-    )?)
+    let engine = Engine::start(rt.alloc(), router, link, clock, rng, &mut io::sink())?;
+    Ok(engine)
 }
 
 /// Whether a socket holds a datagram of these bytes.
