@@ -5,11 +5,11 @@
 //! tell, in `specs/Seen`.
 #![tactic(auto)]
 
+mod change_lines;
 mod clock;
 mod engine;
 pub mod laws;
 mod link;
-mod log;
 pub mod memory;
 mod outlet;
 mod report;
@@ -17,8 +17,8 @@ mod running;
 #[cfg(test)]
 mod tests;
 
+pub use change_lines::RouteLine;
 pub use clock::TimeSource;
 pub use engine::Engine;
 pub use link::{Link, LinkFault, Received};
-pub use log::RouteLine;
 pub use report::{EngineFault, Report};

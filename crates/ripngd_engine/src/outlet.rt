@@ -4,8 +4,8 @@ ghost use Rattle.std.specs.Prelude.{◌≡◌, is_err};
 ghost use Rattle.ripngd_engine.specs.Run.{counted};
 ghost use Rattle.ripngd_engine.specs.Outlet.{HandsOver};
 
+use crate::change_lines::write_lines;
 use crate::link::Link;
-use crate::log::write_lines;
 use fib::Fib;
 use router_core::{Answer, Outgoing};
 use std::alloc::AllocError;

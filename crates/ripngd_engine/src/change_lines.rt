@@ -1,4 +1,4 @@
-//! The log: a line for each change of a route.
+//! Lines of text: one for each change of a route, as the log has them, and one for each route.
 
 ghost use Rattle.std.specs.Prelude.{◌≡◌, true, false, Some};
 ghost use Rattle.std.specs.Io.KnownBytes.{Appends};
