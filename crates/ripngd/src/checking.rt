@@ -1,5 +1,10 @@
 //! `check`: whether a text is a configuration that a router can run on.
 
+ghost use Rattle.std.specs.Prelude.{◌≡◌, ◌≢◌, Ok, IfOk, false, true};
+ghost use Rattle.ripngd_config.specs.Configuration.{IsConfigured, Refuses};
+ghost use Rattle.ripngd_config.specs.declared.configuration.Config as configured;
+ghost use Rattle.ripngd_config.specs.declared.fault.ConfigFault as refusal;
+
 use ripngd_config::{Config, ConfigFault, read_config};
 use std::alloc::{AllocError, Global};
 use std::io::{self, Write};
@@ -9,7 +14,10 @@ use std::io::{self, Write};
 ///
 /// # Errors
 /// `OutOfMemory` where memory was refused, else the fault of `out`.
-pub fn check<W: Write>(alloc: Global, text: &[u8], out: &mut W) -> io::Result<bool> {
+pub fn check<W: Write>(alloc: Global, text: &[u8], out: &mut W) -> io::Result<bool>
+    ensures accepted { result ≡ Ok true → (config : configured.Config) × IsConfigured text.now 0 false config }
+    ensures refused { result ≡ Ok false → (fault : refusal.ConfigFault) × (fault ≢ ConfigFault.OutOfMemory) × Refuses text.now 0 false fault }
+{
     match read_config(alloc, text, 0, false) {
         Ok(config) => {
             write_counts(&config, out)?;
@@ -36,7 +44,9 @@ fn write_counts<W: Write>(config: &Config, out: &mut W) -> io::Result<()> {
 ///
 /// # Errors
 /// `OutOfMemory` where that is the fault, else the fault of `out`.
-pub(crate) fn write_refusal<W: Write>(fault: &ConfigFault, out: &mut W) -> io::Result<bool> {
+pub(crate) fn write_refusal<W: Write>(fault: &ConfigFault, out: &mut W) -> io::Result<bool>
+    ensures { IfOk result (λ accepted. (accepted ≡ false) × (fault.now ≢ ConfigFault.OutOfMemory)) }
+{
     match fault {
         ConfigFault::OutOfMemory => Err(io::Error::from(AllocError)),
         _ => {
