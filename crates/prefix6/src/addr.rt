@@ -1,25 +1,78 @@
 //! IPv6 addresses, and the kinds of them that RIPng tells apart (RFC 4291, section 2.4).
 
-ghost use Rattle.std.specs.Prelude.{◌≡◌, ◌<◌, ◌^◌};
+ghost use Rattle.std.specs.Prelude.{◌≡◌, ◌<◌, ◌^◌, ◌/◌, ◌%◌, ◌==◌};
 ghost use Rattle.std.specs.Int.{w128, to_be_bytes, from_be_bytes};
+ghost use Rattle.std.specs.Ordering.{nat_cmp, as_partial_cmp};
+ghost use Rattle.std.specs.Cmp.{partial_order_from_own_ties};
+ghost use Rattle.std.specs.Cmp.Rules.{comparing};
+ghost use Rattle.std.proofs.Common.{rules};
 ghost use Rattle.prefix6.specs.Addr.{is_link_local, is_multicast, is_unspecified};
 
+use std::cmp::Ordering;
 use std::marker::Model;
 
-/// An IPv6 address, in the order of its number. Contracts see it as that number, below 2^128.
-#[derive(Clone, Copy, Debug, PartialEq, Eq, PartialOrd, Ord)]
+/// An IPv6 address, in the order of its number. Contracts see it as that number, below 2^128. It
+/// is kept in two halves, so that it fits wherever a `u64` does: what holds addresses is smaller.
+#[derive(Clone, Copy, Debug)]
 pub struct Addr6 {
-    bits: u128,
+    high: u64,
+    low: u64,
 }
 
 impl Model for Addr6 {
-    ghost use Rattle.std.specs.Prelude.{ℕ};
+    ghost use Rattle.std.specs.Prelude.{ℕ, ◌+◌, ◌*◌, ◌/◌, ◌%◌, ◌^◌};
+    ghost use Rattle.prefix6.specs.HalfWords.{AreHalves, same_high, same_low};
 
     ghost Value = { ℕ };
 
-    ghost view = { λ a. a.bits };
+    ghost view = { λ a. a.high * 2 ^ 64 + a.low };
 
-    ghost inverse = { λ n. record { bits = n } };
+    ghost invariant = { λ a. AreHalves a.high a.low };
+
+    ghost inverse = { λ n. record { high = n / 2 ^ 64; low = n % 2 ^ 64 } };
+
+    ghost inverse_ok = { λ a h i. record {
+      high = same_high a.high a.low h i;
+      low = same_low a.high a.low h i;
+    } };
+}
+
+impl PartialEq for Addr6 {
+    ghost eq = { ◌==◌ };
+
+    ghost laws = { Prim.search (comparing, rules) };
+
+    fn eq(&self, other: &Addr6) -> bool {
+        self.bits() == other.bits()
+    }
+}
+
+impl Eq for Addr6 {
+    ghost laws = { Prim.search (comparing, rules) };
+}
+
+impl PartialOrd for Addr6 {
+    ghost partial_cmp = { as_partial_cmp nat_cmp };
+
+    ghost laws = { partial_order_from_own_ties (Prim.search (comparing, rules)) (Prim.search (comparing, rules)) };
+
+    fn partial_cmp(&self, other: &Addr6) -> Option<Ordering> {
+        Some(self.cmp(other))
+    }
+}
+
+impl Ord for Addr6 {
+    ghost cmp = { nat_cmp };
+
+    ghost total = { Prim.search (comparing, rules) };
+
+    ghost matches_partial_cmp = { Prim.search (comparing, rules) };
+
+    ghost matches_eq = { Prim.search (comparing, rules) };
+
+    fn cmp(&self, other: &Addr6) -> Ordering {
+        self.bits().cmp(&other.bits())
+    }
 }
 
 impl Addr6 {
@@ -27,7 +80,10 @@ impl Addr6 {
     pub fn from_bits(bits: u128) -> Addr6
         ensures { result ≡ bits }
     {
-        Addr6 { bits }
+        Addr6 {
+            high: (bits / (1 << 64)) as u64,
+            low: (bits % (1 << 64)) as u64,
+        }
     }
 
     /// The number of the address, whose highest byte is the first of the address.
@@ -35,43 +91,55 @@ impl Addr6 {
         ensures number { result ≡ self }
         ensures in_range { self < 2 ^ 128 }
     {
-        self.bits
+        u128::from(self.high) * (1 << 64) + u128::from(self.low)
+    }
+
+    // The upper half of its bits, as a number.
+    pub(crate) fn high(self) -> u64
+        ensures { result ≡ self / 2 ^ 64 }
+    {
+        self.high
+    }
+
+    // The lower half of its bits, as a number.
+    pub(crate) fn low(self) -> u64
+        ensures { result ≡ self % 2 ^ 64 }
+    {
+        self.low
     }
 
     /// The address of its sixteen octets, in the order of the wire.
     pub fn from_octets(octets: [u8; 16]) -> Addr6
         ensures { result ≡ from_be_bytes w128 octets }
     {
-        Addr6 {
-            bits: u128::from_be_bytes(octets),
-        }
+        Addr6::from_bits(u128::from_be_bytes(octets))
     }
 
     /// The sixteen octets of the address, in the order of the wire.
     pub fn octets(self) -> [u8; 16]
         ensures { result ≡ to_be_bytes w128 self }
     {
-        self.bits.to_be_bytes()
+        self.bits().to_be_bytes()
     }
 
     /// Whether the address is in FE80::/10: it holds on one link alone (RFC 4291, section 2.5.6).
     pub fn is_link_local(self) -> bool
         ensures { result ≡ is_link_local self }
     {
-        self.bits >> 118 == 0xfe80 >> 6
+        self.bits() >> 118 == 0xfe80 >> 6
     }
 
     /// Whether the address is in FF00::/8: it names a group (RFC 4291, section 2.7).
     pub fn is_multicast(self) -> bool
         ensures { result ≡ is_multicast self }
     {
-        self.bits >> 120 == 0xff
+        self.bits() >> 120 == 0xff
     }
 
     /// Whether the address is `::`, which no interface has (RFC 4291, section 2.5.2).
     pub fn is_unspecified(self) -> bool
         ensures { result ≡ is_unspecified self }
     {
-        self.bits == 0
+        self.bits() == 0
     }
 }

@@ -2,6 +2,7 @@
 
 ghost use Rattle.std.specs.Prelude.{◌≡◌, ℕ, ◌≤◌, ◌<◌, ◌^◌, ◌↔◌, IsTrue, IsOk, IfOk, IfErr};
 ghost use Rattle.prefix6.specs.Prefix.{Prefix6, IsPrefix, Holds, first_bits, cleared, is_routable};
+ghost use Rattle.prefix6.specs.Halves.{IsUnder, IsMeet, middle};
 ghost use Rattle.prefix6.specs.declared.error.PrefixError.TheVariants.{LengthTooLarge};
 
 use crate::addr::Addr6;
@@ -90,6 +91,50 @@ impl Prefix {
         ensures prefix { IsPrefix self.now }
     {
         !self.addr.is_multicast() && !self.addr.is_link_local()
+    }
+
+    /// Whether the other prefix is longer and lies in this one.
+    pub fn is_above(&self, other: &Prefix) -> bool
+        ensures { IsTrue result ↔ IsUnder self.now other.now }
+    {
+        self.len < other.len && self.contains(other.addr())
+    }
+
+    /// Whether the other prefix begins before the upper half of this one.
+    pub fn is_before_middle(&self, other: &Prefix) -> bool
+        ensures { IsTrue result ↔ (other.now.addr < middle self.now) }
+    {
+        if self.len < 64 {
+            let half = 1u64 << (63 - self.len);
+            let ahead = other.addr.high().saturating_sub(self.addr.high());
+            return if ahead == half {
+                other.addr.low() < self.addr.low()
+            } else {
+                ahead < half
+            };
+        }
+        let half = 1u128 << 127u8.saturating_sub(self.len);
+        other.addr.bits().saturating_sub(self.addr.bits()) < half
+    }
+
+    /// The longest prefix that holds both this one and the other.
+    pub fn meet(&self, other: &Prefix) -> Prefix
+        ensures meet { IsMeet self.now other.now result }
+        ensures first { IsPrefix self.now }
+        ensures second { IsPrefix other.now }
+    {
+        let mut len = self.len.min(other.len);
+        while leading_bits(self.addr, len) != leading_bits(other.addr, len) {
+            len -= 1;
+        }
+        Prefix {
+            addr: Addr6::from_bits(
+                leading_bits(self.addr, len)
+                    .checked_shl(128 - u32::from(len))
+                    .unwrap_or(0),
+            ),
+            len,
+        }
     }
 }
 

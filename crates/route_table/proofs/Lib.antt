@@ -4,3 +4,13 @@ pub mod Walks
 pub mod Midway
 pub mod SortedEntries
 pub mod SortedTable
+pub mod TrieLists
+pub mod TrieParts
+pub mod TrieSummary
+pub mod TrieWalk
+pub mod TrieReplace
+pub mod TrieAdd
+pub mod TrieTable
+pub mod NextDue
+pub mod SortedDue
+pub mod WalksWhere

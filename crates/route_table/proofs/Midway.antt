@@ -1,23 +1,22 @@
 -- Walks over a table whose entries behind the walk are replaced or removed.
-use Rattle.std.proofs.Common.{◌≡◌, ℕ, zero, suc, ◌+◌, ◌-◌, ◌<◌, ◌≤◌, Bool, true, false, cond, [], ◌∷◌, ◌++◌, length, take, drop, Option, Some, None, slice_get, refl, sym, ap, ◌∙◌, arith, add-zero, length-drop, append_assoc}
+use Rattle.std.proofs.Common.{◌≡◌, ℕ, ◌+◌, ◌≤◌, Bool, true, false, cond, [], ◌∷◌, ◌++◌, length, take, drop, Option, Some, None, slice_get, refl, sym, ap, ◌∙◌, arith, append_assoc}
 use Rattle.std.specs.Prelude.{T}
 use Rattle.std.specs.List.{find as first, cons_option}
-use Rattle.std.specs.Option.{option_map, option_or}
+use Rattle.std.specs.Option.{option_map}
 use Rattle.std.specs.FinMap as map
 use Rattle.std.specs.FinMap.{entries, is_sorted}
-use Rattle.std.proofs.lemmas.List.{length-take-le, get_or-take, get_or-drop, append-nil}
+use Rattle.std.proofs.lemmas.List.{length-take-le, get_or-take, append-nil, take_all}
 use Rattle.std.proofs.lemmas.List.Elements.{filter_map-append}
-use Rattle.std.proofs.lemmas.List.Folds.{find-append}
 use Rattle.std.proofs.lemmas.Option.{slice_get_past}
 use Rattle.std.proofs.Math.ListN.{drop_of_length-le}
 use Rattle.prefix6.specs.Prefix.{Prefix6, prefix_cmp}
 use Rattle.route_table.specs.Route.{RouteValue}
-use Rattle.route_table.specs.Table.{Table, is_past, first_past, map_entries, map_values, with_value}
+use Rattle.route_table.specs.Table.{Table, is_past, map_entries, map_values, with_value}
 use Rattle.route_table.specs.Place.{Entries}
 use Rattle.route_table.proofs.SortedEntries.{first_at}
 use Rattle.route_table.proofs.TableLaws.{entries-map_values}
 use Rattle.route_table.proofs.TableSteps.{get-middle, entries-replace, entries-remove}
-use Rattle.route_table.proofs.Walks.{WalksTo, WalksTo-start, WalksTo-next, WalksTo-end, IsEntryAt, prefix_before, present_at, start_before, take_next, drop_next}
+use Rattle.route_table.proofs.Walks.{prefix_before, start_before, take_next, drop_next}
 
 abbrev Entry : Type 0
 Entry = Prefix6 × RouteValue
@@ -52,24 +51,10 @@ none_before es k h le =
     first_at _ (take k es) k (λ j d lt in_range. rw (get_or-take k es j d lt) (s.before j d lt (omega arith))) (λ d lt. absurd (omega arith))
     ∙ slice_get_past (take k es) k (omega arith)
 
-first_of_rest : (es : Entries) (k : ℕ) → k ≤ length es → slice_get (drop k es) 0 ≡ slice_get es k
-first_of_rest [] zero le = refl
-first_of_rest [] (suc k) le = absurd (omega arith)
-first_of_rest (e ∷ es) zero le = refl
-first_of_rest (e ∷ es) (suc k) le = first_of_rest es k (omega arith)
-
--- a walk from the place that it has come to meets the entry of old
-pub first_past-midway : (f : RouteValue → Option RouteValue) (es : Entries) (k : ℕ) (t : Table)
-    → T (is_sorted prefix_cmp es) → k ≤ length es → IsMidway f es k t
-    → first_past (prefix_before es k) t ≡ slice_get es k
-first_past-midway f es k t h le is =
-    let s = start_before es k h le in
-    let p = λ (e : Entry). is_past (prefix_before es k) e.0 in
-    let none : first p (map_entries f (take k es)) ≡ None = kept_none (is_past (prefix_before es k)) f (take k es) (none_before es k h le) in
-    let longer : length (drop k es) ≡ length es - k = length-drop k es in
-    let rest : first p (drop k es) ≡ slice_get (drop k es) 0 =
-    first_at p (drop k es) 0 (λ j d l r. absurd (omega arith)) (λ d r. rw (get_or-drop k es 0 d, add-zero) (s.here d (omega arith))) in
-    ap (first p) is ∙ find-append p (map_entries f (take k es)) (drop k es) ∙ ap (λ o. option_or o (first p (drop k es))) none ∙ rest ∙ first_of_rest es k le
+-- nothing that is behind the walk is past it
+pub none_behind : (f : RouteValue → Option RouteValue) (es : Entries) (k : ℕ) → T (is_sorted prefix_cmp es) → k ≤ length es
+    → first (λ (e : Entry). is_past (prefix_before es k) e.0) (map_entries f (take k es)) ≡ None
+none_behind f es k h le = kept_none (is_past (prefix_before es k)) f (take k es) (none_before es k h le)
 
 module _ (f : RouteValue → Option RouteValue) (es : Entries) (k : ℕ) (e : Entry) (t : Table) (at_k : slice_get es k ≡ Some e) (is : IsMidway f es k t) where
   split : entries t ≡ map_entries f (take k es) ++ e ∷ drop (k + 1) es
@@ -93,45 +78,13 @@ module _ (f : RouteValue → Option RouteValue) (es : Entries) (k : ℕ) (e : En
       placed (f e.1)
       ∙ ap (λ l. l ++ drop (k + 1) es) (sym (ap (map_entries f) (take_next es k e at_k) ∙ filter_map-append (λ (x : Entry). option_map (λ y. (x.0, y)) (f x.1)) (take k es) (e ∷ [])))
 
--- ---- the invariant of a loop that walks a table and puts f of each entry in its place
--- the walk over t stands past the entries below place k, and u is t with f of each of these
-pub record WalksMidway (f : RouteValue → Option RouteValue) (t u : Table) (after : Option Prefix6) (k : ℕ) : Type 0 where
-  pub walks : WalksTo t after k
-  pub midway : IsMidway f (entries t) k u
-
-pub WalksMidway-start : (f : RouteValue → Option RouteValue) (t : Table) → WalksMidway f t t None 0
-WalksMidway-start f t = record { walks = WalksTo-start t; midway = refl }
-
-module _ {f : RouteValue → Option RouteValue} {t u : Table} {after : Option Prefix6} {k : ℕ} where
-  answered : WalksMidway f t u after k → k ≤ map.len t → first_past after u ≡ slice_get (entries t) k
-  answered w le =
-      ap (λ a. first_past a u) w.walks.stands
-      ∙ first_past-midway f (entries t) k u (map.entries_sorted t) (omega (arith, map.len-entries t)) w.midway
-
-  -- walk answers the entry of t at the place that the walk has come to
-  pub WalksMidway-entry : {answer : Option Entry} {e : Entry} → WalksMidway f t u after k → k < map.len t → answer ≡ first_past after u → answer ≡ Some e → IsEntryAt t k e
-  WalksMidway-entry w lt gives some = record { is = sym (answered w (omega arith)) ∙ sym gives ∙ some }
-
-  -- and there is one below the length
-  pub WalksMidway-present : {answer : Option Entry} → WalksMidway f t u after k → k < map.len t → answer ≡ first_past after u → answer ≡ None → ⊥
-  WalksMidway-present w lt gives none =
-      present_at (entries t) k (omega (arith, map.len-entries t)) (sym (answered w (omega arith)) ∙ sym gives ∙ none)
-
-  -- which u still has
-  pub WalksMidway-get : {e : Entry} → WalksMidway f t u after k → IsEntryAt t k e → map.get u e.0 ≡ Some e.1
-  WalksMidway-get {e = e} w here = get-midway f (entries t) k e u here.is w.midway
-
-  -- one entry further, once f of it is in its place
-  pub WalksMidway-next : {e : Entry} → WalksMidway f t u after k → IsEntryAt t k e → WalksMidway f t (with_value u e.0 (f e.1)) (Some e.0) (k + 1)
-  WalksMidway-next {e = e} w here = record { walks = WalksTo-next w.walks here; midway = IsMidway-next f (entries t) k e u here.is w.midway }
-
-  -- a walk to the end has mapped the whole table
-  pub WalksMidway-end : WalksMidway f t u after k → map.len t ≤ k → u ≡ map_values f t
-  WalksMidway-end w le =
-      map.same_entries_map _ _ (
-      w.midway
-      ∙ ap (λ l. map_entries f l ++ drop k (entries t)) (WalksTo-end w.walks le)
-      ∙ ap (λ l. map_entries f (entries t) ++ l) (drop_of_length-le (entries t) (omega (arith, map.len-entries t)))
-      ∙ append-nil _
-      ∙ sym (entries-map_values f t)
-      )
+-- at the end the whole table is mapped
+pub midway_all : (f : RouteValue → Option RouteValue) (t u : Table) → IsMidway f (entries t) (length (entries t)) u → u ≡ map_values f t
+midway_all f t u is =
+    map.same_entries_map _ _ (
+    is
+    ∙ ap (λ l. map_entries f l ++ drop (length (entries t)) (entries t)) (take_all (length (entries t)) (entries t) (omega arith))
+    ∙ ap (λ l. map_entries f (entries t) ++ l) (drop_of_length-le (entries t) (omega arith))
+    ∙ append-nil _
+    ∙ sym (entries-map_values f t)
+    )

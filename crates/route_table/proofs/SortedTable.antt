@@ -40,7 +40,7 @@ module _ (es : Entries) (h : T (is_sorted prefix_cmp es)) (t : Table) (is : from
   pub len_is : map.len t ≡ length es
   len_is = len-entries t ∙ ap length entries_are
 
-  get_is : (k : Prefix6) → map.get t k ≡ find prefix_cmp k es
+  pub get_is : (k : Prefix6) → map.get t k ≡ find prefix_cmp k es
   get_is k = ap (λ m. map.get m k) (sym is) ∙ get-from_sorted prefix_cmp es k h
 
   pub get_at : (k : Prefix6) (i : ℕ) (d : Prefix6 × RouteValue) → IsAt es k i → Some (get_or es i d).1 ≡ map.get t k

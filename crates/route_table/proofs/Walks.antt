@@ -3,9 +3,8 @@ use Rattle.std.proofs.Common.{◌≡◌, ℕ, zero, suc, ◌+◌, ◌<◌, ◌�
 use Rattle.std.specs.Prelude.{T}
 use Rattle.std.specs.List.{list_any, filter_map, cons_option}
 use Rattle.std.specs.Option.{option_map, option_to_list}
-use Rattle.std.specs.FinMap as map
 use Rattle.std.specs.FinMap.{entries, is_sorted}
-use Rattle.std.proofs.lemmas.List.{take_all, take_more, take-append-drop}
+use Rattle.std.proofs.lemmas.List.{take_more}
 use Rattle.std.proofs.lemmas.List.Elements.{filter_map-append}
 use Rattle.std.proofs.lemmas.List.Folds.{list_any-append}
 use Rattle.std.proofs.lemmas.Option.{get_or_from_slice_get, same_Some, slice_get_within}
@@ -13,11 +12,10 @@ use Rattle.std.proofs.Math.Bool.{or-false}
 use Rattle.std.proofs.Math.Seq.{drop-cons}
 use Rattle.prefix6.specs.Prefix.{Prefix6, prefix_cmp}
 use Rattle.route_table.specs.Route.{RouteValue}
-use Rattle.route_table.specs.Table.{Table, first_past}
+use Rattle.route_table.specs.Table.{Table}
 use Rattle.route_table.specs.Place.{Entries, IsStartPast}
-use Rattle.route_table.proofs.SortedEntries.{first_at, start_after}
+use Rattle.route_table.proofs.SortedEntries.{start_after}
 use Rattle.route_table.proofs.SortedTable.{start_all}
-use Rattle.route_table.proofs.TableSteps.{get-middle}
 
 abbrev Entry : Type 0
 Entry = Prefix6 × RouteValue
@@ -46,23 +44,6 @@ start_before es (suc k) h le = from_entry (slice_get es k) refl
     from_entry None is = absurd (present_at es k (omega arith) is)
     from_entry (Some e) is = rw (is, ← add-one k) (start_after es e.0 k h (record { in_range = omega arith; has_prefix = λ d. ap (λ (x : Entry). x.0) (get_or_from_slice_get es k e d is) }))
 
--- ---- a walk over a table that stays
--- past the prefix before a place comes the entry of that place
-pub first_past-prefix_before : (t : Table) (k : ℕ) → k ≤ length (entries t) → first_past (prefix_before (entries t) k) t ≡ slice_get (entries t) k
-first_past-prefix_before t k le =
-    let s = start_before (entries t) k (map.entries_sorted t) le in
-    first_at _ (entries t) k s.before s.here
-
--- a walk begins with the first entry
-pub first_past-None : (t : Table) → first_past None t ≡ slice_get (entries t) 0
-first_past-None t = first_past-prefix_before t 0 (omega arith)
-
--- past an entry comes the next one
-pub first_past-Some : (t : Table) (k : ℕ) (e : Entry) → slice_get (entries t) k ≡ Some e → first_past (Some e.0) t ≡ slice_get (entries t) (k + 1)
-first_past-Some t k e at_k =
-    let within = slice_get_within (entries t) k e at_k in
-    ap (λ a. first_past a t) (sym (prefix_before-next (entries t) k e at_k)) ∙ first_past-prefix_before t (k + 1) (omega arith)
-
 -- ---- one entry further
 pub take_next : (es : Entries) (k : ℕ) (e : Entry) → slice_get es k ≡ Some e → take (k + 1) es ≡ take k es ++ e ∷ []
 take_next es k e at_k = take_more es k e (slice_get_within es k e at_k) ∙ ap (λ x. take k es ++ x ∷ []) (get_or_from_slice_get es k e e at_k)
@@ -86,30 +67,6 @@ WalksTo-start t = record { stands = refl }
 
 pub WalksTo-next : {t : Table} {after : Option Prefix6} {k : ℕ} {e : Entry} → WalksTo t after k → IsEntryAt t k e → WalksTo t (Some e.0) (k + 1)
 WalksTo-next {t = t} {k = k} {e = e} w here = record { stands = sym (prefix_before-next (entries t) k e here.is) }
-
--- walk answers the entry at the place that the walk has come to
-answered : {t : Table} {after : Option Prefix6} {k : ℕ} → WalksTo t after k → k ≤ map.len t → first_past after t ≡ slice_get (entries t) k
-answered {t = t} {k = k} w le =
-    ap (λ a. first_past a t) w.stands ∙ first_past-prefix_before t k (omega (arith, map.len-entries t))
-
-pub WalksTo-entry : {t : Table} {after : Option Prefix6} {k : ℕ} {answer : Option Entry} {e : Entry} → WalksTo t after k → k < map.len t
-    → answer ≡ first_past after t → answer ≡ Some e → IsEntryAt t k e
-WalksTo-entry w lt gives some = record { is = sym (answered w (omega arith)) ∙ sym gives ∙ some }
-
--- and there is one below the length
-pub WalksTo-present : {t : Table} {after : Option Prefix6} {k : ℕ} {answer : Option Entry} → WalksTo t after k → k < map.len t
-    → answer ≡ first_past after t → answer ≡ None → ⊥
-WalksTo-present {t = t} {k = k} w lt gives none =
-    present_at (entries t) k (omega (arith, map.len-entries t)) (sym (answered w (omega arith)) ∙ sym gives ∙ none)
-
-pub get-IsEntryAt : {t : Table} {k : ℕ} {e : Entry} → IsEntryAt t k e → map.get t e.0 ≡ Some e.1
-get-IsEntryAt {t = t} {k = k} {e = e} here =
-    get-middle (take k (entries t)) (drop (k + 1) (entries t)) e.0 e.1 t
-    (sym (take-append-drop k (entries t)) ∙ ap (λ l. take k (entries t) ++ l) (drop_next (entries t) k e here.is))
-
--- the entries that a walk to the end has met are all
-pub WalksTo-end : {t : Table} {after : Option Prefix6} {k : ℕ} → WalksTo t after k → map.len t ≤ k → take k (entries t) ≡ entries t
-WalksTo-end {t = t} {k = k} w le = take_all k (entries t) (omega (arith, map.len-entries t))
 
 -- ---- what a loop makes of the entries that it has met
 one_option : {X : Type 0} (o : Option X) → cons_option o [] ≡ option_to_list o

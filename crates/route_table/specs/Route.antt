@@ -1,9 +1,9 @@
 -- Routes (RFC 2080, 2.2 and 2.3).
-use Rattle.std.specs.Prelude.{◌≡◌, ℕ, ◌≤◌, ◌==◌, Bool, true, false, IsTrue}
+use Rattle.std.specs.Prelude.{◌≡◌, ℕ, ◌≤◌, ◌==◌, Bool, true, false, Option, Some, None, IsTrue, if◌then◌else◌}
 use Rattle.route_table.specs.declared.route.Origin.{Origin}
 use Rattle.route_table.specs.declared.route.Origin.TheVariants.{Own, Learned}
 use Rattle.route_table.specs.declared.route.Clock.{Clock}
-use Rattle.route_table.specs.declared.route.Clock.TheVariants.{Fixed, Dying}
+use Rattle.route_table.specs.declared.route.Clock.TheVariants.{Fixed, Live, Dying}
 
 -- a route as contracts see it
 pub record RouteValue : Type 0 where
@@ -28,6 +28,26 @@ is_fixed _ = false
 abbrev pub is_dying : Clock → Bool
 is_dying (Dying until) = true
 is_dying _ = false
+
+abbrev pub deadline_by_clock : Clock → Option ℕ
+deadline_by_clock Fixed = None
+deadline_by_clock (Live until) = Some until
+deadline_by_clock (Dying until) = Some until
+
+-- the deadline of a route that ages
+abbrev pub deadline : RouteValue → Option ℕ
+deadline r = deadline_by_clock r.clock
+
+-- the clock of a route of this origin and metric: how it ages, by what it is
+abbrev pub clock_of : Origin → ℕ → ℕ → Clock
+clock_of Own metric until = Fixed
+clock_of (Learned iface from next_hop) metric until = if metric == infinity then Dying until else Live until
+
+-- the deadline of a clock, or 0
+abbrev pub until_of : Clock → ℕ
+until_of Fixed = 0
+until_of (Live until) = until
+until_of (Dying until) = until
 
 -- the metric is usable or infinity, infinity exactly where the route is dying, and an own route is exactly one that never ages
 pub record IsRoute (r : RouteValue) : Type 0 where

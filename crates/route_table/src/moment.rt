@@ -73,6 +73,13 @@ impl Model for Deadline {
 }
 
 impl Deadline {
+    // The deadline that stands where there is none.
+    pub(crate) fn zero() -> Deadline
+        ensures { result ≡ 0 }
+    {
+        Deadline { ms: 0 }
+    }
+
     /// The milliseconds, below 2^60 + 2^32.
     pub fn ms(self) -> u64
         ensures value { result ≡ self }

@@ -1,7 +1,7 @@
 //! Routes, and what may become of them (RFC 2080, sections 2.2 and 2.3).
 
 ghost use Rattle.std.specs.Prelude.{◌≡◌, ◌≤◌, ◌<◌, true, false};
-ghost use Rattle.route_table.specs.Route.{IsRoute, infinity, is_fixed, is_own};
+ghost use Rattle.route_table.specs.Route.{IsRoute, infinity, is_fixed, is_own, deadline};
 
 use crate::moment::Deadline;
 use prefix6::Addr6;
@@ -38,18 +38,20 @@ pub enum Clock {
 }
 
 /// A route to a prefix. Its metric is 1 to 15 hops, or 16 for unreachable exactly while it is
-/// dying. A router's own route is exactly one that never ages, and has metric 1.
+/// dying. A router's own route is exactly one that never ages, and has metric 1. So the clock is
+/// kept as its deadline alone, and the fields stand in an order that leaves no gaps.
 #[derive(Clone, Copy, Debug, PartialEq, Eq)]
 pub struct Route {
     metric: u8,
-    tag: u16,
-    origin: Origin,
-    clock: Clock,
     changed: bool,
+    tag: u16,
+    until: Deadline,
+    origin: Origin,
 }
 
 impl Model for Route {
-    ghost use Rattle.route_table.specs.Route.{RouteValue, IsRoute};
+    ghost use Rattle.route_table.specs.Route.{RouteValue, IsRoute, clock_of, until_of};
+    ghost use Rattle.std.specs.Prelude.{◌≡◌};
 
     ghost Value = { RouteValue };
 
@@ -57,24 +59,35 @@ impl Model for Route {
       metric = r.metric;
       tag = r.tag;
       origin = r.origin;
-      clock = r.clock;
+      clock = clock_of r.origin r.metric r.until;
       changed = r.changed;
     } };
 
-    ghost invariant = { λ r. IsRoute (record {
-      metric = r.metric;
-      tag = r.tag;
-      origin = r.origin;
-      clock = r.clock;
-      changed = r.changed;
-    }) };
+    ghost invariant = { λ r. record {
+      route : IsRoute (record {
+        metric = r.metric;
+        tag = r.tag;
+        origin = r.origin;
+        clock = clock_of r.origin r.metric r.until;
+        changed = r.changed;
+      });
+      until : until_of (clock_of r.origin r.metric r.until) ≡ r.until;
+    } };
 
     ghost inverse = { λ v. record {
       metric = v.metric;
-      tag = v.tag;
-      origin = v.origin;
-      clock = v.clock;
       changed = v.changed;
+      tag = v.tag;
+      until = until_of v.clock;
+      origin = v.origin;
+    } };
+
+    ghost inverse_ok = { λ r h i. record {
+      metric = r.metric;
+      changed = r.changed;
+      tag = r.tag;
+      until = h.until i;
+      origin = r.origin;
     } };
 }
 
@@ -91,10 +104,10 @@ impl Route {
     {
         Route {
             metric: 1,
-            tag,
-            origin: Origin::Own,
-            clock: Clock::Fixed,
             changed: false,
+            tag,
+            until: Deadline::zero(),
+            origin: Origin::Own,
         }
     }
 
@@ -113,10 +126,10 @@ impl Route {
     {
         Route {
             metric,
-            tag,
-            origin,
-            clock: Clock::Live(until),
             changed: true,
+            tag,
+            until,
+            origin,
         }
     }
 
@@ -132,8 +145,8 @@ impl Route {
     {
         Route {
             metric: INFINITY,
-            clock: Clock::Dying(until),
             changed: true,
+            until,
             ..self
         }
     }
@@ -173,7 +186,26 @@ impl Route {
         ensures value { result ≡ self.now.clock }
         ensures lawful { IsRoute self.now }
     {
-        self.clock
+        match self.origin {
+            Origin::Own => Clock::Fixed,
+            Origin::Learned { .. } => {
+                if self.metric == INFINITY {
+                    Clock::Dying(self.until)
+                } else {
+                    Clock::Live(self.until)
+                }
+            }
+        }
+    }
+
+    /// The deadline of a route that ages.
+    pub fn deadline(&self) -> Option<Deadline>
+        ensures { result ≡ deadline self.now }
+    {
+        match self.origin {
+            Origin::Own => None,
+            Origin::Learned { .. } => Some(self.until),
+        }
     }
 
     /// Whether the next triggered update is to tell the route (RFC 2080, section 2.5.1).

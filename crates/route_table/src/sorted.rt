@@ -1,13 +1,18 @@
 //! A table as a vector of routes in the order of their prefixes, searched by bisection.
 
-ghost use Rattle.std.specs.Prelude.{T, IfOk, IfErr};
-ghost use Rattle.std.specs.FinMap.{is_sorted};
+ghost use Rattle.std.specs.Prelude.{◌≡◌, T, IfOk, IfErr};
+ghost use Rattle.std.specs.FinMap.{entries, is_sorted};
 ghost use Rattle.prefix6.specs.Prefix.{prefix_cmp};
 ghost use Rattle.prefix6.specs.Places.{IsAt, IsGap};
+ghost use Rattle.route_table.specs.Due.{first_where, least_deadline};
 ghost use Rattle.route_table.specs.Place.{IsStartPast};
+ghost use Rattle.route_table.specs.Summary.{meets};
 
+use crate::moment::{Deadline, Moment};
 use crate::route::Route;
 use crate::store::{AddRefused, RouteStore, TABLE_LIMIT};
+use crate::summary::Summary;
+use crate::wanted::Wanted;
 use prefix6::Prefix;
 use std::alloc::Global;
 use std::marker::Model;
@@ -48,14 +53,62 @@ fn search(routes: &[(Prefix, Route)], prefix: &Prefix) -> Result<usize, usize>
     routes.binary_search_by_key(prefix, |&(p, _)| p)
 }
 
-// Where the routes past the prefix begin.
-fn place_past(routes: &[(Prefix, Route)], prefix: &Prefix) -> usize
+// Where the routes past the prefix begin, or past none.
+fn place_past(routes: &[(Prefix, Route)], after: Option<Prefix>) -> usize
     requires { T (is_sorted prefix_cmp routes.now) }
-    ensures { IsStartPast routes.now (Some prefix.now) result }
+    ensures { IsStartPast routes.now after result }
 {
-    match search(routes, prefix) {
-        Ok(at) => at + 1,
-        Err(at) => at,
+    match after {
+        None => 0,
+        Some(prefix) => match search(routes, &prefix) {
+            Ok(at) => at + 1,
+            Err(at) => at,
+        },
+    }
+}
+
+// The least deadline of the routes that age, in milliseconds.
+fn least_deadline(routes: &[(Prefix, Route)]) -> Option<u64>
+    ensures { result ≡ least_deadline routes.now }
+{
+    let mut summary = Summary::nothing();
+    for (_, route) in routes.iter() {
+        summary = summary.and(Summary::of(route));
+    }
+    summary.due_ms()
+}
+
+// The first route past the prefix that is wanted.
+fn first_wanted(
+    routes: &[(Prefix, Route)],
+    after: Option<Prefix>,
+    wanted: Wanted,
+) -> Option<(Prefix, Route)>
+    requires { T (is_sorted prefix_cmp routes.now) }
+    ensures { result ≡ first_where (meets wanted) after routes.now }
+{
+    for k in place_past(routes, after)..routes.len() {
+        let entry = routes[k];
+        if wanted.is_met_by(&entry.1) {
+            return Some(entry);
+        }
+    }
+    None
+}
+
+impl SortedRoutes {
+    // The least deadline of the routes that age, in milliseconds.
+    fn due_ms(&self) -> Option<u64>
+        ensures { result ≡ least_deadline (entries self.now) }
+    {
+        least_deadline(&self.routes)
+    }
+
+    // The first route past the prefix that is wanted.
+    fn first_wanted(&self, after: Option<Prefix>, wanted: Wanted) -> Option<(Prefix, Route)>
+        ensures { result ≡ first_where (meets wanted) after (entries self.now) }
+    {
+        first_wanted(&self.routes, after, wanted)
     }
 }
 
@@ -80,11 +133,35 @@ impl RouteStore for SortedRoutes {
     }
 
     fn walk(&self, after: Option<Prefix>) -> Option<(Prefix, Route)> {
-        let at = match after {
-            None => 0,
-            Some(prefix) => place_past(&self.routes, &prefix),
-        };
+        let at = place_past(&self.routes, after);
         self.routes.get(at).copied()
+    }
+
+    fn walk_due(&self, after: Option<Prefix>, now: Moment) -> Option<(Prefix, Route)> {
+        self.first_wanted(after, Wanted::Due(now.ms()))
+    }
+
+    fn walk_changed(&self, after: Option<Prefix>) -> Option<(Prefix, Route)> {
+        self.first_wanted(after, Wanted::Changed)
+    }
+
+    fn next_due(&self) -> Option<(Deadline, Prefix)> {
+        let Some(least) = self.due_ms() else {
+            return None;
+        };
+        let Some(entry) = self.first_wanted(None, Wanted::Due(least)) else {
+            return None;
+        };
+        match entry.1.deadline() {
+            Some(until) => Some((until, entry.0)),
+            None => unreachable!(),
+        }
+    }
+
+    fn list(&self, out: &mut Vec<(Prefix, Route)>) {
+        let Ok(()) = out.extend_from_slice(&self.routes) else {
+            unreachable!()
+        };
     }
 
     fn add(&mut self, prefix: Prefix, route: Route) -> Result<(), AddRefused> {

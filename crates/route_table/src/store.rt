@@ -1,9 +1,11 @@
 //! What a table of routes is, whatever it is made of.
 
-ghost use Rattle.std.specs.Prelude.{◌≡◌, ◌≤◌, ◌↔◌, None, IsTrue, IsSome, OnOk, OnErr};
+ghost use Rattle.std.specs.Prelude.{◌≡◌, ◌≤◌, ◌+◌, ◌++◌, ◌↔◌, None, IsTrue, IsSome, OnOk, OnErr, vec_len, vec_capacity};
 ghost use Rattle.std.specs.FinMap as map;
 ghost use Rattle.route_table.specs.Table.{Table, table_limit, first_past};
+ghost use Rattle.route_table.specs.Due.{first_due, first_changed, next_due};
 
+use crate::moment::{Deadline, Moment};
 use crate::route::Route;
 use prefix6::Prefix;
 use std::alloc::Global;
@@ -54,6 +56,23 @@ pub trait RouteStore: Drop {
     /// are in the order of address, then length.
     fn walk(&self, after: Option<Prefix>) -> Option<(Prefix, Route)>
         ensures { result ≡ first_past after (table self.now) };
+
+    /// The same for routes that age and whose deadline is reached.
+    fn walk_due(&self, after: Option<Prefix>, now: Moment) -> Option<(Prefix, Route)>
+        ensures { result ≡ first_due now after (table self.now) };
+
+    /// The same for routes that are marked as changed.
+    fn walk_changed(&self, after: Option<Prefix>) -> Option<(Prefix, Route)>
+        ensures { result ≡ first_changed after (table self.now) };
+
+    /// The least deadline of the routes that age, with the first prefix whose route has it.
+    fn next_due(&self) -> Option<(Deadline, Prefix)>
+        ensures { result ≡ next_due (table self.now) };
+
+    /// Appends all routes in the order of their prefixes, into room that is there.
+    fn list(&self, out: &mut Vec<(Prefix, Route)>)
+        requires room { vec_len out.old + map.len (table self.now) ≤ vec_capacity out.old }
+        ensures { out.new.items ≡ out.old.items ++ map.entries (table self.now) };
 
     /// Adds a route to a prefix that has none. That the table is full is tested first.
     fn add(&mut self, prefix: Prefix, route: Route) -> Result<(), AddRefused>

@@ -1,5 +1,7 @@
 //! Moments at their limits, and a table that is filled, walked and changed.
 
+mod tries;
+
 use crate::{AddRefused, Clock, Moment, Origin, Route, RouteStore, SortedRoutes, TABLE_LIMIT};
 use prefix6::{Addr6, Prefix, PrefixError};
 use std::test::Fail;

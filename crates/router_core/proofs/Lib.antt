@@ -14,6 +14,7 @@ pub mod Sending
 pub mod ConfigLaws
 pub mod Owning
 mod AgedTables
+mod DueRoutes
 mod EmptyRequests
 mod Silence
 mod RouterSteps

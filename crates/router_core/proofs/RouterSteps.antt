@@ -10,10 +10,10 @@ use Rattle.ripng_wire.specs.declared.rte.Rte.{Rte}
 use Rattle.ripng_wire.specs.Layout.{Spells}
 use Rattle.ripng_wire.proofs.Entries.{length_entries}
 use Rattle.route_table.specs.Route.{infinity}
-use Rattle.route_table.specs.Table.{Table, map_entries}
+use Rattle.route_table.specs.Table.{Table, map_entries, map_values}
 use Rattle.route_table.proofs.TableLaws.{entries-map_values, len-map_values}
 use Rattle.router_core.specs.Adoption.{Gateway}
-use Rattle.router_core.specs.Ageing.{aged, aged_table, unmarked, without_mark}
+use Rattle.router_core.specs.Ageing.{aged_table, unmarked, without_mark}
 use Rattle.router_core.specs.Changes.{forward, forwards, changes_of_start, changes_of_ageing, changes_of_hearing}
 use Rattle.router_core.specs.Config.{Config, IsConfig, cost_at}
 use Rattle.router_core.specs.Hearing.{Hearing, Heard, hearing}
@@ -24,6 +24,8 @@ use Rattle.router_core.specs.Updates.{entries_in, update_due, update_of}
 use Rattle.router_core.specs.declared.answer.Answer.{Answer}
 use Rattle.router_core.specs.declared.answer.Note.{Note}
 use Rattle.router_core.specs.declared.answer.Outgoing.{Outgoing}
+use Rattle.router_core.specs.Settling.{told_route}
+use Rattle.router_core.specs.declared.tell.Told.{Told}
 use Rattle.router_core.specs.declared.tell.Told.TheVariants.{Every, Changed}
 use Rattle.router_core.specs.declared.config.Interface.{Interface}
 use Rattle.router_core.proofs.AgeReplaying.{ageing_replays, starting_replays}
@@ -108,6 +110,6 @@ ticked_replays now was_told old new changes settled listed =
     by_mark false = refl
 
 -- no more routes are told than there are
-pub length-aged : (now : ℕ) (t : Table) → length (map_entries (aged now) (map_of.entries t)) ≤ map_of.len t
-length-aged now t =
-    omega (arith, ap length (entries-map_values (aged now) t), map_of.len-entries (aged_table now t), len-map_values (aged now) t)
+pub length-told : (now : ℕ) (which : Told) (t : Table) → length (map_entries (told_route now which) (map_of.entries t)) ≤ map_of.len t
+length-told now which t =
+    omega (arith, ap length (entries-map_values (told_route now which) t), map_of.len-entries (map_values (told_route now which) t), len-map_values (told_route now which) t)

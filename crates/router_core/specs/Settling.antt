@@ -1,14 +1,17 @@
--- What a tick leaves of a route (RFC 2080, 2.3 and 2.5).
-use Rattle.std.specs.Prelude.{ℕ, Bool, false, if◌then◌else◌, Option, unwrap_or, option_map, option_and_then}
+-- Which routes a tick has to do with, and what it makes of them (RFC 2080, 2.3 and 2.5).
+use Rattle.std.specs.Prelude.{ℕ, Bool, true, ◌||◌, if◌then◌else◌, Option, Some, None, option_and_then}
 use Rattle.route_table.specs.Route.{RouteValue}
-use Rattle.router_core.specs.Ageing.{aged, without_mark}
+use Rattle.route_table.specs.Due.{is_due}
+use Rattle.router_core.specs.Ageing.{aged}
 use Rattle.router_core.specs.Output.{selected}
 use Rattle.router_core.specs.declared.tell.Told.{Told}
+use Rattle.router_core.specs.declared.tell.Told.TheVariants.{Every, Changed}
 
--- a route ages, and loses its mark if it was told
-abbrev pub settled : ℕ → Bool → RouteValue → Option RouteValue
-settled now was_told r = if was_told then option_and_then without_mark (aged now r) else aged now r
+-- a route as an update tells it once it has aged, if the update tells it
+abbrev pub told_route : ℕ → Told → RouteValue → Option RouteValue
+told_route now which r = option_and_then (λ left. if selected which left then Some left else None) (aged now r)
 
--- whether a route is told once it has aged
-abbrev pub is_told : ℕ → Told → RouteValue → Bool
-is_told now which r = unwrap_or (option_map (selected which) (aged now r)) false
+-- whether an update may tell a route: by a triggered one only what is due or marked
+abbrev pub may_be_told : ℕ → Told → RouteValue → Bool
+may_be_told now Every r = true
+may_be_told now Changed r = is_due now r || r.changed

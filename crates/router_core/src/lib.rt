@@ -14,6 +14,7 @@ mod forwarding;
 mod hear;
 mod laws;
 mod listed;
+mod listing;
 mod reply;
 mod router;
 mod start;

@@ -10,7 +10,7 @@ use crate::answer::{Destination, Outgoing};
 use crate::arrival::{Arrival, RIPNG_PORT};
 use crate::config::RouterConfig;
 use crate::cut::push_responses;
-use crate::tell::{Told, listed, told_on};
+use crate::tell::{listed, told_on};
 use prefix6::{Addr6, Prefix};
 use ripng_wire::{Datagram, Rte};
 use route_table::{INFINITY, RouteStore};
@@ -59,7 +59,7 @@ fn entries<S: RouteStore>(
     ensures few { IfOk result (λ v. length v.items ≤ max (map_of.len (S.table store.now)) (length request.now.entries)) }
 {
     if asks_for_all(request) {
-        return told_on(alloc, iface, Told::Every, &listed(alloc, store)?);
+        return told_on(alloc, iface, &listed(alloc, store)?);
     }
     request
         .entries()

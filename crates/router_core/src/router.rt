@@ -5,6 +5,7 @@ ghost use Rattle.std.specs.FinMap as map_of;
 ghost use Rattle.fib.specs.Forwarding.{Replays};
 ghost use Rattle.ripng_wire.specs.Layout.{Spells};
 ghost use Rattle.ripng_wire.specs.declared.rte.Command.TheVariants.{Request, Response};
+ghost use Rattle.route_table.specs.Due.{next_due};
 ghost use Rattle.route_table.specs.Route.{infinity};
 ghost use Rattle.router_core.specs.Changes.{forwards, changes_of_ageing, changes_of_start};
 ghost use Rattle.router_core.specs.Config.{cost_at};
@@ -20,11 +21,13 @@ use crate::config::RouterConfig;
 use crate::faults::{accept, fault_of};
 use crate::hear::hear;
 use crate::listed::Listed;
+use crate::listing::{has_told, told_at};
 use crate::reply::reply;
 use crate::start::{changes_of_start, owned_routes, requests};
-use crate::tell::{Told, listed_at, updates};
-use crate::ticking::{changes_of_ageing, has_told, settle_all};
+use crate::tell::{Told, updates};
+use crate::ticking::{changes_of_ageing, settle_all};
 use fib::RouteChange;
+use prefix6::Prefix;
 use ripng_wire::{Command, Datagram};
 use route_table::{Deadline, Moment, RouteStore};
 use std::alloc::{AllocError, Global};
@@ -199,6 +202,14 @@ impl<S: RouteStore> Router<S> {
         fault_of(&self.config, arrival)
     }
 
+    /// When the next route is due to be lost or deleted, and the first prefix whose route is due then. Before that a tick
+    /// ages nothing.
+    pub fn next_due(&self) -> Option<(Deadline, Prefix)>
+        ensures { result ≡ next_due self.now.table }
+    {
+        self.store.next_due()
+    }
+
     // A moment before the last one counts as that.
     fn effective(&self, now: Moment) -> Moment
         ensures { result ≡ max self.now.last now }
@@ -240,8 +251,8 @@ impl<S: RouteStore> Router<S> {
         if self.is_silent(which, now) {
             return Ok(Vec::new(self.alloc));
         }
-        let routes = listed_at(self.alloc, &self.store, now)?;
-        updates(self.alloc, &self.config, which, &routes)
+        let routes = told_at(self.alloc, &self.store, which, now)?;
+        updates(self.alloc, &self.config, &routes)
     }
 
     // When the next regular update is due, after an update.

@@ -1,19 +1,18 @@
 //! What a router tells of its routes: updates of all or of the changed ones, with poisoned reverse (RFC 2080, sections
 //! 2.5 and 2.6).
 
-ghost use Rattle.std.specs.Prelude.{◌≡◌, ◌≤◌, ◌*◌, true, length, IsOk, IfOk};
+ghost use Rattle.std.specs.Prelude.{◌≡◌, ◌≤◌, ◌*◌, Bool, true, length, map, filter, IsOk, IfOk};
 ghost use Rattle.std.specs.FinMap.{entries};
-ghost use Rattle.route_table.specs.Table.{Table, map_entries};
-ghost use Rattle.router_core.specs.Ageing.{aged};
-ghost use Rattle.router_core.specs.Output.{AreSpelled, selected, told_of, told_entry, update_messages};
+ghost use Rattle.route_table.specs.Route.{RouteValue};
+ghost use Rattle.route_table.specs.Table.{Table};
+ghost use Rattle.router_core.specs.Output.{AreSpelled, selected, told_entry, update_messages};
 
-use crate::age::age;
 use crate::answer::{Destination, Outgoing};
 use crate::config::RouterConfig;
 use crate::cut::push_responses;
 use prefix6::Prefix;
 use ripng_wire::Rte;
-use route_table::{INFINITY, Moment, Origin, Route, RouteStore};
+use route_table::{INFINITY, Origin, Route, RouteStore};
 use std::alloc::{AllocError, Global};
 
 /// Which routes an update tells.
@@ -68,33 +67,8 @@ pub fn listed<S: RouteStore>(alloc: Global, store: &S) -> Result<Vec<(Prefix, Ro
     ensures { IfOk result (λ v. v.items ≡ entries (S.table store.now)) }
 {
     let mut routes = Vec::with_capacity(alloc, store.len())?;
-    let mut after = None;
-    for _k in 0..store.len() {
-        let Some(entry) = store.walk(after) else {
-            unreachable!()
-        };
-        routes.push_reserved((entry.0, entry.1));
-        after = Some(entry.0);
-    }
+    store.list(&mut routes);
     Ok(routes)
-}
-
-/// What is left of the routes of a store at a moment, in the order of prefixes.
-///
-/// # Errors
-/// Only want of memory.
-pub fn listed_at<S: RouteStore>(
-    alloc: Global,
-    store: &S,
-    now: Moment,
-) -> Result<Vec<(Prefix, Route)>, AllocError>
-    ensures { IfOk result (λ v. v.items ≡ map_entries (aged now) (entries (S.table store.now))) }
-{
-    let routes = listed(alloc, store)?;
-    routes
-        .iter()
-        .filter_map(|&(prefix, route)| age(route, now).map(|route| (prefix, route)))
-        .collect(alloc)
 }
 
 /// What is told on an interface of these routes.
@@ -104,31 +78,28 @@ pub fn listed_at<S: RouteStore>(
 pub fn told_on(
     alloc: Global,
     iface: usize,
-    which: Told,
     routes: &[(Prefix, Route)],
 ) -> Result<Vec<Rte>, AllocError>
-    ensures value { IfOk result (λ v. v.items ≡ told_of iface (selected which) routes.now) }
+    ensures value { IfOk result (λ v. v.items ≡ map (told_entry iface) routes.now) }
     ensures few { IfOk result (λ v. length v.items ≤ length routes.now) }
 {
     routes
         .iter()
-        .filter(|(_, route)| which.selects(route))
         .map(|&(prefix, route)| told_entry(iface, prefix, route))
         .collect(alloc)
 }
 
-/// An update of the routes of a table on each interface, to the group. A quiet router sends none.
+/// An update of these routes on each interface, to the group. A quiet router sends none.
 ///
 /// # Errors
 /// Only want of memory, and never of a quiet router.
 pub fn updates(
     alloc: Global,
     config: &RouterConfig,
-    which: Told,
     routes: &[(Prefix, Route)],
 ) -> Result<Vec<Outgoing>, AllocError>
-    ensures spelled { (table : Table) → routes.now ≡ entries table
-        → IfOk result (λ sends. AreSpelled (update_messages config.now (selected which) table) sends.items) }
+    ensures spelled { (which : RouteValue → Bool) (table : Table) → routes.now ≡ filter (λ t. which t.1) (entries table)
+        → IfOk result (λ sends. AreSpelled (update_messages config.now which table) sends.items) }
     ensures few { IfOk result (λ sends. length sends.items ≤ length routes.now * length config.now.interfaces) }
     ensures quiet { config.now.quiet ≡ true → IsOk result }
 {
@@ -137,7 +108,7 @@ pub fn updates(
         return Ok(sends);
     }
     for (iface, interface) in config.interfaces().iter().enumerate() {
-        let entries = told_on(alloc, iface, which, routes)?;
+        let entries = told_on(alloc, iface, routes)?;
         push_responses(
             alloc,
             &mut sends,

@@ -1,9 +1,9 @@
-use Rattle.std.proofs.Common.{◌≡◌, ℕ, false, ◌+◌, ◌*◌, ◌<◌, ◌≤◌, List, length, Some, slice_get, ap, ap₂, sym, subst, ◌∙◌, arith, add-one, mul-suc}
+use Rattle.std.proofs.Common.{◌≡◌, ℕ, false, ◌+◌, ◌*◌, ◌<◌, ◌≤◌, List, length, map, Some, slice_get, ap, ap₂, sym, subst, ◌∙◌, arith, add-one, mul-suc}
 use Rattle.std.specs.List.{enumerate_from, flat_map}
 use Rattle.prefix6.specs.Prefix.{Prefix6}
 use Rattle.ripng_wire.specs.declared.rte.Rte.{Rte}
 use Rattle.route_table.specs.Route.{RouteValue}
-use Rattle.router_core.specs.Output.{Message, AreSpelled, AddsSpelled, responses, responses_at, selected, told_of}
+use Rattle.router_core.specs.Output.{Message, AreSpelled, AddsSpelled, responses, responses_at, told_entry}
 use Rattle.router_core.specs.declared.answer.Destination.TheVariants.{Group}
 use Rattle.router_core.specs.declared.config.Interface.{Interface}
 use Rattle.router_core.proofs.ConfigLaws.{mtu_low, mtu_high, mtu_at-interface}
@@ -32,11 +32,11 @@ loop-iface-preserved c =
     let routes = c.args.routes.now in
     let lt : i < length config.interfaces = omega (arith, ap length c.interfaces-interface-items.ensures.value, c.loop-iface-test.true) in
     let is : slice_get config.interfaces i ≡ Some x = element_at config.interfaces i x lt (rw c.interfaces-interface-items.ensures.value at c.interface-item.is) in
-    let entries : c.deref.result.now ≡ told_of i (selected c.args.which) routes = c.deref.ensures.value ∙ c.in_ok-entries.ensures.value in
-    let messages : responses_at x.mtu i Group c.deref.result.now ≡ responses config i Group (told_of i (selected c.args.which) routes) =
+    let entries : c.deref.result.now ≡ map (told_entry i) routes = c.deref.ensures.value ∙ c.in_ok-entries.ensures.value in
+    let messages : responses_at x.mtu i Group c.deref.result.now ≡ responses config i Group (map (told_entry i) routes) =
     ap₂ (λ (mtu : ℕ) (es : List Rte). responses_at mtu i Group es) (sym (mtu_at-interface config c.interfaces-interface-items.ensures.lawful i x is)) entries in
     record {
-      spelled = AreSpelled-flat_map (λ t. responses config t.0 Group (told_of t.0 (selected c.args.which) routes)) config.interfaces i x
+      spelled = AreSpelled-flat_map (λ t. responses config t.0 Group (map (told_entry t.0) routes)) config.interfaces i x
           c.loop-iface.sends.items c.push_responses.new.sends.items is c.loop-iface.invariant.spelled
           (subst (λ (ms : List Message). AddsSpelled ms c.loop-iface.sends.items c.push_responses.new.sends.items) messages c.in_ok-push_responses.ensures.spelled);
       few =
@@ -45,11 +45,11 @@ loop-iface-preserved c =
     }
 
 pub returns-clause-spelled : goal.returns-clause-spelled
-returns-clause-spelled c = λ table is.
+returns-clause-spelled c = λ which table is.
     let config = c.args.config.now in
     let over : length config.interfaces ≤ c.loop-iface.iface = omega (arith, ap length c.interfaces-interface-items.ensures.value, c.loop-iface-test.false) in
     let active : config.quiet ≡ false = sym c.is_quiet.ensures ∙ c.if-is_quiet.false in
     rw active
-    (subst (λ (rs : List (Prefix6 × RouteValue)). AreSpelled (flat_map (λ t. responses config t.0 Group (told_of t.0 (selected c.args.which) rs)) (enumerate_from 0 config.interfaces)) c.loop-iface.sends.items) is
-    (subst (λ (ns : List (ℕ × Interface)). AreSpelled (flat_map (λ t. responses config t.0 Group (told_of t.0 (selected c.args.which) c.args.routes.now)) ns) c.loop-iface.sends.items)
+    (subst (λ (rs : List (Prefix6 × RouteValue)). AreSpelled (flat_map (λ t. responses config t.0 Group (map (told_entry t.0) rs)) (enumerate_from 0 config.interfaces)) c.loop-iface.sends.items) is
+    (subst (λ (ns : List (ℕ × Interface)). AreSpelled (flat_map (λ t. responses config t.0 Group (map (told_entry t.0) c.args.routes.now)) ns) c.loop-iface.sends.items)
     (take_all_numbered config.interfaces c.loop-iface.iface over) c.loop-iface.invariant.spelled))

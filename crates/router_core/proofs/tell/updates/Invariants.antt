@@ -1,13 +1,13 @@
-use Rattle.std.proofs.Common.{◌≤◌, ◌*◌, take, length}
+use Rattle.std.proofs.Common.{◌≤◌, ◌*◌, take, length, map}
 use Rattle.std.specs.List.{enumerate_from, flat_map}
-use Rattle.router_core.specs.Output.{AreSpelled, responses, selected, told_of}
+use Rattle.router_core.specs.Output.{AreSpelled, responses, told_entry}
 use Rattle.router_core.specs.declared.answer.Destination.TheVariants.{Group}
 use Rattle.router_core.proofs.tell.updates.Given as goal
 
 abbrev pub invariant-loop-iface : goal.invariant-loop-iface
 invariant-loop-iface l = record {
   spelled : AreSpelled
-      (flat_map (λ t. responses l.fn.config t.0 Group (told_of t.0 (selected l.fn.which) l.fn.routes)) (take l.iface (enumerate_from 0 l.fn.config.interfaces)))
+      (flat_map (λ t. responses l.fn.config t.0 Group (map (told_entry t.0) l.fn.routes)) (take l.iface (enumerate_from 0 l.fn.config.interfaces)))
       l.sends.items;
   few : length l.sends.items ≤ length l.fn.routes * l.iface;
 }

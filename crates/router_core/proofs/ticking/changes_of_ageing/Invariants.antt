@@ -1,14 +1,13 @@
 use Rattle.std.proofs.Common.{◌≡◌, take, Some, filter_map}
 use Rattle.std.specs.FinMap.{entries, len}
-use Rattle.route_table.proofs.Walks.{WalksTo}
+use Rattle.route_table.proofs.WalksWhere.{WalksWhere}
 use Rattle.router_core.specs.Ageing.{aged}
 use Rattle.router_core.specs.Changes.{change}
 use Rattle.router_core.proofs.ticking.changes_of_ageing.Given as goal
 
--- the changes of the routes that the walk has met are listed
+-- the changes of the routes that the walk has come past are listed
 abbrev pub invariant-loop : goal.invariant-loop
 invariant-loop g l = let t = g.S.RouteStore.table l.store in record {
-  walks : WalksTo t l.after l.counter;
+  walks : WalksWhere (λ i. l.changes.items ≡ filter_map (λ e. change e.0 (Some e.1) (aged l.now e.1)) (take i (entries t))) t l.after l.counter;
   end : l.end ≡ len t;
-  listed : l.changes.items ≡ filter_map (λ t. change t.0 (Some t.1) (aged l.now t.1)) (take l.counter (entries t));
 }

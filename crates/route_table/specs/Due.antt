@@ -1,0 +1,42 @@
+-- Which routes are due, which are marked, and what a walk over them finds.
+use Rattle.std.specs.Prelude.{ℕ, Bool, false, ◌&&◌, nat_le, min, List, [], ◌∷◌, Option, Some, None, find, option_map, option_and_then}
+use Rattle.std.specs.FinMap as map
+use Rattle.prefix6.specs.Prefix.{Prefix6}
+use Rattle.route_table.specs.Route.{RouteValue, deadline}
+use Rattle.route_table.specs.Table.{Table, is_past}
+
+-- whether there is a deadline, and it is reached
+abbrev pub is_reached : ℕ → Option ℕ → Bool
+is_reached now None = false
+is_reached now (Some until) = nat_le until now
+
+-- whether a route ages, and its deadline is reached
+abbrev pub is_due : ℕ → RouteValue → Bool
+is_due now r = is_reached now (deadline r)
+
+-- the earlier of two deadlines, of those that there are
+abbrev pub earlier : Option ℕ → Option ℕ → Option ℕ
+earlier None b = b
+earlier (Some a) None = Some a
+earlier (Some a) (Some b) = Some (min a b)
+
+-- the least deadline of the routes that age
+abbrev pub least_deadline : List (Prefix6 × RouteValue) → Option ℕ
+least_deadline [] = None
+least_deadline (e ∷ es) = earlier (deadline e.1) (least_deadline es)
+
+-- the first entry past a prefix whose route passes a test
+abbrev pub first_where : (RouteValue → Bool) → Option Prefix6 → List (Prefix6 × RouteValue) → Option (Prefix6 × RouteValue)
+first_where test after es = find (λ e. test e.1 && is_past after e.0) es
+
+-- the first entry past a prefix whose route is due
+abbrev pub first_due : ℕ → Option Prefix6 → Table → Option (Prefix6 × RouteValue)
+first_due now after table = first_where (is_due now) after (map.entries table)
+
+-- the first entry past a prefix whose route is marked as changed
+abbrev pub first_changed : Option Prefix6 → Table → Option (Prefix6 × RouteValue)
+first_changed after table = first_where (λ r. r.changed) after (map.entries table)
+
+-- the least deadline, with the first prefix whose route is due at it
+abbrev pub next_due : Table → Option (ℕ × Prefix6)
+next_due table = option_and_then (λ least. option_map (λ e. (least, e.0)) (first_due least None table)) (least_deadline (map.entries table))

@@ -1,0 +1,116 @@
+//! What a fork of the trie knows of the routes below it without looking at them.
+
+ghost use Rattle.std.specs.Prelude.{◌≡◌, ◌↔◌, IsTrue, Option};
+ghost use Rattle.route_table.specs.Due.{is_reached};
+ghost use Rattle.route_table.specs.Summary.{both, nothing, summary_of_route};
+
+use crate::moment::Deadline;
+use crate::route::Route;
+use std::marker::Model;
+
+/// The least deadline of the routes that age, and whether a route is marked as changed. The
+/// deadline, in milliseconds, and the word that there is one stand apart, so that the whole takes
+/// two words of memory.
+#[derive(Clone, Copy)]
+pub struct Summary {
+    due_ms: u64,
+    ages: bool,
+    changed: bool,
+}
+
+impl Model for Summary {
+    ghost use Rattle.route_table.specs.Summary.{SummaryValue, IsPacked, unpacked, packed_ms};
+    ghost use Rattle.route_table.specs.Packing.{same_ms, same_ages};
+    ghost use Rattle.std.specs.Prelude.{is_some};
+
+    ghost Value = { SummaryValue };
+
+    ghost view = { λ s. record { due = unpacked s.ages s.due_ms; changed = s.changed } };
+
+    ghost invariant = { λ s. IsPacked s.due_ms s.ages };
+
+    ghost inverse = { λ v. record { due_ms = packed_ms v.due; ages = is_some v.due; changed = v.changed } };
+
+    ghost inverse_ok = { λ s h i. record {
+      due_ms = same_ms s.due_ms s.ages h i;
+      ages = same_ages s.due_ms s.ages i;
+      changed = s.changed;
+    } };
+}
+
+impl Summary {
+    /// The summary of no routes.
+    pub fn nothing() -> Summary
+        ensures { result ≡ nothing }
+    {
+        Summary {
+            due_ms: 0,
+            ages: false,
+            changed: false,
+        }
+    }
+
+    /// The summary of one route.
+    pub fn of(route: &Route) -> Summary
+        ensures { result ≡ summary_of_route route.now }
+    {
+        match route.deadline() {
+            None => Summary {
+                due_ms: 0,
+                ages: false,
+                changed: route.is_changed(),
+            },
+            Some(until) => Summary {
+                due_ms: until.ms(),
+                ages: true,
+                changed: route.is_changed(),
+            },
+        }
+    }
+
+    /// The summary of two lists of routes together.
+    pub fn and(self, other: Summary) -> Summary
+        ensures { result ≡ both self other }
+    {
+        let changed = self.changed || other.changed;
+        if !self.ages {
+            Summary { changed, ..other }
+        } else if !other.ages {
+            Summary { changed, ..self }
+        } else {
+            Summary {
+                due_ms: self.due_ms.min(other.due_ms),
+                ages: true,
+                changed,
+            }
+        }
+    }
+
+    /// Whether both say the same.
+    pub fn is_same(&self, other: &Summary) -> bool
+        ensures { IsTrue result ↔ (self.now ≡ other.now) }
+    {
+        self.due_ms == other.due_ms && self.ages == other.ages && self.changed == other.changed
+    }
+
+    /// Whether a route is due by then.
+    pub fn is_reached(&self, by: u64) -> bool
+        ensures { result ≡ is_reached by self.now.due }
+    {
+        self.ages && self.due_ms <= by
+    }
+
+    /// Whether a route is marked as changed.
+    pub fn has_changed(&self) -> bool
+        ensures { result ≡ self.now.changed }
+    {
+        self.changed
+    }
+
+    /// The least deadline of the routes that age, in milliseconds.
+    pub fn due_ms(&self) -> Option<u64>
+        ensures { result ≡ self.now.due }
+    {
+        if self.ages { Some(self.due_ms) } else { None }
+    }
+}

@@ -1,0 +1,524 @@
+//! A binary trie of routes whose paths are compressed: a fork stands only where prefixes part, or
+//! where one that has a route lies above others.
+//!
+//! Each route has a leaf of its own, a box that it keeps from `add` to `remove`. A fork has a
+//! prefix, the leaf of that very prefix if there is one, and what lies under the next bit 0 and 1.
+//! With each of n routes come one leaf and, but for the first, at most one fork.
+
+ghost use Rattle.std.specs.Prelude.{◌≡◌, ◌≢◌, ◌↔◌, false, ◌+◌, ◌≤◌, [], ◌∷◌, ◌++◌, length, None, Some, option_map, IfOk, IsSome, IsTrue, vec_len, vec_capacity};
+ghost use Rattle.std.specs.Option.{option_copied};
+ghost use Rattle.std.specs.FinMap.{find};
+ghost use Rattle.std.specs.FinMap.Entries.{put};
+ghost use Rattle.prefix6.specs.Prefix.{Prefix6, prefix_cmp};
+ghost use Rattle.prefix6.specs.Halves.{IsUnder};
+ghost use Rattle.route_table.specs.Due.{first_where, least_deadline};
+ghost use Rattle.route_table.specs.Route.{RouteValue};
+ghost use Rattle.route_table.specs.Summary.{summary_of, meets};
+ghost use Rattle.route_table.specs.Trie.{linked, owned, entries_of, without, AreParts, AreShared, HasEntries, AreIn};
+
+use crate::route::Route;
+use crate::summary::Summary;
+use crate::wanted::Wanted;
+use prefix6::Prefix;
+use std::alloc::{AllocError, Global};
+use std::marker::Model;
+use std::mem;
+
+/// A prefix and its route.
+pub type Entry = (Prefix, Route);
+
+/// What hangs at a place of the trie.
+#[cycle(trie)]
+#[derive(Drop)]
+pub enum Link {
+    Empty,
+    Leaf(Box<Entry>),
+    Fork(Box<Fork>),
+}
+
+/// A prefix, its own route if it has one, and the longer prefixes in its lower and its upper half.
+#[cycle(trie)]
+#[derive(Drop)]
+pub struct Fork {
+    prefix: Prefix,
+    summary: Summary,
+    own: Option<Box<Entry>>,
+    low: Link,
+    high: Link,
+}
+
+impl Model for Fork {
+    ghost use Rattle.std.specs.Coded.{codes};
+    ghost use Rattle.std.specs.Prelude.{length};
+    ghost use Rattle.prefix6.specs.contracts.prefix.Prefix as the_prefix;
+    ghost use Rattle.route_table.specs.Place.{Entries};
+    ghost use Rattle.route_table.specs.contracts.route.Route as the_route;
+
+    ghost Value = { Entries };
+
+    ghost coded = { Prim.hlevel (codes, the_prefix.the_row.coded, the_route.the_row.coded) };
+
+    ghost use Rattle.route_table.specs.Trie.{entries_of, IsFork};
+
+    ghost view = { λ f. entries_of f.own f.low f.high };
+
+    ghost invariant = { λ f. IsFork f.prefix f.summary f.own f.low f.high };
+
+    ghost size = { length };
+
+    ghost use Rattle.route_table.specs.TrieFalls.{children_smaller};
+
+    ghost size_decreases = { λ f h. children_smaller f.prefix f.summary f.own f.low f.high h.shared h.low_some h.high_some };
+}
+
+impl Fork {
+    // A fork with nothing at it: one that is to be filled, or to be freed.
+    fn hollow(prefix: Prefix) -> Fork
+        ensures { result ≡ [] }
+    {
+        Fork {
+            prefix,
+            summary: Summary::nothing(),
+            own: None,
+            low: Link::Empty,
+            high: Link::Empty,
+        }
+    }
+
+    // A fork of these parts.
+    fn of(prefix: Prefix, own: Option<Box<Entry>>, low: Link, high: Link) -> Fork
+        requires parts { AreParts prefix (owned own) (linked low) (linked high) }
+        requires shared { AreShared (owned own) (linked low) (linked high) }
+        requires low_some { HasEntries low }
+        requires high_some { HasEntries high }
+        ensures { result ≡ entries_of own low high }
+    {
+        let summary = summary_of_parts(&own, &low, &high);
+        Fork {
+            prefix,
+            summary,
+            own,
+            low,
+            high,
+        }
+    }
+
+    // What the fork knows of the routes below it.
+    fn summary(&self) -> Summary
+        ensures { result ≡ summary_of self.now }
+    {
+        self.summary
+    }
+}
+
+impl Link {
+    // Whether nothing hangs there.
+    fn is_empty(&self) -> bool
+        requires { HasEntries self.now }
+        ensures { IsTrue result ↔ (length (linked self.now) ≡ 0) }
+    {
+        matches!(self, Link::Empty)
+    }
+
+    // What is known of the routes below the link without looking at them.
+    fn summary(&self) -> Summary
+        ensures { result ≡ summary_of (linked self.now) }
+    {
+        match self {
+            Link::Empty => Summary::nothing(),
+            Link::Leaf(leaf) => Summary::of(&leaf.1),
+            Link::Fork(fork) => fork.summary(),
+        }
+    }
+}
+
+// The summary of a fork of these parts.
+fn summary_of_parts(own: &Option<Box<Entry>>, low: &Link, high: &Link) -> Summary
+    ensures { result ≡ summary_of (entries_of own.now low.now high.now) }
+{
+    let below = low.summary().and(high.summary());
+    match own {
+        None => below,
+        Some(leaf) => Summary::of(&leaf.1).and(below),
+    }
+}
+
+/// The least deadline of the routes below a link, in milliseconds.
+pub fn due_ms(link: &Link) -> Option<u64>
+    ensures { result ≡ least_deadline (linked link.now) }
+{
+    link.summary().due_ms()
+}
+
+/// The route to a prefix below a link.
+pub fn get(link: &Link, key: &Prefix) -> Option<Route>
+    ensures { result ≡ find prefix_cmp key.now (linked link.now) }
+{
+    let entry = seek(link, key)?;
+    Some(entry.1)
+}
+
+// The entry of a prefix below a link.
+fn seek<'a>(link: &'a Link, key: &Prefix) -> Option<&'a Entry>
+    ensures { option_map (λ (e : Prefix6 × RouteValue). e.1) (option_copied result) ≡ find prefix_cmp key.now (linked link.now) }
+{
+    match link {
+        Link::Empty => None,
+        Link::Leaf(leaf) => at_leaf(leaf, key),
+        Link::Fork(fork) => {
+            let fork: &Fork = fork;
+            if key.len() <= fork.prefix.len() {
+                at_own(&fork.own, key)
+            } else if fork.prefix.is_before_middle(key) {
+                seek(&fork.low, key)
+            } else {
+                seek(&fork.high, key)
+            }
+        }
+    }
+}
+
+// The entry of a leaf, if it is the one of this prefix.
+fn at_leaf<'a>(leaf: &'a Entry, key: &Prefix) -> Option<&'a Entry>
+    ensures { option_map (λ (e : Prefix6 × RouteValue). e.1) (option_copied result) ≡ find prefix_cmp key.now (leaf.now ∷ []) }
+{
+    if *key == leaf.0 { Some(leaf) } else { None }
+}
+
+// The entry of a fork's own prefix, if it is the one of this prefix.
+fn at_own<'a>(own: &'a Option<Box<Entry>>, key: &Prefix) -> Option<&'a Entry>
+    ensures { option_map (λ (e : Prefix6 × RouteValue). e.1) (option_copied result) ≡ find prefix_cmp key.now (owned own.now) }
+{
+    match own {
+        None => None,
+        Some(leaf) => at_leaf(leaf, key),
+    }
+}
+
+// The entry of a leaf, if it is wanted.
+fn wanted_leaf(leaf: &Entry, wanted: Wanted) -> Option<&Entry>
+    ensures { option_copied result ≡ first_where (meets wanted) None (leaf.now ∷ []) }
+{
+    if wanted.is_met_by(&leaf.1) {
+        Some(leaf)
+    } else {
+        None
+    }
+}
+
+// The entry of a fork's own prefix, if it is wanted.
+fn wanted_own(own: &Option<Box<Entry>>, wanted: Wanted) -> Option<&Entry>
+    ensures { option_copied result ≡ first_where (meets wanted) None (owned own.now) }
+{
+    match own {
+        None => None,
+        Some(leaf) => wanted_leaf(leaf, wanted),
+    }
+}
+
+/// The first entry below a link that is wanted. Where the summary says that there is none, nothing
+/// below is looked at.
+pub fn first(link: &Link, wanted: Wanted) -> Option<&Entry>
+    ensures { option_copied result ≡ first_where (meets wanted) None (linked link.now) }
+{
+    match link {
+        Link::Empty => None,
+        Link::Leaf(leaf) => wanted_leaf(leaf, wanted),
+        Link::Fork(fork) => {
+            let fork: &Fork = fork;
+            if !wanted.may_be_in(&fork.summary) {
+                return None;
+            }
+            if let Some(entry) = wanted_own(&fork.own, wanted) {
+                return Some(entry);
+            }
+            match first(&fork.low, wanted) {
+                Some(entry) => Some(entry),
+                None => first(&fork.high, wanted),
+            }
+        }
+    }
+}
+
+/// The first entry below a link that is past a prefix and wanted.
+pub fn first_past<'a>(link: &'a Link, after: &Prefix, wanted: Wanted) -> Option<&'a Entry>
+    ensures { option_copied result ≡ first_where (meets wanted) (Some after.now) (linked link.now) }
+{
+    match link {
+        Link::Empty => None,
+        Link::Leaf(leaf) => {
+            if *after < leaf.0 {
+                wanted_leaf(leaf, wanted)
+            } else {
+                None
+            }
+        }
+        Link::Fork(fork) => {
+            let fork: &Fork = fork;
+            if !wanted.may_be_in(&fork.summary) {
+                return None;
+            }
+            if *after < fork.prefix {
+                return first(link, wanted);
+            }
+            if !fork.prefix.is_before_middle(after) {
+                return first_past(&fork.high, after, wanted);
+            }
+            match first_past(&fork.low, after, wanted) {
+                Some(entry) => Some(entry),
+                None => first(&fork.high, wanted),
+            }
+        }
+    }
+}
+
+/// Appends the entries below a link in their order, into room that is there.
+pub fn list(link: &Link, out: &mut Vec<Entry>)
+    requires { vec_len out.old + length (linked link.now) ≤ vec_capacity out.old }
+    ensures items { out.new.items ≡ out.old.items ++ linked link.now }
+    ensures len { vec_len out.new ≡ vec_len out.old + length (linked link.now) }
+    ensures capacity { vec_capacity out.new ≡ vec_capacity out.old }
+{
+    match link {
+        Link::Empty => {}
+        Link::Leaf(leaf) => out.push_reserved(**leaf),
+        Link::Fork(fork) => {
+            let fork: &Fork = fork;
+            if let Some(leaf) = &fork.own {
+                out.push_reserved(**leaf);
+            }
+            list(&fork.low, out);
+            list(&fork.high, out);
+        }
+    }
+}
+
+/// Gives another route to a prefix that has one below a link, in place. Says whether the summary of the link may have
+/// changed: where it has not, no summary above it is looked at.
+pub fn replace(link: &mut Link, key: &Prefix, route: &Route) -> bool
+    requires { IsSome (find prefix_cmp key.now (linked link.old)) }
+    ensures some { HasEntries link.new }
+    ensures put { linked link.new ≡ put prefix_cmp key.now route.now (linked link.old) }
+    ensures kept { result ≡ false → summary_of (linked link.new) ≡ summary_of (linked link.old) }
+{
+    match link {
+        Link::Empty => unreachable!(),
+        Link::Leaf(leaf) => {
+            let before = Summary::of(&leaf.1);
+            leaf.1 = *route;
+            !before.is_same(&Summary::of(route))
+        }
+        Link::Fork(fork) => {
+            let fork: &mut Fork = fork;
+            if *key == fork.prefix {
+                let changed = set_own(&mut fork.own, key, route);
+                let summary = refreshed(fork.summary, changed, &fork.own, &fork.low, &fork.high);
+                let same = summary.is_same(&fork.summary);
+                fork.summary = summary;
+                !same
+            } else if fork.prefix.is_before_middle(key) {
+                let changed = replace(&mut fork.low, key, route);
+                let summary = refreshed(fork.summary, changed, &fork.own, &fork.low, &fork.high);
+                let same = summary.is_same(&fork.summary);
+                fork.summary = summary;
+                !same
+            } else {
+                let changed = replace(&mut fork.high, key, route);
+                let summary = refreshed(fork.summary, changed, &fork.own, &fork.low, &fork.high);
+                let same = summary.is_same(&fork.summary);
+                fork.summary = summary;
+                !same
+            }
+        }
+    }
+}
+
+// The summary of a fork of these parts, which is the one that it had unless a part's has changed.
+fn refreshed(
+    summary: Summary,
+    changed: bool,
+    own: &Option<Box<Entry>>,
+    low: &Link,
+    high: &Link,
+) -> Summary
+    requires { changed ≡ false → summary ≡ summary_of (entries_of own.now low.now high.now) }
+    ensures { result ≡ summary_of (entries_of own.now low.now high.now) }
+{
+    if changed {
+        summary_of_parts(own, low, high)
+    } else {
+        summary
+    }
+}
+
+// Gives another route to a fork's own prefix, which has one. Says whether its summary may have changed.
+fn set_own(own: &mut Option<Box<Entry>>, key: &Prefix, route: &Route) -> bool
+    requires { IsSome own.old }
+    ensures put { owned own.new ≡ (key.now, route.now) ∷ [] }
+    ensures kept { result ≡ false → summary_of (owned own.new) ≡ summary_of (owned own.old) }
+{
+    match own {
+        None => unreachable!(),
+        Some(leaf) => {
+            let before = Summary::of(&leaf.1);
+            **leaf = (*key, *route);
+            !before.is_same(&Summary::of(route))
+        }
+    }
+}
+
+/// The boxes that one more route may need: its leaf, and a fork to hang it at.
+///
+/// # Errors
+/// Only want of memory.
+pub fn boxes(
+    alloc: Global,
+    key: Prefix,
+    route: Route,
+) -> Result<(Box<Entry>, Box<Fork>), AllocError>
+    ensures { IfOk result (λ pair. pair.0.value ≡ (key, route)) }
+{
+    let leaf = Box::new(alloc, (key, route))?;
+    let spare = Box::new(alloc, Fork::hollow(key))?;
+    Ok((leaf, spare))
+}
+
+/// Hangs a leaf below a link. The spare fork is used if the leaf's place wants one, and else freed.
+pub fn add(link: Link, leaf: Box<Entry>, spare: Box<Fork>) -> Link
+    requires { HasEntries link }
+    ensures some { HasEntries result }
+    ensures put { linked result ≡ put prefix_cmp leaf.value.0 leaf.value.1 (linked link) }
+{
+    let key = leaf.0;
+    match link {
+        Link::Empty => Link::Leaf(leaf),
+        Link::Leaf(old) => add_to_leaf(old, leaf, spare),
+        Link::Fork(mut fork) => {
+            let Fork {
+                prefix,
+                own,
+                low,
+                high,
+                ..
+            } = mem::replace(&mut *fork, Fork::hollow(key));
+            if key == prefix {
+                closed(fork, prefix, Some(leaf), low, high)
+            } else if !prefix.is_above(&key) {
+                let whole = closed(fork, prefix, own, low, high);
+                add_over(whole, &prefix, leaf, spare)
+            } else if prefix.is_before_middle(&key) {
+                closed(fork, prefix, own, add(low, leaf, spare), high)
+            } else {
+                closed(fork, prefix, own, low, add(high, leaf, spare))
+            }
+        }
+    }
+}
+
+// Hangs a leaf where there is one: in its place, below it, or above or beside it.
+fn add_to_leaf(old: Box<Entry>, leaf: Box<Entry>, spare: Box<Fork>) -> Link
+    ensures some { HasEntries result }
+    ensures put { linked result ≡ put prefix_cmp leaf.value.0 leaf.value.1 (old.value ∷ []) }
+{
+    let prefix = old.0;
+    let key = leaf.0;
+    if key == prefix {
+        Link::Leaf(leaf)
+    } else if !prefix.is_above(&key) {
+        add_over(Link::Leaf(old), &prefix, leaf, spare)
+    } else if prefix.is_before_middle(&key) {
+        closed(spare, prefix, Some(old), Link::Leaf(leaf), Link::Empty)
+    } else {
+        closed(spare, prefix, Some(old), Link::Empty, Link::Leaf(leaf))
+    }
+}
+
+// Hangs a leaf above or beside what lies in a prefix, where the leaf does not lie below that prefix.
+fn add_over(below: Link, prefix: &Prefix, leaf: Box<Entry>, spare: Box<Fork>) -> Link
+    requires entries { AreIn prefix.now (linked below) }
+    requires some { HasEntries below }
+    requires other { prefix.now ≢ leaf.value.0 }
+    requires outside { ¬ (IsUnder prefix.now leaf.value.0) }
+    ensures some { HasEntries result }
+    ensures put { linked result ≡ put prefix_cmp leaf.value.0 leaf.value.1 (linked below) }
+{
+    let key = leaf.0;
+    let meet = prefix.meet(&key);
+    if meet == key {
+        if meet.is_before_middle(prefix) {
+            closed(spare, meet, Some(leaf), below, Link::Empty)
+        } else {
+            closed(spare, meet, Some(leaf), Link::Empty, below)
+        }
+    } else if meet.is_before_middle(&key) {
+        closed(spare, meet, None, Link::Leaf(leaf), below)
+    } else {
+        closed(spare, meet, None, below, Link::Leaf(leaf))
+    }
+}
+
+// Takes the route to a prefix out of what hangs at a link, and joins a fork that is no longer needed.
+pub fn remove(link: Link, key: &Prefix) -> Link
+    requires { HasEntries link }
+    ensures some { HasEntries result }
+    ensures kept { linked result ≡ without key.now (linked link) }
+{
+    match link {
+        Link::Empty => Link::Empty,
+        Link::Leaf(leaf) => {
+            if *key == leaf.0 {
+                Link::Empty
+            } else {
+                Link::Leaf(leaf)
+            }
+        }
+        Link::Fork(mut fork) => {
+            let Fork {
+                prefix,
+                own,
+                low,
+                high,
+                ..
+            } = mem::replace(&mut *fork, Fork::hollow(*key));
+            if *key == prefix {
+                closed(fork, prefix, None, low, high)
+            } else if prefix.is_before_middle(key) {
+                closed(fork, prefix, own, remove(low, key), high)
+            } else {
+                closed(fork, prefix, own, low, remove(high, key))
+            }
+        }
+    }
+}
+
+// What these parts make: a fork in a box that is there, or the one part that has no need of it.
+fn closed(
+    mut fork: Box<Fork>,
+    prefix: Prefix,
+    own: Option<Box<Entry>>,
+    low: Link,
+    high: Link,
+) -> Link
+    requires parts { AreParts prefix (owned own) (linked low) (linked high) }
+    requires low_some { HasEntries low }
+    requires high_some { HasEntries high }
+    ensures some { HasEntries result }
+    ensures kept { linked result ≡ entries_of own low high }
+{
+    if low.is_empty() && high.is_empty() {
+        return match own {
+            Some(leaf) => Link::Leaf(leaf),
+            None => Link::Empty,
+        };
+    }
+    if own.is_none() {
+        if low.is_empty() {
+            return high;
+        }
+        if high.is_empty() {
+            return low;
+        }
+    }
+    *fork = Fork::of(prefix, own, low, high);
+    Link::Fork(fork)
+}

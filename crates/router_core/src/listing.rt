@@ -1,0 +1,147 @@
+//! The routes that an update tells, found without a look at the others (RFC 2080, section 2.5).
+
+ghost use Rattle.std.specs.Prelude.{◌≡◌, ◌||◌, option_map, IfOk};
+ghost use Rattle.std.specs.List.{list_any};
+ghost use Rattle.std.specs.FinMap.{entries};
+ghost use Rattle.route_table.specs.Due.{first_where, is_due};
+ghost use Rattle.route_table.specs.Table.{map_entries};
+ghost use Rattle.router_core.specs.Ageing.{aged, aged_table};
+ghost use Rattle.router_core.specs.Output.{selected};
+ghost use Rattle.router_core.specs.Settling.{told_route, may_be_told};
+
+use crate::age::age;
+use crate::tell::{Told, listed};
+use prefix6::Prefix;
+use route_table::{Moment, Route, RouteStore};
+use std::alloc::{AllocError, Global};
+
+// The first route past the prefix that is due or marked as changed.
+fn walk_due_or_changed<S: RouteStore>(
+    store: &S,
+    after: Option<Prefix>,
+    now: Moment,
+) -> Option<(Prefix, Route)>
+    ensures { result ≡ first_where (λ r. is_due now r || r.changed) after (entries (S.table store.now)) }
+{
+    let past = after;
+    let Some(due) = store.walk_due(after, now) else {
+        return store.walk_changed(past);
+    };
+    let Some(changed) = store.walk_changed(past) else {
+        return Some(due);
+    };
+    if changed.0 < due.0 {
+        Some(changed)
+    } else {
+        Some(due)
+    }
+}
+
+// The first route past the prefix that the update may tell: a triggered one only what is due or marked.
+fn walk_told<S: RouteStore>(
+    store: &S,
+    which: Told,
+    after: Option<Prefix>,
+    now: Moment,
+) -> Option<(Prefix, Route)>
+    ensures { result ≡ first_where (may_be_told now which) after (entries (S.table store.now)) }
+{
+    match which {
+        Told::Every => store.walk(after),
+        Told::Changed => walk_due_or_changed(store, after, now),
+    }
+}
+
+// A route as an update tells it once it has aged, if the update tells it.
+fn told_route(route: Route, which: Told, now: Moment) -> Option<Route>
+    ensures { result ≡ told_route now which route }
+{
+    let left = age(route, now)?;
+    if which.selects(&left) {
+        Some(left)
+    } else {
+        None
+    }
+}
+
+/// Whether there is a route to be told once all have aged.
+pub fn has_told<S: RouteStore>(store: &S, which: Told, now: Moment) -> bool
+    ensures { result ≡ list_any (λ t. selected which t.1) (entries (aged_table now (S.table store.now))) }
+{
+    let mut after = None;
+    for _ in 0..store.len() {
+        let Some(entry) = walk_told(store, which, after, now) else {
+            return false;
+        };
+        if told_route(entry.1, which, now).is_some() {
+            return true;
+        }
+        after = Some(entry.0);
+    }
+    false
+}
+
+// What is left of all routes, in the order of prefixes.
+fn every_at<S: RouteStore>(
+    alloc: Global,
+    store: &S,
+    now: Moment,
+) -> Result<Vec<(Prefix, Route)>, AllocError>
+    ensures { IfOk result (λ v. v.items ≡ map_entries (aged now) (entries (S.table store.now))) }
+{
+    let routes = listed(alloc, store)?;
+    if store.walk_due(None, now).is_none() {
+        return Ok(routes);
+    }
+    routes
+        .iter()
+        .filter_map(|&(prefix, route)| age(route, now).map(|route| (prefix, route)))
+        .collect(alloc)
+}
+
+// A prefix and its route as a triggered update tells it once it has aged, if the update tells it.
+fn left_to_tell(prefix: Prefix, route: Route, now: Moment) -> Option<(Prefix, Route)>
+    ensures { result ≡ option_map (λ left. (prefix, left)) (told_route now Told.Changed route) }
+{
+    told_route(route, Told::Changed, now).map(|left| (prefix, left))
+}
+
+// The routes that a triggered update tells, in the order of prefixes.
+fn changed_at<S: RouteStore>(
+    alloc: Global,
+    store: &S,
+    now: Moment,
+) -> Result<Vec<(Prefix, Route)>, AllocError>
+    ensures { IfOk result (λ v. v.items ≡ map_entries (told_route now Told.Changed) (entries (S.table store.now))) }
+{
+    let mut routes = Vec::new(alloc);
+    let mut after = None;
+    for _ in 0..store.len() {
+        let Some(entry) = walk_told(store, Told::Changed, after, now) else {
+            return Ok(routes);
+        };
+        if let Some(left) = left_to_tell(entry.0, entry.1, now) {
+            routes.push(left)?;
+        }
+        after = Some(entry.0);
+    }
+    Ok(routes)
+}
+
+/// The routes that an update tells, as they are at a moment, in the order of prefixes.
+///
+/// # Errors
+/// Only want of memory.
+pub fn told_at<S: RouteStore>(
+    alloc: Global,
+    store: &S,
+    which: Told,
+    now: Moment,
+) -> Result<Vec<(Prefix, Route)>, AllocError>
+    ensures { IfOk result (λ v. v.items ≡ map_entries (told_route now which) (entries (S.table store.now))) }
+{
+    match which {
+        Told::Every => every_at(alloc, store, now),
+        Told::Changed => changed_at(alloc, store, now),
+    }
+}
