@@ -8,7 +8,8 @@ use Rattle.prefix6.specs.Prefix.{Prefix6, prefix_cmp}
 use Rattle.prefix6.proofs.PrefixLaws.{prefixes_total}
 use Rattle.route_table.specs.Route.{RouteValue, infinity}
 use Rattle.route_table.proofs.TableLaws.{Some-same, None-Some, at_from_entries}
-use Rattle.router_core.specs.Machine.{State, started, owned_table, owned_route}
+use Rattle.router_core.specs.Owning.{owned_route}
+use Rattle.router_core.specs.Machine.{State, started, owned_table}
 use Rattle.ripng_world.specs.declared.sent.Sent.{Sent}
 use Rattle.ripng_world.specs.Network.{Network, Node, config_of, Owns, OwnsPrefixes, HasDistinctAddresses}
 use Rattle.ripng_world.specs.Walks.{Hop, Reaches}
@@ -122,7 +123,7 @@ module _ (net : Network) (usable : IsUsable net) (owns : OwnsPrefixes net) (nois
 
   cold_settled : (moments : List ℕ) (cold : World) → IsCold net moments cold → IsSettled net 0 (λ _ _. ⊥) cold
   cold_settled moments cold is =
-      let both = cold_states 0 net moments cold.states cold.sent is in
+      let both = cold_states 0 net moments cold.states cold.sent is.starts in
       record {
         states = λ router s here. let t = both.0 router s here in
             record {

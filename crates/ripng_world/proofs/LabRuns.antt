@@ -4,30 +4,54 @@ use Rattle.std.proofs.lemmas.List.{append-nil, map_more, take-map, map-append, l
 use Rattle.router_core.specs.Machine.{State, Starts}
 use Rattle.router_core.specs.declared.answer.Answer.{Answer}
 use Rattle.ripng_world.specs.Network.{Network, Node, config_of}
-use Rattle.ripng_world.specs.World.{World, Event, Happens, WorldRun, StartsFrom, sent_by}
+use Rattle.router_core.specs.declared.reconfiguring.Change.{Change}
+use Rattle.ripng_world.specs.World.{World, Event, Happens, WorldRun, StartsFrom, changes_in, past_of, sent_by}
 use Rattle.ripng_world.specs.Events.{event_of}
 use Rattle.ripng_world.specs.Rounds.{router_of}
 use Rattle.ripng_world.specs.Stations.{StationValue, MoveStations, network_of, world_of}
-use Rattle.ripng_world.specs.Labs.{HasRun, AreRoutesBacked, AreNoneBelowLeast, IsTruthTold}
+use Rattle.ripng_world.specs.Labs.{HasRun, AreRoutesBacked, AreRoutesBackedSince, AreNoneBelowLeast, AreNoneBelowLeastSince, IsTruthToldSince, HoldsFixed}
+use Rattle.ripng_world.specs.Truth.{TellsTruth}
+use Rattle.ripng_world.specs.TruthSince.{TellsTruthSince}
 use Rattle.ripng_world.specs.declared.sent.Sent.{Sent}
 use Rattle.ripng_world.specs.declared.event.Event as coded
+use Rattle.ripng_world.proofs.Each.{each_weaker}
+use Rattle.ripng_world.proofs.Growing.{backed_first}
 use Rattle.ripng_world.proofs.Running.{IsGood, run_from_cold}
+use Rattle.ripng_world.proofs.Unchanged.{truth_first}
 use Rattle.ripng_world.proofs.RoundRuns.{run_on}
 
 module _ (net : Network) (w : World) (has_run : HasRun net w) where
   good : IsGood net has_run.lawful.owns_prefixes w
   good = run_from_cold net has_run.lawful.owns_prefixes has_run.moments has_run.events has_run.cold w has_run.is_cold has_run.run
 
-  pub backed : AreRoutesBacked net w
-  backed = λ router state here p r at low. ((good.states router state here).sound p r at).backed low
+  pub backed : AreRoutesBackedSince net w
+  backed = λ router state here p r at low. ((good.states_good router state here).sound p r at).backed low
 
-  pub least : AreNoneBelowLeast net w
+  pub least : AreNoneBelowLeastSince net w
   least = λ router state here p r metric at low least.
       let b = backed router state here p r at low in
       least.least r.metric r.tag b.0 b.1
 
-  pub truth : IsTruthTold net w.sent
-  truth = good.sent
+  pub truth : IsTruthToldSince net w
+  truth = good.sent_true
+
+  fixed_backed : w.changes ≡ [] → AreRoutesBacked net w
+  fixed_backed unchanged router state here p r at low = backed_first (past_of net w) unchanged router p r (backed router state here p r at low)
+
+  fixed_least : w.changes ≡ [] → AreNoneBelowLeast net w
+  fixed_least unchanged router state here p r metric at low least =
+      let b = fixed_backed unchanged router state here p r at low in
+      least.least r.metric r.tag b.0 b.1
+
+  pub fixed : HoldsFixed net w
+  fixed =
+      record {
+        backed = fixed_backed;
+        least = fixed_least;
+        truth = λ unchanged.
+            each_weaker (λ (d : Sent). TellsTruth net d.router d.bytes) (λ (d : Sent). TellsTruthSince (past_of net w) d.router d.bytes)
+            (λ d. truth_first (past_of net w) unchanged d.router d.bytes) w.sent good.sent_true;
+      }
 
   pub went_on : (events : List Event) (w' : World) → WorldRun net w events w' → HasRun net w'
   went_on events w' run =
@@ -44,15 +68,18 @@ pub one_event : (net : Network) (w w' : World) (e : Event) (answer : Answer) →
 one_event net w w' e answer happens = (w', answer, happens, refl)
 
 -- a move of stations, once what was sent is added
-module _ (old new : List StationValue) (sent sent' : List Sent) (e : Event) (answer : Answer) (moves : MoveStations old sent e answer new)
-    (added : sent' ≡ sent ++ map (sent_by (router_of e)) answer.sends) where
-  pub stepped : Happens (network_of old) (world_of old sent) e answer (world_of new sent')
-  stepped = subst (λ (ds : List Sent). Happens (network_of old) (world_of old sent) e answer (world_of new ds)) (sym added) moves.happens
+module _ (old new : List StationValue) (sent sent' : List Sent) (changes changes' : List (ℕ × Change)) (e : Event) (answer : Answer) (moves : MoveStations old sent changes e answer new)
+    (added : sent' ≡ sent ++ map (sent_by (router_of e)) answer.sends) (done : changes' ≡ changes ++ changes_in (e ∷ [])) where
+  pub stepped : Happens (network_of old) (world_of old sent changes) e answer (world_of new sent' changes')
+  stepped =
+      subst (λ (ds : List Sent). Happens (network_of old) (world_of old sent changes) e answer (world_of new ds changes')) (sym added)
+      (subst (λ (cs : List (ℕ × Change)). Happens (network_of old) (world_of old sent changes) e answer (world_of new (sent ++ map (sent_by (router_of e)) answer.sends) cs)) (sym done) moves.happens)
 
-  pub stepped_on : HasRun (network_of old) (world_of old sent) → HasRun (network_of new) (world_of new sent')
+  pub stepped_on : HasRun (network_of old) (world_of old sent changes) → HasRun (network_of new) (world_of new sent' changes')
   stepped_on has_run =
-      subst (λ (net : Network). HasRun net (world_of new sent')) (sym moves.network)
-      (went_on (network_of old) (world_of old sent) has_run (e ∷ []) (world_of new sent') (one_event (network_of old) (world_of old sent) (world_of new sent') e answer stepped))
+      subst (λ (net : Network). HasRun net (world_of new sent' changes')) (sym moves.network)
+      (went_on (network_of old) (world_of old sent changes) has_run (e ∷ []) (world_of new sent' changes')
+      (one_event (network_of old) (world_of old sent changes) (world_of new sent' changes') e answer stepped))
 
 -- one more event of a list has happened
 pub run_more : (net : Network) (w mid w' : World) (events : List coded.Event) (n : ℕ) (d : coded.Event) (answer : Answer) → n < length events → d ≡ get_or events n d

@@ -1,16 +1,28 @@
 -- Every event of a network keeps every table sound and every datagram true.
-use Rattle.std.proofs.Common.{◌≡◌, ◌≢◌, ◌⊎◌, inl, inr, ℕ, zero, suc, ◌+◌, ◌%◌, max, Bool, true, false, cond, ◌&&◌, ◌||◌, ◌==◌, MatchBool, MatchOption, List, [], ◌∷◌, ◌++◌, map, Option, Some, None, is_none, option_map, option_and_then, unwrap_or, slice_get, slice_set, refl, ap, sym, subst, ◌∙◌, arith, add-zero}
-use Rattle.std.specs.List.{AllByRecursion, list_any}
+use Rattle.std.proofs.Common.{◌≡◌, ◌≢◌, ◌⊎◌, inl, inr, ℕ, zero, suc, ◌+◌, ◌%◌, max, Bool, true, false, cond, not, ◌&&◌, ◌||◌, ◌==◌, MatchBool, MatchOption, List, [], ◌∷◌, ◌++◌, map, Option, Some, None, is_none, option_map, option_and_then, unwrap_or, slice_get, slice_set, refl, ap, ap₂, sym, subst, ◌∙◌, arith, add-zero, append_assoc, append-nil}
+use Rattle.std.specs.List.{AllByRecursion, list_any, cons_option}
 use Rattle.std.proofs.lemmas.Bool.{eq-eqb}
-use Rattle.prefix6.specs.Prefix.{Prefix6}
+use Rattle.std.specs.FinMap as map_of
+use Rattle.std.specs.Ordering.{eq_by_cmp}
+use Rattle.std.proofs.lemmas.Map.Views.{tells_apart}
+use Rattle.prefix6.specs.Prefix.{Prefix6, IsPrefix, prefix_cmp, same_prefix}
+use Rattle.prefix6.proofs.PrefixLaws.{exact_prefixes}
 use Rattle.ripng_wire.specs.Wire.{first_failing, wire_tests, is_response}
 use Rattle.route_table.specs.Route.{RouteValue, infinity}
+use Rattle.route_table.specs.Table.{Table, with_value}
 use Rattle.route_table.proofs.TableLaws.{at_from_entries, Some-same, None-Some}
+use Rattle.route_table.proofs.TableSteps.{get-with_value}
 use Rattle.router_core.specs.Config.{Config, cost_at, is_own_address}
 use Rattle.router_core.specs.Received.{Received}
 use Rattle.router_core.specs.Faults.{fault, arrival_tests, response_tests, request_tests}
 use Rattle.router_core.specs.Ageing.{aged_table, unmarked}
-use Rattle.router_core.specs.Machine.{State, Happening, Arrives, Ticks, Restarts, Hears, Replies, Refuses, started, ticked, owned_table, owned_route, gateway_of, is_regular_due, is_triggered_due}
+use Rattle.router_core.specs.Machine.{State, Happening, Arrives, Ticks, Restarts, Reconfigures, Hears, Replies, Refuses, started, ticked, owned_table, gateway_of, is_regular_due, is_triggered_due}
+use Rattle.router_core.specs.Adoption.{lost}
+use Rattle.router_core.specs.Owning.{owned_route}
+use Rattle.router_core.specs.Reconfiguring.{IsNamed, with_cost, changed_config, changed_table, gained, given_up}
+use Rattle.router_core.specs.declared.config.Interface.{Interface}
+use Rattle.router_core.specs.declared.reconfiguring.Change.{Change}
+use Rattle.router_core.specs.declared.reconfiguring.Change.TheVariants.{Cost, Own, Disown}
 use Rattle.router_core.specs.declared.answer.Answer.{Answer}
 use Rattle.router_core.specs.declared.arrival.Fault.{Fault}
 use Rattle.router_core.specs.declared.arrival.Fault.TheVariants.{Wire}
@@ -18,10 +30,13 @@ use Rattle.ripng_world.specs.declared.network.NetInterface.{NetInterface}
 use Rattle.ripng_world.specs.declared.sent.Sent.{Sent}
 use Rattle.ripng_world.specs.Network.{Network, Node, config_of, interface_at, AreLinked, Owns, OwnsPrefixes}
 use Rattle.ripng_world.specs.Walks.{cost_of_interface}
-use Rattle.ripng_world.specs.World.{World, Event, Deliver, Stranger, Tick, Restart, RouterMoves, Happens, WorldRun, StartsFrom, IsCold, sent_by, address_at, arrival_of}
-use Rattle.ripng_world.specs.Truth.{IsNeighbor, IsSound, IsSoundTable, TellsTruth}
-use Rattle.ripng_world.proofs.Each.{each_append, each_mapped, each_from_places, each_at_place}
-use Rattle.ripng_world.proofs.Telling.{aged_sound, unmarked_sound, sends_true, starting_true}
+use Rattle.ripng_world.specs.World.{World, Event, Deliver, Stranger, Tick, Restart, Reconfigure, RouterMoves, Happens, WorldRun, StartsFrom, IsCold, past_of, changes_by, change_in, changes_in, sent_by, address_at, arrival_of}
+use Rattle.ripng_world.specs.Past.{Past, HasCostSince, OwnsSince}
+use Rattle.ripng_world.specs.TruthSince.{IsNeighborSince, IsSoundSince, IsSoundTableSince, TellsTruthSince}
+use Rattle.ripng_world.proofs.Each.{each_append, each_filter, each_mapped, each_weaker, each_from_places, each_at_place}
+use Rattle.ripng_world.proofs.Members.{at_right}
+use Rattle.ripng_world.proofs.Growing.{cost_grows, owner_grows, table_grows, truth_grows}
+use Rattle.ripng_world.proofs.Telling.{lost_sound, aged_sound, unmarked_sound, sends_true, starting_true}
 use Rattle.ripng_world.proofs.Keeping.{heard_sound}
 
 -- ---- tests
@@ -87,145 +102,327 @@ cost_is net router iface node is =
     once None = refl
     once (Some i) = refl
 
+any_map : {A B : Type 0} (test : B → Bool) (f : A → B) (xs : List A) → list_any test (map f xs) ≡ list_any (λ x. test (f x)) xs
+any_map test f [] = refl
+any_map test f (x ∷ xs) = ap (λ b. test (f x) || b) (any_map test f xs)
+
+-- ---- configurations
+
+-- a configuration of the router: its addresses as at the cold start, its costs and prefixes in force since
+pub record IsConfigured (past : Past) (router : ℕ) (config : Config) : Type 0 where
+  pub node : Node
+  pub node_is : slice_get past.net router ≡ Some node
+  pub addresses : map (λ (i : Interface). i.addr) config.interfaces ≡ map (λ (i : NetInterface). i.interface.addr) node.interfaces
+  pub costs : (iface : ℕ) (i : Interface) → slice_get config.interfaces iface ≡ Some i → HasCostSince past router iface i.cost
+  pub prefixes : AllByRecursion (λ (t : Prefix6 × ℕ). IsPrefix t.0 × OwnsSince past router t.0 t.1) config.prefixes
+
+first_configured : (past : Past) → OwnsPrefixes past.net → (router : ℕ) (node : Node) → slice_get past.net router ≡ Some node → IsConfigured past router (config_of node)
+first_configured past owns router node is =
+    record {
+      node = node;
+      node_is = is;
+      addresses = map_twice node.interfaces;
+      costs = λ iface i here. inl (same_cost iface i here);
+      prefixes = each_from_places (λ (t : Prefix6 × ℕ). IsPrefix t.0 × OwnsSince past router t.0 t.1) node.prefixes (λ place t listed.
+          let o : Owns past.net router t.0 t.1 = record { node = node; node_is = is; place = place; listed = listed } in (owns router t.0 t.1 o, inl o));
+    }
+  where
+    map_twice : (xs : List NetInterface) → map (λ (i : Interface). i.addr) (map (λ (i : NetInterface). i.interface) xs) ≡ map (λ (i : NetInterface). i.interface.addr) xs
+    map_twice [] = refl
+    map_twice (x ∷ xs) = ap (λ ys. x.interface.addr ∷ ys) (map_twice xs)
+
+    same_cost : (iface : ℕ) (i : Interface) → slice_get (map (λ (i : NetInterface). i.interface) node.interfaces) iface ≡ Some i → i.cost ≡ cost_of_interface past.net router iface
+    same_cost iface i here = sym (ap (λ o. unwrap_or (option_map (λ (i : Interface). i.cost) o) infinity) here) ∙ cost_is past.net router iface node is
+
+configured_grows : (net : Network) (changes more : List (ℕ × Change)) (router : ℕ) (config : Config)
+    → IsConfigured (record { net = net; changes = changes }) router config → IsConfigured (record { net = net; changes = changes ++ more }) router config
+configured_grows net changes more router config c =
+    record {
+      node = c.node;
+      node_is = c.node_is;
+      addresses = c.addresses;
+      costs = λ iface i here. cost_grows net changes more router iface i.cost (c.costs iface i here);
+      prefixes = each_weaker (λ (t : Prefix6 × ℕ). IsPrefix t.0 × OwnsSince (record { net = net; changes = changes ++ more }) router t.0 t.1)
+          (λ (t : Prefix6 × ℕ). IsPrefix t.0 × OwnsSince (record { net = net; changes = changes }) router t.0 t.1)
+          (λ t both. (both.0, owner_grows net changes more router t.0 t.1 both.1)) config.prefixes c.prefixes;
+    }
+
+-- another cost of an interface leaves the addresses, and is the only other cost
+set_addresses : (xs : List Interface) (iface cost : ℕ) → map (λ (i : Interface). i.addr) (with_cost xs iface cost) ≡ map (λ (i : Interface). i.addr) xs
+set_addresses xs iface cost = by_value (slice_get xs iface) refl
+  where
+    same_at : (ys : List Interface) (j : ℕ) (i : Interface) → slice_get ys j ≡ Some i → map (λ (i : Interface). i.addr) (slice_set ys j (record i { cost = cost })) ≡ map (λ (i : Interface). i.addr) ys
+    same_at [] j i e = refl
+    same_at (y ∷ ys) zero i e = ap (λ a. a ∷ map (λ (i : Interface). i.addr) ys) (sym (ap (λ (k : Interface). k.addr) (Some-same y i e)))
+    same_at (y ∷ ys) (suc j) i e = ap (λ rest. y.addr ∷ rest) (same_at ys j i e)
+
+    by_value : (o : Option Interface) → slice_get xs iface ≡ o
+        → map (λ (i : Interface). i.addr) (unwrap_or (option_map (λ i. slice_set xs iface (record i { cost = cost })) o) xs) ≡ map (λ (i : Interface). i.addr) xs
+    by_value None is = refl
+    by_value (Some i) is = same_at xs iface i is
+
+set_costs : (xs : List Interface) (iface cost j : ℕ) (i : Interface) → slice_get (with_cost xs iface cost) j ≡ Some i → ((iface ≡ j) × (cost ≡ i.cost)) ⊎ (slice_get xs j ≡ Some i)
+set_costs xs iface cost j i = by_value (slice_get xs iface)
+  where
+    by_value : (o : Option Interface) → slice_get (unwrap_or (option_map (λ i. slice_set xs iface (record i { cost = cost })) o) xs) j ≡ Some i → ((iface ≡ j) × (cost ≡ i.cost)) ⊎ (slice_get xs j ≡ Some i)
+    by_value None is = inr is
+    by_value (Some k) is =
+        elim (get_set xs iface (record k { cost = cost }) j i is) [
+          | inl both ↦ inl (both.0, ap (λ (x : Interface). x.cost) both.1)
+          | inr there ↦ inr there
+        ]
+
+changed_configured : (net : Network) (changes : List (ℕ × Change)) (router : ℕ) (config : Config) (c : Change) → IsNamed config c
+    → IsConfigured (record { net = net; changes = changes }) router config → IsConfigured (record { net = net; changes = changes ++ (router, c) ∷ [] }) router (changed_config config c)
+changed_configured net changes router config (Cost iface cost) named good =
+    let g = configured_grows net changes ((router, Cost iface cost) ∷ []) router config good in
+    record {
+      node = g.node;
+      node_is = g.node_is;
+      addresses = set_addresses config.interfaces iface cost ∙ g.addresses;
+      costs = λ j i here. by_place j i (set_costs config.interfaces iface cost j i here) g.costs;
+      prefixes = g.prefixes;
+    }
+  where
+    after : Past
+    after = record { net = net; changes = changes ++ (router, Cost iface cost) ∷ [] }
+
+    by_place : (j : ℕ) (i : Interface) → ((iface ≡ j) × (cost ≡ i.cost)) ⊎ (slice_get config.interfaces j ≡ Some i)
+        → ((k : ℕ) (x : Interface) → slice_get config.interfaces k ≡ Some x → HasCostSince (record { net = net; changes = changes ++ (router, Cost iface cost) ∷ [] }) router k x.cost)
+        → HasCostSince (record { net = net; changes = changes ++ (router, Cost iface cost) ∷ [] }) router j i.cost
+    by_place j i (inl both) earlier =
+        let d = at_right changes ((router, Cost iface cost) ∷ []) (router, Cost iface cost) (0, refl) in
+        inr (d.0, d.1 ∙ ap₂ (λ a b. Some (router, Cost a b)) both.0 both.1)
+    by_place j i (inr there) earlier = earlier j i there
+changed_configured net changes router config (Own p tag) named good =
+    let g = configured_grows net changes ((router, Own p tag) ∷ []) router config good in
+    record {
+      node = g.node;
+      node_is = g.node_is;
+      addresses = g.addresses;
+      costs = g.costs;
+      prefixes = each_append (λ (t : Prefix6 × ℕ). IsPrefix t.0 × OwnsSince (record { net = net; changes = changes ++ (router, Own p tag) ∷ [] }) router t.0 t.1) config.prefixes ((p, tag) ∷ []) g.prefixes
+          ((named, inr (at_right changes ((router, Own p tag) ∷ []) (router, Own p tag) (0, refl))), tt);
+    }
+changed_configured net changes router config (Disown p) named good =
+    let g = configured_grows net changes ((router, Disown p) ∷ []) router config good in
+    record {
+      node = g.node;
+      node_is = g.node_is;
+      addresses = g.addresses;
+      costs = g.costs;
+      prefixes = each_filter (λ (t : Prefix6 × ℕ). IsPrefix t.0 × OwnsSince (record { net = net; changes = changes ++ (router, Disown p) ∷ [] }) router t.0 t.1) (λ t. not (same_prefix t.0 p)) config.prefixes g.prefixes;
+    }
+
+-- the cost of an interface that is there
+configured_cost : (past : Past) (router iface : ℕ) (config : Config) (c : IsConfigured past router config) (there : NetInterface) → slice_get c.node.interfaces iface ≡ Some there
+    → HasCostSince past router iface (cost_at config iface)
+configured_cost past router iface config c there is = by_value (slice_get config.interfaces iface) refl
+  where
+    same : option_map (λ (i : Interface). i.addr) (slice_get config.interfaces iface) ≡ Some there.interface.addr
+    same =
+        sym (get_map (λ (i : Interface). i.addr) config.interfaces iface) ∙ ap (λ addrs. slice_get addrs iface) c.addresses
+        ∙ get_map (λ (i : NetInterface). i.interface.addr) c.node.interfaces iface ∙ ap (option_map (λ (i : NetInterface). i.interface.addr)) is
+
+    by_value : (o : Option Interface) → slice_get config.interfaces iface ≡ o → HasCostSince past router iface (unwrap_or (option_map (λ (i : Interface). i.cost) o) infinity)
+    by_value None none = absurd (None-Some there.interface.addr (sym (ap (option_map (λ (i : Interface). i.addr)) none) ∙ same))
+    by_value (Some i) here = c.costs iface i here
+
 -- ---- states
 
--- the router has its configuration and a sound table
-pub record IsGoodState (net : Network) (router : ℕ) (s : State) : Type 0 where
-  pub node : Node
-  pub node_is : slice_get net router ≡ Some node
-  pub config_is : s.config ≡ config_of node
-  pub sound : IsSoundTable net router s.table
+-- the router has a configuration of its own and a sound table
+pub record IsGoodState (past : Past) (router : ℕ) (s : State) : Type 0 where
+  pub configured : IsConfigured past router s.config
+  pub sound : IsSoundTableSince past router s.table
 
-module _ (net : Network) (owns : OwnsPrefixes net) where
-  owned_sound : (router : ℕ) (node : Node) → slice_get net router ≡ Some node → IsSoundTable net router (owned_table (config_of node))
-  owned_sound router node is =
-      at_from_entries (λ (t : Prefix6 × RouteValue). IsSound net router t.0 t.1) _
-      (each_mapped (λ (t : Prefix6 × RouteValue). IsSound net router t.0 t.1) (λ t. (t.0, owned_route t.1)) node.prefixes
-      (each_from_places (λ (t : Prefix6 × ℕ). IsSound net router t.0 (owned_route t.1)) node.prefixes own))
-    where
-      own : (place : ℕ) (t : Prefix6 × ℕ) → slice_get node.prefixes place ≡ Some t → IsSound net router t.0 (owned_route t.1)
-      own place t listed =
-          let o : Owns net router t.0 t.1 = record { node = node; node_is = is; place = place; listed = listed } in
-          record {
-            is_prefix = (owns router t.0 t.1 o).clear;
-            in_range = omega arith;
-            backed = λ _. ([], record { is_walk = tt; costs = refl; owner = o }, tt);
-          }
+state_grows : (net : Network) (changes more : List (ℕ × Change)) (router : ℕ) (s : State)
+    → IsGoodState (record { net = net; changes = changes }) router s → IsGoodState (record { net = net; changes = changes ++ more }) router s
+state_grows net changes more router s good =
+    record { configured = configured_grows net changes more router s.config good.configured; sound = table_grows net changes more router s.table good.sound }
 
-  started_good : (router : ℕ) (node : Node) (config : Config) → slice_get net router ≡ Some node → config ≡ config_of node → (now : ℕ) → IsGoodState net router (started config now)
-  started_good router node config is same now =
-      record { node = node; node_is = is; config_is = same; sound = subst (λ c. IsSoundTable net router (owned_table c)) (sym same) (owned_sound router node is) }
+module _ (past : Past) (router : ℕ) where
+  own : (p : Prefix6) (tag : ℕ) (changed : Bool) → IsPrefix p → OwnsSince past router p tag → IsSoundSince past router p (record (owned_route tag) { changed = changed })
+  own p tag changed is owner =
+      record { is_prefix = is.clear; in_range = omega arith; backed = λ _. ([], record { is_walk = tt; costs = refl; owner = owner }, tt) }
 
-  ticked_good : (router : ℕ) (old : State) (now word : ℕ) → IsGoodState net router old → IsGoodState net router (ticked old now word)
-  ticked_good router old now word good =
-      let kept = aged_sound net router now old.table good.sound in
-      let clean = unmarked_sound net router (aged_table now old.table) kept in
-      elim (is_regular_due old now) as (λ b. IsGoodState net router (cond b (record old { table = unmarked (aged_table now old.table); last = now; regular = now + 15_000 + word % 30_001 })
+  owned_sound : (config : Config) → IsConfigured past router config → IsSoundTableSince past router (owned_table config)
+  owned_sound config c =
+      at_from_entries (λ (t : Prefix6 × RouteValue). IsSoundSince past router t.0 t.1) _
+      (each_mapped (λ (t : Prefix6 × RouteValue). IsSoundSince past router t.0 t.1) (λ t. (t.0, owned_route t.1)) config.prefixes
+      (each_weaker (λ (t : Prefix6 × ℕ). IsSoundSince past router t.0 (owned_route t.1)) (λ (t : Prefix6 × ℕ). IsPrefix t.0 × OwnsSince past router t.0 t.1)
+      (λ t both. own t.0 t.1 false both.0 both.1) config.prefixes c.prefixes))
+
+  started_good : (config : Config) → IsConfigured past router config → (now : ℕ) → IsGoodState past router (started config now)
+  started_good config c now = record { configured = c; sound = owned_sound config c }
+
+  ticked_good : (old : State) (now word : ℕ) → IsGoodState past router old → IsGoodState past router (ticked old now word)
+  ticked_good old now word good =
+      let kept = aged_sound past router now old.table good.sound in
+      let clean = unmarked_sound past router (aged_table now old.table) kept in
+      elim (is_regular_due old now) as (λ b. IsGoodState past router (cond b (record old { table = unmarked (aged_table now old.table); last = now; regular = now + 15_000 + word % 30_001 })
       (cond (is_triggered_due old now) (record old { table = unmarked (aged_table now old.table); last = now; hold = now + 1_000 + word % 4_001 }) (record old { table = aged_table now old.table; last = now })))) [
-        | true ↦ record { node = good.node; node_is = good.node_is; config_is = good.config_is; sound = clean }
-        | false ↦ elim (is_triggered_due old now) as (λ b. IsGoodState net router (cond b (record old { table = unmarked (aged_table now old.table); last = now; hold = now + 1_000 + word % 4_001 }) (record old { table = aged_table now old.table; last = now }))) [
-          | true ↦ record { node = good.node; node_is = good.node_is; config_is = good.config_is; sound = clean }
-          | false ↦ record { node = good.node; node_is = good.node_is; config_is = good.config_is; sound = kept }
+        | true ↦ record { configured = good.configured; sound = clean }
+        | false ↦ elim (is_triggered_due old now) as (λ b. IsGoodState past router (cond b (record old { table = unmarked (aged_table now old.table); last = now; hold = now + 1_000 + word % 4_001 }) (record old { table = aged_table now old.table; last = now }))) [
+          | true ↦ record { configured = good.configured; sound = clean }
+          | false ↦ record { configured = good.configured; sound = kept }
         ]
       ]
 
-  waited_good : (router : ℕ) (old new : State) (now : ℕ) → IsGoodState net router old → new ≡ record old { last = now } → IsGoodState net router new
-  waited_good router old new now good is =
-      subst (IsGoodState net router) (sym is) (record { node = good.node; node_is = good.node_is; config_is = good.config_is; sound = good.sound })
+  waited_good : (old new : State) (now : ℕ) → IsGoodState past router old → new ≡ record old { last = now } → IsGoodState past router new
+  waited_good old new now good is = subst (IsGoodState past router) (sym is) (record { configured = good.configured; sound = good.sound })
 
   -- an arrival that is not heard leaves the table
-  unheard_good : (router : ℕ) (old new : State) (now : ℕ) (x : Received) (answer : Answer) → IsGoodState net router old
+  unheard_good : (old new : State) (now : ℕ) (x : Received) (answer : Answer) → IsGoodState past router old
       → (o : Option Fault) (b : Bool) → (is_none o && b) ≡ false
       → MatchOption o (MatchBool b (Hears old now x answer new) (Replies old now x answer new)) (λ why. Refuses old now why answer new)
-      → IsGoodState net router new
-  unheard_good router old new now x answer good (Some why) b unheard refuses = waited_good router old new now good refuses.state
-  unheard_good router old new now x answer good None false unheard replies = waited_good router old new now good replies.state
-  unheard_good router old new now x answer good None true unheard hears = absurd (cc)
+      → IsGoodState past router new
+  unheard_good old new now x answer good (Some why) b unheard refuses = waited_good old new now good refuses.state
+  unheard_good old new now x answer good None false unheard replies = waited_good old new now good replies.state
+  unheard_good old new now x answer good None true unheard hears = absurd (cc)
 
-  -- ---- deliveries
+  -- a table with a sound route, or none, at a prefix
+  with_sound : (table : Table) (p : Prefix6) (o : Option RouteValue) → IsSoundTableSince past router table
+      → ((r : RouteValue) → o ≡ Some r → IsSoundSince past router p r) → IsSoundTableSince past router (with_value table p o)
+  with_sound table p o sound here q s at = by_tie (eq_by_cmp prefix_cmp q p) refl (sym (get-with_value table p o q) ∙ at)
+    where
+      by_tie : (b : Bool) → eq_by_cmp prefix_cmp q p ≡ b → cond b o (map_of.get table q) ≡ Some s → IsSoundSince past router q s
+      by_tie true tie is = subst (λ (k : Prefix6). IsSoundSince past router k s) (sym (tells_apart exact_prefixes q p tie)) (here s is)
+      by_tie false tie is = sound q s is
 
-  module _ (router iface : ℕ) (d : Sent) (moment : ℕ) (old new : State) (answer : Answer) (good : IsGoodState net router old)
-      (linked : AreLinked net d.router d.iface router iface) (told : TellsTruth net d.router d.bytes) where
-    abbrev arrival : Received
-    arrival = arrival_of net d iface moment
+-- a change that is done
+pub changed_sound : (net : Network) (changes : List (ℕ × Change)) (router now : ℕ) (config : Config) (table : Table) (c : Change) → IsNamed config c
+    → IsSoundTableSince (record { net = net; changes = changes }) router table
+    → IsSoundTableSince (record { net = net; changes = changes ++ (router, c) ∷ [] }) router (changed_table now table c)
+changed_sound net changes router now config table (Cost iface cost) named sound = table_grows net changes ((router, Cost iface cost) ∷ []) router table sound
+changed_sound net changes router now config table (Own p tag) named sound =
+    with_sound (record { net = net; changes = changes ++ (router, Own p tag) ∷ [] }) router table p (Some (gained tag))
+    (table_grows net changes ((router, Own p tag) ∷ []) router table sound)
+    (λ r is. subst (IsSoundSince (record { net = net; changes = changes ++ (router, Own p tag) ∷ [] }) router p) (Some-same (gained tag) r is)
+    (own (record { net = net; changes = changes ++ (router, Own p tag) ∷ [] }) router p tag true named (inr (at_right changes ((router, Own p tag) ∷ []) (router, Own p tag) (0, refl)))))
+changed_sound net changes router now config table (Disown p) named sound =
+    let all = table_grows net changes ((router, Disown p) ∷ []) router table sound in
+    with_sound (record { net = net; changes = changes ++ (router, Disown p) ∷ [] }) router table p (given_up now (map_of.get table p)) all
+    (by_route (map_of.get table p) refl)
+  where
+    by_route : (o : Option RouteValue) → map_of.get table p ≡ o
+        → (r : RouteValue) → given_up now o ≡ Some r → IsSoundSince (record { net = net; changes = changes ++ (router, Disown p) ∷ [] }) router p r
+    by_route None at r is = absurd (None-Some r is)
+    by_route (Some old) at r is =
+        subst (IsSoundSince (record { net = net; changes = changes ++ (router, Disown p) ∷ [] }) router p) (Some-same (lost now old) r is)
+        (lost_sound (record { net = net; changes = changes ++ (router, Disown p) ∷ [] }) router now p old (table_grows net changes ((router, Disown p) ∷ []) router table sound p old at))
 
-    source_is : address_at net d.router d.iface ≡ linked.here.interface.addr
-    source_is = ap (λ o. unwrap_or (option_map (λ (i : NetInterface). i.interface.addr) o) 0) linked.here_is
+-- ---- deliveries
 
-    apart : is_own_address old.config arrival.source ≡ false → router ≢ d.router
-    apart not_own same =
-        let here : slice_get good.node.interfaces d.iface ≡ Some linked.here =
-        sym (in_node net router d.iface good.node good.node_is) ∙ ap (λ r. interface_at net r d.iface) same ∙ linked.here_is in
-        let own : is_own_address (config_of good.node) arrival.source ≡ true =
-        any_at (λ i. i.addr == arrival.source) (λ (i : NetInterface). i.interface) good.node.interfaces d.iface linked.here here (eq-eqb _ _ (sym source_is)) in
-        let own' : is_own_address old.config arrival.source ≡ true = ap (λ c. is_own_address c arrival.source) good.config_is ∙ own in
-        clash (sym own' ∙ not_own)
-      where
-        clash : true ≡ false → ⊥
-        clash e = cc
+module _ (past : Past) (router iface : ℕ) (d : Sent) (moment : ℕ) (old new : State) (answer : Answer) (good : IsGoodState past router old)
+    (linked : AreLinked past.net d.router d.iface router iface) (told : TellsTruthSince past d.router d.bytes) where
+  abbrev arrival : Received
+  arrival = arrival_of past.net d iface moment
 
-    near : (now : ℕ) → router ≢ d.router → IsNeighbor net router (gateway_of old now arrival) d.router d.iface
-    near now other =
-        record {
-          linked = record { here = linked.there; there = linked.here; here_is = linked.there_is; there_is = linked.here_is; same_link = sym linked.same_link };
-          apart = other;
-          from = ap (option_map (λ (i : NetInterface). i.interface.addr)) linked.here_is ∙ ap Some (sym source_is);
-          cost = ap (λ c. cost_at c iface) good.config_is ∙ cost_is net router iface good.node good.node_is;
-        }
+  source_is : address_at past.net d.router d.iface ≡ linked.here.interface.addr
+  source_is = ap (λ o. unwrap_or (option_map (λ (i : NetInterface). i.interface.addr) o) 0) linked.here_is
 
-    delivered_good : (now : ℕ) (o : Option Fault) (b : Bool) → fault old.config arrival ≡ o → is_response d.bytes ≡ b
-        → MatchOption o (MatchBool b (Hears old now arrival answer new) (Replies old now arrival answer new)) (λ why. Refuses old now why answer new)
-        → IsGoodState net router new
-    delivered_good now (Some why) b none response refuses = waited_good router old new now good refuses.state
-    delivered_good now None false none response replies = waited_good router old new now good replies.state
-    delivered_good now None true none response hears =
-        subst (IsGoodState net router) (sym hears.state)
-        (record {
-          node = good.node;
-          node_is = good.node_is;
-          config_is = good.config_is;
-          sound = heard_sound net router d.router d.iface _ hears.table
-              (near now (apart (not_own old.config arrival none response))) (told hears.entries hears.read) good.sound hears.heard;
-        })
+  apart : is_own_address old.config arrival.source ≡ false → router ≢ d.router
+  apart not_own same =
+      let here : slice_get good.configured.node.interfaces d.iface ≡ Some linked.here =
+      sym (in_node past.net router d.iface good.configured.node good.configured.node_is) ∙ ap (λ r. interface_at past.net r d.iface) same ∙ linked.here_is in
+      let own : list_any (λ a. a == arrival.source) (map (λ (i : NetInterface). i.interface.addr) good.configured.node.interfaces) ≡ true =
+      any_at (λ a. a == arrival.source) (λ (i : NetInterface). i.interface.addr) good.configured.node.interfaces d.iface linked.here here (eq-eqb _ _ (sym source_is)) in
+      let own' : is_own_address old.config arrival.source ≡ true =
+      sym (any_map (λ a. a == arrival.source) (λ (i : Interface). i.addr) old.config.interfaces) ∙ ap (list_any (λ a. a == arrival.source)) good.configured.addresses ∙ own in
+      clash (sym own' ∙ not_own)
+    where
+      clash : true ≡ false → ⊥
+      clash e = cc
 
-  -- ---- worlds
+  near : (now : ℕ) → router ≢ d.router → IsNeighborSince past router (gateway_of old now arrival) d.router d.iface
+  near now other =
+      record {
+        linked = record { here = linked.there; there = linked.here; here_is = linked.there_is; there_is = linked.here_is; same_link = sym linked.same_link };
+        apart = other;
+        from = ap (option_map (λ (i : NetInterface). i.interface.addr)) linked.here_is ∙ ap Some (sym source_is);
+        cost = configured_cost past router iface old.config good.configured linked.there
+            (sym (in_node past.net router iface good.configured.node good.configured.node_is) ∙ linked.there_is);
+      }
 
-  pub record IsGood (w : World) : Type 0 where
-    pub states : (router : ℕ) (s : State) → slice_get w.states router ≡ Some s → IsGoodState net router s
-    pub sent : AllByRecursion (λ (d : Sent). TellsTruth net d.router d.bytes) w.sent
+  delivered_good : (now : ℕ) (o : Option Fault) (b : Bool) → fault old.config arrival ≡ o → is_response d.bytes ≡ b
+      → MatchOption o (MatchBool b (Hears old now arrival answer new) (Replies old now arrival answer new)) (λ why. Refuses old now why answer new)
+      → IsGoodState past router new
+  delivered_good now (Some why) b none response refuses = waited_good past router old new now good refuses.state
+  delivered_good now None false none response replies = waited_good past router old new now good replies.state
+  delivered_good now None true none response hears =
+      subst (IsGoodState past router) (sym hears.state)
+      (record {
+        configured = good.configured;
+        sound = heard_sound past router d.router d.iface _ hears.table
+            (near now (apart (not_own old.config arrival none response))) (told hears.entries hears.read) good.sound hears.heard;
+      })
+
+-- ---- worlds
+
+pub record AreGood (past : Past) (states : List State) (sent : List Sent) : Type 0 where
+  pub states_good : (router : ℕ) (s : State) → slice_get states router ≡ Some s → IsGoodState past router s
+  pub sent_true : AllByRecursion (λ (d : Sent). TellsTruthSince past d.router d.bytes) sent
+
+module _ (net : Network) (owns : OwnsPrefixes net) where
+  abbrev pub IsGood : World → Type 0
+  IsGood w = AreGood (past_of net w) w.states w.sent
 
   moved : (w w' : World) (router : ℕ) (happening : Happening) (answer : Answer) (m : RouterMoves w router happening answer w')
-      → IsGood w → IsGoodState net router m.new → IsGood w'
+      → IsGood w → IsGoodState (record { net = net; changes = w.changes ++ changes_by router happening }) router m.new → IsGood w'
   moved w w' router happening answer m good new_good =
-      record {
-        states = λ r s is.
+      subst (λ (cs : List (ℕ × Change)). AreGood (record { net = net; changes = cs }) w'.states w'.sent) (sym m.changes)
+      (record {
+        states_good = λ r s is.
             elim (get_set w.states router m.new r s (ap (λ (ss : List State). slice_get ss r) (sym m.states) ∙ is)) [
-              | inl both ↦ subst (λ k. IsGoodState net k s) both.0 (subst (IsGoodState net router) both.1 new_good)
-              | inr there ↦ good.states r s there
+              | inl both ↦ subst (λ k. IsGoodState after k s) both.0 (subst (IsGoodState after router) both.1 new_good)
+              | inr there ↦ state_grows net w.changes (changes_by router happening) r s (good.states_good r s there)
             ];
-        sent = subst (AllByRecursion (λ (d : Sent). TellsTruth net d.router d.bytes)) (sym m.sent)
-            (each_append (λ (d : Sent). TellsTruth net d.router d.bytes) w.sent _ good.sent
-            (each_mapped (λ (d : Sent). TellsTruth net d.router d.bytes) (sent_by router) answer.sends
-            (sends_true net router m.old happening answer m.new (good.states router m.old m.old_is).sound m.moves)));
-      }
+        sent_true = subst IsTrueOf (sym m.sent)
+            (each_weaker (λ (d : Sent). TellsTruthSince after d.router d.bytes) (λ (d : Sent). TellsTruthSince (past_of net w) d.router d.bytes)
+            (λ d. truth_grows net w.changes (changes_by router happening) d.router d.bytes) _
+            (each_append (λ (d : Sent). TellsTruthSince (past_of net w) d.router d.bytes) w.sent _ good.sent_true
+            (each_mapped (λ (d : Sent). TellsTruthSince (past_of net w) d.router d.bytes) (sent_by router) answer.sends
+            (sends_true (past_of net w) router m.old happening answer m.new (good.states_good router m.old m.old_is).sound m.moves))));
+      })
+    where
+      after : Past
+      after = record { net = net; changes = w.changes ++ changes_by router happening }
+
+      IsTrueOf : List Sent → Type 0
+      IsTrueOf sent = AllByRecursion (λ (d : Sent). TellsTruthSince after d.router d.bytes) sent
+
+  -- a move that is no change
+  unchanging : (w w' : World) (router : ℕ) (happening : Happening) (answer : Answer) (m : RouterMoves w router happening answer w')
+      → IsGood w → IsGoodState (past_of net w) router m.new → IsGood w'
+  unchanging w w' router happening answer m good new_good =
+      moved w w' router happening answer m good (state_grows net w.changes (changes_by router happening) router m.new new_good)
 
   happened : (w : World) (e : Event) (answer : Answer) (w' : World) → Happens net w e answer w' → IsGood w → IsGood w'
   happened w (Tick router now word) answer w' m good =
-      let old_good = good.states router m.old m.old_is in
-      moved w w' router (Ticks now word) answer m good (subst (IsGoodState net router) (sym m.moves.state) (ticked_good router m.old (max m.old.last now) word old_good))
+      let old_good = good.states_good router m.old m.old_is in
+      unchanging w w' router (Ticks now word) answer m good
+      (subst (IsGoodState (past_of net w) router) (sym m.moves.state) (ticked_good (past_of net w) router m.old (max m.old.last now) word old_good))
   happened w (Restart router now) answer w' m good =
-      let old_good = good.states router m.old m.old_is in
-      moved w w' router (Restarts now) answer m good
-      (subst (IsGoodState net router) (sym m.moves.state) (started_good router old_good.node m.old.config old_good.node_is old_good.config_is now))
+      let old_good = good.states_good router m.old m.old_is in
+      unchanging w w' router (Restarts now) answer m good
+      (subst (IsGoodState (past_of net w) router) (sym m.moves.state) (started_good (past_of net w) router m.old.config old_good.configured now))
+  happened w (Reconfigure router now change) answer w' m good =
+      let old_good = good.states_good router m.old m.old_is in
+      moved w w' router (Reconfigures now change) answer m good
+      (subst (IsGoodState (record { net = net; changes = w.changes ++ (router, change) ∷ [] }) router) (sym m.moves.state)
+      (record {
+        configured = changed_configured net w.changes router m.old.config change m.moves.named old_good.configured;
+        sound = changed_sound net w.changes router (max m.old.last now) m.old.config m.old.table change m.moves.named old_good.sound;
+      }))
   happened w (Stranger router x) answer w' i good =
       let m = i.moves in
-      moved w w' router (Arrives x) answer m good
-      (unheard_good router m.old m.new (max m.old.last x.now) x answer (good.states router m.old m.old_is) (fault m.old.config x) (is_response x.bytes) i.unheard m.moves)
+      unchanging w w' router (Arrives x) answer m good
+      (unheard_good (past_of net w) router m.old m.new (max m.old.last x.now) x answer (good.states_good router m.old m.old_is) (fault m.old.config x) (is_response x.bytes) i.unheard m.moves)
   happened w (Deliver datagram router iface now) answer w' d good =
       let m = d.moves in
-      moved w w' router (Arrives (arrival_of net d.sent iface now)) answer m good
-      (delivered_good router iface d.sent now m.old m.new answer (good.states router m.old m.old_is) d.linked
-      (each_at_place (λ (s : Sent). TellsTruth net s.router s.bytes) w.sent good.sent datagram d.sent d.sent_is)
+      unchanging w w' router (Arrives (arrival_of net d.sent iface now)) answer m good
+      (delivered_good (past_of net w) router iface d.sent now m.old m.new answer (good.states_good router m.old m.old_is) d.linked
+      (each_at_place (λ (s : Sent). TellsTruthSince (past_of net w) s.router s.bytes) w.sent good.sent_true datagram d.sent d.sent_is)
       (max m.old.last now) _ _ refl refl m.moves)
 
   pub ran : (events : List Event) (w w' : World) → WorldRun net w events w' → IsGood w → IsGood w'
@@ -234,39 +431,67 @@ module _ (net : Network) (owns : OwnsPrefixes net) where
 
   -- ---- the beginning
 
-  starts_good : (n : ℕ) (nodes : List Node) (moments : List ℕ) (states : List State) (sent : List Sent)
-      → ((k : ℕ) (node : Node) → slice_get nodes k ≡ Some node → slice_get net (n + k) ≡ Some node)
-      → StartsFrom n nodes moments states sent
-      → ((k : ℕ) (s : State) → slice_get states k ≡ Some s → IsGoodState net (n + k) s) × AllByRecursion (λ (d : Sent). TellsTruth net d.router d.bytes) sent
-  starts_good n [] [] [] sent at starts = (λ k s is. absurd (None-Some s is), subst (AllByRecursion (λ (d : Sent). TellsTruth net d.router d.bytes)) (sym starts) tt)
-  starts_good n (node ∷ nodes) (now ∷ moments) (s ∷ states) sent at starts =
-      let first : slice_get net n ≡ Some node = ap (slice_get net) (sym (add-zero n)) ∙ at 0 node refl in
-      let rest = starts_good (suc n) nodes moments states starts.1 (λ k other is. ap (slice_get net) (shifted k) ∙ at (suc k) other is) starts.3 in (
-        λ k t is. by_place k t is first rest.0,
-        subst (AllByRecursion (λ (d : Sent). TellsTruth net d.router d.bytes)) (sym starts.4)
-            (each_append (λ (d : Sent). TellsTruth net d.router d.bytes) _ starts.1
-            (each_mapped (λ (d : Sent). TellsTruth net d.router d.bytes) (sent_by n) starts.0.sends (starting_true net n (config_of node) now starts.0 s starts.2))
-            rest.1),
-      )
-    where
-      shifted : (k : ℕ) → suc n + k ≡ n + suc k
-      shifted k = omega arith
+  module _ (changes : List (ℕ × Change)) where
+    abbrev past : Past
+    past = record { net = net; changes = changes }
 
-      by_place : (k : ℕ) (t : State) → slice_get (s ∷ states) k ≡ Some t → slice_get net n ≡ Some node
-          → ((j : ℕ) (u : State) → slice_get states j ≡ Some u → IsGoodState net (suc n + j) u) → IsGoodState net (n + k) t
-      by_place zero t is first later =
-          subst (λ r. IsGoodState net r t) (sym (add-zero n))
-          (subst (IsGoodState net n) (sym starts.2.state ∙ Some-same s t is) (started_good n node (config_of node) first refl now))
-      by_place (suc k) t is first later = subst (λ r. IsGoodState net r t) (shifted k) (later k t is)
-  starts_good n _ _ _ sent at starts = absurd starts
+    starts_good : (n : ℕ) (nodes : List Node) (moments : List ℕ) (states : List State) (sent : List Sent)
+        → ((k : ℕ) (node : Node) → slice_get nodes k ≡ Some node → slice_get net (n + k) ≡ Some node)
+        → StartsFrom n nodes moments states sent
+        → ((k : ℕ) (s : State) → slice_get states k ≡ Some s → IsGoodState past (n + k) s) × AllByRecursion (λ (d : Sent). TellsTruthSince past d.router d.bytes) sent
+    starts_good n [] [] [] sent at starts = (λ k s is. absurd (None-Some s is), subst (AllByRecursion (λ (d : Sent). TellsTruthSince past d.router d.bytes)) (sym starts) tt)
+    starts_good n (node ∷ nodes) (now ∷ moments) (s ∷ states) sent at starts =
+        let first : slice_get net n ≡ Some node = ap (slice_get net) (sym (add-zero n)) ∙ at 0 node refl in
+        let rest = starts_good (suc n) nodes moments states starts.1 (λ k other is. ap (slice_get net) (shifted k) ∙ at (suc k) other is) starts.3 in (
+          λ k t is. by_place k t is first rest.0,
+          subst (AllByRecursion (λ (d : Sent). TellsTruthSince past d.router d.bytes)) (sym starts.4)
+              (each_append (λ (d : Sent). TellsTruthSince past d.router d.bytes) _ starts.1
+              (each_mapped (λ (d : Sent). TellsTruthSince past d.router d.bytes) (sent_by n) starts.0.sends (starting_true past n (config_of node) now starts.0 s starts.2))
+              rest.1),
+        )
+      where
+        shifted : (k : ℕ) → suc n + k ≡ n + suc k
+        shifted k = omega arith
+
+        by_place : (k : ℕ) (t : State) → slice_get (s ∷ states) k ≡ Some t → slice_get net n ≡ Some node
+            → ((j : ℕ) (u : State) → slice_get states j ≡ Some u → IsGoodState past (suc n + j) u) → IsGoodState past (n + k) t
+        by_place zero t is first later =
+            subst (λ r. IsGoodState past r t) (sym (add-zero n))
+            (subst (IsGoodState past n) (sym starts.2.state ∙ Some-same s t is) (started_good past n (config_of node) (first_configured past owns n node first) now))
+        by_place (suc k) t is first later = subst (λ r. IsGoodState past r t) (shifted k) (later k t is)
+    starts_good n _ _ _ sent at starts = absurd starts
 
   pub cold_good : (moments : List ℕ) (w : World) → IsCold net moments w → IsGood w
   cold_good moments w cold =
-      let both = starts_good 0 net moments w.states w.sent (λ k node is. ap (slice_get net) (zero_first k) ∙ is) cold in
-      record { states = λ r s is. subst (λ k. IsGoodState net k s) (zero_first r) (both.0 r s is); sent = both.1 }
+      let both = starts_good w.changes 0 net moments w.states w.sent (λ k node is. ap (slice_get net) (zero_first k) ∙ is) cold.starts in
+      record { states_good = λ r s is. subst (λ k. IsGoodState (past_of net w) k s) (zero_first r) (both.0 r s is); sent_true = both.1 }
     where
       zero_first : (k : ℕ) → 0 + k ≡ k
       zero_first k = omega arith
 
   pub run_from_cold : (moments : List ℕ) (events : List Event) (cold w : World) → IsCold net moments cold → WorldRun net cold events w → IsGood w
   run_from_cold moments events cold w is run = ran events cold w run (cold_good moments cold is)
+
+-- ---- the changes done are those of the events
+
+pub done_by : (net : Network) (w : World) (e : Event) (answer : Answer) (w' : World) → Happens net w e answer w' → w'.changes ≡ w.changes ++ cons_option (change_in e) []
+done_by net w (Tick router now word) answer w' m = m.changes
+done_by net w (Restart router now) answer w' m = m.changes
+done_by net w (Reconfigure router now change) answer w' m = m.changes
+done_by net w (Stranger router x) answer w' i = i.moves.changes
+done_by net w (Deliver datagram router iface now) answer w' d = d.moves.changes
+
+pub done_from : (net : Network) (events : List Event) (w w' : World) → WorldRun net w events w' → w'.changes ≡ w.changes ++ changes_in events
+done_from net [] w w' is = ap (λ (v : World). v.changes) is ∙ sym (append-nil w.changes)
+done_from net (e ∷ events) w w' run =
+    done_from net events run.0 w' run.3
+    ∙ ap (λ (cs : List (ℕ × Change)). cs ++ changes_in events) (done_by net w e run.1 run.0 run.2)
+    ∙ append_assoc w.changes (cons_option (change_in e) []) (changes_in events)
+    ∙ ap (λ cs. w.changes ++ cs) (joined (change_in e) (changes_in events))
+  where
+    joined : (o : Option (ℕ × Change)) (cs : List (ℕ × Change)) → cons_option o [] ++ cs ≡ cons_option o cs
+    joined None cs = refl
+    joined (Some c) cs = refl
+
+pub done_in_run : (net : Network) (moments : List ℕ) (events : List Event) (cold w : World) → IsCold net moments cold → WorldRun net cold events w → w.changes ≡ changes_in events
+done_in_run net moments events cold w is run = done_from net events cold w run ∙ ap (λ (cs : List (ℕ × Change)). cs ++ changes_in events) is.unchanged

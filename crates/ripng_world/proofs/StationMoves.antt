@@ -1,19 +1,34 @@
 -- How the move of a router at its place moves the world, and what it means that nothing refuses an event.
-use Rattle.std.proofs.Common.{◌≡◌, ℕ, zero, suc, ◌<◌, ◌≤◌, ◌+◌, max, ◌++◌, not, Bool, true, false, ◌==◌, List, [], ◌∷◌, map, length, Option, Some, None, is_none, option_map, option_and_then, slice_get, slice_set, refl, ap, sym, subst, ◌∙◌, arith}
+use Rattle.std.proofs.Common.{◌≡◌, inl, inr, ℕ, zero, suc, ◌<◌, ◌≤◌, ◌+◌, max, ◌++◌, not, Bool, true, false, cond, ◌==◌, ◌&&◌, nat_le, unwrap_or, List, [], ◌∷◌, map, length, Option, Some, None, is_none, option_map, option_and_then, slice_get, slice_set, refl, ap, sym, subst, ◌∙◌, arith}
+use Rattle.std.specs.Prelude.{Result, Ok, Err, IfErr}
+use Rattle.std.specs.Result.{IsErrAnd}
 use Rattle.std.specs.Option.{option_map_or}
 use Rattle.std.proofs.lemmas.List.{length-map}
 use Rattle.std.proofs.lemmas.Bool.{eqb-true}
 use Rattle.std.proofs.lemmas.Bool.Decides.{nat_tests}
 use Rattle.std.proofs.lemmas.Option.{slice_get-map, slice_get_within}
+use Rattle.ripng_wire.specs.Wire.{first_failing}
 use Rattle.ripng_wire.proofs.FirstFailing.{each_passes}
-use Rattle.router_core.specs.Config.{Config}
-use Rattle.router_core.specs.Machine.{State, Happening, Arrives, Moves}
+use Rattle.router_core.proofs.EachTested.{first_failing-append}
+use Rattle.ripng_world.proofs.NetworkLaws.{first_failing-map}
+use Rattle.prefix6.specs.Prefix.{is_routable}
+use Rattle.std.specs.FinMap as map_of
+use Rattle.route_table.specs.Table.{table_limit}
+use Rattle.router_core.specs.Config.{Config, has_prefix, is_usable_cost}
+use Rattle.router_core.specs.declared.config.TheConstants.{OWNED_LIMIT}
+use Rattle.router_core.specs.Machine.{State, Happening, Arrives, Reconfigures, Moves}
 use Rattle.router_core.specs.Received.{Received}
 use Rattle.router_core.specs.declared.answer.Answer.{Answer}
 use Rattle.ripng_world.specs.Network.{Node, AreLinked, config_of, interface_at}
-use Rattle.ripng_world.specs.World.{RouterMoves, Deliver, Stranger, is_heard, arrival_of, sent_by}
+use Rattle.router_core.specs.Reconfiguring.{IsPlaced, change_fault, change_tests}
+use Rattle.router_core.specs.declared.reconfiguring.Change.{Change}
+use Rattle.router_core.specs.declared.reconfiguring.Change.TheVariants.{Cost, Own, Disown}
+use Rattle.router_core.specs.declared.reconfiguring.ReconfigureRefused.{ReconfigureRefused}
+use Rattle.router_core.specs.declared.reconfiguring.ReconfigureRefused.TheVariants as refused
+use Rattle.ripng_world.specs.World.{World, Event, RouterMoves, Happens, Deliver, Stranger, Tick, Restart, Reconfigure, changes_by, is_heard, arrival_of, sent_by}
 use Rattle.ripng_world.specs.Stations.{StationValue, MoveStations, network_of, world_of}
-use Rattle.ripng_world.specs.Labs.{lab_of, event_fault, event_tests, is_one_link, link_at, link_of_datagram}
+use Rattle.ripng_world.specs.Labs.{LabValue, IsRefusal, asked_tests, lab_of, event_fault, event_tests, named_tests, refusal_of, step_fault, is_one_link, link_at, link_of_datagram}
+use Rattle.ripng_world.specs.declared.event.LabError.{LabError}
 use Rattle.ripng_world.specs.declared.network.NetInterface.{NetInterface}
 use Rattle.ripng_world.specs.declared.sent.Sent.{Sent}
 
@@ -36,9 +51,10 @@ module _ (stations : List StationValue) (router : ℕ) (old new : StationValue) 
       ∙ ap (slice_set (network_of stations) router) same
       ∙ slice_set_same (network_of stations) router old.node (slice_get-map (λ (s : StationValue). s.node) stations router ∙ ap (option_map (λ (s : StationValue). s.node)) old_is)
 
-  pub router_moves : (sent : List Sent) (happening : Happening) (answer : Answer) → Moves old.state happening answer new.state
-      → RouterMoves (world_of stations sent) router happening answer (world_of (slice_set stations router new) (sent ++ map (sent_by router) answer.sends))
-  router_moves sent happening answer moves =
+  pub router_moves : (sent : List Sent) (changes : List (ℕ × Change)) (happening : Happening) (answer : Answer) → Moves old.state happening answer new.state
+      → RouterMoves (world_of stations sent changes) router happening answer
+      (world_of (slice_set stations router new) (sent ++ map (sent_by router) answer.sends) (changes ++ changes_by router happening))
+  router_moves sent changes happening answer moves =
       record {
         old = old.state;
         new = new.state;
@@ -46,6 +62,7 @@ module _ (stations : List StationValue) (router : ℕ) (old new : StationValue) 
         moves = moves;
         states = map-slice_set (λ s. s.state) stations router new;
         sent = refl;
+        changes = refl;
       }
 
 -- ---- nothing refuses an event
@@ -86,37 +103,37 @@ interface_within stations router iface i s is here =
 
 -- a datagram that may be delivered was sent
 pub was_sent : (stations : List StationValue) (sent : List Sent) (datagram router iface now : ℕ)
-    → event_fault (lab_of stations sent) (Deliver datagram router iface now) ≡ None → datagram < length sent
+    → event_fault (lab_of stations sent []) (Deliver datagram router iface now) ≡ None → datagram < length sent
 was_sent stations sent datagram router iface now none =
-    let passes = each_passes (event_tests (lab_of stations sent) (Deliver datagram router iface now)) none in
+    let passes = each_passes (event_tests (lab_of stations sent []) (Deliver datagram router iface now)) none in
     let h = passes.1.1.0 in
     grind (arith, nat_tests, h)
 
 -- it comes to an interface of the link that it was sent on
 pub delivery_linked : (stations : List StationValue) (sent : List Sent) (datagram router iface now : ℕ) (d : Sent)
-    → event_fault (lab_of stations sent) (Deliver datagram router iface now) ≡ None → slice_get sent datagram ≡ Some d
+    → event_fault (lab_of stations sent []) (Deliver datagram router iface now) ≡ None → slice_get sent datagram ≡ Some d
     → AreLinked (network_of stations) d.router d.iface router iface
 delivery_linked stations sent datagram router iface now d none is =
     let net = network_of stations in
-    let passes = each_passes (event_tests (lab_of stations sent) (Deliver datagram router iface now)) none in
-    let link = one_link (link_of_datagram (lab_of stations sent) datagram) (link_at net router iface) passes.1.1.1.0 in
+    let passes = each_passes (event_tests (lab_of stations sent []) (Deliver datagram router iface now)) none in
+    let link = one_link (link_of_datagram (lab_of stations sent []) datagram) (link_at net router iface) passes.1.1.1.0 in
     let there = mapped_of (λ (i : NetInterface). i.link) (interface_at net router iface) link.0 link.2 in
     let own : link_at net d.router d.iface ≡ Some link.0 = sym (ap (option_and_then (λ (s : Sent). link_at net s.router s.iface)) is) ∙ link.1 in
     let here = mapped_of (λ (i : NetInterface). i.link) (interface_at net d.router d.iface) link.0 own in
     record { here = here.0; there = there.0; here_is = here.1; there_is = there.1; same_link = here.2 ∙ sym there.2 }
 
 pub delivered : (stations : List StationValue) (sent : List Sent) (datagram router iface now : ℕ) (d : Sent) (old new : StationValue) (answer : Answer)
-    → event_fault (lab_of stations sent) (Deliver datagram router iface now) ≡ None → slice_get sent datagram ≡ Some d
+    → event_fault (lab_of stations sent []) (Deliver datagram router iface now) ≡ None → slice_get sent datagram ≡ Some d
     → slice_get stations router ≡ Some old → new.node ≡ old.node
     → Moves old.state (Arrives (arrival_of (network_of stations) d iface now)) answer new.state
-    → MoveStations stations sent (Deliver datagram router iface now) answer (slice_set stations router new)
-delivered stations sent datagram router iface now d old new answer none sent_is old_is same moves =
+    → (changes : List (ℕ × Change)) → MoveStations stations sent changes (Deliver datagram router iface now) answer (slice_set stations router new)
+delivered stations sent datagram router iface now d old new answer none sent_is old_is same moves changes =
     record {
       happens = record {
         sent = d;
         sent_is = sent_is;
         linked = delivery_linked stations sent datagram router iface now d none sent_is;
-        moves = router_moves stations router old new old_is same sent (Arrives (arrival_of (network_of stations) d iface now)) answer moves;
+        moves = router_moves stations router old new old_is same sent changes (Arrives (arrival_of (network_of stations) d iface now)) answer moves;
       };
       network = network_kept stations router old new old_is same;
     }
@@ -128,9 +145,9 @@ pub record IsStranger (stations : List StationValue) (router : ℕ) (x : Receive
   pub unheard : (s : StationValue) → slice_get stations router ≡ Some s → is_heard s.state x ≡ false
 
 pub stranger : (stations : List StationValue) (sent : List Sent) (router : ℕ) (x : Received)
-    → event_fault (lab_of stations sent) (Stranger router x) ≡ None → IsStranger stations router x
+    → event_fault (lab_of stations sent []) (Stranger router x) ≡ None → IsStranger stations router x
 stranger stations sent router x none =
-    let passes = each_passes (event_tests (lab_of stations sent) (Stranger router x)) none in
+    let passes = each_passes (event_tests (lab_of stations sent []) (Stranger router x)) none in
     let i = some_of (interface_at (network_of stations) router x.iface) passes.1.0 in
     record {
       interface = i.0;
@@ -141,18 +158,18 @@ stranger stations sent router x none =
     }
 
 pub intruded : (stations : List StationValue) (sent : List Sent) (router : ℕ) (x : Received) (old new : StationValue) (answer : Answer)
-    → event_fault (lab_of stations sent) (Stranger router x) ≡ None
-    → slice_get stations router ≡ Some old → new.node ≡ old.node → old.state.config ≡ config_of old.node
+    → event_fault (lab_of stations sent []) (Stranger router x) ≡ None
+    → slice_get stations router ≡ Some old → new.node ≡ old.node → length old.state.config.interfaces ≡ length old.node.interfaces
     → Moves old.state (Arrives x) answer new.state
-    → MoveStations stations sent (Stranger router x) answer (slice_set stations router new)
+    → (changes : List (ℕ × Change)) → MoveStations stations sent changes (Stranger router x) answer (slice_set stations router new)
 unfolding router_moves
-intruded stations sent router x old new answer none old_is same configured moves =
+intruded stations sent router x old new answer none old_is same many moves changes =
     let lawful = stranger stations sent router x none in
     let here = interface_within stations router x.iface lawful.interface old lawful.interface_is old_is in
     record {
       happens = record {
-        moves = router_moves stations router old new old_is same sent (Arrives x) answer moves;
-        known = subst (λ (n : ℕ). x.iface < n) (sym (ap (λ (c : Config). length c.interfaces) configured ∙ length-map old.node.interfaces (λ (i : NetInterface). i.interface))) here;
+        moves = router_moves stations router old new old_is same sent changes (Arrives x) answer moves;
+        known = subst (λ (n : ℕ). x.iface < n) (sym many) here;
         unheard = lawful.unheard old old_is;
       };
       network = network_kept stations router old new old_is same;
@@ -162,3 +179,102 @@ intruded stations sent router x old new answer none old_is same configured moves
 pub enough : (n size room capacity routes entries routes' entries' : ℕ) → n ≤ max routes entries → room ≡ max routes' entries' → routes' ≡ routes → entries' ≡ entries
     → size + room ≤ capacity → size + n ≤ capacity
 enough n size room capacity routes entries routes' entries' few is same same' fits = omega arith
+
+-- ---- changes of the configuration
+
+-- the router of a change
+pub named_within : (stations : List StationValue) (router : ℕ) (c : Change) → first_failing (named_tests (network_of stations) router c) ≡ None → router < length stations
+named_within stations router c none =
+    let few : router < length (network_of stations) = by_change c none in
+    subst (λ (n : ℕ). router < n) (length-map stations (λ (s : StationValue). s.node)) few
+  where
+    by_change : (d : Change) → first_failing (named_tests (network_of stations) router d) ≡ None → router < length (network_of stations)
+    by_change (Cost iface cost) passes = let h = (each_passes (named_tests (network_of stations) router (Cost iface cost)) passes).0 in grind (arith, nat_tests, h)
+    by_change (Own p tag) passes = let h = (each_passes (named_tests (network_of stations) router (Own p tag)) passes).0 in grind (arith, nat_tests, h)
+    by_change (Disown p) passes = let h = (each_passes (named_tests (network_of stations) router (Disown p)) passes).0 in grind (arith, nat_tests, h)
+
+-- and its interface
+pub named_placed : (stations : List StationValue) (router : ℕ) (c : Change) (s : StationValue) → first_failing (named_tests (network_of stations) router c) ≡ None
+    → slice_get stations router ≡ Some s → IsPlaced (config_of s.node) c
+named_placed stations router (Cost iface cost) s none here =
+    let i = some_of (interface_at (network_of stations) router iface) (each_passes (named_tests (network_of stations) router (Cost iface cost)) none).1.0 in
+    subst (λ (n : ℕ). iface < n) (sym (length-map s.node.interfaces (λ (i : NetInterface). i.interface))) (interface_within stations router iface i.0 s i.1 here)
+named_placed stations router (Own p tag) s none here = tt
+named_placed stations router (Disown p) s none here = tt
+
+-- configurations of as many interfaces have the same places
+pub placed_alike : (a b : Config) (c : Change) → length a.interfaces ≡ length b.interfaces → IsPlaced a c → IsPlaced b c
+placed_alike a b (Cost iface cost) same there = subst (λ (n : ℕ). iface < n) same there
+placed_alike a b (Own p tag) same there = tt
+placed_alike a b (Disown p) same there = tt
+
+-- the tests of the router itself
+asked : (lab : LabValue) (router now : ℕ) (c : Change) (s : State) → slice_get lab.world.states router ≡ Some s → event_fault lab (Reconfigure router now c) ≡ None
+    → step_fault lab (Reconfigure router now c) ≡ option_map LabError.ReconfigureRefused (change_fault s.config s.table c)
+asked lab router now c s here none =
+    first_failing-append (event_tests lab (Reconfigure router now c)) (asked_tests lab.world (Reconfigure router now c)) none
+    ∙ ap (λ (o : Option State). first_failing (option_map_or (λ t. map (λ u. (u.0, LabError.ReconfigureRefused u.1)) (change_tests t.config t.table c)) o [])) here
+    ∙ first_failing-map LabError.ReconfigureRefused (change_tests s.config s.table c)
+
+-- none of them is for want of memory
+refused_as : (s : State) (c : Change) (why : ReconfigureRefused) → change_fault s.config s.table c ≡ Some why → refusal_of why ≡ LabError.ReconfigureRefused why
+refused_as s c refused.BadCost is = refl
+refused_as s c refused.PrefixNotAllowed is = refl
+refused_as s c refused.AlreadyOwned is = refl
+refused_as s c refused.OwnedFull is = refl
+refused_as s c refused.TableFull is = refl
+refused_as s c refused.NotOwned is = refl
+refused_as s c refused.OutOfMemory is = absurd (never c is)
+  where
+    -- by the tests of each kind
+    never : (d : Change) → change_fault s.config s.table d ≡ Some refused.OutOfMemory → ⊥
+    never (Cost iface cost) e = by_test (is_usable_cost cost) e
+      where
+        by_test : (a : Bool) → cond (not a) (Some refused.BadCost) None ≡ Some refused.OutOfMemory → ⊥
+        by_test true e = cc
+        by_test false e = cc
+    never (Own p tag) e = by_tests (is_routable p) (has_prefix s.config.prefixes p) (nat_le OWNED_LIMIT (length s.config.prefixes)) (is_none (map_of.get s.table p) && nat_le table_limit (map_of.len s.table)) e
+      where
+        by_tests : (a b c d : Bool) → cond (not a) (Some refused.PrefixNotAllowed) (cond b (Some refused.AlreadyOwned) (cond c (Some refused.OwnedFull) (cond d (Some refused.TableFull) None))) ≡ Some refused.OutOfMemory → ⊥
+        by_tests false b c d e = cc
+        by_tests true true c d e = cc
+        by_tests true false true d e = cc
+        by_tests true false false true e = cc
+        by_tests true false false false e = cc
+    never (Disown p) e = by_test (has_prefix s.config.prefixes p) e
+      where
+        by_test : (a : Bool) → cond (not a) (Some refused.NotOwned) None ≡ Some refused.OutOfMemory → ⊥
+        by_test true e = cc
+        by_test false e = cc
+
+pub change_refused : (lab : LabValue) (router now : ℕ) (c : Change) (s : State) (why : ReconfigureRefused) → slice_get lab.world.states router ≡ Some s
+    → event_fault lab (Reconfigure router now c) ≡ None → why ≡ unwrap_or (change_fault s.config s.table c) refused.OutOfMemory → IsRefusal lab (Reconfigure router now c) (refusal_of why)
+change_refused lab router now c s why here none is = by_fault (change_fault s.config s.table c) refl is
+  where
+    by_fault : (o : Option ReconfigureRefused) → change_fault s.config s.table c ≡ o → why ≡ unwrap_or o refused.OutOfMemory → IsRefusal lab (Reconfigure router now c) (refusal_of why)
+    by_fault None fault same = inr (none, ap refusal_of same)
+    by_fault (Some f) fault same =
+        inl (asked lab router now c s here none ∙ ap (option_map LabError.ReconfigureRefused) fault ∙ ap Some (sym (ap refusal_of same ∙ refused_as s c f fault)))
+
+-- an event that happens fails no test
+pub happened_passes : (lab : LabValue) (e : Event) (answer : Answer) (w' : World) → event_fault lab e ≡ None → Happens lab.network lab.world e answer w' → step_fault lab e ≡ None
+happened_passes lab (Reconfigure router now c) answer w' none happens =
+    asked lab router now c happens.old happens.old_is none ∙ ap (option_map LabError.ReconfigureRefused) happens.moves.allowed
+happened_passes lab (Deliver datagram router iface now) answer w' none happens = first_failing-append (event_tests lab (Deliver datagram router iface now)) [] none
+happened_passes lab (Stranger router x) answer w' none happens = first_failing-append (event_tests lab (Stranger router x)) [] none
+happened_passes lab (Tick router now word) answer w' none happens = first_failing-append (event_tests lab (Tick router now word)) [] none
+happened_passes lab (Restart router now) answer w' none happens = first_failing-append (event_tests lab (Restart router now)) [] none
+
+pub reconfigured : (stations : List StationValue) (router now : ℕ) (c : Change) (old new : StationValue) (answer : Answer)
+    → slice_get stations router ≡ Some old → new.node ≡ old.node → Moves old.state (Reconfigures now c) answer new.state
+    → (sent : List Sent) (changes : List (ℕ × Change)) → MoveStations stations sent changes (Reconfigure router now c) answer (slice_set stations router new)
+reconfigured stations router now c old new answer old_is same moves sent changes =
+    record {
+      happens = router_moves stations router old new old_is same sent changes (Reconfigures now c) answer moves;
+      network = network_kept stations router old new old_is same;
+    }
+
+-- what an error is, more weakly said
+pub err_is : {X E : Type 0} (r : Result X E) (P Q : E → Type 0) → ((e : E) → P e → Q e) → IsErrAnd r P → IfErr r Q
+err_is (Ok x) P Q step h = absurd h
+err_is (Err e) P Q step h = step e h

@@ -19,97 +19,97 @@ use Rattle.router_core.specs.Faults.{fault, ripng_port}
 use Rattle.router_core.specs.Adoption.{lost}
 use Rattle.router_core.specs.Ageing.{aged, aged_by_clock, aged_table, without_mark, unmarked}
 use Rattle.router_core.specs.Output.{Message, AreSpelled, told, told_entry, is_learned_on, every_route, is_changed, numbers_below, pieces, filled, reply_entry, reply, asks_for_all, responses, start_messages, update_messages, reply_messages, whole_table_request}
-use Rattle.router_core.specs.Machine.{State, Happening, Arrives, Ticks, Restarts, Moves, Starts, Hears, Replies, Refuses, Accepts, tick_messages, is_regular_due, is_triggered_due}
+use Rattle.router_core.specs.Machine.{State, Happening, Arrives, Ticks, Restarts, Reconfigures, Moves, Starts, Hears, Replies, Refuses, Accepts, tick_messages, is_regular_due, is_triggered_due}
 use Rattle.router_core.specs.declared.answer.Answer.{Answer}
 use Rattle.router_core.specs.declared.arrival.Fault.{Fault}
 use Rattle.router_core.specs.declared.answer.Outgoing.{Outgoing}
 use Rattle.router_core.specs.declared.answer.Destination.{Destination}
 use Rattle.router_core.specs.declared.answer.Destination.TheVariants.{Group, Peer}
-use Rattle.ripng_world.specs.Network.{Network}
-use Rattle.ripng_world.specs.Walks.{Hop, Reaches}
-use Rattle.ripng_world.specs.Truth.{IsSound, IsSoundTable, IsTrueEntry, TellsTruth}
+use Rattle.ripng_world.specs.Walks.{Hop}
+use Rattle.ripng_world.specs.Past.{Past, ReachesSince}
+use Rattle.ripng_world.specs.TruthSince.{IsSoundSince, IsSoundTableSince, IsTrueEntrySince, TellsTruthSince}
 use Rattle.ripng_world.proofs.Each.{each_filter, each_take, each_drop, each_mapped, each_image, each_flat, each_weaker}
 
-module _ (net : Network) (router : ℕ) where
+module _ (past : Past) (router : ℕ) where
   -- unreachable entries are true
-  poison : (e : Rte) → e.metric ≡ infinity → IsTrueEntry net router e
+  poison : (e : Rte) → e.metric ≡ infinity → IsTrueEntrySince past router e
   poison e is = record { in_range = omega arith; truthful = λ h. absurd (omega arith) }
 
   -- ---- ageing
 
-  pub lost_sound : (now : ℕ) (p : Prefix6) (r : RouteValue) → IsSound net router p r → IsSound net router p (lost now r)
+  pub lost_sound : (now : ℕ) (p : Prefix6) (r : RouteValue) → IsSoundSince past router p r → IsSoundSince past router p (lost now r)
   lost_sound now p r s = record { is_prefix = s.is_prefix; in_range = le_refl _; backed = λ h. absurd (omega arith) }
 
-  by_clock : (now : ℕ) (p : Prefix6) (r r' : RouteValue) → IsSound net router p r → (c : Clock) → aged_by_clock now r c ≡ Some r' → IsSound net router p r'
-  by_clock now p r r' s Fixed e = subst (IsSound net router p) (Some-same r r' e) s
+  by_clock : (now : ℕ) (p : Prefix6) (r r' : RouteValue) → IsSoundSince past router p r → (c : Clock) → aged_by_clock now r c ≡ Some r' → IsSoundSince past router p r'
+  by_clock now p r r' s Fixed e = subst (IsSoundSince past router p) (Some-same r r' e) s
   by_clock now p r r' s (Live until) e = by_test (nat_le until now) e
     where
-      by_test : (b : Bool) → cond b (Some (lost now r)) (Some r) ≡ Some r' → IsSound net router p r'
-      by_test true is = subst (IsSound net router p) (Some-same _ r' is) (lost_sound now p r s)
-      by_test false is = subst (IsSound net router p) (Some-same r r' is) s
+      by_test : (b : Bool) → cond b (Some (lost now r)) (Some r) ≡ Some r' → IsSoundSince past router p r'
+      by_test true is = subst (IsSoundSince past router p) (Some-same _ r' is) (lost_sound now p r s)
+      by_test false is = subst (IsSoundSince past router p) (Some-same r r' is) s
   by_clock now p r r' s (Dying until) e = by_test (nat_le until now) e
     where
-      by_test : (b : Bool) → cond b None (Some r) ≡ Some r' → IsSound net router p r'
+      by_test : (b : Bool) → cond b None (Some r) ≡ Some r' → IsSoundSince past router p r'
       by_test true is = absurd (None-Some r' is)
-      by_test false is = subst (IsSound net router p) (Some-same r r' is) s
+      by_test false is = subst (IsSoundSince past router p) (Some-same r r' is) s
 
-  pub aged_sound : (now : ℕ) (table : Table) → IsSoundTable net router table → IsSoundTable net router (aged_table now table)
+  pub aged_sound : (now : ℕ) (table : Table) → IsSoundTableSince past router table → IsSoundTableSince past router (aged_table now table)
   aged_sound now table sound =
-      at_map_values (aged now) (λ t. IsSound net router t.0 t.1) (λ t. IsSound net router t.0 t.1)
+      at_map_values (aged now) (λ t. IsSoundSince past router t.0 t.1) (λ t. IsSoundSince past router t.0 t.1)
       (λ p r r' s is. by_clock now p r r' s r.clock is) table sound
 
-  pub unmarked_sound : (table : Table) → IsSoundTable net router table → IsSoundTable net router (unmarked table)
+  pub unmarked_sound : (table : Table) → IsSoundTableSince past router table → IsSoundTableSince past router (unmarked table)
   unmarked_sound table sound =
-      at_map_values without_mark (λ t. IsSound net router t.0 t.1) (λ t. IsSound net router t.0 t.1)
-      (λ p r r' s is. subst (IsSound net router p) (Some-same _ r' is) (record { is_prefix = s.is_prefix; in_range = s.in_range; backed = s.backed }))
+      at_map_values without_mark (λ t. IsSoundSince past router t.0 t.1) (λ t. IsSoundSince past router t.0 t.1)
+      (λ p r r' s is. subst (IsSoundSince past router p) (Some-same _ r' is) (record { is_prefix = s.is_prefix; in_range = s.in_range; backed = s.backed }))
       table sound
 
   -- ---- lists of entries
 
   abbrev AllTrue : List Rte → Type 0
-  AllTrue entries = AllByRecursion (IsTrueEntry net router) entries
+  AllTrue entries = AllByRecursion (IsTrueEntrySince past router) entries
 
-  of_walk : (p : Prefix6) (metric tag : ℕ) → (metric < infinity → (walk : List Hop) × Reaches net router p metric tag walk)
-      → (addr len : ℕ) → cleared addr len ≡ p → metric ≤ infinity → IsTrueEntry net router (record { addr = addr; tag = tag; len = len; metric = metric })
+  of_walk : (p : Prefix6) (metric tag : ℕ) → (metric < infinity → (walk : List Hop) × ReachesSince past router p metric tag walk)
+      → (addr len : ℕ) → cleared addr len ≡ p → metric ≤ infinity → IsTrueEntrySince past router (record { addr = addr; tag = tag; len = len; metric = metric })
   of_walk p metric tag backed addr len is low =
       record {
         in_range = low;
-        truthful = λ h. let b : (walk : List Hop) × Reaches net router p metric tag walk = backed h in
-            (b.0, subst (λ q. Reaches net router q metric tag b.0) (sym is) b.1);
+        truthful = λ h. let b : (walk : List Hop) × ReachesSince past router p metric tag walk = backed h in
+            (b.0, subst (λ q. ReachesSince past router q metric tag b.0) (sym is) b.1);
       }
 
-  told_true : (iface : ℕ) (p : Prefix6) (r : RouteValue) → IsSound net router p r → IsTrueEntry net router (told_entry iface (p, r))
+  told_true : (iface : ℕ) (p : Prefix6) (r : RouteValue) → IsSoundSince past router p r → IsTrueEntrySince past router (told_entry iface (p, r))
   told_true iface p r s =
-      elim (is_learned_on iface r.origin) as (λ b. IsTrueEntry net router (record { addr = p.addr; tag = r.tag; len = p.len; metric = cond b infinity r.metric })) [
+      elim (is_learned_on iface r.origin) as (λ b. IsTrueEntrySince past router (record { addr = p.addr; tag = r.tag; len = p.len; metric = cond b infinity r.metric })) [
         | true ↦ poison _ refl
         | false ↦ of_walk p r.metric r.tag (λ h. let b = s.backed h in (b.0, b.1)) p.addr p.len s.is_prefix s.in_range
       ]
 
-  all_told : (iface : ℕ) (which : RouteValue → Bool) (table : Table) → IsSoundTable net router table → AllTrue (told iface which table)
+  all_told : (iface : ℕ) (which : RouteValue → Bool) (table : Table) → IsSoundTableSince past router table → AllTrue (told iface which table)
   all_told iface which table sound =
-      each_mapped (IsTrueEntry net router) (told_entry iface) _
-      (each_filter (λ (t : Prefix6 × RouteValue). IsTrueEntry net router (told_entry iface t)) (λ t. which t.1) (map_of.entries table)
-      (all_entries (λ t. IsTrueEntry net router (told_entry iface t)) table (λ p r here. told_true iface p r (sound p r here))))
+      each_mapped (IsTrueEntrySince past router) (told_entry iface) _
+      (each_filter (λ (t : Prefix6 × RouteValue). IsTrueEntrySince past router (told_entry iface t)) (λ t. which t.1) (map_of.entries table)
+      (all_entries (λ t. IsTrueEntrySince past router (told_entry iface t)) table (λ p r here. told_true iface p r (sound p r here))))
 
-  filled_true : (table : Table) → IsSoundTable net router table → (e : Rte) (o : Option RouteValue)
-      → ((r : RouteValue) → o ≡ Some r → IsSound net router (cleared e.addr e.len) r) → IsTrueEntry net router (filled e o)
+  filled_true : (table : Table) → IsSoundTableSince past router table → (e : Rte) (o : Option RouteValue)
+      → ((r : RouteValue) → o ≡ Some r → IsSoundSince past router (cleared e.addr e.len) r) → IsTrueEntrySince past router (filled e o)
   filled_true table sound e None at = poison _ refl
   filled_true table sound e (Some r) at =
-      let s : IsSound net router (cleared e.addr e.len) r = at r refl in
+      let s : IsSoundSince past router (cleared e.addr e.len) r = at r refl in
       of_walk (cleared e.addr e.len) r.metric r.tag (λ h. let b = s.backed h in (b.0, b.1)) e.addr e.len refl s.in_range
 
-  reply_true : (table : Table) → IsSoundTable net router table → (e : Rte) → IsTrueEntry net router (reply_entry table e)
+  reply_true : (table : Table) → IsSoundTableSince past router table → (e : Rte) → IsTrueEntrySince past router (reply_entry table e)
   reply_true table sound e = by_length (nat_le e.len 128)
     where
-      by_length : (b : Bool) → IsTrueEntry net router (filled e (cond b (map_of.get table (cleared e.addr e.len)) None))
+      by_length : (b : Bool) → IsTrueEntrySince past router (filled e (cond b (map_of.get table (cleared e.addr e.len)) None))
       by_length true = filled_true table sound e _ (λ r is. sound (cleared e.addr e.len) r is)
       by_length false = filled_true table sound e None (λ r is. absurd (None-Some r is))
 
-  all_replied : (iface : ℕ) (table : Table) (asked : List Rte) → IsSoundTable net router table → AllTrue (reply iface table asked)
+  all_replied : (iface : ℕ) (table : Table) (asked : List Rte) → IsSoundTableSince past router table → AllTrue (reply iface table asked)
   all_replied iface table asked sound =
       elim (asks_for_all asked) as (λ b. AllTrue (cond b (told iface every_route table) (map (reply_entry table) asked))) [
         | true ↦ all_told iface every_route table sound
-        | false ↦ each_image (IsTrueEntry net router) (reply_entry table) (reply_true table sound) asked
+        | false ↦ each_image (IsTrueEntrySince past router) (reply_entry table) (reply_true table sound) asked
       ]
 
   -- ---- messages
@@ -124,7 +124,7 @@ module _ (net : Network) (router : ℕ) where
   pieces_true : (n : ℕ) (entries : List Rte) → AllTrue entries → AllByRecursion AllTrue (pieces n entries)
   pieces_true n entries all =
       each_image AllTrue (λ k. slice_range entries (n * k) (n * k + n))
-      (λ k. each_take (IsTrueEntry net router) ((n * k + n) - n * k) (drop (n * k) entries) (each_drop (IsTrueEntry net router) (n * k) entries all))
+      (λ k. each_take (IsTrueEntrySince past router) ((n * k + n) - n * k) (drop (n * k) entries) (each_drop (IsTrueEntrySince past router) (n * k) entries all))
       (numbers_below ((length entries + (n - 1)) / n))
 
   responses_true : (config : Config) (iface : ℕ) (to : Destination) (entries : List Rte) → AllTrue entries → AllTrueMessages (responses config iface to entries)
@@ -132,7 +132,7 @@ module _ (net : Network) (router : ℕ) where
       each_mapped IsTrueMessage (λ piece. record { iface = iface; to = to; command = Response; entries = piece }) (pieces (entries_for_mtu (mtu_at config iface)) entries)
       (each_weaker (λ piece. Response ≡ Response → AllTrue piece) AllTrue (λ piece t _. t) _ (pieces_true (entries_for_mtu (mtu_at config iface)) entries all))
 
-  updates_true : (config : Config) (which : RouteValue → Bool) (table : Table) → IsSoundTable net router table → AllTrueMessages (update_messages config which table)
+  updates_true : (config : Config) (which : RouteValue → Bool) (table : Table) → IsSoundTableSince past router table → AllTrueMessages (update_messages config which table)
   updates_true config which table sound =
       elim config.quiet as (λ b. AllTrueMessages (cond b [] (flat_map (λ t. responses config t.0 Group (told t.0 which table)) (enumerate_from 0 config.interfaces)))) [
         | true ↦ tt
@@ -151,14 +151,14 @@ module _ (net : Network) (router : ℕ) where
       other_command : Request ≡ Response → ⊥
       other_command e = cc
 
-  replies_true : (config : Config) (table : Table) (x : Received) (asked : List Rte) → IsSoundTable net router table → AllTrueMessages (reply_messages config table x asked)
+  replies_true : (config : Config) (table : Table) (x : Received) (asked : List Rte) → IsSoundTableSince past router table → AllTrueMessages (reply_messages config table x asked)
   replies_true config table x asked sound =
       elim (config.quiet && x.source_port == ripng_port) as (λ b. AllTrueMessages (cond b [] (responses config x.iface (Peer x.source x.source_port) (reply x.iface table asked)))) [
         | true ↦ tt
         | false ↦ responses_true config x.iface (Peer x.source x.source_port) (reply x.iface table asked) (all_replied x.iface table asked sound)
       ]
 
-  tick_true : (old : State) (now : ℕ) → IsSoundTable net router old.table → AllTrueMessages (tick_messages old now)
+  tick_true : (old : State) (now : ℕ) → IsSoundTableSince past router old.table → AllTrueMessages (tick_messages old now)
   tick_true old now sound =
       let aged_too = aged_sound now old.table sound in
       elim (is_regular_due old now) as (λ b. AllTrueMessages (cond b (update_messages old.config every_route (aged_table now old.table))
@@ -173,7 +173,7 @@ module _ (net : Network) (router : ℕ) where
   -- ---- datagrams
 
   abbrev AllTruthful : List Outgoing → Type 0
-  AllTruthful sends = AllByRecursion (λ o. TellsTruth net router o.bytes) sends
+  AllTruthful sends = AllByRecursion (λ o. TellsTruthSince past router o.bytes) sends
 
   spelled_true : (ms : List Message) (sends : List Outgoing) → AllTrueMessages ms → AreSpelled ms sends → AllTruthful sends
   spelled_true [] [] all spelled = tt
@@ -186,23 +186,24 @@ module _ (net : Network) (router : ℕ) where
     spelled_true ms os all.1 spelled.1,
   )
 
-  accepts_true : (old : State) (now : ℕ) (x : Received) (answer : Answer) (new : State) → IsSoundTable net router old.table
+  accepts_true : (old : State) (now : ℕ) (x : Received) (answer : Answer) (new : State) → IsSoundTableSince past router old.table
       → (b : Bool) → MatchBool b (Hears old now x answer new) (Replies old now x answer new) → AllTruthful answer.sends
   accepts_true old now x answer new sound true hears = spelled_true [] answer.sends tt hears.told.sends
   accepts_true old now x answer new sound false replies =
       spelled_true (reply_messages old.config old.table x replies.entries) answer.sends (replies_true old.config old.table x replies.entries sound) replies.told.sends
 
-  arrival_true : (old : State) (now : ℕ) (x : Received) (answer : Answer) (new : State) → IsSoundTable net router old.table
+  arrival_true : (old : State) (now : ℕ) (x : Received) (answer : Answer) (new : State) → IsSoundTableSince past router old.table
       → (o : Option Fault) → MatchOption o (Accepts old now x answer new) (λ why. Refuses old now why answer new) → AllTruthful answer.sends
   arrival_true old now x answer new sound None accepts = accepts_true old now x answer new sound (is_response x.bytes) accepts
   arrival_true old now x answer new sound (Some why) refuses = subst AllTruthful (sym (ap (λ (a : Answer). a.sends) refuses.answer_is)) tt
 
   pub sends_true : (old : State) (happening : Happening) (answer : Answer) (new : State)
-      → IsSoundTable net router old.table → Moves old happening answer new → AllTruthful answer.sends
+      → IsSoundTableSince past router old.table → Moves old happening answer new → AllTruthful answer.sends
   sends_true old (Arrives x) answer new sound moves = arrival_true old (max old.last x.now) x answer new sound (fault old.config x) moves
   sends_true old (Ticks now word) answer new sound moves =
       spelled_true (tick_messages old (max old.last now)) answer.sends (tick_true old (max old.last now) sound) moves.told.sends
   sends_true old (Restarts now) answer new sound moves = spelled_true (start_messages old.config) answer.sends (starts_true old.config) moves.told.sends
+  sends_true old (Reconfigures now c) answer new sound moves = spelled_true [] answer.sends tt moves.told.sends
 
   pub starting_true : (config : Config) (now : ℕ) (answer : Answer) (new : State) → Starts config now answer new → AllTruthful answer.sends
   starting_true config now answer new starts = spelled_true (start_messages config) answer.sends (starts_true config) starts.told.sends

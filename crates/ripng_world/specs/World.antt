@@ -1,30 +1,43 @@
 -- A network that runs: the state of each router, and every datagram ever sent.
-use Rattle.std.specs.Prelude.{◌≡◌, ℕ, ◌<◌, suc, Bool, true, false, ◌&&◌, List, [], ◌∷◌, ◌++◌, length, map, Some, is_none, unwrap_or, option_map, slice_get, slice_set, IsFalse}
+use Rattle.std.specs.Prelude.{◌≡◌, ℕ, ◌<◌, suc, Bool, true, false, ◌&&◌, List, [], ◌∷◌, ◌++◌, length, map, filter_map, Option, Some, None, is_none, unwrap_or, option_map, slice_get, slice_set, IsFalse}
 use Rattle.ripng_wire.specs.Wire.{is_response}
 use Rattle.router_core.specs.Received.{Received}
 use Rattle.router_core.specs.Faults.{fault, ripng_port}
-use Rattle.router_core.specs.Machine.{State, Happening, Arrives, Ticks, Restarts, Moves, Starts}
+use Rattle.router_core.specs.Machine.{State, Happening, Arrives, Ticks, Restarts, Reconfigures, Moves, Starts}
 use Rattle.router_core.specs.declared.answer.Answer.{Answer}
 use Rattle.router_core.specs.declared.answer.Outgoing.{Outgoing}
 use Rattle.router_core.specs.declared.answer.Destination.{Destination}
 use Rattle.router_core.specs.declared.answer.Destination.TheVariants.{Group, Peer}
+use Rattle.router_core.specs.declared.reconfiguring.Change.{Change}
 use Rattle.ripng_world.specs.Network.{Network, Node, AreLinked, config_of, interface_at}
+use Rattle.ripng_world.specs.Past.{Past}
 use Rattle.ripng_world.specs.declared.sent.Sent.{Sent}
 
 pub record World : Type 0 where
   pub states : List State
   pub sent : List Sent
+  pub changes : List (ℕ × Change)  -- that routers have done, each with its router
+
+-- all that was in force since the cold start
+abbrev pub past_of : Network → World → Past
+past_of net w = record { net = net; changes = w.changes }
 
 pub data Event : Type 0 where
   Deliver : (datagram router iface now : ℕ) → Event
   Stranger : (router : ℕ) → Received → Event
   Tick : (router now word : ℕ) → Event
   Restart : (router now : ℕ) → Event
+  Reconfigure : (router now : ℕ) → Change → Event
 
 abbrev pub sent_by : ℕ → Outgoing → Sent
 sent_by router o = record { router = router; iface = o.iface; to = o.to; bytes = o.bytes }
 
--- one router moves, what it sends is added, and all else stays
+-- what is added to the changes done
+abbrev pub changes_by : ℕ → Happening → List (ℕ × Change)
+changes_by router (Reconfigures now c) = (router, c) ∷ []
+changes_by router _ = []
+
+-- one router moves, what it sends and the change that it does are added, and all else stays
 pub record RouterMoves (w : World) (router : ℕ) (happening : Happening) (answer : Answer) (w' : World) : Type 0 where
   pub old : State
   pub new : State
@@ -32,6 +45,7 @@ pub record RouterMoves (w : World) (router : ℕ) (happening : Happening) (answe
   pub moves : Moves old happening answer new
   pub states : w'.states ≡ slice_set w.states router new
   pub sent : w'.sent ≡ w.sent ++ map (sent_by router) answer.sends
+  pub changes : w'.changes ≡ w.changes ++ changes_by router happening
 
 abbrev pub is_to_group : Destination → Bool
 is_to_group Group = true
@@ -76,11 +90,20 @@ Happens net w (Deliver datagram router iface now) answer w' = Delivers net w dat
 Happens net w (Stranger router x) answer w' = Intrudes w router x answer w'
 Happens net w (Tick router now word) answer w' = RouterMoves w router (Ticks now word) answer w'
 Happens net w (Restart router now) answer w' = RouterMoves w router (Restarts now) answer w'
+Happens net w (Reconfigure router now c) answer w' = RouterMoves w router (Reconfigures now c) answer w'
 
 -- the events happen one after another
 abbrev pub WorldRun : Network → World → List Event → World → Type 0
 WorldRun net w [] w' = w' ≡ w
 WorldRun net w (e ∷ events) w' = (mid : World) × (answer : Answer) × Happens net w e answer mid × WorldRun net mid events w'
+
+-- the changes of the reconfigurations among the events, each with its router, in order
+abbrev pub change_in : Event → Option (ℕ × Change)
+change_in (Reconfigure router now c) = Some (router, c)
+change_in _ = None
+
+abbrev pub changes_in : List Event → List (ℕ × Change)
+changes_in events = filter_map change_in events
 
 -- the routers from a number on start in order, each at its moment
 abbrev pub StartsFrom : ℕ → List Node → List ℕ → List State → List Sent → Type 0
@@ -90,6 +113,7 @@ StartsFrom n (node ∷ nodes) (now ∷ moments) (s ∷ states) sent =
     × (sent ≡ map (sent_by n) answer.sends ++ rest)
 StartsFrom n _ _ _ sent = ⊥
 
--- every router has just started
-abbrev pub IsCold : Network → List ℕ → World → Type 0
-IsCold net moments w = StartsFrom 0 net moments w.states w.sent
+-- every router has just started, and nothing was changed
+pub record IsCold (net : Network) (moments : List ℕ) (w : World) : Type 0 where
+  pub starts : StartsFrom 0 net moments w.states w.sent
+  pub unchanged : w.changes ≡ []

@@ -1,7 +1,7 @@
 //! What may happen in a network, and why an event is refused.
 
 use route_table::Moment;
-use router_core::Arrival;
+use router_core::{Arrival, Change, ReconfigureRefused};
 use std::alloc::AllocError;
 
 /// What may happen in a network.
@@ -40,34 +40,53 @@ pub enum Event<'a> {
         router: usize,
         now: Moment,
     },
+    /// The configuration of a router is changed.
+    Reconfigure {
+        /// The number of the router.
+        router: usize,
+        /// The moment that it is.
+        now: Moment,
+        /// What is changed.
+        change: Change,
+    },
 }
 
 /// Why an event is refused: the first test that it fails, in this order.
 #[derive(Clone, Copy, Debug, PartialEq, Eq)]
 pub enum LabError {
     /// The network has no such router.
-    NoSuchRouter = 1,
+    NoSuchRouter,
     /// The router has no such interface.
-    NoSuchInterface = 2,
+    NoSuchInterface,
     /// No such datagram was sent.
-    NoSuchDatagram = 3,
+    NoSuchDatagram,
     /// The datagram was sent on another link.
-    OtherLink = 4,
+    OtherLink,
     /// The arrival is a Response without a fault, as a router of the link would send.
-    NotAStranger = 5,
+    NotAStranger,
     /// Memory was refused.
-    OutOfMemory = 6,
+    OutOfMemory,
+    /// The router refused to be changed so. Tested behind the first two.
+    ReconfigureRefused(ReconfigureRefused),
 }
 
 impl LabError {
     ghost use Rattle.std.specs.Prelude.{◌≡◌};
     ghost use Rattle.ripng_world.specs.Labs.{refusal_name, refusal_number};
 
-    /// The number of the refusal, 1 to 6.
+    /// The number of the refusal, 1 to 7.
     pub fn number(self) -> u8
         ensures { result ≡ refusal_number self }
     {
-        self as u8
+        match self {
+            LabError::NoSuchRouter => 1,
+            LabError::NoSuchInterface => 2,
+            LabError::NoSuchDatagram => 3,
+            LabError::OtherLink => 4,
+            LabError::NotAStranger => 5,
+            LabError::OutOfMemory => 6,
+            LabError::ReconfigureRefused(_) => 7,
+        }
     }
 
     /// The name of the refusal, one word.
@@ -81,6 +100,7 @@ impl LabError {
             LabError::OtherLink => "OtherLink",
             LabError::NotAStranger => "NotAStranger",
             LabError::OutOfMemory => "OutOfMemory",
+            LabError::ReconfigureRefused(_) => "ReconfigureRefused",
         }
     }
 }
@@ -93,6 +113,20 @@ impl From<AllocError> for LabError {
 
     fn from(_error: AllocError) -> LabError {
         LabError::OutOfMemory
+    }
+}
+
+impl From<ReconfigureRefused> for LabError {
+    ghost use Rattle.std.specs.Prelude.{◌≡◌};
+    ghost use Rattle.ripng_world.specs.Labs.{refusal_of};
+
+    ghost from_gives = { λ why refusal. refusal ≡ refusal_of why };
+
+    fn from(why: ReconfigureRefused) -> LabError {
+        match why {
+            ReconfigureRefused::OutOfMemory => LabError::OutOfMemory,
+            _ => LabError::ReconfigureRefused(why),
+        }
     }
 }
 
@@ -109,7 +143,8 @@ impl<'a> Event<'a> {
             Event::Deliver { router, .. }
             | Event::Stranger { router, .. }
             | Event::Tick { router, .. }
-            | Event::Restart { router, .. } => *router,
+            | Event::Restart { router, .. }
+            | Event::Reconfigure { router, .. } => *router,
         }
     }
 }

@@ -1,13 +1,14 @@
 //! A lab: a lawful network that runs, over real routers and bytes. Whatever happens in it, no router has a route, and no
 //! datagram tells one, that no walk through the network backs.
 
-ghost use Rattle.std.specs.Prelude.{◌≡◌, ◌≤◌, List, [], None, IfErr, IfOk, IfSome, OnErr, OnOk, Some, length, map, take, slice_get, unwrap_or};
+ghost use Rattle.std.specs.Prelude.{◌≡◌, ◌≤◌, ◌++◌, ◌∷◌, List, [], None, IfErr, IfOk, IfSome, OnErr, OnOk, Some, length, map, take, slice_get, unwrap_or};
 ghost use Rattle.std.specs.Option.{option_copied};
 ghost use Rattle.ripng_world.specs.Events.{event_of};
-ghost use Rattle.ripng_world.specs.Labs.{AreRoutesBacked, AreNoneBelowLeast, IsNoneBelowLeast, IsTruthTold, HappensGiving, IsRefusedNext, event_fault, link_at};
+ghost use Rattle.ripng_world.specs.Labs.{AreRoutesBackedSince, AreNoneBelowLeastSince, IsNoneBelowLeast, IsNoneBelowLeastSince, IsTruthToldSince, HoldsFixed, IsTruthTold, HappensGiving, IsRefusal, IsRefusedNext, link_at, step_fault};
+ghost use Rattle.ripng_world.specs.Past.{IsTableBackedSince};
 ghost use Rattle.ripng_world.specs.Stations.{network_of, world_of};
 ghost use Rattle.ripng_world.specs.Walks.{IsTableBacked};
-ghost use Rattle.ripng_world.specs.World.{IsCold, WorldRun};
+ghost use Rattle.ripng_world.specs.World.{IsCold, WorldRun, changes_in, past_of};
 
 use crate::event::{Event, LabError};
 use crate::moving::{file, happen};
@@ -17,7 +18,7 @@ use crate::sent::Sent;
 use crate::station::Station;
 use fib::RouteChange;
 use route_table::{Moment, RouteStore};
-use router_core::{Answer, Fault, Listed, Note, Router};
+use router_core::{Answer, Change, Fault, Listed, Note, Router};
 use std::alloc::{AllocError, Global};
 use std::marker::Model;
 
@@ -26,6 +27,7 @@ use std::marker::Model;
 pub struct Lab<S: RouteStore> {
     stations: Vec<Station<S>>,
     sent: Vec<Sent>,
+    changes: Vec<(usize, Change)>,
     alloc: Global,
 }
 
@@ -42,9 +44,9 @@ impl<S: RouteStore> Model for Lab<S> {
 
     ghost coded = { Prim.hlevel (codes, map_of.code {R = prefix_cmp} prefix.the_row.coded route.the_row.coded) };
 
-    ghost view = { λ l. lab_of l.stations.items l.sent.items };
+    ghost view = { λ l. lab_of l.stations.items l.sent.items l.changes.items };
 
-    ghost invariant = { λ l. HasRun (network_of l.stations.items) (world_of l.stations.items l.sent.items) };
+    ghost invariant = { λ l. HasRun (network_of l.stations.items) (world_of l.stations.items l.sent.items l.changes.items) };
 }
 
 // Each router starts at its moment.
@@ -55,7 +57,7 @@ fn start_all<S: RouteStore>(
 ) -> Result<(Vec<Station<S>>, Vec<Sent>), AllocError>
     requires { length moments.now ≡ length routers.items }
     ensures network { IfOk result (λ r. network_of r.0.items ≡ routers.items) }
-    ensures cold { IfOk result (λ r. IsCold routers.items moments.now (world_of r.0.items r.1.items)) }
+    ensures cold { IfOk result (λ r. IsCold routers.items moments.now (world_of r.0.items r.1.items [])) }
 {
     let mut stations = Vec::with_capacity(alloc, routers.len())?;
     let mut sent = Vec::new(alloc);
@@ -96,15 +98,17 @@ impl<S: RouteStore> Lab<S> {
         ensures network { IfOk result (λ lab. lab.network ≡ network) }
         ensures cold { IfOk result (λ lab. IsCold network moments.now lab.world) }
         ensures only_memory { IfErr result (λ why. why ≡ LabError.OutOfMemory) }
-        ensures backed { IfOk result (λ lab. AreRoutesBacked lab.network lab.world) }
-        ensures least { IfOk result (λ lab. AreNoneBelowLeast lab.network lab.world) }
-        ensures truth { IfOk result (λ lab. IsTruthTold lab.network lab.world.sent) }
+        ensures backed { IfOk result (λ lab. AreRoutesBackedSince lab.network lab.world) }
+        ensures least { IfOk result (λ lab. AreNoneBelowLeastSince lab.network lab.world) }
+        ensures truth { IfOk result (λ lab. IsTruthToldSince lab.network lab.world) }
+        ensures fixed { IfOk result (λ lab. HoldsFixed lab.network lab.world) }
     {
         let NetConfig { routers } = network;
         let (stations, sent) = start_all(alloc, routers, moments)?;
         Ok(Lab {
             stations,
             sent,
+            changes: Vec::new(alloc),
             alloc,
         })
     }
@@ -116,12 +120,14 @@ impl<S: RouteStore> Lab<S> {
         self.stations.len()
     }
 
-    /// A router of the network, if it has one of that number. Each of its routes below 16 hops is backed by a walk, and so
-    /// is not below the least cost.
+    /// A router of the network, if it has one of that number. Each of its routes below 16 hops is backed by a walk, at costs
+    /// in force since the cold start, and so is not below the least such cost.
     pub fn router(&self, router: usize) -> Option<&Router<S>>
         ensures value { option_copied result ≡ slice_get self.now.world.states router }
-        ensures backed { IfSome result (λ r. IsTableBacked self.now.network router r.now.table) }
-        ensures least { IfSome result (λ r. IsNoneBelowLeast self.now.network router r.now) }
+        ensures backed { IfSome result (λ r. IsTableBackedSince (past_of self.now.network self.now.world) router r.now.table) }
+        ensures least { IfSome result (λ r. IsNoneBelowLeastSince self.now.network self.now.world router r.now) }
+        ensures fixed_backed { IfSome result (λ r. self.now.world.changes ≡ [] → IsTableBacked self.now.network router r.now.table) }
+        ensures fixed_least { IfSome result (λ r. self.now.world.changes ≡ [] → IsNoneBelowLeast self.now.network router r.now) }
     {
         match self.stations.get(router) {
             Some(station) => Some(station.router()),
@@ -132,9 +138,17 @@ impl<S: RouteStore> Lab<S> {
     /// All datagrams ever sent, numbered from 0. Each entry below 16 hops of each Response tells a walk from its sender.
     pub fn sent(&self) -> &[Sent]
         ensures value { result.now ≡ self.now.world.sent }
-        ensures truth { IsTruthTold self.now.network result.now }
+        ensures truth { IsTruthToldSince self.now.network self.now.world }
+        ensures fixed { self.now.world.changes ≡ [] → IsTruthTold self.now.network result.now }
     {
         &self.sent
+    }
+
+    /// The changes that routers have done since the cold start, each with its router, in order.
+    pub fn changes_done(&self) -> &[(usize, Change)]
+        ensures { result.now ≡ self.now.world.changes }
+    {
+        &self.changes
     }
 
     /// The number of the link of an interface, if the network has such a router and interface.
@@ -148,19 +162,22 @@ impl<S: RouteStore> Lab<S> {
     /// answer that is given.
     ///
     /// # Errors
-    /// The first test that the event fails, else want of memory; the lab is then as it was.
+    /// The first test that the event fails, or want of memory; the lab is then as it was. Room for a change is made before
+    /// its router is asked.
     pub fn step(&mut self, event: &Event<'_>) -> Result<Answer, LabError>
         ensures happens { IfOk result (λ answer. HappensGiving self.old (event_of event.entry.now) answer self.new.world) }
         ensures network { self.new.network ≡ self.old.network }
-        ensures passes { OnOk result (event_fault self.old (event_of event.entry.now) ≡ None) }
-        ensures refused { IfErr result (λ why. why ≡ unwrap_or (event_fault self.old (event_of event.entry.now)) LabError.OutOfMemory) }
+        ensures changes { OnOk result (self.new.world.changes ≡ self.old.world.changes ++ changes_in (event_of event.entry.now ∷ [])) }
+        ensures passes { OnOk result (step_fault self.old (event_of event.entry.now) ≡ None) }
+        ensures refused { IfErr result (λ why. IsRefusal self.old (event_of event.entry.now) why) }
         ensures err { OnErr result (self.new ≡ self.old) }
-        ensures backed { AreRoutesBacked self.new.network self.new.world }
-        ensures least { AreNoneBelowLeast self.new.network self.new.world }
-        ensures truth { IsTruthTold self.new.network self.new.world.sent }
+        ensures backed { AreRoutesBackedSince self.new.network self.new.world }
+        ensures least { AreNoneBelowLeastSince self.new.network self.new.world }
+        ensures truth { IsTruthToldSince self.new.network self.new.world }
+        ensures fixed { HoldsFixed self.new.network self.new.world }
     {
         check(&self.stations, &self.sent, event)?;
-        let answer = happen(&mut self.stations, &mut self.sent, event)?;
+        let answer = happen(&mut self.stations, &mut self.sent, &mut self.changes, event)?;
         file(&mut self.sent, event.router(), answer.sends);
         Ok(handed_out(self.alloc, answer.fault, answer.changes, answer.notes))
     }
@@ -172,11 +189,13 @@ impl<S: RouteStore> Lab<S> {
     pub fn run(&mut self, events: &[Event<'_>]) -> (usize, Result<(), LabError>)
         ensures done { WorldRun self.old.network self.old.world (take result.0 (map event_of events.entry.now)) self.new.world }
         ensures network { self.new.network ≡ self.old.network }
+        ensures changes { self.new.world.changes ≡ self.old.world.changes ++ changes_in (take result.0 (map event_of events.entry.now)) }
         ensures all { OnOk result.1 (result.0 ≡ length events.entry.now) }
         ensures refused { IfErr result.1 (λ why. IsRefusedNext self.new (map event_of events.entry.now) result.0 why) }
-        ensures backed { AreRoutesBacked self.new.network self.new.world }
-        ensures least { AreNoneBelowLeast self.new.network self.new.world }
-        ensures truth { IsTruthTold self.new.network self.new.world.sent }
+        ensures backed { AreRoutesBackedSince self.new.network self.new.world }
+        ensures least { AreNoneBelowLeastSince self.new.network self.new.world }
+        ensures truth { IsTruthToldSince self.new.network self.new.world }
+        ensures fixed { HoldsFixed self.new.network self.new.world }
     {
         // The lab is opened, so that what holds of it is known before the first event.
         let _ = &self.sent;

@@ -1,52 +1,100 @@
 //! Laws of networks, each the contract of a function with nothing to do: what follows from the definitions alone.
 
-ghost use Rattle.std.specs.Prelude.{◌≡◌, ℕ, ◌<◌, ◌≤◌, List, ◌++◌, length, Some, slice_get};
+ghost use Rattle.std.specs.Prelude.{◌≡◌, ℕ, ◌<◌, ◌≤◌, List, [], ◌∷◌, ◌++◌, length, Some, slice_get};
 ghost use Rattle.std.specs.List.{AllByRecursion};
 ghost use Rattle.std.specs.FinMap as map_of;
 ghost use Rattle.prefix6.specs.Prefix.{Prefix6};
 ghost use Rattle.route_table.specs.Route.{RouteValue, infinity};
 ghost use Rattle.route_table.specs.Table.{Table};
 ghost use Rattle.router_core.specs.Ageing.{aged_table};
+ghost use Rattle.router_core.specs.Config.{Config};
 ghost use Rattle.router_core.specs.Hearing.{Hearing, Heard};
 ghost use Rattle.router_core.specs.Machine.{State, Happening, Moves};
+ghost use Rattle.router_core.specs.Reconfiguring.{IsNamed, changed_table};
 ghost use Rattle.router_core.specs.declared.answer.Answer.{Answer};
+ghost use Rattle.router_core.specs.declared.reconfiguring.Change.{Change};
 ghost use Rattle.ripng_world.specs.Network.{Network, IsNetwork};
-ghost use Rattle.ripng_world.specs.Walks.{Hop, IsWalk, cost, IsTableBacked, IsLeast};
+ghost use Rattle.ripng_world.specs.Walks.{Hop, IsWalk, Reaches, cost, IsTableBacked, IsLeast};
+ghost use Rattle.ripng_world.specs.Past.{Past, ReachesSince, IsTableBackedSince, IsLeastSince};
 ghost use Rattle.ripng_world.specs.Convergence.{IsNeverQuiet, FitsTables, AreConverged};
 ghost use Rattle.ripng_world.specs.Rounds.{Round, QuietRounds, AreClose, events_of};
 ghost use Rattle.ripng_world.specs.Truth.{IsNeighbor, IsSoundTable, IsTrueEntry, TellsTruth};
-ghost use Rattle.ripng_world.specs.World.{World, Event, IsCold, WorldRun};
+ghost use Rattle.ripng_world.specs.TruthSince.{IsNeighborSince, IsSoundTableSince, IsTrueEntrySince, TellsTruthSince};
+ghost use Rattle.ripng_world.specs.World.{World, Event, IsCold, WorldRun, past_of, changes_in};
 
-/// A router whose routes are backed sends only entries that tell the cost and tag of a walk.
+/// A router whose routes are backed sends only entries that tell the cost and tag of a walk: over all that was in force
+/// since a cold start, and, with the same words, over a network with fixed costs and owners.
 pub fn tells_only_walks()
-    ensures { (net : Network) (router : ℕ) (old new : State) (happening : Happening) (answer : Answer)
+    ensures since { (past : Past) (router : ℕ) (old new : State) (happening : Happening) (answer : Answer)
+        → IsSoundTableSince past router old.table → Moves old happening answer new
+        → AllByRecursion (λ o. TellsTruthSince past router o.bytes) answer.sends }
+    ensures fixed { (net : Network) (router : ℕ) (old new : State) (happening : Happening) (answer : Answer)
         → IsSoundTable net router old.table → Moves old happening answer new
         → AllByRecursion (λ o. TellsTruth net router o.bytes) answer.sends }
 {}
 
-/// To hear such entries of a neighbor, and to age, keeps routes backed.
+/// To hear such entries of a neighbor, to age, and to do a change keeps routes backed.
 pub fn keeps_routes_backed()
-    ensures heard { (net : Network) (router sender sender_iface : ℕ) (h : Hearing) (after : Table)
+    ensures heard { (past : Past) (router sender sender_iface : ℕ) (h : Hearing) (after : Table)
+        → IsNeighborSince past router h.gateway sender sender_iface
+        → AllByRecursion (IsTrueEntrySince past sender) h.entries
+        → IsSoundTableSince past router h.before → Heard h after → IsSoundTableSince past router after }
+    ensures aged { (past : Past) (router now : ℕ) (table : Table)
+        → IsSoundTableSince past router table → IsSoundTableSince past router (aged_table now table) }
+    ensures changed { (net : Network) (changes : List (ℕ × Change)) (router now : ℕ) (config : Config) (table : Table) (c : Change)
+        → IsNamed config c
+        → IsSoundTableSince (record { net = net; changes = changes }) router table
+        → IsSoundTableSince (record { net = net; changes = changes ++ (router, c) ∷ [] }) router (changed_table now table c) }
+    ensures heard_fixed { (net : Network) (router sender sender_iface : ℕ) (h : Hearing) (after : Table)
         → IsNeighbor net router h.gateway sender sender_iface
         → AllByRecursion (IsTrueEntry net sender) h.entries
         → IsSoundTable net router h.before → Heard h after → IsSoundTable net router after }
-    ensures aged { (net : Network) (router now : ℕ) (table : Table)
+    ensures aged_fixed { (net : Network) (router now : ℕ) (table : Table)
         → IsSoundTable net router table → IsSoundTable net router (aged_table now table) }
 {}
 
-/// In every network, after every list of events, every route is backed by a walk, and so is not below the least cost.
+/// In every network, after every list of events, reconfigurations among them, every route is backed by a walk, at costs in
+/// force since the cold start, to a router that has owned the prefix with the route's tag; and so is not below the least
+/// such cost.
 pub fn invents_no_distance()
     ensures backed { (net : Network) (moments : List ℕ) (events : List Event) (cold w : World)
         → IsNetwork net → IsCold net moments cold → WorldRun net cold events w
-        → (router : ℕ) (state : State) → slice_get w.states router ≡ Some state → IsTableBacked net router state.table }
+        → (router : ℕ) (state : State) → slice_get w.states router ≡ Some state → IsTableBackedSince (past_of net w) router state.table }
     ensures least { (net : Network) (moments : List ℕ) (events : List Event) (cold w : World)
         → IsNetwork net → IsCold net moments cold → WorldRun net cold events w
         → (router : ℕ) (state : State) (p : Prefix6) (r : RouteValue) (metric : ℕ)
         → slice_get w.states router ≡ Some state → map_of.get state.table p ≡ Some r → r.metric < infinity
-        → IsLeast net router p metric → metric ≤ r.metric }
+        → IsLeastSince (past_of net w) router p metric → metric ≤ r.metric }
     ensures sent { (net : Network) (moments : List ℕ) (events : List Event) (cold w : World)
         → IsNetwork net → IsCold net moments cold → WorldRun net cold events w
+        → AllByRecursion (λ d. TellsTruthSince (past_of net w) d.router d.bytes) w.sent }
+    ensures done { (net : Network) (moments : List ℕ) (events : List Event) (cold w : World)
+        → IsCold net moments cold → WorldRun net cold events w → w.changes ≡ changes_in events }
+{}
+
+/// In every network with fixed costs and fixed owners, after every list of events, every route is backed by a walk, and so
+/// is not below the least cost: the same while no change was done.
+pub fn invents_no_distance_unchanged()
+    ensures backed { (net : Network) (moments : List ℕ) (events : List Event) (cold w : World)
+        → IsNetwork net → IsCold net moments cold → WorldRun net cold events w → w.changes ≡ []
+        → (router : ℕ) (state : State) → slice_get w.states router ≡ Some state → IsTableBacked net router state.table }
+    ensures least { (net : Network) (moments : List ℕ) (events : List Event) (cold w : World)
+        → IsNetwork net → IsCold net moments cold → WorldRun net cold events w → w.changes ≡ []
+        → (router : ℕ) (state : State) (p : Prefix6) (r : RouteValue) (metric : ℕ)
+        → slice_get w.states router ≡ Some state → map_of.get state.table p ≡ Some r → r.metric < infinity
+        → IsLeast net router p metric → metric ≤ r.metric }
+    ensures sent { (net : Network) (moments : List ℕ) (events : List Event) (cold w : World)
+        → IsNetwork net → IsCold net moments cold → WorldRun net cold events w → w.changes ≡ []
         → AllByRecursion (λ d. TellsTruth net d.router d.bytes) w.sent }
+{}
+
+/// With no change done, walks at costs in force since the cold start are the walks of the network; and these always are
+/// such walks.
+pub fn generalises_walks()
+    ensures unchanged { (past : Past) (from : ℕ) (p : Prefix6) (metric tag : ℕ) (walk : List Hop)
+        → past.changes ≡ [] → ReachesSince past from p metric tag walk → Reaches past.net from p metric tag walk }
+    ensures still { (past : Past) (from : ℕ) (p : Prefix6) (metric tag : ℕ) (walk : List Hop)
+        → Reaches past.net from p metric tag walk → ReachesSince past from p metric tag walk }
 {}
 
 /// After so many quiet rounds from a cold start, every router has exactly the least costs of walks with so many hops.

@@ -13,8 +13,8 @@ mod station;
 pub use event::{Event, LabError};
 pub use lab::Lab;
 pub use laws::{
-    converges_in_rounds, invents_no_distance, keeps_routes_backed, rounds_are_run, runs_go_on,
-    tells_only_walks,
+    converges_in_rounds, generalises_walks, invents_no_distance, invents_no_distance_unchanged,
+    keeps_routes_backed, rounds_are_run, runs_go_on, tells_only_walks,
 };
 pub use network::{NetConfig, NetInterface, NetRefused, Node, ROUTER_LIMIT};
 pub use sent::Sent;

@@ -1,19 +1,22 @@
 //! How a router of a network moves, once nothing refuses the event.
 
-ghost use Rattle.std.specs.Prelude.{◌≡◌, ◌+◌, ◌<◌, ◌≤◌, ◌++◌, None, IfOk, OnErr, map, length, vec_len};
+ghost use Rattle.std.specs.Prelude.{◌≡◌, ℕ, ◌+◌, ◌<◌, ◌≤◌, ◌++◌, ◌∷◌, [], List, None, IfErr, IfOk, OnErr, OnOk, map, length, vec_len};
 ghost use Rattle.std.specs.Vec.{vec_capacity};
+ghost use Rattle.ripng_wire.specs.Wire.{first_failing};
+ghost use Rattle.router_core.specs.declared.reconfiguring.Change.{Change as ChangeValue};
 ghost use Rattle.ripng_world.specs.Events.{event_of};
-ghost use Rattle.ripng_world.specs.Labs.{event_fault, lab_of};
+ghost use Rattle.ripng_world.specs.Labs.{IsRefusal, event_fault, lab_of, named_tests};
 ghost use Rattle.ripng_world.specs.Stations.{MoveStations, network_of};
-ghost use Rattle.ripng_world.specs.World.{Deliver, Stranger, Tick, Restart, arrival_of, sent_by};
+ghost use Rattle.ripng_world.specs.World.{Deliver, Stranger, Tick, Restart, Reconfigure, arrival_of, changes_in, sent_by};
+ghost use Rattle.ripng_world.specs.declared.sent.Sent.{Sent as SentValue};
 
-use crate::event::Event;
+use crate::event::{Event, LabError};
 use crate::refusing::interface_at;
 use crate::sent::Sent;
 use crate::station::Station;
 use prefix6::Addr6;
 use route_table::{Moment, RouteStore};
-use router_core::{Answer, Arrival, Destination, Listed, Outgoing, RIPNG_PORT};
+use router_core::{Answer, Arrival, Change, Destination, Listed, Outgoing, RIPNG_PORT};
 use std::alloc::AllocError;
 
 /// The hop limit of what no router forwarded.
@@ -49,8 +52,8 @@ fn deliver<S: RouteStore>(
     iface: usize,
     now: Moment,
 ) -> Result<Answer, AllocError>
-    requires { event_fault (lab_of stations.old sent.old.items) (Deliver datagram router iface now) ≡ None }
-    ensures moves { IfOk result (λ answer. MoveStations stations.old sent.old.items (Deliver datagram router iface now) answer stations.new) }
+    requires { event_fault (lab_of stations.old sent.old.items []) (Deliver datagram router iface now) ≡ None }
+    ensures moves { IfOk result (λ answer. (changes : List (ℕ × ChangeValue)) → MoveStations stations.old sent.old.items changes (Deliver datagram router iface now) answer stations.new) }
     ensures room { IfOk result (λ answer. vec_len sent.new + length answer.sends ≤ vec_capacity sent.new) }
     ensures sent { sent.new.items ≡ sent.old.items }
     ensures err { OnErr result (stations.new ≡ stations.old) }
@@ -69,8 +72,8 @@ fn intrude<S: RouteStore>(
     router: usize,
     arrival: &Arrival<'_>,
 ) -> Result<Answer, AllocError>
-    requires { event_fault (lab_of stations.old sent.old.items) (Stranger router arrival.now) ≡ None }
-    ensures moves { IfOk result (λ answer. MoveStations stations.old sent.old.items (Stranger router arrival.entry.now) answer stations.new) }
+    requires { event_fault (lab_of stations.old sent.old.items []) (Stranger router arrival.now) ≡ None }
+    ensures moves { IfOk result (λ answer. (changes : List (ℕ × ChangeValue)) → MoveStations stations.old sent.old.items changes (Stranger router arrival.entry.now) answer stations.new) }
     ensures room { IfOk result (λ answer. vec_len sent.new + length answer.sends ≤ vec_capacity sent.new) }
     ensures sent { sent.new.items ≡ sent.old.items }
     ensures err { OnErr result (stations.new ≡ stations.old) }
@@ -99,7 +102,7 @@ fn tick<S: RouteStore>(
     word: u32,
 ) -> Result<Answer, AllocError>
     requires { router < length stations.old }
-    ensures moves { IfOk result (λ answer. MoveStations stations.old sent.old.items (Tick router now word) answer stations.new) }
+    ensures moves { IfOk result (λ answer. (changes : List (ℕ × ChangeValue)) → MoveStations stations.old sent.old.items changes (Tick router now word) answer stations.new) }
     ensures room { IfOk result (λ answer. vec_len sent.new + length answer.sends ≤ vec_capacity sent.new) }
     ensures sent { sent.new.items ≡ sent.old.items }
     ensures err { OnErr result (stations.new ≡ stations.old) }
@@ -116,7 +119,7 @@ fn restart<S: RouteStore>(
     now: Moment,
 ) -> Result<Answer, AllocError>
     requires { router < length stations.old }
-    ensures moves { IfOk result (λ answer. MoveStations stations.old sent.old.items (Restart router now) answer stations.new) }
+    ensures moves { IfOk result (λ answer. (changes : List (ℕ × ChangeValue)) → MoveStations stations.old sent.old.items changes (Restart router now) answer stations.new) }
     ensures room { IfOk result (λ answer. vec_len sent.new + length answer.sends ≤ vec_capacity sent.new) }
     ensures sent { sent.new.items ≡ sent.old.items }
     ensures err { OnErr result (stations.new ≡ stations.old) }
@@ -125,16 +128,43 @@ fn restart<S: RouteStore>(
     stations[router].restart(now)
 }
 
-/// The router of an event moves. Room for what it sends is made, and nothing is added yet.
+// The configuration of a router is changed. Room for the change, among those that were done, is made first.
+fn reconfigure<S: RouteStore>(
+    stations: &mut [Station<S>],
+    changes: &mut Vec<(usize, Change)>,
+    router: usize,
+    now: Moment,
+    change: &Change,
+) -> Result<Answer, LabError>
+    requires { first_failing (named_tests (network_of stations.old) router change.now) ≡ None }
+    ensures moves { IfOk result (λ answer. (sent : List SentValue) → MoveStations stations.old sent changes.old.items (Reconfigure router now change.now) answer stations.new) }
+    ensures silent { IfOk result (λ answer. answer.sends ≡ []) }
+    ensures changes { OnOk result (changes.new.items ≡ changes.old.items ++ (router, change.now) ∷ []) }
+    ensures kept { OnErr result (changes.new.items ≡ changes.old.items) }
+    ensures refused { IfErr result (λ why. (sent : List SentValue) → IsRefusal (lab_of stations.old sent changes.old.items) (Reconfigure router now change.now) why) }
+    ensures err { OnErr result (stations.new ≡ stations.old) }
+{
+    changes.reserve(1)?;
+    let answer = stations[router].reconfigure(now, *change)?;
+    changes.push_reserved((router, *change));
+    Ok(answer)
+}
+
+/// The router of an event moves. Room for what it sends is made, and nothing is added yet; a change is added to those that
+/// were done.
 pub fn happen<S: RouteStore>(
     stations: &mut [Station<S>],
     sent: &mut Vec<Sent>,
+    changes: &mut Vec<(usize, Change)>,
     event: &Event<'_>,
-) -> Result<Answer, AllocError>
-    requires { event_fault (lab_of stations.old sent.old.items) (event_of event.now) ≡ None }
-    ensures moves { IfOk result (λ answer. MoveStations stations.old sent.old.items (event_of event.entry.now) answer stations.new) }
+) -> Result<Answer, LabError>
+    requires { event_fault (lab_of stations.old sent.old.items changes.old.items) (event_of event.now) ≡ None }
+    ensures moves { IfOk result (λ answer. MoveStations stations.old sent.old.items changes.old.items (event_of event.entry.now) answer stations.new) }
     ensures room { IfOk result (λ answer. vec_len sent.new + length answer.sends ≤ vec_capacity sent.new) }
     ensures sent { sent.new.items ≡ sent.old.items }
+    ensures changes { OnOk result (changes.new.items ≡ changes.old.items ++ changes_in (event_of event.entry.now ∷ [])) }
+    ensures kept { OnErr result (changes.new.items ≡ changes.old.items) }
+    ensures refused { IfErr result (λ why. IsRefusal (lab_of stations.old sent.old.items changes.old.items) (event_of event.entry.now) why) }
     ensures err { OnErr result (stations.new ≡ stations.old) }
 {
     match event {
@@ -143,10 +173,15 @@ pub fn happen<S: RouteStore>(
             router,
             iface,
             now,
-        } => deliver(stations, sent, *datagram, *router, *iface, *now),
-        Event::Stranger { router, arrival } => intrude(stations, sent, *router, arrival),
-        Event::Tick { router, now, word } => tick(stations, sent, *router, *now, *word),
-        Event::Restart { router, now } => restart(stations, sent, *router, *now),
+        } => Ok(deliver(stations, sent, *datagram, *router, *iface, *now)?),
+        Event::Stranger { router, arrival } => Ok(intrude(stations, sent, *router, arrival)?),
+        Event::Tick { router, now, word } => Ok(tick(stations, sent, *router, *now, *word)?),
+        Event::Restart { router, now } => Ok(restart(stations, sent, *router, *now)?),
+        Event::Reconfigure {
+            router,
+            now,
+            change,
+        } => reconfigure(stations, changes, *router, *now, change),
     }
 }
 

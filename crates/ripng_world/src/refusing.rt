@@ -1,10 +1,11 @@
 //! Which events of a network are refused.
 
-ghost use Rattle.std.specs.Prelude.{◌≡◌, ℕ, None, Some, IfOk, OnOk, length};
+ghost use Rattle.std.specs.Prelude.{◌≡◌, ℕ, List, None, Some, IfOk, OnOk, length};
 ghost use Rattle.std.specs.Result.{result_err};
 ghost use Rattle.ripng_wire.specs.Wire.{first_failing};
 ghost use Rattle.ripng_world.specs.Events.{event_of};
-ghost use Rattle.ripng_world.specs.Labs.{event_fault, lab_of, place_tests, presence_tests, link_at};
+ghost use Rattle.router_core.specs.declared.reconfiguring.Change.{Change as ChangeValue};
+ghost use Rattle.ripng_world.specs.Labs.{event_fault, lab_of, named_tests, place_tests, presence_tests, link_at};
 ghost use Rattle.ripng_world.specs.Network.{interface_at};
 ghost use Rattle.ripng_world.specs.Stations.{network_of};
 ghost use Rattle.ripng_world.specs.World.{Deliver, Stranger, is_heard};
@@ -15,7 +16,7 @@ use crate::sent::Sent;
 use crate::station::Station;
 use ripng_wire::Command;
 use route_table::RouteStore;
-use router_core::{Arrival, Router};
+use router_core::{Arrival, Change, Router};
 
 /// An interface of a router of the network.
 pub fn interface_at<S: RouteStore>(
@@ -73,7 +74,7 @@ fn check_delivery<S: RouteStore>(
     router: usize,
     iface: usize,
 ) -> Result<(), LabError>
-    ensures { (now : ℕ) → result_err result ≡ event_fault (lab_of stations.now sent.now) (Deliver datagram router iface now) }
+    ensures { (changes : List (ℕ × ChangeValue)) (now : ℕ) → result_err result ≡ event_fault (lab_of stations.now sent.now changes) (Deliver datagram router iface now) }
 {
     let link = check_place(stations, router, iface)?;
     let Some(datagram) = sent.get(datagram) else {
@@ -103,7 +104,7 @@ fn check_stranger<S: RouteStore>(
     router: usize,
     arrival: &Arrival<'_>,
 ) -> Result<(), LabError>
-    ensures { result_err result ≡ event_fault (lab_of stations.now sent.now) (Stranger router arrival.entry.now) }
+    ensures { (changes : List (ℕ × ChangeValue)) → result_err result ≡ event_fault (lab_of stations.now sent.now changes) (Stranger router arrival.entry.now) }
 {
     check_place(stations, router, arrival.iface)?;
     if is_heard(stations[router].router(), arrival) {
@@ -113,13 +114,30 @@ fn check_stranger<S: RouteStore>(
     }
 }
 
-/// The first test that an event fails.
+// Whether there is such a router, and such an interface where a cost is changed.
+fn check_named<S: RouteStore>(
+    stations: &[Station<S>],
+    router: usize,
+    change: &Change,
+) -> Result<(), LabError>
+    ensures { result_err result ≡ first_failing (named_tests (network_of stations.now) router change.now) }
+{
+    match *change {
+        Change::Cost { iface, .. } => {
+            check_place(stations, router, iface)?;
+            Ok(())
+        }
+        Change::Own { .. } | Change::Disown { .. } => check_router(stations, router),
+    }
+}
+
+/// The first test that an event fails, before its router is asked.
 pub fn check<S: RouteStore>(
     stations: &[Station<S>],
     sent: &[Sent],
     event: &Event<'_>,
 ) -> Result<(), LabError>
-    ensures { result_err result ≡ event_fault (lab_of stations.now sent.now) (event_of event.entry.now) }
+    ensures { (changes : List (ℕ × ChangeValue)) → result_err result ≡ event_fault (lab_of stations.now sent.now changes) (event_of event.entry.now) }
 {
     match event {
         Event::Deliver {
@@ -132,5 +150,6 @@ pub fn check<S: RouteStore>(
         Event::Tick { router, .. } | Event::Restart { router, .. } => {
             check_router(stations, *router)
         }
+        Event::Reconfigure { router, change, .. } => check_named(stations, *router, change),
     }
 }

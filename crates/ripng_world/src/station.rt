@@ -1,27 +1,28 @@
 //! A router that runs at its place in a network.
 
-ghost use Rattle.std.specs.Prelude.{◌≡◌, ◌<◌, ◌≤◌, ◌*◌, ◌/◌, max, IfOk, OnErr, length, slice_get};
+ghost use Rattle.std.specs.Prelude.{◌≡◌, ◌<◌, ◌≤◌, ◌*◌, ◌/◌, [], max, IfErr, IfOk, OnErr, length, slice_get, unwrap_or};
 ghost use Rattle.std.specs.FinMap as map_of;
 ghost use Rattle.router_core.specs.Machine.{Happening, Moves, Starts};
+ghost use Rattle.router_core.specs.Reconfiguring.{IsPlaced, change_fault};
 ghost use Rattle.ripng_world.specs.Network.{config_of};
 
-use crate::network::{NetInterface, NetRouter};
+use crate::network::{NetInterface, NetRouter, Node};
 use route_table::{Moment, RouteStore};
-use router_core::{Answer, Arrival, Router};
+use router_core::{Answer, Arrival, Change, ReconfigureRefused, Router};
 use std::alloc::{AllocError, Global};
 use std::marker::Model;
 
-/// A router with the links of its interfaces.
+/// A router, and what it was asked to be when it started. Its costs and owned prefixes may be others by now.
 #[derive(Drop)]
 pub struct Station<S: RouteStore> {
-    interfaces: Vec<NetInterface>,
+    node: Node,
     router: Router<S>,
 }
 
 impl<S: RouteStore> Model for Station<S> {
     ghost use Rattle.std.specs.Coded.{codes};
     ghost use Rattle.std.specs.FinMap as map_of;
-    ghost use Rattle.std.specs.Prelude.{◌≡◌, map};
+    ghost use Rattle.std.specs.Prelude.{◌≡◌, length};
     ghost use Rattle.prefix6.specs.Prefix.{prefix_cmp};
     ghost use Rattle.prefix6.specs.contracts.prefix.Prefix as prefix;
     ghost use Rattle.route_table.specs.contracts.route.Route as route;
@@ -31,16 +32,9 @@ impl<S: RouteStore> Model for Station<S> {
 
     ghost coded = { Prim.hlevel (codes, map_of.code {R = prefix_cmp} prefix.the_row.coded route.the_row.coded) };
 
-    ghost view = { λ s. record {
-      node = record {
-        interfaces = s.interfaces.items;
-        prefixes = s.router.config.prefixes;
-        quiet = s.router.config.quiet;
-      };
-      state = s.router;
-    } };
+    ghost view = { λ s. record { node = s.node; state = s.router } };
 
-    ghost invariant = { λ s. map (λ i. i.interface) s.interfaces.items ≡ s.router.config.interfaces };
+    ghost invariant = { λ s. length s.router.config.interfaces ≡ length s.node.interfaces };
 }
 
 impl<S: RouteStore> Station<S> {
@@ -57,14 +51,20 @@ impl<S: RouteStore> Station<S> {
         ensures starts { IfOk result (λ r. Starts (config_of router) now r.1 r.0.state) }
     {
         let NetRouter { interfaces, config } = router;
+        let mut prefixes = Vec::new(alloc);
+        prefixes.extend_from_slice(config.prefixes())?;
+        let node = Node {
+            interfaces,
+            prefixes,
+            quiet: config.is_quiet(),
+        };
         let (router, answer) = Router::start(alloc, config, now)?;
-        Ok((Station { interfaces, router }, answer))
+        Ok((Station { node, router }, answer))
     }
 
     /// The router.
     pub fn router(&self) -> &Router<S>
-        ensures value { result.now ≡ self.now.state }
-        ensures config { self.now.state.config ≡ config_of self.now.node }
+        ensures { result.now ≡ self.now.state }
     {
         &self.router
     }
@@ -73,13 +73,13 @@ impl<S: RouteStore> Station<S> {
     pub fn interface(&self, iface: usize) -> Option<NetInterface>
         ensures { result ≡ slice_get self.now.node.interfaces iface }
     {
-        self.interfaces.get(iface).copied()
+        self.node.interfaces.get(iface).copied()
     }
 
     /// No answer to so many bytes has more datagrams than this.
     pub fn answer_room(&self, bytes: usize) -> usize
         ensures value { result ≡ max (map_of.len self.now.state.table) (bytes / 20) }
-        ensures configured { self.now.state.config ≡ config_of self.now.node }
+        ensures interfaces { length self.now.state.config.interfaces ≡ length self.now.node.interfaces }
     {
         self.router.routes().len().max(bytes / 20)
     }
@@ -136,5 +136,19 @@ impl<S: RouteStore> Station<S> {
         ensures err { OnErr result (self.new ≡ self.old) }
     {
         self.router.restart(now)
+    }
+    /// The configuration of the router is changed.
+    ///
+    /// # Errors
+    /// The first test that the change fails, else want of memory; the router is then as it was.
+    pub fn reconfigure(&mut self, now: Moment, change: Change) -> Result<Answer, ReconfigureRefused>
+        requires { IsPlaced (config_of self.old.node) change }
+        ensures moves { IfOk result (λ answer. Moves self.old.state (Happening.Reconfigures now change) answer self.new.state) }
+        ensures silent { IfOk result (λ answer. answer.sends ≡ []) }
+        ensures node { self.new.node ≡ self.old.node }
+        ensures refused { IfErr result (λ why. why ≡ unwrap_or (change_fault self.old.state.config self.old.state.table change) ReconfigureRefused.OutOfMemory) }
+        ensures err { OnErr result (self.new ≡ self.old) }
+    {
+        self.router.reconfigure(now, change)
     }
 }

@@ -5,7 +5,7 @@ ghost use Rattle.std.specs.Prelude.{◌≡◌, IfOk, length};
 use crate::{Event, Lab, LabError, NetConfig, NetInterface, NetRefused, Node};
 use prefix6::{Addr6, Prefix, PrefixError};
 use route_table::{Moment, RouteStore, SortedRoutes};
-use router_core::{Arrival, ConfigRefused, Interface};
+use router_core::{Arrival, Change, ConfigRefused, Interface, ReconfigureRefused};
 use std::alloc::{AllocError, Global};
 use std::test::Fail;
 
@@ -186,5 +186,85 @@ fn a_stranger_sends_no_heard_response(rt: HostRuntime) -> Result<(), Fail> {
         };
         assert_eq!(rt; lab.step(&stranger).err(), refusal);
     }
+    Ok(())
+}
+
+fn cost(router: usize, iface: usize, cost: u8, now: Moment) -> Event<'static> {
+    Event::Reconfigure {
+        router,
+        now,
+        change: Change::Cost { iface, cost },
+    }
+}
+
+fn gain(router: usize, prefix: Prefix, tag: u16, now: Moment) -> Event<'static> {
+    Event::Reconfigure {
+        router,
+        now,
+        change: Change::Own { prefix, tag },
+    }
+}
+
+fn give_up(router: usize, prefix: Prefix, now: Moment) -> Event<'static> {
+    Event::Reconfigure {
+        router,
+        now,
+        change: Change::Disown { prefix },
+    }
+}
+
+#[test]
+fn a_change_is_refused(rt: HostRuntime) -> Result<(), Fail> {
+    let now = Moment::new(0).ok_or("a moment")?;
+    let mut lab = lab(rt.alloc(), now)?;
+    for (event, refusal) in [
+        (cost(2, 2, 0, now), LabError::NoSuchRouter),
+        (cost(0, 2, 0, now), LabError::NoSuchInterface),
+        (
+            cost(0, 0, 0, now),
+            LabError::ReconfigureRefused(ReconfigureRefused::BadCost),
+        ),
+        (
+            gain(0, prefix()?, 8, now),
+            LabError::ReconfigureRefused(ReconfigureRefused::AlreadyOwned),
+        ),
+        (
+            give_up(1, prefix()?, now),
+            LabError::ReconfigureRefused(ReconfigureRefused::NotOwned),
+        ),
+    ] {
+        assert_eq!(rt; lab.step(&event).err(), Some(refusal));
+    }
+    assert!(rt; lab.changes_done().is_empty());
+    Ok(())
+}
+
+#[test]
+fn changes_are_listed_as_they_are_done(rt: HostRuntime) -> Result<(), Fail> {
+    let now = Moment::new(0).ok_or("a moment")?;
+    let mut lab = lab(rt.alloc(), now)?;
+    let events = [
+        cost(1, 1, 7, now),
+        give_up(0, prefix()?, now),
+        gain(1, prefix()?, 5, now),
+        gain(1, prefix()?, 6, now),
+    ];
+    let refusal = LabError::ReconfigureRefused(ReconfigureRefused::AlreadyOwned);
+    assert_eq!(rt; lab.run(&events), (3, Err(refusal)));
+    let done = [
+        (1, Change::Cost { iface: 1, cost: 7 }),
+        (0, Change::Disown { prefix: prefix()? }),
+        (
+            1,
+            Change::Own {
+                prefix: prefix()?,
+                tag: 5,
+            },
+        ),
+    ];
+    assert!(rt; lab.changes_done() == done.as_slice());
+    let router = lab.router(1).ok_or("a router")?;
+    let route = router.routes().get(&prefix()?).ok_or("a route")?;
+    assert_eq!(rt; (route.metric(), route.tag()), (1, 5));
     Ok(())
 }

@@ -5,7 +5,7 @@ use crate::words::{BadLine, addr, bytes, moment, number, prefix};
 use prefix6::{Addr6, Prefix};
 use ripng_world::{Event, NetInterface};
 use route_table::Moment;
-use router_core::{Arrival, Interface};
+use router_core::{Arrival, Change, Interface};
 use std::alloc::Global;
 
 /// What a line says. Routers, interfaces and datagrams are numbered from 0.
@@ -20,7 +20,8 @@ pub enum Line {
     /// `cold NOW`: the network is checked, and all its routers start.
     Cold { now: Moment },
     /// `deliver N R I NOW`, a datagram comes to an interface of its link; `tick R NOW WORD`, time passes at a router;
-    /// `restart R NOW`, a router comes up again.
+    /// `restart R NOW`, a router comes up again; `cost R I NOW COST`, an interface costs another amount;
+    /// `gain R NOW PREFIX TAG`, a router owns a prefix from now on; `drop R NOW PREFIX`, it owns it no longer.
     Event(Event<'static>),
     /// `stranger R I NOW SOURCE PORT HOP group HEX`, or `peer` for `group`: a datagram of no router comes.
     Stranger { router: usize, datagram: Foreign },
@@ -125,6 +126,36 @@ fn read_event(words: &[&str]) -> Result<Event<'static>, BadLine> {
         ["restart", router, now] => Ok(Event::Restart {
             router: number(router)?,
             now: moment(now)?,
+        }),
+        words => read_change(words),
+    }
+}
+
+// The configuration of a router that runs is changed.
+fn read_change(words: &[&str]) -> Result<Event<'static>, BadLine> {
+    match words {
+        ["cost", router, iface, now, cost] => Ok(Event::Reconfigure {
+            router: number(router)?,
+            now: moment(now)?,
+            change: Change::Cost {
+                iface: number(iface)?,
+                cost: number(cost)?,
+            },
+        }),
+        ["gain", router, now, gained, tag] => Ok(Event::Reconfigure {
+            router: number(router)?,
+            now: moment(now)?,
+            change: Change::Own {
+                prefix: prefix(gained)?,
+                tag: number(tag)?,
+            },
+        }),
+        ["drop", router, now, dropped] => Ok(Event::Reconfigure {
+            router: number(router)?,
+            now: moment(now)?,
+            change: Change::Disown {
+                prefix: prefix(dropped)?,
+            },
         }),
         _ => Err(BadLine),
     }

@@ -72,8 +72,17 @@ impl fmt::Display for Refusal {
         match self {
             Refusal::BadLine => write!(f, "BadLine"),
             Refusal::Network(refused) => write_network(*refused, f),
-            Refusal::Event(error) => write!(f, "{} {}", error.number(), error.name()),
+            Refusal::Event(error) => write_event(*error, f),
         }
+    }
+}
+
+// An event is refused, and if by a router that is to be changed, why.
+fn write_event<W: fmt::Write>(error: LabError, f: &mut fmt::Formatter<W>) -> fmt::Result {
+    write!(f, "{} {}", error.number(), error.name())?;
+    match error {
+        LabError::ReconfigureRefused(why) => write!(f, " {} {}", why.number(), why.name()),
+        _ => Ok(()),
     }
 }
 

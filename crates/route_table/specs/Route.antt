@@ -1,5 +1,5 @@
 -- Routes (RFC 2080, 2.2 and 2.3).
-use Rattle.std.specs.Prelude.{◌≡◌, ℕ, ◌≤◌, ◌==◌, Bool, true, false, Option, Some, None, IsTrue, if◌then◌else◌}
+use Rattle.std.specs.Prelude.{◌≡◌, ℕ, ◌≤◌, ◌==◌, ◌&&◌, ◌||◌, Bool, true, false, Option, Some, None, IsTrue, if◌then◌else◌}
 use Rattle.route_table.specs.declared.route.Origin.{Origin}
 use Rattle.route_table.specs.declared.route.Origin.TheVariants.{Own, Learned}
 use Rattle.route_table.specs.declared.route.Clock.{Clock}
@@ -40,7 +40,7 @@ deadline r = deadline_by_clock r.clock
 
 -- the clock of a route of this origin and metric: how it ages, by what it is
 abbrev pub clock_of : Origin → ℕ → ℕ → Clock
-clock_of Own metric until = Fixed
+clock_of Own metric until = if metric == infinity then Dying until else Fixed
 clock_of (Learned iface from next_hop) metric until = if metric == infinity then Dying until else Live until
 
 -- the deadline of a clock, or 0
@@ -49,10 +49,11 @@ until_of Fixed = 0
 until_of (Live until) = until
 until_of (Dying until) = until
 
--- the metric is usable or infinity, infinity exactly where the route is dying, and an own route is exactly one that never ages
+-- the metric is usable or infinity, infinity exactly where the route is dying; one that never ages is exactly an own one of
+-- metric 1, and an own one never ages or is dying
 pub record IsRoute (r : RouteValue) : Type 0 where
   pub positive : 1 ≤ r.metric
   pub in_range : r.metric ≤ infinity
   pub dying : is_dying r.clock ≡ (r.metric == infinity)
-  pub own : is_own r.origin ≡ is_fixed r.clock
-  pub direct : IsTrue (is_own r.origin) → r.metric ≡ 1
+  pub fixed : is_fixed r.clock ≡ (is_own r.origin && r.metric == 1)
+  pub own : IsTrue (is_own r.origin) → IsTrue (is_fixed r.clock || is_dying r.clock)

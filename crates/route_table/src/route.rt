@@ -1,7 +1,7 @@
 //! Routes, and what may become of them (RFC 2080, sections 2.2 and 2.3).
 
 ghost use Rattle.std.specs.Prelude.{◌≡◌, ◌≤◌, ◌<◌, true, false};
-ghost use Rattle.route_table.specs.Route.{IsRoute, infinity, is_fixed, is_own, deadline};
+ghost use Rattle.route_table.specs.Route.{IsRoute, infinity, is_own, deadline};
 
 use crate::moment::Deadline;
 use prefix6::Addr6;
@@ -38,8 +38,9 @@ pub enum Clock {
 }
 
 /// A route to a prefix. Its metric is 1 to 15 hops, or 16 for unreachable exactly while it is
-/// dying. A router's own route is exactly one that never ages, and has metric 1. So the clock is
-/// kept as its deadline alone, and the fields stand in an order that leaves no gaps.
+/// dying. One that never ages is exactly a router's own route of metric 1; an own route never ages
+/// or, once the router has given its prefix up, is dying. So origin and metric say which clock it
+/// is, and only its deadline is kept; the fields stand in an order that leaves no gaps.
 #[derive(Clone, Copy, Debug, PartialEq, Eq)]
 pub struct Route {
     metric: u8,
@@ -134,9 +135,8 @@ impl Route {
     }
 
     /// The same route, now unreachable and to be deleted at a deadline. It is marked as changed; its
-    /// tag and origin stay. A route that never ages is never lost.
+    /// tag and origin stay.
     pub fn lost(self, until: Deadline) -> Route
-        requires ages { is_fixed self.clock ≡ false }
         ensures { result ≡ record self {
           metric = infinity;
           clock = Clock.Dying until;
@@ -186,15 +186,12 @@ impl Route {
         ensures value { result ≡ self.now.clock }
         ensures lawful { IsRoute self.now }
     {
+        if self.metric == INFINITY {
+            return Clock::Dying(self.until);
+        }
         match self.origin {
             Origin::Own => Clock::Fixed,
-            Origin::Learned { .. } => {
-                if self.metric == INFINITY {
-                    Clock::Dying(self.until)
-                } else {
-                    Clock::Live(self.until)
-                }
-            }
+            Origin::Learned { .. } => Clock::Live(self.until),
         }
     }
 
@@ -202,6 +199,9 @@ impl Route {
     pub fn deadline(&self) -> Option<Deadline>
         ensures { result ≡ deadline self.now }
     {
+        if self.metric == INFINITY {
+            return Some(self.until);
+        }
         match self.origin {
             Origin::Own => None,
             Origin::Learned { .. } => Some(self.until),

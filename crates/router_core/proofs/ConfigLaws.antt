@@ -30,13 +30,13 @@ passes_at {F = F} f n (y ∷ xs) (suc i) x is h =
     subst (λ (m : ℕ). EachPasses {F = F} (f (m, x))) e (passes_at f (n + 1) xs i x is rest)
 
 module _ (c : Config) (lawful : IsConfig c) where
-  all_pass : EachPasses (config_tests c)
+  pub all_pass : EachPasses (config_tests c)
   all_pass = each_passes (config_tests c) lawful.passes
 
-  interfaces_pass : EachPasses (each_tested interface_tests c.interfaces)
+  pub interfaces_pass : EachPasses (each_tested interface_tests c.interfaces)
   interfaces_pass = (passes-append (each_tested interface_tests c.interfaces) ((nat_lt OWNED_LIMIT (length c.prefixes), ConfigRefused.TooManyPrefixes) ∷ each_tested prefix_tests c.prefixes) all_pass.1.1).0
 
-  prefixes_pass : (nat_lt OWNED_LIMIT (length c.prefixes) ≡ false) × EachPasses (each_tested prefix_tests c.prefixes)
+  pub prefixes_pass : (nat_lt OWNED_LIMIT (length c.prefixes) ≡ false) × EachPasses (each_tested prefix_tests c.prefixes)
   prefixes_pass = (passes-append (each_tested interface_tests c.interfaces) ((nat_lt OWNED_LIMIT (length c.prefixes), ConfigRefused.TooManyPrefixes) ∷ each_tested prefix_tests c.prefixes) all_pass.1.1).1
 
   -- there are few interfaces and few prefixes
@@ -50,7 +50,7 @@ module _ (c : Config) (lawful : IsConfig c) where
   some_interface = let h = all_pass.0 in grind (arith, nat_tests, h)
 
   module _ (i : ℕ) (x : Interface) (is : slice_get c.interfaces i ≡ Some x) where
-    interface_passes : EachPasses (interface_tests (take (0 + i) c.interfaces) x)
+    pub interface_passes : EachPasses (interface_tests (take (0 + i) c.interfaces) x)
     interface_passes = passes_at (λ t. interface_tests (take t.0 c.interfaces) t.1) 0 c.interfaces i x is interfaces_pass
 
     -- each MTU is 1,280 to 65,535 bytes

@@ -18,3 +18,5 @@ mod DueRoutes
 mod EmptyRequests
 mod Silence
 mod RouterSteps
+pub mod OwnedStay
+mod ConfigChanges

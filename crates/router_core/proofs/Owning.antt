@@ -9,7 +9,7 @@ use Rattle.prefix6.proofs.PrefixLaws.{prefixes_total, exact_prefixes}
 use Rattle.route_table.specs.Route.{RouteValue}
 use Rattle.route_table.specs.Table.{Table}
 use Rattle.router_core.specs.Config.{Config, IsConfig}
-use Rattle.router_core.specs.Machine.{owned_route}
+use Rattle.router_core.specs.Owning.{owned_route}
 use Rattle.router_core.proofs.ConfigLaws.{prefix_is_new}
 use Rattle.router_core.proofs.HearingSteps.{take_push, same_as_key}
 

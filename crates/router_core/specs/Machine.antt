@@ -1,15 +1,12 @@
 -- The steps of a router: what it may answer, and what it then is (RFC 2080, 2.3 to 2.5).
-use Rattle.std.specs.Prelude.{◌≡◌, ℕ, ◌+◌, ◌%◌, max, ◌&&◌, nat_le, Bool, false, if◌then◌else◌, MatchBool, MatchOption, List, [], map, Some, None}
+use Rattle.std.specs.Prelude.{◌≡◌, ℕ, ◌+◌, ◌%◌, max, ◌&&◌, nat_le, Bool, if◌then◌else◌, MatchBool, MatchOption, List, [], map, Some, None}
 use Rattle.std.specs.List.{list_any}
 use Rattle.std.specs.FinMap as map_of
 use Rattle.ripng_wire.specs.declared.rte.Rte.{Rte}
 use Rattle.ripng_wire.specs.declared.rte.Command.TheVariants.{Request, Response}
 use Rattle.ripng_wire.specs.Layout.{Spells}
 use Rattle.ripng_wire.specs.Wire.{is_response}
-use Rattle.route_table.specs.Route.{RouteValue}
 use Rattle.route_table.specs.Table.{Table}
-use Rattle.route_table.specs.declared.route.Origin.TheVariants.{Own}
-use Rattle.route_table.specs.declared.route.Clock.TheVariants.{Fixed}
 use Rattle.router_core.specs.Config.{Config, cost_at}
 use Rattle.router_core.specs.Received.{Received}
 use Rattle.router_core.specs.Faults.{fault}
@@ -19,9 +16,12 @@ use Rattle.router_core.specs.Ageing.{aged_table, unmarked}
 use Rattle.router_core.specs.Output.{Message, AreSpelled, start_messages, update_messages, reply_messages, every_route, is_changed}
 use Rattle.fib.specs.Forwarding.{Forwarding}
 use Rattle.router_core.specs.Changes.{forwards, changes_of_start, changes_of_ageing, changes_of_hearing}
+use Rattle.router_core.specs.Owning.{owned_route}
+use Rattle.router_core.specs.Reconfiguring.{IsNamed, change_fault, changed_config, changed_table, changes_of_change}
 use Rattle.router_core.specs.declared.answer.Answer.{Answer}
 use Rattle.router_core.specs.declared.arrival.Fault.{Fault}
 use Rattle.router_core.specs.declared.answer.Note.{Note}
+use Rattle.router_core.specs.declared.reconfiguring.Change.{Change}
 use Rattle.fib.specs.declared.change.RouteChange.{RouteChange}
 
 pub record State : Type 0 where
@@ -36,6 +36,7 @@ pub data Happening : Type 0 where
   Arrives : Received → Happening
   Ticks : (now word : ℕ) → Happening
   Restarts : (now : ℕ) → Happening
+  Reconfigures : (now : ℕ) → Change → Happening
 
 -- an answer with no fault, of these messages, changes and notes
 pub record Tells (messages : List Message) (changes : List RouteChange) (notes : List Note) (answer : Answer) : Type 0 where
@@ -43,10 +44,6 @@ pub record Tells (messages : List Message) (changes : List RouteChange) (notes :
   pub sends : AreSpelled messages answer.sends
   pub changes_are : answer.changes ≡ changes
   pub notes_are : answer.notes ≡ notes
-
--- an owned prefix never ages and is never replaced
-abbrev pub owned_route : ℕ → RouteValue
-owned_route tag = record { metric = 1; tag = tag; origin = Own; clock = Fixed; changed = false }
 
 abbrev pub owned_table : Config → Table
 owned_table config = map_of.from_entries (map (λ t. (t.0, owned_route t.1)) config.prefixes)
@@ -121,10 +118,23 @@ pub record Updates (old : State) (now word : ℕ) (answer : Answer) (new : State
   pub state : new ≡ ticked old now word
   pub told : Tells (tick_messages old now) (changes_of_ageing now old.table) [] answer
 
+-- the state after a change of the configuration
+abbrev pub reconfigured : State → ℕ → Change → State
+reconfigured old now c =
+    record old { config = changed_config old.config c; table = changed_table now old.table c; last = now }
+
+-- a change of the configuration is done, and nothing is sent
+pub record Obeys (old : State) (now : ℕ) (c : Change) (answer : Answer) (new : State) : Type 0 where
+  pub named : IsNamed old.config c
+  pub allowed : change_fault old.config old.table c ≡ None
+  pub state : new ≡ reconfigured old now c
+  pub told : Tells [] (changes_of_change now old.table c) [] answer
+
 -- the router may answer so, and is then so. Time does not go back, but at a restart
 abbrev pub Moves : State → Happening → Answer → State → Type 0
 Moves old (Restarts now) answer new = Starts old.config now answer new
 Moves old (Ticks now word) answer new = Updates old (max old.last now) word answer new
+Moves old (Reconfigures now c) answer new = Obeys old (max old.last now) c answer new
 Moves old (Arrives x) answer new =
     MatchOption (fault old.config x)
     (Accepts old (max old.last x.now) x answer new)
@@ -135,3 +145,4 @@ abbrev pub forwards_before : State → Happening → Forwarding
 forwards_before old (Restarts now) = map_of.empty
 forwards_before old (Ticks now word) = forwards old.table
 forwards_before old (Arrives x) = forwards old.table
+forwards_before old (Reconfigures now c) = forwards old.table

@@ -1,7 +1,7 @@
 //! What an offer makes of the route to its prefix: the rules of adoption (RFC 2080, section 2.4.2).
 
-ghost use Rattle.std.specs.Prelude.{◌≡◌, ◌≤◌, ◌<◌, false};
-ghost use Rattle.route_table.specs.Route.{infinity, is_own};
+ghost use Rattle.std.specs.Prelude.{◌≡◌, ◌≤◌, ◌<◌};
+ghost use Rattle.route_table.specs.Route.{infinity};
 ghost use Rattle.route_table.specs.declared.route.Clock.TheVariants.{Live};
 ghost use Rattle.router_core.specs.Adoption.{metric_through, is_reachable, taken, refreshed, is_through, is_repeated, is_preferred, adopted_by_clock, adopted};
 
@@ -113,7 +113,6 @@ impl Gateway {
 
     // A live route whose own gateway speaks.
     fn refresh(&self, offer: &Offer, route: Route) -> Route
-        requires { is_own route.origin ≡ false }
         ensures { result ≡ refreshed self.now offer.now route }
     {
         if self.metric_through(offer) < INFINITY {

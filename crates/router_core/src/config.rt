@@ -1,13 +1,16 @@
 //! What a router is configured with: its interfaces, the prefixes that it owns, and whether it keeps quiet.
 
-ghost use Rattle.std.specs.Prelude.{◌≡◌, All, Bool, IfOk, OnOk};
+ghost use Rattle.std.specs.Prelude.{◌≡◌, ◌<◌, true, false, not, All, Bool, IfOk, OnErr, OnOk, length};
 ghost use Rattle.std.specs.Result.{result_err};
-ghost use Rattle.prefix6.specs.Prefix.{IsPrefix};
+ghost use Rattle.prefix6.specs.Prefix.{IsPrefix, is_routable, same_prefix};
 ghost use Rattle.ripng_wire.specs.Wire.{first_failing};
 ghost use Rattle.router_core.specs.Config.{IsConfig, config, config_fault, each_tested, interface_tests, prefix_tests, is_own_address, has_address, has_prefix, is_usable_cost, is_usable_mtu, refused_name, refused_number};
+ghost use Rattle.router_core.specs.Reconfiguring.{changed_config};
 
+use crate::reconfiguring::Change;
 use prefix6::{Addr6, Prefix};
 use route_table::INFINITY;
+use std::alloc::AllocError;
 use std::marker::Model;
 
 /// An interface of a router.
@@ -113,13 +116,17 @@ fn has_address(interfaces: &[Interface], addr: Addr6) -> bool
 
 // Whether the prefix is one of those that are owned.
 fn has_prefix(owned: &[(Prefix, u16)], prefix: Prefix) -> bool
-    ensures { result ≡ has_prefix owned.now prefix }
+    ensures value { result ≡ has_prefix owned.now prefix }
+    ensures lawful { IsPrefix prefix }
 {
-    owned.iter().any(|(p, _)| p.addr() == prefix.addr() && p.len() == prefix.len())
+    let (addr, len) = (prefix.addr(), prefix.len());
+    owned
+        .iter()
+        .any(|(p, _)| p.addr() == addr && p.len() == len)
 }
 
-// Whether a route over it may be usable.
-fn is_usable_cost(cost: u8) -> bool
+/// Whether a route over it may be usable.
+pub fn is_usable_cost(cost: u8) -> bool
     ensures { result ≡ is_usable_cost cost }
 {
     1 <= cost && cost < INFINITY
@@ -253,5 +260,46 @@ impl RouterConfig {
         ensures { result ≡ is_own_address self.now addr }
     {
         has_address(&self.interfaces, addr)
+    }
+    /// Whether the prefix is owned, with whatever tag.
+    pub fn owns(&self, prefix: Prefix) -> bool
+        ensures value { result ≡ has_prefix self.now.prefixes prefix }
+        ensures lawful { IsPrefix prefix }
+    {
+        has_prefix(&self.prefixes, prefix)
+    }
+
+    /// An interface costs another amount.
+    pub(crate) fn set_cost(&mut self, iface: usize, cost: u8)
+        requires there { iface < length self.old.interfaces }
+        requires usable { is_usable_cost cost ≡ true }
+        ensures { self.new ≡ changed_config self.old (Change.Cost iface cost) }
+    {
+        self.interfaces[iface].cost = cost;
+    }
+
+    /// One more prefix is owned.
+    ///
+    /// # Errors
+    /// Only want of memory; the configuration is then as it was.
+    pub(crate) fn own(&mut self, prefix: Prefix, tag: u16) -> Result<(), AllocError>
+        requires prefix { IsPrefix prefix }
+        requires routable { is_routable prefix ≡ true }
+        requires new { has_prefix self.old.prefixes prefix ≡ false }
+        requires room { length self.old.prefixes < OWNED_LIMIT }
+        ensures done { OnOk result (self.new ≡ changed_config self.old (Change.Own prefix tag)) }
+        ensures err { OnErr result (self.new ≡ self.old) }
+    {
+        self.prefixes.push((prefix, tag))?;
+        Ok(())
+    }
+
+    /// A prefix is owned no longer.
+    pub(crate) fn disown(&mut self, prefix: Prefix)
+        ensures { self.new ≡ changed_config self.old (Change.Disown prefix) }
+    {
+        let (addr, len) = (prefix.addr(), prefix.len());
+        self.prefixes
+            .retain(|(p, _)| !(p.addr() == addr && p.len() == len));
     }
 }

@@ -20,8 +20,8 @@ use prefix6::{Addr6, Prefix};
 use ripng_wire::{NEXT_HOP_METRIC, Rte, Rtes};
 use route_table::{AddRefused, Route, RouteStore};
 
-// Puts a route in the place of the old one, or adds it where there is none.
-fn place<S: RouteStore>(
+/// Puts a route in the place of the old one, or adds it where there is none.
+pub fn place<S: RouteStore>(
     store: &mut S,
     prefix: Prefix,
     is_held: bool,

@@ -11,6 +11,7 @@ ghost use Rattle.router_core.specs.Config.{Config};
 ghost use Rattle.router_core.specs.Hearing.{Hearing, route_after, held_after};
 ghost use Rattle.router_core.specs.Machine.{State, Happening, Moves, Starts, forwards_before};
 ghost use Rattle.router_core.specs.Output.{pieces};
+ghost use Rattle.router_core.specs.Owning.{OwnsOnce, HoldsOwned};
 ghost use Rattle.router_core.specs.declared.answer.Answer.{Answer};
 
 /// The changes of each answer, replayed onto the forwarding table before it, give that after it.
@@ -38,4 +39,13 @@ pub fn pieces_join()
         → slice_get (pieces size xs) place ≡ Some piece → length piece ≡ size }
     ensures sized { (size place : ℕ) (xs piece : List Rte) → 0 < size → slice_get (pieces size xs) place ≡ Some piece
         → (0 < length piece) × (length piece ≤ size) }
+{}
+
+/// A router that started has its own route to each owned prefix, and so has one that moved on, whatever it heard or was
+/// changed to.
+pub fn owned_routes_stay()
+    ensures starts { (config : Config) (now : ℕ) (answer : Answer) (new : State)
+        → OwnsOnce config.prefixes → Starts config now answer new → HoldsOwned new.config new.table }
+    ensures moves { (old new : State) (happening : Happening) (answer : Answer)
+        → Moves old happening answer new → HoldsOwned old.config old.table → HoldsOwned new.config new.table }
 {}

@@ -7,6 +7,7 @@
 //! | `hear-sites IFACE NOW SOURCE FIRST COUNT METRIC` | a neighbor's Response arrives, with so many prefixes `2001:db8:N::/48` |
 //! | `hear-beginnings IFACE NOW SOURCE FIRST COUNT METRIC` | each beginning of that Response arrives, the shortest first; how many have which fault is written |
 //! | `tick NOW WORD`, `restart NOW` | time passes; the router comes up again |
+//! | `cost IFACE NOW COST`, `gain NOW PREFIX TAG`, `drop NOW PREFIX` | the router's configuration is changed; where that is refused, the refusal is written |
 //! | `count COMMAND` | does the command, and writes numbers in place of a long answer |
 //! | `show`, `route PREFIX`, `size`, `timers` | writes all that the router holds, one route, how many there are, its moments |
 
@@ -16,8 +17,8 @@ use crate::reading::{
 use crate::writing::{write_answer, write_route, write_router, write_sizes, write_timers};
 use prefix6::parse_prefix;
 use ripng_wire::WireError;
-use route_table::{RouteStore, SortedRoutes};
-use router_core::{Answer, Arrival, Fault, Router};
+use route_table::{Moment, RouteStore, SortedRoutes};
+use router_core::{Answer, Arrival, Change, Fault, Router};
 use std::alloc::Global;
 use std::process::Abort;
 use std::test::Fail;
@@ -93,6 +94,52 @@ fn answer_of(alloc: Global, router: &mut TestRouter, words: &[&str]) -> Result<A
     }
 }
 
+// The change that a command asks for.
+fn change_of(words: &[&str]) -> Result<(Moment, Change), Fail> {
+    match words {
+        ["cost", iface, now, cost] => Ok((
+            moment(*now)?,
+            Change::Cost {
+                iface: iface.parse::<usize>()?,
+                cost: cost.parse::<u8>()?,
+            },
+        )),
+        ["gain", now, prefix, tag] => Ok((
+            moment(*now)?,
+            Change::Own {
+                prefix: parse_prefix(*prefix)?,
+                tag: tag.parse::<u16>()?,
+            },
+        )),
+        ["drop", now, prefix] => Ok((
+            moment(*now)?,
+            Change::Disown {
+                prefix: parse_prefix(*prefix)?,
+            },
+        )),
+        _ => Err(Fail::from("no such change")),
+    }
+}
+
+// Changes the router's configuration, and writes what it answers.
+fn reconfigure(
+    out: &mut String,
+    alloc: Global,
+    router: &mut TestRouter,
+    words: &[&str],
+) -> Result<(), Fail> {
+    let (now, change) = change_of(words)?;
+    if let Change::Cost { iface, .. } = change {
+        if iface >= router.config().interfaces().len() {
+            return Err(Fail::from("no such interface"));
+        }
+    }
+    match router.reconfigure(now, change) {
+        Ok(answer) => Ok(write_answer(out, alloc, &answer)?),
+        Err(why) => Ok(writeln!(out, "refused {} {}", why.number(), why.name())?),
+    }
+}
+
 fn show_route(out: &mut String, router: &TestRouter, word: &str) -> Result<(), Fail> {
     let prefix = parse_prefix(word)?;
     match router.routes().get(&prefix) {
@@ -114,6 +161,7 @@ fn obey(
         ["size"] => Ok(writeln!(out, "{}", router.routes().len())?),
         ["timers"] => Ok(write_timers(out, router)?),
         ["hear-beginnings", rest @ ..] => hear_beginnings(out, alloc, router, rest),
+        ["cost" | "gain" | "drop", ..] => reconfigure(out, alloc, router, words),
         ["count", rest @ ..] => Ok(write_sizes(out, alloc, &answer_of(alloc, router, rest)?)?),
         _ => Ok(write_answer(out, alloc, &answer_of(alloc, router, words)?)?),
     }

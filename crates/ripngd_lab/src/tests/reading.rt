@@ -17,7 +17,31 @@ cold 0
 ";
 
 /// What a tenth line prints.
-const TENTH: [(&str, &str); 24] = [
+const TENTH: [(&str, &str); 36] = [
+    ("cost 3 9 0 0", "line 10 refused 1 NoSuchRouter\n"),
+    ("cost 0 1 0 0", "line 10 refused 2 NoSuchInterface\n"),
+    (
+        "cost 0 0 0 0",
+        "line 10 refused 7 ReconfigureRefused 31 BadCost\n",
+    ),
+    ("cost 0 0 0 256", "line 10 refused BadLine\n"),
+    ("cost 0 0 0 15", ""),
+    ("gain 3 0 ff00::/8 0", "line 10 refused 1 NoSuchRouter\n"),
+    (
+        "gain 0 0 ff00::/8 0",
+        "line 10 refused 7 ReconfigureRefused 32 PrefixNotAllowed\n",
+    ),
+    (
+        "gain 0 0 2001:db8::/32 8",
+        "line 10 refused 7 ReconfigureRefused 33 AlreadyOwned\n",
+    ),
+    ("gain 1 0 2001:db8::/32 8", ""),
+    ("drop 3 0 ::/0", "line 10 refused 1 NoSuchRouter\n"),
+    (
+        "drop 1 0 2001:db8::/32",
+        "line 10 refused 7 ReconfigureRefused 35 NotOwned\n",
+    ),
+    ("drop 0 0 2001:db8::/32", ""),
     ("deliver 0 3 0 0", "line 10 refused 1 NoSuchRouter\n"),
     ("deliver 0 2 1 0", "line 10 refused 2 NoSuchInterface\n"),
     ("deliver 4 1 0 0", "line 10 refused 3 NoSuchDatagram\n"),

@@ -4,7 +4,7 @@ use Rattle.std.proofs.lemmas.List.{take_all}
 use Rattle.prefix6.specs.Prefix.{Prefix6}
 use Rattle.route_table.specs.Route.{RouteValue}
 use Rattle.route_table.specs.Table.{table_limit}
-use Rattle.router_core.specs.Machine.{owned_route}
+use Rattle.router_core.specs.Owning.{owned_route}
 use Rattle.router_core.proofs.ConfigLaws.{few_prefixes}
 use Rattle.router_core.proofs.Owning.{OwnsFirst-none, OwnsFirst-absent, OwnsFirst-next}
 use Rattle.router_core.proofs.Sending.{element_at}

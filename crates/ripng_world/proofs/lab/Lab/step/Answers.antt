@@ -1,11 +1,12 @@
-use Rattle.std.proofs.Common.{◌≡◌, ℕ, List, ◌++◌, map, take, drop, length, subst, ◌∙◌, ap, ap₂}
+use Rattle.std.proofs.Common.{◌≡◌, ℕ, List, [], ◌∷◌, ◌++◌, map, take, drop, length, sym, subst, ◌∙◌, ap, ap₂}
 use Rattle.ripng_world.specs.Events.{event_of}
-use Rattle.ripng_world.specs.Labs.{HasRun}
+use Rattle.ripng_world.specs.Labs.{HasRun, event_fault, lab_of}
 use Rattle.ripng_world.specs.Rounds.{router_of}
 use Rattle.ripng_world.specs.Stations.{StationValue, MoveStations, network_of, world_of}
-use Rattle.ripng_world.specs.World.{sent_by}
+use Rattle.ripng_world.specs.World.{Happens, changes_in, sent_by}
 use Rattle.ripng_world.specs.declared.sent.Sent.{Sent}
-use Rattle.ripng_world.proofs.LabRuns.{backed, least, truth, stepped, stepped_on, written_back}
+use Rattle.ripng_world.proofs.LabRuns.{backed, least, truth, fixed, stepped, stepped_on, written_back}
+use Rattle.ripng_world.proofs.StationMoves.{happened_passes}
 use Rattle.ripng_world.proofs.lab.Lab.step.Goals as goal
 
 pub returns-in_err-check-clause-backed : goal.returns-in_err-check-clause-backed
@@ -17,6 +18,9 @@ returns-in_err-check-clause-least g c = rw (← c.self.view_is) (least _ _ c.sel
 pub returns-in_err-check-clause-truth : goal.returns-in_err-check-clause-truth
 returns-in_err-check-clause-truth g c = rw (← c.self.view_is) (truth _ _ c.self.invariant)
 
+pub returns-in_err-check-clause-fixed : goal.returns-in_err-check-clause-fixed
+returns-in_err-check-clause-fixed g c = rw (← c.self.view_is) (fixed _ _ c.self.invariant)
+
 -- want of memory leaves the stations
 module _ (g : _) (c : goal.After-from_residual-in_err-answer g) where
   same_stations : take c.self.inside.stations.len (c.happen.new.stations ++ drop (length c.happen.new.stations) c.self.inside.stations.items) ≡ c.self.inside.stations.items
@@ -25,8 +29,8 @@ module _ (g : _) (c : goal.After-from_residual-in_err-answer g) where
       ∙ c.in_err-answer.ensures.err ∙ c.deref_mut.ensures.value
 
   kept : HasRun (network_of (take c.self.inside.stations.len (c.happen.new.stations ++ drop (length c.happen.new.stations) c.self.inside.stations.items)))
-      (world_of (take c.self.inside.stations.len (c.happen.new.stations ++ drop (length c.happen.new.stations) c.self.inside.stations.items)) c.happen.new.sent.items)
-  kept = rw (same_stations, c.happen.ensures.sent) c.self.invariant
+      (world_of (take c.self.inside.stations.len (c.happen.new.stations ++ drop (length c.happen.new.stations) c.self.inside.stations.items)) c.happen.new.sent.items c.happen.new.changes.items)
+  kept = rw (same_stations, c.happen.ensures.sent, c.in_err-answer.ensures.kept) c.self.invariant
 
 pub returns-in_err-answer-clause-backed : goal.returns-in_err-answer-clause-backed
 returns-in_err-answer-clause-backed g c = backed _ _ (kept g c)
@@ -37,21 +41,35 @@ returns-in_err-answer-clause-least g c = least _ _ (kept g c)
 pub returns-in_err-answer-clause-truth : goal.returns-in_err-answer-clause-truth
 returns-in_err-answer-clause-truth g c = truth _ _ (kept g c)
 
+pub returns-in_err-answer-clause-fixed : goal.returns-in_err-answer-clause-fixed
+returns-in_err-answer-clause-fixed g c = fixed _ _ (kept g c)
+
 -- what the move left
 module _ (g : _) (c : goal.After-handed_out g) where
   stations : take c.self.inside.stations.len (c.happen.new.stations ++ drop (length c.happen.new.stations) c.self.inside.stations.items) ≡ c.happen.new.stations
   stations = written_back c.self.inside.stations.len c.happen.new.stations c.self.inside.stations.items (c.happen.auto.stations ∙ ap length c.deref_mut.ensures.value) c.self.inside.stations.ok.0
 
-  moves : MoveStations c.self.inside.stations.items c.self.inside.sent.items (event_of c.args.event.now) c.in_ok-answer.answer c.happen.new.stations
+  moves : MoveStations c.self.inside.stations.items c.self.inside.sent.items c.self.inside.changes.items (event_of c.args.event.now) c.in_ok-answer.answer c.happen.new.stations
   moves =
-      subst (λ (ss : List StationValue). MoveStations ss c.self.inside.sent.items (event_of c.args.event.now) c.in_ok-answer.answer c.happen.new.stations)
+      subst (λ (ss : List StationValue). MoveStations ss c.self.inside.sent.items c.self.inside.changes.items (event_of c.args.event.now) c.in_ok-answer.answer c.happen.new.stations)
       c.deref_mut.ensures.value c.in_ok-answer.ensures.moves
 
   added : c.file.new.sent.items ≡ c.self.inside.sent.items ++ map (sent_by (router_of (event_of c.args.event.now))) c.in_ok-answer.answer.sends
   added = c.file.ensures ∙ ap₂ (λ (ds : List Sent) (r : ℕ). ds ++ map (sent_by r) c.in_ok-answer.answer.sends) c.happen.ensures.sent c.router.ensures
 
-  has_run : HasRun (network_of c.happen.new.stations) (world_of c.happen.new.stations c.file.new.sent.items)
-  has_run = stepped_on c.self.inside.stations.items c.happen.new.stations c.self.inside.sent.items c.file.new.sent.items (event_of c.args.event.now) c.in_ok-answer.answer moves added c.self.invariant
+  done : c.happen.new.changes.items ≡ c.self.inside.changes.items ++ changes_in (event_of c.args.event.now ∷ [])
+  done = c.in_ok-answer.ensures.changes
+
+  happens : Happens (network_of c.self.inside.stations.items) (world_of c.self.inside.stations.items c.self.inside.sent.items c.self.inside.changes.items) (event_of c.args.event.now) c.in_ok-answer.answer
+      (world_of c.happen.new.stations c.file.new.sent.items c.happen.new.changes.items)
+  happens =
+      stepped c.self.inside.stations.items c.happen.new.stations c.self.inside.sent.items c.file.new.sent.items c.self.inside.changes.items c.happen.new.changes.items (event_of c.args.event.now)
+      c.in_ok-answer.answer moves added done
+
+  has_run : HasRun (network_of c.happen.new.stations) (world_of c.happen.new.stations c.file.new.sent.items c.happen.new.changes.items)
+  has_run =
+      stepped_on c.self.inside.stations.items c.happen.new.stations c.self.inside.sent.items c.file.new.sent.items c.self.inside.changes.items c.happen.new.changes.items (event_of c.args.event.now)
+      c.in_ok-answer.answer moves added done c.self.invariant
 
 pub invariant_of-self-2 : goal.invariant_of-self-2
 invariant_of-self-2 g c = rw (stations g c) (has_run g c)
@@ -61,7 +79,7 @@ returns-clause-happens g c =
     let answer = c.in_ok-answer.answer in
     rw (← c.self.view_is, stations g c) (
       answer,
-      stepped c.self.inside.stations.items c.happen.new.stations c.self.inside.sent.items c.file.new.sent.items (event_of c.args.event.now) answer (moves g c) (added g c),
+      happens g c,
       c.handed_out.ensures,
     )
 
@@ -73,3 +91,15 @@ returns-clause-least g c = rw (stations g c) (least _ _ (has_run g c))
 
 pub returns-clause-truth : goal.returns-clause-truth
 returns-clause-truth g c = rw (stations g c) (truth _ _ (has_run g c))
+
+pub returns-clause-fixed : goal.returns-clause-fixed
+returns-clause-fixed g c = rw (stations g c) (fixed _ _ (has_run g c))
+
+pub returns-clause-passes : goal.returns-clause-passes
+returns-clause-passes g c =
+    let changes = c.self.inside.changes.items in
+    let none = sym (c.in_ok-check.ensures changes
+    ∙ ap₂ (λ (ss : List StationValue) (ds : List Sent). event_fault (lab_of ss ds changes) (event_of c.args.event.now)) c.deref.ensures.value c.deref-2.ensures.value) in
+    rw (← c.self.view_is)
+    (happened_passes (lab_of c.self.inside.stations.items c.self.inside.sent.items c.self.inside.changes.items) (event_of c.args.event.now) c.in_ok-answer.answer
+    (world_of c.happen.new.stations c.file.new.sent.items c.happen.new.changes.items) none (happens g c))

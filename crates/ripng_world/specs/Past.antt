@@ -1,0 +1,62 @@
+-- All that was in force in a network since its cold start: costs, owners, and the walks at such costs to such owners.
+use Rattle.std.specs.Prelude.{◌≡◌, ◌⊎◌, ℕ, ◌+◌, ◌<◌, ◌≤◌, List, [], ◌∷◌, Some, slice_get}
+use Rattle.std.specs.FinMap as map_of
+use Rattle.prefix6.specs.Prefix.{Prefix6, cleared}
+use Rattle.ripng_wire.specs.declared.rte.Rte.{Rte}
+use Rattle.route_table.specs.Route.{RouteValue, infinity}
+use Rattle.route_table.specs.Table.{Table}
+use Rattle.router_core.specs.declared.reconfiguring.Change.{Change}
+use Rattle.router_core.specs.declared.reconfiguring.Change.TheVariants.{Cost, Own}
+use Rattle.ripng_world.specs.Network.{Network, Owns}
+use Rattle.ripng_world.specs.Walks.{Hop, IsWalk, BeginsAs, end_of, cost_of_interface}
+
+-- a network as it started, and the changes that its routers have done since, each with its router
+pub record Past : Type 0 where
+  pub net : Network
+  pub changes : List (ℕ × Change)
+
+-- nothing was changed yet
+abbrev pub beginning : Network → Past
+beginning net = record { net = net; changes = [] }
+
+abbrev pub WasDone : Past → ℕ → Change → Type 0
+WasDone past router c = (place : ℕ) × (slice_get past.changes place ≡ Some (router, c))
+
+-- the interface has, or had, this cost
+abbrev pub HasCostSince : Past → ℕ → ℕ → ℕ → Type 0
+HasCostSince past router iface cost = (cost ≡ cost_of_interface past.net router iface) ⊎ WasDone past router (Cost iface cost)
+
+-- the router owns, or owned, the prefix with the tag
+abbrev pub OwnsSince : Past → ℕ → Prefix6 → ℕ → Type 0
+OwnsSince past router p tag = Owns past.net router p tag ⊎ WasDone past router (Own p tag)
+
+-- 1, and for each interface that receives a cost that it has or had
+abbrev pub CostsSince : Past → ℕ → List Hop → ℕ → Type 0
+CostsSince past at [] metric = metric ≡ 1
+CostsSince past at (h ∷ walk) metric =
+    (here : ℕ) × (later : ℕ) × HasCostSince past at h.iface here × CostsSince past h.router walk later × (here + later ≡ metric)
+
+-- a walk of that cost to a router that owns or owned the prefix with that tag
+pub record ReachesSince (past : Past) (from : ℕ) (p : Prefix6) (metric tag : ℕ) (walk : List Hop) : Type 0 where
+  pub is_walk : IsWalk past.net from walk
+  pub costs : CostsSince past from walk metric
+  pub owner : OwnsSince past (end_of from walk) p tag
+
+-- a walk has the route's cost, owner, tag and first hop
+abbrev pub IsBackedSince : Past → ℕ → Prefix6 → RouteValue → Type 0
+IsBackedSince past router p r = (walk : List Hop) × ReachesSince past router p r.metric r.tag walk × BeginsAs past.net r.origin walk
+
+-- every route that is not unreachable is backed
+abbrev pub IsTableBackedSince : Past → ℕ → Table → Type 0
+IsTableBackedSince past router table =
+    (p : Prefix6) (r : RouteValue) → map_of.get table p ≡ Some r → r.metric < infinity → IsBackedSince past router p r
+
+-- an entry that is not unreachable tells the cost and tag of a walk from the router
+abbrev pub IsTruthfulSince : Past → ℕ → Rte → Type 0
+IsTruthfulSince past router e =
+    e.metric < infinity → (walk : List Hop) × ReachesSince past router (cleared e.addr e.len) e.metric e.tag walk
+
+-- some walk to an owner has this cost, and none a lower one
+pub record IsLeastSince (past : Past) (from : ℕ) (p : Prefix6) (metric : ℕ) : Type 0 where
+  pub reached : (tag : ℕ) × (walk : List Hop) × ReachesSince past from p metric tag walk
+  pub least : (metric' tag : ℕ) (walk : List Hop) → ReachesSince past from p metric' tag walk → metric ≤ metric'

@@ -1,0 +1,101 @@
+-- Changes of the configuration of a router that runs. The tests, their order and their names are this project's choice.
+use Rattle.std.specs.Prelude.{ℕ, ◌<◌, ◌&&◌, not, nat_le, Bool, true, List, [], ◌∷◌, ◌++◌, length, filter, Option, Some, is_none, unwrap_or, option_map, slice_get, slice_set, codes, ⊤}
+use Rattle.std.specs.List.{cons_option}
+use Rattle.std.specs.FinMap as map_of
+use Rattle.prefix6.specs.Prefix.{Prefix6, IsPrefix, is_routable, same_prefix}
+use Rattle.fib.specs.declared.change.RouteChange.{RouteChange}
+use Rattle.ripng_wire.specs.Wire.{first_failing}
+use Rattle.route_table.specs.Route.{RouteValue}
+use Rattle.route_table.specs.Table.{Table, table_limit, with_value}
+use Rattle.router_core.specs.Adoption.{lost}
+use Rattle.router_core.specs.Changes.{change}
+use Rattle.router_core.specs.Config.{Config, has_prefix, is_usable_cost}
+use Rattle.router_core.specs.Owning.{owned_route}
+use Rattle.router_core.specs.declared.config.Interface.{Interface}
+use Rattle.router_core.specs.declared.config.TheConstants.{OWNED_LIMIT}
+use Rattle.router_core.specs.declared.reconfiguring.Change.{Change}
+use Rattle.router_core.specs.declared.reconfiguring.Change.TheVariants.{Cost, Own, Disown}
+use Rattle.router_core.specs.declared.reconfiguring.ReconfigureRefused.{ReconfigureRefused}
+use Rattle.router_core.specs.declared.reconfiguring.ReconfigureRefused.TheVariants.{BadCost, PrefixNotAllowed, AlreadyOwned, OwnedFull, NotOwned, TableFull, OutOfMemory}
+
+-- a change of cost names an interface of the router
+abbrev pub IsPlaced : Config → Change → Type 0
+IsPlaced config (Cost iface cost) = iface < length config.interfaces
+IsPlaced config _ = ⊤
+
+-- so it does, and the others name a prefix
+abbrev pub IsNamed : Config → Change → Type 0
+IsNamed config (Cost iface cost) = iface < length config.interfaces
+IsNamed config (Own p tag) = IsPrefix p
+IsNamed config (Disown p) = IsPrefix p
+
+-- ---- which changes are refused: each test stands with whether it fails
+
+abbrev pub change_tests : Config → Table → Change → List (Bool × ReconfigureRefused)
+change_tests config table (Cost iface cost) = (not (is_usable_cost cost), BadCost) ∷ []
+change_tests config table (Own p tag) =
+    (not (is_routable p), PrefixNotAllowed)
+    ∷ (has_prefix config.prefixes p, AlreadyOwned)
+    ∷ (nat_le OWNED_LIMIT (length config.prefixes), OwnedFull)
+    ∷ (is_none (map_of.get table p) && nat_le table_limit (map_of.len table), TableFull)
+    ∷ []
+change_tests config table (Disown p) = (not (has_prefix config.prefixes p), NotOwned) ∷ []
+
+-- the first test that fails
+abbrev pub change_fault : Config → Table → Change → Option ReconfigureRefused
+change_fault config table c = first_failing (change_tests config table c)
+
+-- ---- what a change does
+
+-- one interface costs another amount
+abbrev pub with_cost : List Interface → ℕ → ℕ → List Interface
+with_cost interfaces iface cost =
+    unwrap_or (option_map (λ i. slice_set interfaces iface (record i { cost = cost })) (slice_get interfaces iface)) interfaces
+
+abbrev pub without_prefix : List (Prefix6 × ℕ) → Prefix6 → List (Prefix6 × ℕ)
+without_prefix owned p = filter (λ t. not (same_prefix t.0 p)) owned
+
+abbrev pub changed_config : Config → Change → Config
+changed_config config (Cost iface cost) = record config { interfaces = with_cost config.interfaces iface cost }
+changed_config config (Own p tag) = record config { prefixes = config.prefixes ++ (p, tag) ∷ [] }
+changed_config config (Disown p) = record config { prefixes = without_prefix config.prefixes p }
+
+-- the route to a prefix that is owned from now on
+abbrev pub gained : ℕ → RouteValue
+gained tag = record (owned_route tag) { changed = true }
+
+-- the route, if any, to a prefix that is owned no longer
+abbrev pub given_up : ℕ → Option RouteValue → Option RouteValue
+given_up now old = option_map (lost now) old
+
+-- a new cost holds for later offers alone
+abbrev pub changed_table : ℕ → Table → Change → Table
+changed_table now table (Cost iface cost) = table
+changed_table now table (Own p tag) = with_value table p (Some (gained tag))
+changed_table now table (Disown p) = with_value table p (given_up now (map_of.get table p))
+
+-- the changes of forwarding
+abbrev pub changes_of_change : ℕ → Table → Change → List RouteChange
+changes_of_change now table (Cost iface cost) = []
+changes_of_change now table (Own p tag) = cons_option (change p (map_of.get table p) (Some (gained tag))) []
+changes_of_change now table (Disown p) = cons_option (change p (map_of.get table p) (given_up now (map_of.get table p))) []
+
+-- ---- refusals as numbers and names
+
+abbrev pub reconfigure_number : ReconfigureRefused → ℕ
+reconfigure_number BadCost = 31
+reconfigure_number PrefixNotAllowed = 32
+reconfigure_number AlreadyOwned = 33
+reconfigure_number OwnedFull = 34
+reconfigure_number NotOwned = 35
+reconfigure_number TableFull = 36
+reconfigure_number OutOfMemory = 37
+
+abbrev pub reconfigure_name : ReconfigureRefused → List ℕ
+reconfigure_name BadCost = codes "BadCost"
+reconfigure_name PrefixNotAllowed = codes "PrefixNotAllowed"
+reconfigure_name AlreadyOwned = codes "AlreadyOwned"
+reconfigure_name OwnedFull = codes "OwnedFull"
+reconfigure_name NotOwned = codes "NotOwned"
+reconfigure_name TableFull = codes "TableFull"
+reconfigure_name OutOfMemory = codes "OutOfMemory"
