@@ -6,7 +6,7 @@ use Rattle.route_table.specs.Route.{RouteValue, infinity}
 use Rattle.route_table.specs.Table.{Table, table_limit}
 use Rattle.ripng_world.specs.declared.network.NetInterface.{NetInterface}
 use Rattle.ripng_world.specs.Network.{Network, Node, Owns, interface_at}
-use Rattle.ripng_world.specs.Walks.{IsWithin}
+use Rattle.ripng_world.specs.Walks.{IsLeast, IsWithin}
 use Rattle.router_core.specs.Machine.{State}
 use Rattle.ripng_world.specs.World.{World}
 
@@ -30,3 +30,9 @@ pub record IsConverged (net : Network) (k router : ℕ) (table : Table) : Type 0
 
 abbrev pub AreConverged : Network → ℕ → World → Type 0
 AreConverged net k w = (router : ℕ) (state : State) → slice_get w.states router ≡ Some state → IsConverged net k router state.table
+
+-- every router has the least cost, wherever that is below infinity
+abbrev pub HaveSettled : Network → World → Type 0
+HaveSettled net w =
+    (router : ℕ) (state : State) (p : Prefix6) (metric : ℕ) → slice_get w.states router ≡ Some state → IsLeast net router p metric → metric < infinity
+    → (r : RouteValue) × (map_of.get state.table p ≡ Some r) × (r.metric ≡ metric)

@@ -6,7 +6,9 @@ mod lab;
 mod laws;
 mod moving;
 mod network;
+mod pairs;
 mod refusing;
+mod rounds;
 mod sent;
 mod station;
 
@@ -17,6 +19,7 @@ pub use laws::{
     keeps_routes_backed, rounds_are_run, runs_go_on, tells_only_walks,
 };
 pub use network::{NetConfig, NetInterface, NetRefused, Node, ROUTER_LIMIT};
+pub use rounds::{Round, RoundsRefused};
 pub use sent::Sent;
 
 #[cfg(test)]

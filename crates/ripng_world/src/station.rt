@@ -76,6 +76,13 @@ impl<S: RouteStore> Station<S> {
         self.node.interfaces.get(iface).copied()
     }
 
+    /// What its interfaces were asked to be when it started.
+    pub fn interfaces(&self) -> &[NetInterface]
+        ensures { result.now ≡ self.now.node.interfaces }
+    {
+        &self.node.interfaces
+    }
+
     /// No answer to so many bytes has more datagrams than this.
     pub fn answer_room(&self, bytes: usize) -> usize
         ensures value { result ≡ max (map_of.len self.now.state.table) (bytes / 20) }

@@ -2,6 +2,8 @@
 
 ghost use Rattle.std.specs.Prelude.{◌≡◌, IfOk, length};
 
+mod rounds;
+
 use crate::{Event, Lab, LabError, NetConfig, NetInterface, NetRefused, Node};
 use prefix6::{Addr6, Prefix, PrefixError};
 use route_table::{Moment, RouteStore, SortedRoutes};

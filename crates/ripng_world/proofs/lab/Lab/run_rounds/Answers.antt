@@ -1,0 +1,37 @@
+use Rattle.std.proofs.Common.{List, subst, ◌∙◌, ap}
+use Rattle.ripng_world.specs.AskedRounds.{AreAllMade, AreMade}
+use Rattle.ripng_world.specs.Labs.{LabValue}
+use Rattle.ripng_world.specs.Network.{IsNetwork}
+use Rattle.ripng_world.specs.Rounds.{Round}
+use Rattle.ripng_world.proofs.AskedQuiet.{all_made, converging, on_ok, to_ok, rounds_still}
+use Rattle.ripng_world.proofs.LabRuns.{backed, least, truth, fixed}
+use Rattle.ripng_world.proofs.lab.Lab.run_rounds.Goals as goal
+
+pub returns-clause-changes : goal.returns-clause-changes
+returns-clause-changes g c =
+    rounds_still c.args.self.now.network c.args.rounds.now c.args.self.now.world c.make_rounds-outcome.new.self.world c.make_rounds-outcome.result c.make_rounds-outcome.ensures.made c.make_rounds-outcome.ensures.refused
+
+pub returns-clause-made : goal.returns-clause-made
+returns-clause-made g c =
+    let net = c.args.self.now.network in
+    let w = c.args.self.now.world in
+    let w' = c.make_rounds-outcome.new.self.world in
+    on_ok c.make_rounds-outcome.result ((rs : List Round) × AreMade net w c.args.rounds.now rs w') (AreAllMade net w c.args.rounds.now w') (all_made net c.args.rounds.now w w' c.requires) c.make_rounds-outcome.ensures.made
+
+pub returns-clause-converges : goal.returns-clause-converges
+returns-clause-converges g c =
+    to_ok c.make_rounds-outcome.result _
+    (converging c.args.self.now.network c.args.rounds.now c.args.self.now.world c.make_rounds-outcome.new.self.world
+    (subst IsNetwork (ap (λ (l : LabValue). l.network) c.self.view_is ∙ c.make_rounds-outcome.ensures.network) c.self.invariant.lawful) c.requires)
+
+pub returns-clause-backed : goal.returns-clause-backed
+returns-clause-backed g c = rw (← c.self.view_is) (backed _ _ c.self.invariant)
+
+pub returns-clause-least : goal.returns-clause-least
+returns-clause-least g c = rw (← c.self.view_is) (least _ _ c.self.invariant)
+
+pub returns-clause-truth : goal.returns-clause-truth
+returns-clause-truth g c = rw (← c.self.view_is) (truth _ _ c.self.invariant)
+
+pub returns-clause-fixed : goal.returns-clause-fixed
+returns-clause-fixed g c = rw (← c.self.view_is) (fixed _ _ c.self.invariant)

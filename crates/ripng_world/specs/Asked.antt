@@ -1,0 +1,7 @@
+-- A round, as it is asked for.
+use Rattle.std.specs.Prelude.{ℕ, List}
+
+pub record Asked : Type 0 where
+  pub ticks : List (ℕ × ℕ)  -- of each router, its moment and its word
+  pub picks : List (ℕ × ℕ)  -- the word of each pick, and its moment
+  pub rest : ℕ  -- the moment of all other deliveries

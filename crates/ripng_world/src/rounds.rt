@@ -1,0 +1,68 @@
+//! Rounds of a network, as they are asked for.
+
+use route_table::Moment;
+use std::marker::Model;
+
+/// A round of a network, as it is asked for: each router ticks once, in order, and then each datagram of these ticks comes
+/// to each other interface of its link. The pairs of such a datagram and such an interface stand in the order of
+/// datagrams, then of routers, then of interfaces.
+#[derive(Drop)]
+pub struct Round<'a> {
+    /// The moment and the random word of each router's tick, in the order of routers.
+    pub ticks: &'a [(Moment, u32)],
+    /// The deliveries that come first, in order: a word, which picks the pair of that number modulo the number of pairs,
+    /// and the moment.
+    pub picks: &'a [(u32, Moment)],
+    /// When each pair that was not picked is delivered, in order.
+    pub rest: Moment,
+}
+
+impl<'a> Model for Round<'a> {
+    ghost use Rattle.ripng_world.specs.Asked.{Asked};
+
+    ghost Value = { Asked };
+
+    ghost view = { λ r. record { ticks = r.ticks.now; picks = r.picks.now; rest = r.rest } };
+}
+
+/// Why rounds stop. All events before are done.
+#[derive(Clone, Copy, Debug, PartialEq, Eq)]
+pub enum RoundsRefused {
+    /// The regular update of a router is not due at its tick, which is not done.
+    NoRegularUpdate {
+        /// The number of the round, from 0.
+        round: usize,
+        /// The number of the router.
+        router: usize,
+    },
+    /// Memory was refused, or a router wanted memory for a new route.
+    OutOfMemory {
+        /// The number of the round, from 0.
+        round: usize,
+    },
+}
+
+impl RoundsRefused {
+    ghost use Rattle.std.specs.Prelude.{◌≡◌};
+    ghost use Rattle.ripng_world.specs.AskedRounds.{stop_name, stop_number};
+
+    /// The number of the refusal, 41 or 42.
+    pub fn number(self) -> u8
+        ensures { result ≡ stop_number self }
+    {
+        match self {
+            RoundsRefused::NoRegularUpdate { .. } => 41,
+            RoundsRefused::OutOfMemory { .. } => 42,
+        }
+    }
+
+    /// The name of the refusal, one word.
+    pub fn name(self) -> &'static str
+        ensures { result.now ≡ stop_name self }
+    {
+        match self {
+            RoundsRefused::NoRegularUpdate { .. } => "NoRegularUpdate",
+            RoundsRefused::OutOfMemory { .. } => "OutOfMemory",
+        }
+    }
+}
