@@ -1,12 +1,13 @@
 //! Prefixes: the addresses that agree on their first bits (RFC 4291, section 2.3).
 
 ghost use Rattle.std.specs.Prelude.{◌≡◌, ℕ, ◌≤◌, ◌<◌, ◌^◌, ◌↔◌, IsTrue, IsOk, IfOk, IfErr};
-ghost use Rattle.prefix6.specs.Prefix.{Prefix6, IsPrefix, Holds, first_bits, cleared, is_routable};
+ghost use Rattle.prefix6.specs.Prefix.{Prefix6, IsPrefix, Holds, first_bits, cleared, is_routable, prefix_cmp};
 ghost use Rattle.prefix6.specs.Halves.{IsUnder, IsMeet, middle};
 ghost use Rattle.prefix6.specs.declared.error.PrefixError.TheVariants.{LengthTooLarge};
 
 use crate::addr::Addr6;
 use crate::error::PrefixError;
+use std::cmp::Ordering;
 use std::marker::Model;
 
 /// A prefix: a length of at most 128 bits, and an address whose bits past that length are zero. In
@@ -136,6 +137,13 @@ impl Prefix {
             len,
         }
     }
+}
+
+/// The order of prefixes, which is that of `Ord`: by address, then by length.
+pub fn order_of_prefixes(first: &Prefix, second: &Prefix) -> Ordering
+    ensures { result ≡ prefix_cmp first.now second.now }
+{
+    first.cmp(second)
 }
 
 /// A prefix is the set of its addresses.

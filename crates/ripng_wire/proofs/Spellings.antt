@@ -7,7 +7,7 @@ use Rattle.std.proofs.lemmas.Bool.{cases_lt, ltb-false, le-ltb, eqb-true, eq-eqb
 use Rattle.ripng_wire.specs.declared.rte.Command.{Command}
 use Rattle.ripng_wire.specs.declared.rte.Command.TheVariants.{Request, Response}
 use Rattle.ripng_wire.specs.declared.rte.Rte.{Rte}
-use Rattle.ripng_wire.specs.declared.rte.TheConstants.{VERSION}
+use Rattle.ripng_wire.specs.Layout.{version}
 use Rattle.ripng_wire.specs.Layout.{Fits, Spells, command_byte, most_entries}
 use Rattle.ripng_wire.specs.Reading.{entries_of, first_entries}
 use Rattle.ripng_wire.specs.Wire.{wire_tests, wire_fault}
@@ -53,7 +53,7 @@ spelling_passes command entries bytes s =
           ap not (eq-eqb _ _ (omega arith)),
           (
             ap (λ (b : ℕ). not (b == 1 || b == 2)) (at 0) ∙ header_passes command,
-            (ap (λ (b : ℕ). not (b == VERSION)) (at 1), (rw (at 2, at 3) refl, tt)),
+            (ap (λ (b : ℕ). not (b == version)) (at 1), (rw (at 2, at 3) refl, tt)),
           ),
         ),
       ),
@@ -66,7 +66,7 @@ spelling_has_no_fault command entries bytes s = none_fails (wire_tests bytes) (s
 -- ---- bytes that pass each test are a spelling
 
 -- bytes from their first four
-four_and_rest : (bytes : List ℕ) (a : ℕ) → 4 ≤ length bytes → get_or bytes 0 0 ≡ a → get_or bytes 1 0 ≡ VERSION → get_or bytes 2 0 ≡ 0 → get_or bytes 3 0 ≡ 0 → bytes ≡ a ∷ VERSION ∷ 0 ∷ 0 ∷ drop 4 bytes
+four_and_rest : (bytes : List ℕ) (a : ℕ) → 4 ≤ length bytes → get_or bytes 0 0 ≡ a → get_or bytes 1 0 ≡ version → get_or bytes 2 0 ≡ 0 → get_or bytes 3 0 ≡ 0 → bytes ≡ a ∷ version ∷ 0 ∷ 0 ∷ drop 4 bytes
 four_and_rest [] a le h0 h1 h2 h3 = absurd (omega arith)
 four_and_rest (x ∷ []) a le h0 h1 h2 h3 = absurd (omega arith)
 four_and_rest (x ∷ y ∷ []) a le h0 h1 h2 h3 = absurd (omega arith)
@@ -80,15 +80,15 @@ is_spelling command bytes fits none code =
     let low : 4 ≤ length bytes = ltb-false _ _ passes.0 in
     let high : length bytes ≤ 4 + 20 * most_entries = ltb-false _ _ passes.1.0 in
     let whole : (length bytes - 4) % 20 ≡ 0 = eqb-true _ _ (not_false _ passes.1.1.0) in
-    let version : get_or bytes 1 0 ≡ VERSION = eqb-true _ _ (not_false _ passes.1.1.1.1.0) in
+    let first : get_or bytes 1 0 ≡ version = eqb-true _ _ (not_false _ passes.1.1.1.1.0) in
     let zeros : ((get_or bytes 2 0 == 0) ≡ true) × ((get_or bytes 3 0 == 0) ≡ true) = both _ _ (not_false _ passes.1.1.1.1.1.0) in
     let body = drop 4 bytes in
     let n = length body / 20 in
     let exact : length body ≡ 20 * n = omega (arith, length-drop 4 bytes) in
     let fits_body = IsBytes-drop 4 bytes fits in
     record {
-      bytes_are = four_and_rest bytes (command_byte command) low code version (eqb-true _ _ zeros.0) (eqb-true _ _ zeros.1)
-          ∙ ap (λ (x : List ℕ). command_byte command ∷ VERSION ∷ 0 ∷ 0 ∷ x) (sym (first_whole n body exact fits_body));
+      bytes_are = four_and_rest bytes (command_byte command) low code first (eqb-true _ _ zeros.0) (eqb-true _ _ zeros.1)
+          ∙ ap (λ (x : List ℕ). command_byte command ∷ version ∷ 0 ∷ 0 ∷ x) (sym (first_whole n body exact fits_body));
       few = omega (arith, length-first n body, length-drop 4 bytes);
       fit = All-from_recursion Fits (first_entries n body) (first_fit n body fits_body);
     }

@@ -5,7 +5,6 @@ use Rattle.byteorder.specs.Endian.{big_bytes}
 use Rattle.ripng_wire.specs.declared.rte.Command.{Command}
 use Rattle.ripng_wire.specs.declared.rte.Command.TheVariants.{Request, Response}
 use Rattle.ripng_wire.specs.declared.rte.Rte.{Rte}
-use Rattle.ripng_wire.specs.declared.rte.TheConstants.{MAX_ENTRIES, NEXT_HOP_METRIC, VERSION}
 
 -- every number of an entry is within its bytes
 pub record Fits (e : Rte) : Type 0 where
@@ -23,13 +22,17 @@ abbrev pub command_byte : Command → ℕ
 command_byte Request = 1
 command_byte Response = 2
 
+-- the version of RIPng
+abbrev pub version : ℕ
+version = 1
+
 -- the most entries of a datagram
 abbrev pub most_entries : ℕ
-most_entries = MAX_ENTRIES
+most_entries = 3276
 
 -- command, version, two zero bytes, and the entries in order
 pub record Spells (command : Command) (entries : List Rte) (bytes : List ℕ) : Type 0 where
-  pub bytes_are : bytes ≡ command_byte command ∷ VERSION ∷ 0 ∷ 0 ∷ flat_map entry_bytes entries
+  pub bytes_are : bytes ≡ command_byte command ∷ version ∷ 0 ∷ 0 ∷ flat_map entry_bytes entries
   pub few : length entries ≤ most_entries
   pub fit : All Fits entries
 
@@ -37,6 +40,6 @@ pub record Spells (command : Command) (entries : List Rte) (bytes : List ℕ) : 
 abbrev pub entries_for_mtu : ℕ → ℕ
 entries_for_mtu mtu = (mtu - 52) / 20
 
--- a next hop entry (RFC 2080, 2.1.1)
+-- a next hop entry is marked by its metric (RFC 2080, 2.1.1)
 abbrev pub is_next_hop : Rte → Bool
-is_next_hop e = e.metric == NEXT_HOP_METRIC
+is_next_hop e = e.metric == 255

@@ -2,8 +2,7 @@
 use Rattle.std.specs.Prelude.{ℕ, ◌+◌, ◌-◌, ◌*◌, ◌%◌, ◌==◌, ◌&&◌, ◌||◌, not, nat_lt, Bool, if◌then◌else◌, List, [], ◌∷◌, length, slice_index, codes, Option, Some, None}
 use Rattle.ripng_wire.specs.declared.error.WireError.{WireError}
 use Rattle.ripng_wire.specs.declared.error.WireError.TheVariants.{Short, TooLong, Ragged, BadCommand, BadVersion, NotZero}
-use Rattle.ripng_wire.specs.declared.rte.TheConstants.{VERSION}
-use Rattle.ripng_wire.specs.Layout.{most_entries}
+use Rattle.ripng_wire.specs.Layout.{most_entries, version}
 
 -- the name of the first test that fails
 abbrev pub first_failing : {F : Type 0} → List (Bool × F) → Option F
@@ -17,7 +16,7 @@ wire_tests bytes =
     ∷ (nat_lt (4 + 20 * most_entries) (length bytes), TooLong)
     ∷ (not ((length bytes - 4) % 20 == 0), Ragged)
     ∷ (not (slice_index bytes 0 == 1 || slice_index bytes 0 == 2), BadCommand)
-    ∷ (not (slice_index bytes 1 == VERSION), BadVersion)
+    ∷ (not (slice_index bytes 1 == version), BadVersion)
     ∷ (not (slice_index bytes 2 == 0 && slice_index bytes 3 == 0), NotZero)
     ∷ []
 

@@ -1,7 +1,7 @@
 //! What a datagram says: a command and route table entries, and how many of these it may hold.
 
 ghost use Rattle.std.specs.Prelude.{◌≡◌, ◌≤◌};
-ghost use Rattle.ripng_wire.specs.Layout.{entries_for_mtu};
+ghost use Rattle.ripng_wire.specs.Layout.{entries_for_mtu, most_entries};
 
 /// The version of RIPng (RFC 2080, section 2.1).
 pub(crate) const VERSION: u8 = 1;
@@ -61,7 +61,7 @@ pub fn entries_for_mtu(mtu: u32) -> usize
     requires high { mtu ≤ 65535 }
     ensures count { result ≡ entries_for_mtu mtu }
     ensures least { 61 ≤ result }
-    ensures most { result ≤ MAX_ENTRIES }
+    ensures most { result ≤ most_entries }
 {
     (mtu as usize - 40 - 8 - HEADER_LEN) / ENTRY_LEN
 }

@@ -13,7 +13,8 @@ use Rattle.route_table.specs.declared.route.Clock.{Clock}
 use Rattle.route_table.specs.declared.route.Clock.TheVariants.{Fixed, Live}
 use Rattle.route_table.proofs.TableLaws.{Some-same}
 use Rattle.router_core.specs.Offers.{Offer}
-use Rattle.router_core.specs.Adoption.{Gateway, adopted, adopted_by_clock, refreshed, taken, lost, metric_through, is_reachable, is_through, is_preferred, is_repeated, timeout, half_timeout}
+use Rattle.router_core.specs.Adoption.{Gateway, adopted, adopted_by_clock, refreshed, taken, lost, metric_through, is_reachable, is_through, is_preferred, is_repeated}
+use Rattle.router_core.specs.Timers.{timeout, half_timeout}
 use Rattle.router_core.specs.Output.{is_learned_on}
 use Rattle.router_core.specs.Machine.{State}
 use Rattle.ripng_world.specs.declared.network.NetInterface.{NetInterface}

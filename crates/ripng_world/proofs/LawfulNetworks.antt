@@ -12,7 +12,7 @@ use Rattle.route_table.proofs.TableLaws.{None-Some}
 use Rattle.router_core.specs.Config.{Config, IsConfig, config_tests, each_tested, interface_tests, prefix_tests}
 use Rattle.router_core.specs.declared.config.ConfigRefused.TheVariants.{TooManyPrefixes}
 use Rattle.router_core.specs.declared.config.Interface.{Interface}
-use Rattle.router_core.specs.declared.config.TheConstants.{OWNED_LIMIT}
+use Rattle.router_core.specs.Config.{owned_limit}
 use Rattle.router_core.proofs.ConfigLaws.{passes-append, passes_at, cost_low, cost_high, mtu_low, mtu_high}
 use Rattle.router_core.proofs.EachTested.{first_failing-append, first_failing-found}
 use Rattle.ripng_world.specs.Network.{Network, Node, IsNetwork, IsUsable, OwnsPrefixes, HasDistinctAddresses, config_of, interface_at}
@@ -45,8 +45,8 @@ not_false true e = refl
 not_false false e = absurd (cc)
 
 module _ (c : Config) (lawful : IsConfig c) where
-  lists_pass : EachPasses (each_tested interface_tests c.interfaces) × EachPasses ((nat_lt OWNED_LIMIT (length c.prefixes), TooManyPrefixes) ∷ each_tested prefix_tests c.prefixes)
-  lists_pass = passes-append (each_tested interface_tests c.interfaces) ((nat_lt OWNED_LIMIT (length c.prefixes), TooManyPrefixes) ∷ each_tested prefix_tests c.prefixes)
+  lists_pass : EachPasses (each_tested interface_tests c.interfaces) × EachPasses ((nat_lt owned_limit (length c.prefixes), TooManyPrefixes) ∷ each_tested prefix_tests c.prefixes)
+  lists_pass = passes-append (each_tested interface_tests c.interfaces) ((nat_lt owned_limit (length c.prefixes), TooManyPrefixes) ∷ each_tested prefix_tests c.prefixes)
       (each_passes (config_tests c) lawful.passes).1.1
 
   interface_local : (i : ℕ) (x : Interface) → slice_get c.interfaces i ≡ Some x → is_link_local x.addr ≡ true

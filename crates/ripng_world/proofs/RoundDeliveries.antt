@@ -17,7 +17,8 @@ use Rattle.route_table.proofs.TableLaws.{Some-same, None-Some}
 use Rattle.router_core.specs.Received.{Received}
 use Rattle.router_core.specs.Faults.{fault}
 use Rattle.router_core.specs.Offers.{offer_at, prefix_named}
-use Rattle.router_core.specs.Adoption.{Gateway, is_through, metric_through, timeout}
+use Rattle.router_core.specs.Adoption.{Gateway, is_through, metric_through}
+use Rattle.router_core.specs.Timers.{timeout}
 use Rattle.router_core.specs.Hearing.{Hearing}
 use Rattle.router_core.specs.Output.{is_learned_on}
 use Rattle.router_core.specs.Machine.{State, Arrives, Hears, Replies, Refuses, gateway_of}

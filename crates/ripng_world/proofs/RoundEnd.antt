@@ -11,7 +11,8 @@ use Rattle.route_table.specs.declared.route.Origin.{Origin}
 use Rattle.route_table.specs.declared.route.Origin.TheVariants.{Own, Learned}
 use Rattle.route_table.specs.declared.route.Clock.TheVariants.{Live}
 use Rattle.route_table.proofs.TableLaws.{Some-same, None-Some}
-use Rattle.router_core.specs.Adoption.{is_through, timeout}
+use Rattle.router_core.specs.Adoption.{is_through}
+use Rattle.router_core.specs.Timers.{timeout}
 use Rattle.router_core.specs.Output.{is_learned_on}
 use Rattle.router_core.specs.Machine.{State}
 use Rattle.ripng_world.specs.declared.network.NetInterface.{NetInterface}

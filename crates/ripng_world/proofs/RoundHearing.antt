@@ -17,7 +17,8 @@ use Rattle.route_table.specs.Route.{RouteValue, infinity}
 use Rattle.route_table.specs.Table.{Table, table_limit}
 use Rattle.route_table.proofs.TableLaws.{Some-same, None-Some}
 use Rattle.router_core.specs.Offers.{Offer, offer_at, is_offer, flaw, prefix_named}
-use Rattle.router_core.specs.Adoption.{adopted, metric_through, timeout}
+use Rattle.router_core.specs.Adoption.{adopted, metric_through}
+use Rattle.router_core.specs.Timers.{timeout}
 use Rattle.router_core.specs.Hearing.{Hearing, Heard, route_after, is_refused, is_refusal, note_at, would_add, held_after, notes_of_offer, notes_of_new}
 use Rattle.router_core.specs.Output.{is_learned_on}
 use Rattle.router_core.specs.declared.answer.Note.{Note}

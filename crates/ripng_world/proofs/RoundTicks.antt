@@ -13,7 +13,8 @@ use Rattle.route_table.specs.declared.route.Origin.{Origin}
 use Rattle.route_table.specs.declared.route.Origin.TheVariants.{Own, Learned}
 use Rattle.route_table.proofs.TableLaws.{Some-same, None-Some, all_entries, get-map_values}
 use Rattle.router_core.specs.Config.{Config, mtu_at}
-use Rattle.router_core.specs.Adoption.{timeout, lost}
+use Rattle.router_core.specs.Adoption.{lost}
+use Rattle.router_core.specs.Timers.{timeout}
 use Rattle.router_core.specs.Ageing.{aged, aged_by_clock, aged_table, unmarked, without_mark}
 use Rattle.router_core.specs.Output.{Message, IsSpelled, AreSpelled, told, told_entry, is_learned_on, every_route, is_changed, pieces, numbers_below, responses, update_messages}
 use Rattle.router_core.specs.Machine.{State, Ticks, ticked, tick_messages, is_regular_due, is_triggered_due}

@@ -8,7 +8,8 @@ use Rattle.route_table.specs.declared.route.Origin.TheVariants.{Own, Learned}
 use Rattle.route_table.specs.declared.route.Clock.{Clock}
 use Rattle.route_table.specs.declared.route.Clock.TheVariants.{Fixed, Live, Dying}
 use Rattle.router_core.specs.Offers.{Offer}
-use Rattle.router_core.specs.Adoption.{Gateway, adopted_by_clock, refreshed, taken, lost, metric_through, is_reachable, is_through, is_preferred, is_repeated, half_timeout}
+use Rattle.router_core.specs.Adoption.{Gateway, adopted_by_clock, refreshed, taken, lost, metric_through, is_reachable, is_through, is_preferred, is_repeated}
+use Rattle.router_core.specs.Timers.{half_timeout}
 use Rattle.ripng_world.specs.declared.network.NetInterface.{NetInterface}
 use Rattle.ripng_world.specs.Network.{Network}
 use Rattle.ripng_world.specs.Walks.{Hop, IsWalk, cost, cost_of_interface}

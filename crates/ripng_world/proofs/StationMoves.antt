@@ -15,7 +15,7 @@ use Rattle.prefix6.specs.Prefix.{is_routable}
 use Rattle.std.specs.FinMap as map_of
 use Rattle.route_table.specs.Table.{table_limit}
 use Rattle.router_core.specs.Config.{Config, has_prefix, is_usable_cost}
-use Rattle.router_core.specs.declared.config.TheConstants.{OWNED_LIMIT}
+use Rattle.router_core.specs.Config.{owned_limit}
 use Rattle.router_core.specs.Machine.{State, Happening, Arrives, Reconfigures, Moves}
 use Rattle.router_core.specs.Received.{Received}
 use Rattle.router_core.specs.declared.answer.Answer.{Answer}
@@ -233,7 +233,7 @@ refused_as s c refused.OutOfMemory is = absurd (never c is)
         by_test : (a : Bool) → cond (not a) (Some refused.BadCost) None ≡ Some refused.OutOfMemory → ⊥
         by_test true e = cc
         by_test false e = cc
-    never (Own p tag) e = by_tests (is_routable p) (has_prefix s.config.prefixes p) (nat_le OWNED_LIMIT (length s.config.prefixes)) (is_none (map_of.get s.table p) && nat_le table_limit (map_of.len s.table)) e
+    never (Own p tag) e = by_tests (is_routable p) (has_prefix s.config.prefixes p) (nat_le owned_limit (length s.config.prefixes)) (is_none (map_of.get s.table p) && nat_le table_limit (map_of.len s.table)) e
       where
         by_tests : (a b c d : Bool) → cond (not a) (Some refused.PrefixNotAllowed) (cond b (Some refused.AlreadyOwned) (cond c (Some refused.OwnedFull) (cond d (Some refused.TableFull) None))) ≡ Some refused.OutOfMemory → ⊥
         by_tests false b c d e = cc

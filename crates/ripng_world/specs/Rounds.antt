@@ -1,7 +1,7 @@
 -- Rounds in which every router tells all that it has, and every datagram arrives.
 use Rattle.std.specs.Prelude.{◌≡◌, ◌≢◌, ℕ, ◌+◌, ◌<◌, ◌≤◌, max, ◌⊎◌, List, [], ◌∷◌, ◌++◌, map, length, All, Contains, Some, slice_get, nat_eq, flat_map}
 use Rattle.std.specs.List.{IsDistinct}
-use Rattle.router_core.specs.Adoption.{timeout}
+use Rattle.router_core.specs.Timers.{timeout}
 use Rattle.router_core.specs.Machine.{State}
 use Rattle.router_core.specs.declared.answer.Answer.{Answer}
 use Rattle.router_core.specs.declared.answer.NoteKind.TheVariants.{NoMemory}

@@ -1,10 +1,11 @@
 -- Tables of routes: finite maps from prefixes, in the order of address, then length.
-use Rattle.std.specs.Prelude.{ℕ, Bool, true, List, Option, Some, None, filter_map, option_map, find}
+use Rattle.std.specs.Prelude.{ℕ, Bool, true, List, Option, Some, None, filter_map, option_map, find, codes}
 use Rattle.std.specs.Ordering.{is_lt}
 use Rattle.std.specs.FinMap as map
 use Rattle.prefix6.specs.Prefix.{Prefix6, prefix_cmp}
 use Rattle.route_table.specs.Route.{RouteValue}
-use Rattle.route_table.specs.declared.store.TheConstants.{TABLE_LIMIT}
+use Rattle.route_table.specs.declared.store.AddRefused.{AddRefused}
+use Rattle.route_table.specs.declared.store.AddRefused.TheVariants.{Full, NoMemory}
 
 -- a finite map from prefixes
 abbrev pub ByPrefix : Type 0 → Type 0
@@ -15,7 +16,7 @@ Table = ByPrefix RouteValue
 
 -- the most routes of a table
 abbrev pub table_limit : ℕ
-table_limit = TABLE_LIMIT
+table_limit = 4096
 
 -- f of the value of each entry, where f gives one
 abbrev pub map_entries : {X Y : Type 0} → (X → Option Y) → List (Prefix6 × X) → List (Prefix6 × Y)
@@ -38,3 +39,13 @@ is_past (Some after) p = is_lt (prefix_cmp after p)
 -- the first entry past a prefix, or the first of all
 abbrev pub first_past : Option Prefix6 → Table → Option (Prefix6 × RouteValue)
 first_past after table = find (λ e. is_past after e.0) (map.entries table)
+
+-- the number of a refusal
+abbrev pub refusal_number : AddRefused → ℕ
+refusal_number Full = 1
+refusal_number NoMemory = 2
+
+-- the name of a refusal
+abbrev pub refusal_name : AddRefused → List ℕ
+refusal_name Full = codes "Full"
+refusal_name NoMemory = codes "NoMemory"

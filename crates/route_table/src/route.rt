@@ -199,12 +199,10 @@ impl Route {
     pub fn deadline(&self) -> Option<Deadline>
         ensures { result ≡ deadline self.now }
     {
-        if self.metric == INFINITY {
-            return Some(self.until);
-        }
-        match self.origin {
-            Origin::Own => None,
-            Origin::Learned { .. } => Some(self.until),
+        let clock = self.clock();
+        match clock {
+            Clock::Fixed => None,
+            Clock::Live(until) | Clock::Dying(until) => Some(until),
         }
     }
 

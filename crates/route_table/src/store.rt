@@ -2,7 +2,7 @@
 
 ghost use Rattle.std.specs.Prelude.{◌≡◌, ◌≤◌, ◌+◌, ◌++◌, ◌↔◌, None, IsTrue, IsSome, OnOk, OnErr, vec_len, vec_capacity};
 ghost use Rattle.std.specs.FinMap as map;
-ghost use Rattle.route_table.specs.Table.{Table, table_limit, first_past};
+ghost use Rattle.route_table.specs.Table.{Table, table_limit, first_past, refusal_name, refusal_number};
 ghost use Rattle.route_table.specs.Due.{first_due, first_changed, next_due};
 
 use crate::moment::{Deadline, Moment};
@@ -19,11 +19,30 @@ pub const TABLE_LIMIT: usize = 4096;
 pub enum AddRefused {
     /// The table holds as many routes as it may.
     #[error("the table of routes is full")]
-    Full,
+    Full = 1,
 
     /// Memory for the route was refused.
     #[error("no memory for another route")]
-    NoMemory,
+    NoMemory = 2,
+}
+
+impl AddRefused {
+    /// The number of the refusal, 1 or 2.
+    pub fn number(self) -> u8
+        ensures { result ≡ refusal_number self }
+    {
+        self as u8
+    }
+
+    /// The name of the refusal, one word.
+    pub fn name(self) -> &'static str
+        ensures { result.now ≡ refusal_name self }
+    {
+        match self {
+            AddRefused::Full => "Full",
+            AddRefused::NoMemory => "NoMemory",
+        }
+    }
 }
 
 /// A table of routes: a finite map from prefix to route, of at most `TABLE_LIMIT` routes. No call

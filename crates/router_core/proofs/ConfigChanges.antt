@@ -17,7 +17,7 @@ use Rattle.router_core.specs.Owning.{OwnsOnce}
 use Rattle.router_core.specs.Reconfiguring.{change_fault, change_tests, changed_config, given_up, with_cost, without_prefix}
 use Rattle.router_core.specs.declared.config.ConfigRefused.{ConfigRefused}
 use Rattle.router_core.specs.declared.config.Interface.{Interface}
-use Rattle.router_core.specs.declared.config.TheConstants.{INTERFACE_LIMIT, OWNED_LIMIT}
+use Rattle.router_core.specs.Config.{interface_limit, owned_limit}
 use Rattle.router_core.specs.declared.reconfiguring.Change.TheVariants.{Own, Disown}
 use Rattle.router_core.proofs.ConfigLaws.{passes_at, interfaces_pass, prefixes_pass, interface_passes, few_interfaces, few_prefixes, some_interface}
 use Rattle.router_core.proofs.OwnedStay.{each_append, each_passing, not_among, once_more, once_filtered}
@@ -40,18 +40,18 @@ passes_from {F = F} f n (y ∷ xs) at =
     later i x is = let e : n + suc i ≡ n + 1 + i = omega arith in subst (λ (m : ℕ). EachPasses {F = F} (f (m, x))) e (at (suc i) x is)
 
 -- what is known of each part of a configuration
-config_from : (c : Config) → 0 < length c.interfaces → length c.interfaces ≤ INTERFACE_LIMIT → EachPasses (each_tested interface_tests c.interfaces)
-    → length c.prefixes ≤ OWNED_LIMIT → EachPasses (each_tested prefix_tests c.prefixes) → All (λ t. IsPrefix t.0) c.prefixes → IsConfig c
+config_from : (c : Config) → 0 < length c.interfaces → length c.interfaces ≤ interface_limit → EachPasses (each_tested interface_tests c.interfaces)
+    → length c.prefixes ≤ owned_limit → EachPasses (each_tested prefix_tests c.prefixes) → All (λ t. IsPrefix t.0) c.prefixes → IsConfig c
 config_from c some few interfaces owned prefixes lawful =
     let none : (length c.interfaces == 0) ≡ false = grind (arith, nat_tests, some) in
-    let below : nat_lt INTERFACE_LIMIT (length c.interfaces) ≡ false = grind (arith, nat_tests, few) in
-    let fits : nat_lt OWNED_LIMIT (length c.prefixes) ≡ false = grind (arith, nat_tests, owned) in
+    let below : nat_lt interface_limit (length c.interfaces) ≡ false = grind (arith, nat_tests, few) in
+    let fits : nat_lt owned_limit (length c.prefixes) ≡ false = grind (arith, nat_tests, owned) in
     record {
       passes = none_fails (config_tests c) (
         none,
         (
           below,
-          passes-both (each_tested interface_tests c.interfaces) ((nat_lt OWNED_LIMIT (length c.prefixes), ConfigRefused.TooManyPrefixes) ∷ each_tested prefix_tests c.prefixes) interfaces (fits, prefixes),
+          passes-both (each_tested interface_tests c.interfaces) ((nat_lt owned_limit (length c.prefixes), ConfigRefused.TooManyPrefixes) ∷ each_tested prefix_tests c.prefixes) interfaces (fits, prefixes),
         ),
       );
       prefixes = lawful;
@@ -113,7 +113,7 @@ lawful_cost c lawful k cost x is usable =
     let few = few_interfaces c lawful in
     config_from (record c { interfaces = slice_set c.interfaces k (record x { cost = cost }) })
     (subst (λ (n : ℕ). 0 < n) (sym same) some)
-    (subst (λ (n : ℕ). n ≤ INTERFACE_LIMIT) (sym same) few)
+    (subst (λ (n : ℕ). n ≤ interface_limit) (sym same) few)
     (passes_from (λ t. interface_tests (take t.0 (slice_set c.interfaces k (record x { cost = cost }))) t.1) 0 (slice_set c.interfaces k (record x { cost = cost }))
     (λ j y here. let e : 0 + j ≡ j = omega arith in
     subst (λ (m : ℕ). EachPasses (interface_tests (take m (slice_set c.interfaces k (record x { cost = cost }))) y)) (sym e)
@@ -182,12 +182,12 @@ prefixes_from ts once may =
     subst (λ (m : ℕ). EachPasses (prefix_tests (take m ts) t)) (sym e) (once_at ts once i t is, (all_at (λ u. not (is_routable u.0) ≡ false) ts may i t is, tt)))
 
 -- other prefixes
-lawful_prefixes : (c : Config) → IsConfig c → (ts : List (Prefix6 × ℕ)) → length ts ≤ OWNED_LIMIT → OwnsOnce ts → AreRoutable ts → All (λ t. IsPrefix t.0) ts
+lawful_prefixes : (c : Config) → IsConfig c → (ts : List (Prefix6 × ℕ)) → length ts ≤ owned_limit → OwnsOnce ts → AreRoutable ts → All (λ t. IsPrefix t.0) ts
     → IsConfig (record c { prefixes = ts })
 lawful_prefixes c lawful ts few once may prefixes =
     config_from (record c { prefixes = ts }) (some_interface c lawful) (few_interfaces c lawful) (interfaces_pass c lawful) few (prefixes_from ts once may) prefixes
 
-pub lawful_own : (c : Config) → IsConfig c → (p : Prefix6) (tag : ℕ) → IsPrefix p → is_routable p ≡ true → has_prefix c.prefixes p ≡ false → length c.prefixes < OWNED_LIMIT
+pub lawful_own : (c : Config) → IsConfig c → (p : Prefix6) (tag : ℕ) → IsPrefix p → is_routable p ≡ true → has_prefix c.prefixes p ≡ false → length c.prefixes < owned_limit
     → IsConfig (record c { prefixes = c.prefixes ++ (p, tag) ∷ [] })
 lawful_own c lawful p tag is allowed new room =
     let longer : length (c.prefixes ++ (p, tag) ∷ []) ≡ length c.prefixes + 1 = length-append c.prefixes ((p, tag) ∷ []) in

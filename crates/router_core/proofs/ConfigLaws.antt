@@ -8,7 +8,7 @@ use Rattle.route_table.specs.Route.{infinity}
 use Rattle.router_core.specs.Config.{Config, IsConfig, mtu_at, config_tests, each_tested, interface_tests, prefix_tests}
 use Rattle.router_core.specs.declared.config.ConfigRefused.{ConfigRefused}
 use Rattle.router_core.specs.declared.config.Interface.{Interface}
-use Rattle.router_core.specs.declared.config.TheConstants.{INTERFACE_LIMIT, OWNED_LIMIT}
+use Rattle.router_core.specs.Config.{interface_limit, owned_limit}
 
 -- where the tests of two lists pass, those of each pass
 pub passes-append : {F : Type 0} (these others : List (Bool × F)) → EachPasses (these ++ others) → EachPasses these × EachPasses others
@@ -34,16 +34,16 @@ module _ (c : Config) (lawful : IsConfig c) where
   all_pass = each_passes (config_tests c) lawful.passes
 
   pub interfaces_pass : EachPasses (each_tested interface_tests c.interfaces)
-  interfaces_pass = (passes-append (each_tested interface_tests c.interfaces) ((nat_lt OWNED_LIMIT (length c.prefixes), ConfigRefused.TooManyPrefixes) ∷ each_tested prefix_tests c.prefixes) all_pass.1.1).0
+  interfaces_pass = (passes-append (each_tested interface_tests c.interfaces) ((nat_lt owned_limit (length c.prefixes), ConfigRefused.TooManyPrefixes) ∷ each_tested prefix_tests c.prefixes) all_pass.1.1).0
 
-  pub prefixes_pass : (nat_lt OWNED_LIMIT (length c.prefixes) ≡ false) × EachPasses (each_tested prefix_tests c.prefixes)
-  prefixes_pass = (passes-append (each_tested interface_tests c.interfaces) ((nat_lt OWNED_LIMIT (length c.prefixes), ConfigRefused.TooManyPrefixes) ∷ each_tested prefix_tests c.prefixes) all_pass.1.1).1
+  pub prefixes_pass : (nat_lt owned_limit (length c.prefixes) ≡ false) × EachPasses (each_tested prefix_tests c.prefixes)
+  prefixes_pass = (passes-append (each_tested interface_tests c.interfaces) ((nat_lt owned_limit (length c.prefixes), ConfigRefused.TooManyPrefixes) ∷ each_tested prefix_tests c.prefixes) all_pass.1.1).1
 
   -- there are few interfaces and few prefixes
-  pub few_interfaces : length c.interfaces ≤ INTERFACE_LIMIT
+  pub few_interfaces : length c.interfaces ≤ interface_limit
   few_interfaces = let h = all_pass.1.0 in grind (arith, nat_tests, h)
 
-  pub few_prefixes : length c.prefixes ≤ OWNED_LIMIT
+  pub few_prefixes : length c.prefixes ≤ owned_limit
   few_prefixes = let h = prefixes_pass.0 in grind (arith, nat_tests, h)
 
   pub some_interface : 0 < length c.interfaces

@@ -4,20 +4,20 @@ use Rattle.ripng_wire.specs.Wire.{first_failing}
 use Rattle.router_core.specs.Config.{Config, each_tested, interface_tests, prefix_tests, config_fault}
 use Rattle.router_core.specs.declared.config.ConfigRefused.{ConfigRefused}
 use Rattle.router_core.specs.declared.config.ConfigRefused.TheVariants.{NoInterface, TooManyInterfaces, TooManyPrefixes}
-use Rattle.router_core.specs.declared.config.TheConstants.{INTERFACE_LIMIT, OWNED_LIMIT}
+use Rattle.router_core.specs.Config.{interface_limit, owned_limit}
 use Rattle.router_core.proofs.EachTested.{first_failing-append, first_failing-found}
 
 -- a lawful number of interfaces
-module _ (c : Config) (some : (length c.interfaces == 0) ≡ false) (few : nat_lt INTERFACE_LIMIT (length c.interfaces) ≡ false) where
+module _ (c : Config) (some : (length c.interfaces == 0) ≡ false) (few : nat_lt interface_limit (length c.interfaces) ≡ false) where
   abbrev behind_interfaces : Option ConfigRefused
-  behind_interfaces = first_failing ((nat_lt OWNED_LIMIT (length c.prefixes), TooManyPrefixes) ∷ each_tested prefix_tests c.prefixes)
+  behind_interfaces = first_failing ((nat_lt owned_limit (length c.prefixes), TooManyPrefixes) ∷ each_tested prefix_tests c.prefixes)
 
   abbrev behind_counts : Option ConfigRefused
-  behind_counts = first_failing (each_tested interface_tests c.interfaces ++ (nat_lt OWNED_LIMIT (length c.prefixes), TooManyPrefixes) ∷ each_tested prefix_tests c.prefixes)
+  behind_counts = first_failing (each_tested interface_tests c.interfaces ++ (nat_lt owned_limit (length c.prefixes), TooManyPrefixes) ∷ each_tested prefix_tests c.prefixes)
 
   counts_pass : config_fault c ≡ behind_counts
   counts_pass =
-      ap (λ b. cond b (Some NoInterface) (cond (nat_lt INTERFACE_LIMIT (length c.interfaces)) (Some TooManyInterfaces) behind_counts)) some
+      ap (λ b. cond b (Some NoInterface) (cond (nat_lt interface_limit (length c.interfaces)) (Some TooManyInterfaces) behind_counts)) some
       ∙ ap (λ b. cond b (Some TooManyInterfaces) behind_counts) few
 
   pub by_interfaces : (why : ConfigRefused) → first_failing (each_tested interface_tests c.interfaces) ≡ Some why → config_fault c ≡ Some why
@@ -28,8 +28,8 @@ module _ (c : Config) (some : (length c.interfaces == 0) ≡ false) (few : nat_l
     interfaces_pass : config_fault c ≡ behind_interfaces
     interfaces_pass = counts_pass ∙ first_failing-append (each_tested interface_tests c.interfaces) _ pass
 
-    pub by_count : nat_lt OWNED_LIMIT (length c.prefixes) ≡ true → config_fault c ≡ Some TooManyPrefixes
+    pub by_count : nat_lt owned_limit (length c.prefixes) ≡ true → config_fault c ≡ Some TooManyPrefixes
     by_count many = interfaces_pass ∙ ap (λ b. cond b (Some TooManyPrefixes) (first_failing (each_tested prefix_tests c.prefixes))) many
 
-    pub by_prefixes : nat_lt OWNED_LIMIT (length c.prefixes) ≡ false → config_fault c ≡ first_failing (each_tested prefix_tests c.prefixes)
+    pub by_prefixes : nat_lt owned_limit (length c.prefixes) ≡ false → config_fault c ≡ first_failing (each_tested prefix_tests c.prefixes)
     by_prefixes fit = interfaces_pass ∙ ap (λ b. cond b (Some TooManyPrefixes) (first_failing (each_tested prefix_tests c.prefixes))) fit

@@ -26,7 +26,7 @@ use Rattle.router_core.specs.declared.arrival.Fault.{Fault}
 use Rattle.router_core.specs.declared.reconfiguring.Change.{Change}
 use Rattle.router_core.specs.declared.reconfiguring.Change.TheVariants.{Cost, Own, Disown}
 use Rattle.router_core.specs.declared.reconfiguring.ReconfigureRefused.TheVariants as refused
-use Rattle.router_core.specs.declared.config.TheConstants.{OWNED_LIMIT}
+use Rattle.router_core.specs.Config.{owned_limit}
 use Rattle.router_core.proofs.HearingSteps.{same_as_key}
 use Rattle.route_table.proofs.TableSteps.{get-with_value, get-with_value_here}
 
@@ -155,7 +155,7 @@ once_filtered test (t ∷ ts) once = by_test (test t) (once_filtered test ts onc
     by_test false rest = rest
 
 not_owned_before : (config : Config) (table : Table) (p : Prefix6) (tag : ℕ) → change_fault config table (Own p tag) ≡ None → has_prefix config.prefixes p ≡ false
-not_owned_before config table p tag allowed = by_tests (is_routable p) (has_prefix config.prefixes p) (nat_le OWNED_LIMIT (length config.prefixes)) (is_none (map_of.get table p) && nat_le table_limit (map_of.len table)) allowed
+not_owned_before config table p tag allowed = by_tests (is_routable p) (has_prefix config.prefixes p) (nat_le owned_limit (length config.prefixes)) (is_none (map_of.get table p) && nat_le table_limit (map_of.len table)) allowed
   where
     by_tests : (a b c d : Bool) → cond (not a) (Some refused.PrefixNotAllowed) (cond b (Some refused.AlreadyOwned) (cond c (Some refused.OwnedFull) (cond d (Some refused.TableFull) None))) ≡ None → b ≡ false
     by_tests false b c d e = absurd (None-Some _ (sym e))

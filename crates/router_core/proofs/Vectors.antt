@@ -19,7 +19,7 @@ use Rattle.router_core.specs.Adoption.{Gateway, adopted}
 use Rattle.router_core.specs.Ageing.{aged}
 use Rattle.router_core.specs.Changes.{change}
 use Rattle.router_core.specs.Owning.{owned_route}
-use Rattle.router_core.specs.Machine.{next_regular, next_hold}
+use Rattle.router_core.specs.Timers.{next_regular, next_hold}
 use Rattle.router_core.specs.Output.{pieces, numbers_below, filled, told_entry, whole_table_request, asks_for_all, start_messages}
 use Rattle.router_core.specs.declared.arrival.Fault.TheVariants.{Wire, NotRipngPort, NotLinkLocal, OwnAddress, HopLimit, EmptyRequest, BadSource}
 use Rattle.router_core.specs.declared.answer.Destination.TheVariants.{Group}

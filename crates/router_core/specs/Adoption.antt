@@ -6,16 +6,7 @@ use Rattle.route_table.specs.declared.route.Origin.TheVariants.{Own, Learned}
 use Rattle.route_table.specs.declared.route.Clock.{Clock}
 use Rattle.route_table.specs.declared.route.Clock.TheVariants.{Fixed, Live, Dying}
 use Rattle.router_core.specs.Offers.{Offer}
-
-abbrev pub timeout : ℕ
-timeout = 180_000
-
--- after which an equal metric from another gateway wins
-abbrev pub half_timeout : ℕ
-half_timeout = 90_000
-
-abbrev pub garbage_time : ℕ
-garbage_time = 120_000
+use Rattle.router_core.specs.Timers.{timeout, half_timeout, garbage_time}
 
 -- from where and when offers come: an interface and its cost, the address of the sender, and the moment
 pub record Gateway : Type 0 where

@@ -9,7 +9,6 @@ use Rattle.route_table.specs.Route.{infinity}
 use Rattle.router_core.specs.declared.config.ConfigRefused.{ConfigRefused}
 use Rattle.router_core.specs.declared.config.ConfigRefused.TheVariants.{NoInterface, TooManyInterfaces, AddressNotLinkLocal, AddressTwice, BadCost, BadMtu, TooManyPrefixes, PrefixTwice, PrefixNotAllowed}
 use Rattle.router_core.specs.declared.config.Interface.{Interface}
-use Rattle.router_core.specs.declared.config.TheConstants.{INTERFACE_LIMIT, OWNED_LIMIT}
 
 pub record Config : Type 0 where
   pub interfaces : List Interface
@@ -35,6 +34,14 @@ has_prefix owned p = list_any (λ t. same_prefix t.0 p) owned
 -- an address of one of the router's interfaces
 abbrev pub is_own_address : Config → ℕ → Bool
 is_own_address config a = has_address config.interfaces a
+
+-- the most interfaces of a router
+abbrev pub interface_limit : ℕ
+interface_limit = 16
+
+-- the most prefixes that a router owns
+abbrev pub owned_limit : ℕ
+owned_limit = 256
 
 -- ---- which configurations are lawful: each test stands with whether it fails
 
@@ -68,9 +75,9 @@ each_tested tests xs = flat_map (λ t. tests (take t.0 xs) t.1) (enumerate_from 
 abbrev pub config_tests : Config → List (Bool × ConfigRefused)
 config_tests c =
     (length c.interfaces == 0, NoInterface)
-    ∷ (nat_lt INTERFACE_LIMIT (length c.interfaces), TooManyInterfaces)
+    ∷ (nat_lt interface_limit (length c.interfaces), TooManyInterfaces)
     ∷ each_tested interface_tests c.interfaces
-    ++ (nat_lt OWNED_LIMIT (length c.prefixes), TooManyPrefixes)
+    ++ (nat_lt owned_limit (length c.prefixes), TooManyPrefixes)
     ∷ each_tested prefix_tests c.prefixes
 
 -- the first test that fails

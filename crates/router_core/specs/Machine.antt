@@ -1,5 +1,5 @@
 -- The steps of a router: what it may answer, and what it then is (RFC 2080, 2.3 to 2.5).
-use Rattle.std.specs.Prelude.{◌≡◌, ℕ, ◌+◌, ◌%◌, max, ◌&&◌, nat_le, Bool, if◌then◌else◌, MatchBool, MatchOption, List, [], map, Some, None}
+use Rattle.std.specs.Prelude.{◌≡◌, ℕ, max, ◌&&◌, nat_le, Bool, if◌then◌else◌, MatchBool, MatchOption, List, [], map, Some, None}
 use Rattle.std.specs.List.{list_any}
 use Rattle.std.specs.FinMap as map_of
 use Rattle.ripng_wire.specs.declared.rte.Rte.{Rte}
@@ -9,6 +9,7 @@ use Rattle.ripng_wire.specs.Wire.{is_response}
 use Rattle.route_table.specs.Table.{Table}
 use Rattle.router_core.specs.Config.{Config, cost_at}
 use Rattle.router_core.specs.Received.{Received}
+use Rattle.router_core.specs.Timers.{next_regular, next_hold}
 use Rattle.router_core.specs.Faults.{fault}
 use Rattle.router_core.specs.Adoption.{Gateway}
 use Rattle.router_core.specs.Hearing.{Hearing, Heard, hearing}
@@ -96,14 +97,6 @@ tick_messages old now =
     if is_regular_due old now then update_messages old.config every_route (aged_table now old.table)
     else if is_triggered_due old now then update_messages old.config is_changed (aged_table now old.table)
     else []
-
--- when the next regular update is due: 15 to 45 seconds after one, by a random word (RFC 2080, 2.3)
-abbrev pub next_regular : ℕ → ℕ → ℕ
-next_regular now word = now + 15_000 + word % 30_001
-
--- until when triggered updates are held: 1 to 5 seconds after one, by a random word (RFC 2080, 2.5.1)
-abbrev pub next_hold : ℕ → ℕ → ℕ
-next_hold now word = now + 1_000 + word % 4_001
 
 -- the state after a tick: routes age, and what was told is no longer marked
 abbrev pub ticked : State → ℕ → ℕ → State

@@ -1,5 +1,5 @@
 -- What the entries of a Response offer (RFC 2080, 2.1.1 and 2.4.2).
-use Rattle.std.specs.Prelude.{ℕ, ◌==◌, ◌&&◌, ◌||◌, not, nat_lt, Bool, if◌then◌else◌, List, [], ◌∷◌, map, reverse, take, filter, find, Option, Some, None, is_none}
+use Rattle.std.specs.Prelude.{ℕ, ◌==◌, ◌&&◌, ◌||◌, not, nat_lt, Bool, if◌then◌else◌, List, [], ◌∷◌, map, reverse, take, filter, find, codes, Option, Some, None, is_none}
 use Rattle.std.specs.List.{enumerate_from}
 use Rattle.prefix6.specs.Addr.{is_link_local}
 use Rattle.prefix6.specs.Prefix.{Prefix6, cleared, is_routable, same_prefix}
@@ -9,7 +9,23 @@ use Rattle.ripng_wire.specs.Wire.{first_failing}
 use Rattle.route_table.specs.Route.{infinity}
 use Rattle.router_core.specs.Config.{Config, is_own_address}
 use Rattle.router_core.specs.declared.answer.NoteKind.{NoteKind}
-use Rattle.router_core.specs.declared.answer.NoteKind.TheVariants.{BadLength, BadPrefix, BadMetric}
+use Rattle.router_core.specs.declared.answer.NoteKind.TheVariants.{BadLength, BadPrefix, BadMetric, TableFull, NoMemory}
+
+-- the number of a note
+abbrev pub note_number : NoteKind → ℕ
+note_number BadLength = 20
+note_number BadPrefix = 21
+note_number BadMetric = 22
+note_number TableFull = 23
+note_number NoMemory = 24
+
+-- the name of a note
+abbrev pub note_name : NoteKind → List ℕ
+note_name BadLength = codes "BadLength"
+note_name BadPrefix = codes "BadPrefix"
+note_name BadMetric = codes "BadMetric"
+note_name TableFull = codes "TableFull"
+note_name NoMemory = codes "NoMemory"
 
 -- the prefix that an entry names
 abbrev pub prefix_named : Rte → Prefix6

@@ -12,7 +12,7 @@ use Rattle.router_core.specs.Changes.{change}
 use Rattle.router_core.specs.Config.{Config, has_prefix, is_usable_cost}
 use Rattle.router_core.specs.Owning.{owned_route}
 use Rattle.router_core.specs.declared.config.Interface.{Interface}
-use Rattle.router_core.specs.declared.config.TheConstants.{OWNED_LIMIT}
+use Rattle.router_core.specs.Config.{owned_limit}
 use Rattle.router_core.specs.declared.reconfiguring.Change.{Change}
 use Rattle.router_core.specs.declared.reconfiguring.Change.TheVariants.{Cost, Own, Disown}
 use Rattle.router_core.specs.declared.reconfiguring.ReconfigureRefused.{ReconfigureRefused}
@@ -36,7 +36,7 @@ change_tests config table (Cost iface cost) = (not (is_usable_cost cost), BadCos
 change_tests config table (Own p tag) =
     (not (is_routable p), PrefixNotAllowed)
     ∷ (has_prefix config.prefixes p, AlreadyOwned)
-    ∷ (nat_le OWNED_LIMIT (length config.prefixes), OwnedFull)
+    ∷ (nat_le owned_limit (length config.prefixes), OwnedFull)
     ∷ (is_none (map_of.get table p) && nat_le table_limit (map_of.len table), TableFull)
     ∷ []
 change_tests config table (Disown p) = (not (has_prefix config.prefixes p), NotOwned) ∷ []

@@ -1,7 +1,8 @@
 -- Which update a tick sends, and what it moves (RFC 2080, 2.3 and 2.5).
 use Rattle.std.specs.Prelude.{ℕ, ◌/◌, if◌then◌else◌, List, [], length, Option, Some, None}
 use Rattle.router_core.specs.Ageing.{aged_table}
-use Rattle.router_core.specs.Machine.{State, is_regular_due, is_triggered_due, next_regular, next_hold}
+use Rattle.router_core.specs.Machine.{State, is_regular_due, is_triggered_due}
+use Rattle.router_core.specs.Timers.{next_regular, next_hold}
 use Rattle.router_core.specs.Output.{Message, selected, update_messages}
 use Rattle.router_core.specs.declared.tell.Told.{Told}
 use Rattle.router_core.specs.declared.tell.Told.TheVariants.{Every, Changed}

@@ -5,15 +5,10 @@ ghost use Rattle.route_table.specs.Route.{infinity};
 ghost use Rattle.route_table.specs.declared.route.Clock.TheVariants.{Live};
 ghost use Rattle.router_core.specs.Adoption.{metric_through, is_reachable, taken, refreshed, is_through, is_repeated, is_preferred, adopted_by_clock, adopted};
 
+use crate::timers::{GARBAGE_TIME_MS, HALF_TIMEOUT_MS, TIMEOUT_MS};
 use prefix6::Addr6;
 use route_table::{Clock, Deadline, INFINITY, Moment, Origin, Route};
 use std::marker::Model;
-
-const TIMEOUT_MS: u32 = 180_000;
-
-const HALF_TIMEOUT_MS: u32 = 90_000;
-
-pub(crate) const GARBAGE_TIME_MS: u32 = 120_000;
 
 /// From where offers come, what the way there costs, and when they come.
 #[derive(Drop)]

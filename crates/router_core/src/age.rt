@@ -3,7 +3,7 @@
 ghost use Rattle.std.specs.Prelude.{◌≡◌};
 ghost use Rattle.router_core.specs.Ageing.{aged};
 
-use crate::adopt::GARBAGE_TIME_MS;
+use crate::timers::GARBAGE_TIME_MS;
 use route_table::{Clock, Moment, Route};
 
 /// What is left of a route at a moment.

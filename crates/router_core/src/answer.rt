@@ -1,5 +1,8 @@
 //! What a call of a router answers: a fault, datagrams to be sent, changes of routes, and notes.
 
+ghost use Rattle.std.specs.Prelude.{◌≡◌};
+ghost use Rattle.router_core.specs.Offers.{note_name, note_number};
+
 use crate::arrival::Fault;
 use crate::listed::Listed;
 use fib::RouteChange;
@@ -30,16 +33,38 @@ pub struct Outgoing {
 /// Why an entry of a Response was skipped.
 #[derive(Clone, Copy, Debug, PartialEq, Eq)]
 pub enum NoteKind {
-    /// 20: a length above 128 bits.
-    BadLength,
-    /// 21: a multicast or link-local prefix.
-    BadPrefix,
-    /// 22: a metric that is not 1 to 16.
-    BadMetric,
-    /// 23: a new route, and the table holds as many as it may.
-    TableFull,
-    /// 24: a new route, and memory for it was refused.
-    NoMemory,
+    /// A length above 128 bits.
+    BadLength = 20,
+    /// A multicast or link-local prefix.
+    BadPrefix = 21,
+    /// A metric that is not 1 to 16.
+    BadMetric = 22,
+    /// A new route, and the table holds as many as it may.
+    TableFull = 23,
+    /// A new route, and memory for it was refused.
+    NoMemory = 24,
+}
+
+impl NoteKind {
+    /// The number of the note, 20 to 24.
+    pub fn number(self) -> u8
+        ensures { result ≡ note_number self }
+    {
+        self as u8
+    }
+
+    /// The name of the note, one word.
+    pub fn name(self) -> &'static str
+        ensures { result.now ≡ note_name self }
+    {
+        match self {
+            NoteKind::BadLength => "BadLength",
+            NoteKind::BadPrefix => "BadPrefix",
+            NoteKind::BadMetric => "BadMetric",
+            NoteKind::TableFull => "TableFull",
+            NoteKind::NoMemory => "NoMemory",
+        }
+    }
 }
 
 /// A note that an entry of a Response was skipped.

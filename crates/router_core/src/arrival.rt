@@ -1,5 +1,8 @@
 //! Datagrams that come to a router, and why one may change nothing.
 
+ghost use Rattle.std.specs.Prelude.{◌≡◌};
+ghost use Rattle.router_core.specs.Faults.{fault_name, fault_number};
+
 use prefix6::Addr6;
 use ripng_wire::WireError;
 use route_table::Moment;
@@ -60,4 +63,36 @@ pub enum Fault {
     EmptyRequest,
     /// 12: a Request from no unicast address, or from port 0.
     BadSource,
+}
+
+impl Fault {
+    /// The number of the fault, 1 to 12.
+    pub fn number(self) -> u8
+        ensures { result ≡ fault_number self }
+    {
+        match self {
+            Fault::Wire(why) => why.number(),
+            Fault::NotRipngPort => 7,
+            Fault::NotLinkLocal => 8,
+            Fault::OwnAddress => 9,
+            Fault::HopLimit => 10,
+            Fault::EmptyRequest => 11,
+            Fault::BadSource => 12,
+        }
+    }
+
+    /// The name of the fault, one word.
+    pub fn name(self) -> &'static str
+        ensures { result.now ≡ fault_name self }
+    {
+        match self {
+            Fault::Wire(why) => why.name(),
+            Fault::NotRipngPort => "NotRipngPort",
+            Fault::NotLinkLocal => "NotLinkLocal",
+            Fault::OwnAddress => "OwnAddress",
+            Fault::HopLimit => "HopLimit",
+            Fault::EmptyRequest => "EmptyRequest",
+            Fault::BadSource => "BadSource",
+        }
+    }
 }

@@ -21,6 +21,7 @@ mod router;
 mod start;
 mod tell;
 mod ticking;
+mod timers;
 
 pub use answer::{Answer, Destination, Note, NoteKind, Outgoing};
 pub use arrival::{Arrival, Fault, RIPNG_PORT};

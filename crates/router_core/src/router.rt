@@ -17,7 +17,7 @@ ghost use Rattle.router_core.specs.Output.{AreSpelled, start_messages};
 ghost use Rattle.router_core.specs.Reconfiguring.{IsNamed, IsPlaced, change_fault, changed_config, changed_table, changes_of_change};
 ghost use Rattle.router_core.specs.Updates.{update_due, update_of, regular_after, hold_after, entries_in};
 
-use crate::adopt::{GARBAGE_TIME_MS, Gateway};
+use crate::adopt::Gateway;
 use crate::answer::{Answer, Note, Outgoing};
 use crate::arrival::{Arrival, Fault};
 use crate::config::RouterConfig;
@@ -31,24 +31,15 @@ use crate::reply::reply;
 use crate::start::{changes_of_start, owned_routes, requests};
 use crate::tell::{Told, updates};
 use crate::ticking::{changes_of_ageing, settle_all};
+use crate::timers::{
+    GARBAGE_TIME_MS, HOLD_LEAST_MS, HOLD_SPREAD_MS, REGULAR_LEAST_MS, REGULAR_SPREAD_MS,
+};
 use fib::RouteChange;
 use prefix6::Prefix;
 use ripng_wire::{Command, Datagram};
 use route_table::{Deadline, Moment, Route, RouteStore};
 use std::alloc::{AllocError, Global};
 use std::marker::Model;
-
-/// The least time from a regular update to the next (RFC 2080, section 2.3).
-const REGULAR_LEAST_MS: u32 = 15_000;
-
-/// A random word makes that time longer by less than this.
-const REGULAR_SPREAD_MS: u32 = 30_001;
-
-/// The least time for which a triggered update holds the next (RFC 2080, section 2.5.1).
-const HOLD_LEAST_MS: u32 = 1_000;
-
-/// A random word makes that time longer by less than this.
-const HOLD_SPREAD_MS: u32 = 4_001;
 
 /// A router over a store of routes.
 #[derive(Drop)]
@@ -362,6 +353,9 @@ impl<S: RouteStore> Router<S> {
         ensures config { self.new.config ≡ self.old.config }
         ensures few { IfOk result (λ answer. length answer.sends ≤ max (map_of.len self.old.table) (entries_in arrival.entry.bytes)) }
         ensures replays { IfOk result (λ answer. Replays (forwards self.old.table) answer.changes (forwards self.new.table)) }
+        ensures fault { IfOk result (λ answer. answer.fault ≡ fault self.old.config arrival.entry) }
+        ensures fault_leaves_all { IsSome (fault self.old.config arrival.entry) → self.new ≡ record self.old { last = max self.old.last arrival.entry.now } }
+        ensures fault_sends_nothing { IfOk result (λ answer. IsSome answer.fault → answer.sends ≡ []) }
         ensures fault_is_free { IsSome (fault self.old.config arrival.entry) → IsOk result }
         ensures empty_is_free { Spells Response [] arrival.entry.bytes → IsOk result }
     {

@@ -1,4 +1,4 @@
-//! Scenarios of one router, over real bytes and a real store: transcripts of what comes to it and of all that it then
+//! Scenarios of one router, over real bytes and both stores: transcripts of what comes to it and of all that it then
 //! answers and holds. Each was worked out by hand from RFC 2080 and the rules in docs/PROTOCOL.md, never from what the
 //! router wrote. They show what no contract can say: that a call succeeds where there is memory.
 //!

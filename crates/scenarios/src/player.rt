@@ -17,16 +17,14 @@ use crate::reading::{
 use crate::writing::{write_answer, write_route, write_router, write_sizes, write_timers};
 use prefix6::parse_prefix;
 use ripng_wire::WireError;
-use route_table::{Moment, RouteStore, SortedRoutes};
+use route_table::{Moment, RouteStore, SortedRoutes, TrieRoutes};
 use router_core::{Answer, Arrival, Change, Fault, Router};
 use std::alloc::Global;
 use std::process::Abort;
 use std::test::Fail;
 
-type TestRouter = Router<SortedRoutes>;
-
 // An arrival at an interface that there is. It must be answered by the fault that was foreseen.
-fn arrive(router: &mut TestRouter, arrival: Arrival<'_>) -> Result<Answer, Fail> {
+fn arrive<S: RouteStore>(router: &mut Router<S>, arrival: Arrival<'_>) -> Result<Answer, Fail> {
     if arrival.iface >= router.config().interfaces().len() {
         return Err(Fail::from("no such interface"));
     }
@@ -39,21 +37,29 @@ fn arrive(router: &mut TestRouter, arrival: Arrival<'_>) -> Result<Answer, Fail>
     }
 }
 
-fn hear(alloc: Global, router: &mut TestRouter, words: &[&str]) -> Result<Answer, Fail> {
+fn hear<S: RouteStore>(
+    alloc: Global,
+    router: &mut Router<S>,
+    words: &[&str],
+) -> Result<Answer, Fail> {
     let (how, bytes) = words.split_at(words.len().min(6));
     let bytes = datagram(alloc, bytes)?;
     arrive(router, arrival(how, bytes.as_slice())?)
 }
 
-fn hear_sites(alloc: Global, router: &mut TestRouter, words: &[&str]) -> Result<Answer, Fail> {
+fn hear_sites<S: RouteStore>(
+    alloc: Global,
+    router: &mut Router<S>,
+    words: &[&str],
+) -> Result<Answer, Fail> {
     let bytes = response_of_sites(alloc, words)?;
     arrive(router, from_neighbor(words, bytes.as_slice())?)
 }
 
 // What each beginning of a neighbor's Response is answered by.
-fn faults_of_beginnings(
+fn faults_of_beginnings<S: RouteStore>(
     alloc: Global,
-    router: &mut TestRouter,
+    router: &mut Router<S>,
     words: &[&str],
 ) -> Result<Vec<Option<Fault>>, Fail> {
     let bytes = response_of_sites(alloc, words)?;
@@ -65,10 +71,10 @@ fn faults_of_beginnings(
     Ok(faults)
 }
 
-fn hear_beginnings(
+fn hear_beginnings<S: RouteStore>(
     out: &mut String,
     alloc: Global,
-    router: &mut TestRouter,
+    router: &mut Router<S>,
     words: &[&str],
 ) -> Result<(), Fail> {
     let faults = faults_of_beginnings(alloc, router, words)?;
@@ -84,7 +90,11 @@ fn hear_beginnings(
 }
 
 // What the router answers to a command.
-fn answer_of(alloc: Global, router: &mut TestRouter, words: &[&str]) -> Result<Answer, Fail> {
+fn answer_of<S: RouteStore>(
+    alloc: Global,
+    router: &mut Router<S>,
+    words: &[&str],
+) -> Result<Answer, Fail> {
     match words {
         ["hear", rest @ ..] => hear(alloc, router, rest),
         ["hear-sites", rest @ ..] => hear_sites(alloc, router, rest),
@@ -122,10 +132,10 @@ fn change_of(words: &[&str]) -> Result<(Moment, Change), Fail> {
 }
 
 // Changes the router's configuration, and writes what it answers.
-fn reconfigure(
+fn reconfigure<S: RouteStore>(
     out: &mut String,
     alloc: Global,
-    router: &mut TestRouter,
+    router: &mut Router<S>,
     words: &[&str],
 ) -> Result<(), Fail> {
     let (now, change) = change_of(words)?;
@@ -140,7 +150,7 @@ fn reconfigure(
     }
 }
 
-fn show_route(out: &mut String, router: &TestRouter, word: &str) -> Result<(), Fail> {
+fn show_route<S: RouteStore>(out: &mut String, router: &Router<S>, word: &str) -> Result<(), Fail> {
     let prefix = parse_prefix(word)?;
     match router.routes().get(&prefix) {
         Some(route) => Ok(write_route(out, &prefix, &route)?),
@@ -149,10 +159,10 @@ fn show_route(out: &mut String, router: &TestRouter, word: &str) -> Result<(), F
 }
 
 // Does a command, and writes what comes out.
-fn obey(
+fn obey<S: RouteStore>(
     out: &mut String,
     alloc: Global,
-    router: &mut TestRouter,
+    router: &mut Router<S>,
     words: &[&str],
 ) -> Result<(), Fail> {
     match words {
@@ -168,7 +178,7 @@ fn obey(
 }
 
 // The router that the first line starts.
-fn begin(out: &mut String, alloc: Global, line: &str) -> Result<TestRouter, Fail> {
+fn begin<S: RouteStore>(out: &mut String, alloc: Global, line: &str) -> Result<Router<S>, Fail> {
     writeln!(out, "{line}")?;
     let words = words_of(alloc, line)?;
     let [">", how, rest @ ..] = words.as_slice() else {
@@ -184,10 +194,10 @@ fn begin(out: &mut String, alloc: Global, line: &str) -> Result<TestRouter, Fail
 }
 
 // The transcript as it turns out.
-fn played(alloc: Global, transcript: &str) -> Result<String, Fail> {
+fn played<S: RouteStore>(alloc: Global, transcript: &str) -> Result<String, Fail> {
     let mut out = String::new(alloc);
     let mut lines = transcript.lines();
-    let mut router = begin(&mut out, alloc, lines.next().unwrap_or(""))?;
+    let mut router: Router<S> = begin(&mut out, alloc, lines.next().unwrap_or(""))?;
     for line in lines {
         if let Some(command) = line.strip_prefix("> ") {
             writeln!(out, "{line}")?;
@@ -198,9 +208,11 @@ fn played(alloc: Global, transcript: &str) -> Result<String, Fail> {
     Ok(out)
 }
 
-/// Plays a transcript, which must turn out as it is written.
+/// Plays a transcript to a router over either store. It must turn out as it is written.
 pub fn play(rt: &impl Abort, alloc: Global, transcript: &str) -> Result<(), Fail> {
-    let played = played(alloc, transcript)?;
-    assert_eq!(rt; played.as_str(), transcript);
+    let over_sorted = played::<SortedRoutes>(alloc, transcript)?;
+    assert_eq!(rt; over_sorted.as_str(), transcript);
+    let over_trie = played::<TrieRoutes>(alloc, transcript)?;
+    assert_eq!(rt; over_trie.as_str(), transcript);
     Ok(())
 }

@@ -2,7 +2,7 @@
 
 use fib::{Hop, RouteChange};
 use prefix6::Prefix;
-use route_table::{Clock, Origin, Route, RouteStore, SortedRoutes};
+use route_table::{Clock, Origin, Route, RouteStore};
 use router_core::{Answer, Destination, Note, NoteKind, Outgoing, Router};
 use std::alloc::{AllocError, Global};
 
@@ -129,7 +129,7 @@ pub fn write_route(out: &mut String, prefix: &Prefix, route: &Route) -> Result<(
 }
 
 /// The moment of a router's last step, when its next regular update is due, and until when it holds triggered ones.
-pub fn write_timers(out: &mut String, router: &Router<SortedRoutes>) -> Result<(), AllocError> {
+pub fn write_timers<S: RouteStore>(out: &mut String, router: &Router<S>) -> Result<(), AllocError> {
     let (last, regular, hold) = (router.last(), router.regular(), router.hold());
     writeln!(
         out,
@@ -141,7 +141,7 @@ pub fn write_timers(out: &mut String, router: &Router<SortedRoutes>) -> Result<(
 }
 
 /// Every route of a router, in order, then its timers.
-pub fn write_router(out: &mut String, router: &Router<SortedRoutes>) -> Result<(), AllocError> {
+pub fn write_router<S: RouteStore>(out: &mut String, router: &Router<S>) -> Result<(), AllocError> {
     let routes = router.routes();
     let mut after = None;
     for _ in 0..routes.len() {

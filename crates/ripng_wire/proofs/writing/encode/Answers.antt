@@ -3,7 +3,7 @@ use Rattle.std.specs.List.{flat_map, All}
 use Rattle.std.proofs.lemmas.List.{take_all, take_more, flat_map_more}
 use Rattle.std.proofs.lemmas.List.Elements.{All-more}
 use Rattle.ripng_wire.specs.declared.rte.Rte.{Rte}
-use Rattle.ripng_wire.specs.declared.rte.TheConstants.{VERSION}
+use Rattle.ripng_wire.specs.Layout.{version}
 use Rattle.ripng_wire.specs.Layout.{command_byte, entry_bytes, Fits}
 use Rattle.ripng_wire.proofs.writing.encode.Goals as goal
 
@@ -14,7 +14,7 @@ returns c =
     record {
       few = omega arith;
       fit = subst (λ (x : List Rte). All Fits x) whole c.loop-entry.invariant.fit;
-      bytes_are = c.loop-entry.invariant.bytes_are ∙ ap (λ (x : List Rte). command_byte c.args.command ∷ VERSION ∷ 0 ∷ 0 ∷ flat_map entry_bytes x) whole;
+      bytes_are = c.loop-entry.invariant.bytes_are ∙ ap (λ (x : List Rte). command_byte c.args.command ∷ version ∷ 0 ∷ 0 ∷ flat_map entry_bytes x) whole;
     }
 
 pub loop-entry-preserved : goal.loop-entry-preserved
@@ -23,7 +23,7 @@ loop-entry-preserved c =
     let es = c.args.entries.now in
     let zero_entry : Rte = record { addr = 0; tag = 0; len = 0; metric = 0 } in
     let e = get_or es i zero_entry in
-    let head = command_byte c.args.command ∷ VERSION ∷ 0 ∷ 0 ∷ [] in
+    let head = command_byte c.args.command ∷ version ∷ 0 ∷ 0 ∷ [] in
     record {
       bytes_are = c.in_ok-extend_from_slice-2.ensures.items
           ∙ ap₂ (λ (x y : List ℕ). x ++ y) c.loop-entry.invariant.bytes_are c.bytes_of.ensures.layout
