@@ -16,7 +16,7 @@ Table = ByPrefix RouteValue
 
 -- the most routes of a table
 abbrev pub table_limit : ℕ
-table_limit = 4096
+table_limit = 65_536
 
 -- f of the value of each entry, where f gives one
 abbrev pub map_entries : {X Y : Type 0} → (X → Option Y) → List (Prefix6 × X) → List (Prefix6 × Y)

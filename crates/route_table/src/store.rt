@@ -12,7 +12,7 @@ use std::alloc::Global;
 use thiserror::Error;
 
 /// The most routes that a table holds.
-pub const TABLE_LIMIT: usize = 4096;
+pub const TABLE_LIMIT: usize = 65_536;
 
 /// Why a route was not added. The table is then as it was.
 #[derive(Clone, Copy, Debug, PartialEq, Eq, Error)]

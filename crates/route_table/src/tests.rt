@@ -2,8 +2,12 @@
 
 mod tries;
 
-use crate::{AddRefused, Clock, Moment, Origin, Route, RouteStore, SortedRoutes, TABLE_LIMIT};
+use crate::{
+    AddRefused, Clock, Moment, Origin, Route, RouteStore, SortedRoutes, TABLE_LIMIT, TrieRoutes,
+};
 use prefix6::{Addr6, Prefix, PrefixError};
+use std::alloc::Global;
+use std::process::Abort;
 use std::test::Fail;
 
 const DOC: u128 = 0x2001_0db8 << 96;
@@ -101,21 +105,26 @@ fn a_route_is_added_replaced_and_removed(rt: HostRuntime) -> Result<(), Fail> {
     Ok(())
 }
 
-#[test]
-fn a_full_table_refuses_until_a_route_is_removed(rt: HostRuntime) -> Result<(), Fail> {
-    let mut store = SortedRoutes::empty(rt.alloc());
-    for number in 0..4_096 {
+// A store with a route to each of the 65,536 sites.
+fn full<S: RouteStore>(rt: &impl Abort, alloc: Global) -> Result<S, Fail> {
+    let mut store = S::empty(alloc);
+    for number in 0..=u16::MAX {
         let next = site(number)?;
         assert_eq!(rt; store.get(&next), None);
         store.add(next, Route::own(number))?;
     }
-    assert_eq!(rt; (store.len(), TABLE_LIMIT), (4_096, 4_096));
+    Ok(store)
+}
 
-    let one_more = site(4_096)?;
+fn refuses_when_full<S: RouteStore>(rt: &impl Abort, alloc: Global) -> Result<(), Fail> {
+    let mut store: S = full(rt, alloc)?;
+    assert_eq!(rt; (store.len(), TABLE_LIMIT), (65_536, 65_536));
+
+    let one_more = prefix(DOC, 32)?;
     assert_eq!(rt; store.get(&one_more), None);
     let refused = store.add(one_more, Route::own(1));
     assert_eq!(rt; refused, Err(AddRefused::Full));
-    assert_eq!(rt; (store.len(), store.get(&one_more)), (4_096, None));
+    assert_eq!(rt; (store.len(), store.get(&one_more)), (65_536, None));
 
     let old = site(5)?;
     assert_eq!(rt; store.get(&old), Some(Route::own(5)));
@@ -125,9 +134,15 @@ fn a_full_table_refuses_until_a_route_is_removed(rt: HostRuntime) -> Result<(), 
     store.add(one_more, Route::own(1))?;
     assert_eq!(rt;
         (store.len(), store.get(&one_more)),
-        (4_096, Some(Route::own(1)))
+        (65_536, Some(Route::own(1)))
     );
     Ok(())
+}
+
+#[test]
+fn a_full_table_refuses_until_a_route_is_removed(rt: HostRuntime) -> Result<(), Fail> {
+    refuses_when_full::<SortedRoutes>(&rt, rt.alloc())?;
+    refuses_when_full::<TrieRoutes>(&rt, rt.alloc())
 }
 
 #[test]

@@ -41,7 +41,7 @@ interface_limit = 16
 
 -- the most prefixes that a router owns
 abbrev pub owned_limit : ℕ
-owned_limit = 256
+owned_limit = 1_024
 
 -- ---- which configurations are lawful: each test stands with whether it fails
 

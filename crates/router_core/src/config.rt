@@ -28,7 +28,7 @@ pub struct Interface {
 pub const INTERFACE_LIMIT: usize = 16;
 
 /// The most prefixes that a router owns. Each fits its table.
-pub const OWNED_LIMIT: usize = 256;
+pub const OWNED_LIMIT: usize = 1_024;
 
 const _: () = prove!(OWNED_LIMIT <= route_table::TABLE_LIMIT);
 

@@ -64,7 +64,7 @@ fn no_more_prefixes_are_owned_than_the_limit(rt: HostRuntime) -> Result<(), Fail
         &rt,
         rt.alloc(),
         "\
-> router sites 256
+> router sites 1024
 > gain 1 2001:db8:ffff::/48 0
 refused 34 OwnedFull
 > drop 1 2001:db8:5::/48
@@ -82,10 +82,8 @@ fn a_full_table_has_no_room_for_a_new_prefix(rt: HostRuntime) -> Result<(), Fail
         rt.alloc(),
         "\
 > router
-> count hear-sites 0 0 fe80::2 0 2048 3
-changes 2048
-> count hear-sites 0 0 fe80::2 2048 2048 3
-changes 2048
+> fill 0 0 fe80::2 32 3
+changes 65536
 > gain 1 2001:db8::/32 5
 refused 36 TableFull
 > gain 1 2001:db8:5::/48 5
@@ -93,7 +91,7 @@ install 2001:db8:5::/48 metric 1 direct
 > route 2001:db8:5::/48
 2001:db8:5::/48 metric 1 tag 5 own changed
 > size
-4096
+65536
 ",
     )
 }

@@ -4,7 +4,7 @@ use crate::player::play;
 use std::test::Fail;
 
 #[test]
-fn a_full_table_keeps_learning_of_what_it_holds(rt: HostRuntime) -> Result<(), Fail> {
+fn a_table_of_4096_routes_has_room(rt: HostRuntime) -> Result<(), Fail> {
     play(
         &rt,
         rt.alloc(),
@@ -19,16 +19,37 @@ changes 2048
 > hear 0 1 fe80::3 521 255 group 02010000 \
 20010db8 10000000 00000000 00000000 00003001 \
 20010db8 00050000 00000000 00000000 00003001
+install 2001:db8:1000::/48 metric 2 via fe80::3 iface 0
+install 2001:db8:5::/48 metric 2 via fe80::3 iface 0
+> size
+4097
+",
+    )
+}
+
+#[test]
+fn a_full_table_keeps_learning_of_what_it_holds(rt: HostRuntime) -> Result<(), Fail> {
+    play(
+        &rt,
+        rt.alloc(),
+        "\
+> router
+> fill 0 0 fe80::2 32 3
+changes 65536
+> size
+65536
+> hear 0 1 fe80::3 521 255 group 02010000 \
+20010db9 00000000 00000000 00000000 00003001 \
+20010db8 00050000 00000000 00000000 00003001
 install 2001:db8:5::/48 metric 2 via fe80::3 iface 0
 note 0 TableFull
 > route 2001:db8:5::/48
 2001:db8:5::/48 metric 2 tag 0 via fe80::3 iface 0 from fe80::3 live until 180001 changed
-> route 2001:db8:fff::/48
-2001:db8:fff::/48 metric 4 tag 0 via fe80::2 iface 0 from fe80::2 live until 180000 changed
-> route 2001:db8:1000::/48
-no route
-> size
-4096
+> route 2001:db8:ffff::/48
+2001:db8:ffff::/48 metric 4 tag 0 via fe80::2 iface 0 from fe80::2 live until 180000 changed
+> tally tick 2 0
+send 0 1075 datagrams, the last of 444 bytes
+send 1 911 datagrams, the last of 324 bytes
 ",
     )
 }

@@ -5,16 +5,20 @@
 //! | `start ..`, `router ..` | the first line: the router comes up at 0, and its answer is written, or not. It owns no prefix, or with `sites N` those of the numbers below N, or with `own PREFIX TAG` that one; with `quiet` it is quiet |
 //! | `hear IFACE NOW SOURCE PORT HOP group BYTES` | a datagram arrives that was sent to the group, or with `peer` to this router |
 //! | `hear-sites IFACE NOW SOURCE FIRST COUNT METRIC` | a neighbor's Response arrives, with so many prefixes `2001:db8:N::/48` |
+//! | `fill IFACE NOW SOURCE COUNT METRIC` | so many of a neighbor's Responses arrive, with 2,048 prefixes each; the number of their changes is written |
 //! | `hear-beginnings IFACE NOW SOURCE FIRST COUNT METRIC` | each beginning of that Response arrives, the shortest first; how many have which fault is written |
 //! | `tick NOW WORD`, `restart NOW` | time passes; the router comes up again |
 //! | `cost IFACE NOW COST`, `gain NOW PREFIX TAG`, `drop NOW PREFIX` | the router's configuration is changed; where that is refused, the refusal is written |
 //! | `count COMMAND` | does the command, and writes numbers in place of a long answer |
+//! | `tally COMMAND` | does the command, and writes how many datagrams each interface sends, and the size of the last |
 //! | `show`, `route PREFIX`, `size`, `timers` | writes all that the router holds, one route, how many there are, its moments |
 
 use crate::reading::{
-    arrival, config, datagram, from_neighbor, moment, response_of_sites, words_of,
+    arrival, config, datagram, from_neighbor, moment, response_of_sites, told_sites, words_of,
 };
-use crate::writing::{write_answer, write_route, write_router, write_sizes, write_timers};
+use crate::writing::{
+    write_answer, write_route, write_router, write_sizes, write_tally, write_timers,
+};
 use prefix6::parse_prefix;
 use ripng_wire::WireError;
 use route_table::{Moment, RouteStore, SortedRoutes, TrieRoutes};
@@ -54,6 +58,26 @@ fn hear_sites<S: RouteStore>(
 ) -> Result<Answer, Fail> {
     let bytes = response_of_sites(alloc, words)?;
     arrive(router, from_neighbor(words, bytes.as_slice())?)
+}
+
+// A neighbor's Responses of 2,048 sites each fill the table.
+fn fill<S: RouteStore>(
+    out: &mut String,
+    alloc: Global,
+    router: &mut Router<S>,
+    words: &[&str],
+) -> Result<(), Fail> {
+    let [_, _, _, count, metric] = words else {
+        return Err(Fail::from("no such filling"));
+    };
+    let (count, metric) = (count.parse::<u32>()?, metric.parse::<u8>()?);
+    let mut changes = 0usize;
+    for number in 0..count {
+        let bytes = told_sites(alloc, number.saturating_mul(2_048), 2_048, metric)?;
+        let answer = arrive(router, from_neighbor(words, bytes.as_slice())?)?;
+        changes = changes.saturating_add(answer.changes.as_slice().len());
+    }
+    Ok(writeln!(out, "changes {changes}")?)
 }
 
 // What each beginning of a neighbor's Response is answered by.
@@ -170,8 +194,10 @@ fn obey<S: RouteStore>(
         ["route", prefix] => show_route(out, router, *prefix),
         ["size"] => Ok(writeln!(out, "{}", router.routes().len())?),
         ["timers"] => Ok(write_timers(out, router)?),
+        ["fill", rest @ ..] => fill(out, alloc, router, rest),
         ["hear-beginnings", rest @ ..] => hear_beginnings(out, alloc, router, rest),
         ["cost" | "gain" | "drop", ..] => reconfigure(out, alloc, router, words),
+        ["tally", rest @ ..] => Ok(write_tally(out, &answer_of(alloc, router, rest)?)?),
         ["count", rest @ ..] => Ok(write_sizes(out, alloc, &answer_of(alloc, router, rest)?)?),
         _ => Ok(write_answer(out, alloc, &answer_of(alloc, router, words)?)?),
     }

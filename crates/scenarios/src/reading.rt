@@ -2,7 +2,7 @@
 
 use prefix6::{Addr6, Prefix, parse_addr, parse_prefix};
 use route_table::Moment;
-use router_core::{Arrival, Interface, RouterConfig};
+use router_core::{Arrival, ConfigRefused, Interface, RouterConfig};
 use std::alloc::Global;
 use std::test::Fail;
 
@@ -21,8 +21,8 @@ pub fn moment(word: &str) -> Result<Moment, Fail> {
 }
 
 // The prefix 2001:db8:N::/48.
-fn site(number: u16) -> Result<Prefix, Fail> {
-    let bits = 0x2001_0db8_u128 << 96 | u128::from(number) << 80;
+fn site(number: u32) -> Result<Prefix, Fail> {
+    let bits = (0x2001_0db8_u128 << 96) + (u128::from(number) << 80);
     Ok(Prefix::new(Addr6::from_bits(bits), 48)?)
 }
 
@@ -37,7 +37,7 @@ fn interfaces(alloc: Global) -> Result<Vec<Interface>, Fail> {
 }
 
 // So many sites from 0 on, each with tag 0.
-fn owned_sites(alloc: Global, count: u16) -> Result<Vec<(Prefix, u16)>, Fail> {
+fn owned_sites(alloc: Global, count: u32) -> Result<Vec<(Prefix, u16)>, Fail> {
     let mut owned = Vec::new(alloc);
     for number in 0..count {
         owned.push((site(number)?, 0))?;
@@ -49,7 +49,7 @@ fn owned_sites(alloc: Global, count: u16) -> Result<Vec<(Prefix, u16)>, Fail> {
 fn owned(alloc: Global, words: &[&str]) -> Result<Vec<(Prefix, u16)>, Fail> {
     match words {
         [] | ["quiet"] => Ok(Vec::new(alloc)),
-        ["sites", count] => owned_sites(alloc, count.parse::<u16>()?),
+        ["sites", count] => owned_sites(alloc, count.parse::<u32>()?),
         ["own", prefix, tag] => {
             let owned = (parse_prefix(*prefix)?, tag.parse::<u16>()?);
             Ok(Vec::from_slice(alloc, &[owned])?)
@@ -63,6 +63,24 @@ pub fn config(alloc: Global, words: &[&str]) -> Result<RouterConfig, Fail> {
     let is_quiet = words.contains(&"quiet");
     let config = RouterConfig::check(interfaces(alloc)?, owned(alloc, words)?, is_quiet);
     Ok(config.ok().ok_or("a lawful configuration")?)
+}
+
+/// Why a configuration of so many interfaces and owned sites is refused.
+pub fn refusal_of(
+    alloc: Global,
+    interfaces: u32,
+    prefixes: u32,
+) -> Result<Option<ConfigRefused>, Fail> {
+    let mut listed = Vec::new(alloc);
+    for host in 0..interfaces {
+        let addr = Addr6::from_bits((0xfe80_u128 << 112) + u128::from(host));
+        listed.push(Interface {
+            addr,
+            cost: 1,
+            mtu: 1280,
+        })?;
+    }
+    Ok(RouterConfig::check(listed, owned_sites(alloc, prefixes)?, false).err())
 }
 
 // Adds bytes so many times.
@@ -84,8 +102,8 @@ pub fn datagram(alloc: Global, words: &[&str]) -> Result<Vec<u8>, Fail> {
     Ok(bytes)
 }
 
-// A Response of so many sites from a number on, each with a metric and tag 0.
-fn told_sites(alloc: Global, first: u16, count: u16, metric: u8) -> Result<Vec<u8>, Fail> {
+/// A Response of so many sites from a number on, each with a metric and tag 0.
+pub fn told_sites(alloc: Global, first: u32, count: u32, metric: u8) -> Result<Vec<u8>, Fail> {
     let mut bytes = Vec::from_slice(alloc, &[2, 1, 0, 0])?;
     for number in first..first.saturating_add(count) {
         bytes.extend_from_slice(site(number)?.addr().octets().as_slice())?;
@@ -101,8 +119,8 @@ pub fn response_of_sites(alloc: Global, words: &[&str]) -> Result<Vec<u8>, Fail>
     };
     told_sites(
         alloc,
-        first.parse::<u16>()?,
-        count.parse::<u16>()?,
+        first.parse::<u32>()?,
+        count.parse::<u32>()?,
         metric.parse::<u8>()?,
     )
 }

@@ -1,7 +1,22 @@
 //! Starts and restarts.
 
 use crate::player::play;
+use crate::reading::refusal_of;
+use router_core::ConfigRefused;
 use std::test::Fail;
+
+#[test]
+fn limits_of_a_configuration_are_met_exactly(rt: HostRuntime) -> Result<(), Fail> {
+    for (interfaces, prefixes, refusal) in [
+        (16, 1_024, None),
+        (1, 257, None),
+        (17, 0, Some(ConfigRefused::TooManyInterfaces)),
+        (1, 1_025, Some(ConfigRefused::TooManyPrefixes)),
+    ] {
+        assert_eq!(rt; refusal_of(rt.alloc(), interfaces, prefixes)?, refusal);
+    }
+    Ok(())
+}
 
 #[test]
 fn a_start_asks_on_each_interface(rt: HostRuntime) -> Result<(), Fail> {

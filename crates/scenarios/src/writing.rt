@@ -100,6 +100,24 @@ pub fn write_sizes(out: &mut String, alloc: Global, answer: &Answer) -> Result<(
     write_note_counts(out, answer.notes.as_slice())
 }
 
+// How many datagrams are sent on an interface, and the size of the last.
+fn write_sent_on(out: &mut String, sends: &[Outgoing], iface: usize) -> Result<(), AllocError> {
+    let on_it = sends.iter().filter(|send| send.iface == iface);
+    let (count, last) = on_it.fold((0usize, 0), |(count, _), send| {
+        (count.saturating_add(1), send.bytes.as_slice().len())
+    });
+    writeln!(
+        out,
+        "send {iface} {count} datagrams, the last of {last} bytes"
+    )
+}
+
+/// How many datagrams each interface sends, and the size of the last.
+pub fn write_tally(out: &mut String, answer: &Answer) -> Result<(), AllocError> {
+    write_sent_on(out, answer.sends.as_slice(), 0)?;
+    write_sent_on(out, answer.sends.as_slice(), 1)
+}
+
 /// A route: metric, tag, where it comes from, its deadline, and whether it is marked as changed.
 pub fn write_route(out: &mut String, prefix: &Prefix, route: &Route) -> Result<(), AllocError> {
     write!(
