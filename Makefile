@@ -1,13 +1,15 @@
 # make              proves and builds the program, and leaves it at bin/ripngd
 # make lab SCRIPT=  runs a network of routers from a script
 # make show HEX=    decodes one datagram, given as hexadecimal digits
+# make bench        times of a router and its forwarding table, as tables grow
 # make test         the merge gate: every proof from nothing, the edits that must fail, tests and programs
 # make clean        forgets what earlier runs kept
 
 HEX ?= 02010000
 SCRIPT ?= examples/line.lab
+ROUTES ?= 1024 4096 16384 65536
 
-.PHONY: all lab show test clean
+.PHONY: all lab show bench test clean
 
 all:
 	cd crates/ripngd_program && rt run -- show 02010000 > /dev/null
@@ -19,6 +21,12 @@ lab: all
 
 show: all
 	bin/ripngd show $(HEX)
+
+# Memory is measured by a program of its own for each size, since freed memory is used again.
+bench:
+	cd crates/ripngd_bench && rt run -- names > /dev/null
+	crates/ripngd_bench/out/ripngd_bench $(ROUTES)
+	for routes in $(ROUTES); do crates/ripngd_bench/out/ripngd_bench memory $$routes; done
 
 # The gate runs programs on files of their own, so the examples stand twice: they must be the same.
 test:
