@@ -1,8 +1,8 @@
 -- What stands in lists that were made from others, and numbered lists.
-use Rattle.std.proofs.Common.{◌≡◌, inl, inr, ℕ, zero, suc, ◌+◌, ◌<◌, Bool, true, false, cond, nat_eq, List, [], ◌∷◌, ◌++◌, map, take, drop, filter, filter_map, flat_map, length, get_or, Option, Some, None, slice_get, Contains, All, refl, ap, ap₂, sym, subst, ◌∙◌, arith, append_assoc}
+use Rattle.std.proofs.Common.{◌≡◌, inl, inr, ℕ, zero, suc, ◌+◌, ◌-◌, ◌<◌, ◌≤◌, Bool, true, false, cond, nat_eq, List, [], ◌∷◌, ◌++◌, map, take, drop, filter, filter_map, flat_map, length, get_or, Option, Some, None, slice_get, Contains, All, refl, ap, ap₂, sym, subst, ◌∙◌, arith, append_assoc}
 use Rattle.std.specs.List.{IsDistinct, AllByRecursion, cons_option, enumerate_from, range_with_len}
 use Rattle.std.proofs.lemmas.Bool.Decides.{nat_tests}
-use Rattle.std.proofs.lemmas.List.{length-take-le, take_more, flat_map_more}
+use Rattle.std.proofs.lemmas.List.{length-drop, length-take-le, get_or-drop, take_more, flat_map_more}
 use Rattle.std.proofs.lemmas.Option.{slice_get-get_or}
 use Rattle.route_table.proofs.TableLaws.{Some-same, None-Some}
 use Rattle.ripng_world.proofs.Members.{At, split_at}
@@ -155,7 +155,7 @@ unfolding IsDistinct
 range_distinct a zero = tt
 range_distinct a (suc n) = (above a (a + 1) n (omega arith), range_distinct (a + 1) n)
 
-enumerate_append : {X : Type 0} (n : ℕ) (xs ys : List X) → enumerate_from n (xs ++ ys) ≡ enumerate_from n xs ++ enumerate_from (n + length xs) ys
+pub enumerate_append : {X : Type 0} (n : ℕ) (xs ys : List X) → enumerate_from n (xs ++ ys) ≡ enumerate_from n xs ++ enumerate_from (n + length xs) ys
 enumerate_append n [] ys = let none : n ≡ n + 0 = omega arith in ap (λ m. enumerate_from m ys) none
 enumerate_append n (x ∷ xs) ys =
     let more : n + 1 + length xs ≡ n + suc (length xs) = omega arith in
@@ -167,6 +167,18 @@ enumerate_more n xs i d h =
     let long : length (take i xs) ≡ i = length-take-le i xs (omega arith) in
     ap (enumerate_from n) (take_more xs i d h) ∙ enumerate_append n (take i xs) (get_or xs i d ∷ [])
     ∙ ap (λ m. enumerate_from n (take i xs) ++ (n + m, get_or xs i d) ∷ []) long
+
+-- one more of the items from a place on
+pub numbered_more : {X : Type 0} (xs : List X) (first n : ℕ) (x : X) → first ≤ n → n < length xs → x ≡ get_or xs n x
+    → enumerate_from first (take (n + 1 - first) (drop first xs)) ≡ enumerate_from first (take (n - first) (drop first xs)) ++ (n, x) ∷ []
+numbered_more xs first n x low high is =
+    let left : n - first < length (drop first xs) = omega (arith, low, high, length-drop first xs) in
+    let next : n + 1 - first ≡ n - first + 1 = omega (arith, low) in
+    let place : first + (n - first) ≡ n = omega (arith, low) in
+    ap (λ (m : ℕ). enumerate_from first (take m (drop first xs))) next
+    ∙ enumerate_more first (drop first xs) (n - first) x left
+    ∙ ap₂ (λ (m : ℕ) (y : _). enumerate_from first (take (n - first) (drop first xs)) ++ (m, y) ∷ []) place
+    (get_or-drop first xs (n - first) x ∙ ap (λ (m : ℕ). get_or xs m x) place ∙ sym is)
 
 -- ---- lists that grow
 

@@ -1,5 +1,5 @@
 -- Rounds that are made as they were asked for are quiet rounds, and change no configuration.
-use Rattle.std.proofs.Common.{◌≡◌, ◌≢◌, ◌⊎◌, inl, inr, ℕ, suc, ◌+◌, ◌<◌, ◌≤◌, ◌==◌, ◌%◌, Bool, true, false, not, ◌&&◌, ◌||◌, ◌-◌, List, [], ◌∷◌, ◌++◌, All, Contains, map, take, drop, filter, length, Option, Some, None, slice_get, option_map, refl, sym, subst, ◌∙◌, ap, ap₂, arith, le_trans, Result, Ok, Err, OnOk, IfErr}
+use Rattle.std.proofs.Common.{◌≡◌, ◌≢◌, ◌⊎◌, inl, inr, ℕ, suc, ◌+◌, ◌<◌, ◌≤◌, ◌==◌, ◌%◌, Bool, true, false, not, ◌&&◌, ◌||◌, ◌-◌, List, [], ◌∷◌, ◌++◌, All, Contains, map, take, drop, filter, length, Option, Some, None, slice_get, option_map, refl, sym, subst, ◌∙◌, ap, ap₂, arith, le_trans, Result, Ok, Err, OnErr, OnOk, IfErr}
 use Rattle.std.specs.List.{IsDistinct, enumerate_from, range_with_len, cons_option}
 use Rattle.std.specs.Prelude.{nat_eq}
 use Rattle.std.proofs.lemmas.Bool.{false≢true}
@@ -10,6 +10,7 @@ use Rattle.route_table.proofs.TableLaws.{Some-same, None-Some}
 use Rattle.ripng_world.specs.Asked.{Asked}
 use Rattle.ripng_world.specs.AskedRounds.{AreAllMade, AreMade, Converges, HaveStopped, StopsFor, delivery, deliveries_of, is_other, is_picked, other_deliveries, pair_at, pairs_since, picked_deliveries, places_of, round_of, ticks_of}
 use Rattle.ripng_world.specs.Convergence.{IsNeverQuiet, FitsTables, AreConverged}
+use Rattle.ripng_world.specs.Delivering.{HappenInPart}
 use Rattle.ripng_world.specs.Labs.{is_one_link, link_at}
 use Rattle.ripng_world.specs.Network.{Network, IsNetwork, Node, AreLinked, interface_at}
 use Rattle.ripng_world.specs.Rounds.{Round, AllTick, AllHeard, QuietRounds, IsQuietRound, IsDeliveryOf, AreClose, router_of}
@@ -317,3 +318,15 @@ pub rounds_still : {X : Type 0} (net : Network) (asks : List Asked) (w w' : Worl
     → IfErr r (λ why. HaveStopped net w asks why w') → w'.changes ≡ w.changes
 rounds_still net asks w w' (Ok x) made stopped = made_still net asks made.0 w w' made.1
 rounds_still net asks w w' (Err why) made stopped = stopped_still net asks why w w' stopped
+
+-- deliveries change no configuration, all or in part
+pub since_still : {X E : Type 0} (net : Network) (pairs : List Pair) (now : ℕ) (w w' : World) (r : Result X E) → OnOk r (WorldRun net w (map (λ p. delivery p now) pairs) w')
+    → OnErr r (HappenInPart net w (map (λ p. delivery p now) pairs) w') → w'.changes ≡ w.changes
+since_still net pairs now w w' (Ok x) run stops =
+    ran_still net (map (λ p. delivery p now) pairs) w w' (λ e a. let m = in_map (λ (p : Pair). delivery p now) pairs e a in ap change_in (sym m.2)) run
+since_still net pairs now w w' (Err why) run stops =
+    ran_still net stops.done w w'
+    (λ e a.
+    let m = in_map (λ (p : Pair). delivery p now) pairs e (subst (λ (es : List Event). At es e) (sym stops.events_are) (at_left stops.done stops.left e a)) in
+    ap change_in (sym m.2))
+    stops.run

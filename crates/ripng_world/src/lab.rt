@@ -1,30 +1,27 @@
 //! A lab: a lawful network that runs, over real routers and bytes. Whatever happens in it, no router has a route, and no
 //! datagram tells one, that no walk through the network backs.
 
-ghost use Rattle.std.specs.Prelude.{◌≡◌, ◌≢◌, ℕ, ◌<◌, ◌≤◌, ◌↔◌, max, IsTrue, IsFalse, All, ◌++◌, ◌∷◌, List, [], None, IfErr, IfOk, IfSome, OnErr, OnOk, Some, length, map, take, slice_get, unwrap_or};
+ghost use Rattle.std.specs.Prelude.{◌≡◌, ℕ, ◌++◌, ◌∷◌, [], None, IfErr, IfOk, IfSome, OnErr, OnOk, length, map, take, slice_get, unwrap_or};
 ghost use Rattle.std.specs.Option.{option_copied};
-ghost use Rattle.router_core.specs.Machine.{State};
-ghost use Rattle.router_core.specs.declared.answer.NoteKind.TheVariants.{NoMemory};
-ghost use Rattle.ripng_world.specs.AskedRounds.{AreAllMade, AreMade, Converges, HaveStopped, IsMade, StopsFor, deliveries_of, pairs_since, round_in, ticks_of};
 ghost use Rattle.ripng_world.specs.Events.{event_of};
 ghost use Rattle.ripng_world.specs.Labs.{AreRoutesBackedSince, AreNoneBelowLeastSince, IsNoneBelowLeast, IsNoneBelowLeastSince, IsTruthToldSince, HoldsFixed, IsTruthTold, HappensGiving, IsRefusal, IsRefusedNext, link_at, step_fault};
 ghost use Rattle.ripng_world.specs.Past.{IsTableBackedSince};
-ghost use Rattle.ripng_world.specs.Rounds.{AllHeard, AllTick, Round as RoundEvents};
 ghost use Rattle.ripng_world.specs.Stations.{network_of, world_of};
 ghost use Rattle.ripng_world.specs.Walks.{IsTableBacked};
 ghost use Rattle.ripng_world.specs.World.{IsCold, WorldRun, changes_in, past_of};
 
+mod delivering;
+mod making;
+
 use crate::event::{Event, LabError};
 use crate::moving::{file, happen};
 use crate::network::{NetConfig, NetRouter};
-use crate::pairs::{deliveries, pairs_since};
 use crate::refusing::{check, link_at};
-use crate::rounds::{Round, RoundsRefused};
 use crate::sent::Sent;
 use crate::station::Station;
 use fib::RouteChange;
 use route_table::{Moment, RouteStore};
-use router_core::{Answer, Change, Fault, Listed, Note, NoteKind, Router};
+use router_core::{Answer, Change, Fault, Listed, Note, Router};
 use std::alloc::{AllocError, Global};
 use std::marker::Model;
 
@@ -92,20 +89,6 @@ fn handed_out(
         changes,
         notes,
     }
-}
-
-// A moment before the last one counts as that.
-fn later(last: Moment, now: Moment) -> Moment
-    ensures { result ≡ max last now }
-{
-    last.max(now)
-}
-
-// Whether a new route wants for memory.
-fn wants_memory(notes: &[Note]) -> bool
-    ensures { IsFalse result → All (λ n. n.kind ≢ NoMemory) notes.now }
-{
-    notes.iter().any(|note| note.kind == NoteKind::NoMemory)
 }
 
 impl<S: RouteStore> Lab<S> {
@@ -225,120 +208,5 @@ impl<S: RouteStore> Lab<S> {
             }
         }
         (events.len(), Ok(()))
-    }
-
-    // Whether the regular update of a router is due, at a moment or at the last one that it was told.
-    fn is_due(&self, router: usize, now: Moment) -> bool
-        requires { router < length self.now.network }
-        ensures { (state : State) × (slice_get self.now.world.states router ≡ Some state) × (IsTrue result ↔ (state.regular ≤ max state.last now)) }
-    {
-        let router = self.stations[router].router();
-        let now = later(router.last(), now);
-        router.regular().reached(now)
-    }
-
-    // Each router ticks, in order, each when its regular update is due.
-    fn tick_all(&mut self, number: usize, round: &Round<'_>) -> Result<(), RoundsRefused>
-        requires { length round.now.ticks ≡ length self.old.network }
-        ensures network { self.new.network ≡ self.old.network }
-        ensures ticked { OnOk result (AllTick self.old.network self.old.world (ticks_of round.entry.now.ticks) self.new.world) }
-        ensures number { IfErr result (λ why. round_in why ≡ number) }
-        ensures refused { IfErr result (λ why. StopsFor self.old.network self.old.world round.entry.now why self.new.world) }
-    {
-        for (router, tick) in round.ticks.iter().enumerate() {
-            let (now, word) = *tick;
-            if !self.is_due(router, now) {
-                return Err(RoundsRefused::NoRegularUpdate {
-                    round: number,
-                    router,
-                });
-            }
-            let Ok(_) = self.step(&Event::Tick { router, now, word }) else {
-                return Err(RoundsRefused::OutOfMemory { round: number });
-            };
-        }
-        Ok(())
-    }
-
-    // What is to be delivered in a round, once its routers have ticked.
-    fn deliveries(&self, first: usize, round: &Round<'_>) -> Result<Vec<Event<'static>>, AllocError>
-        requires { first ≤ length self.now.world.sent }
-        ensures { IfOk result (λ events. map event_of events.items ≡ deliveries_of (pairs_since self.now.network first self.now.world.sent) round.entry.now.picks round.entry.now.rest) }
-    {
-        let pairs = pairs_since(self.alloc, &self.stations, &self.sent, first)?;
-        deliveries(self.alloc, &pairs, round.picks, round.rest)
-    }
-
-    // Deliveries happen one after another, until one is refused or a new route wants for memory.
-    fn deliver_all(&mut self, deliveries: &[Event<'_>]) -> Result<(), AllocError>
-        ensures network { self.new.network ≡ self.old.network }
-        ensures heard { OnOk result (AllHeard self.old.network self.old.world (map event_of deliveries.entry.now) self.new.world) }
-        ensures stopped { OnErr result ((done : ℕ) × WorldRun self.old.network self.old.world (take done (map event_of deliveries.entry.now)) self.new.world) }
-    {
-        for delivery in deliveries {
-            let Ok(answer) = self.step(delivery) else {
-                return Err(AllocError);
-            };
-            if wants_memory(answer.notes.as_slice()) {
-                return Err(AllocError);
-            }
-        }
-        Ok(())
-    }
-
-    // A round is made as it is asked for.
-    fn make_round(&mut self, number: usize, round: &Round<'_>) -> Result<(), RoundsRefused>
-        requires { length round.now.ticks ≡ length self.old.network }
-        ensures network { self.new.network ≡ self.old.network }
-        ensures made { OnOk result (IsMade self.old.network self.old.world round.entry.now self.new.world) }
-        ensures number { IfErr result (λ why. round_in why ≡ number) }
-        ensures refused { IfErr result (λ why. StopsFor self.old.network self.old.world round.entry.now why self.new.world) }
-    {
-        let first = self.sent().len();
-        self.tick_all(number, round)?;
-        let Ok(deliveries) = self.deliveries(first, round) else {
-            return Err(RoundsRefused::OutOfMemory { round: number });
-        };
-        let Ok(()) = self.deliver_all(&deliveries) else {
-            return Err(RoundsRefused::OutOfMemory { round: number });
-        };
-        Ok(())
-    }
-
-    // Rounds are made one after another, until one is refused.
-    fn make_rounds(&mut self, rounds: &[Round<'_>]) -> Result<(), RoundsRefused>
-        requires { All (λ r. length r.ticks ≡ length self.old.network) rounds.now }
-        ensures network { self.new.network ≡ self.old.network }
-        ensures made { OnOk result ((made : List RoundEvents) × AreMade self.old.network self.old.world rounds.entry.now made self.new.world) }
-        ensures refused { IfErr result (λ why. HaveStopped self.old.network self.old.world rounds.entry.now why self.new.world) }
-    {
-        for (number, round) in rounds.iter().enumerate() {
-            self.make_round(number, round)?;
-        }
-        Ok(())
-    }
-
-    /// Rounds are made one after another, each as it is asked for. From a cold start, where no router is quiet, so many
-    /// rounds find the least costs of walks with so many hops.
-    ///
-    /// # Errors
-    /// A tick at which the regular update is not due, before it is done; or want of memory, also where a router skipped an
-    /// entry for it. All events before are done, and nothing else.
-    pub fn run_rounds(&mut self, rounds: &[Round<'_>]) -> Result<(), RoundsRefused>
-        requires { All (λ r. length r.ticks ≡ length self.old.network) rounds.now }
-        ensures network { self.new.network ≡ self.old.network }
-        ensures changes { self.new.world.changes ≡ self.old.world.changes }
-        ensures made { OnOk result (AreAllMade self.old.network self.old.world rounds.entry.now self.new.world) }
-        ensures converges { OnOk result (Converges self.old.network self.old.world rounds.entry.now self.new.world) }
-        ensures refused { IfErr result (λ why. HaveStopped self.old.network self.old.world rounds.entry.now why self.new.world) }
-        ensures backed { AreRoutesBackedSince self.new.network self.new.world }
-        ensures least { AreNoneBelowLeastSince self.new.network self.new.world }
-        ensures truth { IsTruthToldSince self.new.network self.new.world }
-        ensures fixed { HoldsFixed self.new.network self.new.world }
-    {
-        let outcome = self.make_rounds(rounds);
-        // The lab is opened, so that what holds of it is known.
-        let _ = &self.stations;
-        outcome
     }
 }

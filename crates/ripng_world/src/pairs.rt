@@ -1,9 +1,8 @@
-//! Which deliveries a round makes.
+//! Which datagrams come where: pairs of a datagram and another interface of its link.
 
-ghost use Rattle.std.specs.Prelude.{◌≡◌, ℕ, ◌<◌, ◌≤◌, ◌++◌, IfOk, OnOk, length, map, slice_index_or, false, vec_len};
+ghost use Rattle.std.specs.Prelude.{◌≡◌, ◌≤◌, ◌++◌, IfOk, OnOk, length, map};
 ghost use Rattle.std.specs.List.{filter, range_with_len};
-ghost use Rattle.ripng_world.specs.AskedRounds.{deliveries_of, is_other, is_picked, other_deliveries, pair_at, pairs_since, picked_deliveries, places_of};
-ghost use Rattle.ripng_world.specs.Events.{event_of};
+ghost use Rattle.ripng_world.specs.AskedRounds.{is_other, pair_at, pairs_since, places_of};
 ghost use Rattle.ripng_world.specs.Stations.{network_of};
 
 use crate::event::Event;
@@ -53,8 +52,8 @@ fn add_places(
     Ok(())
 }
 
-// All interfaces of the network, each with its router's number, in order.
-fn places<S: RouteStore>(
+/// All interfaces of the network, each behind its router's number, in order.
+pub fn places<S: RouteStore>(
     alloc: Global,
     stations: &[Station<S>],
 ) -> Result<Vec<(usize, usize)>, AllocError>
@@ -85,6 +84,24 @@ fn is_other<S: RouteStore>(
         }
         _ => false,
     }
+}
+
+/// The places that are other interfaces of the link of a datagram, in order.
+pub fn other_places<S: RouteStore>(
+    alloc: Global,
+    stations: &[Station<S>],
+    places: &[(usize, usize)],
+    datagram: &Sent,
+) -> Result<Vec<(usize, usize)>, AllocError>
+    ensures { IfOk result (λ others. others.items ≡ filter (is_other (network_of stations.now) datagram.now) places.now) }
+{
+    let mut others = Vec::new(alloc);
+    for &(router, iface) in places {
+        if is_other(stations, datagram, router, iface) {
+            others.push((router, iface))?;
+        }
+    }
+    Ok(others)
 }
 
 // Adds a datagram with each of the places that is another interface of its link.
@@ -125,60 +142,4 @@ pub fn pairs_since<S: RouteStore>(
         add_pairs(&mut pairs, stations, &places, number, &sent[number])?;
     }
     Ok(pairs)
-}
-
-// Adds the deliveries that are picked, and says of each pair whether it is among them.
-fn pick(
-    alloc: Global,
-    events: &mut Vec<Event<'static>>,
-    pairs: &[Pair],
-    picks: &[(u32, Moment)],
-) -> Result<Vec<bool>, AllocError>
-    ensures events { OnOk result (map event_of events.new.items ≡ map event_of events.old.items ++ picked_deliveries pairs.now picks.now) }
-    ensures flags { IfOk result (λ flags. vec_len flags ≡ length pairs.now) }
-    ensures picked { IfOk result (λ flags. (k : ℕ) → k < length pairs.now → slice_index_or flags.items k false ≡ is_picked (length pairs.now) picks.now k) }
-{
-    let mut picked = vec![in alloc; false; pairs.len()]?;
-    if pairs.is_empty() {
-        return Ok(picked);
-    }
-    for &(word, now) in picks {
-        let place = word as usize % pairs.len();
-        events.push(pairs[place].delivery(now))?;
-        picked[place] = true;
-    }
-    Ok(picked)
-}
-
-// Adds the deliveries of the pairs that were not picked.
-fn add_others(
-    events: &mut Vec<Event<'static>>,
-    pairs: &[Pair],
-    picked: &[bool],
-    rest: Moment,
-) -> Result<(), AllocError>
-    requires { length picked.now ≡ length pairs.now }
-    ensures { OnOk result (map event_of events.new.items ≡ map event_of events.old.items ++ other_deliveries (λ k. slice_index_or picked.now k false) pairs.now rest) }
-{
-    for (place, pair) in pairs.iter().enumerate() {
-        if !picked[place] {
-            events.push(pair.delivery(rest))?;
-        }
-    }
-    Ok(())
-}
-
-/// The deliveries of a round, in order: those that are picked, and then each pair that was not.
-pub fn deliveries(
-    alloc: Global,
-    pairs: &[Pair],
-    picks: &[(u32, Moment)],
-    rest: Moment,
-) -> Result<Vec<Event<'static>>, AllocError>
-    ensures { IfOk result (λ events. map event_of events.items ≡ deliveries_of pairs.now picks.now rest) }
-{
-    let mut events: Vec<Event<'static>> = Vec::new(alloc);
-    let picked = pick(alloc, &mut events, pairs, picks)?;
-    add_others(&mut events, pairs, &picked, rest)?;
-    Ok(events)
 }
