@@ -16,20 +16,19 @@ use Rattle.router_core.specs.Config.{owned_limit}
 use Rattle.router_core.proofs.ConfigLaws.{passes-append, passes_at, cost_low, cost_high, mtu_low, mtu_high}
 use Rattle.router_core.proofs.EachTested.{first_failing-append, first_failing-found}
 use Rattle.ripng_world.specs.Network.{Network, Node, IsNetwork, IsUsable, OwnsPrefixes, HasDistinctAddresses, config_of, interface_at}
-use Rattle.ripng_world.specs.NetworkFaults.{addresses, address_tests, network_fault, network_tests, router_tests}
+use Rattle.ripng_world.specs.NetworkFaults.{addresses, address_tests, network_fault, network_tests, router_tests, router_limit}
 use Rattle.ripng_world.specs.declared.network.NetInterface.{NetInterface}
 use Rattle.ripng_world.specs.declared.network.NetRefused.{NetRefused}
 use Rattle.ripng_world.specs.declared.network.NetRefused.TheVariants.{TooManyRouters}
-use Rattle.ripng_world.specs.declared.network.TheConstants.{ROUTER_LIMIT}
 use Rattle.ripng_world.proofs.Members.{At, at_flat, get_left, get_past}
 use Rattle.ripng_world.proofs.StationMoves.{then_of}
 
 -- ---- which test fails first
 
-module _ (net : Network) (few : length net ≤ ROUTER_LIMIT) where
+module _ (net : Network) (few : length net ≤ router_limit) where
   counted : network_fault net ≡ first_failing (each_tested router_tests net ++ each_tested address_tests (addresses net))
   counted =
-      let fits : nat_lt ROUTER_LIMIT (length net) ≡ false = grind (arith, nat_tests, few) in
+      let fits : nat_lt router_limit (length net) ≡ false = grind (arith, nat_tests, few) in
       ap (λ b. cond b (Some TooManyRouters) (first_failing (each_tested router_tests net ++ each_tested address_tests (addresses net)))) fits
 
   pub by_router : (why : NetRefused) → first_failing (each_tested router_tests net) ≡ Some why → network_fault net ≡ Some why

@@ -208,10 +208,10 @@ module _ (net : Network) (distinct : HasDistinctAddresses net) (fits : FitsTable
       let all_owned : map_of.len grown ≤ length fits.0 = few_routes fits.0 grown (λ p r at. by_key p r (eq_by_cmp prefix_cmp p (prefix_named e)) refl (sym (map_of.get-insert prefixes_total t.0 (prefix_named e) u.route p) ∙ at)) in
       let more : map_of.len grown ≡ map_of.len t.0 + 1 =
       map_of.len-insert prefixes_total t.0 (prefix_named e) u.route ∙ ap (λ o. cond (is_some o) (map_of.len t.0) (map_of.len t.0 + 1)) (t.1 (prefix_named e) ∙ none) in
-      total (map_of.len grown) (map_of.len t.0) (length fits.0) (held_after h place) more t.2 all_owned fits.1
+      total table_limit (map_of.len grown) (map_of.len t.0) (length fits.0) (held_after h place) more t.2 all_owned fits.1
     where
-      total : (g l n s : ℕ) → g ≡ l + 1 → l ≡ s → g ≤ n → n ≤ 4096 → s < 4096
-      total g l n s e f h i = omega arith
+      total : (limit g l n s : ℕ) → g ≡ l + 1 → l ≡ s → g ≤ n → n ≤ limit → s < limit
+      total limit g l n s e f h i = omega arith
 
       by_key : (p : Prefix6) (r : RouteValue) (b : Bool) → eq_by_cmp prefix_cmp p (prefix_named e) ≡ b
           → cond b (Some (told place e is).route) (map_of.get (table_after h place within).0 p) ≡ Some r → IsIn p fits.0
@@ -278,11 +278,11 @@ module _ (net : Network) (distinct : HasDistinctAddresses net) (fits : FitsTable
         by_adding : (b : Bool) → would_add h place e ≡ b → Contains (cond b (notes_of_new h place) (None ∷ [])) (note_at h place) → is_refusal (note_at h place) ≡ false
         by_adding false adds c = ap is_refusal (sym (one_of_one None (note_at h place) c))
         by_adding true adds c =
-            let spare : nat_le table_limit (held_after h place) ≡ false = below (held_after h place) (room place e within is (absent (route_after h place (prefix_named e)) adds)) in
+            let spare : nat_le table_limit (held_after h place) ≡ false = below table_limit (held_after h place) (room place e within is (absent (route_after h place (prefix_named e)) adds)) in
             by_note (one_of_two None (Some NoMemory) (note_at h place) (subst (λ b. Contains (cond b (Some TableFull ∷ []) (None ∷ Some NoMemory ∷ [])) (note_at h place)) spare c))
           where
-            below : (n : ℕ) → n < 4096 → nat_le 4096 n ≡ false
-            below n a = grind (arith, nat_tests)
+            below : (limit n : ℕ) → n < limit → nat_le limit n ≡ false
+            below limit n a = grind (arith, nat_tests)
 
             absent : (o : Option RouteValue) → (is_offer e && is_none o && is_some (adopted h.gateway None (offer_at h.config h.gateway.from h.entries place e))) ≡ true → o ≡ None
             absent None a = refl

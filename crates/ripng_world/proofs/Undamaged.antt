@@ -6,7 +6,7 @@ use Rattle.std.proofs.lemmas.Bool.Decides.{nat_tests}
 use Rattle.prefix6.specs.Addr.{is_link_local}
 use Rattle.ripng_wire.specs.declared.rte.Rte.{Rte}
 use Rattle.ripng_wire.specs.declared.rte.Command.TheVariants.{Response}
-use Rattle.ripng_wire.specs.Layout.{Spells, entry_bytes}
+use Rattle.ripng_wire.specs.Layout.{Spells, entry_bytes, most_entries}
 use Rattle.ripng_wire.specs.Wire.{first_failing, wire_tests, is_response}
 use Rattle.router_core.specs.Config.{Config, is_own_address}
 use Rattle.router_core.specs.Received.{Received}
@@ -23,7 +23,7 @@ all_pass (t ∷ ts) all = ap (λ b. cond b (Some t.1) (first_failing ts)) all.0 
 long_enough : (n : ℕ) → nat_lt (suc (suc (suc (suc n)))) 4 ≡ false
 long_enough n = grind (arith, nat_tests)
 
-short_enough : (n l : ℕ) → l ≡ 20 * n → n ≤ 3276 → nat_lt 65524 (suc (suc (suc (suc l)))) ≡ false
+short_enough : (n l : ℕ) → l ≡ 20 * n → n ≤ most_entries → nat_lt 65524 (suc (suc (suc (suc l)))) ≡ false
 short_enough n l e h = grind (arith, nat_tests)
 
 whole : (n l : ℕ) → l ≡ 20 * n → not ((suc (suc (suc (suc l))) - 4) % 20 == 0) ≡ false

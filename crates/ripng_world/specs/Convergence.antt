@@ -4,19 +4,13 @@ use Rattle.std.specs.FinMap as map_of
 use Rattle.prefix6.specs.Prefix.{Prefix6}
 use Rattle.route_table.specs.Route.{RouteValue, infinity}
 use Rattle.route_table.specs.Table.{Table, table_limit}
-use Rattle.ripng_world.specs.declared.network.NetInterface.{NetInterface}
-use Rattle.ripng_world.specs.Network.{Network, Node, Owns, interface_at}
+use Rattle.ripng_world.specs.Network.{Network, Node, Owns}
 use Rattle.ripng_world.specs.Walks.{IsLeast, IsWithin}
 use Rattle.router_core.specs.Machine.{State}
 use Rattle.ripng_world.specs.World.{World}
 
 abbrev pub IsNeverQuiet : Network → Type 0
 IsNeverQuiet net = (router : ℕ) (node : Node) → slice_get net router ≡ Some node → IsFalse node.quiet
-
--- at most one interface of a router on a link
-abbrev pub HasOneInterfaceALink : Network → Type 0
-HasOneInterfaceALink net =
-    (router i j : ℕ) (a b : NetInterface) → interface_at net router i ≡ Some a → interface_at net router j ≡ Some b → a.link ≡ b.link → i ≡ j
 
 -- no more distinct owned prefixes than a table holds
 abbrev pub FitsTables : Network → Type 0

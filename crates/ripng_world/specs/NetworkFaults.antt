@@ -6,7 +6,10 @@ use Rattle.router_core.specs.Config.{config_tests, each_tested}
 use Rattle.ripng_world.specs.Network.{Network, Node, config_of}
 use Rattle.ripng_world.specs.declared.network.NetRefused.{NetRefused}
 use Rattle.ripng_world.specs.declared.network.NetRefused.TheVariants.{TooManyRouters, AddressSharedInNetwork, BadRouter, OutOfMemory}
-use Rattle.ripng_world.specs.declared.network.TheConstants.{ROUTER_LIMIT}
+
+-- the most routers of a network
+abbrev pub router_limit : ℕ
+router_limit = 64
 
 -- the tests of the configuration of a router with that number
 abbrev pub faults_of_router : ℕ → Node → List (Bool × NetRefused)
@@ -25,7 +28,7 @@ addresses net = flat_map (λ node. map (λ i. i.interface.addr) node.interfaces)
 
 abbrev pub network_tests : Network → List (Bool × NetRefused)
 network_tests net =
-    (nat_lt ROUTER_LIMIT (length net), TooManyRouters)
+    (nat_lt router_limit (length net), TooManyRouters)
     ∷ each_tested router_tests net
     ++ each_tested address_tests (addresses net)
 

@@ -5,10 +5,12 @@ use std::fs;
 use std::io::{self, Write};
 
 /// The words of a command line behind `ripngd`, and the file with what it prints.
-const EXAMPLES: [([&str; 2], &str); 5] = [
+const EXAMPLES: [([&str; 2], &str); 7] = [
     (["lab", "line.lab"], "line.out"),
     (["lab", "square.lab"], "square.out"),
     (["lab", "counting.lab"], "counting.out"),
+    (["lab", "rounds.lab"], "rounds.out"),
+    (["lab", "moving.lab"], "moving.out"),
     (["check", "east.toml"], "east.out"),
     (["check", "west.toml"], "west.out"),
 ];

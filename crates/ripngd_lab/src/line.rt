@@ -1,5 +1,6 @@
 //! Lines of a script: what each says, by its words.
 
+use crate::round::moments_from;
 use crate::stop::Stop;
 use crate::words::{BadLine, addr, bytes, moment, number, prefix};
 use prefix6::{Addr6, Prefix};
@@ -27,6 +28,9 @@ pub enum Line {
     Stranger { router: usize, datagram: Foreign },
     /// `round NOW`: all routers tick, and what they send then is delivered.
     Round { now: Moment },
+    /// `rounds K NOW GAP`: so many rounds, at NOW and then each GAP milliseconds after the one before, where each router
+    /// ticks when its regular update is due. These are their moments.
+    Rounds { moments: Vec<Moment> },
     /// `print`: all routes are printed.
     Print,
     /// `sent`: all datagrams are printed.
@@ -70,6 +74,9 @@ pub fn read_line(alloc: Global, text: &str) -> Result<Line, Stop> {
         ["stranger", router, datagram @ ..] => Ok(Line::Stranger {
             router: number(router)?,
             datagram: read_foreign(alloc, datagram)?,
+        }),
+        ["rounds", count, now, gap] => Ok(Line::Rounds {
+            moments: moments_from(alloc, number(count)?, moment(now)?, number(gap)?)?,
         }),
         words => Ok(plain_line(words)?),
     }

@@ -1,20 +1,29 @@
-//! A round: every router ticks, and what is sent then comes everywhere.
+//! Rounds: every router ticks, and what is sent then comes everywhere.
 
-use ripng_world::{Event, Lab, LabError};
+ghost use Rattle.std.specs.Prelude.{◌≡◌, ℕ, All, IfOk, length};
+
+use crate::stop::Stop;
+use crate::words::BadLine;
+use ripng_world::{Event, Lab, LabError, Round};
 use route_table::{Moment, RouteStore};
-use router_core::INTERFACE_LIMIT;
+use std::alloc::{AllocError, Global};
 
-/// Every router ticks in order, with the word 0. Then each datagram that these ticks sent comes once to each other
-/// interface of its link, in the order of datagrams, routers and interfaces. All is at one moment.
+/// The most rounds of one line.
+const ROUNDS_LIMIT: u64 = 1000;
+
+/// The moment of a round, and the moment and the word of each router's tick, in order.
+type Ticks = (Moment, Vec<(Moment, u32)>);
+
+/// Every router ticks in order, with the word 0, whether its regular update is due or not. Then each datagram that these
+/// ticks sent comes once to each other interface of its link, in the order of datagrams, routers and interfaces. All is at
+/// one moment.
 ///
 /// # Errors
-/// Of the first event that is refused. Those before it are done.
-pub fn make_round<S: RouteStore>(lab: &mut Lab<S>, now: Moment) -> Result<(), LabError> {
+/// Want of memory. What was done before it stays done.
+pub fn make_round<S: RouteStore>(lab: &mut Lab<S>, now: Moment) -> Result<(), Stop> {
     let first = lab.sent().len();
     tick_all(lab, now)?;
-    for datagram in first..lab.sent().len() {
-        deliver_all(lab, datagram, now)?;
-    }
+    lab.deliver_since(first, now)?;
     Ok(())
 }
 
@@ -29,45 +38,64 @@ fn tick_all<S: RouteStore>(lab: &mut Lab<S>, now: Moment) -> Result<(), LabError
     Ok(())
 }
 
-// A datagram comes to each other interface of its link.
-fn deliver_all<S: RouteStore>(
-    lab: &mut Lab<S>,
-    datagram: usize,
-    now: Moment,
-) -> Result<(), LabError> {
-    for router in 0..lab.routers() {
-        deliver_to(lab, datagram, router, now)?;
+/// The moments of so many rounds, the first at `now`, and each `gap` milliseconds after the one before.
+///
+/// # Errors
+/// `BadLine` where there are no rounds, or more than 1,000, or one is past the last moment; or want of memory.
+pub fn moments_from(alloc: Global, count: u64, now: Moment, gap: u64) -> Result<Vec<Moment>, Stop> {
+    if count == 0 || count > ROUNDS_LIMIT {
+        return Err(Stop::from(BadLine));
     }
+    let mut moments = Vec::new(alloc);
+    for number in 0..count {
+        moments.push(moment_after(now, gap, number).ok_or(BadLine)?)?;
+    }
+    Ok(moments)
+}
+
+// The moment so many gaps later, if there is one.
+fn moment_after(now: Moment, gap: u64, gaps: u64) -> Option<Moment> {
+    Moment::new(gap.checked_mul(gaps)?.checked_add(now.ms())?)
+}
+
+/// A round at each of these moments: every router ticks in order, with the word 0, when its regular update is due, and what
+/// these ticks sent is delivered as in one round alone.
+///
+/// # Errors
+/// A regular update that is not due, or want of memory. What was done before it stays done.
+pub fn make_rounds<S: RouteStore>(
+    alloc: Global,
+    lab: &mut Lab<S>,
+    moments: &[Moment],
+) -> Result<(), Stop> {
+    let ticks = ticks_at(alloc, lab.routers(), moments)?;
+    let rounds = rounds_of(alloc, &ticks)?;
+    lab.run_rounds(&rounds)?;
     Ok(())
 }
 
-// A datagram comes to each other interface of its link that is one of this router.
-fn deliver_to<S: RouteStore>(
-    lab: &mut Lab<S>,
-    datagram: usize,
-    router: usize,
-    now: Moment,
-) -> Result<(), LabError> {
-    for iface in 0..INTERFACE_LIMIT {
-        if is_reached(lab, datagram, router, iface) {
-            let _ = lab.step(&Event::Deliver {
-                datagram,
-                router,
-                iface,
-                now,
-            })?;
-        }
+// A tick of each router at each moment.
+fn ticks_at(alloc: Global, routers: usize, moments: &[Moment]) -> Result<Vec<Ticks>, AllocError>
+    ensures { IfOk result (λ ticks. All (λ t. length t.1.items ≡ routers) ticks.items) }
+{
+    let mut ticks = Vec::new(alloc);
+    for now in moments {
+        ticks.push((*now, vec![in alloc; (*now, 0); routers]?))?;
     }
-    Ok(())
+    Ok(ticks)
 }
 
-// Whether an interface is another one of the datagram's link.
-fn is_reached<S: RouteStore>(lab: &Lab<S>, datagram: usize, router: usize, iface: usize) -> bool {
-    let Some(sent) = lab.sent().get(datagram) else {
-        return false;
-    };
-    let link = lab.link(router, iface);
-    link.is_some()
-        && link == lab.link(sent.router, sent.iface)
-        && (router, iface) != (sent.router, sent.iface)
+// The rounds of these ticks, each with no picks.
+fn rounds_of<'a>(alloc: Global, ticks: &'a [Ticks]) -> Result<Vec<Round<'a>>, AllocError>
+    ensures { IfOk result (λ rounds. (routers : ℕ) → All (λ t. length t.1.items ≡ routers) ticks.now → All (λ r. length r.ticks ≡ routers) rounds.items) }
+{
+    let mut rounds = Vec::new(alloc);
+    for (now, ticks) in ticks {
+        rounds.push(Round {
+            ticks,
+            picks: &[],
+            rest: *now,
+        })?;
+    }
+    Ok(rounds)
 }

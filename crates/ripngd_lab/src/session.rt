@@ -2,11 +2,11 @@
 
 use crate::line::Line;
 use crate::printing::{print_routes, print_sent};
-use crate::round::make_round;
+use crate::round::{make_round, make_rounds};
 use crate::stop::Stop;
 use crate::words::BadLine;
 use ripng_world::{Event, Lab, NetConfig, Node};
-use route_table::{Moment, SortedRoutes};
+use route_table::{Moment, TrieRoutes};
 use std::alloc::Global;
 use std::io::Write;
 use std::mem;
@@ -17,7 +17,7 @@ pub enum Session {
     /// Its routers are listed, and none has started.
     Listing(Vec<Node>),
     /// Its routers have started.
-    Running(Lab<SortedRoutes>),
+    Running(Lab<TrieRoutes>),
 }
 
 impl Session {
@@ -66,7 +66,7 @@ fn newest(nodes: &mut [Node]) -> Result<&mut Node, BadLine> {
 }
 
 // Checks the network and starts its routers at one moment.
-fn start(alloc: Global, nodes: Vec<Node>, now: Moment) -> Result<Lab<SortedRoutes>, Stop> {
+fn start(alloc: Global, nodes: Vec<Node>, now: Moment) -> Result<Lab<TrieRoutes>, Stop> {
     let moments = vec![in alloc; now; nodes.len()]?;
     let network = NetConfig::check(alloc, nodes)?;
     Ok(Lab::cold(alloc, network, moments.as_slice())?)
@@ -75,7 +75,7 @@ fn start(alloc: Global, nodes: Vec<Node>, now: Moment) -> Result<Lab<SortedRoute
 // A line about routers that run.
 fn run<W: Write>(
     alloc: Global,
-    lab: &mut Lab<SortedRoutes>,
+    lab: &mut Lab<TrieRoutes>,
     line: Line,
     out: &mut W,
 ) -> Result<(), Stop> {
@@ -88,7 +88,8 @@ fn run<W: Write>(
                 arrival: datagram.arrival(),
             },
         ),
-        Line::Round { now } => Ok(make_round(lab, now)?),
+        Line::Round { now } => make_round(lab, now),
+        Line::Rounds { moments } => make_rounds(alloc, lab, &moments),
         Line::Print => Ok(print_routes(lab, out)?),
         Line::Sent => Ok(print_sent(alloc, lab, out)?),
         _ => Err(Stop::from(BadLine)),
@@ -96,7 +97,7 @@ fn run<W: Write>(
 }
 
 // What the router that moves answers is not printed.
-fn happen(lab: &mut Lab<SortedRoutes>, event: &Event<'_>) -> Result<(), Stop> {
+fn happen(lab: &mut Lab<TrieRoutes>, event: &Event<'_>) -> Result<(), Stop> {
     let _ = lab.step(event)?;
     Ok(())
 }

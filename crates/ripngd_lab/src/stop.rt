@@ -1,7 +1,7 @@
 //! Why a script ends before its last line.
 
 use crate::words::BadLine;
-use ripng_world::{LabError, NetRefused};
+use ripng_world::{LabError, NetRefused, RoundsRefused};
 use std::alloc::{AllocError, AllocFailed};
 use std::{fmt, io};
 
@@ -14,6 +14,8 @@ pub enum Refusal {
     Network(NetRefused),
     /// The event cannot happen.
     Event(LabError),
+    /// The rounds cannot go on.
+    Rounds(RoundsRefused),
 }
 
 /// Why a script ends before its last line.
@@ -67,12 +69,22 @@ impl From<LabError> for Stop {
     }
 }
 
+impl From<RoundsRefused> for Stop {
+    fn from(refused: RoundsRefused) -> Stop {
+        match refused {
+            RoundsRefused::OutOfMemory { .. } => Stop::from(AllocError),
+            RoundsRefused::NoRegularUpdate { .. } => Stop::Refused(Refusal::Rounds(refused)),
+        }
+    }
+}
+
 impl fmt::Display for Refusal {
     fn fmt<W: fmt::Write>(&self, f: &mut fmt::Formatter<W>) -> fmt::Result {
         match self {
             Refusal::BadLine => write!(f, "BadLine"),
             Refusal::Network(refused) => write_network(*refused, f),
             Refusal::Event(error) => write_event(*error, f),
+            Refusal::Rounds(refused) => write_rounds(*refused, f),
         }
     }
 }
@@ -83,6 +95,15 @@ fn write_event<W: fmt::Write>(error: LabError, f: &mut fmt::Formatter<W>) -> fmt
     match error {
         LabError::ReconfigureRefused(why) => write!(f, " {} {}", why.number(), why.name()),
         _ => Ok(()),
+    }
+}
+
+// Rounds stop, and if before a tick, in which round and at which router.
+fn write_rounds<W: fmt::Write>(refused: RoundsRefused, f: &mut fmt::Formatter<W>) -> fmt::Result {
+    write!(f, "{} {}", refused.number(), refused.name())?;
+    match refused {
+        RoundsRefused::NoRegularUpdate { round, router } => write!(f, " {round} {router}"),
+        RoundsRefused::OutOfMemory { round } => write!(f, " {round}"),
     }
 }
 

@@ -1,6 +1,7 @@
 //! Whole scripts with what they print.
 
 mod reading;
+mod rounds;
 mod walks;
 
 use crate::lab;

@@ -7,10 +7,10 @@ use std::str;
 use std::test::Fail;
 
 /// An interface: its router, its number, its address, its cost and its link.
-type Port = (usize, usize, &'static str, usize, u16);
+pub type Port = (usize, usize, &'static str, usize, u16);
 
 /// An owner of a prefix: its router, the prefix and the tag.
-type Owner = (usize, &'static str, &'static str);
+pub type Owner = (usize, &'static str, &'static str);
 
 const LINE_PORTS: [Port; 4] = [
     (0, 0, "fe80::a0", 1, 0),
@@ -19,7 +19,7 @@ const LINE_PORTS: [Port; 4] = [
     (2, 0, "fe80::c0", 1, 1),
 ];
 
-const SQUARE_PORTS: [Port; 8] = [
+pub const SQUARE_PORTS: [Port; 8] = [
     (0, 0, "fe80::a0", 1, 0),
     (0, 1, "fe80::a1", 9, 3),
     (1, 0, "fe80::b0", 1, 0),
@@ -31,7 +31,7 @@ const SQUARE_PORTS: [Port; 8] = [
 ];
 
 /// Two links between the first two routers, and two interfaces of the second on the link to the third.
-const TWINS: &str = "router
+pub const TWINS: &str = "router
 iface fe80::a0 1 1280 0
 iface fe80::a1 2 1280 1
 own 2001:db8:a::/48 1
@@ -52,7 +52,7 @@ round 30000
 print
 ";
 
-const TWINS_PORTS: [Port; 7] = [
+pub const TWINS_PORTS: [Port; 7] = [
     (0, 0, "fe80::a0", 1, 0),
     (0, 1, "fe80::a1", 2, 1),
     (1, 0, "fe80::b0", 3, 0),
@@ -62,8 +62,11 @@ const TWINS_PORTS: [Port; 7] = [
     (2, 0, "fe80::c0", 4, 2),
 ];
 
+/// No walk that costs at most 15 has more hops.
+const MOST_HOPS: usize = 14;
+
 /// The end of each walk that is found, with its cost.
-type Walks = Vec<(usize, usize)>;
+pub type Walks = Vec<(usize, usize)>;
 
 fn add_walk(walks: &mut Walks, from: usize, cost: usize) -> Result<(), AllocError> {
     if cost < 16 && !walks.contains(&(from, cost)) {
@@ -92,11 +95,16 @@ fn add_longer(walks: &mut Walks, ports: &[Port]) -> Result<(), AllocError> {
     Ok(())
 }
 
-// All walks to a router that cost at most 15, and so have at most 14 hops.
-fn walks_to(alloc: Global, ports: &[Port], owner: usize) -> Result<Walks, AllocError> {
+/// All walks to a router that cost at most 15 and have at most so many hops.
+pub fn walks_to(
+    alloc: Global,
+    ports: &[Port],
+    owner: usize,
+    hops: usize,
+) -> Result<Walks, AllocError> {
     let mut walks = Vec::new(alloc);
     walks.push((owner, 1))?;
-    for _ in 0..14 {
+    for _ in 0..hops {
         add_longer(&mut walks, ports)?;
     }
     Ok(walks)
@@ -126,7 +134,7 @@ fn is_learned(
     let (router, prefix, metric, tag) = route;
     for owner in owners {
         if owner.1 == prefix && owner.2 == tag {
-            let walks = walks_to(alloc, ports, owner.0)?;
+            let walks = walks_to(alloc, ports, owner.0, MOST_HOPS)?;
             if begins(&walks, ports, (router, gateway.0), gateway.1, metric) {
                 return Ok(true);
             }
