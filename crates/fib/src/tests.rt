@@ -113,3 +113,36 @@ fn default_route_holds_all(rt: HostRuntime) -> Result<(), Fail> {
     assert_eq!(rt; fib.lookup(address(0x2001_0db8, 6, 1)), Some(Hop::Direct));
     Ok(())
 }
+
+#[test]
+fn many_changes_at_once(rt: HostRuntime) -> Result<(), Fail> {
+    let mut fib = Fib::new(rt.alloc());
+    let shorter = prefix(&rt, 0x2001_0db8, 0, 32);
+    let longer = prefix(&rt, 0x2001_0db8, 5, 48);
+    let last = prefix(&rt, 0x2001_0dba, 0, 32);
+    let [second, first] = two_routes(&rt);
+    let third = RouteChange::Install {
+        prefix: last,
+        hop: Hop::Direct,
+        metric: 3,
+    };
+
+    // Out of order, with two words on one prefix and a withdrawal of what is not there.
+    let absent = RouteChange::Withdraw {
+        prefix: prefix(&rt, 0x2001_0db9, 0, 32),
+    };
+    let gone = RouteChange::Withdraw { prefix: longer };
+    fib.apply(&[third, second, gone, first, absent])?;
+    let two = [(shorter, Hop::Direct, 1), (last, Hop::Direct, 3)];
+    assert_eq!(rt; fib.entries(), two.as_slice());
+
+    // In order.
+    fib.apply(&[first, second, third])?;
+    let three = [
+        (shorter, Hop::Direct, 1),
+        (longer, neighbor(), 2),
+        (last, Hop::Direct, 3),
+    ];
+    assert_eq!(rt; fib.entries(), three.as_slice());
+    Ok(())
+}
