@@ -1,9 +1,9 @@
 -- One step of a merge: what is merged and what is left of the old entries, as one list.
-use Rattle.std.proofs.Common.{◌≡◌, ◌≢◌, ℕ, suc, ◌+◌, ◌-◌, ◌<◌, ◌≤◌, List, [], ◌∷◌, ◌++◌, map as each, length, get_or, take, drop, refl, sym, ap, ap₂, subst, ◌∙◌, inl, inr, arith, append_assoc}
+use Rattle.std.proofs.Common.{◌≡◌, ◌≢◌, ℕ, suc, ◌+◌, ◌-◌, ◌<◌, ◌≤◌, List, [], ◌∷◌, ◌++◌, map as each, length, get_or, take, drop, refl, sym, ap, subst, ◌∙◌, inl, inr, arith, append_assoc}
 use Rattle.std.specs.Prelude.{T}
 use Rattle.std.specs.List.{insert, remove}
 use Rattle.std.specs.FinMap.{is_sorted}
-use Rattle.std.specs.declared.cmp.Ordering.TheVariants.{Less, Equal, Greater}
+use Rattle.std.specs.declared.cmp.Ordering.TheVariants.{Less, Greater}
 use Rattle.std.specs.FinMap as map
 use Rattle.std.proofs.lemmas.Bool.{cases_lt}
 use Rattle.std.proofs.lemmas.List.{length-append, length-map, length-take, length-drop, take_all, drop-drop, map-append, append-nil, drop_all, take-append-drop, get_or_append_left, get_or-append-add}
@@ -12,7 +12,7 @@ use Rattle.std.proofs.Math.ListN.{get_or-map}
 use Rattle.prefix6.specs.Prefix.{Prefix6, prefix_cmp}
 use Rattle.prefix6.specs.Places.{IsAt, IsGap}
 use Rattle.fib.specs.declared.change.Hop.{Hop}
-use Rattle.fib.specs.Entries.{Entry, at_prefix, entry_of, table_of, AreInOrder, AreUpTo}
+use Rattle.fib.specs.Entries.{Entry, at_prefix, table_of, AreInOrder, AreUpTo}
 use Rattle.fib.proofs.EntryLists.{removed, not_there, inserted, at_prefix-remove}
 use Rattle.fib.proofs.Gaps.{at_earlier, at_later, gap_later, gap_left, sorted_front, sorted_back}
 use Rattle.fib.proofs.Orders.{no_later_still, less_is_no_later, itself_no_later}

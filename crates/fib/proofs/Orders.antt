@@ -1,11 +1,10 @@
 -- The order of prefixes: what comes no later, in numbers and from one prefix to the next.
-use Rattle.std.proofs.Common.{◌≡◌, ◌≢◌, ℕ, ◌<◌, ◌≤◌, Bool, true, false, not, ◌&&◌, IsTrue, refl, sym, ap, ap₂, subst, ◌∙◌, arith}
-use Rattle.std.specs.declared.cmp.Ordering.{Ordering}
-use Rattle.std.specs.declared.cmp.Ordering.TheVariants.{Less, Equal, Greater}
-use Rattle.std.specs.Ordering.{nat_cmp, ordering_then, is_lt, is_le, is_eq, eq_by_cmp, ordering_reverse}
+use Rattle.std.proofs.Common.{◌≡◌, ◌≢◌, ◌≤◌, true, false, ap, ◌∙◌, arith}
+use Rattle.std.specs.declared.cmp.Ordering.TheVariants.{Less, Greater}
+use Rattle.std.specs.Ordering.{is_lt, ordering_reverse}
 use Rattle.std.proofs.lemmas.Bool.Decides.{nat_tests}
 use Rattle.prefix6.specs.Prefix.{Prefix6, prefix_cmp}
-use Rattle.prefix6.proofs.PrefixLaws.{prefixes_total, exact_prefixes}
+use Rattle.prefix6.proofs.PrefixLaws.{prefixes_total}
 
 -- a prefix that does not come after another has no greater address, and at the same address is no longer
 pub record IsNoLater (p q : Prefix6) : Type 0 where

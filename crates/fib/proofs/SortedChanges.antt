@@ -1,16 +1,16 @@
 -- Changes in the order of their prefixes, with those of one prefix in the order that they had.
-use Rattle.std.proofs.Common.{◌≡◌, ◌≢◌, ℕ, ◌+◌, ◌<◌, ◌≤◌, Bool, true, false, cond, not, ◌&&◌, List, [], ◌∷◌, ◌++◌, length, get_or, Option, Some, None, refl, sym, ap, subst, ◌∙◌}
+use Rattle.std.proofs.Common.{◌≡◌, ◌≢◌, ℕ, ◌+◌, ◌<◌, ◌≤◌, Bool, true, false, cond, not, ◌&&◌, List, [], ◌∷◌, length, get_or, Option, Some, None, refl, sym, ap, subst, ◌∙◌}
 use Rattle.std.specs.List.{filter, IsAllAdjacentAnswer}
 use Rattle.std.specs.List.Sorted.{IsStableByKey, ties}
 use Rattle.std.specs.Option.{option_or}
 use Rattle.std.specs.declared.cmp.Ordering.{Ordering}
 use Rattle.std.specs.declared.cmp.Ordering.TheVariants.{Less, Equal, Greater}
-use Rattle.std.specs.Ordering.{is_lt, is_le, is_eq, is_some_and, partial_le, eq_by_cmp, ordering_reverse}
+use Rattle.std.specs.Ordering.{is_lt, is_le, is_eq, is_some_and, partial_le, ordering_reverse}
 use Rattle.std.proofs.lemmas.List.Sorted.{sorted_far, ranks_by}
 use Rattle.prefix6.specs.Prefix.{Prefix6, prefix_cmp, same_prefix}
 use Rattle.prefix6.proofs.PrefixLaws.{prefixes_total, same_prefix-tie}
 use Rattle.fib.specs.declared.change.RouteChange.{RouteChange}
-use Rattle.fib.specs.declared.change.RouteChange.TheVariants.{Install, Withdraw}
+use Rattle.fib.specs.declared.change.RouteChange.TheVariants.{Withdraw}
 use Rattle.fib.specs.Forwarding.{prefix_of, last_change}
 use Rattle.fib.specs.Entries.{AreByPrefix}
 use Rattle.fib.proofs.Orders.{not_less}

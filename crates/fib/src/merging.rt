@@ -89,7 +89,11 @@ fn merge_change(
 }
 
 /// The old entries with changes that come in the order of their prefixes.
-fn merge_sorted(alloc: Global, old: &[Entry], changes: &[RouteChange]) -> Result<Vec<Entry>, AllocError>
+fn merge_sorted(
+    alloc: Global,
+    old: &[Entry],
+    changes: &[RouteChange],
+) -> Result<Vec<Entry>, AllocError>
     requires in_order { AreInOrder old.now }
     requires by_prefix { AreByPrefix changes.now }
     ensures follows { IfOk result (λ merged. Replays (table_of old.now) changes.now (table_of merged.items)) }

@@ -1,9 +1,4 @@
-use Rattle.std.proofs.Common.{◌≡◌, ◌∙◌, ◌++◌, ap, sym, subst, drop, length, List, map as each}
-use Rattle.std.specs.FinMap as map
-use Rattle.prefix6.specs.Prefix.{Prefix6}
-use Rattle.prefix6.specs.Places.{IsGap}
-use Rattle.fib.specs.Forwarding.{prefix_of, Forwarding, Replays}
-use Rattle.fib.specs.Entries.{Entry, at_prefix, table_of, AreInOrder, AreUpTo}
+use Rattle.std.proofs.Common.{drop}
 use Rattle.fib.proofs.ReplayLaws.{replays_install_anew, replays_withdraw}
 use Rattle.fib.proofs.Merges.{pushed, up_to_gap, up_to_push}
 use Rattle.fib.proofs.merging.merge_change.Goals as goal

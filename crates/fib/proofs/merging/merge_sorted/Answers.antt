@@ -1,7 +1,7 @@
-use Rattle.std.proofs.Common.{◌≡◌, ◌∙◌, ◌+◌, ◌++◌, [], ◌∷◌, ap, sym, subst, drop, take, get_or, arith}
+use Rattle.std.proofs.Common.{[], ◌∷◌, sym, subst, take, arith}
 use Rattle.std.proofs.lemmas.List.{take_more, get_or_default}
-use Rattle.fib.specs.Forwarding.{prefix_of, Replays}
-use Rattle.fib.specs.Entries.{table_of, AreUpTo}
+use Rattle.fib.specs.Forwarding.{prefix_of}
+use Rattle.fib.specs.Entries.{AreUpTo}
 use Rattle.fib.proofs.ReplayLaws.{replays_append}
 use Rattle.fib.proofs.SortedChanges.{later_change}
 use Rattle.fib.proofs.Merges.{up_to_later}

@@ -1,4 +1,4 @@
-use Rattle.std.proofs.Common.{◌∙◌, ◌-◌, ap, sym, subst, refl, drop, take}
+use Rattle.std.proofs.Common.{◌∙◌, ◌-◌, ap, sym, subst, drop, take}
 use Rattle.fib.specs.Entries.{AreInOrder}
 use Rattle.fib.proofs.Merges.{popped, passed_over_from, passed_from, order_front, order_rest}
 use Rattle.fib.proofs.merging.pass.Goals as goal

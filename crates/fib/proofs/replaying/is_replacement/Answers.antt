@@ -1,4 +1,4 @@
-use Rattle.std.proofs.Common.{◌≡◌, ◌∙◌, ◌&&◌, ap, sym}
+use Rattle.std.proofs.Common.{◌∙◌, ◌&&◌, ap, sym}
 use Rattle.std.specs.FinMap as map
 use Rattle.fib.specs.Forwarding.{prefix_of}
 use Rattle.fib.specs.Entries.{table_of}
