@@ -1,5 +1,5 @@
 -- A list of entries in order, and the table that it stands for.
-use Rattle.std.proofs.Common.{◌≡◌, ◌==◌, ◌↔◌, ℕ, suc, ◌<◌, ◌≤◌, Bool, true, false, cond, not, List, [], ◌∷◌, ◌++◌, map as each, take, drop, length, get_or, set, Option, Some, None, IsTrue, eq-eqb, Result, Ok, Err, IfOk, IfErr, option_map, refl, sym, ap, ap₂, subst, ◌∙◌}
+use Rattle.std.proofs.Common.{◌≡◌, ◌≢◌, ◌==◌, ◌↔◌, ℕ, suc, ◌<◌, ◌≤◌, Bool, true, false, cond, not, List, [], ◌∷◌, ◌++◌, map as each, take, drop, length, get_or, set, Option, Some, None, is_some, IsTrue, eq-eqb, Result, Ok, Err, IfOk, IfErr, option_map, refl, sym, ap, ap₂, subst, ◌∙◌}
 use Rattle.std.specs.Prelude.{T}
 use Rattle.std.specs.List.{insert, remove}
 use Rattle.std.specs.List.Sorted.{IsSearchInRange, IsBinarySearchResult}
@@ -37,7 +37,7 @@ at_prefix-remove es i =
     ∙ sym (map-append at_prefix (take i es) (drop (suc i) es))
 
 -- the prefix at a place
-same_at : (es : List Entry) (i : ℕ) (d : Prefix6 × Forward) → (get_or (each at_prefix es) i d).0 ≡ (get_or es i (entry_of d)).0
+pub same_at : (es : List Entry) (i : ℕ) (d : Prefix6 × Forward) → (get_or (each at_prefix es) i d).0 ≡ (get_or es i (entry_of d)).0
 same_at es i d = ap (λ (e : Prefix6 × Forward). e.0) (get_or-map at_prefix es i (entry_of d))
 
 -- ---- a binary search
@@ -78,7 +78,7 @@ module _ (es : List Entry) (h : AreInOrder es) (table : Forwarding) (is : table_
   pub listed_is : es ≡ listed table
   listed_is = sym (ap (each entry_of) entries_are ∙ listed_again es)
 
-  get_is : (p : Prefix6) → map.get table p ≡ find prefix_cmp p (each at_prefix es)
+  pub get_is : (p : Prefix6) → map.get table p ≡ find prefix_cmp p (each at_prefix es)
   get_is p = ap (λ m. map.get m p) (sym is) ∙ get-from_sorted prefix_cmp (each at_prefix es) p h.rising
 
   pub hop_at : (p : Prefix6) (i : ℕ) (d : Entry) → IsAt (each at_prefix es) p i → Some (get_or es i d).1 ≡ option_map (λ f. f.hop) (map.get table p)
@@ -87,6 +87,11 @@ module _ (es : List Entry) (h : AreInOrder es) (table : Forwarding) (is : table_
 
   pub none_at_gap : (p : Prefix6) (i : ℕ) → IsGap (each at_prefix es) p i → map.get table p ≡ None
   none_at_gap p i gap = get_is p ∙ find_gap (each at_prefix es) p i gap
+
+-- what is there is not absent
+pub some_found : (o : Option Forward) → IsTrue (is_some o) → o ≢ None
+some_found None there = λ e. absurd (cc)
+some_found (Some f) there = λ e. absurd (cc)
 
 turned_cond : (b : Bool) (x y : Option Forward) → cond (not b) x y ≡ cond b y x
 turned_cond true x y = refl

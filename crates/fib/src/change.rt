@@ -1,5 +1,8 @@
 //! What a router tells a forwarding table: the entry that a prefix now has, or that it has none.
 
+ghost use Rattle.std.specs.Prelude.{◌≡◌, count_by};
+ghost use Rattle.fib.specs.Forwarding.{prefix_of, is_install};
+
 use prefix6::{Addr6, Prefix};
 
 /// Where a packet goes next.
@@ -30,4 +33,29 @@ pub enum RouteChange {
     Withdraw {
         prefix: Prefix,
     },
+}
+
+impl RouteChange {
+    // The prefix that the change is about.
+    pub(crate) fn prefix(&self) -> Prefix
+        ensures { result ≡ prefix_of self.now }
+    {
+        match *self {
+            RouteChange::Install { prefix, .. } | RouteChange::Withdraw { prefix } => prefix,
+        }
+    }
+
+    // Whether the change leaves an entry.
+    pub(crate) fn is_install(&self) -> bool
+        ensures { result ≡ is_install self.now }
+    {
+        matches!(self, RouteChange::Install { .. })
+    }
+}
+
+/// How many of the changes install an entry.
+pub(crate) fn installs(changes: &[RouteChange]) -> usize
+    ensures { result ≡ count_by is_install changes.now }
+{
+    changes.iter().filter(|change| change.is_install()).count()
 }

@@ -2,12 +2,14 @@
 
 ghost use Rattle.std.specs.Prelude.{◌≡◌, ◌+◌, ◌<◌, ◌≤◌, ◌↔◌, [], ◌∷◌, map as each, IsTrue, IsOk, OnOk, OnErr, IfOk, IfErr, IsNone, IfSome, option_map, count_by, vec_len, vec_capacity};
 ghost use Rattle.std.specs.FinMap as map;
-ghost use Rattle.prefix6.specs.Places.{IsAt, IsGap};
 ghost use Rattle.prefix6.specs.Prefix.{Prefix6};
 ghost use Rattle.fib.specs.Forwarding.{is_install, Replays, IsMatch, IsLongestMatch};
 ghost use Rattle.fib.specs.Entries.{at_prefix, listed, table_of, AreInOrder};
 
-use crate::change::{Hop, RouteChange};
+use crate::change::{Hop, RouteChange, installs};
+use crate::merging::merge;
+use crate::replaying::{are_replacements, replace_all, replay};
+use crate::searching::{Entry, last_up_to};
 use prefix6::{Addr6, Prefix};
 use std::alloc::{AllocError, Global};
 use std::marker::Model;
@@ -16,7 +18,7 @@ use std::marker::Model;
 /// then length. Contracts see it as a finite map from prefixes.
 #[derive(Debug, Drop)]
 pub struct Fib {
-    entries: Vec<(Prefix, Hop, u8)>,
+    entries: Vec<Entry>,
 }
 
 impl Model for Fib {
@@ -36,85 +38,8 @@ impl Model for Fib {
     ghost invariant = { λ f. AreInOrder f.entries.items };
 }
 
-/// The place of the entry of a prefix, or as an error the place where it would go.
-fn place_of(entries: &[(Prefix, Hop, u8)], prefix: &Prefix) -> Result<usize, usize>
-    requires { AreInOrder entries.now }
-    ensures found { IfOk result (IsAt (each at_prefix entries.now) prefix.now) }
-    ensures absent { IfErr result (IsGap (each at_prefix entries.now) prefix.now) }
-{
-    entries.binary_search_by_key(prefix, |&(prefix, _, _)| prefix)
-}
-
-/// Puts an entry in its place, over the one of its prefix if there is one.
-fn install(entries: &mut Vec<(Prefix, Hop, u8)>, prefix: Prefix, hop: Hop, metric: u8)
-    requires in_order { AreInOrder entries.old.items }
-    requires room { vec_len entries.old < vec_capacity entries.old }
-    ensures table { table_of entries.new.items ≡ map.insert (table_of entries.old.items) prefix (record { hop = hop; metric = metric }) }
-    ensures in_order { AreInOrder entries.new.items }
-    ensures room { (vec_capacity entries.old ≤ vec_capacity entries.new) × (vec_len entries.new ≤ vec_len entries.old + 1) }
-{
-    let entry = (prefix, hop, metric);
-    match place_of(entries, &prefix) {
-        Ok(at) => entries[at] = entry,
-        Err(at) => {
-            let Ok(()) = entries.insert(at, entry) else {
-                unreachable!()
-            };
-        }
-    }
-}
-
-/// Takes the entry of a prefix out, if there is one.
-fn withdraw(entries: &mut Vec<(Prefix, Hop, u8)>, prefix: &Prefix)
-    requires { AreInOrder entries.old.items }
-    ensures table { table_of entries.new.items ≡ map.remove (table_of entries.old.items) prefix.now }
-    ensures in_order { AreInOrder entries.new.items }
-    ensures room { (vec_capacity entries.old ≤ vec_capacity entries.new) × (vec_len entries.new ≤ vec_len entries.old) }
-{
-    if let Ok(at) = place_of(entries, prefix) {
-        let _ = entries.remove(at);
-    }
-}
-
-/// How many of the changes install an entry.
-fn installs(changes: &[RouteChange]) -> usize
-    ensures { result ≡ count_by is_install changes.now }
-{
-    changes
-        .iter()
-        .filter(|change| matches!(change, RouteChange::Install { .. }))
-        .count()
-}
-
-/// Replays one change.
-fn follow(entries: &mut Vec<(Prefix, Hop, u8)>, change: RouteChange)
-    requires in_order { AreInOrder entries.old.items }
-    requires room { vec_len entries.old + count_by is_install (change ∷ []) ≤ vec_capacity entries.old }
-    ensures follows { Replays (table_of entries.old.items) (change ∷ []) (table_of entries.new.items) }
-    ensures in_order { AreInOrder entries.new.items }
-    ensures room { (vec_capacity entries.old ≤ vec_capacity entries.new) × (vec_len entries.new ≤ vec_len entries.old + count_by is_install (change ∷ [])) }
-{
-    match change {
-        RouteChange::Install {
-            prefix,
-            hop,
-            metric,
-        } => install(entries, prefix, hop, metric),
-        RouteChange::Withdraw { prefix } => withdraw(entries, &prefix),
-    }
-}
-
-/// Replays changes, in order, where there is room for all that they install.
-fn replay(entries: &mut Vec<(Prefix, Hop, u8)>, changes: &[RouteChange])
-    requires in_order { AreInOrder entries.old.items }
-    requires room { vec_len entries.old + count_by is_install changes.now ≤ vec_capacity entries.old }
-    ensures follows { Replays (table_of entries.old.items) changes.now (table_of entries.new.items) }
-    ensures in_order { AreInOrder entries.new.items }
-{
-    for change in changes {
-        follow(entries, *change);
-    }
-}
+/// Up to how many changes are replayed in place: a merge would copy the whole table for them.
+const FEW: usize = 2;
 
 impl Fib {
     /// The table without entries. It takes no memory.
@@ -142,7 +67,17 @@ impl Fib {
 
     /// Replays the changes of a router's call, in order: an install puts its entry over the one of
     /// its prefix, if there is one, and a withdrawal takes the entry of its prefix out, if there is
-    /// one. Withdrawals alone take no memory.
+    /// one.
+    ///
+    /// Where each of k changes replaces one of n entries, that is 2 k log2(n) comparisons, and no
+    /// entry moves. Otherwise one or two changes are made in place, at up to n moves each, and more
+    /// of them by a merge into new memory, in whatever order they come: n + k copies, and at most
+    /// k log2(n) comparisons beside those of a sort by prefix, which changes that come in that
+    /// order do without.
+    ///
+    /// A merge leaves no spare room, and an install in place makes room for itself alone, so that
+    /// the table takes an entry's size for each entry, and what withdrawals in place left free.
+    /// Withdrawals alone cannot fail: where memory to merge them is refused, they are made in place.
     ///
     /// # Errors
     /// Where memory for all that the changes install is refused. The table is then as it was.
@@ -151,37 +86,50 @@ impl Fib {
         ensures err { OnErr result (self.new ≡ self.old) }
         ensures withdrawals { count_by is_install changes.now ≡ 0 → IsOk result }
     {
-        self.entries.reserve(installs(changes))?;
+        if are_replacements(&self.entries, changes) {
+            replace_all(&mut self.entries, changes);
+            return Ok(());
+        }
+        let installed = installs(changes);
+        if changes.len() > FEW {
+            match merge(*self.entries.allocator(), &self.entries, changes) {
+                Ok(entries) => {
+                    self.entries = entries;
+                    return Ok(());
+                }
+                Err(refused) if installed > 0 => return Err(refused),
+                Err(_) => {}
+            }
+        }
+        self.entries.reserve_exact(installed)?;
         replay(&mut self.entries, changes);
         Ok(())
     }
 
-    /// The hop of the entry of exactly this prefix.
-    fn hop_of(&self, prefix: &Prefix) -> Option<Hop>
-        ensures { result ≡ option_map (λ f. f.hop) (map.get self.now prefix.now) }
-    {
-        match place_of(&self.entries, prefix) {
-            Ok(at) => Some(self.entries[at].1),
-            Err(_) => None,
-        }
-    }
-
     /// The hop of the longest prefix of the table that holds the address, and `None` where no
-    /// prefix of the table does (RFC 4632, section 5.1; RFC 7608, section 2). It tries the prefixes
-    /// that hold the address by length, 128 first, each by bisection: some 129 log2(n) comparisons
-    /// at the most for n entries.
+    /// prefix of the table does (RFC 4632, section 5.1; RFC 7608, section 2).
+    ///
+    /// It takes the last entry up to a bound, which is the address at length 128 at first. Either
+    /// that entry's prefix holds the address, and is the longest that does, or every one that does
+    /// is at most as long as what the two have in common, which is the next bound. For n entries
+    /// each bound costs log2(n) comparisons, and the bounds together at most 256 comparisons of
+    /// leading bits. As each is shorter than the one before, there are 129 at the most, and that
+    /// many only where the table has a prefix beside the address at each of its bits. Where prefixes
+    /// lie at random, there are about log2(n) / 2.
     pub fn lookup(&self, addr: Addr6) -> Option<Hop>
         ensures found { IfSome result (IsLongestMatch self.now addr) }
         ensures none { IsNone result ↔ ((p : Prefix6) → ¬ (IsMatch self.now addr p)) }
     {
-        for len in (0..=128).rev() {
-            let Ok(prefix) = Prefix::new(addr, len) else {
-                unreachable!()
-            };
-            let hop = self.hop_of(&prefix);
-            if hop.is_some() {
-                return hop;
+        let Ok(mut bound) = Prefix::new(addr, 128) else {
+            unreachable!()
+        };
+        while let Some(at) = last_up_to(&self.entries, &bound) {
+            let (prefix, hop, _) = self.entries[at];
+            let common = prefix.meet(&bound);
+            if common == prefix {
+                return Some(hop);
             }
+            bound = common;
         }
         None
     }

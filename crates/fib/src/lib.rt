@@ -4,6 +4,9 @@
 mod change;
 mod fib;
 pub mod laws;
+mod merging;
+mod replaying;
+mod searching;
 #[cfg(test)]
 mod tests;
 

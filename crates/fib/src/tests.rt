@@ -113,3 +113,50 @@ fn default_route_holds_all(rt: HostRuntime) -> Result<(), Fail> {
     assert_eq!(rt; fib.lookup(address(0x2001_0db8, 6, 1)), Some(Hop::Direct));
     Ok(())
 }
+
+/// The install of a route to a prefix of the router's own.
+fn direct(prefix: Prefix, metric: u8) -> RouteChange {
+    RouteChange::Install {
+        prefix,
+        hop: Hop::Direct,
+        metric,
+    }
+}
+
+#[test]
+fn merges_out_of_order(rt: HostRuntime) -> Result<(), Fail> {
+    let shorter = prefix(&rt, 0x2001_0db8, 0, 32);
+    let longer = prefix(&rt, 0x2001_0db8, 5, 48);
+    let last = prefix(&rt, 0x2001_0dba, 0, 32);
+    let absent = prefix(&rt, 0x2001_0db9, 0, 32);
+    let changes = [
+        direct(last, 3),
+        direct(longer, 2),
+        RouteChange::Withdraw { prefix: longer },
+        direct(shorter, 1),
+        RouteChange::Withdraw { prefix: absent },
+    ];
+    let mut fib = Fib::new(rt.alloc());
+    fib.apply(&changes)?;
+    let entries = [(shorter, Hop::Direct, 1), (last, Hop::Direct, 3)];
+    assert_eq!(rt; fib.entries(), entries.as_slice());
+    Ok(())
+}
+
+#[test]
+fn merges_in_order(rt: HostRuntime) -> Result<(), Fail> {
+    let mut fib = Fib::new(rt.alloc());
+    fib.apply(&two_routes(&rt))?;
+    let shorter = prefix(&rt, 0x2001_0db8, 0, 32);
+    let longer = prefix(&rt, 0x2001_0db8, 5, 48);
+    let last = prefix(&rt, 0x2001_0dba, 0, 32);
+    let changes = [
+        RouteChange::Withdraw { prefix: shorter },
+        direct(longer, 4),
+        direct(last, 3),
+    ];
+    fib.apply(&changes)?;
+    let entries = [(longer, Hop::Direct, 4), (last, Hop::Direct, 3)];
+    assert_eq!(rt; fib.entries(), entries.as_slice());
+    Ok(())
+}

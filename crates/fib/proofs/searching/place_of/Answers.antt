@@ -1,7 +1,7 @@
 use Rattle.std.proofs.Common.{rules}
 use Rattle.std.proofs.lemmas.List.Sorted.{answers_always}
 use Rattle.fib.proofs.EntryLists.{found_in}
-use Rattle.fib.proofs.fib.place_of.Goals as goal
+use Rattle.fib.proofs.searching.place_of.Goals as goal
 
 pub returns-clause-found : goal.returns-clause-found
 returns-clause-found c =

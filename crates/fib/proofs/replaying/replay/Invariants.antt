@@ -1,7 +1,7 @@
 use Rattle.std.proofs.Common.{◌+◌, ◌≤◌, drop, take, count_by, vec_len, vec_capacity}
 use Rattle.fib.specs.Forwarding.{is_install, Replays}
 use Rattle.fib.specs.Entries.{table_of, AreInOrder}
-use Rattle.fib.proofs.fib.replay.Given as goal
+use Rattle.fib.proofs.replaying.replay.Given as goal
 
 abbrev pub invariant-loop-change : goal.invariant-loop-change
 invariant-loop-change l = record {

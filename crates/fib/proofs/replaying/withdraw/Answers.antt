@@ -1,5 +1,5 @@
 use Rattle.fib.proofs.EntryLists.{removed, not_there}
-use Rattle.fib.proofs.fib.withdraw.Goals as goal
+use Rattle.fib.proofs.replaying.withdraw.Goals as goal
 
 pub returns-in-Ok-clause-table : goal.returns-in-Ok-clause-table
 returns-in-Ok-clause-table c =

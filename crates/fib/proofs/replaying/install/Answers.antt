@@ -1,5 +1,5 @@
 use Rattle.fib.proofs.EntryLists.{replaced, inserted}
-use Rattle.fib.proofs.fib.install.Goals as goal
+use Rattle.fib.proofs.replaying.install.Goals as goal
 
 pub returns-in-Ok-clause-table : goal.returns-in-Ok-clause-table
 returns-in-Ok-clause-table c =
