@@ -156,3 +156,39 @@ last 100 regular 100 hold 100
 ",
     )
 }
+
+#[test]
+fn a_prefix_that_was_given_up_is_learned_again(rt: HostRuntime) -> Result<(), Fail> {
+    play(
+        &rt,
+        rt.alloc(),
+        "\
+> router own 2001:db8:a::/48 7
+> drop 10 2001:db8:a::/48
+withdraw 2001:db8:a::/48
+> due
+120010 2001:db8:a::/48
+> hear 0 20 fe80::2 521 255 group 02010000 20010db8 000a0000 00000000 00000000 00053001
+install 2001:db8:a::/48 metric 2 via fe80::2 iface 0
+> route 2001:db8:a::/48
+2001:db8:a::/48 metric 2 tag 5 via fe80::2 iface 0 from fe80::2 live until 180020 changed
+",
+    )
+}
+
+#[test]
+fn a_cost_outlives_a_restart(rt: HostRuntime) -> Result<(), Fail> {
+    play(
+        &rt,
+        rt.alloc(),
+        "\
+> router
+> cost 0 5 4
+> restart 100
+send 0 group 01010000 00000000 00000000 00000000 00000000 00000010
+send 1 group 01010000 00000000 00000000 00000000 00000000 00000010
+> hear 0 100 fe80::2 521 255 group 02010000 20010db8 00000000 00000000 00000000 00002001
+install 2001:db8::/32 metric 5 via fe80::2 iface 0
+",
+    )
+}

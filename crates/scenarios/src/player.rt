@@ -11,13 +11,13 @@
 //! | `cost IFACE NOW COST`, `gain NOW PREFIX TAG`, `drop NOW PREFIX` | the router's configuration is changed; where that is refused, the refusal is written |
 //! | `count COMMAND` | does the command, and writes numbers in place of a long answer |
 //! | `tally COMMAND` | does the command, and writes how many datagrams each interface sends, and the size of the last |
-//! | `show`, `route PREFIX`, `size`, `timers` | writes all that the router holds, one route, how many there are, its moments |
+//! | `show`, `route PREFIX`, `size`, `timers`, `due` | writes all that the router holds, one route, how many there are, its moments, when a route is due next and which |
 
 use crate::reading::{
     arrival, config, datagram, from_neighbor, moment, response_of_sites, told_sites, words_of,
 };
 use crate::writing::{
-    write_answer, write_route, write_router, write_sizes, write_tally, write_timers,
+    write_answer, write_due, write_route, write_router, write_sizes, write_tally, write_timers,
 };
 use prefix6::parse_prefix;
 use ripng_wire::WireError;
@@ -194,6 +194,7 @@ fn obey<S: RouteStore>(
         ["route", prefix] => show_route(out, router, *prefix),
         ["size"] => Ok(writeln!(out, "{}", router.routes().len())?),
         ["timers"] => Ok(write_timers(out, router)?),
+        ["due"] => Ok(write_due(out, router)?),
         ["fill", rest @ ..] => fill(out, alloc, router, rest),
         ["hear-beginnings", rest @ ..] => hear_beginnings(out, alloc, router, rest),
         ["cost" | "gain" | "drop", ..] => reconfigure(out, alloc, router, words),

@@ -174,3 +174,50 @@ last 1 regular 15000 hold 1001
 ",
     )
 }
+
+#[test]
+fn what_is_due_is_lost_in_the_order_of_prefixes(rt: HostRuntime) -> Result<(), Fail> {
+    play(
+        &rt,
+        rt.alloc(),
+        "\
+> router
+> due
+nothing is due
+> hear 0 0 fe80::2 521 255 group 02010000 20010db8 00020000 00000000 00000000 00003001
+install 2001:db8:2::/48 metric 2 via fe80::2 iface 0
+> hear 0 5 fe80::2 521 255 group 02010000 20010db8 00010000 00000000 00000000 00003001
+install 2001:db8:1::/48 metric 2 via fe80::2 iface 0
+> due
+180000 2001:db8:2::/48
+> count tick 180005 0
+send 0 of 44 bytes, last 20010db8 00020000 00000000 00000000 00003010
+send 1 of 44 bytes, last 20010db8 00020000 00000000 00000000 00003010
+changes 2
+> show
+2001:db8:1::/48 metric 16 tag 0 via fe80::2 iface 0 from fe80::2 dying until 300005
+2001:db8:2::/48 metric 16 tag 0 via fe80::2 iface 0 from fe80::2 dying until 300005
+last 180005 regular 195005 hold 0
+> due
+300005 2001:db8:1::/48
+",
+    )
+}
+
+#[test]
+fn a_tick_withdraws_in_the_order_of_prefixes(rt: HostRuntime) -> Result<(), Fail> {
+    play(
+        &rt,
+        rt.alloc(),
+        "\
+> router quiet
+> hear 0 0 fe80::2 521 255 group 02010000 20010db8 00020000 00000000 00000000 00003001
+install 2001:db8:2::/48 metric 2 via fe80::2 iface 0
+> hear 0 5 fe80::2 521 255 group 02010000 20010db8 00010000 00000000 00000000 00003001
+install 2001:db8:1::/48 metric 2 via fe80::2 iface 0
+> tick 180005 0
+withdraw 2001:db8:1::/48
+withdraw 2001:db8:2::/48
+",
+    )
+}

@@ -158,6 +158,14 @@ pub fn write_timers<S: RouteStore>(out: &mut String, router: &Router<S>) -> Resu
     )
 }
 
+/// When the next route is due, and the first prefix whose route is.
+pub fn write_due<S: RouteStore>(out: &mut String, router: &Router<S>) -> Result<(), AllocError> {
+    match router.next_due() {
+        Some((until, prefix)) => writeln!(out, "{} {prefix}", until.ms()),
+        None => writeln!(out, "nothing is due"),
+    }
+}
+
 /// Every route of a router, in order, then its timers.
 pub fn write_router<S: RouteStore>(out: &mut String, router: &Router<S>) -> Result<(), AllocError> {
     let routes = router.routes();
