@@ -1,28 +1,20 @@
 -- Rounds that were asked for, one event and one round after another.
-use Rattle.std.proofs.Common.{◌≡◌, ◌≢◌, ℕ, List, [], ◌∷◌, ◌++◌, All, length, refl, sym, subst, ◌∙◌, ap, ap₂, take, map, get_or, ◌+◌, ◌<◌, arith, ◌≤◌, Bool, true, false, inl, inr}
+use Rattle.std.proofs.Common.{◌≡◌, ℕ, List, [], ◌∷◌, ◌++◌, length, refl, sym, subst, ◌∙◌, ap, ap₂, take, map, get_or, ◌+◌, ◌<◌, arith, ◌≤◌, Bool, true, false, inl, inr}
 use Rattle.std.specs.List.{enumerate_from}
 use Rattle.std.proofs.lemmas.List.{length-append, take-map, map_more, take_more}
 use Rattle.std.proofs.lemmas.Bool.{cases_lt, false≢true}
 use Rattle.std.proofs.lemmas.List.FromFn.{length-enumerate_from, get_or-enumerate_from}
 use Rattle.router_core.specs.declared.answer.Answer.{Answer}
-use Rattle.router_core.specs.declared.answer.NoteKind.TheVariants.{NoMemory}
 use Rattle.ripng_world.specs.Asked.{Asked}
 use Rattle.ripng_world.specs.AskedRounds.{AreMade, IsMade, round_of, ticks_of}
-use Rattle.ripng_world.specs.Events.{event_of}
 use Rattle.ripng_world.specs.Network.{Network}
-use Rattle.ripng_world.specs.Rounds.{Round, AllTick, AllHeard, IsDueTick}
+use Rattle.ripng_world.specs.Rounds.{Round, AllTick, IsDueTick}
 use Rattle.ripng_world.specs.World.{World, Event, Happens, Deliver, Stranger, Tick, Restart, Reconfigure, sent_by}
-use Rattle.ripng_world.specs.declared.event.Event as coded
 
 pub tick_on : (net : Network) (es : List Event) (e : Event) (answer : Answer) (w mid w' : World) → AllTick net w es mid → IsDueTick mid e → Happens net mid e answer w'
     → AllTick net w (es ++ e ∷ []) w'
 tick_on net [] e answer w mid w' first due happens = (w', answer, subst (λ v. IsDueTick v e) first due, subst (λ v. Happens net v e answer w') first happens, refl)
 tick_on net (x ∷ es) e answer w mid w' first due happens = (first.0, first.1, first.2, first.3, tick_on net es e answer first.0 mid w' first.4 due happens)
-
-pub heard_on : (net : Network) (es : List Event) (e : Event) (answer : Answer) (w mid w' : World) → AllHeard net w es mid → Happens net mid e answer w'
-    → All (λ n. n.kind ≢ NoMemory) answer.notes → AllHeard net w (es ++ e ∷ []) w'
-heard_on net [] e answer w mid w' first happens noted = (w', answer, subst (λ v. Happens net v e answer w') first happens, noted, refl)
-heard_on net (x ∷ es) e answer w mid w' first happens noted = (first.0, first.1, first.2, first.3, heard_on net es e answer first.0 mid w' first.4 happens noted)
 
 pub made_on : (net : Network) (asks : List Asked) (rs : List Round) (a : Asked) (w mid w' : World) → AreMade net w asks rs mid → IsMade net mid a w'
     → (ss : List Round) × AreMade net w (asks ++ a ∷ []) ss w'
@@ -33,13 +25,6 @@ made_on net (x ∷ asks) (r ∷ rs) a w mid w' first made =
     let more = made_on net asks rs a first.1 mid w' first.5 made in
     (r ∷ more.0, (first.0, first.1, first.2, first.3, first.4, more.1))
 made_on net _ _ a w mid w' first made = absurd first
-
--- one more event of a list
-pub take_event : (events : List coded.Event) (n : ℕ) (d : coded.Event) → n < length events → d ≡ get_or events n d
-    → take (n + 1) (map event_of events) ≡ take n (map event_of events) ++ event_of d ∷ []
-take_event events n d here is =
-    take-map event_of (n + 1) events ∙ map_more event_of events n d here
-    ∙ ap₂ (λ (xs : List Event) (x : coded.Event). xs ++ event_of x ∷ []) (sym (take-map event_of n events)) (sym is)
 
 -- one more tick
 pub take_tick : (ticks : List (ℕ × ℕ)) (n : ℕ) (t : ℕ × ℕ) → n < length ticks → t ≡ get_or ticks n t

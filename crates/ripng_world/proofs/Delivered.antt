@@ -1,12 +1,12 @@
 -- Deliveries one after another: how they go on, and how they stop.
-use Rattle.std.proofs.Common.{◌≡◌, ◌≢◌, ℕ, ◌+◌, ◌-◌, ◌%◌, ◌<◌, ◌≤◌, Bool, true, false, cond, not, Result, Ok, Err, OnErr, List, [], ◌∷◌, ◌++◌, All, map, take, drop, filter, filter_map, flat_map, length, get_or, Option, Some, slice_get, option_map, refl, ap, ap₂, sym, subst, ◌∙◌, arith, append_assoc}
+use Rattle.std.proofs.Common.{◌≡◌, ℕ, ◌+◌, ◌-◌, ◌%◌, ◌<◌, ◌≤◌, Bool, true, false, cond, not, Result, Ok, Err, OnErr, List, [], ◌∷◌, ◌++◌, map, take, drop, filter, filter_map, flat_map, length, get_or, Option, Some, slice_get, option_map, refl, ap, sym, subst, ◌∙◌, arith, append_assoc}
 use Rattle.std.specs.List.{enumerate_from}
 use Rattle.std.proofs.lemmas.Grind.{flat_map-append}
-use Rattle.std.proofs.lemmas.List.{get_or_append_left, length-append, length-drop, map-append, take_more, take-append-drop, append-nil}
+use Rattle.std.proofs.lemmas.List.{get_or_append_left, length-append, map-append, take_more, take-append-drop, append-nil}
 use Rattle.std.proofs.Math.Seq.{take-append_seam}
 use Rattle.std.proofs.lemmas.List.Elements.{filter-append, filter_map-append}
 use Rattle.router_core.specs.declared.answer.Answer.{Answer}
-use Rattle.ripng_world.specs.AskedRounds.{delivery, deliveries_of, is_other, is_picked, other_deliveries, pair_at, pairs_since, picked_deliveries, places_of}
+use Rattle.ripng_world.specs.AskedRounds.{delivery, deliveries_of, is_other, is_picked, other_deliveries, pair_at, picked_deliveries, places_of}
 use Rattle.ripng_world.specs.Delivering.{AllDelivered, HappenInPart, deliveries_since}
 use Rattle.ripng_world.specs.Network.{Network}
 use Rattle.ripng_world.specs.Rounds.{AllHeard}

@@ -145,6 +145,20 @@ fn a_run_stops_at_the_first_refusal(rt: HostRuntime) -> Result<(), Fail> {
     Ok(())
 }
 
+#[test]
+fn a_run_comes_to_its_end(rt: HostRuntime) -> Result<(), Fail> {
+    let now = Moment::new(0).ok_or("a moment")?;
+    let mut lab = lab(rt.alloc(), now)?;
+    let tick = Event::Tick {
+        router: 0,
+        now,
+        word: 0,
+    };
+    assert_eq!(rt; lab.run(&[tick, deliver(4, 1, 0, now)]), (2, Ok(())));
+    assert_eq!(rt; lab.run(&[]), (0, Ok(())));
+    Ok(())
+}
+
 fn deliver(datagram: usize, router: usize, iface: usize, now: Moment) -> Event<'static> {
     Event::Deliver {
         datagram,

@@ -1,6 +1,5 @@
-use Rattle.std.proofs.Common.{◌≡◌, ℕ, ◌+◌, ◌-◌, ◌++◌, ◌∷◌, [], List, map, take, drop, filter, length, get_or, ap, ap₂, ◌∙◌, sym, arith, ◌≤◌, ◌<◌}
+use Rattle.std.proofs.Common.{ℕ, ◌+◌, ◌-◌, ◌++◌, List, map, take, drop, filter, ap, ◌∙◌, arith}
 use Rattle.std.specs.List.{enumerate_from}
-use Rattle.std.proofs.lemmas.List.{length-drop, get_or-drop}
 use Rattle.ripng_world.specs.AskedRounds.{is_other, pair_at, places_of}
 use Rattle.ripng_world.specs.Network.{Network}
 use Rattle.ripng_world.specs.Stations.{network_of}

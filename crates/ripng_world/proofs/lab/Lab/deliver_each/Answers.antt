@@ -1,4 +1,4 @@
-use Rattle.std.proofs.Common.{◌≡◌, ◌+◌, ◌-◌, ◌<◌, ◌≤◌, ℕ, List, ◌++◌, filter, get_or, length, drop, take, sym, subst, ◌∙◌, ap, ap₂, arith}
+use Rattle.std.proofs.Common.{◌≡◌, ◌-◌, ◌<◌, ◌≤◌, ℕ, List, filter, length, drop, subst, ◌∙◌, ap, ap₂, arith}
 use Rattle.std.specs.List.{enumerate_from}
 use Rattle.std.proofs.lemmas.List.{length-drop, take_all}
 use Rattle.ripng_world.specs.AskedRounds.{is_other, places_of}
@@ -6,7 +6,6 @@ use Rattle.ripng_world.specs.Delivering.{AllDelivered}
 use Rattle.ripng_world.specs.Labs.{LabValue}
 use Rattle.ripng_world.specs.Network.{Network}
 use Rattle.ripng_world.specs.Stations.{StationValue, network_of}
-use Rattle.ripng_world.specs.World.{World, Event}
 use Rattle.ripng_world.specs.declared.sent.Sent.{Sent}
 use Rattle.ripng_world.proofs.Delivered.{each_next, each_part, each_stop, still_at, still_within, to_err, to_others}
 use Rattle.ripng_world.proofs.lab.Lab.deliver_each.Goals as goal

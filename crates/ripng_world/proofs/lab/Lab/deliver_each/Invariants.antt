@@ -1,6 +1,5 @@
-use Rattle.std.proofs.Common.{◌≡◌, ◌-◌, map, take, drop}
+use Rattle.std.proofs.Common.{◌≡◌, ◌-◌, take, drop}
 use Rattle.std.specs.List.{enumerate_from}
-
 use Rattle.ripng_world.specs.Delivering.{AllDelivered}
 use Rattle.ripng_world.proofs.Delivered.{to_others}
 use Rattle.ripng_world.proofs.lab.Lab.deliver_each.Given as goal

@@ -1,9 +1,8 @@
-use Rattle.std.proofs.Common.{◌≡◌, ◌==◌, false, get_or, ℕ, ◌+◌, ◌%◌, ◌<◌, [], List, length, refl, sym, subst, ◌∙◌, ap, arith}
+use Rattle.std.proofs.Common.{◌≡◌, ◌==◌, false, get_or, ℕ, ◌%◌, ◌<◌, List, length, refl, sym, subst, ◌∙◌, arith}
 use Rattle.std.proofs.lemmas.Bool.{eqb-true}
 use Rattle.std.proofs.lemmas.Bool.Decides.{nat_tests}
 use Rattle.std.proofs.lemmas.Nat.{mod_below}
 use Rattle.std.proofs.lemmas.Option.{slice_get-get_or}
-use Rattle.ripng_world.specs.AskedRounds.{picked_deliveries}
 use Rattle.ripng_world.specs.Delivering.{AllDelivered}
 use Rattle.ripng_world.specs.World.{Event}
 use Rattle.ripng_world.specs.declared.lab.delivering.OnSkip.TheVariants.{Stop}

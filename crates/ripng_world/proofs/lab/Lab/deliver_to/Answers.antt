@@ -1,4 +1,4 @@
-use Rattle.std.proofs.Common.{◌≡◌, ℕ, get_or, ◌∙◌}
+use Rattle.std.proofs.Common.{get_or, ◌∙◌}
 use Rattle.std.proofs.lemmas.List.{get_or_default}
 use Rattle.ripng_world.proofs.Delivered.{to_next, to_stop, to_err}
 use Rattle.ripng_world.proofs.lab.Lab.deliver_to.Goals as goal
