@@ -7,8 +7,9 @@ ghost use Rattle.fib.specs.Forwarding.{is_install, Replays, IsMatch, IsLongestMa
 ghost use Rattle.fib.specs.Entries.{at_prefix, listed, table_of, AreInOrder};
 
 use crate::change::{Hop, RouteChange, installs};
-use crate::merging::merge;
+use crate::merging::{are_at_end, merge};
 use crate::replaying::{are_replacements, replace_all, replay};
+use crate::room::make_room;
 use crate::searching::{Entry, last_up_to};
 use prefix6::{Addr6, Prefix};
 use std::alloc::{AllocError, Global};
@@ -38,7 +39,8 @@ impl Model for Fib {
     ghost invariant = { λ f. AreInOrder f.entries.items };
 }
 
-/// Up to how many changes are replayed in place: a merge would copy the whole table for them.
+/// Up to how many changes are replayed in place wherever they fall: a merge would copy the whole
+/// table for them.
 const FEW: usize = 2;
 
 impl Fib {
@@ -70,17 +72,22 @@ impl Fib {
     /// one.
     ///
     /// Where each of k changes replaces one of n entries, that is 2 k log2(n) comparisons, and no
-    /// entry moves. Otherwise one or two changes are made in place, at up to n moves each, and more
-    /// of them by a merge into new memory, in whatever order they come: n + k copies, and at most
-    /// k log2(n) comparisons beside those of a sort by prefix, which changes that come in that
-    /// order do without.
+    /// entry moves. Where the changes come in the order of their prefixes, none before the last
+    /// entry, as in a neighbor's first update, that is k log2(n) comparisons, and entries move only
+    /// where there is no room for the new ones. Otherwise one or two changes are made in place, at
+    /// up to n moves each, and more of them by a merge into new memory, in whatever order they come:
+    /// n + k copies, and at most k log2(n) comparisons beside those of a sort by prefix, which
+    /// changes that come in that order do without.
     ///
-    /// A merge leaves no spare room, and an install in place makes room for itself alone, so that
-    /// the table takes an entry's size for each entry, and what withdrawals in place left free.
+    /// A merge leaves room for n / 64 entries more. Where there is no room for what is made in
+    /// place, the table moves to memory with room for that, or for n / 64 entries more if that is
+    /// more. So calls that install one entry each move the table once in n / 64 of them, and it
+    /// takes an entry's size for each entry, a 64th more, and what withdrawals in place left free.
     /// Withdrawals alone cannot fail: where memory to merge them is refused, they are made in place.
     ///
     /// # Errors
-    /// Where memory for all that the changes install is refused. The table is then as it was.
+    /// Where memory for all that the changes install, with what it has to spare, is refused. The
+    /// table is then as it was.
     pub fn apply(&mut self, changes: &[RouteChange]) -> Result<(), AllocError>
         ensures ok { OnOk result (Replays self.old changes.now self.new) }
         ensures err { OnErr result (self.new ≡ self.old) }
@@ -91,7 +98,7 @@ impl Fib {
             return Ok(());
         }
         let installed = installs(changes);
-        if changes.len() > FEW {
+        if changes.len() > FEW && !are_at_end(&self.entries, changes) {
             match merge(*self.entries.allocator(), &self.entries, changes) {
                 Ok(entries) => {
                     self.entries = entries;
@@ -101,7 +108,7 @@ impl Fib {
                 Err(_) => {}
             }
         }
-        self.entries.reserve_exact(installed)?;
+        make_room(&mut self.entries, installed)?;
         replay(&mut self.entries, changes);
         Ok(())
     }

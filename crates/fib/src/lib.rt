@@ -6,6 +6,7 @@ mod fib;
 pub mod laws;
 mod merging;
 mod replaying;
+mod room;
 mod searching;
 #[cfg(test)]
 mod tests;

@@ -9,6 +9,7 @@ ghost use Rattle.fib.specs.Forwarding.{prefix_of, last_change, Replays};
 ghost use Rattle.fib.specs.Entries.{at_prefix, table_of, AreInOrder, AreUpTo, AreByPrefix};
 
 use crate::change::{RouteChange, installs};
+use crate::room::spare;
 use crate::searching::{Entry, place_of};
 use prefix6::Prefix;
 use std::alloc::{AllocError, Global};
@@ -88,7 +89,7 @@ fn merge_change(
     Ok(to)
 }
 
-/// The old entries with changes that come in the order of their prefixes.
+/// The old entries with changes that come in the order of their prefixes, with some room to spare.
 fn merge_sorted(
     alloc: Global,
     old: &[Entry],
@@ -99,13 +100,14 @@ fn merge_sorted(
     ensures follows { IfOk result (λ merged. Replays (table_of old.now) changes.now (table_of merged.items)) }
     ensures in_order { IfOk result (λ merged. AreInOrder merged.items) }
 {
-    let mut merged = Vec::with_capacity(alloc, old.len() + installs(changes))?;
+    let most = old.len() + installs(changes);
+    let mut merged = Vec::with_capacity(alloc, most + spare(most))?;
     let mut from = 0;
     for change in changes {
         from = merge_change(&mut merged, old, from, *change)?;
     }
     merged.extend_from_slice(&old[from..])?;
-    merged.shrink_to_fit();
+    merged.shrink_to(merged.len() + spare(merged.len()));
     Ok(merged)
 }
 
@@ -114,6 +116,18 @@ fn are_by_prefix(changes: &[RouteChange]) -> bool
     ensures { IsTrue result → AreByPrefix changes.now }
 {
     changes.is_sorted_by_key(|change| change.prefix())
+}
+
+/// Whether the changes come in the order of their prefixes, and none before the last entry, so that
+/// no entry but the last has to move for them.
+pub(crate) fn are_at_end(entries: &[Entry], changes: &[RouteChange]) -> bool
+    ensures { IsTrue result → AreByPrefix changes.now }
+{
+    let at_end = match (entries.last(), changes.first()) {
+        (Some(&(last, _, _)), Some(first)) => last <= first.prefix(),
+        _ => true,
+    };
+    at_end && are_by_prefix(changes)
 }
 
 /// The changes in the order of their prefixes, and those of one prefix in the order that they had.
@@ -126,7 +140,8 @@ fn by_prefix(alloc: Global, changes: &[RouteChange]) -> Result<Vec<RouteChange>,
     Ok(sorted)
 }
 
-/// The old entries with the changes, which may come in any order, in a vector without spare room.
+/// The old entries with the changes, which may come in any order, in a vector with some room to
+/// spare.
 pub(crate) fn merge(
     alloc: Global,
     old: &[Entry],

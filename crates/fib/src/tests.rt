@@ -160,3 +160,25 @@ fn merges_in_order(rt: HostRuntime) -> Result<(), Fail> {
     assert_eq!(rt; fib.entries(), entries.as_slice());
     Ok(())
 }
+
+#[test]
+fn appends_at_the_end(rt: HostRuntime) -> Result<(), Fail> {
+    let shorter = prefix(&rt, 0x2001_0db8, 0, 32);
+    let longer = prefix(&rt, 0x2001_0db8, 5, 48);
+    let last = prefix(&rt, 0x2001_0dba, 0, 32);
+    let mut fib = Fib::new(rt.alloc());
+    fib.apply(&[direct(shorter, 1), direct(longer, 2)])?;
+    let changes = [
+        RouteChange::Withdraw { prefix: longer },
+        direct(longer, 4),
+        direct(last, 3),
+    ];
+    fib.apply(&changes)?;
+    let entries = [
+        (shorter, Hop::Direct, 1),
+        (longer, Hop::Direct, 4),
+        (last, Hop::Direct, 3),
+    ];
+    assert_eq!(rt; fib.entries(), entries.as_slice());
+    Ok(())
+}
