@@ -1,5 +1,5 @@
 -- What each step in the making of a command leaves it as.
-use Rattle.std.proofs.Common.{◌≡◌, ◌∙◌, ◌||◌, ap, ap₂, true, refl, Result, Option, List, ℕ}
+use Rattle.std.proofs.Common.{◌≡◌, ◌∙◌, ◌||◌, ap, ap₂, true, refl, Result, Option, Some, List, ℕ}
 use Rattle.std.specs.Borrow.{Bor}
 use Rattle.std.specs.Prelude.{IfOk}
 use Rattle.std.proofs.lemmas.Result.{IfOk-weaker}
@@ -12,7 +12,7 @@ use Rattle.clap.specs.Built.{AddsArg, AddsSubcommand}
 use Rattle.clap.specs.declared.builder.arg.Arg.{Arg}
 use Rattle.clap.specs.Faults.{is_simple_and_free}
 use Rattle.clap.proofs.OnLiterals.{clap_on_literals}
-use Rattle.ripngd.specs.CommandLine.{IsArg, IsCommand, ripngd, subcommand_required}
+use Rattle.ripngd.specs.CommandLine.{IsArg, IsCommand, ripngd, subcommand_required, versioned}
 
 -- an argument is added
 pub arg_added : (old : Command) (a : Arg) (new : Command) (app : App) (r : Rule) → AddsArg old a new → IsArg a r → IsCommand old app → IsCommand new (with_rule app r)
@@ -40,6 +40,13 @@ subcommand_added_ok old sub app inner new h is_sub is = IfOk-weaker new _ _ (λ 
 pub about_set : (old new : Command) (text : Option (Bor (List ℕ))) (app : App) → out-Command new ≡ record (out-Command old) { about = text } → IsCommand old app → IsCommand new app
 about_set old new text app e is = record {
   app_is = ap app_of_fields e ∙ is.app_is;
+  local = ap (λ (f : Command-F Command). f.has_globals) e ∙ is.local;
+}
+
+-- a command that is given a version tells it
+pub version_set : (old new : Command) (text : Bor (List ℕ)) (app : App) → out-Command new ≡ record (out-Command old) { version = Some text } → IsCommand old app → IsCommand new (versioned app)
+version_set old new text app e is = record {
+  app_is = ap app_of_fields e ∙ ap versioned is.app_is;
   local = ap (λ (f : Command-F Command). f.has_globals) e ∙ is.local;
 }
 

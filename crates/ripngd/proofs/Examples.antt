@@ -2,7 +2,7 @@
 use Rattle.std.proofs.Common.{◌≡◌, true, [], ◌∷◌, refl, codes}
 use Rattle.clap.specs.Faults.{fault_of}
 use Rattle.clap.specs.Takes.{takes}
-use Rattle.clap.specs.declared.error.kind.ErrorKind.TheVariants.{DisplayHelp, MissingRequiredArgument, UnknownArgument, ValueValidation}
+use Rattle.clap.specs.declared.error.kind.ErrorKind.TheVariants.{DisplayHelp, DisplayVersion, MissingRequiredArgument, UnknownArgument, ValueValidation}
 use Rattle.clap.proofs.OnLiterals.{clap_on_literals}
 use Rattle.ripngd.specs.CommandLine.{ripngd}
 
@@ -35,6 +35,11 @@ hex_is_missing = refl
 help_is_asked : fault_of ripngd (codes "ripngd" ∷ codes "--help" ∷ []) ≡ DisplayHelp ∷ []
 unfolding clap_on_literals
 help_is_asked = refl
+
+-- `--version`
+version_is_asked : fault_of ripngd (codes "ripngd" ∷ codes "--version" ∷ []) ≡ DisplayVersion ∷ []
+unfolding clap_on_literals
+version_is_asked = refl
 
 -- `run -qt7 -R log --turns=3 c`: short options in one word, a long one with its value
 run_is_taken : takes ripngd (codes "ripngd" ∷ codes "run" ∷ codes "-qt7" ∷ codes "-R" ∷ codes "log" ∷ codes "--turns=3" ∷ codes "c" ∷ []) ≡ true

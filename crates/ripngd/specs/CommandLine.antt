@@ -56,16 +56,20 @@ one_argument name id = with_rule (new_app name) (positional id)
 abbrev pub subcommand_required : App → App
 subcommand_required a = on_top (λ s. record s { subcommand_required = true }) a
 
+-- a command that tells its version
+abbrev pub versioned : App → App
+versioned a = on_top (λ s. record s { has_version = true }) a
+
 -- `run [-q] [-t TAG] [-R FILE] [--turns N] CONFIG`
 abbrev pub run_command : App
 run_command =
     with_rule (with_rule (with_rule (with_rule (with_rule (new_app (codes "run"))
     quiet_option) tag_option) log_option) turns_option) (positional (codes "CONFIG"))
 
--- `ripngd` with `show HEX`, `check CONFIG`, `lab SCRIPT` or `run`
+-- `ripngd`, which tells its version, with `show HEX`, `check CONFIG`, `lab SCRIPT` or `run`
 abbrev pub ripngd : App
 ripngd = with_subcommand (with_subcommand (with_subcommand (with_subcommand
-    (subcommand_required (new_app (codes "ripngd")))
+    (subcommand_required (versioned (new_app (codes "ripngd"))))
     (one_argument (codes "show") (codes "HEX")).top)
     (one_argument (codes "check") (codes "CONFIG")).top)
     (one_argument (codes "lab") (codes "SCRIPT")).top)

@@ -1,16 +1,20 @@
 -- What the exit statuses of ripngd tell (they are this project's choice).
-use Rattle.std.specs.Prelude.{◌≢◌, ℕ, Bool, List, [], Option}
+use Rattle.std.specs.Prelude.{◌≢◌, ◌⊎◌, ℕ, Bool, List, [], Option}
 use Rattle.std.specs.Io.KnownBytes.{Appends}
 use Rattle.clap.specs.Faults.{fault_of}
 use Rattle.clap.specs.Kinds.{IsAmong}
 use Rattle.clap.specs.Walk.{Text}
-use Rattle.clap.specs.declared.error.kind.ErrorKind.TheVariants.{DisplayHelp}
+use Rattle.clap.specs.declared.error.kind.ErrorKind.TheVariants.{DisplayHelp, DisplayVersion}
 use Rattle.ripngd.specs.declared.asked.Ask.{Ask}
 use Rattle.ripngd.specs.declared.asked.Ask.TheVariants as asks
-use Rattle.ripngd.specs.declared.showing.ShowFault.{ShowFault}
-use Rattle.ripngd.specs.declared.showing.ShowFault.TheVariants as faults
+use Rattle.ripngd.specs.declared.print_fault.PrintFault.{PrintFault}
+use Rattle.ripngd.specs.declared.print_fault.PrintFault.TheVariants as faults
 use Rattle.ripngd.specs.declared.failure.Failure.{Failure}
 use Rattle.ripngd.specs.declared.failure.Failure.TheVariants as failures
+use Rattle.ripngd.specs.declared.udp.UdpError.{UdpError}
+use Rattle.ripngd.specs.declared.udp.UdpError.TheVariants as link
+use Rattle.ripngd_engine.specs.declared.report.EngineFault.{EngineFault}
+use Rattle.ripngd_engine.specs.declared.report.EngineFault.TheVariants as engine
 use Rattle.ripngd.specs.Asked.{Asks}
 use Rattle.ripngd.specs.CommandLine.{ripngd}
 use Rattle.ripngd.specs.Shown.{IsShown}
@@ -27,15 +31,30 @@ AnswersAsk (asks.Run order) accepted old new = Unit {0}
 abbrev pub AnswersWords : List Text → Bool → Option (List ℕ) → Option (List ℕ) → Type 0
 AnswersWords words accepted old new = (ask : Ask) × Asks words ask × AnswersAsk ask accepted old new
 
--- the words ask for help
+-- the words ask for help, or for the version
 abbrev pub AsksForHelp : List Text → Type 0
-AsksForHelp words = IsAmong DisplayHelp (fault_of ripngd words)
+AsksForHelp words = IsAmong DisplayHelp (fault_of ripngd words) ⊎ IsAmong DisplayVersion (fault_of ripngd words)
 
 -- the words have a fault
 abbrev pub HasFault : List Text → Type 0
 HasFault words = fault_of ripngd words ≢ []
 
--- what a fault of `show` is to the program
-abbrev pub failure_of : ShowFault → Failure
+-- the numbers of the faults of a command that prints
+abbrev pub print_number : PrintFault → ℕ
+print_number faults.OutOfMemory = 1
+print_number faults.Write = 2
+
+-- what such a fault is to the program
+abbrev pub failure_of : PrintFault → Failure
 failure_of faults.OutOfMemory = failures.OutOfMemory
 failure_of faults.Write = failures.Output
+
+-- what a fault of the engine is to the program
+abbrev pub failure_of_engine : EngineFault → Failure
+failure_of_engine (engine.LinkFault done) = failures.Link done
+failure_of_engine engine.OutOfMemory = failures.OutOfMemory
+
+-- what a link that was not bound is to the program
+abbrev pub failure_of_link : UdpError → Failure
+failure_of_link (link.Bind port) = failures.Bind port
+failure_of_link link.OutOfMemory = failures.OutOfMemory

@@ -12,6 +12,11 @@ abbrev pub NamesPortOf : List ℕ → UdpError → Type 0
 NamesPortOf ports (Bind port) = Contains ports port
 NamesPortOf ports OutOfMemory = ⊤
 
+-- the numbers of these faults
+abbrev pub link_number : UdpError → ℕ
+link_number (Bind port) = 1
+link_number OutOfMemory = 2
+
 -- a datagram of so many bytes, as one of the peer
 abbrev pub as_of : Peer → ℕ → ℕ → Received
 as_of peer iface len =

@@ -1,39 +1,54 @@
 //! `check`: whether a text is a configuration that a router can run on.
 
-ghost use Rattle.std.specs.Prelude.{◌≡◌, ◌≢◌, Ok, IfOk, false, true};
+ghost use Rattle.std.specs.Prelude.{◌≡◌, ◌≢◌, Ok, IfOk, OnOk, false, true};
+ghost use Rattle.std.specs.Io.KnownBytes.{Appends};
 ghost use Rattle.ripngd_config.specs.Configuration.{IsConfigured, Refuses};
 ghost use Rattle.ripngd_config.specs.declared.configuration.Config as configured;
 ghost use Rattle.ripngd_config.specs.declared.fault.ConfigFault as refusal;
+ghost use Rattle.ripngd.specs.Checked.{counts_line, peers_counted};
 
-use ripngd_config::{Config, ConfigFault, read_config};
-use std::alloc::{AllocError, Global};
+use crate::print_fault::PrintFault;
+use ripngd_config::{Config, ConfigFault, Peer, read_config};
+use std::alloc::Global;
 use std::io::{self, Write};
 
 /// Writes what a configuration has, as `ok interfaces A prefixes B peers C`, or why it is refused, as `refused ..`, and
 /// answers whether it is accepted. It is read as for a router that is not quiet, with the default tag 0.
 ///
 /// # Errors
-/// `OutOfMemory` where memory was refused, else the fault of `out`.
-pub fn check<W: Write>(alloc: Global, text: &[u8], out: &mut W) -> io::Result<bool>
-    ensures accepted { result ≡ Ok true → (config : configured.Config) × IsConfigured text.now 0 false config }
+/// `OutOfMemory` before anything is written; `Write` where `out` failed.
+pub fn check<W: Write>(alloc: Global, text: &[u8], out: &mut W) -> Result<bool, PrintFault>
+    ensures accepted { result ≡ Ok true → (config : configured.Config) × IsConfigured text.now 0 false config
+        × Appends (W.contents out.old) (W.contents out.new) (counts_line config) }
     ensures refused { result ≡ Ok false → (fault : refusal.ConfigFault) × (fault ≢ ConfigFault.OutOfMemory) × Refuses text.now 0 false fault }
+    ensures out_of_memory { result ≡ Err PrintFault.OutOfMemory → out.new ≡ out.old }
 {
     match read_config(alloc, text, 0, false) {
-        Ok(config) => {
-            write_counts(&config, out)?;
-            Ok(true)
-        }
+        Ok(config) => match write_counts(&config, out) {
+            Ok(()) => Ok(true),
+            Err(_) => Err(PrintFault::Write),
+        },
         Err(fault) => write_refusal(&fault, out),
     }
 }
 
-fn write_counts<W: Write>(config: &Config, out: &mut W) -> io::Result<()> {
+/// How many peers there are on all interfaces together, or the greatest `usize`.
+fn count_peers(peers: &[Vec<Peer>]) -> usize
+    ensures { result ≡ peers_counted peers.now }
+{
+    let mut count = 0_usize;
+    for of_interface in peers {
+        count = count.saturating_add(of_interface.len());
+    }
+    count
+}
+
+fn write_counts<W: Write>(config: &Config, out: &mut W) -> io::Result<()>
+    ensures { OnOk result (Appends (W.contents out.old) (W.contents out.new) (counts_line config.now)) }
+{
     let interfaces = config.router.interfaces().len();
     let prefixes = config.router.prefixes().len();
-    let mut peers = 0_usize;
-    for of_interface in &config.peers {
-        peers = peers.saturating_add(of_interface.len());
-    }
+    let peers = count_peers(config.peers.as_slice());
     writeln!(
         out,
         "ok interfaces {interfaces} prefixes {prefixes} peers {peers}"
@@ -43,14 +58,15 @@ fn write_counts<W: Write>(config: &Config, out: &mut W) -> io::Result<()> {
 /// Writes why a configuration is refused, and answers that it is not accepted.
 ///
 /// # Errors
-/// `OutOfMemory` where that is the fault, else the fault of `out`.
-pub(crate) fn write_refusal<W: Write>(fault: &ConfigFault, out: &mut W) -> io::Result<bool>
-    ensures { IfOk result (λ accepted. (accepted ≡ false) × (fault.now ≢ ConfigFault.OutOfMemory)) }
+/// `OutOfMemory` where that is the fault, and then nothing is written; `Write` where `out` failed.
+pub(crate) fn write_refusal<W: Write>(fault: &ConfigFault, out: &mut W) -> Result<bool, PrintFault>
+    ensures refused { IfOk result (λ accepted. (accepted ≡ false) × (fault.now ≢ ConfigFault.OutOfMemory)) }
+    ensures out_of_memory { result ≡ Err PrintFault.OutOfMemory → out.new ≡ out.old }
 {
     match fault {
-        ConfigFault::OutOfMemory => Err(io::Error::from(AllocError)),
+        ConfigFault::OutOfMemory => Err(PrintFault::OutOfMemory),
         _ => {
-            writeln!(out, "refused {fault}")?;
+            writeln!(out, "refused {fault}").map_err(|_| PrintFault::Write)?;
             Ok(false)
         }
     }

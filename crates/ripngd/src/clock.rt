@@ -59,6 +59,8 @@ impl<R: Clock> TimeSource for Uptime<'_, R> {
 #[cfg(test)]
 mod tests {
     use super::*;
+    use std::cell::Cell;
+    use std::io::{self, ErrorKind};
     use std::test::Fail;
 
     #[test]
@@ -69,5 +71,46 @@ mod tests {
         let later = clock.now().ms();
         assert!(rt; begun < 1_000 && begun.saturating_add(20) <= later && later < 10_000);
         Ok(())
+    }
+
+    /// A clock that can be read so many times, each 7 seconds after the time before.
+    #[derive(Drop)]
+    struct Faltering {
+        readings: u32,
+        read: Cell<u32>,
+    }
+
+    impl Faltering {
+        fn new(readings: u32) -> Faltering {
+            Faltering {
+                readings,
+                read: Cell::new(0),
+            }
+        }
+    }
+
+    impl Clock for Faltering {
+        fn monotonic(&self) -> io::Result<Duration> {
+            let read = self.read.get();
+            if read >= self.readings {
+                return Err(io::Error::from(ErrorKind::Other));
+            }
+            self.read.set(read.saturating_add(1));
+            Ok(Duration::from_secs(u64::from(read).saturating_mul(7)))
+        }
+
+        fn since_1970(&self) -> io::Result<Duration> {
+            Err(io::Error::from(ErrorKind::Other))
+        }
+    }
+
+    #[test]
+    fn tells_its_last_moment_where_it_cannot_be_read(rt: HostRuntime) {
+        let never = Faltering::new(0);
+        assert_eq!(rt; Uptime::new(&never).now().ms(), 0);
+        let twice = Faltering::new(2);
+        let mut clock = Uptime::new(&twice);
+        assert_eq!(rt; clock.now().ms(), 7_000);
+        assert_eq!(rt; clock.now().ms(), 7_000);
     }
 }

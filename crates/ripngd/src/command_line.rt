@@ -15,6 +15,9 @@ use clap::error::ErrorKind;
 use clap::{Arg, ArgAction, ArgMatches, Command, Error, value_parser};
 use std::alloc::{AllocError, Global};
 
+/// The version of the program, which `--version` prints.
+pub const VERSION: &str = "0.1.0";
+
 /// An argument that has to be given, by its place.
 fn required<'a>(alloc: Global, id: &'a str, help: &'a str) -> Arg<'a>
     ensures { IsArg result (positional id.entry.now) }
@@ -62,7 +65,7 @@ fn turns<'a>(alloc: Global) -> Arg<'a>
         .value_name("N")
         .value_parser(value_parser!(u32).range(1..))
         .default_value("4294967295")
-        .help("End after N turns, and print the forwarding table")
+        .help("End after N turns, each a look at one socket, and print the forwarding table")
 }
 
 /// A subcommand with one argument.
@@ -99,6 +102,7 @@ fn command<'a>(alloc: Global) -> Result<Command<'a>, AllocError>
 {
     Command::new(alloc, "ripngd")
         .about("A router for RIPng, the distance vector protocol of IPv6 (RFC 2080)")
+        .version(VERSION)
         .subcommand_required(true)
         .subcommand(with_one(
             alloc,
@@ -127,7 +131,7 @@ fn command<'a>(alloc: Global) -> Result<Command<'a>, AllocError>
 /// Reads a command line, whose first word is the program's name.
 ///
 /// # Errors
-/// The fault that clap finds, help that was asked for among them, or want of memory.
+/// The fault that clap finds, help or the version that was asked for among them, or want of memory.
 pub fn ask<'a>(alloc: Global, words: &'a [&'a str]) -> Result<Ask<'a>, Error>
     // What is answered is what the words give to the command.
     ensures asked { IfOk result (Asks (map (λ w. w.now) words.entry.now)) }

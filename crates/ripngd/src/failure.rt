@@ -1,12 +1,13 @@
 //! What fails outside the program.
 
-ghost use Rattle.std.specs.Prelude.{◌≡◌};
-ghost use Rattle.ripngd.specs.Exit.{failure_of};
+ghost use Rattle.std.specs.Prelude.{◌≡◌, ◌≢◌};
+ghost use Rattle.std.specs.IoError.{error_kind};
+ghost use Rattle.ripngd.specs.Exit.{failure_of, failure_of_engine, failure_of_link};
+ghost use Rattle.ripngd.specs.declared.failure.Failure.TheVariants as failures;
 
-use crate::showing::ShowFault;
+use crate::print_fault::PrintFault;
 use crate::udp::UdpError;
 use ripngd_engine::EngineFault;
-use std::alloc::AllocError;
 use std::io::{self, ErrorKind};
 use thiserror::Error;
 
@@ -32,34 +33,31 @@ pub(crate) enum Failure<'a> {
     OutOfMemory,
 }
 
-impl From<ShowFault> for Failure<'_> {
+/// What a fault of the system is, where something was tried: want of memory, or else that this failed.
+pub(crate) fn failed<'a>(tried: Failure<'a>, error: &io::Error) -> Failure<'a>
+    ensures memory { error_kind error.now ≡ ErrorKind.OutOfMemory → result ≡ failures.OutOfMemory }
+    ensures other { error_kind error.now ≢ ErrorKind.OutOfMemory → result ≡ tried.entry }
+{
+    match error.kind() {
+        ErrorKind::OutOfMemory => Failure::OutOfMemory,
+        _ => tried,
+    }
+}
+
+impl From<PrintFault> for Failure<'_> {
     ghost from_gives = { λ fault failure. failure ≡ failure_of fault };
 
-    fn from(fault: ShowFault) -> Self {
+    fn from(fault: PrintFault) -> Self {
         match fault {
-            ShowFault::OutOfMemory => Failure::OutOfMemory,
-            ShowFault::Write => Failure::Output,
-        }
-    }
-}
-
-impl From<AllocError> for Failure<'_> {
-    fn from(_: AllocError) -> Self {
-        Failure::OutOfMemory
-    }
-}
-
-/// A fault of standard output, or want of memory.
-impl From<io::Error> for Failure<'_> {
-    fn from(error: io::Error) -> Self {
-        match error.kind() {
-            ErrorKind::OutOfMemory => Failure::OutOfMemory,
-            _ => Failure::Output,
+            PrintFault::OutOfMemory => Failure::OutOfMemory,
+            PrintFault::Write => Failure::Output,
         }
     }
 }
 
 impl From<EngineFault> for Failure<'_> {
+    ghost from_gives = { λ fault failure. failure ≡ failure_of_engine fault };
+
     fn from(fault: EngineFault) -> Self {
         match fault {
             EngineFault::LinkFault { done } => Failure::Link(done),
@@ -69,6 +67,8 @@ impl From<EngineFault> for Failure<'_> {
 }
 
 impl From<UdpError> for Failure<'_> {
+    ghost from_gives = { λ fault failure. failure ≡ failure_of_link fault };
+
     fn from(fault: UdpError) -> Self {
         match fault {
             UdpError::Bind(port) => Failure::Bind(port),

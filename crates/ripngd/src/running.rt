@@ -5,21 +5,24 @@ ghost use Rattle.ripngd_config.specs.Configuration.{HasOneEach};
 use crate::asked::Order;
 use crate::checking::write_refusal;
 use crate::clock::Uptime;
-use crate::failure::Failure;
+use crate::failure::{Failure, failed};
+use crate::plan::{Plan, plan_of};
+use crate::reading::read;
 use crate::udp::Udp;
 use fib::Fib;
 use rand_pcg::Pcg32;
-use ripngd_config::{Config, read_config};
-use ripngd_engine::{Engine, RouteLine};
-use route_table::SortedRoutes;
+use ripngd_config::Config;
+use ripngd_engine::{Engine, Report, RouteLine};
+use route_table::TrieRoutes;
 use std::fs;
 use std::io::{self, Write};
 use std::net::Net;
 use std::rt::{Clock, Files};
 
 /// Runs the router of a configuration for some turns, and then writes its forwarding table, a line for each entry. Each
-/// change of a route is a line of `log`, if one is named, whose old contents are lost. A configuration that is refused is
-/// written as `refused ..`, before the log is touched, and the answer is then false.
+/// change of a route is a line of the log, if a file is named for it, whose old contents are lost. A configuration that
+/// is refused is written as `refused ..`, before that file is touched, and the answer is then false. What the router lost
+/// is left in `lost`, also where it ended early.
 ///
 /// # Errors
 /// The first thing that failed: to read the configuration, to make the log, to bind a port, the link, memory, or `out`.
@@ -27,11 +30,12 @@ pub(crate) fn run<'a, R: Files + Clock + Net + AllocGlobal, O: Write>(
     rt: &R,
     order: Order<'a>,
     out: &mut O,
+    lost: &mut Report,
 ) -> Result<bool, Failure<'a>> {
-    let text = fs::read(rt, order.config).map_err(|_| Failure::Read(order.config))?;
-    match read_config(rt.alloc(), text.as_slice(), order.tag, order.quiet) {
-        Ok(config) => {
-            run_config(rt, config, order.turns, order.log, out)?;
+    let text = read(rt, order.config)?;
+    match plan_of(rt.alloc(), order, text.as_slice()) {
+        Ok(plan) => {
+            run_plan(rt, plan, out, lost)?;
             Ok(true)
         }
         Err(fault) => Ok(write_refusal(&fault, out)?),
@@ -39,21 +43,24 @@ pub(crate) fn run<'a, R: Files + Clock + Net + AllocGlobal, O: Write>(
 }
 
 /// Makes the log, and runs.
-fn run_config<'a, R: Files + Clock + Net + AllocGlobal, O: Write>(
+fn run_plan<'a, R: Files + Clock + Net + AllocGlobal, O: Write>(
     rt: &R,
-    config: Config,
-    turns: u32,
-    log: Option<&'a str>,
+    plan: Plan<'a>,
     out: &mut O,
+    lost: &mut Report,
 ) -> Result<(), Failure<'a>>
-    requires { HasOneEach config }
+    requires { HasOneEach plan.config }
 {
+    let Plan { config, turns, log } = plan;
     match log {
         Some(file) => {
-            let mut lines = fs::create(rt, file).map_err(|_| Failure::Log(file))?;
-            run_logged(rt, config, turns, &mut lines, out)
+            let mut lines = fs::create(rt, file).map_err(|error| failed(
+                Failure::Log(file),
+                &error,
+            ))?;
+            run_logged(rt, config, turns, &mut lines, out, lost)
         }
-        None => run_logged(rt, config, turns, &mut io::sink(), out),
+        None => run_logged(rt, config, turns, &mut io::sink(), out, lost),
     }
 }
 
@@ -64,6 +71,7 @@ fn run_logged<'a, R: Clock + Net + AllocGlobal, W: Write, O: Write>(
     turns: u32,
     log: &mut W,
     out: &mut O,
+    lost: &mut Report,
 ) -> Result<(), Failure<'a>>
     requires { HasOneEach config }
 {
@@ -75,7 +83,7 @@ fn run_logged<'a, R: Clock + Net + AllocGlobal, W: Write, O: Write>(
     } = config;
     let link = Udp::bind(rt, rt.alloc(), ports.as_slice(), peers)?;
     let clock = Uptime::new(rt);
-    let mut engine: Engine<SortedRoutes, Udp, Uptime<'_, R>, Pcg32> = Engine::start(
+    let mut engine: Engine<TrieRoutes, Udp, Uptime<'_, R>, Pcg32> = Engine::start(
         rt.alloc(),
         router,
         link,
@@ -83,8 +91,10 @@ fn run_logged<'a, R: Clock + Net + AllocGlobal, W: Write, O: Write>(
         rng,
         log,
     )?;
-    engine.turns(turns, log)?;
-    Ok(write_table(engine.fib(), out)?)
+    let outcome = engine.turns(turns, log);
+    *lost = engine.report();
+    outcome?;
+    write_table(engine.fib(), out).map_err(|_| Failure::Output)
 }
 
 fn write_table<O: Write>(fib: &Fib, out: &mut O) -> io::Result<()> {

@@ -4,39 +4,28 @@ ghost use Rattle.std.specs.Prelude.{◌≡◌, ℕ, IfOk, List, OnOk};
 ghost use Rattle.std.specs.Io.KnownBytes.{Appends};
 ghost use Rattle.ripngd.specs.Shown.{IsBytesText, IsShown, command_text, entry_line, head_line, listing, next_hop_line, refusal_line, route_line};
 
+use crate::print_fault::PrintFault;
 use hex::FromHexError;
 use prefix6::Addr6;
 use ripng_wire::{Command, Datagram, Rte, WireError};
 use std::alloc::Global;
 use std::io::{self, Write};
-use thiserror::Error;
-
-/// Why [`show`] gave up.
-#[derive(Clone, Copy, Debug, PartialEq, Eq, Error)]
-pub enum ShowFault {
-    /// There was no memory for the bytes of the datagram.
-    #[error("out of memory")]
-    OutOfMemory = 1,
-    /// The writer failed; some of the text may have been written.
-    #[error("cannot write")]
-    Write = 2,
-}
 
 /// Writes the lines of the datagram that a text of hexadecimal digits stands for, and answers whether it is one.
 /// Bytes that are no datagram give the line `refused NR NAME`, digits that stand for no bytes `refused bad hex`.
 ///
 /// # Errors
 /// `OutOfMemory` before anything is written; `Write` where `out` failed.
-pub fn show<W: Write>(alloc: Global, hex: &str, out: &mut W) -> Result<bool, ShowFault>
+pub fn show<W: Write>(alloc: Global, hex: &str, out: &mut W) -> Result<bool, PrintFault>
     ensures shown { IfOk result (λ accepted. (text : List ℕ) × IsShown hex.now accepted text
         × Appends (W.contents out.old) (W.contents out.new) text) }
-    ensures out_of_memory { result ≡ Err ShowFault.OutOfMemory → out.new ≡ out.old }
+    ensures out_of_memory { result ≡ Err PrintFault.OutOfMemory → out.new ≡ out.old }
 {
     match hex::decode(alloc, hex) {
-        Ok(bytes) => show_bytes(bytes.as_slice(), out).map_err(|_| ShowFault::Write),
-        Err(FromHexError::OutOfMemory) => Err(ShowFault::OutOfMemory),
+        Ok(bytes) => show_bytes(bytes.as_slice(), out).map_err(|_| PrintFault::Write),
+        Err(FromHexError::OutOfMemory) => Err(PrintFault::OutOfMemory),
         Err(_) => {
-            writeln!(out, "refused bad hex").map_err(|_| ShowFault::Write)?;
+            writeln!(out, "refused bad hex").map_err(|_| PrintFault::Write)?;
             Ok(false)
         }
     }

@@ -8,20 +8,21 @@ use crate::asked::Ask;
 use crate::checking::check;
 use crate::command_line::ask;
 use crate::failure::Failure;
+use crate::laboratory::lab;
+use crate::losses::{NOTHING_LOST, write_losses};
+use crate::reading::read;
 use crate::running::run;
 use crate::showing::show;
 use clap::error::ErrorKind;
-use ripngd_lab::lab;
-use std::alloc::Global;
-use std::fs;
+use ripngd_engine::Report;
 use std::io::Write;
 use std::net::Net;
 use std::rt::{Clock, Files};
 
 /// The exit status of the program.
 #[derive(Clone, Copy, Debug, PartialEq, Eq)]
-enum Status {
-    /// What was asked is done, help among it.
+pub(crate) enum Status {
+    /// What was asked is done, help and the version among it.
     Done = 0,
     /// The datagram, the configuration or a line of the script was refused; standard output says why.
     Refused = 1,
@@ -33,11 +34,14 @@ enum Status {
 
 /// Does what the words of a command line ask for, the first of them the program's name, and answers the exit status:
 ///
-/// - 0 where it is done; help that was asked for is written to `out`;
+/// - 0 where it is done; help or the version, if that was asked for, is written to `out`;
 /// - 1 where the datagram, the configuration or a line of the script is refused, as a line on `out` says;
 /// - 2 at a fault of the command line, whose text is written to `err`;
 /// - 3 where something else failed, as a line on `err` says: `ripngd: cannot read FILE`, `ripngd: cannot write FILE` (with
 ///   `stdout` for `out`), `ripngd: cannot bind PORT`, `ripngd: link fault after N turns` or `ripngd: out of memory`.
+///
+/// A run that lost something has a last line on `err` that says what, also with status 0: `ripngd: lost sends N, lost
+/// steps M`, with `, log failed` behind it where a write of the log failed.
 ///
 /// What was written to `out` is flushed before a status of 0 or 1 is answered. A failure of `err` changes no status.
 pub fn program<R: AllocGlobal + Files + Clock + Net, O: Write, E: Write>(
@@ -53,10 +57,12 @@ pub fn program<R: AllocGlobal + Files + Clock + Net, O: Write, E: Write>(
     ensures usage { result ≡ 2 → HasFault (map (λ w. w.now) words.now) }
     ensures in_range { result ≤ 3 }
 {
-    let status = match outcome(rt, words, out, err) {
+    let mut lost = NOTHING_LOST;
+    let status = match outcome(rt, words, out, err, &mut lost) {
         Ok(status) => status,
         Err(failure) => report(failure, err),
     };
+    let _ = write_losses(lost, err);
     let _ = err.flush();
     status as u8
 }
@@ -67,6 +73,7 @@ fn outcome<'a, R: AllocGlobal + Files + Clock + Net, O: Write, E: Write>(
     words: &'a [&'a str],
     out: &mut O,
     err: &mut E,
+    lost: &mut Report,
 ) -> Result<Status, Failure<'a>>
     ensures done { result ≡ Ok Status.Done
         → AnswersWords (map (λ w. w.now) words.now) true (O.contents out.old) (O.contents out.new)
@@ -76,7 +83,7 @@ fn outcome<'a, R: AllocGlobal + Files + Clock + Net, O: Write, E: Write>(
     ensures usage { result ≡ Ok Status.Usage → HasFault (map (λ w. w.now) words.now) }
 {
     match ask(rt.alloc(), words) {
-        Ok(asked) => answer(rt, asked, out),
+        Ok(asked) => answer(rt, asked, out, lost),
         Err(error) => explain(&error, out, err),
     }
 }
@@ -86,6 +93,7 @@ fn accepts<'a, R: AllocGlobal + Files + Clock + Net, O: Write>(
     rt: &R,
     asked: Ask<'a>,
     out: &mut O,
+    lost: &mut Report,
 ) -> Result<bool, Failure<'a>>
     ensures { IfOk result (λ accepted. AnswersAsk asked.entry accepted (O.contents out.old) (O.contents out.new)) }
 {
@@ -93,13 +101,8 @@ fn accepts<'a, R: AllocGlobal + Files + Clock + Net, O: Write>(
         Ask::Show(hex) => Ok(show(rt.alloc(), hex, out)?),
         Ask::Check(file) => Ok(check(rt.alloc(), read(rt, file)?.as_slice(), out)?),
         Ask::Lab(file) => Ok(lab(rt.alloc(), read(rt, file)?.as_slice(), out)?),
-        Ask::Run(order) => run(rt, order, out),
+        Ask::Run(order) => run(rt, order, out, lost),
     }
-}
-
-/// What a file holds.
-fn read<'a, R: AllocGlobal + Files>(rt: &R, file: &'a str) -> Result<Vec<u8>, Failure<'a>> {
-    fs::read(rt, file).map_err(|_| Failure::Read(file))
 }
 
 /// Does what is asked.
@@ -107,12 +110,13 @@ fn answer<'a, R: AllocGlobal + Files + Clock + Net, O: Write>(
     rt: &R,
     asked: Ask<'a>,
     out: &mut O,
+    lost: &mut Report,
 ) -> Result<Status, Failure<'a>>
     ensures done { result ≡ Ok Status.Done → AnswersAsk asked.entry true (O.contents out.old) (O.contents out.new) }
     ensures refused { result ≡ Ok Status.Refused → AnswersAsk asked.entry false (O.contents out.old) (O.contents out.new) }
     ensures no_usage { result ≢ Ok Status.Usage }
 {
-    let accepted = accepts(rt, asked, out)?;
+    let accepted = accepts(rt, asked, out, lost)?;
     if out.flush().is_err() {
         return Err(Failure::Output);
     }
@@ -123,19 +127,20 @@ fn answer<'a, R: AllocGlobal + Files + Clock + Net, O: Write>(
     })
 }
 
-/// Writes why the command line asks for nothing: help to `out`, a fault to `err`.
+/// Writes why the command line asks for nothing: help or the version to `out`, a fault to `err`.
 fn explain<'a, O: Write, E: Write>(
     error: &clap::Error,
     out: &mut O,
     err: &mut E,
 ) -> Result<Status, Failure<'a>>
-    ensures done { result ≡ Ok Status.Done → kind_of error.now ≡ ErrorKind.DisplayHelp }
+    ensures done { result ≡ Ok Status.Done
+        → (kind_of error.now ≡ ErrorKind.DisplayHelp) ⊎ (kind_of error.now ≡ ErrorKind.DisplayVersion) }
     ensures usage { result ≡ Ok Status.Usage → kind_of error.now ≢ ErrorKind.OutOfMemory }
     ensures not_refused { result ≢ Ok Status.Refused }
 {
     match error.kind() {
         ErrorKind::OutOfMemory => Err(Failure::OutOfMemory),
-        ErrorKind::DisplayHelp => print(error, out),
+        ErrorKind::DisplayHelp | ErrorKind::DisplayVersion => print(error, out),
         _ => {
             let _ = write!(err, "{error}");
             Ok(Status::Usage)
@@ -143,7 +148,7 @@ fn explain<'a, O: Write, E: Write>(
     }
 }
 
-/// Writes help that was asked for.
+/// Writes help or the version that was asked for.
 fn print<'a, O: Write>(help: &clap::Error, out: &mut O) -> Result<Status, Failure<'a>>
     ensures { IfOk result (λ status. status ≡ Status.Done) }
 {
@@ -153,7 +158,7 @@ fn print<'a, O: Write>(help: &clap::Error, out: &mut O) -> Result<Status, Failur
 }
 
 /// Writes what failed to `err`.
-fn report<E: Write>(failure: Failure<'_>, err: &mut E) -> Status
+pub(crate) fn report<E: Write>(failure: Failure<'_>, err: &mut E) -> Status
     ensures { result ≡ Status.Failed }
 {
     let _ = writeln!(err, "ripngd: {failure}");

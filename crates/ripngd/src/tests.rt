@@ -2,9 +2,10 @@
 //! and where a writer fails.
 
 mod captured;
+mod failures;
 mod running;
 
-use crate::{Ask, ShowFault, ask, program, show};
+use crate::{Ask, PrintFault, VERSION, ask, program, show};
 use captured::CAPTURED;
 use clap::error::ErrorKind;
 use std::alloc::{AllocError, Global};
@@ -60,7 +61,7 @@ const SHOWN: [(&str, u8, &str); 18] = [
 ];
 
 /// Command lines that ask for nothing that there is.
-const FAULTS: [&[&str]; 14] = [
+const FAULTS: [&[&str]; 13] = [
     &[],
     &["ripngd"],
     &["ripngd", "show"],
@@ -74,7 +75,6 @@ const FAULTS: [&[&str]; 14] = [
     &["ripngd", "run", "-t", "65536", "file"],
     &["ripngd", "run", "-t", "0x10", "file"],
     &["ripngd", "02"],
-    &["ripngd", "--version"],
 ];
 
 /// Command lines that ask for help.
@@ -139,6 +139,17 @@ fn help_that_was_asked_for_is_printed(rt: HostRuntime) {
         assert!(rt; !out.is_empty(), "at {words:?}");
         assert!(rt; err.is_empty(), "at {words:?}");
     }
+}
+
+#[test]
+fn the_version_is_printed(rt: HostRuntime) -> Result<(), Fail> {
+    let mut out = Vec::new(rt.alloc());
+    let mut err = Vec::new(rt.alloc());
+    let status = program(&rt, &["ripngd", "--version"], &mut out, &mut err);
+    let line = format!(in rt.alloc(); "ripngd {VERSION}\n")?;
+    assert!(rt; status == 0 && err.is_empty());
+    assert!(rt; out.as_slice() == line.as_bytes());
+    Ok(())
 }
 
 #[test]
@@ -227,7 +238,7 @@ fn a_failed_write_ends_show(rt: HostRuntime) {
             let mut out = Failing { left };
             assert_eq!(rt;
                 show(rt.alloc(), hex, &mut out),
-                Err(ShowFault::Write),
+                Err(PrintFault::Write),
                 "after {left} writes"
             );
         }

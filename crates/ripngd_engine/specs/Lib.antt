@@ -6,3 +6,4 @@ pub mod Outlet
 pub mod Seen
 pub mod Running
 pub mod Memory
+pub mod Report

@@ -1,6 +1,6 @@
 //! The engine: a router that runs over a link, turn after turn.
 
-ghost use Rattle.std.specs.Prelude.{◌≡◌, true, false, Err, IfOk, OnErr, length};
+ghost use Rattle.std.specs.Prelude.{◌≡◌, true, false, Err, IfOk, OnErr, is_err, length};
 ghost use Rattle.router_core.specs.Changes.{forwards};
 
 use crate::clock::TimeSource;
@@ -12,7 +12,7 @@ use fib::Fib;
 use rand_core::Rng;
 use route_table::RouteStore;
 use router_core::{Router, RouterConfig};
-use std::alloc::Global;
+use std::alloc::{AllocError, Global};
 use std::io::Write;
 use std::marker::Model;
 
@@ -64,10 +64,29 @@ impl<S: RouteStore, L: Link, C: TimeSource, R: Rng + Drop> Engine<S, L, C, R> {
     /// gets no more.
     ///
     /// # Errors
-    /// Only want of memory: before anything is sent, or at the forwarding table, and then all else was done. The link
-    /// is dropped.
+    /// Only want of memory: before anything is sent or logged, or at the forwarding table, and then all else was done.
+    /// The link is dropped.
     pub fn start<W: Write>(
         alloc: Global,
+        config: RouterConfig,
+        link: L,
+        clock: C,
+        rng: R,
+        log: &mut W,
+    ) -> Result<Engine<S, L, C, R>, EngineFault>
+        requires { L.interface_count link ≡ length config.interfaces }
+        ensures ok { IfOk result (λ e. Started config (R.stream rng)
+            (fresh (L.calls link) (C.moments clock) (W.contents log.old)) (seen R.stream W.contents e log.new)) }
+        ensures err { OnErr result (result ≡ Err EngineFault.OutOfMemory) }
+    {
+        let buffer = vec![in alloc; 0u8; BUFFER_LEN];
+        Engine::start_with(alloc, buffer, config, link, clock, rng, log)
+    }
+
+    /// Starts with a buffer, if there was memory for one; without it nothing is done.
+    pub(crate) fn start_with<W: Write>(
+        alloc: Global,
+        buffer: Result<Vec<u8>, AllocError>,
         config: RouterConfig,
         link: L,
         mut clock: C,
@@ -78,8 +97,9 @@ impl<S: RouteStore, L: Link, C: TimeSource, R: Rng + Drop> Engine<S, L, C, R> {
         ensures ok { IfOk result (λ e. Started config (R.stream rng)
             (fresh (L.calls link) (C.moments clock) (W.contents log.old)) (seen R.stream W.contents e log.new)) }
         ensures err { OnErr result (result ≡ Err EngineFault.OutOfMemory) }
+        ensures no_buffer { is_err buffer ≡ true → (is_err result ≡ true) × (log.new ≡ log.old) }
     {
-        let buffer = vec![in alloc; 0u8; BUFFER_LEN]?;
+        let buffer = buffer?;
         let now = clock.now();
         let (router, answer) = Router::start(alloc, config, now)?;
         let mut outlet = Outlet {

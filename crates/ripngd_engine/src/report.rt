@@ -1,6 +1,7 @@
 //! What an engine answers and reports.
 
 ghost use Rattle.std.specs.Prelude.{◌≡◌};
+ghost use Rattle.ripngd_engine.specs.Report.{fault_number};
 ghost use Rattle.ripngd_engine.specs.declared.report.EngineFault.TheVariants as fault;
 
 use std::alloc::AllocError;
@@ -16,6 +17,18 @@ pub enum EngineFault {
     /// 2: there was no memory to start, or none for the forwarding table. The engine makes no more turns.
     #[error("out of memory")]
     OutOfMemory,
+}
+
+impl EngineFault {
+    /// The number of the fault, 1 or 2.
+    pub fn number(self) -> u8
+        ensures { result ≡ fault_number self }
+    {
+        match self {
+            Self::LinkFault { .. } => 1,
+            Self::OutOfMemory => 2,
+        }
+    }
 }
 
 impl From<AllocError> for EngineFault {

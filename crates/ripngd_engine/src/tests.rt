@@ -3,6 +3,8 @@
 
 ghost use Rattle.std.specs.Prelude.{◌≡◌, IfOk, length};
 
+mod recorded;
+
 use crate::memory::{Datagram, LinkCall, MemoryClock, MemoryLink, MemoryLog, SameWord};
 use crate::{Engine, EngineFault, Report};
 use prefix6::Addr6;
@@ -121,10 +123,9 @@ fn a_failed_send_is_counted_and_a_failed_recv_ends_the_turns(rt: HostRuntime) ->
         &[(0, false, REQUEST), (1, true, REQUEST)],
     );
     assert_eq!(rt; engine.report().lost_sends, 1);
-    assert_eq!(rt;
-        engine.turns(5, &mut log),
-        Err(EngineFault::LinkFault { done: 2 })
-    );
+    let fault = EngineFault::LinkFault { done: 2 };
+    assert_eq!(rt; engine.turns(5, &mut log), Err(fault));
+    assert_eq!(rt; (fault.number(), EngineFault::OutOfMemory.number()), (1, 2));
     assert_eq!(rt; engine.report().lost_sends, 1);
     Ok(())
 }

@@ -1,15 +1,15 @@
 //! Routers that run over sockets of loopback. Every port is one that the system chose, so that runs side by side do not
 //! meet.
 
-use crate::{Config, Engine, Udp, Uptime, program, read_config};
+use crate::{Config, Engine, Udp, Uptime, check, program, read_config};
 use rand_pcg::Pcg32;
-use route_table::SortedRoutes;
+use route_table::TrieRoutes;
 use std::alloc::{AllocError, Global};
 use std::io;
 use std::net::{IpAddr, Ipv4Addr, Net, SocketAddr, UdpSocket};
 use std::rt::{Clock, Files};
 use std::test::Fail;
-use std::time::Duration;
+use std::time::{Duration, Instant};
 
 /// A Request for a whole table.
 const REQUEST: &str = "010100000000000000000000000000000000000000000010";
@@ -61,7 +61,7 @@ tag = 9
     )
 }
 
-type TestEngine<'a, R> = Engine<SortedRoutes, Udp, Uptime<'a, R>, Pcg32>;
+type TestEngine<'a, R> = Engine<TrieRoutes, Udp, Uptime<'a, R>, Pcg32>;
 
 /// A router that has started.
 fn started<'a, R: Clock + Net + AllocGlobal>(
@@ -178,8 +178,9 @@ fn a_full_device_ends_the_log_alone(rt: HostRuntime) -> Result<(), Fail> {
         "full.toml",
     ];
     let (status, out, err) = outcome(&rt, &words)?;
-    assert!(rt; status == 0 && err.is_empty());
+    assert!(rt; status == 0);
     assert!(rt; out.as_slice() == b"2001:db8::/32 metric 1 direct\n".as_slice());
+    assert!(rt; err.as_slice() == b"ripngd: lost sends 0, lost steps 0, log failed\n".as_slice());
     Ok(())
 }
 
@@ -192,6 +193,89 @@ fn a_port_in_use_is_said(rt: HostRuntime) -> Result<(), Fail> {
     let said = format!(in rt.alloc(); "ripngd: cannot bind {port}\n")?;
     assert!(rt; status == 3 && out.is_empty());
     assert!(rt; err.as_slice() == said.as_bytes());
+    Ok(())
+}
+
+/// The configuration of a router with one neighbor, whose own prefix has no tag in the table.
+fn untagged(alloc: Global, port: u16, peer_port: u16) -> Result<String, AllocError> {
+    format!(in alloc;
+        "[[interface]]
+address = \"fe80::1\"
+cost = 1
+local_port = {port}
+[[interface.peer]]
+address = \"fe80::2\"
+local_port = {peer_port}
+[[prefix]]
+prefix = \"2001:db8::/32\"
+"
+    )
+}
+
+#[test]
+fn a_run_gives_prefixes_the_tag_that_is_ordered(rt: HostRuntime) -> Result<(), Fail> {
+    let (neighbor, peer_port) = socket(&rt)?;
+    let text = untagged(rt.alloc(), free_port(&rt)?, peer_port)?;
+    std::fs::write(&rt, "tagged.toml", text.as_str())?;
+    let words = ["ripngd", "run", "-t", "4660", "--turns", "1", "tagged.toml"];
+    assert!(rt; outcome(&rt, &words)?.0 == 0);
+    assert!(rt; holds(rt.alloc(), &neighbor, REQUEST)?);
+    // 2001:db8::/32 with tag 0x1234 and metric 1.
+    let update = "0201000020010db800000000000000000000000012342001";
+    assert!(rt; holds(rt.alloc(), &neighbor, update)?);
+    Ok(())
+}
+
+#[test]
+fn a_quiet_run_sends_nothing_and_makes_the_turns_that_are_ordered(
+    rt: HostRuntime,
+) -> Result<(), Fail> {
+    let (neighbor, peer_port) = socket(&rt)?;
+    let text = untagged(rt.alloc(), free_port(&rt)?, peer_port)?;
+    std::fs::write(&rt, "quiet.toml", text.as_str())?;
+    let before = Instant::now(&rt)?;
+    let words = ["ripngd", "run", "-q", "--turns", "4", "quiet.toml"];
+    assert!(rt; outcome(&rt, &words)?.0 == 0);
+    // The first turn finds nothing at once, and each of the others waits 50 ms.
+    let passed = before.elapsed(&rt)?;
+    assert!(rt; Duration::from_millis(140) <= passed && passed < Duration::from_millis(2_000));
+    neighbor.set_nonblocking(true)?;
+    assert!(rt; neighbor.recv_from(&mut [0; 16]).is_err());
+    Ok(())
+}
+
+#[test]
+fn a_refused_configuration_leaves_the_log_as_it_was(rt: HostRuntime) -> Result<(), Fail> {
+    std::fs::write(&rt, "no_interface.toml", "seed = 1\n")?;
+    std::fs::write(&rt, "kept.txt", "kept\n")?;
+    let words = ["ripngd", "run", "-R", "kept.txt", "no_interface.toml"];
+    assert!(rt; outcome(&rt, &words)?.0 == 1);
+    let kept = std::fs::read(&rt, "kept.txt")?;
+    assert!(rt; kept.as_slice() == b"kept\n".as_slice());
+    Ok(())
+}
+
+/// Two interfaces, the first with two peers and the second with one, and one prefix.
+const TWO_INTERFACES: &[u8] = b"
+[[interface]]
+address = 'fe80::1'
+cost = 1
+local_port = 9
+peer = [{ address = 'fe80::2', local_port = 10 }, { address = 'fe80::3', local_port = 11 }]
+[[interface]]
+address = 'fe80::4'
+cost = 1
+local_port = 12
+peer = [{ address = 'fe80::5', local_port = 13 }]
+[[prefix]]
+prefix = '2001:db8::/32'
+";
+
+#[test]
+fn check_counts_the_peers_of_all_interfaces(rt: HostRuntime) -> Result<(), Fail> {
+    let mut out = Vec::new(rt.alloc());
+    assert!(rt; check(rt.alloc(), TWO_INTERFACES, &mut out)?);
+    assert!(rt; out.as_slice() == b"ok interfaces 2 prefixes 1 peers 3\n".as_slice());
     Ok(())
 }
 

@@ -1,7 +1,8 @@
 //! A link of sockets: what it gives, what it drops and what it sends. Every port is one that the system chose, so that
 //! runs side by side do not meet.
 
-use crate::udp::{Udp, UdpError, local};
+use crate::endpoint::local;
+use crate::udp::{Udp, UdpError};
 use prefix6::Addr6;
 use ripngd_config::Peer;
 use ripngd_engine::{Link, LinkFault, Received};
@@ -194,6 +195,13 @@ fn a_port_in_use_is_named(rt: HostRuntime) -> Result<(), Fail> {
     // At port 0 the system chooses a free one.
     let refused = Udp::bind(&rt, rt.alloc(), &[0, used], peers).err();
     assert_eq!(rt; refused, Some(UdpError::Bind(used)));
+    assert_eq!(rt;
+        (
+            UdpError::Bind(used).number(),
+            UdpError::OutOfMemory.number()
+        ),
+        (1, 2)
+    );
     Ok(())
 }
 
@@ -205,6 +213,19 @@ fn the_group_is_each_peer(rt: HostRuntime) -> Result<(), Fail> {
     let (mut udp, _) = link_to(&rt, rt.alloc(), &peers)?;
     let sent = udp.send(&outgoing(rt.alloc(), Destination::Group)?);
     assert!(rt; sent.is_ok() && holds(&first, b"told") && holds(&second, b"told"));
+    Ok(())
+}
+
+#[test]
+fn a_peer_that_cannot_be_sent_to_is_told_and_the_next_is_sent_to(
+    rt: HostRuntime,
+) -> Result<(), Fail> {
+    let second = socket(&rt)?;
+    // No datagram goes to port 0.
+    let peers = [peer(2, 0), peer(3, port_of(&second)?)];
+    let (mut udp, _) = link_to(&rt, rt.alloc(), &peers)?;
+    let sent = udp.send(&outgoing(rt.alloc(), Destination::Group)?);
+    assert!(rt; sent.is_err() && holds(&second, b"told"));
     Ok(())
 }
 

@@ -1,13 +1,14 @@
 use Rattle.std.proofs.Common.{codes}
 use Rattle.clap.specs.Simple.{new_app}
 use Rattle.ripngd.specs.CommandLine.{IsCommand}
-use Rattle.ripngd.proofs.Commands.{about_set, required_set, subcommand_added, subcommand_added_ok}
+use Rattle.ripngd.proofs.Commands.{about_set, required_set, version_set, subcommand_added, subcommand_added_ok}
 use Rattle.ripngd.proofs.command_line.command.Goals as goal
 
 pub returns : goal.returns
 returns c =
     let made : IsCommand c.new.result (new_app (codes "ripngd")) = record { app_is = c.new.ensures.app; local = c.new.ensures.local } in
-    let s0 = required_set _ _ _ c.subcommand_required.ensures (about_set _ _ _ _ c.about.ensures made) in
+    let told = version_set _ _ _ _ c.version.ensures (about_set _ _ _ _ c.about.ensures made) in
+    let s0 = required_set _ _ _ c.subcommand_required.ensures told in
     let s1 = subcommand_added _ _ _ _ _ c.in_ok-subcommand.ensures c.in_ok-with_one.ensures s0 in
     let s2 = subcommand_added _ _ _ _ _ c.in_ok-subcommand-2.ensures c.in_ok-with_one-2.ensures s1 in
     let s3 = subcommand_added _ _ _ _ _ c.in_ok-subcommand-3.ensures c.in_ok-with_one-3.ensures s2 in

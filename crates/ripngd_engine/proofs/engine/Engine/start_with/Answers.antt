@@ -1,6 +1,6 @@
 use Rattle.std.proofs.Common.{ap, sym, ◌∙◌, length}
 use Rattle.ripngd_engine.proofs.Steps.{follows, Started-carried}
-use Rattle.ripngd_engine.proofs.engine.Engine.start.Goals as goal
+use Rattle.ripngd_engine.proofs.engine.Engine.start_with.Goals as goal
 
 pub invariant_of-running : goal.invariant_of-running
 invariant_of-running g c = record {

@@ -1,0 +1,285 @@
+#!/usr/bin/env bash
+# The program as real processes on 127.0.0.1: what no test of a crate can try.
+#
+#     tests/daemon.sh [PROGRAM]        the program is bin/ripngd if none is named
+#
+# A line for each case, `ok NAME` or `FAILED NAME: why`, and last `N passed, M failed`. The exit status is 0 exactly where M
+# is 0. Needs bash and the usual commands (sleep, seq, mktemp, timeout, kill), and takes below a minute.
+set -u
+
+program=$(realpath "${1:-bin/ripngd}")
+page=$(dirname "$0")/../docs/ripngd.8
+version=$(sed -n 's/^\.Os ripngd //p' "$page")
+folder=$(mktemp -d)
+started=()
+passed=0
+failed=0
+port=$((20000 + RANDOM % 20000))
+
+# Ends what was started, and leaves nothing.
+clean() {
+    local pid
+    for pid in "${started[@]}"; do
+        kill -CONT "$pid" 2> /dev/null
+        kill -KILL "$pid" 2> /dev/null
+    done
+    wait 2> /dev/null
+    rm -rf "$folder"
+}
+trap clean EXIT
+
+# Why the case fails; a case is a function that ends with the status of this.
+why=
+because() {
+    why=$1
+    return 1
+}
+
+# `same WHAT GIVEN WANTED`
+same() {
+    [ "$2" = "$3" ] || because "$1 is '$2' and not '$3'"
+}
+
+# Waits up to ten seconds until a command succeeds.
+until_true() {
+    local try
+    for try in $(seq 100); do
+        "$@" > /dev/null 2>&1 && return 0
+        sleep 0.1
+    done
+    return 1
+}
+
+# Names the next port in `$port`. Ports of other programs are passed over.
+next_port() {
+    port=$((port + 1))
+    while is_taken "$port"; do
+        port=$((port + 1))
+    done
+}
+
+# Whether a UDP socket stands at that port.
+is_taken() {
+    grep -q "^ *[0-9]*: [0-9A-F]*:$(printf '%04X' "$1") " /proc/net/udp 2> /dev/null
+}
+
+# `interface NUMBER PORT PEER PEER_PORT`: an interface with the address fe80::NUMBER, and its peer fe80::PEER.
+interface() {
+    printf '[[interface]]\naddress = "fe80::%s"\ncost = 1\nlocal_port = %s\n' "$1" "$2"
+    printf '[[interface.peer]]\naddress = "fe80::%s"\nlocal_port = %s\n' "$3" "$4"
+}
+
+# `prefix PREFIX`
+prefix() {
+    printf '[[prefix]]\nprefix = "%s"\ntag = 9\n' "$1"
+}
+
+# Runs the program with some words, and gives its status in `$status`; `out` and `err` hold what it wrote.
+run() {
+    timeout 30 "$program" "$@" > "$folder/out" 2> "$folder/err"
+    status=$?
+}
+
+# Starts the program in the background, writing to NAME.out and NAME.err, and gives its id in `$pid`.
+start() {
+    local name=$1
+    shift
+    "$program" "$@" > "$folder/$name.out" 2> "$folder/$name.err" &
+    pid=$!
+    started+=("$pid")
+}
+
+# Waits up to some 15 seconds for the end of a process, and gives its status in `$status`.
+finish() {
+    local try
+    for try in $(seq 150); do
+        kill -0 "$1" 2> /dev/null || break
+        sleep 0.1
+    done
+    kill -KILL "$1" 2> /dev/null
+    wait "$1" 2> /dev/null
+    status=$?
+}
+
+# Two configurations of routers that are neighbors: east owns 2001:db8:e::/48, west 2001:db8:f::/48.
+neighbors() {
+    local east west
+    next_port && east=$port
+    next_port && west=$port
+    { interface e "$east" f "$west" && prefix 2001:db8:e::/48; } > "$folder/east.toml"
+    { interface f "$west" e "$east" && prefix 2001:db8:f::/48; } > "$folder/west.toml"
+}
+
+# A configuration with one interface, and a peer that is not there.
+alone() {
+    local here
+    next_port && here=$port
+    next_port
+    { interface 1 "$here" 2 "$port" && prefix 2001:db8::/32; } > "$folder/$1"
+}
+
+# The version stands in the code, and in the manual page.
+the_version_is_that_of_the_manual_page() {
+    run --version
+    same status "$status" 0 &&
+        same output "$(cat "$folder/out")" "ripngd $version" &&
+        same "standard error" "$(cat "$folder/err")" ""
+}
+
+two_daemons_learn_from_each_other() {
+    neighbors
+    start east run --turns 120 -R "$folder/east.log" "$folder/east.toml" && local east=$pid
+    start west run --turns 120 -R "$folder/west.log" "$folder/west.toml" && local west=$pid
+    finish "$east" && same "east's status" "$status" 0 || return
+    finish "$west" && same "west's status" "$status" 0 || return
+    same "east's table" "$(cat "$folder/east.out")" "2001:db8:e::/48 metric 1 direct
+2001:db8:f::/48 metric 2 via fe80::f iface 0" &&
+        same "west's table" "$(cat "$folder/west.out")" "2001:db8:e::/48 metric 2 via fe80::e iface 0
+2001:db8:f::/48 metric 1 direct" &&
+        same "east's log" "$(cat "$folder/east.log")" "add 2001:db8:e::/48 metric 1 direct
+add 2001:db8:f::/48 metric 2 via fe80::f iface 0" &&
+        same "standard error" "$(cat "$folder/east.err" "$folder/west.err")" ""
+}
+
+a_daemon_goes_on_after_it_was_stopped() {
+    neighbors
+    start east run --turns 150 -R "$folder/east.log" "$folder/east.toml" && local east=$pid
+    until_true grep -q 2001:db8:e:: "$folder/east.log" || because "it did not come up" || return
+    local try
+    for try in 1 2 3; do
+        kill -STOP "$east"
+        sleep 0.2
+        kill -CONT "$east"
+        sleep 0.2
+    done
+    kill -0 "$east" || because "it ended: $(cat "$folder/east.err")" || return
+    start west run --turns 40 "$folder/west.toml" && local west=$pid
+    until_true grep -q 2001:db8:f:: "$folder/east.log" || because "it learned nothing after" || return
+    finish "$west"
+    finish "$east"
+    same status "$status" 0 && same "standard error" "$(cat "$folder/east.err")" ""
+}
+
+a_log_on_a_full_device_ends_alone() {
+    alone full.toml
+    run run --turns 2 -R /dev/full "$folder/full.toml"
+    same status "$status" 0 &&
+        same output "$(cat "$folder/out")" "2001:db8::/32 metric 1 direct" &&
+        same "standard error" "$(cat "$folder/err")" "ripngd: lost sends 0, lost steps 0, log failed"
+}
+
+a_full_standard_output_is_told() {
+    alone full.toml
+    local words
+    for words in "run --turns 2 $folder/full.toml" "check $folder/full.toml" "show 02010000" --version --help; do
+        # The words hold no space of their own.
+        timeout 30 "$program" $words > /dev/full 2> "$folder/err"
+        same "the status of '$words'" "$?" 3 &&
+            same "standard error of '$words'" "$(cat "$folder/err")" "ripngd: cannot write stdout" || return
+    done
+}
+
+a_port_in_use_is_named() {
+    alone used.toml
+    start holder run --turns 200 -R "$folder/holder.log" "$folder/used.toml" && local holder=$pid
+    until_true grep -q add "$folder/holder.log" || because "the first did not come up" || return
+    local used
+    used=$(grep -m 1 local_port "$folder/used.toml")
+    run run --turns 1 "$folder/used.toml"
+    kill -KILL "$holder"
+    same status "$status" 3 &&
+        same output "$(cat "$folder/out")" "" &&
+        same "standard error" "$(cat "$folder/err")" "ripngd: cannot bind ${used##* }"
+}
+
+a_refused_configuration_leaves_the_log() {
+    echo 'seed = 1' > "$folder/few.toml"
+    echo kept > "$folder/kept.log"
+    run run -R "$folder/kept.log" "$folder/few.toml"
+    same status "$status" 1 &&
+        same output "$(cat "$folder/out")" "refused 6 Router 1 NoInterface" &&
+        same "standard error" "$(cat "$folder/err")" "" &&
+        same "the log" "$(cat "$folder/kept.log")" kept
+}
+
+a_file_that_is_not_there_is_named() {
+    run run "$folder/absent.toml"
+    same status "$status" 3 &&
+        same "standard error" "$(cat "$folder/err")" "ripngd: cannot read $folder/absent.toml" || return
+    alone here.toml
+    run run -R "$folder/absent/log" "$folder/here.toml"
+    same status "$status" 3 &&
+        same "standard error" "$(cat "$folder/err")" "ripngd: cannot write $folder/absent/log"
+}
+
+a_fault_of_the_command_line_is_told() {
+    run run --turns 0 "$folder/here.toml"
+    same status "$status" 2 && same output "$(cat "$folder/out")" "" || return
+    grep -q '^error: ' "$folder/err" || because "standard error says nothing"
+}
+
+a_quiet_daemon_learns_and_tells_nothing() {
+    neighbors
+    start east run -q --turns 80 "$folder/east.toml" && local east=$pid
+    start west run --turns 80 "$folder/west.toml" && local west=$pid
+    finish "$east" && finish "$west"
+    same status "$status" 0 &&
+        same "the quiet one's table" "$(cat "$folder/east.out")" "2001:db8:e::/48 metric 1 direct
+2001:db8:f::/48 metric 2 via fe80::f iface 0" &&
+        same "its neighbor's table" "$(cat "$folder/west.out")" "2001:db8:f::/48 metric 1 direct"
+}
+
+# Sixteen interfaces, of which only the last has a neighbor, which owns 300 prefixes: more than one datagram tells.
+one_of_sixteen_interfaces_is_busy() {
+    local hub leaf number
+    for number in $(seq 16); do
+        next_port && hub=$port
+        next_port && leaf=$port
+        interface "a:$number" "$hub" "b:$number" "$leaf"
+    done > "$folder/hub.toml"
+    {
+        interface "b:16" "$leaf" "a:16" "$hub"
+        for number in $(seq 300); do
+            prefix "2001:db8:$number::/48"
+        done
+    } > "$folder/leaf.toml"
+    start hub run -R "$folder/hub.log" "$folder/hub.toml" && local hub=$pid
+    until_true test -e "$folder/hub.log" || because "the hub did not come up" || return
+    start leaf run -R "$folder/leaf.log" "$folder/leaf.toml" && local leaf=$pid
+    until_true has_lines 300 "$folder/hub.log" || because "it learned $(grep -c add "$folder/hub.log") of 300 routes"
+    local learned=$?
+    kill -0 "$hub" && kill -0 "$leaf" || because "one ended: $(cat "$folder/hub.err" "$folder/leaf.err")" || learned=1
+    kill -KILL "$hub" "$leaf"
+    return $learned
+}
+
+# `has_lines N FILE`
+has_lines() {
+    [ "$(grep -c '^add .* metric 2 via ' "$2")" = "$1" ]
+}
+
+try() {
+    why=
+    if "$1"; then
+        passed=$((passed + 1))
+        echo "ok $1"
+    else
+        failed=$((failed + 1))
+        echo "FAILED $1: $why"
+    fi
+}
+
+try the_version_is_that_of_the_manual_page
+try two_daemons_learn_from_each_other
+try a_daemon_goes_on_after_it_was_stopped
+try a_log_on_a_full_device_ends_alone
+try a_full_standard_output_is_told
+try a_port_in_use_is_named
+try a_refused_configuration_leaves_the_log
+try a_file_that_is_not_there_is_named
+try a_fault_of_the_command_line_is_told
+try a_quiet_daemon_learns_and_tells_nothing
+try one_of_sixteen_interfaces_is_busy
+
+echo "$passed passed, $failed failed"
+[ "$failed" = 0 ]
