@@ -42,8 +42,7 @@ same() {
 
 # Waits up to ten seconds until a command succeeds.
 until_true() {
-    local try
-    for try in $(seq 100); do
+    for _ in $(seq 100); do
         "$@" > /dev/null 2>&1 && return 0
         sleep 0.1
     done
@@ -91,11 +90,15 @@ start() {
 
 # Waits up to some 15 seconds for the end of a process, and gives its status in `$status`.
 finish() {
-    local try
-    for try in $(seq 150); do
+    for _ in $(seq 150); do
         kill -0 "$1" 2> /dev/null || break
         sleep 0.1
     done
+    end "$1"
+}
+
+# Ends a process that may have ended, and gives its status in `$status`.
+end() {
     kill -KILL "$1" 2> /dev/null
     wait "$1" 2> /dev/null
     status=$?
@@ -103,11 +106,10 @@ finish() {
 
 # Two configurations of routers that are neighbors: east owns 2001:db8:e::/48, west 2001:db8:f::/48.
 neighbors() {
-    local east west
-    next_port && east=$port
-    next_port && west=$port
-    { interface e "$east" f "$west" && prefix 2001:db8:e::/48; } > "$folder/east.toml"
-    { interface f "$west" e "$east" && prefix 2001:db8:f::/48; } > "$folder/west.toml"
+    next_port && east_port=$port
+    next_port && west_port=$port
+    { interface e "$east_port" f "$west_port" && prefix 2001:db8:e::/48; } > "$folder/east.toml"
+    { interface f "$west_port" e "$east_port" && prefix 2001:db8:f::/48; } > "$folder/west.toml"
 }
 
 # A configuration with one interface, and a peer that is not there.
@@ -128,8 +130,8 @@ the_version_is_that_of_the_manual_page() {
 
 two_daemons_learn_from_each_other() {
     neighbors
-    start east run --turns 120 -R "$folder/east.log" "$folder/east.toml" && local east=$pid
-    start west run --turns 120 -R "$folder/west.log" "$folder/west.toml" && local west=$pid
+    start east run --turns 80 -R "$folder/east.log" "$folder/east.toml" && local east=$pid
+    start west run --turns 80 -R "$folder/west.log" "$folder/west.toml" && local west=$pid
     finish "$east" && same "east's status" "$status" 0 || return
     finish "$west" && same "west's status" "$status" 0 || return
     same "east's table" "$(cat "$folder/east.out")" "2001:db8:e::/48 metric 1 direct
@@ -143,16 +145,15 @@ add 2001:db8:f::/48 metric 2 via fe80::f iface 0" &&
 
 a_daemon_goes_on_after_it_was_stopped() {
     neighbors
-    start east run --turns 150 -R "$folder/east.log" "$folder/east.toml" && local east=$pid
+    start east run --turns 120 -R "$folder/east.log" "$folder/east.toml" && local east=$pid
     until_true grep -q 2001:db8:e:: "$folder/east.log" || because "it did not come up" || return
-    local try
-    for try in 1 2 3; do
+    for _ in 1 2 3; do
         kill -STOP "$east"
         sleep 0.2
         kill -CONT "$east"
         sleep 0.2
     done
-    kill -0 "$east" || because "it ended: $(cat "$folder/east.err")" || return
+    kill -0 "$east" 2> /dev/null || because "it ended: $(cat "$folder/east.err")" || return
     start west run --turns 40 "$folder/west.toml" && local west=$pid
     until_true grep -q 2001:db8:f:: "$folder/east.log" || because "it learned nothing after" || return
     finish "$west"
@@ -168,15 +169,17 @@ a_log_on_a_full_device_ends_alone() {
         same "standard error" "$(cat "$folder/err")" "ripngd: lost sends 0, lost steps 0, log failed"
 }
 
+# `fills WORD..`: what the program says where its standard output is full.
+fills() {
+    timeout 30 "$program" "$@" > /dev/full 2> "$folder/err"
+    same "the status of '$*'" "$?" 3 &&
+        same "standard error of '$*'" "$(cat "$folder/err")" "ripngd: cannot write stdout"
+}
+
 a_full_standard_output_is_told() {
     alone full.toml
-    local words
-    for words in "run --turns 2 $folder/full.toml" "check $folder/full.toml" "show 02010000" --version --help; do
-        # The words hold no space of their own.
-        timeout 30 "$program" $words > /dev/full 2> "$folder/err"
-        same "the status of '$words'" "$?" 3 &&
-            same "standard error of '$words'" "$(cat "$folder/err")" "ripngd: cannot write stdout" || return
-    done
+    fills run --turns 2 "$folder/full.toml" && fills check "$folder/full.toml" && fills show 02010000 &&
+        fills --version && fills --help
 }
 
 a_port_in_use_is_named() {
@@ -187,6 +190,7 @@ a_port_in_use_is_named() {
     used=$(grep -m 1 local_port "$folder/used.toml")
     run run --turns 1 "$folder/used.toml"
     kill -KILL "$holder"
+    wait "$holder" 2> /dev/null
     same status "$status" 3 &&
         same output "$(cat "$folder/out")" "" &&
         same "standard error" "$(cat "$folder/err")" "ripngd: cannot bind ${used##* }"
@@ -221,6 +225,7 @@ a_fault_of_the_command_line_is_told() {
 a_quiet_daemon_learns_and_tells_nothing() {
     neighbors
     start east run -q --turns 80 "$folder/east.toml" && local east=$pid
+    until_true is_taken "$east_port" || because "it did not come up" || return
     start west run --turns 80 "$folder/west.toml" && local west=$pid
     finish "$east" && finish "$west"
     same status "$status" 0 &&
@@ -229,27 +234,28 @@ a_quiet_daemon_learns_and_tells_nothing() {
         same "its neighbor's table" "$(cat "$folder/west.out")" "2001:db8:f::/48 metric 1 direct"
 }
 
-# Sixteen interfaces, of which only the last has a neighbor, which owns 300 prefixes: more than one datagram tells.
+# Sixteen interfaces, of which only the last has a neighbor, which owns 200 prefixes: four datagrams tell them.
 one_of_sixteen_interfaces_is_busy() {
-    local hub leaf number
+    local hub_port leaf_port number
     for number in $(seq 16); do
-        next_port && hub=$port
-        next_port && leaf=$port
-        interface "a:$number" "$hub" "b:$number" "$leaf"
+        next_port && hub_port=$port
+        next_port && leaf_port=$port
+        interface "a:$number" "$hub_port" "b:$number" "$leaf_port"
     done > "$folder/hub.toml"
     {
-        interface "b:16" "$leaf" "a:16" "$hub"
-        for number in $(seq 300); do
+        interface "b:16" "$leaf_port" "a:16" "$hub_port"
+        for number in $(seq 200); do
             prefix "2001:db8:$number::/48"
         done
     } > "$folder/leaf.toml"
     start hub run -R "$folder/hub.log" "$folder/hub.toml" && local hub=$pid
-    until_true test -e "$folder/hub.log" || because "the hub did not come up" || return
+    until_true is_taken "$hub_port" || because "the hub did not come up" || return
     start leaf run -R "$folder/leaf.log" "$folder/leaf.toml" && local leaf=$pid
-    until_true has_lines 300 "$folder/hub.log" || because "it learned $(grep -c add "$folder/hub.log") of 300 routes"
+    until_true has_lines 200 "$folder/hub.log" || because "it learned $(grep -c add "$folder/hub.log") of 200 routes"
     local learned=$?
-    kill -0 "$hub" && kill -0 "$leaf" || because "one ended: $(cat "$folder/hub.err" "$folder/leaf.err")" || learned=1
-    kill -KILL "$hub" "$leaf"
+    kill -0 "$hub" 2> /dev/null && kill -0 "$leaf" 2> /dev/null || because "one ended: $(cat "$folder"/hub.{out,err} "$folder"/leaf.{out,err})" || learned=1
+    end "$hub"
+    end "$leaf"
     return $learned
 }
 
