@@ -12,5 +12,6 @@ pub mod TrieReplace
 pub mod TrieAdd
 pub mod TrieTable
 pub mod NextDue
+pub mod FirstDue
 pub mod SortedDue
 pub mod WalksWhere

@@ -16,17 +16,17 @@ use Rattle.route_table.proofs.TrieLists.{Entry}
 use Rattle.route_table.proofs.TrieSummary.{nothing_wanted, due_of}
 
 -- the second deadline, if there is one, is no earlier than the first
-abbrev NoEarlier : Option ℕ → Option ℕ → Type 0
+abbrev pub NoEarlier : Option ℕ → Option ℕ → Type 0
 NoEarlier l None = Unit {0}
 NoEarlier None (Some d) = ⊥
 NoEarlier (Some n) (Some d) = n ≤ d
 
-head_bound : (a b : Option ℕ) → NoEarlier (earlier a b) a
+pub head_bound : (a b : Option ℕ) → NoEarlier (earlier a b) a
 head_bound None b = tt
 head_bound (Some a) None = omega arith
 head_bound (Some a) (Some b) = omega arith
 
-tail_bound : (a b d : Option ℕ) → NoEarlier b d → NoEarlier (earlier a b) d
+pub tail_bound : (a b d : Option ℕ) → NoEarlier b d → NoEarlier (earlier a b) d
 tail_bound a b None h = tt
 tail_bound None b (Some d) h = h
 tail_bound (Some a) None (Some d) h = absurd h

@@ -1,7 +1,8 @@
 -- Which routes are due, which are marked, and what a walk over them finds.
-use Rattle.std.specs.Prelude.{ℕ, Bool, false, ◌&&◌, nat_le, min, List, [], ◌∷◌, Option, Some, None, find, option_map, option_and_then}
+use Rattle.std.specs.Prelude.{◌≡◌, ◌≢◌, ℕ, ◌≤◌, Bool, false, ◌&&◌, nat_le, min, List, [], ◌∷◌, Option, Some, None, find, option_map, option_and_then}
+use Rattle.std.specs.declared.cmp.Ordering.TheVariants.{Less}
 use Rattle.std.specs.FinMap as map
-use Rattle.prefix6.specs.Prefix.{Prefix6}
+use Rattle.prefix6.specs.Prefix.{Prefix6, prefix_cmp}
 use Rattle.route_table.specs.Route.{RouteValue, deadline}
 use Rattle.route_table.specs.Table.{Table, is_past}
 
@@ -40,3 +41,13 @@ first_changed after table = first_where (λ r. r.changed) after (map.entries tab
 -- the least deadline, with the first prefix whose route is due at it
 abbrev pub next_due : Table → Option (ℕ × Prefix6)
 next_due table = option_and_then (λ least. option_map (λ e. (least, e.0)) (first_due least None table)) (least_deadline (map.entries table))
+
+-- the deadline of the route to a prefix, if there is one and it ages
+abbrev pub deadline_at : Table → Prefix6 → Option ℕ
+deadline_at table p = option_and_then deadline (map.get table p)
+
+-- the route to a prefix has this deadline; every other is later, or the same for a prefix that does not come before
+pub record IsFirstDue (table : Table) (until : ℕ) (p : Prefix6) : Type 0 where
+  pub its_deadline : deadline_at table p ≡ Some until
+  pub earliest : (q : Prefix6) (other : ℕ) → deadline_at table q ≡ Some other → until ≤ other
+  pub not_before : (q : Prefix6) → deadline_at table q ≡ Some until → prefix_cmp q p ≢ Less

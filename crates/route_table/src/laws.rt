@@ -1,13 +1,16 @@
 //! What `next_due` says of the routes that are due.
 
-ghost use Rattle.std.specs.Prelude.{◌≡◌, ℕ, false, Option, None, option_map};
+ghost use Rattle.std.specs.Prelude.{◌≡◌, ℕ, false, Option, Some, None, option_map};
 ghost use Rattle.std.specs.FinMap.{entries};
 ghost use Rattle.prefix6.specs.Prefix.{Prefix6};
-ghost use Rattle.route_table.specs.Due.{first_due, is_reached, least_deadline, next_due};
+ghost use Rattle.route_table.specs.Due.{deadline_at, first_due, is_reached, least_deadline, next_due, IsFirstDue};
 ghost use Rattle.route_table.specs.Table.{Table};
 
 /// The deadline that `next_due` gives is the least of all, and until it is reached no route is due.
+/// The prefix is the least of those whose routes have it, and there is none only where no route ages.
 pub fn next_due_is_the_least()
     ensures least { (table : Table) → option_map (λ (n : ℕ × Prefix6). n.0) (next_due table) ≡ least_deadline (entries table) }
     ensures idle { (table : Table) (now : ℕ) → is_reached now (least_deadline (entries table)) ≡ false → (after : Option Prefix6) → first_due now after table ≡ None }
+    ensures first { (table : Table) (until : ℕ) (p : Prefix6) → next_due table ≡ Some (until, p) → IsFirstDue table until p }
+    ensures none { (table : Table) → next_due table ≡ None → (p : Prefix6) → deadline_at table p ≡ None }
 {}
