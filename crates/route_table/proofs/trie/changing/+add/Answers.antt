@@ -7,7 +7,7 @@ use Rattle.route_table.specs.Trie.{linked, owned, entries_of, HasEntries, AreIn}
 use Rattle.route_table.proofs.TrieLists.{Entry, same_prefix, not_lower}
 use Rattle.route_table.proofs.TrieParts.{own_parts, put_own, low_parts, put_low, high_parts, put_high}
 use Rattle.route_table.proofs.TrieAdd.{are_in}
-use Rattle.route_table.proofs.trie.+add.Goals as goal
+use Rattle.route_table.proofs.trie.changing.+add.Goals as goal
 
 pub closed-requires-clause-parts : goal.closed-requires-clause-parts
 closed-requires-clause-parts t c =

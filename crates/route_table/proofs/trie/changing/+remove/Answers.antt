@@ -2,7 +2,7 @@ use Rattle.std.proofs.Common.{◌≡◌, sym, ap, ◌∙◌}
 use Rattle.route_table.specs.Trie.{linked, owned, entries_of, without}
 use Rattle.route_table.proofs.TrieLists.{same_prefix, other_prefix, not_lower}
 use Rattle.route_table.proofs.TrieParts.{own_goes, low_goes, high_goes, parts_low, parts_high}
-use Rattle.route_table.proofs.trie.+remove.Goals as goal
+use Rattle.route_table.proofs.trie.changing.+remove.Goals as goal
 
 pub closed-requires-then-is_before_middle-clause-parts : goal.closed-requires-then-is_before_middle-clause-parts
 closed-requires-then-is_before_middle-clause-parts t c =

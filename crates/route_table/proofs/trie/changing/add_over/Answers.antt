@@ -4,7 +4,7 @@ use Rattle.prefix6.specs.Halves.{IsMeet, middle}
 use Rattle.route_table.specs.Trie.{linked}
 use Rattle.route_table.proofs.TrieLists.{Entry, same_prefix, other_prefix, not_lower}
 use Rattle.route_table.proofs.TrieAdd.{above_low, above_low_parts, above_high, above_high_parts, beside_low, beside_low_parts, beside_high, beside_high_parts}
-use Rattle.route_table.proofs.trie.add_over.Goals as goal
+use Rattle.route_table.proofs.trie.changing.add_over.Goals as goal
 
 pub closed-requires-clause-parts : goal.closed-requires-clause-parts
 closed-requires-clause-parts c =
