@@ -13,10 +13,7 @@ const FIFTEENTH: [(&str, &str); 13] = [
     ("rounds 14 0 15000", ""),
     ("rounds 1000 0 15000", ""),
     ("rounds 1 0 0", ""),
-    (
-        "rounds 1 1152921504606846976 18446744073709551615",
-        "",
-    ),
+    ("rounds 1 1152921504606846976 18446744073709551615", ""),
     (
         "rounds 2 0 14999",
         "line 15 refused 41 NoRegularUpdate 1 0\n",
@@ -110,7 +107,11 @@ fn rounds_are_refused(rt: HostRuntime) -> Result<(), Fail> {
 #[test]
 fn fourteen_rounds_print_as_one_by_one(rt: HostRuntime) -> Result<(), Fail> {
     let mut script = Vec::new(rt.alloc());
-    writeln!(&mut script, "{}rounds 14 0 15000\nprint", until_cold(SQUARE))?;
+    writeln!(
+        &mut script,
+        "{}rounds 14 0 15000\nprint",
+        until_cold(SQUARE)
+    )?;
     let mut out = Vec::new(rt.alloc());
     assert!(rt; lab(rt.alloc(), script.as_slice(), &mut out)?);
     let lines = SQUARE_PRINTS.lines().count();
