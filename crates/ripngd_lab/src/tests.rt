@@ -1,5 +1,6 @@
 //! Whole scripts with what they print.
 
+mod changing;
 mod reading;
 mod rounds;
 mod walks;
