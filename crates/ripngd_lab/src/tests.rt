@@ -1,6 +1,5 @@
 //! Whole scripts with what they print.
 
-mod changing;
 mod reading;
 mod rounds;
 mod walks;

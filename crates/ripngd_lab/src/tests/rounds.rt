@@ -80,8 +80,8 @@ const ENDS_PORTS: [Port; 6] = [
     (3, 0, "fe80::d0", 1, 2),
 ];
 
-/// A script up to its line `cold 0`.
-pub fn until_cold(script: &str) -> &str {
+// A script up to its line `cold 0`.
+fn until_cold(script: &str) -> &str {
     match script.split_once("round") {
         Some((start, _)) => start,
         None => script,
