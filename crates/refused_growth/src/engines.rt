@@ -1,10 +1,9 @@
-//! A short run of an engine, and what came of it. It first makes as many allocations for nothing as its input says: so
-//! `rt try --fail-alloc 60 --cases FOLDER`, with the numbers 0 to 59 in the files of the folder, refuses each allocation
-//! of the run in turn. No answer may then be `wrong`.
-#![tactic(auto)]
+//! An engine: it starts, and makes turns in which a route is learned and lost again.
 
 ghost use Rattle.std.specs.Prelude.{◌≡◌, IfSome, length};
 
+use crate::rows::link_local;
+use crate::trial::Outcome;
 use prefix6::{Addr6, Prefix};
 use ripngd_engine::memory::{Datagram, MemoryClock, MemoryLink, MemoryLog, SameWord};
 use ripngd_engine::{Engine, EngineFault};
@@ -12,14 +11,11 @@ use route_table::{Moment, SortedRoutes};
 use router_core::{Interface, RouterConfig};
 use std::alloc::Global;
 use std::collections::VecDeque;
-use std::io;
+
+/// How many prefixes its router owns.
+const OWNED: usize = 4;
 
 type MemoryEngine = Engine<SortedRoutes, MemoryLink, MemoryClock, SameWord>;
-
-/// The link-local address `fe80::HOST`.
-fn link_local(host: u32) -> Addr6 {
-    Addr6::from_bits((0xfe80 << 112) + u128::from(host))
-}
 
 /// A router with two interfaces and four prefixes, `2001:db9::/32` to `2001:dbc::/32`, so that the forwarding table grows
 /// at the start and again where a route is learned.
@@ -76,33 +72,52 @@ fn link(alloc: Global) -> Option<MemoryLink>
     Some(link)
 }
 
-/// What an engine says that has ended: it does nothing.
-fn ended(engine: &mut MemoryEngine, log: &mut MemoryLog) -> &'static str {
+// An engine that has ended does nothing, and its forwarding table is as it started.
+fn ended(engine: &mut MemoryEngine, log: &mut MemoryLog) -> Outcome {
     let calls = engine.link().calls().map(|calls| calls.len());
-    let entries = engine.fib().len();
     let again = engine.turns(1, log);
-    let idle = engine.link().calls().map(|calls| calls.len()) == calls;
-    if again == Err(EngineFault::OutOfMemory) && idle && engine.fib().len() == entries {
-        "no memory for the forwarding table"
+    if again != Err(EngineFault::OutOfMemory) {
+        Outcome::Wrong("an engine that has ended made a turn")
+    } else if engine.link().calls().map(|calls| calls.len()) != calls {
+        Outcome::Wrong("an engine that has ended called its link")
+    } else if engine.fib().len() != OWNED {
+        Outcome::Wrong("a refused forwarding table was changed")
     } else {
-        "wrong"
+        Outcome::Right("no memory for the forwarding table: the engine has ended")
     }
 }
 
-/// What an engine says that made its turns.
-fn went_on(engine: &MemoryEngine) -> &'static str {
+// An engine made its turns, and makes another: what it lost is counted once.
+fn went_on(engine: &mut MemoryEngine, log: &mut MemoryLog) -> Outcome {
     let report = engine.report();
+    if engine.turns(1, log) != Ok(()) || engine.report() != report {
+        return Outcome::Wrong("the turn behind a refusal did not go on");
+    }
+    if engine.fib().len() != OWNED {
+        return Outcome::Wrong("a route that was taken back stayed");
+    }
     match (report.lost_memory, report.log_failed) {
-        (0, false) if engine.link().calls().is_none() => "no memory for the double's calls",
-        (0, false) => "undisturbed",
-        (1, false) => "one step lost",
-        (0, true) => "log failed",
-        _ => "wrong",
+        (0, false) if engine.link().calls().is_none() => {
+            Outcome::Right("no memory for the double's calls")
+        }
+        (0, false) => Outcome::Undisturbed,
+        (1, false) => Outcome::Right("one step lost, and counted once"),
+        (0, true) => Outcome::Right("log failed"),
+        _ => Outcome::Wrong("one refusal was counted twice"),
     }
 }
 
-/// What came of a start and three turns.
-fn outcome(alloc: Global) -> Option<&'static str> {
+// An engine that started makes its turns.
+fn outcome_of_turns(mut engine: MemoryEngine, log: &mut MemoryLog) -> Outcome {
+    match engine.turns(3, log) {
+        Ok(()) => went_on(&mut engine, log),
+        Err(EngineFault::OutOfMemory) => ended(&mut engine, log),
+        Err(EngineFault::LinkFault { .. }) => Outcome::Wrong("a link fault that there was not"),
+    }
+}
+
+// What came of a start and its turns, if what they need could be made.
+fn outcome(alloc: Global) -> Option<Outcome> {
     let config = config(alloc)?;
     let link = link(alloc)?;
     let clock = MemoryClock::new(alloc, VecDeque::new(alloc), Moment::new(0)?);
@@ -115,22 +130,14 @@ fn outcome(alloc: Global) -> Option<&'static str> {
         SameWord(0),
         &mut log,
     );
-    let Ok(mut engine) = started else {
-        return Some("no start");
-    };
-    Some(match engine.turns(3, &mut log) {
-        Ok(()) => went_on(&engine),
-        Err(EngineFault::OutOfMemory) => ended(&mut engine, &mut log),
-        Err(EngineFault::LinkFault { .. }) => "wrong",
+    Some(match started {
+        Ok(engine) => outcome_of_turns(engine, &mut log),
+        Err(EngineFault::OutOfMemory) => Outcome::Right("no start"),
+        Err(EngineFault::LinkFault { .. }) => Outcome::Wrong("a link fault at the start"),
     })
 }
 
-fn main(rt: HostRuntime) -> io::Result<()> {
-    let mut text = String::new(rt.alloc());
-    rt.read_line(&mut text)?;
-    let before = text.as_str().trim().parse::<u32>().unwrap_or(0);
-    for _ in 0..before {
-        let _ = Box::new(rt.alloc(), 1u8);
-    }
-    println!(rt; "{}", outcome(rt.alloc()).unwrap_or("nothing to run"))
+/// What comes of an engine's start and turns.
+pub fn outcome_of_engine(alloc: Global) -> Outcome {
+    outcome(alloc).unwrap_or(Outcome::NotMade)
 }
