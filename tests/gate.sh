@@ -1,6 +1,7 @@
 #!/usr/bin/env bash
-# The merge gate, from nothing: proofs, edits that must be refused, tests and programs (`rt ci`), and then real daemons, run
-# by the program that this built. Its last line, `N passed, M failed`, counts both.
+# The merge gate, from nothing: proofs, edits that must be refused, tests and programs (`rt ci`); then real daemons and flooded
+# networks, run by the program that this built; then calls whose growths are refused. Its last line, `N passed, M failed`,
+# counts them all.
 set -u
 cd "$(dirname "$0")/.." || exit 1
 
@@ -19,11 +20,20 @@ diff -r examples crates/ripngd_examples/data || status=1
 rt ci | tee "$folder/proofs"
 [ "${PIPESTATUS[0]}" = 0 ] || status=1
 
-tests/daemon.sh crates/ripngd_program/out/ripngd_program | tee "$folder/daemons"
+program=crates/ripngd_program/out/ripngd_program
+tests/daemon.sh "$program" | tee "$folder/daemons"
+[ "${PIPESTATUS[0]}" = 0 ] || status=1
+tests/floods.sh "$program" | tee "$folder/floods"
+[ "${PIPESTATUS[0]}" = 0 ] || status=1
+tests/growth.sh | tee "$folder/growths"
 [ "${PIPESTATUS[0]}" = 0 ] || status=1
 
-passed=$(($(counted passed "$folder/proofs") + $(counted passed "$folder/daemons")))
-failed=$(($(counted failed "$folder/proofs") + $(counted failed "$folder/daemons")))
+passed=0
+failed=0
+for said in proofs daemons floods growths; do
+    passed=$((passed + $(counted passed "$folder/$said")))
+    failed=$((failed + $(counted failed "$folder/$said")))
+done
 [ "$status" = 0 ] || [ "$failed" != 0 ] || failed=1
 echo "$passed passed, $failed failed"
 exit "$status"
