@@ -4,15 +4,14 @@ ghost use Rattle.ripngd_config.specs.Configuration.{HasOneEach};
 
 use crate::asked::Order;
 use crate::checking::write_refusal;
-use crate::clock::Uptime;
 use crate::failure::{Failure, failed};
 use crate::plan::{Plan, plan_of};
 use crate::reading::read;
-use crate::udp::Udp;
 use fib::Fib;
 use rand_pcg::Pcg32;
 use ripngd_config::Config;
 use ripngd_engine::{Engine, Report, RouteLine};
+use ripngd_udp::{Udp, Uptime};
 use route_table::TrieRoutes;
 use std::fs;
 use std::io::{self, Write};

@@ -2,7 +2,7 @@
 //! 127.0.0.1, and each neighbor on its link one of its own.
 
 ghost use Rattle.std.specs.Prelude.{◌≡◌, IfErr, IfOk, length, vec_len};
-ghost use Rattle.ripngd.specs.Udp.{NamesPortOf, link_number};
+ghost use Rattle.ripngd_udp.specs.Udp.{NamesPortOf, link_number};
 
 use crate::endpoint::{Endpoint, is_silence};
 use ripngd_config::Peer;

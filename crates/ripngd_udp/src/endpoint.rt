@@ -3,7 +3,7 @@
 ghost use Rattle.std.specs.Prelude.{◌≡◌, ◌≤◌, ◌↔◌, ◌⊎◌, IfErr, IfOk, IfSome, IsTrue, length};
 ghost use Rattle.std.specs.List.{Any};
 ghost use Rattle.std.specs.IoError.{error_kind};
-ghost use Rattle.ripngd.specs.Udp.{as_of};
+ghost use Rattle.ripngd_udp.specs.Udp.{as_of};
 
 use crate::sending::{Carrier, Tried, send};
 use ripngd_config::Peer;

@@ -1,9 +1,9 @@
 use Rattle.std.proofs.Common.{◌≡◌, List}
 use Rattle.std.specs.List.{All}
 use Rattle.ripngd_engine.specs.Telling.{Gains}
-use Rattle.ripngd.specs.declared.sending.Tried.TheVariants.{Interrupted}
-use Rattle.ripngd.specs.Sending.{Try, tried}
-use Rattle.ripngd.proofs.sending.send_to.Given as goal
+use Rattle.ripngd_udp.specs.declared.sending.Tried.TheVariants.{Interrupted}
+use Rattle.ripngd_udp.specs.Sending.{Try, tried}
+use Rattle.ripngd_udp.proofs.sending.send_to.Given as goal
 
 -- the tries so far were all interrupted
 abbrev pub invariant-loop : goal.invariant-loop

@@ -1,6 +1,6 @@
 use Rattle.std.proofs.Common.{take}
-use Rattle.ripngd.specs.Sending.{SendsEach, ports_meant}
-use Rattle.ripngd.proofs.sending.send_each.Given as goal
+use Rattle.ripngd_udp.specs.Sending.{SendsEach, ports_meant}
+use Rattle.ripngd_udp.proofs.sending.send_each.Given as goal
 
 -- the peers so far were sent to
 abbrev pub invariant-loop-peer : goal.invariant-loop-peer

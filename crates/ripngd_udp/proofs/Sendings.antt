@@ -7,12 +7,12 @@ use Rattle.std.proofs.lemmas.List.Concat.{flat_map-append}
 use Rattle.std.proofs.lemmas.List.Elements.{All-nil, All-push, filter_more}
 use Rattle.std.proofs.lemmas.List.Folds.{list_all-append}
 use Rattle.ripngd_engine.specs.Telling.{Gains}
-use Rattle.ripngd.specs.declared.sending.Tried.{Tried}
-use Rattle.ripngd.specs.declared.sending.Tried.TheVariants.{Interrupted}
+use Rattle.ripngd_udp.specs.declared.sending.Tried.{Tried}
+use Rattle.ripngd_udp.specs.declared.sending.Tried.TheVariants.{Interrupted}
 use Rattle.ripngd_config.specs.declared.peer.Peer.{Peer}
 use Rattle.router_core.specs.declared.answer.Destination.{Destination}
-use Rattle.ripngd.specs.Udp.{is_meant}
-use Rattle.ripngd.specs.Sending.{Sending, SendsEach, Tries, Try, ports_meant, tried, went}
+use Rattle.ripngd_udp.specs.Udp.{is_meant}
+use Rattle.ripngd_udp.specs.Sending.{Sending, SendsEach, Tries, Try, ports_meant, tried, went}
 
 -- nothing was called
 Gains-nil : {X : Type 0} (a : Option (List X)) → Gains a a []

@@ -5,9 +5,9 @@ use Rattle.ripngd_config.specs.declared.peer.Peer.{Peer}
 use Rattle.ripngd_engine.specs.Telling.{Gains}
 use Rattle.router_core.specs.declared.answer.Destination.{Destination}
 use Rattle.router_core.specs.declared.answer.Destination.TheVariants as to
-use Rattle.ripngd.specs.Udp.{is_meant}
-use Rattle.ripngd.specs.declared.sending.Tried.{Tried}
-use Rattle.ripngd.specs.declared.sending.Tried.TheVariants.{Failed, Interrupted, Sent}
+use Rattle.ripngd_udp.specs.Udp.{is_meant}
+use Rattle.ripngd_udp.specs.declared.sending.Tried.{Tried}
+use Rattle.ripngd_udp.specs.declared.sending.Tried.TheVariants.{Failed, Interrupted, Sent}
 
 -- one try to send bytes to a port
 pub record Try : Type 0 where

@@ -1,8 +1,8 @@
 use Rattle.std.proofs.Common.{ap, sym, ◌∙◌}
-use Rattle.ripngd.specs.Udp.{is_meant}
-use Rattle.ripngd.proofs.Sendings.{SendsEach-more, SendsEach-none, ports_more, ports_same}
-use Rattle.ripngd.proofs.sending.send_each.Goals as goal
-use Rattle.ripngd.proofs.sending.send_each.Goals.{then-is_meant, else-is_meant}
+use Rattle.ripngd_udp.specs.Udp.{is_meant}
+use Rattle.ripngd_udp.proofs.Sendings.{SendsEach-more, SendsEach-none, ports_more, ports_same}
+use Rattle.ripngd_udp.proofs.sending.send_each.Goals as goal
+use Rattle.ripngd_udp.proofs.sending.send_each.Goals.{then-is_meant, else-is_meant}
 
 pub loop-peer-init : goal.loop-peer-init
 loop-peer-init g c = SendsEach-none _ _

@@ -4,8 +4,8 @@ use Rattle.ripngd_config.specs.declared.peer.Peer.{Peer}
 use Rattle.ripngd_engine.specs.declared.link.Received.{Received}
 use Rattle.router_core.specs.declared.answer.Destination.{Destination}
 use Rattle.router_core.specs.declared.answer.Destination.TheVariants as to
-use Rattle.ripngd.specs.declared.udp.UdpError.{UdpError}
-use Rattle.ripngd.specs.declared.udp.UdpError.TheVariants.{Bind, OutOfMemory}
+use Rattle.ripngd_udp.specs.declared.udp.UdpError.{UdpError}
+use Rattle.ripngd_udp.specs.declared.udp.UdpError.TheVariants.{Bind, OutOfMemory}
 
 -- a port that is named is one of those that were asked for
 abbrev pub NamesPortOf : List ℕ → UdpError → Type 0

@@ -1,5 +1,5 @@
-use Rattle.ripngd.proofs.Sendings.{tried_again, tried_last}
-use Rattle.ripngd.proofs.sending.send_to.Goals as goal
+use Rattle.ripngd_udp.proofs.Sendings.{tried_again, tried_last}
+use Rattle.ripngd_udp.proofs.sending.send_to.Goals as goal
 
 pub loop-preserved : goal.loop-preserved
 loop-preserved g c =

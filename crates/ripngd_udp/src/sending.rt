@@ -3,8 +3,8 @@
 ghost use Rattle.std.specs.Prelude.{◌≡◌, ◌&&◌, ℕ, [], ◌∷◌, Bool, List, Option, is_ok};
 ghost use Rattle.std.specs.List.{list_any};
 ghost use Rattle.ripngd_engine.specs.Telling.{Gains};
-ghost use Rattle.ripngd.specs.Sending.{SendsEach, Tries, Try, is_known, ports_meant, tried, went};
-ghost use Rattle.ripngd.specs.Udp.{is_meant};
+ghost use Rattle.ripngd_udp.specs.Sending.{SendsEach, Tries, Try, is_known, ports_meant, tried, went};
+ghost use Rattle.ripngd_udp.specs.Udp.{is_meant};
 
 use prefix6::Addr6;
 use ripngd_config::Peer;
