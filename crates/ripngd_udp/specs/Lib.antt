@@ -1,2 +1,4 @@
 pub mod Udp
 pub mod Sending
+pub mod Queue
+pub mod Inbox

@@ -3,7 +3,11 @@
 
 mod clock;
 mod endpoint;
+mod inbox;
+mod outbox;
+mod pace;
 mod sending;
+mod sockets;
 mod udp;
 
 pub use clock::Uptime;

@@ -67,7 +67,7 @@ fn is_any_meant(peers: &[Peer], to: &Destination) -> bool
 }
 
 /// Whether there is anybody at that destination; the group is there without peers too.
-fn is_known(peers: &[Peer], to: &Destination) -> bool
+pub(crate) fn is_known(peers: &[Peer], to: &Destination) -> bool
     ensures { result ≡ is_known peers.now to.now }
 {
     match to {
@@ -90,7 +90,12 @@ fn send_to<C: Carrier>(carrier: &mut C, port: u16, bytes: &[u8]) -> bool
 }
 
 /// Sends to each peer that is meant, in order, and answers whether all was taken.
-fn send_each<C: Carrier>(carrier: &mut C, peers: &[Peer], to: &Destination, bytes: &[u8]) -> bool
+pub(crate) fn send_each<C: Carrier>(
+    carrier: &mut C,
+    peers: &[Peer],
+    to: &Destination,
+    bytes: &[u8],
+) -> bool
     ensures { SendsEach (C.tries carrier.old) (C.tries carrier.new) (ports_meant to.now peers.now) bytes.now result }
 {
     let mut all_went = true;

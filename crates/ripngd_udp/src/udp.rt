@@ -4,13 +4,15 @@
 ghost use Rattle.std.specs.Prelude.{◌≡◌, IfErr, IfOk, length, vec_len};
 ghost use Rattle.ripngd_udp.specs.Udp.{NamesPortOf, link_number};
 
-use crate::endpoint::{Endpoint, is_silence};
+use crate::endpoint::Endpoint;
+use crate::sockets::{Sockets, wait_of};
 use ripngd_config::Peer;
 use ripngd_engine::{Link, LinkFault, Received};
 use router_core::Outgoing;
 use std::alloc::Global;
 use std::marker::Model;
 use std::net::Net;
+use std::rt::Clock;
 use thiserror::Error;
 
 /// Why a link could not be bound.
@@ -36,58 +38,90 @@ impl UdpError {
     }
 }
 
-/// A link of sockets, one for each interface. Contracts see how many interfaces it has, and nothing of what its sockets
-/// carry.
+/// A link of sockets, one for each interface, over a clock. Contracts see how many interfaces it has, and nothing of what
+/// its sockets carry.
+///
+/// A datagram is sent at once, or else, where too many would come together for the socket of a neighbor, a few
+/// milliseconds later, by `recv` or at last by `finish`.
 #[derive(Drop)]
-pub struct Udp {
-    endpoints: Vec<Endpoint>,
-    /// The interface that is looked at next.
-    next: usize,
-    /// How many interfaces have been found empty, one after the other, since the last datagram.
-    found_empty: usize,
+pub struct Udp<'a, R: Clock> {
+    sockets: Sockets<'a, R>,
 }
 
-impl Model for Udp {
+impl<'a, R: Clock> Model for Udp<'a, R> {
     ghost use Rattle.std.specs.Prelude.{ℕ, vec_len};
 
     ghost Value = { ℕ };
 
-    ghost view = { λ link. vec_len link.endpoints };
+    ghost view = { λ link. vec_len link.sockets.endpoints };
 }
 
-impl Udp {
+impl<'a, R: Clock> Udp<'a, R> {
     /// An interface at each port of 127.0.0.1, in order, with its peers.
     ///
     /// # Errors
     /// `Bind` with the first port that cannot be bound. What was bound before is given up.
-    pub fn bind<N: Net>(
-        net: &N,
+    pub fn bind(
+        rt: &'a R,
         alloc: Global,
         ports: &[u16],
         peers: Vec<Vec<Peer>>,
-    ) -> Result<Udp, UdpError>
+    ) -> Result<Udp<'a, R>, UdpError>
+    where
+        R: Net,
         requires { length ports.now ≡ vec_len peers }
         ensures bound { IfOk result (λ link. link ≡ length ports.now) }
         ensures refused { IfErr result (NamesPortOf ports.now) }
     {
+        Udp::bind_by(rt, rt, alloc, ports, peers)
+    }
+
+    /// The same, with sockets of one system and the clock of another.
+    pub(crate) fn bind_by<N: Net>(
+        net: &N,
+        rt: &'a R,
+        alloc: Global,
+        ports: &[u16],
+        peers: Vec<Vec<Peer>>,
+    ) -> Result<Udp<'a, R>, UdpError>
+        requires { length ports.now ≡ vec_len peers }
+        ensures bound { IfOk result (λ link. link ≡ length ports.now) }
+        ensures refused { IfErr result (NamesPortOf ports.now) }
+    {
+        let wait = wait_of(ports.len());
         let mut endpoints = Vec::new(alloc);
         for (port, peers) in ports.iter().zip(peers) {
-            let Ok(endpoint) = Endpoint::open(net, *port, peers) else {
+            let Ok(endpoint) = Endpoint::open(net, alloc, *port, peers, wait) else {
                 return Err(UdpError::Bind(*port));
             };
             endpoints.push(endpoint).map_err(|_| UdpError::OutOfMemory)?;
         }
         Ok(Udp {
-            endpoints,
-            next: 0,
-            found_empty: 0,
+            sockets: Sockets::new(rt, alloc, endpoints),
         })
+    }
+
+    /// Sends all that waits to be sent, at the pace of its neighbors. To be called when nothing more is received.
+    pub fn finish(&mut self)
+        ensures { self.new ≡ self.old }
+    {
+        self.sockets.finish();
+    }
+
+    /// How many datagrams could not be sent when they had waited. `send` has answered Ok for these.
+    pub fn failed_sends(&self) -> u64 {
+        self.sockets.failed_sends()
+    }
+
+    /// How many datagrams of neighbors were lost since there was no memory to keep them.
+    pub fn lost_arrivals(&self) -> u64 {
+        self.sockets.lost_arrivals()
     }
 }
 
-/// A call of `recv` looks at one socket, each in its turn. While datagrams come it does not wait, so that many on one of
-/// many interfaces are taken in at once. It waits only from when all sockets were found empty one after the other.
-impl Link for Udp {
+/// A call of `recv` first sends what has waited long enough, and takes in what is there on all sockets. While datagrams
+/// come it does not wait. Else it waits up to 50 ms for one.
+impl<R: Clock> Link for Udp<'_, R> {
     ghost use Rattle.std.specs.Prelude.{None};
 
     ghost calls = { λ _. None };
@@ -95,37 +129,15 @@ impl Link for Udp {
     ghost interface_count = { λ link. link };
 
     fn interfaces(&self) -> usize {
-        self.endpoints.len()
+        self.sockets.count()
     }
 
     fn recv(&mut self, buffer: &mut [u8]) -> Result<Option<Received>, LinkFault> {
-        let count = self.endpoints.len();
-        let iface = self.next;
-        let Some(endpoint) = self.endpoints.get_mut(iface) else {
-            return Ok(None);
-        };
-        self.next = if iface + 1 < count { iface + 1 } else { 0 };
-        let may_wait = self.found_empty >= count;
-        match endpoint.recv_from(buffer, may_wait) {
-            Ok((len, from)) => {
-                self.found_empty = 0;
-                Ok(endpoint.received(iface, len, from))
-            }
-            Err(error) if is_silence(&error) => {
-                if !may_wait {
-                    self.found_empty += 1;
-                }
-                Ok(None)
-            }
-            Err(_) => Err(LinkFault),
-        }
+        self.sockets.recv(buffer)
     }
 
     fn send(&mut self, outgoing: &Outgoing) -> Result<(), LinkFault> {
-        match self.endpoints.get_mut(outgoing.iface) {
-            Some(endpoint) => endpoint.send(&outgoing.to, outgoing.bytes.as_slice()),
-            None => Err(LinkFault),
-        }
+        self.sockets.send(outgoing)
     }
 }
 
