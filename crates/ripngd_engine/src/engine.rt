@@ -181,7 +181,9 @@ impl<S: RouteStore, L: Link, C: TimeSource, R: Rng + Drop> Engine<S, L, C, R> {
     pub fn into_link(self) -> L
         ensures { L.calls result ≡ self.calls }
     {
-        self.running.outlet.link
+        let running = self.running;
+        let outlet = running.outlet;
+        outlet.link
     }
 
     /// The forwarding table. Until the engine has answered `OutOfMemory` it is that of the router's routes.
