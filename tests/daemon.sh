@@ -279,6 +279,7 @@ open_feed() {
     while read -r _ at to _; do
         [ "${to#*:}" = "$(printf '%04X' "$1")" ] && feed_port=$((16#${at#*:}))
     done < /proc/net/udp
+    [ -n "$feed_port" ] || because "no socket was opened"
 }
 
 # `feed FILE BYTE N`: sends Responses with the routes 2001:BYTE:X::/48, N different X, metric 1 each, 70 in a datagram. No
@@ -316,9 +317,9 @@ two_daemons_learn_a_large_table_from_each_other() {
     next_port && west_port=$port
     next_port && east_feed=$port
     next_port && west_feed=$port
-    open_feed "$east_feed" && from_east=$feed
+    open_feed "$east_feed" && from_east=$feed || return
     { interface e "$east_port" f "$west_port" && interface a "$east_feed" c "$feed_port"; } > "$folder/east.toml"
-    open_feed "$west_feed" && from_west=$feed
+    open_feed "$west_feed" && from_west=$feed || return
     { interface f "$west_port" e "$east_port" && interface b "$west_feed" d "$feed_port"; } > "$folder/west.toml"
     # West is stopped until both have their halves.
     start east run -R "$folder/east.log" "$folder/east.toml" && local east=$pid
@@ -341,7 +342,7 @@ three_neighbors_learn_a_large_table_at_once() {
     next_port && first=$port
     next_port && second=$port
     next_port && third=$port
-    open_feed "$hub_feed"
+    open_feed "$hub_feed" || return
     {
         interface 1 "$hub_feed" a "$feed_port"
         interface 2 "$one_port" b "$first" && peer c "$second"
