@@ -28,10 +28,11 @@ pub record SentAtOnce (peers : List Peer) (before after : Option (List Try)) (wa
   pub sends : SendsEach before after (ports_meant d.to peers) d.bytes went
   pub answer : ok ≡ (went && is_known peers d.to)
 
--- a datagram waits behind the others, if that is the answer, or is lost alone
-pub record Kept (before after : Option (List Try)) (waited left : List Outgoing) (d : Outgoing) (ok : Bool) : Type 0 where
+-- a datagram to somebody waits behind the others, if that is the answer, or else is lost alone
+pub record Kept (peers : List Peer) (before after : Option (List Try)) (waited left : List Outgoing) (d : Outgoing) (ok : Bool) : Type 0 where
   pub no_try : after ≡ before
+  pub known : ok ≡ true → is_known peers d.to ≡ true
   pub waits : left ≡ (if ok then waited ++ d ∷ [] else waited)
 
 abbrev pub SentOrKept : List Peer → Option (List Try) → Option (List Try) → List Outgoing → List Outgoing → Outgoing → Bool → Type 0
-SentOrKept peers before after waited left d ok = SentAtOnce peers before after waited left d ok ⊎ Kept before after waited left d ok
+SentOrKept peers before after waited left d ok = SentAtOnce peers before after waited left d ok ⊎ Kept peers before after waited left d ok

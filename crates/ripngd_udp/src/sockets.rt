@@ -1,5 +1,6 @@
 //! The sockets of all interfaces: when they are read, when they are sent to, and when they are waited for.
 
+ghost use Rattle.std.specs.List.{All};
 ghost use Rattle.std.specs.Prelude.{◌≡◌, ◌<◌, ◌≤◌, [], IsNone, IfOk, IfSome, length, vec_len};
 
 use crate::clock::Uptime;
@@ -86,6 +87,7 @@ impl<'a, R: Clock> Sockets<'a, R> {
     /// Sends all that waits, at once.
     fn send_all(&mut self)
         ensures same { vec_len self.new.endpoints ≡ vec_len self.old.endpoints }
+        ensures all { All (λ e. e.outbox.waiting.items ≡ []) self.new.endpoints.items }
     {
         for iface in 0..self.endpoints.len() {
             if let Some(endpoint) = self.endpoints.get_mut(iface) {
