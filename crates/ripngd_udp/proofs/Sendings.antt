@@ -1,5 +1,5 @@
 -- What is sent to several ports, one after another.
-use Rattle.std.proofs.Common.{◌≡◌, ◌+◌, ◌<◌, cond, get_or, length, take, ℕ, List, [], ◌∷◌, ◌++◌, None, Some, refl, sym, ap, ap₂, ◌∙◌, ◌&&◌, append_assoc, append-nil, Bool, true, false}
+use Rattle.std.proofs.Common.{◌≡◌, ◌+◌, ◌<◌, cond, get_or, length, take, ℕ, List, [], ◌∷◌, ◌++◌, None, Some, refl, sym, ap, ◌∙◌, ◌&&◌, append_assoc, append-nil, Bool, true, false}
 use Rattle.std.specs.Prelude.{Option, flat_map, map}
 use Rattle.std.specs.List.{All, filter, list_all}
 use Rattle.std.proofs.lemmas.List.{map-append}

@@ -2,3 +2,4 @@ pub mod Udp
 pub mod Sending
 pub mod Queue
 pub mod Inbox
+pub mod Sockets

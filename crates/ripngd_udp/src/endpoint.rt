@@ -1,6 +1,6 @@
 //! The socket of an interface, at a port of 127.0.0.1, with its neighbors.
 
-ghost use Rattle.std.specs.Prelude.{◌≡◌, ◌<◌, ◌≤◌, ◌↔◌, ◌⊎◌, [], Contains, IfErr, IfOk, IfSome, IsTrue, length};
+ghost use Rattle.std.specs.Prelude.{◌≡◌, ◌==◌, ◌<◌, ◌≤◌, ◌↔◌, ◌⊎◌, [], Contains, IfErr, IfOk, IfSome, IsTrue, length};
 ghost use Rattle.std.specs.IoError.{error_kind};
 
 use crate::inbox::Inbox;
@@ -178,7 +178,9 @@ impl Endpoint {
     }
 
     /// Whether nothing waits to be sent.
-    pub(crate) fn has_sent(&self) -> bool {
+    pub(crate) fn has_sent(&self) -> bool
+        ensures { result ≡ (length self.now.outbox.waiting.items == 0) }
+    {
         self.outbox.is_empty()
     }
 

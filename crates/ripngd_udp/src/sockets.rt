@@ -1,7 +1,7 @@
 //! The sockets of all interfaces: when they are read, when they are sent to, and when they are waited for.
 
-ghost use Rattle.std.specs.List.{All};
-ghost use Rattle.std.specs.Prelude.{◌≡◌, ◌<◌, ◌≤◌, [], IsNone, IfOk, IfSome, length, vec_len};
+ghost use Rattle.std.specs.Prelude.{◌≡◌, true, ◌<◌, ◌≤◌, [], IsNone, IfOk, IfSome, length, vec_len};
+ghost use Rattle.ripngd_udp.specs.Sockets.{none_waits};
 
 use crate::clock::Uptime;
 use crate::endpoint::Endpoint;
@@ -87,7 +87,7 @@ impl<'a, R: Clock> Sockets<'a, R> {
     /// Sends all that waits, at once.
     fn send_all(&mut self)
         ensures same { vec_len self.new.endpoints ≡ vec_len self.old.endpoints }
-        ensures all { All (λ e. e.outbox.waiting.items ≡ []) self.new.endpoints.items }
+        ensures all { none_waits self.new.endpoints.items ≡ true }
     {
         for iface in 0..self.endpoints.len() {
             if let Some(endpoint) = self.endpoints.get_mut(iface) {
@@ -97,7 +97,9 @@ impl<'a, R: Clock> Sockets<'a, R> {
     }
 
     /// Whether nothing waits to be sent.
-    fn has_sent(&self) -> bool {
+    fn has_sent(&self) -> bool
+        ensures { result ≡ none_waits self.now.endpoints.items }
+    {
         let mut has_sent = true;
         for endpoint in self.endpoints.iter() {
             has_sent &= endpoint.has_sent();
@@ -186,6 +188,7 @@ impl<'a, R: Clock> Sockets<'a, R> {
     /// Sends all that waits, at the pace of the neighbors.
     pub(crate) fn finish(&mut self)
         ensures same { vec_len self.new.endpoints ≡ vec_len self.old.endpoints }
+        ensures all { none_waits self.new.endpoints.items ≡ true }
     {
         for _ in 0..LAST_WAITS {
             if self.has_sent() {

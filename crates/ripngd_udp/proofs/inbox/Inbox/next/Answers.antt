@@ -1,4 +1,4 @@
-use Rattle.std.proofs.Common.{rules, arith, refl, ap, ◌∙◌, take}
+use Rattle.std.proofs.Common.{rules, refl}
 use Rattle.ripngd_udp.proofs.inbox.Inbox.next.Goals as goal
 
 pub returns-clause-first : goal.returns-clause-first

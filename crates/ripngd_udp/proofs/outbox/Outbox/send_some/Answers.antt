@@ -1,4 +1,4 @@
-use Rattle.std.proofs.Common.{◌≡◌, ◌-◌, length, arith}
+use Rattle.std.proofs.Common.{arith}
 use Rattle.ripngd_udp.proofs.Queues.{Goes-more, Goes-none}
 use Rattle.ripngd_udp.proofs.outbox.Outbox.send_some.Goals as goal
 
