@@ -1,10 +1,9 @@
 -- What waits and goes out, one datagram after another.
-use Rattle.std.proofs.Common.{◌≡◌, ◌+◌, ℕ, List, [], ◌∷◌, ◌++◌, refl, sym, ap, ◌∙◌, append_assoc, arith, Bool}
-use Rattle.std.specs.Prelude.{Option, if◌then◌else◌}
+use Rattle.std.proofs.Common.{◌≡◌, ◌+◌, ℕ, List, [], ◌∷◌, ◌++◌, refl, sym, ap, ◌∙◌, append_assoc, arith}
+use Rattle.std.specs.Prelude.{Option}
 use Rattle.ripngd_config.specs.declared.peer.Peer.{Peer}
 use Rattle.router_core.specs.declared.answer.Outgoing.{Outgoing}
-use Rattle.ripngd_engine.specs.Run.{counted}
-use Rattle.ripngd_udp.specs.Sending.{SendsEach, Try, ports_meant}
+use Rattle.ripngd_udp.specs.Sending.{Try}
 use Rattle.ripngd_udp.specs.Queue.{Goes, SendsAll}
 
 -- some datagrams were sent, and then others
@@ -14,14 +13,9 @@ SendsAll-append peers a b c [] es f g h k = let e : f + g ≡ g = omega (arith, 
 SendsAll-append peers a b c (d ∷ ds) es f g h k =
     (h.0, h.1, h.2 + g, h.3, SendsAll-append peers h.0 b c ds es h.2 g h.4 k, omega (arith, h.5))
 
+-- nothing was sent
 pub Goes-none : (peers : List Peer) (a : Option (List Try)) (waits : List Outgoing) (count : ℕ) → Goes peers a a waits waits count count
 Goes-none peers a waits count = record { sent = []; failed = 0; sends = (refl, refl); in_order = refl; counts = omega arith }
-
--- the first datagram was sent
-pub Goes-one : (peers : List Peer) (a b : Option (List Try)) (d : Outgoing) (left : List Outgoing) (count : ℕ) (went : Bool)
-    → SendsEach a b (ports_meant d.to peers) d.bytes went → Goes peers a b (d ∷ left) left count (counted count (if went then 0 else 1))
-Goes-one peers a b d left count went h =
-    record { sent = d ∷ []; failed = if went then 0 else 1; sends = (b, went, 0, h, (refl, refl), omega arith); in_order = refl; counts = refl }
 
 -- some of what waited was sent, and then more
 pub Goes-more : (peers : List Peer) (a b c : Option (List Try)) (waited middle left : List Outgoing) (m n k : ℕ)
