@@ -310,7 +310,8 @@ told_all() {
         because "$1 learned $(grep -c "metric $3 via" "$folder/$1.log") of $2 routes"
 }
 
-# Two routers, each of which has learned half of a table before they meet.
+# Two routers with half of a table each. East has its half before west comes up, and tells it in answer to a Request; west gets
+# its own later, and tells it by a triggered update.
 two_daemons_learn_a_large_table_from_each_other() {
     local half=$((routes / 2)) east_feed west_feed from_east from_west
     next_port && east_port=$port
@@ -321,7 +322,6 @@ two_daemons_learn_a_large_table_from_each_other() {
     { interface e "$east_port" f "$west_port" && interface a "$east_feed" c "$feed_port"; } > "$folder/east.toml"
     open_feed "$west_feed" && from_west=$feed || return
     { interface f "$west_port" e "$east_port" && interface b "$west_feed" d "$feed_port"; } > "$folder/west.toml"
-    # West is stopped until both have their halves.
     start east run -R "$folder/east.log" "$folder/east.toml" && local east=$pid
     until_true is_taken "$east_feed" && feed "$from_east" 0e "$half" && told_all east "$half" 2 || return
     start west run -R "$folder/west.log" "$folder/west.toml" && local west=$pid
