@@ -13,7 +13,7 @@ ROUTES ?= 1024 4096 16384 65536
 
 # Libraries that do not need each other are proved side by side; each waits for those below it.
 all:
-	for crate in ripngd_lab ripngd_config ripngd_engine; do (cd crates/$$crate && rt lib) & done; wait
+	for crate in ripngd_lab ripngd_config ripngd_engine ripngd_udp; do (cd crates/$$crate && rt lib) & done; wait
 	cd crates/ripngd_program && rt run -- show 02010000 > /dev/null
 	mkdir -p bin
 	cp crates/ripngd_program/out/ripngd_program bin/ripngd

@@ -4,7 +4,8 @@
 #     tests/daemon.sh [PROGRAM]        the program is bin/ripngd if none is named
 #
 # A line for each case, `ok NAME` or `FAILED NAME: why`, and last `N passed, M failed`. The exit status is 0 exactly where M
-# is 0. Needs bash and the usual commands (sleep, seq, mktemp, timeout, kill), and takes below a minute.
+# is 0. Needs bash and the usual commands (sleep, seq, mktemp, timeout, kill), and takes below a minute. `ROUTES=N` tells how
+# many routes large tables have, 65,000 at the most and 20,000 if it is not set.
 set -u
 
 program=$(realpath "${1:-bin/ripngd}")
@@ -15,6 +16,7 @@ started=()
 passed=0
 failed=0
 port=$((20000 + RANDOM % 20000))
+routes=${ROUTES:-20000}
 
 # Ends what was started, and leaves nothing.
 clean() {
@@ -66,6 +68,11 @@ is_taken() {
 interface() {
     printf '[[interface]]\naddress = "fe80::%s"\ncost = 1\nlocal_port = %s\n' "$1" "$2"
     printf '[[interface.peer]]\naddress = "fe80::%s"\nlocal_port = %s\n' "$3" "$4"
+}
+
+# `peer NUMBER PORT`: another peer of the interface above.
+peer() {
+    printf '[[interface.peer]]\naddress = "fe80::%s"\nlocal_port = %s\n' "$1" "$2"
 }
 
 # `prefix PREFIX`
@@ -251,7 +258,7 @@ one_of_sixteen_interfaces_is_busy() {
     start hub run -R "$folder/hub.log" "$folder/hub.toml" && local hub=$pid
     until_true is_taken "$hub_port" || because "the hub did not come up" || return
     start leaf run -R "$folder/leaf.log" "$folder/leaf.toml" && local leaf=$pid
-    until_true has_lines 200 "$folder/hub.log" || because "it learned $(grep -c add "$folder/hub.log") of 200 routes"
+    until_true has_lines 200 2 "$folder/hub.log" || because "it learned $(grep -c add "$folder/hub.log") of 200 routes"
     local learned=$?
     kill -0 "$hub" 2> /dev/null && kill -0 "$leaf" 2> /dev/null || because "one ended: $(cat "$folder"/hub.{out,err} "$folder"/leaf.{out,err})" || learned=1
     end "$hub"
@@ -259,9 +266,127 @@ one_of_sixteen_interfaces_is_busy() {
     return $learned
 }
 
-# `has_lines N FILE`
+# `has_lines N METRIC FILE`: whether a log has so many lines of routes that were learned with that metric.
 has_lines() {
-    [ "$(grep -c '^add .* metric 2 via ' "$2")" = "$1" ]
+    [ "$(grep -c "^add .* metric $2 via " "$3")" = "$1" ]
+}
+
+# `open_feed PORT`: opens a socket that sends to a port, as the file `$feed`, and gives its own port in `$feed_port`.
+open_feed() {
+    exec {feed}<> "/dev/udp/127.0.0.1/$1"
+    local at to
+    feed_port=
+    while read -r _ at to _; do
+        [ "${to#*:}" = "$(printf '%04X' "$1")" ] && feed_port=$((16#${at#*:}))
+    done < /proc/net/udp
+    [ -n "$feed_port" ] || because "no socket was opened"
+}
+
+# `feed FILE BYTE N`: sends Responses with the routes 2001:BYTE:X::/48, N different X, metric 1 each, 70 in a datagram. No
+# byte is that of a new line, at which bash would end a datagram.
+feed() {
+    local response='\x02\x01\x00\x00' rest='\x00\x00\x00\x00\x00\x00\x00\x00\x00\x00\x00\x00\x30\x01'
+    local octets=() high low number text=$response told=0
+    for number in $(seq 0 255); do
+        [ "$number" = 10 ] || octets+=("$(printf '\\x%02x' "$number")")
+    done
+    for high in "${octets[@]}"; do
+        for low in "${octets[@]}"; do
+            text+="\\x20\\x01\\x00\\x$2$high$low$rest"
+            told=$((told + 1))
+            if [ $((told % 70)) = 0 ] || [ "$told" = "$3" ]; then
+                printf "$text" >&"$1"
+                text=$response
+            fi
+            [ "$told" = "$3" ] && return
+        done
+    done
+}
+
+# `told_all NAME N METRIC`: waits until a daemon has learned N routes with that metric. It may take ten seconds, which is
+# less than the time to the next update.
+told_all() {
+    until_true has_lines "$2" "$3" "$folder/$1.log" ||
+        because "$1 learned $(grep -c "metric $3 via" "$folder/$1.log") of $2 routes"
+}
+
+# Two routers with half of a table each. East has its half before west comes up, and tells it in answer to a Request; west gets
+# its own later, and tells it by a triggered update.
+two_daemons_learn_a_large_table_from_each_other() {
+    local half=$((routes / 2)) east_feed west_feed from_east from_west
+    next_port && east_port=$port
+    next_port && west_port=$port
+    next_port && east_feed=$port
+    next_port && west_feed=$port
+    open_feed "$east_feed" && from_east=$feed || return
+    { interface e "$east_port" f "$west_port" && interface a "$east_feed" c "$feed_port"; } > "$folder/east.toml"
+    open_feed "$west_feed" && from_west=$feed || return
+    { interface f "$west_port" e "$east_port" && interface b "$west_feed" d "$feed_port"; } > "$folder/west.toml"
+    start east run -R "$folder/east.log" "$folder/east.toml" && local east=$pid
+    until_true is_taken "$east_feed" && feed "$from_east" 0e "$half" && told_all east "$half" 2 || return
+    start west run -R "$folder/west.log" "$folder/west.toml" && local west=$pid
+    told_all west "$half" 3 && feed "$from_west" 0f "$half" && told_all west "$half" 2 && told_all east "$half" 3
+    local learned=$?
+    end "$east"
+    end "$west"
+    exec {from_east}>&- {from_west}>&-
+    return $learned
+}
+
+# A hub with a large table, and three neighbors that come up at once: two on one of its interfaces, one on another.
+three_neighbors_learn_a_large_table_at_once() {
+    local hub_feed one_port two_port first second third name learned=0
+    next_port && hub_feed=$port
+    next_port && one_port=$port
+    next_port && two_port=$port
+    next_port && first=$port
+    next_port && second=$port
+    next_port && third=$port
+    open_feed "$hub_feed" || return
+    {
+        interface 1 "$hub_feed" a "$feed_port"
+        interface 2 "$one_port" b "$first" && peer c "$second"
+        interface 3 "$two_port" d "$third"
+    } > "$folder/hub.toml"
+    interface b "$first" 2 "$one_port" > "$folder/first.toml"
+    interface c "$second" 2 "$one_port" > "$folder/second.toml"
+    interface d "$third" 3 "$two_port" > "$folder/third.toml"
+    start hub run -R "$folder/hub.log" "$folder/hub.toml" && local hub=$pid
+    until_true is_taken "$hub_feed" && feed "$feed" 0e "$routes" && told_all hub "$routes" 2 || return
+    local neighbors=()
+    for name in first second third; do
+        start "$name" run -R "$folder/$name.log" "$folder/$name.toml"
+        neighbors+=("$pid")
+    done
+    for name in first second third; do
+        told_all "$name" "$routes" 3 || learned=1
+    done
+    for pid in "$hub" "${neighbors[@]}"; do
+        end "$pid"
+    done
+    exec {feed}>&-
+    return $learned
+}
+
+# 1,024 prefixes take more datagrams than go at once, and are told in the last turn.
+what_the_last_turn_tells_is_sent() {
+    local hub_port leaf_port number
+    next_port && hub_port=$port
+    next_port && leaf_port=$port
+    interface 1 "$hub_port" 2 "$leaf_port" > "$folder/hub.toml"
+    {
+        interface 2 "$leaf_port" 1 "$hub_port"
+        for number in $(seq 1024); do
+            prefix "2001:db8:$number::/48"
+        done
+    } > "$folder/leaf.toml"
+    start hub run -R "$folder/hub.log" "$folder/hub.toml" && local hub=$pid
+    until_true is_taken "$hub_port" || because "the hub did not come up" || return
+    run run --turns 1 "$folder/leaf.toml"
+    same status "$status" 0 && same "standard error" "$(cat "$folder/err")" "" && told_all hub 1024 2
+    local learned=$?
+    end "$hub"
+    return $learned
 }
 
 try() {
@@ -286,6 +411,9 @@ try a_file_that_is_not_there_is_named
 try a_fault_of_the_command_line_is_told
 try a_quiet_daemon_learns_and_tells_nothing
 try one_of_sixteen_interfaces_is_busy
+try what_the_last_turn_tells_is_sent
+try two_daemons_learn_a_large_table_from_each_other
+try three_neighbors_learn_a_large_table_at_once
 
 echo "$passed passed, $failed failed"
 [ "$failed" = 0 ]

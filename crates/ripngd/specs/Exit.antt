@@ -11,8 +11,8 @@ use Rattle.ripngd.specs.declared.print_fault.PrintFault.{PrintFault}
 use Rattle.ripngd.specs.declared.print_fault.PrintFault.TheVariants as faults
 use Rattle.ripngd.specs.declared.failure.Failure.{Failure}
 use Rattle.ripngd.specs.declared.failure.Failure.TheVariants as failures
-use Rattle.ripngd.specs.declared.udp.UdpError.{UdpError}
-use Rattle.ripngd.specs.declared.udp.UdpError.TheVariants as link
+use Rattle.ripngd_udp.specs.declared.udp.UdpError.{UdpError}
+use Rattle.ripngd_udp.specs.declared.udp.UdpError.TheVariants as link
 use Rattle.ripngd_engine.specs.declared.report.EngineFault.{EngineFault}
 use Rattle.ripngd_engine.specs.declared.report.EngineFault.TheVariants as engine
 use Rattle.ripngd.specs.Asked.{Asks}

@@ -6,8 +6,8 @@ ghost use Rattle.ripngd.specs.Exit.{failure_of, failure_of_engine, failure_of_li
 ghost use Rattle.ripngd.specs.declared.failure.Failure.TheVariants as failures;
 
 use crate::print_fault::PrintFault;
-use crate::udp::UdpError;
 use ripngd_engine::EngineFault;
+use ripngd_udp::UdpError;
 use std::io::{self, ErrorKind};
 use thiserror::Error;
 

@@ -2,6 +2,7 @@
 
 ghost use Rattle.std.specs.Prelude.{◌≡◌, ◌≢◌, OnOk};
 ghost use Rattle.std.specs.Io.KnownBytes.{Appends};
+ghost use Rattle.ripngd_engine.specs.Run.{counted};
 ghost use Rattle.ripngd.specs.Losses.{log_text, losses_line, nothing_lost};
 
 use ripngd_engine::Report;
@@ -13,6 +14,21 @@ pub(crate) const NOTHING_LOST: Report = Report {
     lost_memory: 0,
     log_failed: false,
 };
+
+/// The report of a run with what its link lost beside: sends that failed after they were taken, and arrivals for which it
+/// had no memory.
+pub(crate) fn with_link(report: Report, failed_sends: u64, lost_arrivals: u64) -> Report
+    ensures { result ≡ record report {
+      lost_sends = counted report.lost_sends failed_sends;
+      lost_memory = counted report.lost_memory lost_arrivals;
+    } }
+{
+    Report {
+        lost_sends: report.lost_sends.saturating_add(failed_sends),
+        lost_memory: report.lost_memory.saturating_add(lost_arrivals),
+        ..report
+    }
+}
 
 fn log_text(failed: bool) -> &'static str
     ensures { result.now ≡ log_text failed }

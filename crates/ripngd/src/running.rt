@@ -4,15 +4,15 @@ ghost use Rattle.ripngd_config.specs.Configuration.{HasOneEach};
 
 use crate::asked::Order;
 use crate::checking::write_refusal;
-use crate::clock::Uptime;
 use crate::failure::{Failure, failed};
+use crate::losses::with_link;
 use crate::plan::{Plan, plan_of};
 use crate::reading::read;
-use crate::udp::Udp;
 use fib::Fib;
 use rand_pcg::Pcg32;
 use ripngd_config::Config;
 use ripngd_engine::{Engine, Report, RouteLine};
+use ripngd_udp::{Udp, Uptime};
 use route_table::TrieRoutes;
 use std::fs;
 use std::io::{self, Write};
@@ -83,7 +83,7 @@ fn run_logged<'a, R: Clock + Net + AllocGlobal, W: Write, O: Write>(
     } = config;
     let link = Udp::bind(rt, rt.alloc(), ports.as_slice(), peers)?;
     let clock = Uptime::new(rt);
-    let mut engine: Engine<TrieRoutes, Udp, Uptime<'_, R>, Pcg32> = Engine::start(
+    let mut engine: Engine<TrieRoutes, Udp<'_, R>, Uptime<'_, R>, Pcg32> = Engine::start(
         rt.alloc(),
         router,
         link,
@@ -91,9 +91,22 @@ fn run_logged<'a, R: Clock + Net + AllocGlobal, W: Write, O: Write>(
         rng,
         log,
     )?;
-    let outcome = engine.turns(turns, log);
-    *lost = engine.report();
-    outcome?;
+    let outcome = show_turns(&mut engine, turns, log, out);
+    let report = engine.report();
+    let mut link = engine.into_link();
+    link.finish();
+    *lost = with_link(report, link.failed_sends(), link.lost_arrivals());
+    outcome
+}
+
+/// Makes the turns, and then writes the forwarding table.
+fn show_turns<'a, 'b, R: Clock, W: Write, O: Write>(
+    engine: &mut Engine<TrieRoutes, Udp<'b, R>, Uptime<'b, R>, Pcg32>,
+    turns: u32,
+    log: &mut W,
+    out: &mut O,
+) -> Result<(), Failure<'a>> {
+    engine.turns(turns, log)?;
     write_table(engine.fib(), out).map_err(|_| Failure::Output)
 }
 

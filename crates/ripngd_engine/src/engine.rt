@@ -177,6 +177,15 @@ impl<S: RouteStore, L: Link, C: TimeSource, R: Rng + Drop> Engine<S, L, C, R> {
         &self.running.outlet.link
     }
 
+    /// The link, at the end of the engine. What it has been handed and not sent yet is left to it.
+    pub fn into_link(self) -> L
+        ensures { L.calls result ≡ self.calls }
+    {
+        let running = self.running;
+        let outlet = running.outlet;
+        outlet.link
+    }
+
     /// The forwarding table. Until the engine has answered `OutOfMemory` it is that of the router's routes.
     pub fn fib(&self) -> &Fib
         ensures value { result.now ≡ self.now.fib }

@@ -53,10 +53,10 @@ pub trait Link: Drop {
         ensures within { IfOk result (λ o. IfSome o (λ r. r.len ≤ length buffer.new)) }
         ensures same { interface_count self.new ≡ interface_count self.old };
 
-    /// Sends a datagram on the interface that it names.
+    /// Takes a datagram to send on the interface that it names, at once or a little later, behind those before it.
     ///
     /// # Errors
-    /// Where it could not be sent. It is then lost.
+    /// Where it could not be taken. It is then lost.
     fn send(&mut self, outgoing: &Outgoing) -> Result<(), LinkFault>
         ensures told { Gains (calls self.old) (calls self.new) (Handed outgoing.now (is_ok result) ∷ []) }
         ensures same { interface_count self.new ≡ interface_count self.old };

@@ -1,5 +1,0 @@
-use Rattle.std.proofs.Common.{◌≡◌, length, vec_len}
-use Rattle.ripngd.proofs.udp.Udp.bind.Given as goal
-
-abbrev pub invariant-loop-port : goal.invariant-loop-port
-invariant-loop-port g l = vec_len l.endpoints ≡ length l.yielded

@@ -1,0 +1,5 @@
+use Rattle.std.proofs.Common.{◌≡◌, vec_len}
+use Rattle.ripngd_udp.proofs.sockets.Sockets.recv.Given as goal
+
+abbrev pub invariant-loop : goal.invariant-loop
+invariant-loop g l = vec_len l.self.endpoints ≡ vec_len l.initial.self.endpoints

@@ -1,0 +1,5 @@
+use Rattle.std.proofs.Common.{◌≡◌, vec_len}
+use Rattle.ripngd_udp.proofs.sockets.Sockets.send_due.Given as goal
+
+abbrev pub invariant-loop-iface : goal.invariant-loop-iface
+invariant-loop-iface g l = (vec_len l.self.endpoints ≡ vec_len l.initial.self.endpoints) × (l.self.inbox ≡ l.initial.self.inbox)

@@ -1,0 +1,115 @@
+//! What neighbors sent and the router has not taken in yet. A socket holds little, so it is emptied into here while the
+//! router works.
+
+ghost use Rattle.std.specs.Prelude.{◌≡◌, ◌<◌, ◌≤◌, [], MatchOption, IfSome, is_ok, length, min, take};
+ghost use Rattle.std.specs.List.{All};
+ghost use Rattle.ripngd_udp.specs.Inbox.{Gives, Keeps};
+
+use ripngd_config::Peer;
+use ripngd_engine::Received;
+use std::alloc::{AllocError, Global};
+use std::collections::VecDeque;
+
+/// How many datagrams wait at most: more than a whole table from each neighbor on 16 interfaces has.
+const ROOM: usize = 16_384;
+
+/// A datagram of a neighbor.
+#[derive(Drop)]
+pub(crate) struct Heard {
+    /// The interface that it came to.
+    pub(crate) iface: usize,
+    pub(crate) peer: Peer,
+    pub(crate) bytes: Vec<u8>,
+}
+
+/// Datagrams that came in, in order.
+#[derive(Drop)]
+pub(crate) struct Inbox {
+    heard: VecDeque<Heard>,
+    /// How many interfaces the link has.
+    interfaces: usize,
+    /// How many datagrams were lost for want of memory.
+    lost: u64,
+    alloc: Global,
+    ghost inside: { All (λ h. h.iface < interfaces) heard.items },
+}
+
+/// Copies as much as fits to the head of a buffer, and answers how much.
+fn copy_into(buffer: &mut [u8], bytes: &[u8]) -> usize
+    ensures len { result ≡ min (length bytes.now) (length buffer.new) }
+    ensures same { length buffer.new ≡ length buffer.old }
+    ensures bytes { take result buffer.new ≡ take result bytes.now }
+{
+    let len = bytes.len().min(buffer.len());
+    buffer[..len].copy_from_slice(&bytes[..len]);
+    len
+}
+
+impl Inbox {
+    /// Where nothing has come in.
+    pub(crate) fn new(alloc: Global, interfaces: usize) -> Inbox
+        ensures { (result.heard.items ≡ []) × (result.interfaces ≡ interfaces) }
+    {
+        Inbox {
+            heard: VecDeque::new(alloc),
+            interfaces,
+            lost: 0,
+            alloc,
+        }
+    }
+
+    /// Whether there is room for no more.
+    pub(crate) fn is_full(&self) -> bool {
+        self.heard.len() >= ROOM
+    }
+
+    /// How many datagrams were lost for want of memory.
+    pub(crate) fn lost(&self) -> u64
+        ensures { result ≡ self.now.lost }
+    {
+        self.lost
+    }
+
+    /// Keeps a datagram of a neighbor behind the others, and answers whether there was memory for it. Without it is lost
+    /// alone.
+    pub(crate) fn keep(&mut self, iface: usize, peer: Peer, bytes: &[u8]) -> bool
+        requires { iface < self.old.interfaces }
+        ensures kept { Keeps self.old.heard.items self.new.heard.items iface peer bytes.now result }
+        ensures same { self.new.interfaces ≡ self.old.interfaces }
+    {
+        let kept = self.push(iface, peer, bytes).is_ok();
+        if !kept {
+            self.lost = self.lost.saturating_add(1);
+        }
+        kept
+    }
+
+    fn push(&mut self, iface: usize, peer: Peer, bytes: &[u8]) -> Result<(), AllocError>
+        requires { iface < self.old.interfaces }
+        ensures kept { Keeps self.old.heard.items self.new.heard.items iface peer bytes.now (is_ok result) }
+        ensures same { self.new.interfaces ≡ self.old.interfaces }
+    {
+        let bytes = Vec::from_slice(self.alloc, bytes)?;
+        self.heard.push_back(Heard { iface, peer, bytes })?;
+        Ok(())
+    }
+
+    /// Puts the first datagram into a buffer, as much of it as fits.
+    pub(crate) fn next(&mut self, buffer: &mut [u8]) -> Option<Received>
+        ensures first { MatchOption result ((self.old.heard.items ≡ []) × (self.new.heard.items ≡ [])) (Gives self.old.heard.items self.new.heard.items buffer.new) }
+        ensures interface { IfSome result (λ r. r.iface < self.old.interfaces) }
+        ensures within { IfSome result (λ r. r.len ≤ length buffer.new) }
+        ensures same { self.new.interfaces ≡ self.old.interfaces }
+    {
+        let Heard { iface, peer, bytes } = self.heard.pop_front()?;
+        let len = copy_into(buffer, bytes.as_slice());
+        Some(Received {
+            iface,
+            source: peer.addr,
+            source_port: peer.port,
+            hop_limit: peer.hop_limit,
+            to_group: peer.to_group,
+            len,
+        })
+    }
+}

@@ -1,0 +1,145 @@
+//! A link of UDP sockets on loopback, which stands in for the links of a router: each interface has a socket at a port of
+//! 127.0.0.1, and each neighbor on its link one of its own.
+
+ghost use Rattle.std.specs.Prelude.{◌≡◌, IfErr, IfOk, length, vec_len};
+ghost use Rattle.ripngd_udp.specs.Udp.{NamesPortOf, link_number};
+
+use crate::endpoint::Endpoint;
+use crate::sockets::{Sockets, wait_of};
+use ripngd_config::Peer;
+use ripngd_engine::{Link, LinkFault, Received};
+use router_core::Outgoing;
+use std::alloc::Global;
+use std::marker::Model;
+use std::net::Net;
+use std::rt::Clock;
+use thiserror::Error;
+
+/// Why a link could not be bound.
+#[derive(Clone, Copy, Debug, PartialEq, Eq, Error)]
+pub enum UdpError {
+    /// 1: no socket could be had at this port of 127.0.0.1.
+    #[error("cannot bind {0}")]
+    Bind(u16),
+    /// 2: there was no memory.
+    #[error("out of memory")]
+    OutOfMemory,
+}
+
+impl UdpError {
+    /// The number of the fault, 1 or 2.
+    pub fn number(self) -> u8
+        ensures { result ≡ link_number self }
+    {
+        match self {
+            UdpError::Bind(_) => 1,
+            UdpError::OutOfMemory => 2,
+        }
+    }
+}
+
+/// A link of sockets, one for each interface, over a clock. Contracts see how many interfaces it has, and nothing of what
+/// its sockets carry.
+///
+/// A datagram is sent at once, or else, where too many would come together for the socket of a neighbor, a few
+/// milliseconds later, by `recv` or at last by `finish`.
+#[derive(Drop)]
+pub struct Udp<'a, R: Clock> {
+    sockets: Sockets<'a, R>,
+}
+
+impl<'a, R: Clock> Model for Udp<'a, R> {
+    ghost use Rattle.std.specs.Prelude.{ℕ, vec_len};
+
+    ghost Value = { ℕ };
+
+    ghost view = { λ link. vec_len link.sockets.endpoints };
+}
+
+impl<'a, R: Clock> Udp<'a, R> {
+    /// An interface at each port of 127.0.0.1, in order, with its peers.
+    ///
+    /// # Errors
+    /// `Bind` with the first port that cannot be bound. What was bound before is given up.
+    pub fn bind(
+        rt: &'a R,
+        alloc: Global,
+        ports: &[u16],
+        peers: Vec<Vec<Peer>>,
+    ) -> Result<Udp<'a, R>, UdpError>
+    where
+        R: Net,
+        requires { length ports.now ≡ vec_len peers }
+        ensures bound { IfOk result (λ link. link ≡ length ports.now) }
+        ensures refused { IfErr result (NamesPortOf ports.now) }
+    {
+        Udp::bind_by(rt, rt, alloc, ports, peers)
+    }
+
+    /// The same, with sockets of one system and the clock of another.
+    pub(crate) fn bind_by<N: Net>(
+        net: &N,
+        rt: &'a R,
+        alloc: Global,
+        ports: &[u16],
+        peers: Vec<Vec<Peer>>,
+    ) -> Result<Udp<'a, R>, UdpError>
+        requires { length ports.now ≡ vec_len peers }
+        ensures bound { IfOk result (λ link. link ≡ length ports.now) }
+        ensures refused { IfErr result (NamesPortOf ports.now) }
+    {
+        let wait = wait_of(ports.len());
+        let mut endpoints = Vec::new(alloc);
+        for (port, peers) in ports.iter().zip(peers) {
+            let Ok(endpoint) = Endpoint::open(net, alloc, *port, peers, wait) else {
+                return Err(UdpError::Bind(*port));
+            };
+            endpoints.push(endpoint).map_err(|_| UdpError::OutOfMemory)?;
+        }
+        Ok(Udp {
+            sockets: Sockets::new(rt, alloc, endpoints),
+        })
+    }
+
+    /// Sends all that waits to be sent, at the pace of its neighbors. To be called when nothing more is received.
+    pub fn finish(&mut self)
+        ensures { self.new ≡ self.old }
+    {
+        self.sockets.finish();
+    }
+
+    /// How many datagrams could not be sent when they had waited. `send` has answered Ok for these.
+    pub fn failed_sends(&self) -> u64 {
+        self.sockets.failed_sends()
+    }
+
+    /// How many datagrams of neighbors were lost since there was no memory to keep them.
+    pub fn lost_arrivals(&self) -> u64 {
+        self.sockets.lost_arrivals()
+    }
+}
+
+/// A call of `recv` first sends what has waited long enough, and takes in what is there on all sockets. While datagrams
+/// come it does not wait. Else it waits up to 50 ms for one.
+impl<R: Clock> Link for Udp<'_, R> {
+    ghost use Rattle.std.specs.Prelude.{None};
+
+    ghost calls = { λ _. None };
+
+    ghost interface_count = { λ link. link };
+
+    fn interfaces(&self) -> usize {
+        self.sockets.count()
+    }
+
+    fn recv(&mut self, buffer: &mut [u8]) -> Result<Option<Received>, LinkFault> {
+        self.sockets.recv(buffer)
+    }
+
+    fn send(&mut self, outgoing: &Outgoing) -> Result<(), LinkFault> {
+        self.sockets.send(outgoing)
+    }
+}
+
+#[cfg(test)]
+mod tests;
