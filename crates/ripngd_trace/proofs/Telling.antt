@@ -12,7 +12,6 @@ use Rattle.route_table.specs.Table.{Table}
 use Rattle.route_table.proofs.TableLaws.{all_entries, None-Some}
 use Rattle.ripngd_trace.specs.Told.{with_routes, without}
 
-
 -- ---- one after another
 
 pub with_routes-push : (t : Table) (es : List (Prefix6 × RouteValue)) (p : Prefix6) (r : RouteValue)
@@ -68,7 +67,7 @@ arrives t m [] q all found = absurd (found refl)
 arrives t m (e ∷ es) q all found = by_tie (eq_by_cmp prefix_cmp q e.0) refl (arrives t (map_of.insert m e.0 e.1) es q all.1)
   where
     by_tie : (b : Bool) → eq_by_cmp prefix_cmp q e.0 ≡ b → (find prefix_cmp q es ≢ None → map_of.get (with_routes m (e ∷ es)) q ≡ map_of.get t q)
-          → map_of.get (with_routes m (e ∷ es)) q ≡ map_of.get t q
+        → map_of.get (with_routes m (e ∷ es)) q ≡ map_of.get t q
     by_tie true tie rest =
         stays t (map_of.insert m e.0 e.1) es q all.1
         (map_of.get-insert prefixes_total m e.0 e.1 q ∙ ap (λ b. cond b (Some e.1) (map_of.get m q)) tie ∙ sym all.0 ∙ ap (map_of.get t) (sym (tells_apart exact_prefixes q e.0 tie)))
@@ -80,8 +79,10 @@ is_known t m gone = map_of.same_map prefixes_total exact_prefixes _ _ (λ q. by_
   where
     all : AllByRecursion (λ e. map_of.get t e.0 ≡ Some e.1) (map_of.entries t)
     all = all_entries (λ e. map_of.get t e.0 ≡ Some e.1) t (λ p x is. is)
+
     not_none : (r : RouteValue) → Some r ≡ None → ⊥
     not_none r e = absurd (None-Some r (sym e))
+
     by_value : (q : Prefix6) (o : Option RouteValue) → map_of.get t q ≡ o → map_of.get (with_routes m (map_of.entries t)) q ≡ map_of.get t q
     by_value q None none = stays t m (map_of.entries t) q all (gone q none ∙ sym none)
     by_value q (Some r) some = arrives t m (map_of.entries t) q all (λ none. not_none r (sym some ∙ map_of.get-entries t q ∙ none))

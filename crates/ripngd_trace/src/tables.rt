@@ -1,6 +1,6 @@
 //! Records of routers: their timers, and those of their routes that a reader does not know yet.
 
-ghost use Rattle.std.specs.Prelude.{◌≡◌, None, IfOk, IsTrue, OnOk, option_map, slice_get};
+ghost use Rattle.std.specs.Prelude.{◌≡◌, None, IfOk, IsTrue, OnOk, map, option_map, slice_get};
 ghost use Rattle.std.specs.FinMap as map_of;
 ghost use Rattle.prefix6.specs.Prefix.{Prefix6};
 ghost use Rattle.route_table.specs.Due.{next_due};
@@ -228,7 +228,9 @@ pub fn news_of<S: RouteStore>(
 pub fn route_records(
     alloc: Global,
     routes: &[(Prefix, Route)],
-) -> Result<Vec<RouteRecord>, AllocError> {
+) -> Result<Vec<RouteRecord>, AllocError>
+    ensures { IfOk result (λ records. records.items ≡ map (λ e. route_record e.0 e.1) routes.now) }
+{
     routes
         .iter()
         .map(|entry| route_record(entry.0, &entry.1))

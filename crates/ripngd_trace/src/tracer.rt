@@ -1,5 +1,8 @@
 //! A script, traced.
 
+ghost use Rattle.std.specs.Prelude.{◌≡◌, IfOk, option_map, slice_get};
+ghost use Rattle.ripngd_trace.specs.Told.{timers_in};
+
 use crate::answers::{change_records, fault_record, note_records, sent_since};
 use crate::events::{happened, moment_of, router_of};
 use crate::network::{interface_records, owned_records};
@@ -57,7 +60,9 @@ impl<'a, W: Write> Tracer<'a, W> {
         lab: &Lab<TrieRoutes>,
         number: usize,
         router: &Router<TrieRoutes>,
-    ) -> Result<RouterRecord, AllocError> {
+    ) -> Result<RouterRecord, AllocError>
+        ensures { IfOk result (λ r. r.timers ≡ option_map timers_in (slice_get lab.now.world.states number)) }
+    {
         let mut known = TrieRoutes::empty(self.alloc);
         let (routes, _) = news_of(self.alloc, &mut known, router.routes())?;
         self.known.push(known)?;
@@ -88,7 +93,9 @@ impl<'a, W: Write> Tracer<'a, W> {
         event: &Event<'_>,
         answer: &Answer,
         first: usize,
-    ) -> Result<EventRecord, AllocError> {
+    ) -> Result<EventRecord, AllocError>
+        ensures { IfOk result (λ r. r.timers ≡ option_map timers_in (slice_get lab.now.world.states r.router)) }
+    {
         let router = router_of(event);
         let (routes, gone) = match (self.known.get_mut(router), lab.router(router)) {
             (Some(known), Some(router)) => news_of(self.alloc, known, router.routes())?,

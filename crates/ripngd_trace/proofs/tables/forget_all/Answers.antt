@@ -21,8 +21,8 @@ loop-entry-preserved g c =
     let e = c.entry-item.result in
     let is : c.deref-entry-items.result.now ≡ map_of.entries known = c.deref-entry-items.ensures.value ∙ c.in_ok-entries.ensures in
     let next : drop i (map_of.entries known) ≡ e ∷ drop (i + 1) (map_of.entries known) =
-        subst (λ (es : List (Prefix6 × RouteValue)). drop i es ≡ e ∷ drop (i + 1) es) is
-        (drop_more c.deref-entry-items.result.now i e c.loop-entry-test.true ∙ ap (λ x. x ∷ drop (i + 1) c.deref-entry-items.result.now) (sym c.entry-item.is)) in
+    subst (λ (es : List (Prefix6 × RouteValue)). drop i es ≡ e ∷ drop (i + 1) es) is
+    (drop_more c.deref-entry-items.result.now i e c.loop-entry-test.true ∙ ap (λ x. x ∷ drop (i + 1) c.deref-entry-items.result.now) (sym c.entry-item.is)) in
     record {
       told = c.in_ok-forget.ensures.told known c.loop-entry.invariant.told;
       gone = gone_on (g.S.RouteStore.table c.args.table.now) (g.S.RouteStore.table c.loop-entry.known) (g.S.RouteStore.table c.forget.new.known) e.0 e.1 (drop (i + 1) (map_of.entries known))

@@ -20,8 +20,8 @@ loop-entry-preserved g c =
     let e = c.entry-item.result in
     let is : c.deref-entry-items.result.now ≡ entries = c.deref-entry-items.ensures.value ∙ c.in_ok-entries.ensures in
     let next : drop i entries ≡ e ∷ drop (i + 1) entries =
-        subst (λ (es : List (Prefix6 × RouteValue)). drop i es ≡ e ∷ drop (i + 1) es) is
-        (drop_more c.deref-entry-items.result.now i e c.loop-entry-test.true ∙ ap (λ x. x ∷ drop (i + 1) c.deref-entry-items.result.now) (sym c.entry-item.is)) in
+    subst (λ (es : List (Prefix6 × RouteValue)). drop i es ≡ e ∷ drop (i + 1) es) is
+    (drop_more c.deref-entry-items.result.now i e c.loop-entry-test.true ∙ ap (λ x. x ∷ drop (i + 1) c.deref-entry-items.result.now) (sym c.entry-item.is)) in
     record {
       told = c.in_ok-learn.ensures.told known c.loop-entry.invariant.told;
       all = ap (λ t. with_routes t (drop (i + 1) entries)) c.in_ok-learn.ensures.held
