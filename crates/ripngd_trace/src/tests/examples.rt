@@ -1,6 +1,7 @@
 //! The examples, traced: what a reader finds in them, worked out by hand.
 
 use super::traced;
+use ripngd_lab::lab;
 use std::alloc::Global;
 use std::str;
 use std::test::Fail;
@@ -220,6 +221,27 @@ const ROUNDS_HOLDS: [(usize, &str); 2] = [
     ),
 ];
 
+/// Two links between the first two routers, and two interfaces of the second on the link to the third.
+const TWINS: &str = "router
+iface fe80::a0 1 1280 0
+iface fe80::a1 2 1280 1
+own 2001:db8:a::/48 1
+router
+iface fe80::b0 3 1280 0
+iface fe80::b1 1 1280 1
+iface fe80::b2 2 1280 2
+iface fe80::b3 5 1280 2
+router
+iface fe80::c0 4 1280 2
+own 2001:db8:c::/48 7
+cold 0
+round 0
+print
+rounds 2 45000 15000
+print
+sent
+";
+
 // How many records a line wrote, and how many of them hold a text.
 fn count(alloc: Global, trace: &str, line: usize, text: &str) -> Result<(usize, usize), Fail> {
     let beginning = format!(in alloc; "{{\"line\":{line},")?;
@@ -273,6 +295,28 @@ fn rounds_tell_their_events(rt: HostRuntime) -> Result<(), Fail> {
         let trace = str::from_utf8(out.as_slice())?;
         let found = count(alloc, trace, line, "\"record\":\"event\"")?;
         assert_eq!(rt; found, (records, records), "{line}");
+    }
+    Ok(())
+}
+
+// Whether a trace has each line that the script prints.
+fn tells_prints(alloc: Global, script: &str) -> Result<bool, Fail> {
+    let (out, done) = traced(alloc, script)?;
+    let trace = str::from_utf8(out.as_slice())?;
+    let mut prints = Vec::new(alloc);
+    let mut all = lab(alloc, script.as_bytes(), &mut prints)? && done;
+    for line in str::from_utf8(prints.as_slice())?.lines() {
+        let text = format!(in alloc; "\"{line}\"")?;
+        all = all && trace.contains(text.as_str());
+    }
+    Ok(all)
+}
+
+// Rounds whose events are told are those that are made at once.
+#[test]
+fn rounds_are_those_made_at_once(rt: HostRuntime) -> Result<(), Fail> {
+    for script in [SQUARE, ROUNDS, TWINS] {
+        assert!(rt; tells_prints(rt.alloc(), script)?);
     }
     Ok(())
 }
