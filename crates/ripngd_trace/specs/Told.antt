@@ -1,5 +1,5 @@
 -- What the records of a trace say of a router, and what a reader who applies them knows.
-use Rattle.std.specs.Prelude.{ℕ, List, [], ◌∷◌, Option, Some, None, option_map}
+use Rattle.std.specs.Prelude.{◌≡◌, map, List, [], ◌∷◌, Option, Some, None, option_map}
 use Rattle.std.specs.FinMap as map_of
 use Rattle.prefix6.specs.Prefix.{Prefix6}
 use Rattle.route_table.specs.Due.{next_due}
@@ -39,3 +39,8 @@ without t (p ∷ ps) = without (map_of.remove t p) ps
 abbrev pub with_routes : Table → List (Prefix6 × RouteValue) → Table
 with_routes t [] = t
 with_routes t (e ∷ es) = with_routes (map_of.insert t e.0 e.1) es
+
+-- a reader who knows one table and is told these routes and what is gone has the other
+abbrev pub IsTold : Table → List RouteRecord → List Prefix6 → Table → Type 0
+IsTold known records gone table =
+    (routes : List (Prefix6 × RouteValue)) × (records ≡ map (λ e. route_record e.0 e.1) routes) × (with_routes (without known gone) routes ≡ table)

@@ -1,7 +1,7 @@
 //! The records of a trace. Each is a line of JSON, whose members have the names of the fields and stand in their order.
 //! Moments and deadlines are in milliseconds, metrics and costs in hops; all numbers count from 0, but for lines.
 
-use crate::shown::{Shown, as_text};
+use crate::shown::{Shown, as_text, as_texts};
 use prefix6::{Addr6, Prefix};
 use serde::Serialize;
 
@@ -66,7 +66,8 @@ pub struct EventRecord {
     /// The routes that were not there before, or are not as they were.
     pub routes: Vec<RouteRecord>,
     /// The prefixes that had a route and have none.
-    pub gone: Vec<Shown<Prefix>>,
+    #[serde(serialize_with = "as_texts")]
+    pub gone: Vec<Prefix>,
 }
 
 /// What happened, and from where.

@@ -11,6 +11,18 @@ pub fn as_text<T: Display, S: Serializer>(value: &T, out: &mut S) -> Result<(), 
     out.collect_str(value)
 }
 
+/// Writes values as a list of the texts that they print.
+///
+/// # Errors
+/// Of the format.
+pub fn as_texts<T: Display, S: Serializer>(values: &Vec<T>, out: &mut S) -> Result<(), S::Error> {
+    out.begin_seq(Some(values.len()))?;
+    for value in values {
+        out.collect_str(value)?;
+    }
+    out.end_seq()
+}
+
 /// A value that is written as the text that it prints.
 #[derive(Clone, Copy, Debug, PartialEq, Eq)]
 pub struct Shown<T>(pub T);

@@ -6,10 +6,9 @@ ghost use Rattle.prefix6.specs.Prefix.{Prefix6};
 ghost use Rattle.route_table.specs.Due.{next_due};
 ghost use Rattle.route_table.specs.Route.{deadline};
 ghost use Rattle.route_table.specs.Table.{Table};
-ghost use Rattle.ripngd_trace.specs.Told.{due_in, gateway_of, route_record, timers_in, with_routes, without};
+ghost use Rattle.ripngd_trace.specs.Told.{IsTold, due_in, gateway_of, route_record, timers_in, with_routes, without};
 
 use crate::records::{DueRecord, GatewayRecord, RouteRecord, Timers};
-use crate::shown::Shown;
 use prefix6::Prefix;
 use ripng_world::Lab;
 use route_table::{Origin, Route, RouteStore};
@@ -203,32 +202,8 @@ fn learn_all<S: RouteStore>(
     Ok(news)
 }
 
-/// What a reader that knows a table has to be told of what it is now: the routes to put into it, once the prefixes are
-/// taken out. Then the table is known.
-///
-/// # Errors
-/// Want of memory.
-pub fn news_of<S: RouteStore>(
-    alloc: Global,
-    known: &mut S,
-    table: &S,
-) -> Result<(Vec<(Prefix, Route)>, Vec<Prefix>), AllocError>
-    ensures known { OnOk result (S.table known.new ≡ S.table table.now) }
-    ensures told { IfOk result (λ news. with_routes (without (S.table known.old) news.1.items) news.0.items ≡ S.table table.now) }
-{
-    let gone = forget_all(alloc, known, table)?;
-    let routes = learn_all(alloc, known, table)?;
-    Ok((routes, gone))
-}
-
-/// Routes as records.
-///
-/// # Errors
-/// Want of memory.
-pub fn route_records(
-    alloc: Global,
-    routes: &[(Prefix, Route)],
-) -> Result<Vec<RouteRecord>, AllocError>
+// Routes as records.
+fn route_records(alloc: Global, routes: &[(Prefix, Route)]) -> Result<Vec<RouteRecord>, AllocError>
     ensures { IfOk result (λ records. records.items ≡ map (λ e. route_record e.0 e.1) routes.now) }
 {
     routes
@@ -237,13 +212,34 @@ pub fn route_records(
         .collect(alloc)
 }
 
-/// Prefixes as texts.
+/// What a reader that knows a table has to be told of what it is now.
+#[derive(Drop)]
+pub struct News {
+    /// The routes to put into it, once the prefixes are taken out.
+    pub routes: Vec<RouteRecord>,
+    pub gone: Vec<Prefix>,
+}
+
+impl News {
+    /// Nothing.
+    pub fn none(alloc: Global) -> News {
+        News {
+            routes: Vec::new(alloc),
+            gone: Vec::new(alloc),
+        }
+    }
+}
+
+/// What a reader that knows a table has to be told of what it is now. Then the table is known.
 ///
 /// # Errors
 /// Want of memory.
-pub fn shown_prefixes(
-    alloc: Global,
-    prefixes: &[Prefix],
-) -> Result<Vec<Shown<Prefix>>, AllocError> {
-    prefixes.iter().map(|prefix| Shown(*prefix)).collect(alloc)
+pub fn news_of<S: RouteStore>(alloc: Global, known: &mut S, table: &S) -> Result<News, AllocError>
+    ensures known { OnOk result (S.table known.new ≡ S.table table.now) }
+    ensures told { IfOk result (λ news. IsTold (S.table known.old) news.routes.items news.gone.items (S.table table.now)) }
+{
+    let gone = forget_all(alloc, known, table)?;
+    let learned = learn_all(alloc, known, table)?;
+    let routes = route_records(alloc, &learned)?;
+    Ok(News { routes, gone })
 }

@@ -1,13 +1,13 @@
 //! A script, traced.
 
-ghost use Rattle.std.specs.Prelude.{◌≡◌, IfOk, option_map, slice_get};
-ghost use Rattle.ripngd_trace.specs.Told.{timers_in};
+ghost use Rattle.std.specs.Prelude.{◌≡◌, IfOk, IfSome, option_map, slice_get};
+ghost use Rattle.ripngd_trace.specs.Told.{IsTold, timers_in};
 
 use crate::answers::{change_records, fault_record, note_records, sent_since};
 use crate::events::{happened, moment_of, router_of};
 use crate::network::{interface_records, owned_records};
 use crate::records::{EventRecord, PrintRecord, RefusedRecord, RouterRecord, StartRecord};
-use crate::tables::{news_of, route_records, shown_prefixes, timers_of};
+use crate::tables::{News, news_of, timers_of};
 use ripng_world::{Event, Lab};
 use ripngd_lab::{Refusal, Watch, print_routes, print_sent, watched};
 use route_table::{Moment, RouteStore, TrieRoutes};
@@ -44,6 +44,22 @@ struct Tracer<'a, W: Write> {
     out: &'a mut W,
 }
 
+// What a reader has to be told of the table of a router.
+fn news_at<S: RouteStore>(
+    alloc: Global,
+    known: &mut [S],
+    lab: &Lab<S>,
+    router: usize,
+) -> Result<News, AllocError>
+    ensures { IfOk result (λ news. IfSome (slice_get known.old router) (λ table. IfSome (slice_get lab.now.world.states router) (λ state.
+        IsTold (S.table table) news.routes.items news.gone.items state.table))) }
+{
+    match (known.get_mut(router), lab.router(router)) {
+        (Some(known), Some(router)) => news_of(alloc, known, router.routes()),
+        _ => Ok(News::none(alloc)),
+    }
+}
+
 // Writes a record as one line.
 fn write_record<T: Serialize, W: Write>(alloc: Global, record: &T, out: &mut W) -> io::Result<()> {
     let Ok(mut text) = serde_json::to_vec(alloc, record) else {
@@ -64,7 +80,7 @@ impl<'a, W: Write> Tracer<'a, W> {
         ensures { IfOk result (λ r. r.timers ≡ option_map timers_in (slice_get lab.now.world.states number)) }
     {
         let mut known = TrieRoutes::empty(self.alloc);
-        let (routes, _) = news_of(self.alloc, &mut known, router.routes())?;
+        let news = news_of(self.alloc, &mut known, router.routes())?;
         self.known.push(known)?;
         let config = router.config();
         Ok(RouterRecord {
@@ -72,7 +88,7 @@ impl<'a, W: Write> Tracer<'a, W> {
             interfaces: interface_records(self.alloc, lab, number, config)?,
             prefixes: owned_records(self.alloc, config)?,
             timers: timers_of(lab, number),
-            routes: route_records(self.alloc, &routes)?,
+            routes: news.routes,
         })
     }
 
@@ -94,13 +110,12 @@ impl<'a, W: Write> Tracer<'a, W> {
         answer: &Answer,
         first: usize,
     ) -> Result<EventRecord, AllocError>
-        ensures { IfOk result (λ r. r.timers ≡ option_map timers_in (slice_get lab.now.world.states r.router)) }
+        ensures timers { IfOk result (λ r. r.timers ≡ option_map timers_in (slice_get lab.now.world.states r.router)) }
+        ensures told { IfOk result (λ r. IfSome (slice_get self.old.known.items r.router) (λ table. IfSome (slice_get lab.now.world.states r.router) (λ state.
+            IsTold table r.routes.items r.gone.items state.table))) }
     {
         let router = router_of(event);
-        let (routes, gone) = match (self.known.get_mut(router), lab.router(router)) {
-            (Some(known), Some(router)) => news_of(self.alloc, known, router.routes())?,
-            _ => (Vec::new(self.alloc), Vec::new(self.alloc)),
-        };
+        let news = news_at(self.alloc, &mut self.known, lab, router)?;
         Ok(EventRecord {
             line: self.line,
             record: "event",
@@ -112,8 +127,8 @@ impl<'a, W: Write> Tracer<'a, W> {
             changes: change_records(self.alloc, answer.changes.as_slice())?,
             sent: sent_since(self.alloc, lab, first)?,
             timers: timers_of(lab, router),
-            routes: route_records(self.alloc, &routes)?,
-            gone: shown_prefixes(self.alloc, &gone)?,
+            routes: news.routes,
+            gone: news.gone,
         })
     }
 

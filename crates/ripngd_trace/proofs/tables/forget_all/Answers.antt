@@ -1,4 +1,4 @@
-use Rattle.std.proofs.Common.{◌≡◌, ◌∙◌, ◌≤◌, ◌+◌, ◌∷◌, None, List, ap, sym, refl, subst, drop, length}
+use Rattle.std.proofs.Common.{◌≡◌, ◌∙◌, ◌≤◌, ◌+◌, ◌∷◌, List, ap, sym, subst, drop, length}
 use Rattle.std.specs.FinMap as map_of
 use Rattle.std.specs.FinMap.{find}
 use Rattle.std.proofs.lemmas.List.{drop_more, drop_all}
