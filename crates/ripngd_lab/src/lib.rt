@@ -2,14 +2,20 @@
 #![tactic(auto)]
 
 mod line;
+mod printer;
 mod printing;
 mod round;
 mod script;
 mod session;
+mod stepping;
 mod stop;
+mod watching;
 mod words;
 
-pub use script::lab;
+pub use printing::{print_routes, print_sent};
+pub use script::{lab, watched};
+pub use stop::Refusal;
+pub use watching::Watch;
 
 #[cfg(test)]
 mod tests;

@@ -2,10 +2,12 @@
 
 ghost use Rattle.std.specs.Prelude.{◌≡◌, ℕ, All, IfOk, length};
 
+use crate::stepping::{OnSkip, deliver_since, happen, step_rounds};
 use crate::stop::Stop;
+use crate::watching::Watch;
 use crate::words::BadLine;
-use ripng_world::{Event, Lab, LabError, Round};
-use route_table::{Moment, RouteStore};
+use ripng_world::{Event, Lab, Round};
+use route_table::{Moment, TrieRoutes};
 use std::alloc::{AllocError, Global};
 
 /// The most rounds of one line.
@@ -19,21 +21,29 @@ type Ticks = (Moment, Vec<(Moment, u32)>);
 /// one moment.
 ///
 /// # Errors
-/// Want of memory. What was done before it stays done.
-pub fn make_round<S: RouteStore>(lab: &mut Lab<S>, now: Moment) -> Result<(), Stop> {
+/// Want of memory, or of the witness. What was done before it stays done.
+pub fn make_round<V: Watch>(
+    lab: &mut Lab<TrieRoutes>,
+    now: Moment,
+    watch: &mut V,
+) -> Result<(), Stop> {
     let first = lab.sent().len();
-    tick_all(lab, now)?;
+    tick_all(lab, now, watch)?;
+    if watch.sees_rounds() {
+        return deliver_since(lab, first, now, OnSkip::GoOn, watch);
+    }
     lab.deliver_since(first, now)?;
     Ok(())
 }
 
-fn tick_all<S: RouteStore>(lab: &mut Lab<S>, now: Moment) -> Result<(), LabError> {
+fn tick_all<V: Watch>(lab: &mut Lab<TrieRoutes>, now: Moment, watch: &mut V) -> Result<(), Stop> {
     for router in 0..lab.routers() {
-        let _ = lab.step(&Event::Tick {
+        let tick = Event::Tick {
             router,
             now,
             word: 0,
-        })?;
+        };
+        let _ = happen(lab, &tick, watch)?;
     }
     Ok(())
 }
@@ -62,12 +72,16 @@ fn moment_after(now: Moment, gap: u64, gaps: u64) -> Option<Moment> {
 /// these ticks sent is delivered as in one round alone.
 ///
 /// # Errors
-/// A regular update that is not due, or want of memory. What was done before it stays done.
-pub fn make_rounds<S: RouteStore>(
+/// A regular update that is not due, want of memory, or of the witness. What was done before it stays done.
+pub fn make_rounds<V: Watch>(
     alloc: Global,
-    lab: &mut Lab<S>,
+    lab: &mut Lab<TrieRoutes>,
     moments: &[Moment],
+    watch: &mut V,
 ) -> Result<(), Stop> {
+    if watch.sees_rounds() {
+        return step_rounds(lab, moments, watch);
+    }
     let ticks = ticks_at(alloc, lab.routers(), moments)?;
     let rounds = rounds_of(alloc, &ticks)?;
     lab.run_rounds(&rounds)?;

@@ -1,14 +1,14 @@
 //! A script that runs: its routers are listed until they start, and then live in a network.
 
 use crate::line::Line;
-use crate::printing::{print_routes, print_sent};
 use crate::round::{make_round, make_rounds};
+use crate::stepping::happen;
 use crate::stop::Stop;
+use crate::watching::Watch;
 use crate::words::BadLine;
 use ripng_world::{Event, Lab, NetConfig, Node};
 use route_table::{Moment, TrieRoutes};
 use std::alloc::Global;
-use std::io::Write;
 use std::mem;
 
 /// How far a script has come.
@@ -30,13 +30,15 @@ impl Session {
     ///
     /// # Errors
     /// Why the script ends here. What was done before it stays done.
-    pub fn obey<W: Write>(&mut self, alloc: Global, line: Line, out: &mut W) -> Result<(), Stop> {
+    pub fn obey<V: Watch>(&mut self, alloc: Global, line: Line, watch: &mut V) -> Result<(), Stop> {
         match self {
-            Session::Running(lab) => run(alloc, lab, line, out),
+            Session::Running(lab) => run(alloc, lab, line, watch),
             Session::Listing(nodes) => match line {
                 Line::Cold { now } => {
                     let nodes = mem::replace(nodes, Vec::new(alloc));
-                    *self = Session::Running(start(alloc, nodes, now)?);
+                    let lab = start(alloc, nodes, now)?;
+                    watch.started(&lab, now)?;
+                    *self = Session::Running(lab);
                     Ok(())
                 }
                 line => list(alloc, nodes, line),
@@ -72,32 +74,27 @@ fn start(alloc: Global, nodes: Vec<Node>, now: Moment) -> Result<Lab<TrieRoutes>
     Ok(Lab::cold(alloc, network, moments.as_slice())?)
 }
 
-// A line about routers that run.
-fn run<W: Write>(
+// A line about routers that run. What a router answers is for the witness alone.
+fn run<V: Watch>(
     alloc: Global,
     lab: &mut Lab<TrieRoutes>,
     line: Line,
-    out: &mut W,
+    watch: &mut V,
 ) -> Result<(), Stop> {
     match line {
-        Line::Event(event) => happen(lab, &event),
-        Line::Stranger { router, datagram } => happen(
-            lab,
-            &Event::Stranger {
-                router,
-                arrival: datagram.arrival(),
-            },
-        ),
-        Line::Round { now } => make_round(lab, now),
-        Line::Rounds { moments } => make_rounds(alloc, lab, &moments),
-        Line::Print => Ok(print_routes(lab, out)?),
-        Line::Sent => Ok(print_sent(alloc, lab, out)?),
+        Line::Event(event) => {
+            let _ = happen(lab, &event, watch)?;
+            Ok(())
+        }
+        Line::Stranger { router, datagram } => {
+            let arrival = datagram.arrival();
+            let _ = happen(lab, &Event::Stranger { router, arrival }, watch)?;
+            Ok(())
+        }
+        Line::Round { now } => make_round(lab, now, watch),
+        Line::Rounds { moments } => make_rounds(alloc, lab, &moments, watch),
+        Line::Print => Ok(watch.routes_asked(lab)?),
+        Line::Sent => Ok(watch.datagrams_asked(lab)?),
         _ => Err(Stop::from(BadLine)),
     }
-}
-
-// What the router that moves answers is not printed.
-fn happen(lab: &mut Lab<TrieRoutes>, event: &Event<'_>) -> Result<(), Stop> {
-    let _ = lab.step(event)?;
-    Ok(())
 }

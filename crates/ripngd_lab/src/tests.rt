@@ -1,8 +1,11 @@
 //! Whole scripts with what they print.
 
+mod changing;
+mod random_rounds;
 mod reading;
 mod rounds;
 mod walks;
+mod words;
 
 use crate::lab;
 use std::io::Write;

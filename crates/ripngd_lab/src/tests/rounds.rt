@@ -80,8 +80,8 @@ const ENDS_PORTS: [Port; 6] = [
     (3, 0, "fe80::d0", 1, 2),
 ];
 
-// A script up to its line `cold 0`.
-fn until_cold(script: &str) -> &str {
+/// A script up to its line `cold 0`.
+pub fn until_cold(script: &str) -> &str {
     match script.split_once("round") {
         Some((start, _)) => start,
         None => script,
@@ -167,8 +167,8 @@ fn printed(alloc: Global, prints: &str, from: (usize, &str)) -> Result<Option<us
     Ok(None)
 }
 
-// Whether so many rounds find exactly the least costs of walks with so many hops, for each router and owned prefix.
-fn find_least(
+/// Whether so many rounds find exactly the least costs of walks with so many hops, for each router and owned prefix.
+pub fn find_least(
     alloc: Global,
     start: &str,
     ports: &[Port],
@@ -180,7 +180,7 @@ fn find_least(
     let mut out = Vec::new(alloc);
     let mut same = lab(alloc, script.as_slice(), &mut out)?;
     let prints = str::from_utf8(out.as_slice())?;
-    for router in 0..4 {
+    for router in 0..5 {
         for owner in owners {
             let from = (router, owner.1);
             let found = printed(alloc, prints, from)?;

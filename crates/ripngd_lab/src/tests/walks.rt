@@ -6,7 +6,8 @@ use std::alloc::{AllocError, Global};
 use std::str;
 use std::test::Fail;
 
-/// An interface: its router, its number, its address, its cost and its link.
+/// An interface: its router, its number, its address, its cost and its link. One whose cost was changed stands there with
+/// each.
 pub type Port = (usize, usize, &'static str, usize, u16);
 
 /// An owner of a prefix: its router, the prefix and the tag.
@@ -112,15 +113,14 @@ pub fn walks_to(
 
 // Whether some walk begins over the interface at the neighbor, and has that cost.
 fn begins(walks: &Walks, ports: &[Port], here: (usize, usize), from: &str, metric: usize) -> bool {
-    let Some(port) = ports.iter().find(|port| (port.0, port.1) == here) else {
-        return false;
-    };
     let Some(sender) = ports.iter().find(|port| port.2 == from) else {
         return false;
     };
-    sender.4 == port.4
+    ports.iter().any(|port| (port.0, port.1) == here
+        && sender.4 == port.4
         && sender.0 != port.0
-        && walks.iter().any(|walk| walk.0 == sender.0 && walk.1.checked_add(port.3) == Some(metric))
+        && walks.iter().any(|walk| walk.0 == sender.0
+            && walk.1.checked_add(port.3) == Some(metric)))
 }
 
 // Whether a learned route is backed by a walk to an owner of its prefix with its tag.
@@ -143,8 +143,13 @@ fn is_learned(
     Ok(false)
 }
 
-// Whether the route of a printed line is backed by a walk.
-fn is_backed(alloc: Global, line: &str, ports: &[Port], owners: &[Owner]) -> Result<bool, Fail> {
+/// Whether the route of a printed line is backed by a walk.
+pub fn is_backed(
+    alloc: Global,
+    line: &str,
+    ports: &[Port],
+    owners: &[Owner],
+) -> Result<bool, Fail> {
     let words: Vec<&str> = line.split(' ').collect(alloc)?;
     match words.as_slice() {
         [router, prefix, "metric", "1", "tag", tag, "own"] => {

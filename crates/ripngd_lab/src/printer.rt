@@ -1,0 +1,64 @@
+//! The witness of a script that prints what its lines ask for.
+
+use crate::printing::{print_routes, print_sent};
+use crate::stop::Refusal;
+use crate::watching::Watch;
+use ripng_world::{Event, Lab};
+use route_table::{Moment, TrieRoutes};
+use router_core::Answer;
+use std::alloc::Global;
+use std::io::{self, Write};
+
+/// Prints the routes and the datagrams that lines ask for, and the line that is refused. Of events it says nothing.
+#[derive(Drop)]
+pub struct Printer<'a, W: Write> {
+    alloc: Global,
+    line: usize,
+    out: &'a mut W,
+}
+
+impl<'a, W: Write> Printer<'a, W> {
+    pub fn new(alloc: Global, out: &'a mut W) -> Printer<'a, W> {
+        Printer {
+            alloc,
+            line: 0,
+            out,
+        }
+    }
+}
+
+impl<'a, W: Write> Watch for Printer<'a, W> {
+    fn sees_rounds(&self) -> bool {
+        false
+    }
+
+    fn at_line(&mut self, number: usize) {
+        self.line = number;
+    }
+
+    fn started(&mut self, _lab: &Lab<TrieRoutes>, _now: Moment) -> io::Result<()> {
+        Ok(())
+    }
+
+    fn happened(
+        &mut self,
+        _lab: &Lab<TrieRoutes>,
+        _event: &Event<'_>,
+        _answer: &Answer,
+        _first: usize,
+    ) -> io::Result<()> {
+        Ok(())
+    }
+
+    fn routes_asked(&mut self, lab: &Lab<TrieRoutes>) -> io::Result<()> {
+        print_routes(lab, self.out)
+    }
+
+    fn datagrams_asked(&mut self, lab: &Lab<TrieRoutes>) -> io::Result<()> {
+        print_sent(self.alloc, lab, self.out)
+    }
+
+    fn refused(&mut self, why: &Refusal) -> io::Result<()> {
+        writeln!(self.out, "line {} refused {why}", self.line)
+    }
+}

@@ -1,0 +1,90 @@
+//! Records of what happened.
+
+use crate::network::addr_of;
+use crate::records::{Happened, SenderRecord};
+use crate::shown::Shown;
+use ripng_world::{Event, Lab};
+use route_table::{Moment, RouteStore};
+use router_core::{Arrival, Change};
+use std::alloc::{AllocError, Global};
+
+/// The router that moves at an event.
+pub fn router_of(event: &Event<'_>) -> usize {
+    match event {
+        Event::Deliver { router, .. }
+        | Event::Stranger { router, .. }
+        | Event::Tick { router, .. }
+        | Event::Restart { router, .. }
+        | Event::Reconfigure { router, .. } => *router,
+    }
+}
+
+/// The moment of an event.
+pub fn moment_of(event: &Event<'_>) -> Moment {
+    match event {
+        Event::Stranger { arrival, .. } => arrival.now,
+        Event::Deliver { now, .. }
+        | Event::Tick { now, .. }
+        | Event::Restart { now, .. }
+        | Event::Reconfigure { now, .. } => *now,
+    }
+}
+
+// The router that sent a datagram, if it was sent.
+fn sender_of<S: RouteStore>(lab: &Lab<S>, datagram: usize) -> Option<SenderRecord> {
+    match lab.sent().get(datagram) {
+        Some(sent) => Some(SenderRecord {
+            router: sent.router,
+            iface: sent.iface,
+            addr: addr_of(lab, sent.router, sent.iface).map(Shown),
+        }),
+        None => None,
+    }
+}
+
+// A datagram of no router.
+fn stranger(alloc: Global, arrival: &Arrival<'_>) -> Result<Happened, AllocError> {
+    Ok(Happened::Stranger {
+        iface: arrival.iface,
+        source: arrival.source,
+        port: arrival.source_port,
+        hop_limit: arrival.hop_limit,
+        group: arrival.to_group,
+        bytes: hex::encode(alloc, arrival.bytes)?,
+    })
+}
+
+// A change of a router's configuration.
+fn changed(change: &Change) -> Happened {
+    match *change {
+        Change::Cost { iface, cost } => Happened::Cost { iface, cost },
+        Change::Own { prefix, tag } => Happened::Gain { prefix, tag },
+        Change::Disown { prefix } => Happened::Disown { prefix },
+    }
+}
+
+/// An event, but for its router and its moment.
+///
+/// # Errors
+/// Want of memory.
+pub fn happened<S: RouteStore>(
+    alloc: Global,
+    lab: &Lab<S>,
+    event: &Event<'_>,
+) -> Result<Happened, AllocError> {
+    match event {
+        Event::Deliver {
+            datagram,
+            iface,
+            ..
+        } => Ok(Happened::Deliver {
+            datagram: *datagram,
+            iface: *iface,
+            sender: sender_of(lab, *datagram),
+        }),
+        Event::Stranger { arrival, .. } => stranger(alloc, arrival),
+        Event::Tick { word, .. } => Ok(Happened::Tick { word: *word }),
+        Event::Restart { .. } => Ok(Happened::Restart),
+        Event::Reconfigure { change, .. } => Ok(changed(change)),
+    }
+}

@@ -1,0 +1,53 @@
+//! Records of a network: its routers as they were asked to be.
+
+use crate::records::{InterfaceRecord, OwnedRecord};
+use prefix6::Addr6;
+use ripng_world::Lab;
+use route_table::RouteStore;
+use router_core::RouterConfig;
+use std::alloc::{AllocError, Global};
+
+/// The address of an interface, if the network has it.
+pub fn addr_of<S: RouteStore>(lab: &Lab<S>, router: usize, iface: usize) -> Option<Addr6> {
+    match lab.router(router)?.config().interfaces().get(iface) {
+        Some(interface) => Some(interface.addr),
+        None => None,
+    }
+}
+
+/// The interfaces of a router, in order.
+///
+/// # Errors
+/// Want of memory.
+pub fn interface_records<S: RouteStore>(
+    alloc: Global,
+    lab: &Lab<S>,
+    router: usize,
+    config: &RouterConfig,
+) -> Result<Vec<InterfaceRecord>, AllocError> {
+    let mut records = Vec::new(alloc);
+    for (number, interface) in config.interfaces().iter().enumerate() {
+        records.push(InterfaceRecord {
+            addr: interface.addr,
+            cost: interface.cost,
+            mtu: interface.mtu,
+            link: lab.link(router, number),
+        })?;
+    }
+    Ok(records)
+}
+
+/// The prefixes that a router owns, in order.
+///
+/// # Errors
+/// Want of memory.
+pub fn owned_records(alloc: Global, config: &RouterConfig) -> Result<Vec<OwnedRecord>, AllocError> {
+    let mut records = Vec::new(alloc);
+    for (prefix, tag) in config.prefixes() {
+        records.push(OwnedRecord {
+            prefix: *prefix,
+            tag: *tag,
+        })?;
+    }
+    Ok(records)
+}

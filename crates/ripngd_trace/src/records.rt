@@ -1,0 +1,253 @@
+//! The records of a trace. Each is a line of JSON, whose members have the names of the fields and stand in their order.
+//! Moments and deadlines are in milliseconds, metrics and costs in hops; all numbers count from 0, but for lines.
+
+use crate::shown::{Shown, as_text, as_texts};
+use prefix6::{Addr6, Prefix};
+use serde::Serialize;
+
+/// The routers have started: the network, each router's first state, and what they sent.
+#[derive(Drop, Serialize)]
+pub struct StartRecord {
+    pub line: usize,
+    pub record: &'static str,
+    /// The moment of the cold start.
+    pub now: u64,
+    pub routers: Vec<RouterRecord>,
+    pub sent: Vec<SentRecord>,
+}
+
+/// A router that has started.
+#[derive(Drop, Serialize)]
+pub struct RouterRecord {
+    /// Whether it only listens.
+    pub quiet: bool,
+    pub interfaces: Vec<InterfaceRecord>,
+    pub prefixes: Vec<OwnedRecord>,
+    /// None only where the network has no such router.
+    pub timers: Option<Timers>,
+    pub routes: Vec<RouteRecord>,
+}
+
+/// An interface of a router.
+#[derive(Clone, Copy, Serialize)]
+pub struct InterfaceRecord {
+    #[serde(serialize_with = "as_text")]
+    pub addr: Addr6,
+    pub cost: u8,
+    pub mtu: u32,
+    /// None only where the network has no such interface.
+    pub link: Option<u16>,
+}
+
+/// A prefix that a router owns.
+#[derive(Clone, Copy, Serialize)]
+pub struct OwnedRecord {
+    #[serde(serialize_with = "as_text")]
+    pub prefix: Prefix,
+    pub tag: u16,
+}
+
+/// An event was done: what a router was given, what it answered, and what it then was.
+#[derive(Drop, Serialize)]
+pub struct EventRecord {
+    pub line: usize,
+    pub record: &'static str,
+    /// The router that moves.
+    pub router: usize,
+    /// The moment of the event; a router takes a moment before its last one for that.
+    pub now: u64,
+    pub event: Happened,
+    /// Why an arrival was refused; then all lists are empty.
+    pub fault: Option<FaultRecord>,
+    pub notes: Vec<NoteRecord>,
+    pub changes: Vec<ChangeRecord>,
+    pub sent: Vec<SentRecord>,
+    pub timers: Option<Timers>,
+    /// The routes that were not there before, or are not as they were.
+    pub routes: Vec<RouteRecord>,
+    /// The prefixes that had a route and have none.
+    #[serde(serialize_with = "as_texts")]
+    pub gone: Vec<Prefix>,
+}
+
+/// What happened, and from where.
+#[derive(Drop, Serialize)]
+#[serde(tag = "kind", rename_all = "lowercase")]
+pub enum Happened {
+    /// A datagram of the network came.
+    Deliver {
+        datagram: usize,
+        iface: usize,
+        /// The router that sent it.
+        sender: Option<SenderRecord>,
+    },
+    /// A datagram of no router came.
+    Stranger {
+        iface: usize,
+        #[serde(serialize_with = "as_text")]
+        source: Addr6,
+        port: u16,
+        hop_limit: u8,
+        /// Whether it came to the group of all routers.
+        group: bool,
+        /// In hexadecimal digits.
+        bytes: String,
+    },
+    Tick {
+        word: u32,
+    },
+    Restart,
+    Cost {
+        iface: usize,
+        cost: u8,
+    },
+    Gain {
+        #[serde(serialize_with = "as_text")]
+        prefix: Prefix,
+        tag: u16,
+    },
+    #[serde(rename = "drop")]
+    Disown {
+        #[serde(serialize_with = "as_text")]
+        prefix: Prefix,
+    },
+}
+
+/// From where a datagram of the network came.
+#[derive(Clone, Copy, Serialize)]
+pub struct SenderRecord {
+    pub router: usize,
+    pub iface: usize,
+    /// The address of that interface.
+    pub addr: Option<Shown<Addr6>>,
+}
+
+/// The fault of an arrival, by the tables of docs/PROTOCOL.md.
+#[derive(Clone, Copy, Debug, PartialEq, Eq, Serialize)]
+pub struct FaultRecord {
+    pub number: u8,
+    pub name: &'static str,
+}
+
+/// Why an entry of a Response was skipped.
+#[derive(Clone, Copy, Debug, PartialEq, Eq, Serialize)]
+pub struct NoteRecord {
+    pub entry: usize,
+    pub number: u8,
+    pub name: &'static str,
+}
+
+/// A change of the forwarding table.
+#[derive(Clone, Copy, Serialize)]
+#[serde(tag = "change", rename_all = "lowercase")]
+pub enum ChangeRecord {
+    /// The prefix has this entry from now on.
+    Add {
+        #[serde(serialize_with = "as_text")]
+        prefix: Prefix,
+        metric: u8,
+        /// None for a prefix of the router's own.
+        via: Option<HopRecord>,
+    },
+    /// The prefix has no entry from now on.
+    Del {
+        #[serde(serialize_with = "as_text")]
+        prefix: Prefix,
+    },
+}
+
+/// Where packets go.
+#[derive(Clone, Copy, Serialize)]
+pub struct HopRecord {
+    pub iface: usize,
+    #[serde(serialize_with = "as_text")]
+    pub next_hop: Addr6,
+}
+
+/// A datagram that was sent.
+#[derive(Drop, Serialize)]
+pub struct SentRecord {
+    /// Its number among all that were ever sent.
+    pub datagram: usize,
+    pub router: usize,
+    pub iface: usize,
+    /// To whom; none if to the group of all routers.
+    pub peer: Option<PeerRecord>,
+    /// In hexadecimal digits.
+    pub bytes: String,
+}
+
+/// One asker.
+#[derive(Clone, Copy, Serialize)]
+pub struct PeerRecord {
+    #[serde(serialize_with = "as_text")]
+    pub addr: Addr6,
+    pub port: u16,
+}
+
+/// The timers of a router.
+#[derive(Clone, Copy, Serialize)]
+pub struct Timers {
+    /// The moment of its last step.
+    pub last: u64,
+    /// When its next regular update is due.
+    pub regular: u64,
+    /// Until when it holds triggered updates.
+    pub hold: u64,
+    /// When the next route is lost or deleted, if one ages.
+    pub due: Option<DueRecord>,
+}
+
+/// When a route is due to be lost or deleted.
+#[derive(Clone, Copy, Serialize)]
+pub struct DueRecord {
+    pub until: u64,
+    /// The first prefix whose route is due then.
+    #[serde(serialize_with = "as_text")]
+    pub prefix: Prefix,
+}
+
+/// A route of a router.
+#[derive(Clone, Copy, Serialize)]
+pub struct RouteRecord {
+    #[serde(serialize_with = "as_text")]
+    pub prefix: Prefix,
+    /// 1 to 15, or 16 for unreachable.
+    pub metric: u8,
+    pub tag: u16,
+    /// None for a route of the router's own.
+    pub gateway: Option<GatewayRecord>,
+    /// When the route is lost, or at metric 16 deleted; none for one that never ages.
+    pub until: Option<u64>,
+    /// Whether the next triggered update is to tell it.
+    pub marked: bool,
+}
+
+/// Where a route was learned.
+#[derive(Clone, Copy, Serialize)]
+pub struct GatewayRecord {
+    pub iface: usize,
+    /// The router that told it.
+    #[serde(serialize_with = "as_text")]
+    pub from: Addr6,
+    /// Where packets go.
+    #[serde(serialize_with = "as_text")]
+    pub next_hop: Addr6,
+}
+
+/// What a line of `print` or `sent` prints.
+#[derive(Drop, Serialize)]
+pub struct PrintRecord<'a> {
+    pub line: usize,
+    pub record: &'static str,
+    pub prints: Vec<&'a str>,
+}
+
+/// A line was refused, and ended the script.
+#[derive(Drop, Serialize)]
+pub struct RefusedRecord<'a> {
+    pub line: usize,
+    pub record: &'static str,
+    /// What stands behind `line L refused ` where the script is run.
+    pub why: &'a str,
+}

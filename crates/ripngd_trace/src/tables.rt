@@ -1,0 +1,245 @@
+//! Records of routers: their timers, and those of their routes that a reader does not know yet.
+
+ghost use Rattle.std.specs.Prelude.{◌≡◌, None, IfOk, IsTrue, OnOk, map, option_map, slice_get};
+ghost use Rattle.std.specs.FinMap as map_of;
+ghost use Rattle.prefix6.specs.Prefix.{Prefix6};
+ghost use Rattle.route_table.specs.Due.{next_due};
+ghost use Rattle.route_table.specs.Route.{deadline};
+ghost use Rattle.route_table.specs.Table.{Table};
+ghost use Rattle.ripngd_trace.specs.Told.{IsTold, due_in, gateway_of, route_record, timers_in, with_routes, without};
+
+use crate::records::{DueRecord, GatewayRecord, RouteRecord, Timers};
+use prefix6::Prefix;
+use ripng_world::Lab;
+use route_table::{Origin, Route, RouteStore};
+use router_core::Router;
+use std::alloc::{AllocError, Global};
+
+// Where a route was learned, if it is not the router's own.
+fn gateway_of(origin: Origin) -> Option<GatewayRecord>
+    ensures { result ≡ gateway_of origin }
+{
+    match origin {
+        Origin::Own => None,
+        Origin::Learned {
+            iface,
+            from,
+            next_hop,
+        } => Some(GatewayRecord {
+            iface,
+            from,
+            next_hop,
+        }),
+    }
+}
+
+// The deadline of a route that ages.
+fn until_of(route: &Route) -> Option<u64>
+    ensures { result ≡ deadline route.now }
+{
+    match route.deadline() {
+        Some(until) => Some(until.ms()),
+        None => None,
+    }
+}
+
+/// A route as a record.
+pub fn route_record(prefix: Prefix, route: &Route) -> RouteRecord
+    ensures { result ≡ route_record prefix route.now }
+{
+    RouteRecord {
+        prefix,
+        metric: route.metric(),
+        tag: route.tag(),
+        gateway: gateway_of(route.origin()),
+        until: until_of(route),
+        marked: route.is_changed(),
+    }
+}
+
+// What is due next.
+fn due_of<S: RouteStore>(router: &Router<S>) -> Option<DueRecord>
+    ensures { result ≡ due_in router.now }
+{
+    match router.next_due() {
+        Some((until, prefix)) => Some(DueRecord {
+            until: until.ms(),
+            prefix,
+        }),
+        None => None,
+    }
+}
+
+// The timers of a router.
+fn timers_in<S: RouteStore>(router: &Router<S>) -> Timers
+    ensures { result ≡ timers_in router.now }
+{
+    Timers {
+        last: router.last().ms(),
+        regular: router.regular().ms(),
+        hold: router.hold().ms(),
+        due: due_of(router),
+    }
+}
+
+/// The timers of a router of a lab, if there is such a router.
+pub fn timers_of<S: RouteStore>(lab: &Lab<S>, router: usize) -> Option<Timers>
+    ensures { result ≡ option_map timers_in (slice_get lab.now.world.states router) }
+{
+    match lab.router(router) {
+        Some(router) => Some(timers_in(router)),
+        None => None,
+    }
+}
+
+// All routes of a table, in order.
+fn routes_in<S: RouteStore>(alloc: Global, table: &S) -> Result<Vec<(Prefix, Route)>, AllocError>
+    ensures { IfOk result (λ routes. routes.items ≡ map_of.entries (S.table table.now)) }
+{
+    let mut routes = Vec::with_capacity(alloc, table.len())?;
+    table.list(&mut routes);
+    Ok(routes)
+}
+
+// Takes a prefix out of a known table if a table has no route to it, and adds it to those that are gone.
+fn forget<S: RouteStore>(
+    known: &mut S,
+    table: &S,
+    prefix: Prefix,
+    gone: &mut Vec<Prefix>,
+) -> Result<(), AllocError>
+    ensures told { OnOk result ((t : Table) → S.table known.old ≡ without t gone.old.items → S.table known.new ≡ without t gone.new.items) }
+    ensures gone { OnOk result (map_of.get (S.table table.now) prefix ≡ None → map_of.get (S.table known.new) prefix ≡ None) }
+    ensures fewer { OnOk result ((p : Prefix6) → map_of.get (S.table known.old) p ≡ None → map_of.get (S.table known.new) p ≡ None) }
+{
+    if table.get(&prefix).is_some() {
+        return Ok(());
+    }
+    if known.get(&prefix).is_none() {
+        return Ok(());
+    }
+    gone.push(prefix)?;
+    known.remove(&prefix);
+    Ok(())
+}
+
+// Takes out of a known table the prefixes that a table has no route to. Says which, in order.
+fn forget_all<S: RouteStore>(
+    alloc: Global,
+    known: &mut S,
+    table: &S,
+) -> Result<Vec<Prefix>, AllocError>
+    ensures told { IfOk result (λ gone. S.table known.new ≡ without (S.table known.old) gone.items) }
+    ensures gone { OnOk result ((p : Prefix6) → map_of.get (S.table table.now) p ≡ None → map_of.get (S.table known.new) p ≡ None) }
+{
+    let entries = routes_in(alloc, known)?;
+    let mut gone = Vec::new(alloc);
+    for entry in &entries {
+        forget(known, table, entry.0, &mut gone)?;
+    }
+    Ok(gone)
+}
+
+// Puts a route into a table, whether it has one to the prefix or not.
+fn put<S: RouteStore>(table: &mut S, prefix: Prefix, route: Route) -> Result<(), AllocError>
+    ensures { OnOk result (S.table table.new ≡ map_of.insert (S.table table.old) prefix route) }
+{
+    if table.get(&prefix).is_some() {
+        table.replace(&prefix, route);
+        return Ok(());
+    }
+    match table.add(prefix, route) {
+        Ok(()) => Ok(()),
+        Err(_) => Err(AllocError),
+    }
+}
+
+// Whether two routes are the same.
+fn is_same(held: &Route, route: &Route) -> bool
+    ensures { IsTrue result → held.now ≡ route.now }
+{
+    held.metric() == route.metric()
+        && held.tag() == route.tag()
+        && held.is_changed() == route.is_changed()
+        && held.origin() == route.origin()
+        && held.clock() == route.clock()
+}
+
+// Puts a route into a known table, and adds it to the news unless the table has just that route to the prefix.
+fn learn<S: RouteStore>(
+    known: &mut S,
+    prefix: Prefix,
+    route: Route,
+    news: &mut Vec<(Prefix, Route)>,
+) -> Result<(), AllocError>
+    ensures told { OnOk result ((t : Table) → S.table known.old ≡ with_routes t news.old.items → S.table known.new ≡ with_routes t news.new.items) }
+    ensures held { OnOk result (S.table known.new ≡ map_of.insert (S.table known.old) prefix route) }
+{
+    if let Some(held) = known.get(&prefix)
+        && is_same(&held, &route)
+    {
+        return Ok(());
+    }
+    news.push((prefix, route))?;
+    put(known, prefix, route)?;
+    Ok(())
+}
+
+// Puts all routes of a table into a known one. Says which are news, in order.
+fn learn_all<S: RouteStore>(
+    alloc: Global,
+    known: &mut S,
+    table: &S,
+) -> Result<Vec<(Prefix, Route)>, AllocError>
+    ensures told { IfOk result (λ news. S.table known.new ≡ with_routes (S.table known.old) news.items) }
+    ensures all { OnOk result (S.table known.new ≡ with_routes (S.table known.old) (map_of.entries (S.table table.now))) }
+{
+    let entries = routes_in(alloc, table)?;
+    let mut news = Vec::new(alloc);
+    for entry in &entries {
+        learn(known, entry.0, entry.1, &mut news)?;
+    }
+    Ok(news)
+}
+
+// Routes as records.
+fn route_records(alloc: Global, routes: &[(Prefix, Route)]) -> Result<Vec<RouteRecord>, AllocError>
+    ensures { IfOk result (λ records. records.items ≡ map (λ e. route_record e.0 e.1) routes.now) }
+{
+    routes
+        .iter()
+        .map(|entry| route_record(entry.0, &entry.1))
+        .collect(alloc)
+}
+
+/// What a reader that knows a table has to be told of what it is now.
+#[derive(Drop)]
+pub struct News {
+    /// The routes to put into it, once the prefixes are taken out.
+    pub routes: Vec<RouteRecord>,
+    pub gone: Vec<Prefix>,
+}
+
+impl News {
+    /// Nothing.
+    pub fn none(alloc: Global) -> News {
+        News {
+            routes: Vec::new(alloc),
+            gone: Vec::new(alloc),
+        }
+    }
+}
+
+/// What a reader that knows a table has to be told of what it is now. Then the table is known.
+///
+/// # Errors
+/// Want of memory.
+pub fn news_of<S: RouteStore>(alloc: Global, known: &mut S, table: &S) -> Result<News, AllocError>
+    ensures known { OnOk result (S.table known.new ≡ S.table table.now) }
+    ensures told { IfOk result (λ news. IsTold (S.table known.old) news.routes.items news.gone.items (S.table table.now)) }
+{
+    let gone = forget_all(alloc, known, table)?;
+    let learned = learn_all(alloc, known, table)?;
+    let routes = route_records(alloc, &learned)?;
+    Ok(News { routes, gone })
+}
