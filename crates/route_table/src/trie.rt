@@ -41,10 +41,10 @@ pub enum Link {
 #[derive(Drop)]
 pub struct Fork {
     prefix: Prefix,
-    summary: Summary,
-    own: Option<Box<Entry>>,
     low: Link,
     high: Link,
+    own: Option<Box<Entry>>,
+    summary: Summary,
 }
 
 impl Model for Fork {
@@ -162,17 +162,21 @@ pub fn get(link: &Link, key: &Prefix) -> Option<Route>
 fn seek<'a>(link: &'a Link, key: &Prefix) -> Option<&'a Entry>
     ensures { option_map (λ (e : Prefix6 × RouteValue). e.1) (option_copied result) ≡ find prefix_cmp key.now (linked link.now) }
 {
-    match link {
-        Link::Empty => None,
-        Link::Leaf(leaf) => at_leaf(leaf, key),
-        Link::Fork(fork) => {
-            let fork: &Fork = fork;
-            if key.len() <= fork.prefix.len() {
-                at_own(&fork.own, key)
-            } else if fork.prefix.is_before_middle(key) {
-                seek(&fork.low, key)
-            } else {
-                seek(&fork.high, key)
+    let mut at = link;
+    loop {
+        match at {
+            Link::Empty => return None,
+            Link::Leaf(leaf) => return at_leaf(leaf, key),
+            Link::Fork(fork) => {
+                let fork: &Fork = fork;
+                if key.len() <= fork.prefix.len() {
+                    return at_own(&fork.own, key);
+                }
+                if fork.prefix.is_before_middle(key) {
+                    at = &fork.low;
+                } else {
+                    at = &fork.high;
+                }
             }
         }
     }
@@ -312,42 +316,34 @@ pub fn replace(link: &mut Link, key: &Prefix, route: &Route) -> bool
             let fork: &mut Fork = fork;
             if *key == fork.prefix {
                 let changed = set_own(&mut fork.own, key, route);
-                let summary = refreshed(fork.summary, changed, &fork.own, &fork.low, &fork.high);
-                let same = summary.is_same(&fork.summary);
-                fork.summary = summary;
-                !same
+                renew(&mut fork.summary, changed, &fork.own, &fork.low, &fork.high)
             } else if fork.prefix.is_before_middle(key) {
                 let changed = replace(&mut fork.low, key, route);
-                let summary = refreshed(fork.summary, changed, &fork.own, &fork.low, &fork.high);
-                let same = summary.is_same(&fork.summary);
-                fork.summary = summary;
-                !same
+                renew(&mut fork.summary, changed, &fork.own, &fork.low, &fork.high)
             } else {
                 let changed = replace(&mut fork.high, key, route);
-                let summary = refreshed(fork.summary, changed, &fork.own, &fork.low, &fork.high);
-                let same = summary.is_same(&fork.summary);
-                fork.summary = summary;
-                !same
+                renew(&mut fork.summary, changed, &fork.own, &fork.low, &fork.high)
             }
         }
     }
 }
 
-// The summary of a fork of these parts, which is the one that it had unless a part's has changed.
-fn refreshed(
-    summary: Summary,
+// Sums a fork of these parts up anew if the summary of one of them may have changed. Says whether its own is another now.
+fn renew(
+    summary: &mut Summary,
     changed: bool,
     own: &Option<Box<Entry>>,
     low: &Link,
     high: &Link,
-) -> Summary
-    requires { changed ≡ false → summary ≡ summary_of (entries_of own.now low.now high.now) }
-    ensures { result ≡ summary_of (entries_of own.now low.now high.now) }
+) -> bool
+    requires { changed ≡ false → summary.old ≡ summary_of (entries_of own.now low.now high.now) }
+    ensures summed { summary.new ≡ summary_of (entries_of own.now low.now high.now) }
+    ensures kept { result ≡ false → summary.new ≡ summary.old }
 {
     if changed {
-        summary_of_parts(own, low, high)
+        summary.set(summary_of_parts(own, low, high))
     } else {
-        summary
+        false
     }
 }
 
