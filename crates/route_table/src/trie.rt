@@ -341,13 +341,23 @@ fn renew(
     ensures kept { result ≡ false → summary.new ≡ summary.old }
 {
     if changed {
-        summary.set(summary_of_parts(own, low, high))
+        sum_up(summary, own, low, high)
     } else {
         false
     }
 }
 
+// Sums a fork of these parts up anew, which few forks on the way up need. Says whether its summary is another now.
+#[inline(never)]
+fn sum_up(summary: &mut Summary, own: &Option<Box<Entry>>, low: &Link, high: &Link) -> bool
+    ensures summed { summary.new ≡ summary_of (entries_of own.now low.now high.now) }
+    ensures kept { result ≡ false → summary.new ≡ summary.old }
+{
+    summary.set(summary_of_parts(own, low, high))
+}
+
 // Gives another route to a fork's own prefix, which has one. Says whether its summary may have changed.
+#[inline(never)]
 fn set_own(own: &mut Option<Box<Entry>>, key: &Prefix, route: &Route) -> bool
     requires { IsSome own.old }
     ensures put { owned own.new ≡ (key.now, route.now) ∷ [] }
