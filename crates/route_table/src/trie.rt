@@ -41,10 +41,10 @@ pub enum Link {
 #[derive(Drop)]
 pub struct Fork {
     prefix: Prefix,
+    summary: Summary,
     low: Link,
     high: Link,
     own: Option<Box<Entry>>,
-    summary: Summary,
 }
 
 impl Model for Fork {
@@ -158,25 +158,22 @@ pub fn get(link: &Link, key: &Prefix) -> Option<Route>
     Some(entry.1)
 }
 
-// The entry of a prefix below a link.
+// The entry of a prefix below a link. A loop would be compiled to a choice between two addresses in place of a branch,
+// and then takes longer, since prefixes are mostly looked for in their order and the branch is foreseen.
 fn seek<'a>(link: &'a Link, key: &Prefix) -> Option<&'a Entry>
     ensures { option_map (λ (e : Prefix6 × RouteValue). e.1) (option_copied result) ≡ find prefix_cmp key.now (linked link.now) }
 {
-    let mut at = link;
-    loop {
-        match at {
-            Link::Empty => return None,
-            Link::Leaf(leaf) => return at_leaf(leaf, key),
-            Link::Fork(fork) => {
-                let fork: &Fork = fork;
-                if key.len() <= fork.prefix.len() {
-                    return at_own(&fork.own, key);
-                }
-                if fork.prefix.is_before_middle(key) {
-                    at = &fork.low;
-                } else {
-                    at = &fork.high;
-                }
+    match link {
+        Link::Empty => None,
+        Link::Leaf(leaf) => at_leaf(leaf, key),
+        Link::Fork(fork) => {
+            let fork: &Fork = fork;
+            if key.len() <= fork.prefix.len() {
+                at_own(&fork.own, key)
+            } else if fork.prefix.is_before_middle(key) {
+                seek(&fork.low, key)
+            } else {
+                seek(&fork.high, key)
             }
         }
     }
