@@ -5,21 +5,22 @@ use crate::measuring::RouterTimes;
 use std::io;
 
 /// What each row is called.
-pub const ROWS: [&str; 10] = [
+pub const ROWS: [&str; 11] = [
     "a route learned, in order (ns)",
     "a route learned, in random order (ns)",
     "a route refreshed (ns)",
     "an offer that is not preferred (ns)",
     "a tick with nothing due (ns)",
     "a route lost by a tick (ns)",
-    "a route told on an interface, regular update (ns)",
+    "a route told on an interface, first regular update, all marked (ns)",
+    "a route told on an interface, later regular update (ns)",
     "a route told on an interface, triggered update of 72 (ns)",
     "a change of the forwarding table (ns)",
     "an address looked up (ns)",
 ];
 
 /// The numbers of one column, a row each.
-pub type Column = [u128; 10];
+pub type Column = [u128; 11];
 
 /// The numbers of a router and a forwarding table in the order of the rows.
 pub fn column_of(router: &RouterTimes, forwarding: &ForwardingTimes) -> Column {
@@ -30,6 +31,7 @@ pub fn column_of(router: &RouterTimes, forwarding: &ForwardingTimes) -> Column {
         router.not_preferred_ns,
         router.idle_tick_ns,
         router.lost_ns,
+        router.first_told_ns,
         router.told_ns,
         router.triggered_ns,
         forwarding.change_ns,

@@ -1,6 +1,6 @@
 //! What a fork of the trie knows of the routes below it without looking at them.
 
-ghost use Rattle.std.specs.Prelude.{◌≡◌, ◌↔◌, IsTrue, Option};
+ghost use Rattle.std.specs.Prelude.{◌≡◌, ◌↔◌, false, IsTrue, Option};
 ghost use Rattle.route_table.specs.Due.{is_reached};
 ghost use Rattle.route_table.specs.Summary.{both, nothing, summary_of_route};
 
@@ -91,6 +91,18 @@ impl Summary {
         ensures { IsTrue result ↔ (self.now ≡ other.now) }
     {
         self.due_ms == other.due_ms && self.ages == other.ages && self.changed == other.changed
+    }
+
+    /// Becomes another summary, and says whether that says something else. Where it does not, nothing is written.
+    pub fn set(&mut self, other: Summary) -> bool
+        ensures value { self.new ≡ other }
+        ensures kept { result ≡ false → self.new ≡ self.old }
+    {
+        if self.is_same(&other) {
+            return false;
+        }
+        *self = other;
+        true
     }
 
     /// Whether a route is due by then.

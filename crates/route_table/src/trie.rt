@@ -42,9 +42,9 @@ pub enum Link {
 pub struct Fork {
     prefix: Prefix,
     summary: Summary,
-    own: Option<Box<Entry>>,
     low: Link,
     high: Link,
+    own: Option<Box<Entry>>,
 }
 
 impl Model for Fork {
@@ -158,7 +158,8 @@ pub fn get(link: &Link, key: &Prefix) -> Option<Route>
     Some(entry.1)
 }
 
-// The entry of a prefix below a link.
+// The entry of a prefix below a link. A loop would be compiled to a choice between two addresses in place of a branch,
+// and then takes longer, since prefixes are mostly looked for in their order and the branch is foreseen.
 fn seek<'a>(link: &'a Link, key: &Prefix) -> Option<&'a Entry>
     ensures { option_map (λ (e : Prefix6 × RouteValue). e.1) (option_copied result) ≡ find prefix_cmp key.now (linked link.now) }
 {
@@ -312,46 +313,48 @@ pub fn replace(link: &mut Link, key: &Prefix, route: &Route) -> bool
             let fork: &mut Fork = fork;
             if *key == fork.prefix {
                 let changed = set_own(&mut fork.own, key, route);
-                let summary = refreshed(fork.summary, changed, &fork.own, &fork.low, &fork.high);
-                let same = summary.is_same(&fork.summary);
-                fork.summary = summary;
-                !same
+                renew(&mut fork.summary, changed, &fork.own, &fork.low, &fork.high)
             } else if fork.prefix.is_before_middle(key) {
                 let changed = replace(&mut fork.low, key, route);
-                let summary = refreshed(fork.summary, changed, &fork.own, &fork.low, &fork.high);
-                let same = summary.is_same(&fork.summary);
-                fork.summary = summary;
-                !same
+                renew(&mut fork.summary, changed, &fork.own, &fork.low, &fork.high)
             } else {
                 let changed = replace(&mut fork.high, key, route);
-                let summary = refreshed(fork.summary, changed, &fork.own, &fork.low, &fork.high);
-                let same = summary.is_same(&fork.summary);
-                fork.summary = summary;
-                !same
+                renew(&mut fork.summary, changed, &fork.own, &fork.low, &fork.high)
             }
         }
     }
 }
 
-// The summary of a fork of these parts, which is the one that it had unless a part's has changed.
-fn refreshed(
-    summary: Summary,
+// Sums a fork of these parts up anew if the summary of one of them may have changed. Says whether its own is another now.
+fn renew(
+    summary: &mut Summary,
     changed: bool,
     own: &Option<Box<Entry>>,
     low: &Link,
     high: &Link,
-) -> Summary
-    requires { changed ≡ false → summary ≡ summary_of (entries_of own.now low.now high.now) }
-    ensures { result ≡ summary_of (entries_of own.now low.now high.now) }
+) -> bool
+    requires { changed ≡ false → summary.old ≡ summary_of (entries_of own.now low.now high.now) }
+    ensures summed { summary.new ≡ summary_of (entries_of own.now low.now high.now) }
+    ensures kept { result ≡ false → summary.new ≡ summary.old }
 {
     if changed {
-        summary_of_parts(own, low, high)
+        sum_up(summary, own, low, high)
     } else {
-        summary
+        false
     }
 }
 
+// Sums a fork of these parts up anew, which few forks on the way up need. Says whether its summary is another now.
+#[inline(never)]
+fn sum_up(summary: &mut Summary, own: &Option<Box<Entry>>, low: &Link, high: &Link) -> bool
+    ensures summed { summary.new ≡ summary_of (entries_of own.now low.now high.now) }
+    ensures kept { result ≡ false → summary.new ≡ summary.old }
+{
+    summary.set(summary_of_parts(own, low, high))
+}
+
 // Gives another route to a fork's own prefix, which has one. Says whether its summary may have changed.
+#[inline(never)]
 fn set_own(own: &mut Option<Box<Entry>>, key: &Prefix, route: &Route) -> bool
     requires { IsSome own.old }
     ensures put { owned own.new ≡ (key.now, route.now) ∷ [] }
