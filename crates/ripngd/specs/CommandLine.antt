@@ -48,6 +48,10 @@ turns_option = record (new_rule (codes "turns")) {
   defaults = codes "4294967295" ∷ [];
 }
 
+-- `--trace`
+abbrev pub trace_option : Rule
+trace_option = record (new_rule (codes "trace")) { long = Some (codes "trace"); action = Some SetTrue }
+
 -- a subcommand with one argument
 abbrev pub one_argument : Text → Text → App
 one_argument name id = with_rule (new_app name) (positional id)
@@ -60,17 +64,21 @@ subcommand_required a = on_top (λ s. record s { subcommand_required = true }) a
 abbrev pub versioned : App → App
 versioned a = on_top (λ s. record s { has_version = true }) a
 
+-- `lab [--trace] SCRIPT`
+abbrev pub lab_command : App
+lab_command = with_rule (with_rule (new_app (codes "lab")) trace_option) (positional (codes "SCRIPT"))
+
 -- `run [-q] [-t TAG] [-R FILE] [--turns N] CONFIG`
 abbrev pub run_command : App
 run_command =
     with_rule (with_rule (with_rule (with_rule (with_rule (new_app (codes "run"))
     quiet_option) tag_option) log_option) turns_option) (positional (codes "CONFIG"))
 
--- `ripngd`, which tells its version, with `show HEX`, `check CONFIG`, `lab SCRIPT` or `run`
+-- `ripngd`, which tells its version, with `show HEX`, `check CONFIG`, `lab` or `run`
 abbrev pub ripngd : App
 ripngd = with_subcommand (with_subcommand (with_subcommand (with_subcommand
     (subcommand_required (versioned (new_app (codes "ripngd"))))
     (one_argument (codes "show") (codes "HEX")).top)
     (one_argument (codes "check") (codes "CONFIG")).top)
-    (one_argument (codes "lab") (codes "SCRIPT")).top)
+    lab_command.top)
     run_command.top

@@ -25,6 +25,7 @@ abbrev pub AnswersAsk : Ask → Bool → Option (List ℕ) → Option (List ℕ)
 AnswersAsk (asks.Show hex) accepted old new = (text : List ℕ) × IsShown hex.now accepted text × Appends old new text
 AnswersAsk (asks.Check file) accepted old new = Unit {0}
 AnswersAsk (asks.Lab file) accepted old new = Unit {0}
+AnswersAsk (asks.Trace file) accepted old new = Unit {0}
 AnswersAsk (asks.Run order) accepted old new = Unit {0}
 
 -- the bytes of a writer grew by the answer to what the words ask

@@ -9,6 +9,8 @@ pub enum Ask<'a> {
     Check(&'a str),
     /// `lab SCRIPT`: what a file's script prints.
     Lab(&'a str),
+    /// `lab --trace SCRIPT`: all that happens as a file's script is run.
+    Trace(&'a str),
     /// `run [-q] [-t TAG] [-R FILE] [--turns N] CONFIG`: one router that runs.
     Run(Order<'a>),
 }

@@ -8,7 +8,7 @@ ghost use Rattle.clap.specs.Takes.{takes};
 ghost use Rattle.clap.specs.Walk.{Row, Text, first_of, rows_of};
 ghost use Rattle.clap.specs.Words.{found_of, kind_of, subcommand_rows_of};
 ghost use Rattle.ripngd.specs.Asked.{Asks, IsAsked, IsNumber, IsSet};
-ghost use Rattle.ripngd.specs.CommandLine.{IsArg, IsCommand, log_option, one_argument, positional, quiet_option, ripngd, run_command, tag_option, turns_option};
+ghost use Rattle.ripngd.specs.CommandLine.{IsArg, IsCommand, lab_command, log_option, one_argument, positional, quiet_option, ripngd, run_command, tag_option, trace_option, turns_option};
 
 use crate::asked::{Ask, Order};
 use clap::error::ErrorKind;
@@ -65,7 +65,7 @@ fn turns<'a>(alloc: Global) -> Arg<'a>
         .value_name("N")
         .value_parser(value_parser!(u32).range(1..))
         .default_value("4294967295")
-        .help("End after N turns, each a look at one socket, and print the forwarding table")
+        .help("End after N turns, each with one datagram at most, and print the forwarding table")
 }
 
 /// A subcommand with one argument.
@@ -81,6 +81,26 @@ fn with_one<'a>(
     Command::new(alloc, name)
         .about(about)
         .arg(required(alloc, id, help))
+}
+
+/// `--trace`: a script's events are printed, in place of what its lines print.
+fn trace<'a>(alloc: Global) -> Arg<'a>
+    ensures { IsArg result trace_option }
+{
+    Arg::new(alloc, "trace")
+        .long("trace")
+        .action(ArgAction::SetTrue)
+        .help("Print a line of JSON for all that happens, in place of what the script prints")
+}
+
+/// `lab [--trace] SCRIPT`.
+fn lab<'a>(alloc: Global) -> Result<Command<'a>, AllocError>
+    ensures { IfOk result (λ c. IsCommand c lab_command) }
+{
+    Command::new(alloc, "lab")
+        .about("Run the network of routers that a script describes")
+        .arg(trace(alloc))?
+        .arg(required(alloc, "SCRIPT", "The file that holds it"))
 }
 
 /// `run [-q] [-t TAG] [-R FILE] [--turns N] CONFIG`.
@@ -118,13 +138,7 @@ fn command<'a>(alloc: Global) -> Result<Command<'a>, AllocError>
             "CONFIG",
             "The file that holds it",
         )?)?
-        .subcommand(with_one(
-            alloc,
-            "lab",
-            "Run the network of routers that a script describes",
-            "SCRIPT",
-            "The file that holds it",
-        )?)?
+        .subcommand(lab(alloc)?)?
         .subcommand(run(alloc)?)
 }
 
@@ -173,10 +187,22 @@ fn asked_of<'a>(name: &'a str, matches: &ArgMatches<'a>) -> Option<Ask<'a>>
     match name {
         "show" => Some(Ask::Show(text(matches, "HEX")?)),
         "check" => Some(Ask::Check(text(matches, "CONFIG")?)),
-        "lab" => Some(Ask::Lab(text(matches, "SCRIPT")?)),
+        "lab" => lab_asked(matches),
         "run" => run_asked(matches),
         _ => None,
     }
+}
+
+/// A laboratory, whose script is traced where the option was given.
+fn lab_asked<'a>(matches: &ArgMatches<'a>) -> Option<Ask<'a>>
+    ensures { IfSome result (λ a. IsAsked a (codes "lab") (rows_of (found_of matches.now))) }
+{
+    let script = text(matches, "SCRIPT")?;
+    Some(if is_set(matches, "trace") {
+        Ask::Trace(script)
+    } else {
+        Ask::Lab(script)
+    })
 }
 
 /// A run, with what was found for its options.

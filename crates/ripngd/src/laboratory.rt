@@ -1,4 +1,4 @@
-//! `lab`: a network of routers, run from a script.
+//! `lab`: a network of routers, run from a script, and the trace of one.
 
 use crate::print_fault::PrintFault;
 use std::alloc::Global;
@@ -10,4 +10,12 @@ use std::io::Write;
 /// `OutOfMemory` where memory was refused, else `Write`. What earlier lines printed may have been written.
 pub fn lab<W: Write>(alloc: Global, script: &[u8], out: &mut W) -> Result<bool, PrintFault> {
     Ok(ripngd_lab::lab(alloc, script, out)?)
+}
+
+/// Runs a script, as [`ripngd_trace::trace`] does, and answers whether every line was done.
+///
+/// # Errors
+/// `OutOfMemory` where memory was refused, else `Write`. Earlier records may have been written.
+pub fn trace<W: Write>(alloc: Global, script: &[u8], out: &mut W) -> Result<bool, PrintFault> {
+    Ok(ripngd_trace::trace(alloc, script, out)?)
 }

@@ -17,7 +17,7 @@ mod status;
 pub use asked::{Ask, Order};
 pub use checking::check;
 pub use command_line::{VERSION, ask};
-pub use laboratory::lab;
+pub use laboratory::{lab, trace};
 pub use print_fault::PrintFault;
 pub use ripngd_config::{Config, ConfigFault, Peer, read_config};
 pub use ripngd_engine::{Engine, EngineFault, Link, LinkFault, Received, Report, TimeSource};

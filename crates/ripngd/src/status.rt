@@ -8,7 +8,7 @@ use crate::asked::Ask;
 use crate::checking::check;
 use crate::command_line::ask;
 use crate::failure::Failure;
-use crate::laboratory::lab;
+use crate::laboratory::{lab, trace};
 use crate::losses::{NOTHING_LOST, write_losses};
 use crate::reading::read;
 use crate::running::run;
@@ -101,6 +101,7 @@ fn accepts<'a, R: AllocGlobal + Files + Clock + Net, O: Write>(
         Ask::Show(hex) => Ok(show(rt.alloc(), hex, out)?),
         Ask::Check(file) => Ok(check(rt.alloc(), read(rt, file)?.as_slice(), out)?),
         Ask::Lab(file) => Ok(lab(rt.alloc(), read(rt, file)?.as_slice(), out)?),
+        Ask::Trace(file) => Ok(trace(rt.alloc(), read(rt, file)?.as_slice(), out)?),
         Ask::Run(order) => run(rt, order, out, lost),
     }
 }

@@ -281,7 +281,7 @@ fn check_counts_the_peers_of_all_interfaces(rt: HostRuntime) -> Result<(), Fail>
 
 /// Command lines on files, with their status and what they write to standard output or, with status 3, to standard
 /// error. The file `few.toml` has no interface, `few.lab` a router without one.
-const ON_FILES: [(&[&str], u8, &str); 8] = [
+const ON_FILES: [(&[&str], u8, &str); 9] = [
     (
         &["ripngd", "check", "few.toml"],
         1,
@@ -296,6 +296,11 @@ const ON_FILES: [(&[&str], u8, &str); 8] = [
         &["ripngd", "lab", "few.lab"],
         1,
         "line 2 refused 3 BadRouter 0 1 NoInterface\n",
+    ),
+    (
+        &["ripngd", "lab", "--trace", "few.lab"],
+        1,
+        "{\"line\":2,\"record\":\"refused\",\"why\":\"3 BadRouter 0 1 NoInterface\"}\n",
     ),
     (
         &["ripngd", "lab", "few.toml"],

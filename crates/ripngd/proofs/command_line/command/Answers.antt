@@ -11,5 +11,5 @@ returns c =
     let s0 = required_set _ _ _ c.subcommand_required.ensures told in
     let s1 = subcommand_added _ _ _ _ _ c.in_ok-subcommand.ensures c.in_ok-with_one.ensures s0 in
     let s2 = subcommand_added _ _ _ _ _ c.in_ok-subcommand-2.ensures c.in_ok-with_one-2.ensures s1 in
-    let s3 = subcommand_added _ _ _ _ _ c.in_ok-subcommand-3.ensures c.in_ok-with_one-3.ensures s2 in
+    let s3 = subcommand_added _ _ _ _ _ c.in_ok-subcommand-3.ensures c.in_ok-lab.ensures s2 in
     subcommand_added_ok _ _ _ _ c.subcommand-4.result c.subcommand-4.ensures c.in_ok-run.ensures s3
