@@ -1,6 +1,8 @@
 # make              proves and builds the program, and leaves it at bin/ripngd
 # make lab SCRIPT=  runs a network of routers from a script
 # make show HEX=    decodes one datagram, given as hexadecimal digits
+# make install      puts the program, its manual page and the examples below PREFIX (and DESTDIR before it)
+# make uninstall    takes them away again
 # make bench        times of a router and its forwarding table, as tables grow
 # make test         the merge gate: every proof from nothing, the edits that must fail, tests and programs
 # make clean        forgets what earlier runs kept
@@ -9,11 +11,16 @@ HEX ?= 02010000
 SCRIPT ?= examples/line.lab
 ROUTES ?= 1024 4096 16384 65536
 
-.PHONY: all lab show bench test clean
+PREFIX ?= /usr/local
+BINARIES = $(DESTDIR)$(PREFIX)/bin
+MANUALS = $(DESTDIR)$(PREFIX)/share/man/man8
+PAGES = $(DESTDIR)$(PREFIX)/share/doc/ripngd
+
+.PHONY: all lab show install uninstall bench test clean
 
 # Libraries that do not need each other are proved side by side; each waits for those below it.
 all:
-	for crate in ripngd_lab ripngd_config ripngd_engine ripngd_udp; do (cd crates/$$crate && rt lib) & done; wait
+	for crate in ripngd_trace ripngd_config ripngd_engine ripngd_udp; do (cd crates/$$crate && rt lib) & done; wait
 	cd crates/ripngd_program && rt run -- show 02010000 > /dev/null
 	mkdir -p bin
 	cp crates/ripngd_program/out/ripngd_program bin/ripngd
@@ -23,6 +30,21 @@ lab: all
 
 show: all
 	bin/ripngd show $(HEX)
+
+# What `make` built is installed; where nothing was built yet, it is built first.
+bin/ripngd:
+	$(MAKE) all
+
+install: bin/ripngd
+	install -d $(BINARIES) $(MANUALS) $(PAGES)/examples
+	install -m 755 bin/ripngd $(BINARIES)/ripngd
+	install -m 644 docs/ripngd.8 $(MANUALS)/ripngd.8
+	install -m 644 README.md docs/FORMATS.md docs/PROTOCOL.md $(PAGES)
+	install -m 644 examples/* $(PAGES)/examples
+
+uninstall:
+	rm -f $(BINARIES)/ripngd $(MANUALS)/ripngd.8
+	rm -rf $(PAGES)
 
 # Memory is measured by a program of its own for each size, since freed memory is used again.
 bench:
