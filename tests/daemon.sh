@@ -389,6 +389,50 @@ what_the_last_turn_tells_is_sent() {
     return $learned
 }
 
+# `fire N FILE..`: N times, to each of these sockets, ten datagrams of random bytes and the longest that UDP has.
+fire() {
+    local rounds=$1 to
+    shift
+    for _ in $(seq "$rounds"); do
+        for to in "$@"; do
+            dd if=/dev/urandom bs=1400 count=10 status=none >&"$to" 2> /dev/null
+            dd if=/dev/zero bs=65507 count=1 status=none >&"$to" 2> /dev/null
+        done
+    done
+}
+
+# `holds_little ID`: whether a process has less than 64 MB in memory.
+holds_little() {
+    [ "$(awk '/^VmRSS:/ { print $2 }' "/proc/$1/status")" -lt 65536 ]
+}
+
+# Two neighbors, while strangers send nonsense to the ports of one, and so does another neighbor of it: the routes stay, and
+# what that neighbor tells in the end is learned.
+a_daemon_under_fire_keeps_its_routes() {
+    neighbors
+    local noise_port stranger noise nonsense
+    next_port && noise_port=$port
+    open_feed "$noise_port" && noise=$feed || return
+    interface a "$noise_port" c "$feed_port" >> "$folder/east.toml"
+    open_feed "$east_port" && stranger=$feed || return
+    open_feed "$noise_port" && nonsense=$feed || return
+    start east run -R "$folder/east.log" "$folder/east.toml" && local east=$pid
+    start west run -R "$folder/west.log" "$folder/west.toml" && local west=$pid
+    told_all east 1 2 && told_all west 1 2 || return
+    fire 100 "$stranger" "$nonsense" "$noise"
+    feed "$noise" 0d 100
+    told_all east 101 2 && holds_little "$east" || because "${why:-it holds much memory}"
+    local learned=$?
+    if grep -q '^del' "$folder/east.log" "$folder/west.log"; then
+        because "a route was lost"
+        learned=1
+    fi
+    end "$east"
+    end "$west"
+    exec {stranger}>&- {nonsense}>&- {noise}>&-
+    return $learned
+}
+
 try() {
     why=
     if "$1"; then
@@ -412,6 +456,7 @@ try a_fault_of_the_command_line_is_told
 try a_quiet_daemon_learns_and_tells_nothing
 try one_of_sixteen_interfaces_is_busy
 try what_the_last_turn_tells_is_sent
+try a_daemon_under_fire_keeps_its_routes
 try two_daemons_learn_a_large_table_from_each_other
 try three_neighbors_learn_a_large_table_at_once
 
