@@ -2,6 +2,7 @@
 # make lab SCRIPT=  runs a network of routers from a script
 # make show HEX=    decodes one datagram, given as hexadecimal digits
 # make bench        times of a router and its forwarding table, as tables grow
+# make pictures     films and pictures of the examples, below docs (needs Chromium, a package of the system)
 # make test         the merge gate: every proof from nothing, the edits that must fail, tests and programs
 # make clean        forgets what earlier runs kept
 
@@ -29,6 +30,9 @@ bench:
 	cd crates/ripngd_bench && rt run -- names > /dev/null
 	crates/ripngd_bench/out/ripngd_bench $(ROUTES)
 	for routes in $(ROUTES); do crates/ripngd_bench/out/ripngd_bench memory $$routes; done
+
+pictures: bin/ripngd
+	page/pictures.sh
 
 test:
 	tests/gate.sh
