@@ -30,7 +30,7 @@
 
   // Steps a film to its end and back.
   function playFilm() {
-    const steps = all('#events li').length, first = document.body.innerText;
+    const steps = all('#events li').length;
     let walks = 0;
     for (let step = 1; step <= steps; step++) {
       if (!textOf('#where').startsWith(`step ${step} of ${steps},`)) report.push(`wrong ${textOf('#where')}`);
@@ -45,6 +45,8 @@
   // Every datagram as the page decodes it, and the sums behind a step, which the address names.
   const decodeAll = () => report.push(...view.trace.datagrams.flatMap(({ bytes }) => decode(bytes).split('\n')).map(line => `show ${line}`));
   const showAsked = () => report.push(textOf('#sum'), textOf('#walk tbody').replace(/line \d+/g, ''));
+
+  const showRefusals = () => report.push(...all('#events .bad').map(text => text.textContent));
 
   // Clicks a router and lets it tick, then writes a line that is refused.
   async function edit() {
@@ -63,7 +65,7 @@
   }
 
   const script = document.getElementById('script');
-  const plays = { film: playFilm, decode: decodeAll, asked: showAsked, edit };
+  const plays = { film: playFilm, decode: decodeAll, asked: showAsked, refusals: showRefusals, edit };
   const write = () => { document.body.innerHTML = '<pre id="report"></pre>'; document.getElementById('report').textContent = `${report.join('\n')}\n`; };
   window.onerror = message => { report.push(`wrong ${message}`); };
   settled().then(() => plays[PLAY]()).catch(error => { report.push(`wrong ${error.stack}`); }).then(write);

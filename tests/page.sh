@@ -49,13 +49,13 @@ play() {
     ! grep -q '^wrong' "$folder/report" || because "$(grep -m 1 '^wrong' "$folder/report")"
 }
 
-# The film of a script is stepped to its end and back. Its tables are those that `lab` prints, and each walk is a sum.
+# The film of a script is stepped to its end and back. Its tables are what `lab` prints of routes, and each walk is a sum.
 film_of() {
     "$film" "$1" > "$folder/film.html" || because "no film is made" || return
     play film "$folder/film.html" || return
     local steps
     steps=$("$program" lab --trace "$1" | wc -l)
-    same "what is shown" "$(sed -n 's/^print //p' "$folder/report")" "$("$program" lab "$1")" &&
+    same "what is shown" "$(sed -n 's/^print //p' "$folder/report")" "$("$program" lab "$1" | grep -v '^line [0-9]* refused')" &&
         same "the number of steps" "$(sed -n 's/^steps //p' "$folder/report")" "$steps" &&
         same "the step gone back to" "$(grep -o '^step 1 of [0-9]*' "$folder/report")" "step 1 of $steps" || return
     [ "$(sed -n 's/^walks //p' "$folder/report")" -gt 0 ] || because "no walk was seen"
@@ -77,6 +77,45 @@ counting_to_five() {
     play asked "$folder/film.html" "step=$step&router=1&prefix=2001:db8::/32" || return
     same "the sum" "$(sed -n 1p "$folder/report")" "1 + 1 + 1 + 1 + 1 = 5: 1 at the owner, and the cost of each hop. 3 hops around the ring R1 → R2 → R3 → R1, and 1 hop to the owner, R1 → R0." || return
     same "the walk" "$(sed -n 2p "$folder/report" | grep -o 'R[0-9] → R[0-9]' | tr '\n' ' ')" "R1 → R2 R2 → R3 R3 → R1 R1 → R0 "
+}
+
+# Routes that come and go, in the order of addresses; costs and owners that change; a quiet router; and what is refused, in red.
+a_network_of_changes() {
+    cat > "$folder/changes.lab" << 'END'
+router
+iface fe80::a0 1 1280 0
+own 2001:db8:10::/48 1
+own 2001:db8:2::/48 2
+own ::/0 3
+own 2001:0:0:1::/64 4
+router
+iface fe80::b0 1 1280 0
+iface fe80::b1 1 1280 1
+router quiet
+iface fe80::c0 1 1280 1
+cold 0
+tick 0 0 0
+deliver 3 1 0 0
+print
+restart 1 10
+print
+stranger 1 0 20 fe80::9 521 254 group 02010000
+cost 1 0 30 4
+deliver 3 1 0 30
+print
+drop 0 40 2001:db8:2::/48
+gain 2 40 2001:db8:2::/48 7
+print
+tick 0 50 0
+deliver 6 1 0 50
+tick 0 200000 0
+tick 1 350000 0
+print
+drop 1 350000 ::/0
+END
+    film_of "$folder/changes.lab" && datagrams_of "$folder/changes.lab" && play refusals "$folder/film.html" || return
+    same "what is red" "$(cat "$folder/report")" "refused 10 HopLimit: sent to the group, it has to come with hop limit 255
+refused 7 ReconfigureRefused 35 NotOwned: the router does not own it"
 }
 
 # `answer SCRIPT`: a script and its trace, as a server would answer it.
@@ -131,6 +170,7 @@ for script in "$@"; do
     try datagrams_of "$script"
 done
 try counting_to_five
+try a_network_of_changes
 try a_click_appends_an_event
 
 echo "$passed passed, $failed failed"
