@@ -34,7 +34,7 @@
     let walks = 0;
     for (let step = 1; step <= steps; step++) {
       if (!textOf('#where').startsWith(`step ${step} of ${steps},`)) report.push(`wrong ${textOf('#where')}`);
-      if (textOf('#events .now').includes('print: ')) report.push(...shownRoutes().map(route => `print ${route}`));
+      if (textOf('#events .now').includes('print: ')) report.push(...shownRoutes().map(route => `print ${route}`), `tally ${textOf('#tally')}`);
       walks += countWalks();
       press('step');
     }

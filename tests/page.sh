@@ -61,6 +61,20 @@ film_of() {
     [ "$(sed -n 's/^walks //p' "$folder/report")" -gt 0 ] || because "no walk was seen"
 }
 
+# What the film that was played last says of all routes together, at each `print`.
+tallies() {
+    sed -n 's/^tally //p' "$folder/report"
+}
+
+# By hand, as the remarks of rounds.lab have it: router 2 is without a route at first, router 3 at 13, then at 7.
+rounds_reach_the_least_cost() {
+    film_of "$root/examples/rounds.lab" || return
+    same "how many have the least cost" "$(tallies | grep -o '[0-9]* of 4 routes')" "2 of 4 routes
+3 of 4 routes
+4 of 4 routes
+4 of 4 routes"
+}
+
 # The page decodes datagrams as `show` does.
 datagrams_of() {
     "$film" "$1" > "$folder/film.html" && play decode "$folder/film.html" || return
@@ -104,7 +118,9 @@ cost 1 0 30 4
 deliver 3 1 0 30
 print
 drop 0 40 2001:db8:2::/48
+print
 gain 2 40 2001:db8:2::/48 7
+gain 0 40 2001:db8:1::/48 5
 print
 tick 0 50 0
 deliver 6 1 0 50
@@ -113,7 +129,9 @@ tick 1 350000 0
 print
 drop 1 350000 ::/0
 END
-    film_of "$folder/changes.lab" && datagrams_of "$folder/changes.lab" && play refusals "$folder/film.html" || return
+    film_of "$folder/changes.lab" || return
+    same "the tally behind the drop" "$(tallies | sed -n 4p)" "7 of 7 metrics are the cost of a walk. 6 of 9 routes have the least cost." &&
+        datagrams_of "$folder/changes.lab" && play refusals "$folder/film.html" || return
     same "what is red" "$(cat "$folder/report")" "refused 10 HopLimit: sent to the group, it has to come with hop limit 255
 refused 7 ReconfigureRefused 35 NotOwned: the router does not own it"
 }
@@ -170,6 +188,7 @@ for script in "$@"; do
     try datagrams_of "$script"
 done
 try counting_to_five
+try rounds_reach_the_least_cost
 try a_network_of_changes
 try a_click_appends_an_event
 
