@@ -53,7 +53,7 @@
     click(document.querySelector('.router[data-router="0"]'));
     click(all('[data-append]').find(button => button.textContent === 'tick'));
     await settled();
-    report.push(`appended ${script.value.trimEnd().split('\n').at(-1)}`, `last ${textOf('#events li:last-child')}`, textOf('#where'));
+    report.push(`appended ${script.value.trimEnd().split('\n').at(-1)}`, `last ${textOf('#events li:last-child')}`, textOf('#where'), `marks ${all('.pile').length > 0}`);
     script.value += 'tick 9 400 0\n';
     script.dispatchEvent(new Event('input'));
     await settled();

@@ -165,6 +165,7 @@ END
     same "the report" "$(cat "$folder/report")" "appended tick 0 400 0
 last ${line} R0 ticks
 step $steps of $steps, at 0.400 s
+marks true
 refused line $((line + 1))
 last $((line + 1)) refused 1 NoSuchRouter: there is no such router
 not run: no such script"
