@@ -24,6 +24,10 @@ script() {
     echo '</div>'
 }
 
+if [ $# = 0 ]; then
+    echo "usage: page/film.sh SCRIPT | --served SCRIPT.." >&2
+    exit 2
+fi
 : > "$texts/trace"
 if [ "${1:-}" = --served ]; then
     shift
