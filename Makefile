@@ -4,6 +4,7 @@
 # make install      puts the program, its manual page and the examples below PREFIX (and DESTDIR before it)
 # make uninstall    takes them away again
 # make bench        times of a router and its forwarding table, as tables grow
+# make pictures     films and pictures of the examples, below docs (needs Chromium, a package of the system)
 # make test         the merge gate: every proof from nothing, the edits that must fail, tests and programs
 # make clean        forgets what earlier runs kept
 
@@ -51,6 +52,9 @@ bench:
 	cd crates/ripngd_bench && rt run -- names > /dev/null
 	crates/ripngd_bench/out/ripngd_bench $(ROUTES)
 	for routes in $(ROUTES); do crates/ripngd_bench/out/ripngd_bench memory $$routes; done
+
+pictures: bin/ripngd
+	page/pictures.sh
 
 test:
 	tests/gate.sh

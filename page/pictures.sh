@@ -1,0 +1,25 @@
+#!/usr/bin/env bash
+# The films of the examples, docs/films/NAME.html, and a picture of each at a telling step, docs/pictures/NAME.png.
+#
+#     page/pictures.sh
+#
+# Needs bin/ripngd and Chromium (a package of the system).
+set -eu
+
+root=$(realpath "$(dirname "$0")/..")
+browser=$(command -v chromium || command -v chromium-browser || command -v google-chrome)
+
+# `picture NAME STEP ROUTER`: the film of an example, and its picture at that step, with the walk behind that router's metric.
+picture() {
+    local film=$root/docs/films/$1.html
+    "$root/page/film.sh" "$root/examples/$1.lab" > "$film"
+    "$browser" --headless --no-sandbox --disable-gpu --hide-scrollbars --window-size=600,730 --virtual-time-budget=2000 \
+        --screenshot="$root/docs/pictures/$1.png" "file://$film#step=$2&router=$3&prefix=2001:db8::/32" 2> /dev/null
+}
+
+mkdir -p "$root/docs/films" "$root/docs/pictures"
+picture counting 36 1
+picture line 10 1
+picture moving 9 1
+picture rounds 20 3
+picture square 31 3
