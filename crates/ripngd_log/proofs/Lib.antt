@@ -1,0 +1,2 @@
+mod WordTexts
+mod Readings
