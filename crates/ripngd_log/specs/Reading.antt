@@ -29,6 +29,7 @@ IsInLine text = All (λ b. b ≢ 10) text
 -- a line for each change, and the rest, which is of a line that has no end yet
 pub record Tells (text : List ℕ) (changes : List RouteChange) : Type 0 where
   pub rest : List ℕ
+  pub lawful : All IsChange changes
   pub spelled : text ≡ log_of changes ++ rest
   pub unended : IsInLine rest
 
@@ -43,6 +44,7 @@ pub record IsFirstBadLine (text : List ℕ) (line : ℕ) : Type 0 where
   pub before : List RouteChange
   pub bad : List ℕ
   pub after : List ℕ
+  pub lawful : All IsChange before
   pub spelled : text ≡ log_of before ++ bad ++ (10 ∷ after)
   pub is_line : IsInLine bad
   pub place : line ≡ length before + 1

@@ -19,10 +19,10 @@ IsOfNone line = (c : RouteChange) → IsChange c → change_text c ≢ line
 
 -- the change that the line is of, or none where it is of none
 abbrev pub IsRead : List ℕ → Option RouteChange → Type 0
-IsRead line (Some c) = change_text c ≡ line
+IsRead line (Some c) = IsChange c × (change_text c ≡ line)
 IsRead line None = IsOfNone line
 
 -- the line is that of a change, which comes after those that were there; or it is that of none
 abbrev pub PushesLine : List ℕ → Bool → List RouteChange → List RouteChange → Type 0
-PushesLine line true old new = (c : RouteChange) × (change_text c ≡ line) × (new ≡ old ++ c ∷ [])
+PushesLine line true old new = (c : RouteChange) × IsChange c × (change_text c ≡ line) × (new ≡ old ++ c ∷ [])
 PushesLine line false old new = IsOfNone line × (new ≡ old)

@@ -1,6 +1,6 @@
 //! One line of a log: the change that it can be of, and whether it is the line of a change.
 
-ghost use Rattle.std.specs.Prelude.{◌≡◌, ℕ, ◌<◌, ◌^◌, ◌↔◌, IsTrue, IfOk, Some};
+ghost use Rattle.std.specs.Prelude.{◌≡◌, ℕ, ◌<◌, ◌^◌, ◌↔◌, IsTrue, IfOk, IfSome, Some};
 ghost use Rattle.prefix6.specs.Prefix.{Prefix6, IsPrefix};
 ghost use Rattle.fib.specs.declared.change.Hop.{Hop};
 ghost use Rattle.fib.specs.declared.change.RouteChange.{RouteChange};
@@ -44,7 +44,8 @@ impl Display for ChangeLine {
 
 /// The hop that the text can be of.
 fn hop_in(text: &str) -> Option<Hop>
-    ensures { (hop : Hop) → IsHop hop → text.now ≡ hop_text hop → result ≡ Some hop }
+    ensures lawful { IfSome result IsHop }
+    ensures found { (hop : Hop) → IsHop hop → text.now ≡ hop_text hop → result ≡ Some hop }
 {
     if text == "direct" {
         return Some(Hop::Direct);
@@ -60,7 +61,8 @@ fn hop_in(text: &str) -> Option<Hop>
 
 /// The entry that the text can be of.
 fn install_in(text: &str) -> Option<RouteChange>
-    ensures { (p : Prefix6) (hop : Hop) (metric : ℕ) → IsPrefix p → IsHop hop → metric < 2 ^ 8 → text.now ≡ route_text p hop metric → result ≡ Some (Install p hop metric) }
+    ensures lawful { IfSome result IsChange }
+    ensures found { (p : Prefix6) (hop : Hop) (metric : ℕ) → IsPrefix p → IsHop hop → metric < 2 ^ 8 → text.now ≡ route_text p hop metric → result ≡ Some (Install p hop metric) }
 {
     let (prefix, text) = first_word(text);
     let (_, text) = first_word(text);
@@ -74,7 +76,8 @@ fn install_in(text: &str) -> Option<RouteChange>
 
 /// The change that the line can be of: it is read by the places of its words.
 fn change_in(line: &[u8]) -> Option<RouteChange>
-    ensures { (c : RouteChange) → IsChange c → change_text c ≡ line.now → result ≡ Some c }
+    ensures lawful { IfSome result IsChange }
+    ensures found { (c : RouteChange) → IsChange c → change_text c ≡ line.now → result ≡ Some c }
 {
     let line = str::from_utf8(line).ok()?;
     let (word, text) = first_word(line);

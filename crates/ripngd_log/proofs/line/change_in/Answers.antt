@@ -16,37 +16,37 @@ has_text : {E : Type 0} (Q : E → Type 0) (line : List ℕ) (r : Result (Bor (L
 has_text Q line (Ok s) cases utf8 none = cc
 has_text Q line (Err e) cases utf8 none = absurd (cases.0 utf8)
 
-pub returns-in_err-line : goal.returns-in_err-line
-returns-in_err-line c change is e =
+pub returns-in_err-line-clause-found : goal.returns-in_err-line-clause-found
+returns-in_err-line-clause-found c change is e =
     absurd (has_text _ _ _ c.from_utf8.ensures.cases (subst IsUtf8 e (change_utf8 change is)) (sym c.ok.ensures.value ∙ c.in_err-line.was))
 
 add_no_del : codes "add" ≢ codes "del"
 add_no_del same = let first : ◌≡◌ {A = ℕ} 97 100 = ap (λ text. get_or text 0 0) same in omega (arith, first)
 
-pub returns-in-add : goal.returns-in-add
-returns-in-add c (Install p hop metric) is e =
+pub returns-in-add-clause-found : goal.returns-in-add-clause-found
+returns-in-add-clause-found c (Install p hop metric) is e =
     let parts = c.first_word.ensures (codes "add") (route_text p hop metric) (literal_in_word (codes "add") refl) (text_of _ _ _ _ c.from_utf8.ensures.cases (sym c.ok.ensures.value ∙ c.in_ok-line.was) ∙ sym e) in
-    c.install_in.ensures p hop metric is.0 is.1 is.2 parts.1
-returns-in-add c (Withdraw p) is e =
+    c.install_in.ensures.found p hop metric is.0 is.1 is.2 parts.1
+returns-in-add-clause-found c (Withdraw p) is e =
     let parts = c.first_word.ensures (codes "del") (written_prefix p) (literal_in_word (codes "del") refl) (text_of _ _ _ _ c.from_utf8.ensures.cases (sym c.ok.ensures.value ∙ c.in_ok-line.was) ∙ sym e) in
     absurd (add_no_del (sym c.in-add.is ∙ parts.0))
 
-pub returns-in_err-prefix_in-in_default : goal.returns-in_err-prefix_in-in_default
-returns-in_err-prefix_in-in_default c (Install p hop metric) is e =
+pub returns-in_err-prefix_in-in_default-clause-found : goal.returns-in_err-prefix_in-in_default-clause-found
+returns-in_err-prefix_in-in_default-clause-found c (Install p hop metric) is e =
     let parts = c.first_word.ensures (codes "add") (route_text p hop metric) (literal_in_word (codes "add") refl) (text_of _ _ _ _ c.from_utf8.ensures.cases (sym c.ok.ensures.value ∙ c.in_ok-line.was) ∙ sym e) in
     absurd (c.in_default.not-add parts.0)
-returns-in_err-prefix_in-in_default c (Withdraw p) is e =
+returns-in_err-prefix_in-in_default-clause-found c (Withdraw p) is e =
     let parts = c.first_word.ensures (codes "del") (written_prefix p) (literal_in_word (codes "del") refl) (text_of _ _ _ _ c.from_utf8.ensures.cases (sym c.ok.ensures.value ∙ c.in_ok-line.was) ∙ sym e) in
-    let read = c.prefix_in.ensures p is parts.1 in
+    let read = c.prefix_in.ensures.found p is parts.1 in
     let none = c.in_err-prefix_in-in_default.was in
     cc
 
-pub returns-in_ok-prefix_in-in_default : goal.returns-in_ok-prefix_in-in_default
-returns-in_ok-prefix_in-in_default c (Install p hop metric) is e =
+pub returns-in_ok-prefix_in-in_default-clause-found : goal.returns-in_ok-prefix_in-in_default-clause-found
+returns-in_ok-prefix_in-in_default-clause-found c (Install p hop metric) is e =
     let parts = c.first_word.ensures (codes "add") (route_text p hop metric) (literal_in_word (codes "add") refl) (text_of _ _ _ _ c.from_utf8.ensures.cases (sym c.ok.ensures.value ∙ c.in_ok-line.was) ∙ sym e) in
     absurd (c.in_default.not-add parts.0)
-returns-in_ok-prefix_in-in_default c (Withdraw p) is e =
+returns-in_ok-prefix_in-in_default-clause-found c (Withdraw p) is e =
     let parts = c.first_word.ensures (codes "del") (written_prefix p) (literal_in_word (codes "del") refl) (text_of _ _ _ _ c.from_utf8.ensures.cases (sym c.ok.ensures.value ∙ c.in_ok-line.was) ∙ sym e) in
-    let read = c.prefix_in.ensures p is parts.1 in
+    let read = c.prefix_in.ensures.found p is parts.1 in
     let same = c.in_ok-prefix_in-in_default.was in
     cc

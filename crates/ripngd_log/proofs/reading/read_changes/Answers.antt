@@ -11,6 +11,7 @@ returns-then-not-branch-clause-refused c =
       before = c.loop-line.changes.items;
       bad = c.in-Some.line.now;
       after = c.in-Some.after.now;
+      lawful = c.loop-line.invariant.lawful;
       spelled =
           c.loop-line.invariant.spelled ∙ ap (λ t. log_of c.loop-line.changes.items ++ t) c.in-Some.ensures.spelled
           ∙ sym (append_assoc (log_of c.loop-line.changes.items) c.in-Some.line.now (10 ∷ c.in-Some.after.now));
