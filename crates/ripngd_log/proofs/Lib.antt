@@ -1,2 +1,3 @@
 mod WordTexts
 mod Readings
+mod OneReading

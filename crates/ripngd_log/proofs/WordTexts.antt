@@ -2,7 +2,7 @@
 use Rattle.std.proofs.Common.{◌≡◌, ◌≢◌, ℕ, zero, suc, ◌<◌, ◌^◌, true, List, [], ◌∷◌, ◌++◌, All, get_or, codes, decimal, refl, subst, arith, inl, inr}
 use Rattle.std.specs.Prelude.{nat_lt}
 use Rattle.std.specs.List.{list_all}
-use Rattle.std.specs.Str.{IsAscii, IsUtf8}
+use Rattle.std.specs.Str.{IsUtf8}
 use Rattle.std.specs.Str.Parse.{AllDigits}
 use Rattle.std.specs.Net.Text.{hex_groups_text}
 use Rattle.std.proofs.NetLemmas.Alphabet.{All-hex_groups_text, IsHexOrColon}
@@ -10,7 +10,7 @@ use Rattle.std.proofs.lemmas.Bool.{ltb-true}
 use Rattle.std.proofs.lemmas.Fmt.{decimal_is_IsNumeral}
 use Rattle.std.proofs.lemmas.List.Elements.{All-nil, All-cons, All-append, All-weaker}
 use Rattle.std.proofs.lemmas.List.Sums.{AllPass-from_list_all}
-use Rattle.std.proofs.lemmas.Str.{IsUtf8-from_ascii, IsAscii-append}
+use Rattle.std.proofs.lemmas.Str.{IsUtf8-from_ascii}
 use Rattle.std.proofs.lemmas.Str.Ascii.{IsAscii-from_all}
 use Rattle.std.proofs.lemmas.Str.Parse.{digit_from_value}
 use Rattle.prefix6.specs.Addr.{groups_of}
@@ -21,7 +21,7 @@ use Rattle.fib.specs.declared.change.Hop.TheVariants.{Direct, Via}
 use Rattle.fib.specs.declared.change.RouteChange.{RouteChange}
 use Rattle.fib.specs.declared.change.RouteChange.TheVariants.{Install, Withdraw}
 use Rattle.ripngd_engine.specs.Log.{hop_text, route_text, change_text}
-use Rattle.ripngd_log.specs.Reading.{IsHop, IsChange}
+use Rattle.ripngd_log.specs.Reading.{IsHop, IsChange, IsInLine}
 use Rattle.ripngd_log.specs.Words.{IsInWord}
 
 -- past the space and before the first byte that is not ASCII
@@ -79,34 +79,42 @@ decimal_in_word n fits = in_word _ (plain_decimal n fits)
 pub prefix_in_word : (p : Prefix6) → IsPrefix p → IsInWord (written_prefix p)
 prefix_in_word p h = in_word _ (plain_prefix p h)
 
-plain_ascii : (xs : List ℕ) → All IsPlain xs → IsAscii xs
-plain_ascii xs h = IsAscii-from_all xs (All-weaker IsPlain (λ b. b < 128) (λ b plain. plain.1) xs h)
+-- from the space on and before the first byte that is not ASCII
+abbrev pub IsPrintable : ℕ → Type 0
+IsPrintable b = (31 < b) × (b < 128)
 
-ascii_test : (xs : List ℕ) → list_all (λ b. nat_lt b 128) xs ≡ true → IsAscii xs
-ascii_test xs h = IsAscii-from_all xs (All-weaker (λ b. nat_lt b 128 ≡ true) (λ b. b < 128) (λ b low. ltb-true b 128 low) xs (AllPass-from_list_all (λ b. nat_lt b 128) xs h))
+printable : (xs : List ℕ) → All IsPlain xs → All IsPrintable xs
+printable xs h = All-weaker IsPlain IsPrintable (λ b plain. (omega (arith, plain.0), plain.1)) xs h
 
-hop_ascii : (hop : Hop) → IsHop hop → IsAscii (hop_text hop)
-hop_ascii Direct h = ascii_test (codes "direct") refl
-hop_ascii (Via iface next_hop) h =
-    IsAscii-append (codes "via ") _ (ascii_test (codes "via ") refl)
-    (IsAscii-append (written_addr next_hop) _ (plain_ascii _ (plain_addr next_hop))
-    (IsAscii-append (codes " iface ") _ (ascii_test (codes " iface ") refl) (plain_ascii _ (plain_decimal iface h.0))))
+literal : (xs : List ℕ) → list_all (λ b. nat_lt 31 b) xs ≡ true → list_all (λ b. nat_lt b 128) xs ≡ true → All IsPrintable xs
+literal xs low high k d lt =
+    (ltb-true 31 _ (AllPass-from_list_all (λ b. nat_lt 31 b) xs low k d lt), ltb-true _ 128 (AllPass-from_list_all (λ b. nat_lt b 128) xs high k d lt))
 
-route_ascii : (p : Prefix6) (hop : Hop) (metric : ℕ) → IsPrefix p → IsHop hop → metric < 2 ^ 8 → IsAscii (route_text p hop metric)
-route_ascii p hop metric is_prefix is_hop fits =
-    IsAscii-append (written_prefix p) _ (plain_ascii _ (plain_prefix p is_prefix))
-    (IsAscii-append (codes " metric ") _ (ascii_test (codes " metric ") refl)
-    (IsAscii-append (decimal metric) _ (plain_ascii _ (plain_decimal metric (omega arith)))
-    (IsAscii-append (codes " ") _ (ascii_test (codes " ") refl) (hop_ascii hop is_hop))))
+printable_hop : (hop : Hop) → IsHop hop → All IsPrintable (hop_text hop)
+printable_hop Direct h = literal (codes "direct") refl refl
+printable_hop (Via iface next_hop) h =
+    All-append IsPrintable (codes "via ") _ (literal (codes "via ") refl refl)
+    (All-append IsPrintable (written_addr next_hop) _ (printable _ (plain_addr next_hop))
+    (All-append IsPrintable (codes " iface ") _ (literal (codes " iface ") refl refl) (printable _ (plain_decimal iface h.0))))
 
-change_ascii : (c : RouteChange) → IsChange c → IsAscii (change_text c)
-change_ascii (Install p hop metric) h =
-    IsAscii-append (codes "add ") _ (ascii_test (codes "add ") refl) (route_ascii p hop metric h.0 h.1 h.2)
-change_ascii (Withdraw p) h =
-    IsAscii-append (codes "del ") _ (ascii_test (codes "del ") refl) (plain_ascii _ (plain_prefix p h))
+printable_route : (p : Prefix6) (hop : Hop) (metric : ℕ) → IsPrefix p → IsHop hop → metric < 2 ^ 8 → All IsPrintable (route_text p hop metric)
+printable_route p hop metric is_prefix is_hop fits =
+    All-append IsPrintable (written_prefix p) _ (printable _ (plain_prefix p is_prefix))
+    (All-append IsPrintable (codes " metric ") _ (literal (codes " metric ") refl refl)
+    (All-append IsPrintable (decimal metric) _ (printable _ (plain_decimal metric (omega arith)))
+    (All-append IsPrintable (codes " ") _ (literal (codes " ") refl refl) (printable_hop hop is_hop))))
+
+printable_change : (c : RouteChange) → IsChange c → All IsPrintable (change_text c)
+printable_change (Install p hop metric) h =
+    All-append IsPrintable (codes "add ") _ (literal (codes "add ") refl refl) (printable_route p hop metric h.0 h.1 h.2)
+printable_change (Withdraw p) h =
+    All-append IsPrintable (codes "del ") _ (literal (codes "del ") refl refl) (printable _ (plain_prefix p h))
 
 pub change_utf8 : (c : RouteChange) → IsChange c → IsUtf8 (change_text c)
-change_utf8 c h = IsUtf8-from_ascii (change_text c) (change_ascii c h)
+change_utf8 c h = IsUtf8-from_ascii (change_text c) (IsAscii-from_all _ (All-weaker IsPrintable (λ b. b < 128) (λ b is. is.1) _ (printable_change c h)))
+
+pub change_in_line : (c : RouteChange) → IsChange c → IsInLine (change_text c)
+change_in_line c h = All-weaker IsPrintable (λ b. b ≢ 10) (λ b is same. omega (arith, is.0)) _ (printable_change c h)
 
 -- a literal word
 pub literal_in_word : (xs : List ℕ) → list_all (λ b. nat_lt 32 b) xs ≡ true → IsInWord xs

@@ -5,6 +5,7 @@
 
 mod cutting;
 mod fault;
+pub mod laws;
 mod line;
 mod reading;
 #[cfg(test)]
