@@ -9,7 +9,7 @@ use Rattle.fib.specs.declared.change.Hop.{Hop}
 use Rattle.fib.specs.declared.change.Hop.TheVariants.{Direct, Via}
 use Rattle.fib.specs.declared.change.RouteChange.{RouteChange}
 use Rattle.fib.specs.declared.change.RouteChange.TheVariants.{Install, Withdraw}
-use Rattle.ripngd_engine.specs.Log.{hop_text, route_text, change_text, log_of}
+use Rattle.ripngd_engine.specs.Log.{hop_text, change_text, log_of}
 use Rattle.ripngd_log.specs.Reading.{IsHop, IsChange, IsInLine, Tells, IsFirstBadLine}
 use Rattle.ripngd_log.proofs.WordTexts.{addr_in_word, decimal_in_word, prefix_in_word, change_in_line}
 

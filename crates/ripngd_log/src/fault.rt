@@ -1,10 +1,10 @@
 //! Refusals: why a log is not read.
 
-ghost use Rattle.std.specs.Prelude.{◌≡◌, codes};
+ghost use Rattle.std.specs.Prelude.{◌≡◌};
 ghost use Rattle.ripngd_log.specs.Reading.{fault_number, fault_name};
 ghost use Rattle.ripngd_log.specs.declared.fault.LogFault.TheVariants as fault;
 
-use std::alloc::{AllocError, AllocFailed};
+use std::alloc::AllocError;
 use thiserror::Error;
 
 /// Why a log is not read. Each refusal has a number, which never changes, and a name.
@@ -45,14 +45,6 @@ impl From<AllocError> for LogFault {
     ghost from_gives = { λ _ e. e ≡ fault.OutOfMemory };
 
     fn from(_: AllocError) -> LogFault {
-        LogFault::OutOfMemory
-    }
-}
-
-impl<T: Drop> From<AllocFailed<T>> for LogFault {
-    ghost from_gives = { λ _ e. e ≡ fault.OutOfMemory };
-
-    fn from(_: AllocFailed<T>) -> LogFault {
         LogFault::OutOfMemory
     }
 }

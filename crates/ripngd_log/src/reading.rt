@@ -1,10 +1,14 @@
 //! A log, line by line, and the table that it makes.
 
-ghost use Rattle.std.specs.Prelude.{IfOk, IfErr};
+ghost use Rattle.std.specs.Prelude.{List, IfOk, IfErr};
+ghost use Rattle.std.specs.FinMap as map;
+ghost use Rattle.fib.specs.declared.change.RouteChange.{RouteChange};
+ghost use Rattle.fib.specs.Forwarding.{Replays};
 ghost use Rattle.ripngd_log.specs.Reading.{Tells, MakesTable, Refuses};
 
 use crate::cutting::first_line;
 use crate::fault::LogFault;
+use crate::laws::logs_are_read_one_way;
 use crate::line::push_line;
 use fib::{Fib, RouteChange};
 use std::alloc::Global;
@@ -40,8 +44,10 @@ fn read_changes(alloc: Global, text: &[u8]) -> Result<Vec<RouteChange>, LogFault
 /// the changes or the table is refused.
 pub fn read_log(alloc: Global, text: &[u8]) -> Result<Fib, LogFault>
     ensures table { IfOk result (MakesTable text.now) }
+    ensures follows { IfOk result (λ table. (changes : List RouteChange) → Tells text.now changes → Replays map.empty changes table) }
     ensures refused { IfErr result (Refuses text.now) }
 {
+    logs_are_read_one_way();
     let changes = read_changes(alloc, text)?;
     let mut fib = Fib::new(alloc);
     fib.apply(&changes)?;
