@@ -1,6 +1,6 @@
 //! One line of a log: the change that it can be of, and whether it is the line of a change.
 
-ghost use Rattle.std.specs.Prelude.{◌≡◌, ℕ, ◌<◌, ◌^◌, ◌↔◌, IsTrue, IfOk, IfSome, Some};
+ghost use Rattle.std.specs.Prelude.{◌≡◌, ℕ, ◌<◌, ◌^◌, ◌↔◌, IsTrue, IfOk, IfSome, OnErr, Some};
 ghost use Rattle.prefix6.specs.Prefix.{Prefix6, IsPrefix};
 ghost use Rattle.fib.specs.declared.change.Hop.{Hop};
 ghost use Rattle.fib.specs.declared.change.RouteChange.{RouteChange};
@@ -118,13 +118,14 @@ fn read_line(written: &mut String, line: &[u8]) -> Result<Option<RouteChange>, A
 /// Adds the change that the line is of, and says whether it is one. `written` is memory to write in.
 ///
 /// # Errors
-/// Where memory is refused. Nothing was added.
+/// Where memory is refused. Nothing is added then.
 pub(crate) fn push_line(
     changes: &mut Vec<RouteChange>,
     written: &mut String,
     line: &[u8],
 ) -> Result<bool, AllocError>
-    ensures { IfOk result (λ is_one. PushesLine line.now is_one changes.old.items changes.new.items) }
+    ensures read { IfOk result (λ is_one. PushesLine line.now is_one changes.old.items changes.new.items) }
+    ensures err { OnErr result (changes.new.items ≡ changes.old.items) }
 {
     changes.reserve(1)?;
     match read_line(written, line) {
