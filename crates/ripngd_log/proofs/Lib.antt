@@ -1,0 +1,3 @@
+mod WordTexts
+mod Readings
+mod OneReading

@@ -1,0 +1,66 @@
+-- What a log says, and where it says nothing.
+use Rattle.std.specs.Prelude.{◌≡◌, ◌≢◌, ℕ, ◌+◌, ◌^◌, ◌<◌, List, ◌∷◌, ◌++◌, length, codes}
+use Rattle.std.specs.List.{All}
+use Rattle.std.specs.FinMap as map
+use Rattle.prefix6.specs.Prefix.{IsPrefix}
+use Rattle.fib.specs.declared.change.Hop.{Hop}
+use Rattle.fib.specs.declared.change.Hop.TheVariants.{Direct, Via}
+use Rattle.fib.specs.declared.change.RouteChange.{RouteChange}
+use Rattle.fib.specs.declared.change.RouteChange.TheVariants.{Install, Withdraw}
+use Rattle.fib.specs.Forwarding.{Forwarding, Replays}
+use Rattle.ripngd_engine.specs.Log.{change_text, log_of}
+use Rattle.ripngd_log.specs.declared.fault.LogFault.{LogFault}
+use Rattle.ripngd_log.specs.declared.fault.LogFault.TheVariants.{BadLine, OutOfMemory}
+
+-- a number of an interface of 64 bits, and an address of 128
+abbrev pub IsHop : Hop → Type 0
+IsHop Direct = Unit {0}
+IsHop (Via iface next_hop) = (iface < 2 ^ 64) × (next_hop < 2 ^ 128)
+
+-- a prefix whose bits past its length are zero, a hop, and a metric of one byte
+abbrev pub IsChange : RouteChange → Type 0
+IsChange (Install p hop metric) = IsPrefix p × IsHop hop × (metric < 2 ^ 8)
+IsChange (Withdraw p) = IsPrefix p
+
+-- no byte is a line feed (10)
+abbrev pub IsInLine : List ℕ → Type 0
+IsInLine text = All (λ b. b ≢ 10) text
+
+-- a line for each change, and the rest, which is of a line that has no end yet
+pub record Tells (text : List ℕ) (changes : List RouteChange) : Type 0 where
+  pub rest : List ℕ
+  pub lawful : All IsChange changes
+  pub spelled : text ≡ log_of changes ++ rest
+  pub unended : IsInLine rest
+
+-- the table that the changes make, one after another, where there was none
+pub record MakesTable (text : List ℕ) (table : Forwarding) : Type 0 where
+  pub changes : List RouteChange
+  pub told : Tells text changes
+  pub replayed : Replays map.empty changes table
+
+-- the line of a number is the first that is not the line of a change
+pub record IsFirstBadLine (text : List ℕ) (line : ℕ) : Type 0 where
+  pub before : List RouteChange
+  pub bad : List ℕ
+  pub after : List ℕ
+  pub lawful : All IsChange before
+  pub spelled : text ≡ log_of before ++ bad ++ (10 ∷ after)
+  pub is_line : IsInLine bad
+  pub place : line ≡ length before + 1
+  pub no_change : (c : RouteChange) → IsChange c → change_text c ≢ bad
+
+-- what a refusal says of the text; want of memory says nothing
+abbrev pub Refuses : List ℕ → LogFault → Type 0
+Refuses text (BadLine line) = IsFirstBadLine text line
+Refuses text OutOfMemory = Unit {0}
+
+-- the number of a refusal
+abbrev pub fault_number : LogFault → ℕ
+fault_number (BadLine line) = 1
+fault_number OutOfMemory = 2
+
+-- as the variant is spelled
+abbrev pub fault_name : LogFault → List ℕ
+fault_name (BadLine line) = codes "BadLine"
+fault_name OutOfMemory = codes "OutOfMemory"

@@ -1,0 +1,139 @@
+//! One line of a log: the change that it can be of, and whether it is the line of a change.
+
+ghost use Rattle.std.specs.Prelude.{◌≡◌, ℕ, ◌<◌, ◌^◌, ◌↔◌, IsTrue, IfOk, IfSome, OnErr, Some};
+ghost use Rattle.prefix6.specs.Prefix.{Prefix6, IsPrefix};
+ghost use Rattle.fib.specs.declared.change.Hop.{Hop};
+ghost use Rattle.fib.specs.declared.change.RouteChange.{RouteChange};
+ghost use Rattle.fib.specs.declared.change.RouteChange.TheVariants.{Install};
+ghost use Rattle.ripngd_engine.specs.Log.{hop_text, route_text, change_text};
+ghost use Rattle.ripngd_log.specs.Reading.{IsHop, IsChange};
+ghost use Rattle.ripngd_log.specs.Words.{IsRead, PushesLine};
+
+use crate::words::{addr_in, first_word, iface_in, metric_in, prefix_in};
+use fib::{Hop, RouteChange};
+use ripngd_engine::RouteLine;
+use std::alloc::AllocError;
+use std::fmt::{self, Display, Write};
+use std::str;
+
+/// A change, written as its line in the log.
+#[derive(Clone, Copy)]
+struct ChangeLine(RouteChange);
+
+impl Display for ChangeLine {
+    ghost output = { λ c. Some (change_text c.0) };
+
+    fn fmt<W: fmt::Write>(&self, f: &mut fmt::Formatter<W>) -> fmt::Result {
+        match self.0 {
+            RouteChange::Install {
+                prefix,
+                hop,
+                metric,
+            } => {
+                let route = RouteLine {
+                    prefix,
+                    hop,
+                    metric,
+                };
+                write!(f, "add {route}")
+            }
+            RouteChange::Withdraw { prefix } => write!(f, "del {prefix}"),
+        }
+    }
+}
+
+/// The hop that the text can be of.
+fn hop_in(text: &str) -> Option<Hop>
+    ensures lawful { IfSome result IsHop }
+    ensures found { (hop : Hop) → IsHop hop → text.now ≡ hop_text hop → result ≡ Some hop }
+{
+    if text == "direct" {
+        return Some(Hop::Direct);
+    }
+    let (_, text) = first_word(text);
+    let (next_hop, text) = first_word(text);
+    let (_, iface) = first_word(text);
+    Some(Hop::Via {
+        iface: iface_in(iface)?,
+        next_hop: addr_in(next_hop)?,
+    })
+}
+
+/// The entry that the text can be of.
+fn install_in(text: &str) -> Option<RouteChange>
+    ensures lawful { IfSome result IsChange }
+    ensures found { (p : Prefix6) (hop : Hop) (metric : ℕ) → IsPrefix p → IsHop hop → metric < 2 ^ 8 → text.now ≡ route_text p hop metric → result ≡ Some (Install p hop metric) }
+{
+    let (prefix, text) = first_word(text);
+    let (_, text) = first_word(text);
+    let (metric, hop) = first_word(text);
+    Some(RouteChange::Install {
+        prefix: prefix_in(prefix)?,
+        hop: hop_in(hop)?,
+        metric: metric_in(metric)?,
+    })
+}
+
+/// The change that the line can be of: it is read by the places of its words.
+fn change_in(line: &[u8]) -> Option<RouteChange>
+    ensures lawful { IfSome result IsChange }
+    ensures found { (c : RouteChange) → IsChange c → change_text c ≡ line.now → result ≡ Some c }
+{
+    let line = str::from_utf8(line).ok()?;
+    let (word, text) = first_word(line);
+    match word {
+        "add" => install_in(text),
+        _ => Some(RouteChange::Withdraw {
+            prefix: prefix_in(text)?,
+        }),
+    }
+}
+
+/// Whether the line is that of the change. It is written into the memory of `written`.
+fn is_line_of(written: &mut String, line: &[u8], change: &RouteChange) -> Result<bool, AllocError>
+    ensures { IfOk result (λ same. IsTrue same ↔ (change_text change.now ≡ line.now)) }
+{
+    written.clear();
+    if write!(written, "{}", ChangeLine(*change)).is_err() {
+        return Err(AllocError);
+    }
+    Ok(written.as_bytes() == line)
+}
+
+/// The change that the line is of, if it is one. What is read of a line is written again, into the memory of `written`,
+/// and counts only if that is the line.
+fn read_line(written: &mut String, line: &[u8]) -> Result<Option<RouteChange>, AllocError>
+    ensures { IfOk result (λ read. IsRead line.now read) }
+{
+    let Some(change) = change_in(line) else {
+        return Ok(None);
+    };
+    if is_line_of(written, line, &change)? {
+        Ok(Some(change))
+    } else {
+        Ok(None)
+    }
+}
+
+/// Adds the change that the line is of, and says whether it is one. `written` is memory to write in.
+///
+/// # Errors
+/// Where memory is refused. Nothing is added then.
+pub(crate) fn push_line(
+    changes: &mut Vec<RouteChange>,
+    written: &mut String,
+    line: &[u8],
+) -> Result<bool, AllocError>
+    ensures read { IfOk result (λ is_one. PushesLine line.now is_one changes.old.items changes.new.items) }
+    ensures err { OnErr result (changes.new.items ≡ changes.old.items) }
+{
+    changes.reserve(1)?;
+    match read_line(written, line) {
+        Ok(Some(change)) => {
+            changes.push_reserved(change);
+            Ok(true)
+        }
+        Ok(None) => Ok(false),
+        Err(refused) => Err(refused),
+    }
+}
