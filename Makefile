@@ -1,6 +1,7 @@
 # make              proves and builds the program, and leaves it at bin/ripngd
 # make lab SCRIPT=  runs a network of routers from a script
 # make show HEX=    decodes one datagram, given as hexadecimal digits
+# make page         serves the page of the laboratory, at PORT of 127.0.0.1, until it is interrupted
 # make install      puts the program, its manual page and the examples below PREFIX (and DESTDIR before it)
 # make uninstall    takes them away again
 # make bench        times of a router and its forwarding table, as tables grow
@@ -11,17 +12,18 @@
 HEX ?= 02010000
 SCRIPT ?= examples/line.lab
 ROUTES ?= 1024 4096 16384 65536
+PORT ?= 8532
 
 PREFIX ?= /usr/local
 BINARIES = $(DESTDIR)$(PREFIX)/bin
 MANUALS = $(DESTDIR)$(PREFIX)/share/man/man8
 PAGES = $(DESTDIR)$(PREFIX)/share/doc/ripngd
 
-.PHONY: all lab show install uninstall bench test clean
+.PHONY: all lab show page install uninstall bench test clean
 
 # Libraries that do not need each other are proved side by side; each waits for those below it.
 all:
-	for crate in ripngd_trace ripngd_config ripngd_engine ripngd_udp; do (cd crates/$$crate && rt lib) & done; wait
+	for crate in ripngd_page ripngd_config ripngd_engine ripngd_log ripngd_udp ripngd_watch; do (cd crates/$$crate && rt lib) & done; wait
 	cd crates/ripngd_program && rt run -- show 02010000 > /dev/null
 	mkdir -p bin
 	cp crates/ripngd_program/out/ripngd_program bin/ripngd
@@ -31,6 +33,9 @@ lab: all
 
 show: all
 	bin/ripngd show $(HEX)
+
+page: all
+	bin/ripngd page --port $(PORT)
 
 # What `make` built is installed; where nothing was built yet, it is built first.
 bin/ripngd:

@@ -12,7 +12,7 @@ browser=$(command -v chromium || command -v chromium-browser || command -v googl
 # `picture NAME STEP ROUTER`: the film of an example, and its picture at that step, with the walk behind that router's metric.
 picture() {
     local film=$root/docs/films/$1.html
-    "$root/page/film.sh" "$root/examples/$1.lab" > "$film"
+    "$root/bin/ripngd" page --film "$root/examples/$1.lab" > "$film"
     "$browser" --headless --no-sandbox --disable-gpu --hide-scrollbars --window-size=600,730 --virtual-time-budget=2000 \
         --screenshot="$root/docs/pictures/$1.png" "file://$film#step=$2&router=$3&prefix=2001:db8::/32" 2> /dev/null
 }

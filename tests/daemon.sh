@@ -150,6 +150,58 @@ add 2001:db8:f::/48 metric 2 via fe80::f iface 0" &&
         same "standard error" "$(cat "$folder/east.err" "$folder/west.err")" ""
 }
 
+# `shows_table NAME TABLE`: whether `table` makes these lines of a daemon's log.
+shows_table() {
+    run table "$folder/$1.log"
+    same status "$status" 0 && same "standard error" "$(cat "$folder/err")" "" &&
+        same "the table of $1's log" "$(cat "$folder/out")" "$2"
+}
+
+the_table_of_a_daemon_that_runs_is_made_of_its_log() {
+    neighbors
+    start east run -R "$folder/east.log" "$folder/east.toml" && local east=$pid
+    start west run -R "$folder/west.log" "$folder/west.toml" && local west=$pid
+    until_true shows_table east "2001:db8:e::/48 metric 1 direct
+2001:db8:f::/48 metric 2 via fe80::f iface 0" || because "$why" || return
+    until_true shows_table west "2001:db8:e::/48 metric 2 via fe80::e iface 0
+2001:db8:f::/48 metric 1 direct" || because "$why" || return
+    kill -0 "$east" 2> /dev/null && kill -0 "$west" 2> /dev/null || because "one ended" || return
+    end "$east"
+    end "$west"
+    printf 'del 2001:db8:e' >> "$folder/east.log"
+    shows_table east "2001:db8:e::/48 metric 1 direct
+2001:db8:f::/48 metric 2 via fe80::f iface 0" || return
+    printf '::/48\nseed = 1\n' >> "$folder/east.log"
+    run table "$folder/east.log"
+    same status "$status" 1 && same output "$(cat "$folder/out")" "line 4 refused 1 BadLine"
+}
+
+# One neighbor's datagrams come with a hop limit of 64, the other tells a metric of 17 beside a good one.
+what_a_daemon_refuses_is_said_and_counted() {
+    local far_port near_port far near route='\x20\x01\x0d\xb8\x00\x00\x00\x00\x00\x00\x00\x00\x00\x00\x00\x00\x00\x00\x20'
+    next_port && far_port=$port
+    next_port && near_port=$port
+    open_feed "$far_port" && far=$feed || return
+    { interface 1 "$far_port" a "$feed_port" && echo 'hop_limit = 64'; } > "$folder/debugged.toml"
+    open_feed "$near_port" && near=$feed || return
+    interface 2 "$near_port" b "$feed_port" >> "$folder/debugged.toml"
+    start debugged run -d --turns 80 "$folder/debugged.toml" && local debugged=$pid
+    until_true is_taken "$near_port" || because "it did not come up" || return
+    printf "\x02\x01\x00\x00$route\x01" >&"$far"
+    until_true grep -q 'refused 10' "$folder/debugged.err" || because "the hop limit is not said" || return
+    printf "\x02\x01\x00\x00$route\x11${route/0d/0e}\x01" >&"$near"
+    finish "$debugged"
+    exec {far}>&- {near}>&-
+    same status "$status" 0 &&
+        same "the table" "$(cat "$folder/debugged.out")" "2001:eb8::/32 metric 2 via fe80::b iface 1" &&
+        same "standard error" "$(sed 's/^[0-9]* iface/T iface/; s/sends [0-9]*/sends S/' "$folder/debugged.err")" \
+            "T iface 0 from fe80::a port 521 refused 10 HopLimit
+T iface 1 from fe80::b port 521 entry 0 noted 22 BadMetric
+arrivals 2 sends S failed 0
+refused 10 HopLimit 1
+noted 22 BadMetric 1"
+}
+
 a_daemon_goes_on_after_it_was_stopped() {
     neighbors
     start east run --turns 120 -R "$folder/east.log" "$folder/east.toml" && local east=$pid
@@ -446,6 +498,8 @@ try() {
 
 try the_version_is_that_of_the_manual_page
 try two_daemons_learn_from_each_other
+try the_table_of_a_daemon_that_runs_is_made_of_its_log
+try what_a_daemon_refuses_is_said_and_counted
 try a_daemon_goes_on_after_it_was_stopped
 try a_log_on_a_full_device_ends_alone
 try a_full_standard_output_is_told

@@ -41,6 +41,7 @@ lab.restart 347 359
 lab.own 347 359
 lab.run 327 359
 lab.round 315 359
+log.read 386 399
 engine.turns 348 396
 '
 

@@ -1,27 +1,26 @@
 #!/usr/bin/env bash
-# The laboratory's page in a headless browser: each example as a film, and the page as a server gives it.
+# The laboratory's page: what its server answers on a real socket, and in a headless browser each example as a film, and the
+# page as the server gives it.
 #
-#     tests/page.sh [SCRIPT..]        the scripts are examples/*.lab if none is named
+#     tests/page.sh [PROGRAM [SCRIPT..]]
 #
-# A line for each case, `ok NAME` or `FAILED NAME: why`, and last `N passed, M failed`. The exit status is 0 exactly where M
-# is 0. Needs bin/ripngd, bash, sed, awk and Chromium (a package of the system); where there is no Chromium it says so, and
-# nothing is tried. Takes about a minute.
+# Tries PROGRAM, bin/ripngd if none is named, with the scripts, examples/*.lab if none is named. A line for each case, `ok NAME`
+# or `FAILED NAME: why`, and last `N passed, M failed`. The exit status is 0 exactly where M is 0. Needs bash, sed, awk and curl,
+# and for the films Chromium (a package of the system). Where one of them is missing a line `skipped: ..` says what was not tried.
+# Takes about a minute.
 set -u
 
 root=$(realpath "$(dirname "$0")/..")
-program=$root/bin/ripngd
-film=$root/page/film.sh
+program=$(realpath "${1:-$root/bin/ripngd}")
+[ $# -eq 0 ] || shift
 folder=$(mktemp -d)
-trap 'rm -rf "$folder"' EXIT
+server=
+trap 'rm -rf "$folder"; [ -z "$server" ] || kill "$server" 2> /dev/null' EXIT
 passed=0
 failed=0
 why=
 
 browser=$(command -v chromium || command -v chromium-browser || command -v google-chrome)
-if [ -z "$browser" ]; then
-    echo "skipped: there is no Chromium, so the page is not tested"
-    exit 0
-fi
 
 because() {
     why=$1
@@ -49,9 +48,15 @@ play() {
     ! grep -q '^wrong' "$folder/report" || because "$(grep -m 1 '^wrong' "$folder/report")"
 }
 
+# `film SCRIPT`: its film; a script that is refused has one too.
+film() {
+    "$program" page --film "$1"
+    [ $? -le 1 ]
+}
+
 # The film of a script is stepped to its end and back. Its tables are what `lab` prints of routes, and each walk is a sum.
 film_of() {
-    "$film" "$1" > "$folder/film.html" || because "no film is made" || return
+    film "$1" > "$folder/film.html" || because "no film is made" || return
     play film "$folder/film.html" || return
     local steps
     steps=$("$program" lab --trace "$1" | wc -l)
@@ -77,7 +82,7 @@ rounds_reach_the_least_cost() {
 
 # The page decodes datagrams as `show` does.
 datagrams_of() {
-    "$film" "$1" > "$folder/film.html" && play decode "$folder/film.html" || return
+    film "$1" > "$folder/film.html" && play decode "$folder/film.html" || return
     local hex
     "$program" lab --trace "$1" | grep -o '"peer":[^"]*\({[^}]*},\)\?"bytes":"[0-9a-f]*"' | sed 's/.*:"\(.*\)"/\1/' > "$folder/datagrams"
     same "what is decoded" "$(sed -n 's/^show //p' "$folder/report")" "$(while read -r hex; do "$program" show "$hex"; done < "$folder/datagrams")"
@@ -85,7 +90,7 @@ datagrams_of() {
 
 # At the second `print` of counting.lab router 1 holds 5, by hand: the owner's 1, the link to it, and three hops around the ring.
 counting_to_five() {
-    "$film" "$root/examples/counting.lab" > "$folder/film.html" || return
+    film "$root/examples/counting.lab" > "$folder/film.html" || return
     local step
     step=$("$program" lab --trace "$root/examples/counting.lab" | grep -n '"record":"print"' | sed -n '2s/:.*//p')
     play asked "$folder/film.html" "step=$step&router=1&prefix=2001:db8::/32" || return
@@ -138,7 +143,7 @@ refused 7 ReconfigureRefused 35 NotOwned: the router does not own it"
 
 # `answer SCRIPT`: a script and its trace, as a server would answer it.
 answer() {
-    "$film" "$1" | awk '/^<div id="scripts"/ { on = 1; print "<section hidden>"; next } /^<script>$/ { exit } on { sub(/ id="trace"/, ""); print } END { print "</section>" }'
+    film "$1" | awk '/^<div id="scripts"/ { on = 1; print "<section hidden>"; next } /^<script>$/ { exit } on { sub(/ id="trace"/, ""); print } END { print "</section>" }'
 }
 
 # A page that a server gives: a click appends an event, and a line that is refused is marked.
@@ -155,7 +160,7 @@ window.fetch = async (_, { body }) => ANSWERS.has(body) ? new Response(ANSWERS.g
 </script>
 END
     } > "$folder/answers"
-    "$film" --served "$folder/line.lab" > "$folder/served.html" && play edit "$folder/served.html"
+    film "$folder/line.lab" | awk '/^<div id="trace"/ { print; off = 1; next } off && /^<\/div>$/ { off = 0 } !off' > "$folder/served.html" && play edit "$folder/served.html"
     local played=$?
     rm "$folder/answers"
     [ "$played" = 0 ] || return
@@ -171,6 +176,84 @@ last $((line + 1)) refused 1 NoSuchRouter: there is no such router
 not run: no such script"
 }
 
+# `serve N`: the server, which ends after N requests, with its address in `$address`.
+serve() {
+    "$program" page --port 0 --requests "$1" > "$folder/address" 2> "$folder/errors" &
+    server=$!
+    local tries
+    for tries in $(seq 50); do
+        [ ! -s "$folder/address" ] || break
+        sleep 0.1
+    done
+    address=$(cat "$folder/address")
+    [ -n "$address" ] || because "no address is printed: $(cat "$folder/errors")"
+}
+
+# The server has ended, with status 0.
+ended() {
+    local status=0
+    wait "$server" || status=$?
+    server=
+    same "the exit status" "$status" 0
+}
+
+# `status CURL-ARGUMENTS..`: the status of an answer, whose body is left in `$folder/body`.
+status() {
+    curl --silent --max-time 10 --output "$folder/body" --write-out '%{http_code}' "$@"
+}
+
+# The page, a trace and a datagram, as the program prints them; other hosts, other pages and other paths are refused.
+a_server_answers() {
+    serve 7 || return
+    local script=$root/examples/line.lab
+    same "the page's status" "$(status "$address")" 200 || return
+    grep -q '<div data-name="line.lab">' "$folder/body" || because "the page has no examples" || return
+    same "the status of a trace" "$(status --data-binary "@$script" "${address}trace")" 200 || return
+    same "the trace" "$(cat "$folder/body")" "$("$program" lab --trace "$script")" || return
+    same "the status of a datagram" "$(status --data-binary 02010000 "${address}show")" 200 || return
+    same "the datagram" "$(cat "$folder/body")" "$("$program" show 02010000)" || return
+    same "another host" "$(status --header 'Host: example.com' "$address")" 403 || return
+    same "another page" "$(status --header 'Origin: http://example.com' --data 02 "${address}show")" 403 || return
+    same "another path" "$(status "${address}etc/passwd")" 404 || return
+    same "another method" "$(status --request PUT "$address")" 405 || return
+    ended
+}
+
+# A body of more than 262,144 bytes is refused, and another request is answered.
+a_long_body_is_refused() {
+    serve 2 || return
+    head -c 262145 /dev/zero > "$folder/long"
+    same "the status" "$(status --header 'Expect:' --data-binary "@$folder/long" "${address}trace")" 413 || return
+    same "the status of the next" "$(status "$address")" 200 || return
+    ended
+}
+
+# Another request is answered behind a connection that says nothing, and behind one that stops within its request.
+silence_stops_nothing() {
+    serve 1 || return
+    local port=${address##*:}
+    exec 3<> "/dev/tcp/127.0.0.1/${port%/}" 4<> "/dev/tcp/127.0.0.1/${port%/}"
+    printf 'POST /trace HTTP/1.1\r\nHost: localhost\r\nContent-Length: 10\r\n\r\nrou' >&4
+    same "the status" "$(status "$address")" 200
+    local asked=$?
+    exec 3>&- 4>&-
+    [ "$asked" = 0 ] && ended
+}
+
+# The page that the server gives asks it to run the first of its scripts.
+a_served_page_runs_its_scripts() {
+    serve 100 || return
+    "$browser" --headless --no-sandbox --disable-gpu --virtual-time-budget=5000 --dump-dom "$address" 2> /dev/null > "$folder/dom"
+    local script steps
+    script=$(ls "$root"/examples/*.lab | head -n 1)
+    steps=$("$program" lab --trace "$script" | wc -l)
+    grep -q "of $steps," "$folder/dom" || because "the page does not have the $steps steps of $(basename "$script")"
+    local shown=$?
+    kill "$server"
+    server=
+    return "$shown"
+}
+
 try() {
     why=
     local name="$1${2:+ $(basename "$2")}"
@@ -183,15 +266,27 @@ try() {
     fi
 }
 
-[ $# -gt 0 ] || set -- "$root"/examples/*.lab
-for script in "$@"; do
-    try film_of "$script"
-    try datagrams_of "$script"
-done
-try counting_to_five
-try rounds_reach_the_least_cost
-try a_network_of_changes
-try a_click_appends_an_event
+if [ -z "$browser" ]; then
+    echo "skipped: there is no Chromium, so no page is opened"
+else
+    [ $# -gt 0 ] || set -- "$root"/examples/*.lab
+    for script in "$@"; do
+        try film_of "$script"
+        try datagrams_of "$script"
+    done
+    try counting_to_five
+    try rounds_reach_the_least_cost
+    try a_network_of_changes
+    try a_click_appends_an_event
+fi
+if command -v curl > /dev/null; then
+    try a_server_answers
+    try a_long_body_is_refused
+    try silence_stops_nothing
+    [ -z "$browser" ] || try a_served_page_runs_its_scripts
+else
+    echo "skipped: there is no curl, so no server is asked"
+fi
 
 echo "$passed passed, $failed failed"
 [ "$failed" = 0 ]

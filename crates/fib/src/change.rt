@@ -36,7 +36,7 @@ pub enum RouteChange {
 }
 
 impl RouteChange {
-    // The prefix that the change is about.
+    /// The prefix that the change is about.
     pub(crate) fn prefix(&self) -> Prefix
         ensures { result ≡ prefix_of self.now }
     {
@@ -45,7 +45,7 @@ impl RouteChange {
         }
     }
 
-    // Whether the change leaves an entry.
+    /// Whether the change leaves an entry.
     pub(crate) fn is_install(&self) -> bool
         ensures { result ≡ is_install self.now }
     {

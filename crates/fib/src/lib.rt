@@ -3,7 +3,7 @@
 
 mod change;
 mod fib;
-pub mod laws;
+mod laws;
 mod merging;
 mod replaying;
 mod room;
@@ -13,3 +13,4 @@ mod tests;
 
 pub use change::{Hop, RouteChange};
 pub use fib::Fib;
+pub use laws::{longest_match_is_one, replay_follows_calls};

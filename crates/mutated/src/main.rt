@@ -25,7 +25,7 @@ const LINES: usize = 1_000;
 /// After so many datagrams the routers tick.
 const BETWEEN_TICKS: u32 = 50;
 
-// An interface of cost 1.
+/// An interface of cost 1.
 fn interface(host: u32) -> Interface {
     Interface {
         addr: Addr6::from_bits((0xfe80 << 112) + u128::from(host)),
@@ -34,14 +34,14 @@ fn interface(host: u32) -> Interface {
     }
 }
 
-// A router with two interfaces and one prefix.
+/// A router with two interfaces and one prefix.
 fn config(alloc: Global) -> Option<RouterConfig> {
     let interfaces = vec![in alloc; interface(1), interface(0x1_0001)].ok()?;
     let prefix = Prefix::new(Addr6::from_bits(0x2001_0db8 << 96), 32).ok()?;
     RouterConfig::check(interfaces, vec![in alloc; (prefix, 0)].ok()?, false).ok()
 }
 
-// Why the routers differ, if they do, when this many datagrams have come.
+/// Why the routers differ, if they do, when this many datagrams have come.
 fn one_more(
     pair: &mut Pair,
     rng: &mut Pcg32,
@@ -56,7 +56,7 @@ fn one_more(
     Some(heard && (!is_time || pair.tick(now, rng.next_u32()).ok()?))
 }
 
-// How many datagrams came until the routers differed, or all.
+/// How many datagrams came until the routers differed, or all.
 fn agreed(alloc: Global, pair: &mut Pair, datagrams: &[Vec<u8>]) -> u32 {
     let mut rng = Pcg32::seed_from_u64(1);
     for number in 0..DATAGRAMS {
@@ -67,7 +67,7 @@ fn agreed(alloc: Global, pair: &mut Pair, datagrams: &[Vec<u8>]) -> u32 {
     DATAGRAMS
 }
 
-// The datagrams of the standard input.
+/// The datagrams of the standard input.
 fn read(rt: &HostRuntime, alloc: Global) -> io::Result<Vec<Vec<u8>>> {
     let mut datagrams = Vec::new(alloc);
     let lines = BufReader::new(alloc, rt.reader())?.lines(alloc);

@@ -7,12 +7,12 @@ use route_table::Moment;
 use router_core::Arrival;
 use std::alloc::{AllocError, Global};
 
-// A number below a bound, or 0 where there is none.
+/// A number below a bound, or 0 where there is none.
 fn below(rng: &mut Pcg32, bound: usize) -> usize {
     (rng.next_u32() as usize).checked_rem(bound).unwrap_or(0)
 }
 
-// One byte is another.
+/// One byte is another.
 fn spoil(rng: &mut Pcg32, bytes: &mut [u8]) {
     let place = below(rng, bytes.len());
     let [value, ..] = rng.next_u32().to_le_bytes();
@@ -44,7 +44,7 @@ pub fn mutated(
     Ok(bytes)
 }
 
-// One of a few neighbors.
+/// One of a few neighbors.
 fn neighbor(rng: &mut Pcg32) -> Addr6 {
     let host = below(rng, 4) as u128;
     Addr6::from_bits((0xfe80 << 112) + 2 + host)

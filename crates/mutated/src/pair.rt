@@ -18,7 +18,7 @@ pub struct Pair {
     pub changes: u32,
 }
 
-// A datagram comes to an interface that there is.
+/// A datagram comes to an interface that there is.
 fn hear<S: RouteStore>(router: &mut Router<S>, arrival: Arrival<'_>) -> Result<Answer, AllocError> {
     if arrival.iface < router.config().interfaces().len() {
         router.arrive(arrival)
@@ -27,7 +27,7 @@ fn hear<S: RouteStore>(router: &mut Router<S>, arrival: Arrival<'_>) -> Result<A
     }
 }
 
-// The same arrival of other bytes.
+/// The same arrival of other bytes.
 fn with_bytes<'a>(arrival: &Arrival<'_>, bytes: &'a [u8]) -> Arrival<'a> {
     Arrival {
         now: arrival.now,
@@ -40,7 +40,7 @@ fn with_bytes<'a>(arrival: &Arrival<'_>, bytes: &'a [u8]) -> Arrival<'a> {
     }
 }
 
-// A Response of one entry, behind the next hop entry that holds for it.
+/// A Response of one entry, behind the next hop entry that holds for it.
 fn piece(alloc: Global, hop: Option<Rte>, entry: Rte) -> Result<Vec<u8>, AllocError> {
     match hop {
         Some(hop) => encode(alloc, Command::Response, &[hop, entry]),
@@ -48,7 +48,7 @@ fn piece(alloc: Global, hop: Option<Rte>, entry: Rte) -> Result<Vec<u8>, AllocEr
     }
 }
 
-// Whether two answers send the same.
+/// Whether two answers send the same.
 fn sends_same(one: &Answer, other: &Answer) -> bool {
     let (one, other) = (one.sends.as_slice(), other.sends.as_slice());
     one.len() == other.len()
@@ -57,7 +57,7 @@ fn sends_same(one: &Answer, other: &Answer) -> bool {
             && a.bytes.as_slice() == b.bytes.as_slice())
 }
 
-// Whether two tables have the same routes.
+/// Whether two tables have the same routes.
 fn holds_same<S: RouteStore, T: RouteStore>(one: &S, other: &T) -> bool {
     let mut after = None;
     for _ in 0..one.len() {
@@ -94,7 +94,7 @@ impl Pair {
         })
     }
 
-    // A Response comes entry by entry: the changes of forwarding.
+    /// A Response comes entry by entry: the changes of forwarding.
     fn hear_pieces(&mut self, arrival: &Arrival<'_>) -> Result<Vec<RouteChange>, AllocError> {
         let mut changes = Vec::new(self.alloc);
         let Ok(datagram) = decode(arrival.bytes) else {
@@ -113,7 +113,7 @@ impl Pair {
         Ok(changes)
     }
 
-    // A datagram with a fault, or a Request, comes to the second router as it is. Whether it answers the same.
+    /// A datagram with a fault, or a Request, comes to the second router as it is. Whether it answers the same.
     fn hear_alike(&mut self, arrival: Arrival<'_>, wanted: &Answer) -> Result<bool, AllocError> {
         let answer = hear(&mut self.pieces, arrival)?;
         Ok(answer.fault == wanted.fault && sends_same(&answer, wanted))

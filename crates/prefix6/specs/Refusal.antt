@@ -3,6 +3,7 @@ use Rattle.std.specs.Prelude.{ℕ, List, codes}
 use Rattle.prefix6.specs.declared.error.PrefixError.{PrefixError}
 use Rattle.prefix6.specs.declared.error.PrefixError.TheVariants.{LengthTooLarge, BadAddressText, BadLengthText}
 
+-- the number of a refusal
 abbrev pub number_of : PrefixError → ℕ
 number_of LengthTooLarge = 1
 number_of BadAddressText = 2

@@ -68,6 +68,7 @@ pub record ReadsPrefix (text : List ℕ) (p : Prefix6) : Type 0 where
 abbrev pub address_part : List ℕ → List ℕ
 address_part text = before_first (λ c. c == 47) text
 
+-- what stands behind the first slash
 abbrev pub length_part : List ℕ → List ℕ
 length_part text = after_first (λ c. c == 47) text
 

@@ -94,14 +94,14 @@ impl Addr6 {
         u128::from(self.high) * (1 << 64) + u128::from(self.low)
     }
 
-    // The upper half of its bits, as a number.
+    /// The upper half of its bits, as a number.
     pub(crate) fn high(self) -> u64
         ensures { result ≡ self / 2 ^ 64 }
     {
         self.high
     }
 
-    // The lower half of its bits, as a number.
+    /// The lower half of its bits, as a number.
     pub(crate) fn low(self) -> u64
         ensures { result ≡ self % 2 ^ 64 }
     {

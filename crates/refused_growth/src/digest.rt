@@ -47,7 +47,7 @@ impl Digest {
         self.number(u64::from(prefix.len()));
     }
 
-    // Adds where a route came from.
+    /// Adds where a route came from.
     fn origin(&mut self, origin: Origin) {
         if let Origin::Learned {
             iface,
@@ -62,7 +62,7 @@ impl Digest {
         }
     }
 
-    // Adds a route with its prefix.
+    /// Adds a route with its prefix.
     fn route(&mut self, prefix: Prefix, route: Route) {
         self.prefix(prefix);
         self.number(u64::from(route.metric()));
@@ -76,7 +76,7 @@ impl Digest {
         }
     }
 
-    // Adds all routes of a table, and how many they are.
+    /// Adds all routes of a table, and how many they are.
     fn routes<S: RouteStore>(&mut self, store: &S) {
         self.number(store.len() as u64);
         let mut after = None;
@@ -107,7 +107,7 @@ impl Digest {
         }
     }
 
-    // Adds what a router owns.
+    /// Adds what a router owns.
     fn owned<S: RouteStore>(&mut self, router: &Router<S>) {
         self.number(u64::from(router.config().is_quiet()));
         for (prefix, tag) in router.config().prefixes() {
@@ -131,7 +131,7 @@ impl Digest {
         self.bytes(outgoing.bytes.as_slice());
     }
 
-    // Adds where packets go.
+    /// Adds where packets go.
     fn hop(&mut self, hop: Hop) {
         if let Hop::Via { iface, next_hop } = hop {
             self.number(1);
@@ -140,7 +140,7 @@ impl Digest {
         }
     }
 
-    // Adds a change of the forwarding table.
+    /// Adds a change of the forwarding table.
     fn change(&mut self, change: RouteChange) {
         match change {
             RouteChange::Install {

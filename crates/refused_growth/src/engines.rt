@@ -72,7 +72,7 @@ fn link(alloc: Global) -> Option<MemoryLink>
     Some(link)
 }
 
-// An engine that has ended does nothing, and its forwarding table is as it started.
+/// An engine that has ended does nothing, and its forwarding table is as it started.
 fn ended(engine: &mut MemoryEngine, log: &mut MemoryLog) -> Outcome {
     let calls = engine.link().calls().map(|calls| calls.len());
     let again = engine.turns(1, log);
@@ -87,7 +87,7 @@ fn ended(engine: &mut MemoryEngine, log: &mut MemoryLog) -> Outcome {
     }
 }
 
-// An engine made its turns, and makes another: what it lost is counted once.
+/// An engine made its turns, and makes another: what it lost is counted once.
 fn went_on(engine: &mut MemoryEngine, log: &mut MemoryLog) -> Outcome {
     let report = engine.report();
     if engine.turns(1, log) != Ok(()) || engine.report() != report {
@@ -108,7 +108,7 @@ fn went_on(engine: &mut MemoryEngine, log: &mut MemoryLog) -> Outcome {
     }
 }
 
-// An engine that started makes its turns.
+/// An engine that started makes its turns.
 fn outcome_of_turns(mut engine: MemoryEngine, log: &mut MemoryLog) -> Outcome {
     match engine.turns(3, log) {
         Ok(()) => went_on(&mut engine, log),
@@ -117,7 +117,7 @@ fn outcome_of_turns(mut engine: MemoryEngine, log: &mut MemoryLog) -> Outcome {
     }
 }
 
-// What came of a start and its turns, if what they need could be made.
+/// What came of a start and its turns, if what they need could be made.
 fn outcome(alloc: Global) -> Option<Outcome> {
     let config = config(alloc)?;
     let link = link(alloc)?;

@@ -19,7 +19,7 @@ pub enum Kind {
     Own,
 }
 
-// Routers start, each at a moment.
+/// Routers start, each at a moment.
 fn start(alloc: Global, nodes: Vec<Node>, now: Moment) -> Option<Lab<TrieRoutes>> {
     let moments = vec![in alloc; now; nodes.len()].ok()?;
     let network = NetConfig::check(alloc, nodes).ok()?;
@@ -45,7 +45,7 @@ pub fn digest_of(lab: &Lab<TrieRoutes>) -> u64 {
     digest.sum()
 }
 
-// Networks that start one after another, each the same.
+/// Networks that start one after another, each the same.
 #[derive(Drop)]
 struct Starting {
     alloc: Global,
@@ -83,7 +83,7 @@ impl Trial for Starting {
     }
 }
 
-// Before a start that may be made twice.
+/// Before a start that may be made twice.
 fn before_start(alloc: Global) -> Option<Starting> {
     Some(Starting {
         alloc,
@@ -106,7 +106,7 @@ struct OneEvent {
     request: Vec<u8>,
 }
 
-// The event of a kind, at a moment.
+/// The event of a kind, at a moment.
 fn event_of(kind: Kind, now: Moment, request: &[u8]) -> Option<Event<'_>> {
     Some(match kind {
         Kind::Deliver => Event::Deliver {
@@ -136,7 +136,7 @@ fn event_of(kind: Kind, now: Moment, request: &[u8]) -> Option<Event<'_>> {
     })
 }
 
-// What an event said.
+/// What an event said.
 fn said(answered: Result<Answer, LabError>) -> Said {
     match answered {
         Ok(answer) => said_of(&answer),
@@ -161,7 +161,7 @@ impl Trial for OneEvent {
     }
 }
 
-// A lab before an event.
+/// A lab before an event.
 fn before_event(alloc: Global, kind: Kind) -> Option<OneEvent> {
     Some(OneEvent {
         alloc,

@@ -7,6 +7,7 @@
 mod digest;
 mod engines;
 mod labs;
+mod log_reading;
 mod parts;
 mod rounds;
 mod routers;
@@ -21,7 +22,7 @@ use route_table::{RouteStore, SortedRoutes, TrieRoutes};
 use std::alloc::Global;
 use std::io;
 
-// The call of a router that has a name.
+/// The call of a router that has a name.
 fn step_named(name: &str) -> Option<Step> {
     match name {
         "learn" => Some(Step::Learn),
@@ -36,7 +37,7 @@ fn step_named(name: &str) -> Option<Step> {
     }
 }
 
-// The event that has a name.
+/// The event that has a name.
 fn kind_named(name: &str) -> Option<Kind> {
     match name {
         "deliver" => Some(Kind::Deliver),
@@ -48,7 +49,7 @@ fn kind_named(name: &str) -> Option<Kind> {
     }
 }
 
-// A call of a router over one of the stores.
+/// A call of a router over one of the stores.
 fn of_router<S: RouteStore>(alloc: Global, name: &str) -> Option<Outcome> {
     if name == "start" {
         return Some(routers::outcome_of_start::<S>(alloc));
@@ -56,7 +57,7 @@ fn of_router<S: RouteStore>(alloc: Global, name: &str) -> Option<Outcome> {
     Some(routers::outcome_of_step::<S>(alloc, step_named(name)?))
 }
 
-// A call of a lab.
+/// A call of a lab.
 fn of_lab(alloc: Global, name: &str) -> Option<Outcome> {
     match name {
         "cold" => Some(labs::outcome_of_cold(alloc)),
@@ -66,7 +67,7 @@ fn of_lab(alloc: Global, name: &str) -> Option<Outcome> {
     }
 }
 
-// The call that has a name: what it is a call of, and which.
+/// The call that has a name: what it is a call of, and which.
 fn outcome_of(alloc: Global, name: &str) -> Option<Outcome> {
     match name.split_once('.')? {
         ("sorted", name) => of_router::<SortedRoutes>(alloc, name),
@@ -75,6 +76,7 @@ fn outcome_of(alloc: Global, name: &str) -> Option<Outcome> {
         ("wire", "encode") => Some(parts::outcome_of_writing(alloc)),
         ("fib", "apply") => Some(parts::outcome_of_changes(alloc)),
         ("network", "check") => Some(parts::outcome_of_check(alloc)),
+        ("log", "read") => Some(log_reading::outcome_of_log(alloc)),
         ("engine", "turns") => Some(engines::outcome_of_engine(alloc)),
         _ => None,
     }

@@ -8,7 +8,7 @@ use ripng_wire::{Command, encode};
 use ripng_world::{NetConfig, NetRefused, Node};
 use std::alloc::{AllocError, Global};
 
-// A datagram of three entries.
+/// A datagram of three entries.
 #[derive(Drop)]
 struct Writing {
     alloc: Global,
@@ -44,7 +44,7 @@ pub fn outcome_of_writing(alloc: Global) -> Outcome {
     outcome_of(Some(Writing { alloc }))
 }
 
-// A forwarding table of two entries, and changes that keep one, take one out, and add more than it has room for.
+/// A forwarding table of two entries, and changes that keep one, take one out, and add more than it has room for.
 #[derive(Drop)]
 struct Forwarding {
     alloc: Global,
@@ -74,7 +74,7 @@ impl Trial for Forwarding {
     }
 }
 
-// A prefix gets an entry by a neighbor.
+/// A prefix gets an entry by a neighbor.
 fn install(number: u16, metric: u8) -> Option<RouteChange> {
     Some(RouteChange::Install {
         prefix: site(number)?,
@@ -86,7 +86,7 @@ fn install(number: u16, metric: u8) -> Option<RouteChange> {
     })
 }
 
-// Before changes of a forwarding table.
+/// Before changes of a forwarding table.
 fn before_changes(alloc: Global) -> Option<Forwarding> {
     let mut fib = Fib::new(alloc);
     fib.apply(&[install(4, 2)?, install(6, 3)?]).ok()?;
@@ -109,7 +109,7 @@ pub fn outcome_of_changes(alloc: Global) -> Outcome {
     outcome_of(before_changes(alloc))
 }
 
-// Networks that are checked one after another, each the same.
+/// Networks that are checked one after another, each the same.
 #[derive(Drop)]
 struct Checking {
     alloc: Global,
@@ -143,7 +143,7 @@ impl Trial for Checking {
     }
 }
 
-// Before a network is checked, which may be done twice.
+/// Before a network is checked, which may be done twice.
 fn before_check(alloc: Global) -> Option<Checking> {
     Some(Checking {
         alloc,

@@ -13,7 +13,7 @@ type Routes = TrieRoutes;
 /// When the round is: then each regular update is due.
 const ROUND_MS: u64 = 16_000;
 
-// The one other interface of the link that a datagram was sent on.
+/// The one other interface of the link that a datagram was sent on.
 fn other_end(sent: &Sent) -> (usize, usize) {
     match (sent.router, sent.iface) {
         (0, _) => (1, 0),
@@ -23,7 +23,7 @@ fn other_end(sent: &Sent) -> (usize, usize) {
     }
 }
 
-// Whether each route of a router is one of another's.
+/// Whether each route of a router is one of another's.
 fn has_routes_of(all: &Router<Routes>, some: &Router<Routes>) -> bool {
     let mut after = None;
     for _ in 0..some.routes().len() {
@@ -38,7 +38,7 @@ fn has_routes_of(all: &Router<Routes>, some: &Router<Routes>) -> bool {
     true
 }
 
-// Whether a router is as another, but for routes that it lacks; how many these are.
+/// Whether a router is as another, but for routes that it lacks; how many these are.
 fn lacking(all: &Router<Routes>, some: &Router<Routes>) -> Option<usize> {
     let is_same = all.last() == some.last()
         && all.regular() == some.regular()
@@ -48,7 +48,7 @@ fn lacking(all: &Router<Routes>, some: &Router<Routes>) -> Option<usize> {
     is_same.then_some(count)
 }
 
-// Whether a lab is as another, but for one route that one of its routers lacks.
+/// Whether a lab is as another, but for one route that one of its routers lacks.
 fn lacks_one(all: &Lab<Routes>, some: &Lab<Routes>) -> bool {
     let mut count = 0usize;
     for number in 0..all.routers() {
@@ -63,7 +63,7 @@ fn lacks_one(all: &Lab<Routes>, some: &Lab<Routes>) -> bool {
     count == 1 && all.sent().len() == some.sent().len()
 }
 
-// What is said where a lab came to where another is, if it did.
+/// What is said where a lab came to where another is, if it did.
 fn met(lab: &Lab<Routes>, other: &Lab<Routes>) -> Option<Outcome> {
     if digest_of(lab) == digest_of(other) {
         Some(Outcome::Refused)
@@ -74,7 +74,7 @@ fn met(lab: &Lab<Routes>, other: &Lab<Routes>) -> Option<Outcome> {
     }
 }
 
-// The ticks of a round, until a lab is met.
+/// The ticks of a round, until a lab is met.
 fn tick_until_met(lab: &Lab<Routes>, other: &mut Lab<Routes>, now: Moment) -> Option<Outcome> {
     for router in 0..other.routers() {
         let met = met(lab, other);
@@ -91,7 +91,7 @@ fn tick_until_met(lab: &Lab<Routes>, other: &mut Lab<Routes>, now: Moment) -> Op
     met(lab, other)
 }
 
-// The delivery of a datagram to the other end of its link.
+/// The delivery of a datagram to the other end of its link.
 fn delivery(lab: &Lab<Routes>, datagram: usize, now: Moment) -> Option<Event<'static>> {
     let (router, iface) = other_end(lab.sent().get(datagram)?);
     Some(Event::Deliver {
@@ -102,7 +102,7 @@ fn delivery(lab: &Lab<Routes>, datagram: usize, now: Moment) -> Option<Event<'st
     })
 }
 
-// The deliveries of a round, until a lab is met.
+/// The deliveries of a round, until a lab is met.
 fn deliver_until_met(
     lab: &Lab<Routes>,
     other: &mut Lab<Routes>,
@@ -120,7 +120,7 @@ fn deliver_until_met(
     None
 }
 
-// What is said of a lab whose round was refused.
+/// What is said of a lab whose round was refused.
 fn refused(alloc: Global, lab: &Lab<Routes>, now: Moment) -> Outcome {
     let Some(mut other) = told_once(alloc) else {
         return Outcome::Wrong("memory was refused a second time");
@@ -131,7 +131,7 @@ fn refused(alloc: Global, lab: &Lab<Routes>, now: Moment) -> Outcome {
         .unwrap_or(Outcome::Wrong("a round that was refused is not that of the events done"))
 }
 
-// The round is made.
+/// The round is made.
 fn make_round(
     alloc: Global,
     lab: &mut Lab<Routes>,

@@ -33,7 +33,7 @@ struct OneStep<S: RouteStore> {
     bytes: Vec<u8>,
 }
 
-// What a call that may want memory said.
+/// What a call that may want memory said.
 fn said(answered: Result<Answer, AllocError>) -> Said {
     match answered {
         Ok(answer) => said_of(&answer),
@@ -60,7 +60,7 @@ pub fn said_of(answer: &Answer) -> Said {
     }
 }
 
-// What a change said.
+/// What a change said.
 fn changed(answered: Result<Answer, ReconfigureRefused>) -> Said {
     match answered {
         Ok(answer) => said_of(&answer),
@@ -68,7 +68,7 @@ fn changed(answered: Result<Answer, ReconfigureRefused>) -> Said {
     }
 }
 
-// A datagram comes to an interface that there is.
+/// A datagram comes to an interface that there is.
 fn hear<S: RouteStore>(router: &mut Router<S>, arrival: Arrival<'_>) -> Result<Answer, AllocError> {
     if arrival.iface < router.config().interfaces().len() {
         router.arrive(arrival)
@@ -110,7 +110,7 @@ impl<S: RouteStore> Trial for OneStep<S> {
     }
 }
 
-// When a call is made, in milliseconds.
+/// When a call is made, in milliseconds.
 fn ms_of(step: Step) -> u64 {
     match step {
         Step::Lose => 180_000,
@@ -118,7 +118,7 @@ fn ms_of(step: Step) -> u64 {
     }
 }
 
-// What comes with a call, if it is a datagram.
+/// What comes with a call, if it is a datagram.
 fn bytes_of(alloc: Global, step: Step) -> Option<Vec<u8>> {
     match step {
         Step::Learn => response(alloc),
@@ -128,7 +128,7 @@ fn bytes_of(alloc: Global, step: Step) -> Option<Vec<u8>> {
     }
 }
 
-// A router has learned what a neighbor told at 0, all of it.
+/// A router has learned what a neighbor told at 0, all of it.
 fn learn<S: RouteStore>(alloc: Global, router: &mut Router<S>) -> Option<()> {
     let told = response(alloc)?;
     let answer = hear(router, arrival(moment(0)?, &told)).ok()?;
@@ -137,7 +137,7 @@ fn learn<S: RouteStore>(alloc: Global, router: &mut Router<S>) -> Option<()> {
     is_whole.then_some(())
 }
 
-// A router before a call.
+/// A router before a call.
 fn before<S: RouteStore>(alloc: Global, step: Step) -> Option<OneStep<S>> {
     let (mut router, _) = Router::start(alloc, config(alloc)?, moment(0)?).ok()?;
     if step != Step::Learn {
@@ -160,7 +160,7 @@ pub fn outcome_of_step<S: RouteStore>(alloc: Global, step: Step) -> Outcome {
     outcome_of(before::<S>(alloc, step))
 }
 
-// A start, and a configuration for each time that it is made.
+/// A start, and a configuration for each time that it is made.
 #[derive(Drop)]
 struct Starting<S: RouteStore> {
     configs: Vec<RouterConfig>,
@@ -195,7 +195,7 @@ impl<S: RouteStore> Trial for Starting<S> {
     }
 }
 
-// Before a start that may be made twice.
+/// Before a start that may be made twice.
 fn before_start<S: RouteStore>(alloc: Global) -> Option<Starting<S>> {
     Some(Starting {
         configs: vec![in alloc; config(alloc)?, config(alloc)?].ok()?,

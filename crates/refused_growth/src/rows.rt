@@ -23,7 +23,7 @@ pub fn moment(ms: u64) -> Option<Moment> {
     Moment::new(ms)
 }
 
-// An interface of cost 1.
+/// An interface of cost 1.
 fn interface(host: u32, mtu: u32) -> Interface {
     Interface {
         addr: link_local(host),
@@ -102,7 +102,7 @@ pub fn arrival(now: Moment, bytes: &[u8]) -> Arrival<'_> {
     }
 }
 
-// A router of the line, with interfaces of a host number and a link each.
+/// A router of the line, with interfaces of a host number and a link each.
 fn node(alloc: Global, interfaces: &[(u32, u16)], owned: u16) -> Option<Node> {
     let mut listed = Vec::new(alloc);
     for (host, link) in interfaces {

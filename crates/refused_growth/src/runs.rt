@@ -10,7 +10,7 @@ use std::alloc::Global;
 
 type Routes = TrieRoutes;
 
-// Events of every kind but a stranger's, the only one that brings a route last.
+/// Events of every kind but a stranger's, the only one that brings a route last.
 fn events(now: Moment) -> Option<[Event<'static>; 5]> {
     let change = Change::Own {
         prefix: site(0xd)?,
@@ -42,8 +42,8 @@ fn events(now: Moment) -> Option<[Event<'static>; 5]> {
     ])
 }
 
-// Makes events, and after a refusal those that were not done. Answers how many were done at first, what readers said then,
-// and whether there was a refusal.
+/// Makes events, and after a refusal those that were not done. Answers how many were done at first, what readers said then,
+/// and whether there was a refusal.
 fn run_on(lab: &mut Lab<Routes>, events: &[Event<'_>]) -> Option<(usize, u64, bool)> {
     let (done, result) = lab.run(events);
     let left = digest_of(lab);
@@ -55,7 +55,7 @@ fn run_on(lab: &mut Lab<Routes>, events: &[Event<'_>]) -> Option<(usize, u64, bo
     (result.is_ok() && more == coming.len()).then_some((done, left, true))
 }
 
-// What is said of a run beside one that no refusal disturbs.
+/// What is said of a run beside one that no refusal disturbs.
 fn compare_runs(
     lab: &mut Lab<Routes>,
     other: &mut Lab<Routes>,
@@ -85,7 +85,7 @@ fn compare_runs(
     take_last_again(lab, other, events)
 }
 
-// An entry of the last event was skipped: it comes again to both.
+/// An entry of the last event was skipped: it comes again to both.
 fn take_last_again(
     lab: &mut Lab<Routes>,
     other: &mut Lab<Routes>,

@@ -77,7 +77,7 @@ impl fmt::Display for Outcome {
     }
 }
 
-// What a call leaves that was done at last.
+/// What a call leaves that was done at last.
 fn done<T: Trial>(trial: &T, how: How, answer: u64, notes: u64) -> Tried {
     Tried {
         how,
@@ -87,7 +87,7 @@ fn done<T: Trial>(trial: &T, how: How, answer: u64, notes: u64) -> Tried {
     }
 }
 
-// A call that was refused is made again.
+/// A call that was refused is made again.
 fn ask_again<T: Trial>(trial: &mut T, before: u64) -> Result<Tried, &'static str> {
     if trial.readers() != before {
         return Err("a refused call changed what readers say");
@@ -98,7 +98,7 @@ fn ask_again<T: Trial>(trial: &mut T, before: u64) -> Result<Tried, &'static str
     }
 }
 
-// A datagram of which one entry was skipped comes again.
+/// A datagram of which one entry was skipped comes again.
 fn hear_again<T: Trial>(trial: &mut T, notes: u64) -> Result<Tried, &'static str> {
     match trial.call() {
         Said::Done { answer, .. } => Ok(done(trial, How::Skipped, answer, notes)),
@@ -119,7 +119,7 @@ pub fn insist<T: Trial>(trial: &mut T) -> Result<Tried, &'static str> {
     }
 }
 
-// What is said of a call beside one that no refusal disturbed.
+/// What is said of a call beside one that no refusal disturbed.
 fn compared(tried: Tried, undisturbed: Tried) -> Outcome {
     if undisturbed.how != How::Undisturbed {
         return match tried.how {

@@ -1,5 +1,5 @@
 mod Numbers
 pub mod Entries
-pub mod FirstFailing
+pub mod FirstReason
 pub mod Spellings
 pub mod OneReading

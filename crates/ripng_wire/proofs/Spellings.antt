@@ -10,10 +10,10 @@ use Rattle.ripng_wire.specs.declared.rte.Rte.{Rte}
 use Rattle.ripng_wire.specs.Layout.{version}
 use Rattle.ripng_wire.specs.Layout.{Fits, Spells, command_byte, most_entries}
 use Rattle.ripng_wire.specs.Reading.{entries_of, first_entries}
-use Rattle.ripng_wire.specs.Wire.{wire_tests, wire_fault}
+use Rattle.ripng_wire.specs.Wire.{wire_reasons, wire_fault}
 use Rattle.ripng_wire.proofs.Numbers.{IsBytes, IsBytes-drop}
 use Rattle.ripng_wire.proofs.Entries.{first_whole, first_fit, length-first, length_entries, entries_again}
-use Rattle.ripng_wire.proofs.FirstFailing.{EachPasses, each_passes, none_fails}
+use Rattle.ripng_wire.proofs.FirstReason.{EachPasses, each_passes, none_fails}
 
 -- a test whose negation is false passes
 not_false : (b : Bool) → not b ≡ false → b ≡ true
@@ -42,7 +42,7 @@ header_passes Request = refl
 header_passes Response = refl
 
 -- each test of the bytes of a spelling passes
-pub spelling_passes : (command : Command) (entries : List Rte) (bytes : List ℕ) → Spells command entries bytes → EachPasses (wire_tests bytes)
+pub spelling_passes : (command : Command) (entries : List Rte) (bytes : List ℕ) → Spells command entries bytes → EachPasses (wire_reasons bytes)
 spelling_passes command entries bytes s =
     let len = spelling_length command entries bytes s in
     let at = λ (i : ℕ). ap (λ (x : List ℕ). get_or x i 0) s.bytes_are in (
@@ -61,7 +61,7 @@ spelling_passes command entries bytes s =
 
 -- bytes that spell a datagram have no fault
 pub spelling_has_no_fault : (command : Command) (entries : List Rte) (bytes : List ℕ) → Spells command entries bytes → wire_fault bytes ≡ None
-spelling_has_no_fault command entries bytes s = none_fails (wire_tests bytes) (spelling_passes command entries bytes s)
+spelling_has_no_fault command entries bytes s = none_fails (wire_reasons bytes) (spelling_passes command entries bytes s)
 
 -- ---- bytes that pass each test are a spelling
 
@@ -76,7 +76,7 @@ four_and_rest (x ∷ y ∷ z ∷ w ∷ rest) a le h0 h1 h2 h3 = cc (h0, h1, h2, 
 -- bytes without a fault spell the entries behind the header
 pub is_spelling : (command : Command) (bytes : List ℕ) → IsBytes bytes → wire_fault bytes ≡ None → get_or bytes 0 0 ≡ command_byte command → Spells command (entries_of (drop 4 bytes)) bytes
 is_spelling command bytes fits none code =
-    let passes = each_passes (wire_tests bytes) none in
+    let passes = each_passes (wire_reasons bytes) none in
     let low : 4 ≤ length bytes = ltb-false _ _ passes.0 in
     let high : length bytes ≤ 4 + 20 * most_entries = ltb-false _ _ passes.1.0 in
     let whole : (length bytes - 4) % 20 ≡ 0 = eqb-true _ _ (not_false _ passes.1.1.0) in
@@ -96,7 +96,7 @@ is_spelling command bytes fits none code =
 -- the first byte of bytes without a fault is that of a command
 command_of : (bytes : List ℕ) → wire_fault bytes ≡ None → (command : Command) × (get_or bytes 0 0 ≡ command_byte command)
 command_of bytes none =
-    let passes = each_passes (wire_tests bytes) none in
+    let passes = each_passes (wire_reasons bytes) none in
     elim (either _ _ (not_false _ passes.1.1.1.0)) [
       | inl request ↦ (Request, eqb-true _ _ request)
       | inr response ↦ (Response, eqb-true _ _ response)

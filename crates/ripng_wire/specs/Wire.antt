@@ -1,17 +1,17 @@
--- Which bytes are no datagram (RFC 2080, 2.1; the tests' order, numbers and names are this project's choice).
+-- Which bytes are no datagram (RFC 2080, 2.1; the reasons' order, numbers and names are this project's choice).
 use Rattle.std.specs.Prelude.{ℕ, ◌+◌, ◌-◌, ◌*◌, ◌%◌, ◌==◌, ◌&&◌, ◌||◌, not, nat_lt, Bool, if◌then◌else◌, List, [], ◌∷◌, length, slice_index, codes, Option, Some, None}
 use Rattle.ripng_wire.specs.declared.error.WireError.{WireError}
 use Rattle.ripng_wire.specs.declared.error.WireError.TheVariants.{Short, TooLong, Ragged, BadCommand, BadVersion, NotZero}
 use Rattle.ripng_wire.specs.Layout.{most_entries, version}
 
--- the name of the first test that fails
-abbrev pub first_failing : {F : Type 0} → List (Bool × F) → Option F
-first_failing [] = None
-first_failing (test ∷ tests) = if test.0 then Some test.1 else first_failing tests
+-- the name of the first reason that fails
+abbrev pub first_reason : {F : Type 0} → List (Bool × F) → Option F
+first_reason [] = None
+first_reason (reason ∷ reasons) = if reason.0 then Some reason.1 else first_reason reasons
 
--- each test of the bytes, with whether it fails
-abbrev pub wire_tests : List ℕ → List (Bool × WireError)
-wire_tests bytes =
+-- each reason of the bytes, with whether it fails
+abbrev pub wire_reasons : List ℕ → List (Bool × WireError)
+wire_reasons bytes =
     (nat_lt (length bytes) 4, Short)
     ∷ (nat_lt (4 + 20 * most_entries) (length bytes), TooLong)
     ∷ (not ((length bytes - 4) % 20 == 0), Ragged)
@@ -22,7 +22,7 @@ wire_tests bytes =
 
 -- why the bytes are no datagram, if they are none
 abbrev pub wire_fault : List ℕ → Option WireError
-wire_fault bytes = first_failing (wire_tests bytes)
+wire_fault bytes = first_reason (wire_reasons bytes)
 
 -- the command is that of a Response, the only one but Request
 abbrev pub is_response : List ℕ → Bool

@@ -5,7 +5,7 @@ ghost use Rattle.std.specs.Prelude.{◌≡◌};
 use crate::rte::{HEADER_LEN, MAX_LEN};
 use thiserror::Error;
 
-/// Why bytes are no datagram: the first test that they fail, in this order.
+/// Why bytes are no datagram: the first reason to refuse them, in this order.
 #[derive(Clone, Copy, Debug, PartialEq, Eq, Hash, Error)]
 pub enum WireError {
     /// Fewer bytes than the header has.

@@ -1,4 +1,4 @@
-//! Laws of the layout: a spelling is read in one way, and bytes are a spelling exactly where no test fails.
+//! Laws of the layout: a spelling is read in one way, and bytes are a spelling exactly where there is no reason to refuse them.
 
 ghost use Rattle.std.specs.Prelude.{◌≡◌, ◌<◌, ◌^◌, ℕ, List, All, None};
 ghost use Rattle.ripng_wire.specs.declared.rte.Command.{Command};
@@ -13,7 +13,7 @@ pub fn one_datagram()
         → Spells c es bytes → Spells d fs bytes → (c ≡ d) × (es ≡ fs) }
 {}
 
-/// Bytes spell a datagram exactly where they fail no test of the wire.
+/// Bytes spell a datagram exactly where there is no reason to refuse them.
 pub fn spelled_has_no_fault()
     ensures passes { (command : Command) (entries : List Rte) (bytes : List ℕ)
         → Spells command entries bytes → wire_fault bytes ≡ None }

@@ -101,7 +101,7 @@ fn rte_of(bytes: &[u8]) -> Rte
     }
 }
 
-/// The command of bytes laid out as a datagram, or the first test that they fail.
+/// The command of bytes laid out as a datagram, or the first reason to refuse them.
 fn check_layout(bytes: &[u8]) -> Result<Command, WireError>
     ensures fault { result_err result ≡ wire_fault bytes.now }
     ensures command { IfOk result (λ c. slice_index bytes.now 0 ≡ command_byte c) }
@@ -129,7 +129,7 @@ fn check_layout(bytes: &[u8]) -> Result<Command, WireError>
     Ok(command)
 }
 
-/// Reads a datagram. Bytes that are none are refused whole, with the first test that they fail. No memory is taken.
+/// Reads a datagram. Bytes that are none are refused whole, with the first reason to refuse them. No memory is taken.
 pub fn decode(bytes: &[u8]) -> Result<Datagram<'_>, WireError>
     // What is read is spelled so, and what is spelled so is read.
     ensures read { IfOk result (λ d. Spells d.command d.entries bytes.now) }

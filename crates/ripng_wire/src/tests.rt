@@ -23,7 +23,7 @@ fn refusal(bytes: &[u8]) -> Option<WireError> {
 }
 
 #[test]
-fn refuses_by_the_first_failing_test(rt: HostRuntime) {
+fn refuses_by_the_first_reason_test(rt: HostRuntime) {
     for (bytes, wanted) in [
         (&[] as &[u8], Some(WireError::Short)),
         (&[2, 1, 0], Some(WireError::Short)),

@@ -6,7 +6,7 @@ use Rattle.std.proofs.lemmas.List.{get_or_append_left, length-append, map-append
 use Rattle.std.proofs.Math.Seq.{take-append_seam}
 use Rattle.std.proofs.lemmas.List.Elements.{filter-append, filter_map-append}
 use Rattle.router_core.specs.declared.answer.Answer.{Answer}
-use Rattle.ripng_world.specs.AskedRounds.{delivery, deliveries_of, is_other, is_picked, other_deliveries, pair_at, picked_deliveries, places_of}
+use Rattle.ripng_world.specs.AskedRounds.{delivery, deliveries_of, is_other, is_picked, other_deliveries, pair_at, picked_deliveries, interfaces_of}
 use Rattle.ripng_world.specs.Delivering.{AllDelivered, HappenInPart, deliveries_since}
 use Rattle.ripng_world.specs.Network.{Network}
 use Rattle.ripng_world.specs.Rounds.{AllHeard}
@@ -112,18 +112,18 @@ module _ (s : OnSkip) (net net' : Network) (w mid w' : World) (same : net' ≡ n
 -- ---- datagrams, each to all others of its link
 
 abbrev pub to_others : Network → ℕ → List (ℕ × Sent) → List Event
-to_others net now ds = map (λ p. delivery p now) (flat_map (λ d. map (pair_at d.0) (filter (is_other net d.1) (places_of net))) ds)
+to_others net now ds = map (λ p. delivery p now) (flat_map (λ d. map (pair_at d.0) (filter (is_other net d.1) (interfaces_of net))) ds)
 
 others_both : (net : Network) (now : ℕ) (ds es : List (ℕ × Sent)) → to_others net now (ds ++ es) ≡ to_others net now ds ++ to_others net now es
 others_both net now ds es =
-    let f : ℕ × Sent → List Pair = λ d. map (pair_at d.0) (filter (is_other net d.1) (places_of net)) in
+    let f : ℕ × Sent → List Pair = λ d. map (pair_at d.0) (filter (is_other net d.1) (interfaces_of net)) in
     ap (map (λ p. delivery p now)) (flat_map-append f ds es) ∙ map-append (λ p. delivery p now) (flat_map f ds) (flat_map f es)
 
 enumerate_left : {X : Type 0} (first n : ℕ) (xs : List X) → enumerate_from first xs ≡ enumerate_from first (take n xs) ++ enumerate_from (first + length (take n xs)) (drop n xs)
 enumerate_left first n xs = ap (enumerate_from first) (sym (take-append-drop n xs)) ∙ enumerate_append first (take n xs) (drop n xs)
 
 module _ (s : OnSkip) (net net' : Network) (w mid w' : World) (same : net' ≡ net) where
-  module _ (now first n : ℕ) (d : Sent) (others : List (ℕ × ℕ)) (low : first ≤ n) (high : n < length w.sent) (is : d ≡ get_or w.sent n d) (others_are : others ≡ filter (is_other net d) (places_of net))
+  module _ (now first n : ℕ) (d : Sent) (others : List (ℕ × ℕ)) (low : first ≤ n) (high : n < length w.sent) (is : d ≡ get_or w.sent n d) (others_are : others ≡ filter (is_other net d) (interfaces_of net))
       (before : AllDelivered s net w (to_others net now (enumerate_from first (take (n - first) (drop first w.sent)))) mid) where
     part : ℕ → List (ℕ × Sent)
     part m = enumerate_from first (take (m - first) (drop first w.sent))
@@ -134,7 +134,7 @@ module _ (s : OnSkip) (net net' : Network) (w mid w' : World) (same : net' ≡ n
         ap (to_others net now) (numbered_more w.sent first n d low high is)
         ∙ others_both net now (part n) ((n, d) ∷ [])
         ∙ ap (λ (ps : List Pair). to_others net now (part n) ++ map (λ p. delivery p now) ps)
-        (append-nil (map (pair_at n) (filter (is_other net d) (places_of net))) ∙ ap (map (pair_at n)) (sym others_are))
+        (append-nil (map (pair_at n) (filter (is_other net d) (interfaces_of net))) ∙ ap (map (pair_at n)) (sym others_are))
 
     pub each_next : AllDelivered s net' mid (to_places n now others) w' → AllDelivered s net w (to_others net now (enumerate_from first (take (n + 1 - first) (drop first w.sent)))) w'
     unfolding part

@@ -10,7 +10,7 @@ use Rattle.router_core.specs.declared.reconfiguring.Change.TheVariants.{Cost, Ow
 use Rattle.ripng_world.specs.Network.{Network, Owns}
 use Rattle.ripng_world.specs.Walks.{Hop, IsBacked, Reaches, cost, end_of, cost_of_interface}
 use Rattle.ripng_world.specs.Past.{Past, WasDone, HasCostSince, OwnsSince, CostsSince, ReachesSince, IsBackedSince}
-use Rattle.ripng_world.specs.TruthSince.{IsSoundSince, IsSoundTableSince, IsTrueEntrySince, TellsTruthSince}
+use Rattle.ripng_world.specs.TruthSince.{IsSoundSince, IsSoundTableSince, IsSoundEntrySince, IsSoundDatagramSince}
 use Rattle.ripng_world.proofs.Each.{each_weaker}
 use Rattle.ripng_world.proofs.Members.{get_left}
 
@@ -51,12 +51,12 @@ module _ (net : Network) (changes more : List (ℕ × Change)) where
   pub table_grows : (router : ℕ) (table : Table) → IsSoundTableSince before router table → IsSoundTableSince after router table
   table_grows router table sound p r is = sound_grows router p r (sound p r is)
 
-  entry_grows : (router : ℕ) (e : Rte) → IsTrueEntrySince before router e → IsTrueEntrySince after router e
+  entry_grows : (router : ℕ) (e : Rte) → IsSoundEntrySince before router e → IsSoundEntrySince after router e
   entry_grows router e t =
-      record { in_range = t.in_range; truthful = λ low. let b = t.truthful low in (b.0, reaches_grows router (cleared e.addr e.len) e.metric e.tag b.0 b.1) }
+      record { in_range = t.in_range; backed = λ low. let b = t.backed low in (b.0, reaches_grows router (cleared e.addr e.len) e.metric e.tag b.0 b.1) }
 
-  pub truth_grows : (router : ℕ) (bytes : List ℕ) → TellsTruthSince before router bytes → TellsTruthSince after router bytes
-  truth_grows router bytes told entries read = each_weaker (IsTrueEntrySince after router) (IsTrueEntrySince before router) (entry_grows router) entries (told entries read)
+  pub truth_grows : (router : ℕ) (bytes : List ℕ) → IsSoundDatagramSince before router bytes → IsSoundDatagramSince after router bytes
+  truth_grows router bytes told entries read = each_weaker (IsSoundEntrySince after router) (IsSoundEntrySince before router) (entry_grows router) entries (told entries read)
 
 -- ---- no change
 

@@ -56,7 +56,7 @@ HasShape net base moments router last p metric clock Own = (clock ≡ Fixed) × 
 HasShape net base moments router last p metric clock (Learned iface from next_hop) =
     (until : ℕ) × (clock ≡ Live until) × IsTight net base router p iface from metric × IsTimely moments last until
 
--- a route of a network in quiet rounds
+-- a route of a network in synchronous rounds
 pub record IsFine (net : Network) (base : World) (k : ℕ) (moments : ℕ → Type 0) (router last : ℕ) (p : Prefix6) (r : RouteValue) : Type 0 where
   pub is_prefix : cleared p.addr p.len ≡ p
   pub walk : List Hop
@@ -80,10 +80,10 @@ pub record IsToldOffer (net : Network) (base : World) (k sender sender_iface : �
 
 module _ (net : Network) (distinct : HasDistinctAddresses net) (base : World) (k : ℕ) (moments : ℕ → Type 0) (router last : ℕ)
     (g : Gateway) (sender sender_iface : ℕ) (near : IsNeighbor net router g sender sender_iface)
-    (current : ℕ → Type 0) (among : (x : ℕ) → current x → moments x) (now_is : ℕ) (now_of : current now_is) (now_max : g.now ≡ max last now_is)
+    (current : ℕ → Type 0) (among : (x : ℕ) → current x → moments x) (now_is : ℕ) (now_of : current now_is) (now_max : g.moment ≡ max last now_is)
     (close : (x : ℕ) → moments x → now_is < x + timeout) (p : Prefix6) where
   abbrev Fine : RouteValue → Type 0
-  Fine r = IsFine net base (suc k) moments router g.now p r
+  Fine r = IsFine net base (suc k) moments router g.moment p r
 
   -- an unpoisoned offer of a route
   told_metric : (o : Offer) (t : IsToldOffer net base k sender sender_iface g p o) → o.metric < infinity
@@ -115,7 +115,7 @@ module _ (net : Network) (distinct : HasDistinctAddresses net) (base : World) (k
         low = low;
         positive = at_least_one t.route.metric (cost_of_interface net router g.iface) (metric_through g o) sum t.positive;
         shape = (
-          g.now + timeout,
+          g.moment + timeout,
           refl,
           record { sender = sender; sender_iface = sender_iface; route = t.route; linked = near.linked; apart = near.apart; from_is = near.from; at = t.at; unpoisoned = m.0; above = le_from sum },
           record { ahead = omega arith; since = now_is; of_router = among now_is now_of; within = omega arith },
@@ -147,13 +147,13 @@ module _ (net : Network) (distinct : HasDistinctAddresses net) (base : World) (k
         shape = by_origin r.origin f.shape;
       }
     where
-      later : (until : ℕ) → IsTimely moments last until → IsTimely moments g.now until
-      later until t = let c = close t.since t.of_router in record { ahead = before last now_is g.now until t.since now_max t.ahead c t.within; since = t.since; of_router = t.of_router; within = t.within }
+      later : (until : ℕ) → IsTimely moments last until → IsTimely moments g.moment until
+      later until t = let c = close t.since t.of_router in record { ahead = before last now_is g.moment until t.since now_max t.ahead c t.within; since = t.since; of_router = t.of_router; within = t.within }
         where
           before : (a b n u s : ℕ) → n ≡ max a b → a < u → b < s + timeout → s + timeout ≤ u → n < u
           before a b n u s e f g h = omega arith
 
-      by_origin : (x : Origin) → HasShape net base moments router last p r.metric r.clock x → HasShape net base moments router g.now p r.metric r.clock x
+      by_origin : (x : Origin) → HasShape net base moments router last p r.metric r.clock x → HasShape net base moments router g.moment p r.metric r.clock x
       by_origin Own s = s
       by_origin (Learned i h n) s = (s.0, s.1, s.2, later s.0 s.3)
 
@@ -184,8 +184,8 @@ module _ (net : Network) (distinct : HasDistinctAddresses net) (base : World) (k
   marked : Bool → Offer → RouteValue
   marked c o = record (taken g o) { changed = c }
 
-  new_clock : IsFresh (Live (g.now + timeout))
-  new_clock = (g.now + timeout, now_is, refl, now_of, omega arith)
+  new_clock : IsFresh (Live (g.moment + timeout))
+  new_clock = (g.moment + timeout, now_is, refl, now_of, omega arith)
 
   takes : (o : Offer) → IsToldOffer net base k sender sender_iface g p o → metric_through g o < infinity → (c : Bool) → (a : Option RouteValue)
       → IsBetter a (Some (taken g o)) → IsStep o a (Some (record (taken g o) { changed = c }))
@@ -244,10 +244,10 @@ module _ (net : Network) (distinct : HasDistinctAddresses net) (base : World) (k
           clash e = cc
   offered o t (Some r) f = by_origin r.origin refl f.shape
     where
-      preferred_low : (until m a : ℕ) → (nat_lt m a || (m == a && nat_le until (g.now + half_timeout))) ≡ true → m ≤ a
+      preferred_low : (until m a : ℕ) → (nat_lt m a || (m == a && nat_le until (g.moment + half_timeout))) ≡ true → m ≤ a
       preferred_low until m a e = grind (arith, nat_tests)
 
-      not_preferred : (until m a : ℕ) → (nat_lt m a || (m == a && nat_le until (g.now + half_timeout))) ≡ false → a ≤ m
+      not_preferred : (until m a : ℕ) → (nat_lt m a || (m == a && nat_le until (g.moment + half_timeout))) ≡ false → a ≤ m
       not_preferred until m a e = grind (arith, nat_tests)
 
       and_left : (a b : Bool) → (a && b) ≡ true → a ≡ true
@@ -258,7 +258,7 @@ module _ (net : Network) (distinct : HasDistinctAddresses net) (base : World) (k
       and_right true b e = e
       and_right false b e = absurd (cc)
 
-      by_origin : (x : Origin) → r.origin ≡ x → HasShape net base moments router g.now p r.metric r.clock x → IsStep o (Some r) (Some (adopted_by_clock g o r r.clock))
+      by_origin : (x : Origin) → r.origin ≡ x → HasShape net base moments router g.moment p r.metric r.clock x → IsStep o (Some r) (Some (adopted_by_clock g o r r.clock))
       by_origin Own is s =
           subst (λ c. IsStep o (Some r) (Some (adopted_by_clock g o r c))) (sym s.0)
           (stays o r f (λ low. let b = below_16 o.metric g.cost low in at_least o.metric t.route.metric g.cost r.metric s.1 t.positive (told_metric o t b.0).1 b.1) (ap (is_through g) is))
@@ -281,7 +281,7 @@ module _ (net : Network) (distinct : HasDistinctAddresses net) (base : World) (k
           by_gateway true through =
               let e : (iface == g.iface && from == g.from) ≡ true = sym (ap (is_through g) is) ∙ through in
               let same = same_gateway iface from r.metric s.2 (eqb-true iface g.iface (and_left (iface == g.iface) (from == g.from) e)) (eqb-true from g.from (and_right (iface == g.iface) (from == g.from) e)) o t f.low in
-              subst (λ b. IsStep o (Some r) (Some (cond b (record (taken g o) { changed = r.changed || not (is_repeated g o r) }) (lost g.now r)))) (sym (lt-ltb (metric_through g o) infinity same.0))
+              subst (λ b. IsStep o (Some r) (Some (cond b (record (taken g o) { changed = r.changed || not (is_repeated g o r) }) (lost g.moment r)))) (sym (lt-ltb (metric_through g o) infinity same.0))
               (takes o t same.0 (r.changed || not (is_repeated g o r)) (Some r) same.1)
           by_gateway false other = by_preference (is_preferred g o r.metric s.0) refl other
 

@@ -19,7 +19,7 @@ use Rattle.router_core.specs.Config.{Config}
 use Rattle.router_core.specs.Hearing.{Hearing, Heard, is_refused}
 use Rattle.ripng_world.specs.Walks.{Hop}
 use Rattle.ripng_world.specs.Past.{Past, ReachesSince, IsBackedSince}
-use Rattle.ripng_world.specs.TruthSince.{IsNeighborSince, IsSoundSince, IsSoundTableSince, IsTrueEntrySince}
+use Rattle.ripng_world.specs.TruthSince.{IsNeighborSince, IsSoundSince, IsSoundTableSince, IsSoundEntrySince}
 use Rattle.ripng_world.proofs.Each.{each_filter, each_passing, each_weaker, each_take, each_reverse, each_enumerated, each_mapped, none_found}
 use Rattle.ripng_world.proofs.Telling.{lost_sound}
 
@@ -62,9 +62,9 @@ module _ (past : Past) (router : ℕ) (g : Gateway) (sender sender_iface : ℕ) 
   refreshed_sound : (p : Prefix6) (o : Offer) (r : RouteValue) → IsGoodOffer p o → IsSoundSince past router p r → IsSoundSince past router p (refreshed g o r)
   refreshed_sound p o r good s =
       let t : IsSoundSince past router p (taken g o) = taken_sound p o good in
-      elim (is_reachable (metric_through g o)) as (λ b. IsSoundSince past router p (cond b (record (taken g o) { changed = r.changed || not (is_repeated g o r) }) (lost g.now r))) [
+      elim (is_reachable (metric_through g o)) as (λ b. IsSoundSince past router p (cond b (record (taken g o) { changed = r.changed || not (is_repeated g o r) }) (lost g.moment r))) [
         | true ↦ record { is_prefix = t.is_prefix; in_range = t.in_range; backed = t.backed }
-        | false ↦ lost_sound past router g.now p r s
+        | false ↦ lost_sound past router g.moment p r s
       ]
 
   by_clock_sound : (p : Prefix6) (o : Offer) (r : RouteValue) → IsGoodOffer p o → IsSoundSince past router p r → (c : Clock) → IsSoundSince past router p (adopted_by_clock g o r c)
@@ -94,37 +94,37 @@ module _ (past : Past) (router : ℕ) (g : Gateway) (sender sender_iface : ℕ) 
   all_adopted p [] all old s = s
   all_adopted p (o ∷ os) all old s = all_adopted p os all.1 (adopted g old o) (adopted_sound p o all.0 old s)
 
-  no_next_hop : (config : Config) (entries : List Rte) → AllByRecursion (IsTrueEntrySince past sender) entries → (place : ℕ) → next_hop_at config g.from entries place ≡ g.from
+  no_next_hop : (config : Config) (entries : List Rte) → AllByRecursion (IsSoundEntrySince past sender) entries → (place : ℕ) → next_hop_at config g.from entries place ≡ g.from
   no_next_hop config entries all place =
       ap (usable_hop config g.from)
       (none_found is_next_hop (reverse (take place entries))
       (each_reverse _ (take place entries) (each_take _ place entries
-      (each_weaker (λ (e : Rte). is_next_hop e ≡ false) (IsTrueEntrySince past sender) (λ e t. not_255 e.metric t.in_range) entries all))))
+      (each_weaker (λ (e : Rte). is_next_hop e ≡ false) (IsSoundEntrySince past sender) (λ e t. not_255 e.metric t.in_range) entries all))))
 
-  offers_good : (config : Config) (entries : List Rte) → AllByRecursion (IsTrueEntrySince past sender) entries → (p : Prefix6) → AllByRecursion (IsGoodOffer p) (offers config g.from entries p)
+  offers_good : (config : Config) (entries : List Rte) → AllByRecursion (IsSoundEntrySince past sender) entries → (p : Prefix6) → AllByRecursion (IsGoodOffer p) (offers config g.from entries p)
   offers_good config entries all p =
       each_mapped (IsGoodOffer p) (λ (t : ℕ × Rte). offer_at config g.from entries t.0 t.1) _
-      (each_passing (λ (t : ℕ × Rte). IsGoodOffer p (offer_at config g.from entries t.0 t.1)) (λ t. IsTrueEntrySince past sender t.1)
+      (each_passing (λ (t : ℕ × Rte). IsGoodOffer p (offer_at config g.from entries t.0 t.1)) (λ t. IsSoundEntrySince past sender t.1)
       (λ t. is_offer t.1 && same_prefix (prefix_named t.1) p) good (enumerate_from 0 entries) (each_enumerated _ 0 entries all))
     where
       second : (a b : Bool) → (a && b) ≡ true → b ≡ true
       second true b e = e
       second false b e = absurd (cc)
 
-      good : (t : ℕ × Rte) → IsTrueEntrySince past sender t.1 → (is_offer t.1 && same_prefix (prefix_named t.1) p) ≡ true → IsGoodOffer p (offer_at config g.from entries t.0 t.1)
+      good : (t : ℕ × Rte) → IsSoundEntrySince past sender t.1 → (is_offer t.1 && same_prefix (prefix_named t.1) p) ≡ true → IsGoodOffer p (offer_at config g.from entries t.0 t.1)
       good t true_entry passes =
           let named : prefix_named t.1 ≡ p = same_prefix-true (prefix_named t.1) p (second (is_offer t.1) (same_prefix (prefix_named t.1) p) passes) in
           record {
             is_prefix = subst (λ (q : Prefix6). cleared q.addr q.len ≡ q) named (cleared-cleared t.1.addr t.1.len);
             next_hop = no_next_hop config entries all t.0;
             backed = λ low.
-                let b : (walk : List Hop) × ReachesSince past sender (prefix_named t.1) t.1.metric t.1.tag walk = true_entry.truthful low in
+                let b : (walk : List Hop) × ReachesSince past sender (prefix_named t.1) t.1.metric t.1.tag walk = true_entry.backed low in
                 (b.0, subst (λ (q : Prefix6). ReachesSince past sender q t.1.metric t.1.tag b.0) named b.1);
           }
 
 pub heard_sound : (past : Past) (router sender sender_iface : ℕ) (h : Hearing) (after : Table)
     → IsNeighborSince past router h.gateway sender sender_iface
-    → AllByRecursion (IsTrueEntrySince past sender) h.entries
+    → AllByRecursion (IsSoundEntrySince past sender) h.entries
     → IsSoundTableSince past router h.before → Heard h after → IsSoundTableSince past router after
 heard_sound past router sender sender_iface h after near all sound heard p r here =
     subst (IsSoundOption past router h.gateway sender sender_iface near p) (sym (heard.routes p) ∙ here)

@@ -9,9 +9,9 @@ use Rattle.ripng_world.specs.World.{World, Event, Happens, WorldRun, StartsFrom,
 use Rattle.ripng_world.specs.Events.{event_of}
 use Rattle.ripng_world.specs.Rounds.{router_of}
 use Rattle.ripng_world.specs.Stations.{StationValue, MoveStations, network_of, world_of}
-use Rattle.ripng_world.specs.Labs.{HasRun, AreRoutesBacked, AreRoutesBackedSince, AreNoneBelowLeast, AreNoneBelowLeastSince, IsTruthToldSince, HoldsFixed}
-use Rattle.ripng_world.specs.Truth.{TellsTruth}
-use Rattle.ripng_world.specs.TruthSince.{TellsTruthSince}
+use Rattle.ripng_world.specs.Labs.{HasRun, AreRoutesBacked, AreRoutesBackedSince, HaveNoneBelowLeast, HaveNoneBelowLeastSince, AreDatagramsSoundSince, HoldsFixed}
+use Rattle.ripng_world.specs.Truth.{IsSoundDatagram}
+use Rattle.ripng_world.specs.TruthSince.{IsSoundDatagramSince}
 use Rattle.ripng_world.specs.declared.sent.Sent.{Sent}
 use Rattle.ripng_world.specs.declared.event.Event as coded
 use Rattle.ripng_world.proofs.Each.{each_weaker}
@@ -27,18 +27,18 @@ module _ (net : Network) (w : World) (has_run : HasRun net w) where
   pub backed : AreRoutesBackedSince net w
   backed = λ router state here p r at low. ((good.states_good router state here).sound p r at).backed low
 
-  pub least : AreNoneBelowLeastSince net w
+  pub least : HaveNoneBelowLeastSince net w
   least = λ router state here p r metric at low least.
       let b = backed router state here p r at low in
       least.least r.metric r.tag b.0 b.1
 
-  pub truth : IsTruthToldSince net w
+  pub truth : AreDatagramsSoundSince net w
   truth = good.sent_true
 
   fixed_backed : w.changes ≡ [] → AreRoutesBacked net w
   fixed_backed unchanged router state here p r at low = backed_first (past_of net w) unchanged router p r (backed router state here p r at low)
 
-  fixed_least : w.changes ≡ [] → AreNoneBelowLeast net w
+  fixed_least : w.changes ≡ [] → HaveNoneBelowLeast net w
   fixed_least unchanged router state here p r metric at low least =
       let b = fixed_backed unchanged router state here p r at low in
       least.least r.metric r.tag b.0 b.1
@@ -49,7 +49,7 @@ module _ (net : Network) (w : World) (has_run : HasRun net w) where
         backed = fixed_backed;
         least = fixed_least;
         truth = λ unchanged.
-            each_weaker (λ (d : Sent). TellsTruth net d.router d.bytes) (λ (d : Sent). TellsTruthSince (past_of net w) d.router d.bytes)
+            each_weaker (λ (d : Sent). IsSoundDatagram net d.router d.bytes) (λ (d : Sent). IsSoundDatagramSince (past_of net w) d.router d.bytes)
             (λ d. truth_first (past_of net w) unchanged d.router d.bytes) w.sent good.sent_true;
       }
 

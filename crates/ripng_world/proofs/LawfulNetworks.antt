@@ -6,17 +6,17 @@ use Rattle.std.proofs.lemmas.Bool.Decides.{nat_tests}
 use Rattle.std.proofs.lemmas.Option.{slice_get-map, slice_get_within, get_or_from_slice_get}
 use Rattle.prefix6.specs.Addr.{is_link_local}
 use Rattle.prefix6.specs.Prefix.{Prefix6, IsPrefix, is_routable}
-use Rattle.ripng_wire.specs.Wire.{first_failing}
-use Rattle.ripng_wire.proofs.FirstFailing.{EachPasses, each_passes}
+use Rattle.ripng_wire.specs.Wire.{first_reason}
+use Rattle.ripng_wire.proofs.FirstReason.{EachPasses, each_passes}
 use Rattle.route_table.proofs.TableLaws.{None-Some}
-use Rattle.router_core.specs.Config.{Config, IsConfig, config_tests, each_tested, interface_tests, prefix_tests}
+use Rattle.router_core.specs.Config.{Config, IsConfig, config_reasons, reasons_of_each, interface_reasons, prefix_reasons}
 use Rattle.router_core.specs.declared.config.ConfigRefused.TheVariants.{TooManyPrefixes}
 use Rattle.router_core.specs.declared.config.Interface.{Interface}
 use Rattle.router_core.specs.Config.{owned_limit}
 use Rattle.router_core.proofs.ConfigLaws.{passes-append, passes_at, cost_low, cost_high, mtu_low, mtu_high}
-use Rattle.router_core.proofs.EachTested.{first_failing-append, first_failing-found}
+use Rattle.router_core.proofs.ReasonsOfEach.{first_reason-append, first_reason-found}
 use Rattle.ripng_world.specs.Network.{Network, Node, IsNetwork, IsUsable, OwnsPrefixes, HasDistinctAddresses, config_of, interface_at}
-use Rattle.ripng_world.specs.NetworkFaults.{addresses, address_tests, network_fault, network_tests, router_tests, router_limit}
+use Rattle.ripng_world.specs.NetworkFaults.{addresses, address_reasons, network_fault, network_reasons, router_reasons, router_limit}
 use Rattle.ripng_world.specs.declared.network.NetInterface.{NetInterface}
 use Rattle.ripng_world.specs.declared.network.NetRefused.{NetRefused}
 use Rattle.ripng_world.specs.declared.network.NetRefused.TheVariants.{TooManyRouters}
@@ -26,16 +26,16 @@ use Rattle.ripng_world.proofs.StationMoves.{then_of}
 -- ---- which test fails first
 
 module _ (net : Network) (few : length net ≤ router_limit) where
-  counted : network_fault net ≡ first_failing (each_tested router_tests net ++ each_tested address_tests (addresses net))
+  counted : network_fault net ≡ first_reason (reasons_of_each router_reasons net ++ reasons_of_each address_reasons (addresses net))
   counted =
       let fits : nat_lt router_limit (length net) ≡ false = grind (arith, nat_tests, few) in
-      ap (λ b. cond b (Some TooManyRouters) (first_failing (each_tested router_tests net ++ each_tested address_tests (addresses net)))) fits
+      ap (λ b. cond b (Some TooManyRouters) (first_reason (reasons_of_each router_reasons net ++ reasons_of_each address_reasons (addresses net)))) fits
 
-  pub by_router : (why : NetRefused) → first_failing (each_tested router_tests net) ≡ Some why → network_fault net ≡ Some why
-  by_router why fails = counted ∙ first_failing-found (each_tested router_tests net) (each_tested address_tests (addresses net)) why fails
+  pub by_router : (why : NetRefused) → first_reason (reasons_of_each router_reasons net) ≡ Some why → network_fault net ≡ Some why
+  by_router why fails = counted ∙ first_reason-found (reasons_of_each router_reasons net) (reasons_of_each address_reasons (addresses net)) why fails
 
-  pub by_addresses : first_failing (each_tested router_tests net) ≡ None → network_fault net ≡ first_failing (each_tested address_tests (addresses net))
-  by_addresses pass = counted ∙ first_failing-append (each_tested router_tests net) (each_tested address_tests (addresses net)) pass
+  pub by_addresses : first_reason (reasons_of_each router_reasons net) ≡ None → network_fault net ≡ first_reason (reasons_of_each address_reasons (addresses net))
+  by_addresses pass = counted ∙ first_reason-append (reasons_of_each router_reasons net) (reasons_of_each address_reasons (addresses net)) pass
 
 -- ---- what each test says
 
@@ -44,15 +44,15 @@ not_false true e = refl
 not_false false e = absurd (cc)
 
 module _ (c : Config) (lawful : IsConfig c) where
-  lists_pass : EachPasses (each_tested interface_tests c.interfaces) × EachPasses ((nat_lt owned_limit (length c.prefixes), TooManyPrefixes) ∷ each_tested prefix_tests c.prefixes)
-  lists_pass = passes-append (each_tested interface_tests c.interfaces) ((nat_lt owned_limit (length c.prefixes), TooManyPrefixes) ∷ each_tested prefix_tests c.prefixes)
-      (each_passes (config_tests c) lawful.passes).1.1
+  lists_pass : EachPasses (reasons_of_each interface_reasons c.interfaces) × EachPasses ((nat_lt owned_limit (length c.prefixes), TooManyPrefixes) ∷ reasons_of_each prefix_reasons c.prefixes)
+  lists_pass = passes-append (reasons_of_each interface_reasons c.interfaces) ((nat_lt owned_limit (length c.prefixes), TooManyPrefixes) ∷ reasons_of_each prefix_reasons c.prefixes)
+      (each_passes (config_reasons c) lawful.passes).1.1
 
   interface_local : (i : ℕ) (x : Interface) → slice_get c.interfaces i ≡ Some x → is_link_local x.addr ≡ true
-  interface_local i x is = not_false (is_link_local x.addr) (passes_at (λ t. interface_tests (take t.0 c.interfaces) t.1) 0 c.interfaces i x is lists_pass.0).0
+  interface_local i x is = not_false (is_link_local x.addr) (passes_at (λ t. interface_reasons (take t.0 c.interfaces) t.1) 0 c.interfaces i x is lists_pass.0).0
 
   prefix_routable : (i : ℕ) (t : Prefix6 × ℕ) → slice_get c.prefixes i ≡ Some t → is_routable t.0 ≡ true
-  prefix_routable i t is = not_false (is_routable t.0) (passes_at (λ u. prefix_tests (take u.0 c.prefixes) u.1) 0 c.prefixes i t is lists_pass.1.1).1.0
+  prefix_routable i t is = not_false (is_routable t.0) (passes_at (λ u. prefix_reasons (take u.0 c.prefixes) u.1) 0 c.prefixes i t is lists_pass.1.1).1.0
 
   prefix_is : (i : ℕ) (t : Prefix6 × ℕ) → slice_get c.prefixes i ≡ Some t → IsPrefix t.0
   prefix_is i t is = subst (λ (u : Prefix6 × ℕ). IsPrefix u.0) (get_or_from_slice_get c.prefixes i t t is) (lawful.prefixes i t (slice_get_within c.prefixes i t is))
@@ -72,12 +72,12 @@ any_in test (x ∷ xs) (suc q) (suc p) a is below passes = ap (λ b. test x || b
     or_true true = refl
     or_true false = refl
 
-no_repeats : (xs : List ℕ) → EachPasses (each_tested address_tests xs) → NoRepeats xs
+no_repeats : (xs : List ℕ) → EachPasses (reasons_of_each address_reasons xs) → NoRepeats xs
 no_repeats xs passes p q a here there = grind (arith, not_before p q here there, not_before q p there here)
   where
     not_before : (m n : ℕ) → slice_get xs m ≡ Some a → slice_get xs n ≡ Some a → n ≤ m
     not_before m n first later =
-        let new : list_any (λ b. b == a) (take (0 + n) xs) ≡ false = (passes_at (λ t. address_tests (take t.0 xs) t.1) 0 xs n a later passes).0 in
+        let new : list_any (λ b. b == a) (take (0 + n) xs) ≡ false = (passes_at (λ t. address_reasons (take t.0 xs) t.1) 0 xs n a later passes).0 in
         let order : (m < n → ⊥) → n ≤ m = λ never. grind (arith, never) in
         order (λ before.
         let old : list_any (λ b. b == a) (take n xs) ≡ true = any_in (λ b. b == a) xs n m a first before (eq-eqb a a refl) in
@@ -164,6 +164,6 @@ module _ (net : Network) (none : network_fault net ≡ None) (lawful : All (λ n
       record {
         owns_prefixes = owned;
         distinct = distinct net (no_repeats (addresses net)
-            (passes-append (each_tested router_tests net) (each_tested address_tests (addresses net)) (each_passes (network_tests net) none).1).1);
+            (passes-append (reasons_of_each router_reasons net) (reasons_of_each address_reasons (addresses net)) (each_passes (network_reasons net) none).1).1);
         usable = usable;
       }

@@ -4,11 +4,11 @@ use Rattle.std.proofs.lemmas.Grind.{flat_map-append}
 use Rattle.std.proofs.lemmas.List.{append-nil, take_more, length-append}
 use Rattle.std.proofs.lemmas.List.Elements.{All-more}
 use Rattle.std.proofs.Math.Seq.{get_or-append_seam, take-append_seam}
-use Rattle.ripng_wire.specs.Wire.{first_failing}
-use Rattle.router_core.specs.Config.{IsConfig, each_tested}
-use Rattle.router_core.proofs.EachTested.{PassesBelow, passes_more, fails_here}
+use Rattle.ripng_wire.specs.Wire.{first_reason}
+use Rattle.router_core.specs.Config.{IsConfig, reasons_of_each}
+use Rattle.router_core.proofs.ReasonsOfEach.{PassesBelow, passes_more, fails_here}
 use Rattle.ripng_world.specs.Network.{Node, config_of}
-use Rattle.ripng_world.specs.NetworkFaults.{addresses, faults_of_router, router_tests}
+use Rattle.ripng_world.specs.NetworkFaults.{addresses, faults_of_router, router_reasons}
 use Rattle.ripng_world.specs.declared.network.NetInterface.{NetInterface}
 use Rattle.ripng_world.specs.declared.network.NetRefused.{NetRefused}
 
@@ -25,12 +25,12 @@ addresses_more nodes i node old new here is so_far more =
 
 -- ---- the tests of a router, with its number
 
-pub first_failing-map : {F G : Type 0} (f : F → G) (ts : List (Bool × F)) → first_failing (map (λ t. (t.0, f t.1)) ts) ≡ option_map f (first_failing ts)
-first_failing-map f [] = refl
-first_failing-map f (t ∷ ts) = by_test t.0 (first_failing-map f ts)
+pub first_reason-map : {F G : Type 0} (f : F → G) (ts : List (Bool × F)) → first_reason (map (λ t. (t.0, f t.1)) ts) ≡ option_map f (first_reason ts)
+first_reason-map f [] = refl
+first_reason-map f (t ∷ ts) = by_test t.0 (first_reason-map f ts)
   where
-    by_test : (b : Bool) → first_failing (map (λ u. (u.0, f u.1)) ts) ≡ option_map f (first_failing ts)
-        → cond b (Some (f t.1)) (first_failing (map (λ u. (u.0, f u.1)) ts)) ≡ option_map f (cond b (Some t.1) (first_failing ts))
+    by_test : (b : Bool) → first_reason (map (λ u. (u.0, f u.1)) ts) ≡ option_map f (first_reason ts)
+        → cond b (Some (f t.1)) (first_reason (map (λ u. (u.0, f u.1)) ts)) ≡ option_map f (cond b (Some t.1) (first_reason ts))
     by_test true rest = refl
     by_test false rest = rest
 
@@ -48,8 +48,8 @@ module _ (nodes taken rest : List Node) (node : Node) (n : ℕ) (is : taken ++ n
   pub next_lawful : All (λ m. IsConfig (config_of m)) (take n nodes) → IsConfig (config_of node) → All (λ m. IsConfig (config_of m)) (take (n + 1) nodes)
   next_lawful all here = All-more (λ m. IsConfig (config_of m)) nodes n node next_within all (subst (λ m. IsConfig (config_of m)) next_is here)
 
-  pub passes_on : PassesBelow router_tests nodes n → first_failing (faults_of_router n node) ≡ None → PassesBelow router_tests nodes (n + 1)
-  passes_on below passes = passes_more router_tests nodes n node next_within next_is below (ap (λ (k : ℕ). first_failing (faults_of_router k node)) next_number ∙ passes)
+  pub passes_on : PassesBelow router_reasons nodes n → first_reason (faults_of_router n node) ≡ None → PassesBelow router_reasons nodes (n + 1)
+  passes_on below passes = passes_more router_reasons nodes n node next_within next_is below (ap (λ (k : ℕ). first_reason (faults_of_router k node)) next_number ∙ passes)
 
-  pub fails_at : (why : NetRefused) → PassesBelow router_tests nodes n → first_failing (faults_of_router n node) ≡ Some why → first_failing (each_tested router_tests nodes) ≡ Some why
-  fails_at why below fails = fails_here router_tests nodes n node why next_within next_is below (ap (λ (k : ℕ). first_failing (faults_of_router k node)) next_number ∙ fails)
+  pub fails_at : (why : NetRefused) → PassesBelow router_reasons nodes n → first_reason (faults_of_router n node) ≡ Some why → first_reason (reasons_of_each router_reasons nodes) ≡ Some why
+  fails_at why below fails = fails_here router_reasons nodes n node why next_within next_is below (ap (λ (k : ℕ). first_reason (faults_of_router k node)) next_number ∙ fails)

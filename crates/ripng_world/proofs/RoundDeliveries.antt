@@ -1,4 +1,4 @@
--- The deliveries of a quiet round: each bounds the metrics of the receiver, from then on.
+-- The deliveries of a synchronous round: each bounds the metrics of the receiver, from then on.
 use Rattle.std.proofs.Common.{◌≡◌, ◌≢◌, inl, inr, ℕ, suc, ◌+◌, min, max, ◌<◌, ◌≤◌, Bool, true, false, cond, MatchBool, MatchOption, List, [], ◌∷◌, ◌++◌, length, All, Option, Some, None, slice_get, refl, ap, sym, subst, ◌∙◌, arith, le_refl, le_trans}
 use Rattle.std.specs.Prelude.{⊤}
 use Rattle.std.specs.List.{AllByRecursion}
@@ -47,7 +47,7 @@ use Rattle.ripng_world.proofs.RoundNeighbors.{state_after, set_here, state_befor
 
 -- a gateway as far as a route names it
 abbrev pub gateway_at : ℕ → ℕ → Gateway
-gateway_at iface from = record { iface = iface; cost = 0; from = from; now = 0 }
+gateway_at iface from = record { iface = iface; cost = 0; from = from; moment = 0 }
 
 abbrev pub IsFreshClock : (ℕ → Type 0) → Clock → Type 0
 IsFreshClock current c = (until : ℕ) × (x : ℕ) × (c ≡ Live until) × current x × (x + timeout ≤ until)

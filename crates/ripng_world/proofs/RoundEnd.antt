@@ -1,4 +1,4 @@
--- A quiet round takes least costs within k hops to least costs within k + 1.
+-- A synchronous round takes least costs within k hops to least costs within k + 1.
 use Rattle.std.proofs.Common.{◌≡◌, ◌≢◌, ◌⊎◌, inl, inr, ℕ, suc, ◌+◌, ◌<◌, ◌≤◌, Bool, true, false, ◌&&◌, ◌==◌, List, [], ◌∷◌, ◌++◌, map, length, All, Contains, Option, Some, None, option_map, option_and_then, unwrap_or, slice_get, refl, ap, ap₂, sym, subst, ◌∙◌, arith, le_refl, le_trans, append-nil}
 use Rattle.std.specs.List.{AllByRecursion}
 use Rattle.std.specs.FinMap as map_of
@@ -20,7 +20,7 @@ use Rattle.ripng_world.specs.declared.sent.Sent.{Sent}
 use Rattle.ripng_world.specs.Network.{Network, Node, config_of, interface_at, AreLinked, OwnsPrefixes, HasDistinctAddresses}
 use Rattle.ripng_world.specs.Walks.{Hop, Reaches, cost, cost_of_interface}
 use Rattle.ripng_world.specs.World.{World, Deliver, address_at}
-use Rattle.ripng_world.specs.Rounds.{Round, router_of, moment_of, IsDeliveryOf, IsQuietRound, IsMomentOf}
+use Rattle.ripng_world.specs.Rounds.{Round, router_of, moment_of, IsDeliveryOf, IsSynchronousRound, IsMomentOf}
 use Rattle.ripng_world.specs.Network.{IsUsable}
 use Rattle.ripng_world.specs.Convergence.{IsNeverQuiet, FitsTables}
 use Rattle.ripng_world.proofs.Each.{each_from_places, each_at_place}
@@ -78,7 +78,7 @@ wider net base k k' moments moments' router last p r more also f =
     by_origin (Learned i h m) s = (s.0, s.1, s.2, record { ahead = s.3.ahead; since = s.3.since; of_router = also s.3.since s.3.of_router; within = s.3.within })
 
 module _ (net : Network) (usable : IsUsable net) (owns : OwnsPrefixes net) (noisy : IsNeverQuiet net) (distinct : HasDistinctAddresses net) (fits : FitsTables net)
-    (k : ℕ) (previous : ℕ → ℕ → Type 0) (w w' : World) (settled : IsSettled net k previous w) (round : Round) (quiet : IsQuietRound net w round w')
+    (k : ℕ) (previous : ℕ → ℕ → Type 0) (w w' : World) (settled : IsSettled net k previous w) (round : Round) (synchronous : IsSynchronousRound net w round w')
     (close_both : (router x y : ℕ) → previous router x ⊎ IsMomentOf round router x → IsMomentOf round router y → (x < y + timeout) × (y < x + timeout)) where
   abbrev current : ℕ → ℕ → Type 0
   current = IsMomentOf round
@@ -106,13 +106,13 @@ module _ (net : Network) (usable : IsUsable net) (owns : OwnsPrefixes net) (nois
         all_updates = tt;
       }
 
-  ticked : IsAfterTicks net usable owns noisy w k both current close [] round.ticks quiet.told
-  ticked = ticks_done net usable owns noisy w k both current close round.ticks w quiet.told [] begins (tick_moments round) quiet.all_tick
+  ticked : IsAfterTicks net usable owns noisy w k both current close [] round.ticks synchronous.after_ticks
+  ticked = ticks_done net usable owns noisy w k both current close round.ticks w synchronous.after_ticks [] begins (tick_moments round) synchronous.all_tick
 
   abbrev new : List Sent
   new = [] ++ ticked.later
 
-  hears : AreHearing net usable distinct fits w k both current (λ router x m. inr m) close new ticked.ticking.all_updates quiet.told
+  hears : AreHearing net usable distinct fits w k both current (λ router x m. inr m) close new ticked.ticking.all_updates synchronous.after_ticks
   hears =
       record {
         states = λ router s is. let t = ticked.ticking.states router s is in
@@ -131,12 +131,12 @@ module _ (net : Network) (usable : IsUsable net) (owns : OwnsPrefixes net) (nois
       as_low : {a b : ℕ} → a ≡ b → b ≤ a
       as_low e = omega arith
 
-  heard : AreDelivered net usable distinct fits w k both current (λ router x m. inr m) close new ticked.ticking.all_updates quiet.told w' round.deliveries
+  heard : AreDelivered net usable distinct fits w k both current (λ router x m. inr m) close new ticked.ticking.all_updates synchronous.after_ticks w' round.deliveries
   heard =
-      deliveries_done net usable distinct fits w k both current (λ router x m. inr m) close new ticked.ticking.all_updates round.deliveries quiet.told w' hears (delivery_moments round)
+      deliveries_done net usable distinct fits w k both current (λ router x m. inr m) close new ticked.ticking.all_updates round.deliveries synchronous.after_ticks w' hears (delivery_moments round)
       (recursion_from_All (IsDeliveryOf (length w.sent) (length (w.sent ++ new))) round.deliveries
-      (subst (λ (ds : List Sent). All (IsDeliveryOf (length w.sent) (length ds)) round.deliveries) ticked.ticking.sent_is quiet.only_these))
-      quiet.all_heard
+      (subst (λ (ds : List Sent). All (IsDeliveryOf (length w.sent) (length ds)) round.deliveries) ticked.ticking.sent_is synchronous.only_these))
+      synchronous.all_heard
 
   abbrev BoundAt : ℕ → Prefix6 → ℕ → ℕ → ℕ → Type 0
   BoundAt router p bound iface from = IsBoundAt net usable distinct fits w k both current (λ r x m. inr m) close new ticked.ticking.all_updates w' router p bound iface from
@@ -147,7 +147,7 @@ module _ (net : Network) (usable : IsUsable net) (owns : OwnsPrefixes net) (nois
       → BoundAt router p (cost_of_interface net router iface + t.metric) iface (address_at net teller iface')
   heard_from teller iface' p t at clean router iface linked other low =
       let inside : teller < length net = in_net (slice_get net teller) refl linked.here_is in
-      let named = at_from_contains (map router_of round.ticks) teller (quiet.each_ticks teller inside) in
+      let named = at_from_contains (map router_of round.ticks) teller (synchronous.each_ticks teller inside) in
       let tells : TellsAll net usable owns noisy w k both current close new teller =
       each_at_place (TellsAll net usable owns noisy w k both current close new) (map router_of round.ticks) ticked.all_tell named.0 teller named.1 in
       let x : Tells net usable owns noisy w k both current close new teller iface' p = tells iface' linked.here linked.here_is p t at in
@@ -155,7 +155,7 @@ module _ (net : Network) (usable : IsUsable net) (owns : OwnsPrefixes net) (nois
       let linked' : AreLinked net x.sent.router x.sent.iface router iface =
       subst (λ r. AreLinked net r x.sent.iface router iface) (sym x.by_router) (subst (λ i. AreLinked net teller i router iface) (sym x.on_iface) linked) in
       let other' : router ≢ x.sent.router = λ same. other (same ∙ x.by_router) in
-      let delivered = quiet.each_delivered place.0 router iface x.sent place.1 (ap (λ (ds : List Sent). slice_get ds place.0) ticked.ticking.sent_is ∙ place.2) linked' (inl other') in
+      let delivered = synchronous.each_delivered place.0 router iface x.sent place.1 (ap (λ (ds : List Sent). slice_get ds place.0) ticked.ticking.sent_is ∙ place.2) linked' (inl other') in
       let event = at_from_contains round.deliveries (Deliver place.0 router iface delivered.0) delivered.1 in
       let has = each_at_place (HasHeardEvent net usable distinct fits w k both current (λ r x m. inr m) close new ticked.ticking.all_updates w') round.deliveries heard.heard event.0 (Deliver place.0 router iface delivered.0) event.1 in
       let b = has x.sent place.2 linked' other' x.entries x.spelled x.entry x.in_entries t
@@ -183,8 +183,8 @@ module _ (net : Network) (usable : IsUsable net) (owns : OwnsPrefixes net) (nois
 
   state_later : (router : ℕ) (s : State) → slice_get w.states router ≡ Some s → (t : State) × (slice_get w'.states router ≡ Some t)
   state_later router s is =
-      let told = ticks_stay net round.ticks w quiet.told quiet.all_tick router s is in
-      hearings_stay net round.deliveries quiet.told w' quiet.all_heard router told.0 told.1
+      let stayed = ticks_stay net round.ticks w synchronous.after_ticks synchronous.all_tick router s is in
+      hearings_stay net round.deliveries synchronous.after_ticks w' synchronous.all_heard router stayed.0 stayed.1
 
   costs_one : (router iface : ℕ) (here : NetInterface) → interface_at net router iface ≡ Some here → 1 ≤ cost_of_interface net router iface
   costs_one router iface here is =

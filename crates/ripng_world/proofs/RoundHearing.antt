@@ -1,4 +1,4 @@
--- What hearing a neighbor's update does to each route in a quiet round.
+-- What hearing a neighbor's update does to each route in a synchronous round.
 use Rattle.std.proofs.Common.{◌≡◌, ◌≢◌, ◌⊎◌, inl, inr, ℕ, zero, suc, ◌+◌, ◌-◌, max, ◌<◌, ◌≤◌, Bool, true, false, cond, not, ◌&&◌, ◌||◌, ◌==◌, nat_lt, nat_le, List, [], ◌∷◌, length, find, Contains, All, Option, Some, None, is_some, is_none, option_map, slice_get, slice_index_or, refl, ap, ap₂, sym, subst, ◌∙◌, arith, le_refl, le_trans}
 use Rattle.std.specs.List.{AllByRecursion}
 use Rattle.std.specs.FinMap as map_of
@@ -100,7 +100,7 @@ pub record IsToldEntry (net : Network) (base : World) (k sender sender_iface : �
 
 module _ (net : Network) (distinct : HasDistinctAddresses net) (fits : FitsTables net) (base : World) (k : ℕ) (moments : ℕ → Type 0) (router last : ℕ)
     (h : Hearing) (sender sender_iface : ℕ) (near : IsNeighbor net router h.gateway sender sender_iface)
-    (current : ℕ → Type 0) (among : (x : ℕ) → current x → moments x) (now_is : ℕ) (now_of : current now_is) (now_max : h.gateway.now ≡ max last now_is)
+    (current : ℕ → Type 0) (among : (x : ℕ) → current x → moments x) (now_is : ℕ) (now_of : current now_is) (now_max : h.gateway.moment ≡ max last now_is)
     (close : (x : ℕ) → moments x → now_is < x + timeout)
     (told : (place : ℕ) (e : Rte) → slice_get h.entries place ≡ Some e → IsToldEntry net base k sender sender_iface e)
     (fine : (p : Prefix6) (r : RouteValue) → map_of.get h.before p ≡ Some r → IsFine net base (suc k) moments router last p r) where

@@ -1,4 +1,4 @@
--- The ticks of a quiet round: nothing expires, and every route is told on every interface.
+-- The ticks of a synchronous round: nothing expires, and every route is told on every interface.
 use Rattle.std.proofs.Common.{◌≡◌, inl, inr, ℕ, zero, suc, ◌+◌, ◌-◌, ◌*◌, ◌/◌, ◌%◌, max, ◌<◌, ◌≤◌, true, false, cond, nat_le, List, [], ◌∷◌, ◌++◌, map, drop, filter, flat_map, slice_range, length, Option, Some, None, option_map, option_and_then, unwrap_or, slice_get, refl, ap, ap₂, sym, subst, ◌∙◌, arith, le_refl, le_trans, append_assoc, append-nil}
 use Rattle.std.specs.List.{AllByRecursion, enumerate_from}
 use Rattle.std.specs.FinMap as map_of
@@ -308,7 +308,7 @@ module _ (net : Network) (usable : IsUsable net) (owns : OwnsPrefixes net) (nois
       let new_is : m.new ≡ ticked_now router m.old t now n now_of refl word =
       m.moves.state ∙ pick is_due in
       let spelled : AreSpelled (updates router m.old t now n now_of refl) answer.sends =
-      subst (λ ms. AreSpelled ms answer.sends) (messages is_due ∙ updates_are router m.old t now n now_of refl) m.moves.told.sends in (
+      subst (λ ms. AreSpelled ms answer.sends) (messages is_due ∙ updates_are router m.old t now n now_of refl) m.moves.answer_is.sends in (
         map (sent_by router) answer.sends,
         record {
           states = λ r s is. elim (get_set w.states router m.new r s (ap (λ (ss : List State). slice_get ss r) (sym m.states) ∙ is)) [

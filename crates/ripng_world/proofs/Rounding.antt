@@ -60,10 +60,10 @@ module _ (g : Gateway) (o : Offer) (low : metric_through g o < infinity) where
       stands : IsStanding r.clock
       stands = subst IsStanding (sym clock) tt
 
-      same_metric : (m a : ℕ) → (nat_lt m a || (m == a && nat_le until (g.now + half_timeout))) ≡ true → m ≤ a
+      same_metric : (m a : ℕ) → (nat_lt m a || (m == a && nat_le until (g.moment + half_timeout))) ≡ true → m ≤ a
       same_metric m a e = grind (arith, nat_tests)
 
-      not_preferred : (m a : ℕ) → (nat_lt m a || (m == a && nat_le until (g.now + half_timeout))) ≡ false → a ≤ m
+      not_preferred : (m a : ℕ) → (nat_lt m a || (m == a && nat_le until (g.moment + half_timeout))) ≡ false → a ≤ m
       not_preferred m a e = grind (arith, nat_tests)
 
       by_preference : (b : Bool) → is_preferred g o r.metric until ≡ b → Improves g o r (cond b (taken g o) r)
@@ -72,7 +72,7 @@ module _ (g : Gateway) (o : Offer) (low : metric_through g o < infinity) where
 
       by_gateway : (b : Bool) → is_through g r.origin ≡ b → Improves g o r (cond b (refreshed g o r) (cond (is_preferred g o r.metric until) (taken g o) r))
       by_gateway true e =
-          subst (λ b. Improves g o r (cond b (record (taken g o) { changed = r.changed || not (is_repeated g o r) }) (lost g.now r))) (sym is_low)
+          subst (λ b. Improves g o r (cond b (record (taken g o) { changed = r.changed || not (is_repeated g o r) }) (lost g.moment r))) (sym is_low)
           (record { no_rise = not_risen e; at_most = le_refl _; tight = inr (refl, refl); stands = tt })
       by_gateway false e = by_preference (is_preferred g o r.metric until) refl
 

@@ -7,14 +7,14 @@ use Rattle.std.specs.Ordering.{eq_by_cmp}
 use Rattle.std.proofs.lemmas.Map.Views.{tells_apart}
 use Rattle.prefix6.specs.Prefix.{Prefix6, IsPrefix, prefix_cmp, same_prefix}
 use Rattle.prefix6.proofs.PrefixLaws.{exact_prefixes}
-use Rattle.ripng_wire.specs.Wire.{first_failing, wire_tests, is_response}
+use Rattle.ripng_wire.specs.Wire.{first_reason, wire_reasons, is_response}
 use Rattle.route_table.specs.Route.{RouteValue, infinity}
 use Rattle.route_table.specs.Table.{Table, with_value}
 use Rattle.route_table.proofs.TableLaws.{at_from_entries, Some-same, None-Some}
 use Rattle.route_table.proofs.TableSteps.{get-with_value}
 use Rattle.router_core.specs.Config.{Config, cost_at, is_own_address}
 use Rattle.router_core.specs.Received.{Received}
-use Rattle.router_core.specs.Faults.{fault, arrival_tests, response_tests, request_tests}
+use Rattle.router_core.specs.Faults.{fault, arrival_reasons, response_reasons, request_reasons}
 use Rattle.router_core.specs.Ageing.{aged_table, unmarked}
 use Rattle.router_core.specs.Machine.{State, Happening, Arrives, Ticks, Restarts, Reconfigures, Hears, Replies, Refuses, started, ticked, owned_table, gateway_of, is_regular_due, is_triggered_due}
 use Rattle.router_core.specs.Adoption.{lost}
@@ -32,7 +32,7 @@ use Rattle.ripng_world.specs.Network.{Network, Node, config_of, interface_at, Ar
 use Rattle.ripng_world.specs.Walks.{cost_of_interface}
 use Rattle.ripng_world.specs.World.{World, Event, Deliver, Stranger, Tick, Restart, Reconfigure, RouterMoves, Happens, WorldRun, StartsFrom, IsCold, past_of, changes_by, change_in, changes_in, sent_by, address_at, arrival_of}
 use Rattle.ripng_world.specs.Past.{Past, HasCostSince, OwnsSince}
-use Rattle.ripng_world.specs.TruthSince.{IsNeighborSince, IsSoundSince, IsSoundTableSince, TellsTruthSince}
+use Rattle.ripng_world.specs.TruthSince.{IsNeighborSince, IsSoundSince, IsSoundTableSince, IsSoundDatagramSince}
 use Rattle.ripng_world.proofs.Each.{each_append, each_filter, each_mapped, each_weaker, each_from_places, each_at_place}
 use Rattle.ripng_world.proofs.Members.{at_right}
 use Rattle.ripng_world.proofs.Growing.{cost_grows, owner_grows, table_grows, truth_grows}
@@ -41,29 +41,29 @@ use Rattle.ripng_world.proofs.Keeping.{heard_sound}
 
 -- ---- tests
 
-passed : {F : Type 0} (ts : List (Bool × F)) → first_failing ts ≡ None → AllByRecursion (λ t. t.0 ≡ false) ts
+passed : {F : Type 0} (ts : List (Bool × F)) → first_reason ts ≡ None → AllByRecursion (λ t. t.0 ≡ false) ts
 passed [] e = tt
 passed (t ∷ ts) e = by_test t.0 refl e (passed ts)
   where
-    by_test : (b : Bool) → t.0 ≡ b → cond b (Some t.1) (first_failing ts) ≡ None → (first_failing ts ≡ None → AllByRecursion (λ u. u.0 ≡ false) ts)
+    by_test : (b : Bool) → t.0 ≡ b → cond b (Some t.1) (first_reason ts) ≡ None → (first_reason ts ≡ None → AllByRecursion (λ u. u.0 ≡ false) ts)
         → (t.0 ≡ false) × AllByRecursion (λ u. u.0 ≡ false) ts
     by_test true is none rest = absurd (None-Some _ (sym none))
     by_test false is none rest = (is, rest none)
 
-later_passed : {F : Type 0} (xs ys : List (Bool × F)) → first_failing (xs ++ ys) ≡ None → first_failing ys ≡ None
+later_passed : {F : Type 0} (xs ys : List (Bool × F)) → first_reason (xs ++ ys) ≡ None → first_reason ys ≡ None
 later_passed [] ys e = e
 later_passed (x ∷ xs) ys e = by_test x.0 e (later_passed xs ys)
   where
-    by_test : (b : Bool) → cond b (Some x.1) (first_failing (xs ++ ys)) ≡ None → (first_failing (xs ++ ys) ≡ None → first_failing ys ≡ None) → first_failing ys ≡ None
+    by_test : (b : Bool) → cond b (Some x.1) (first_reason (xs ++ ys)) ≡ None → (first_reason (xs ++ ys) ≡ None → first_reason ys ≡ None) → first_reason ys ≡ None
     by_test true none rest = absurd (None-Some _ (sym none))
     by_test false none rest = rest none
 
 -- a Response without fault is from none of the router's own addresses
 pub not_own : (config : Config) (x : Received) → fault config x ≡ None → is_response x.bytes ≡ true → is_own_address config x.source ≡ false
 not_own config x none response =
-    let late : first_failing (cond (is_response x.bytes) (response_tests config x) (request_tests config x)) ≡ None = later_passed (map (λ t. (t.0, Wire t.1)) (wire_tests x.bytes)) (arrival_tests config x) none in
-    let tests : first_failing (response_tests config x) ≡ None = sym (ap (λ b. first_failing (cond b (response_tests config x) (request_tests config x))) response) ∙ late in
-    (passed (response_tests config x) tests).1.1.0
+    let late : first_reason (cond (is_response x.bytes) (response_reasons config x) (request_reasons config x)) ≡ None = later_passed (map (λ t. (t.0, Wire t.1)) (wire_reasons x.bytes)) (arrival_reasons config x) none in
+    let tests : first_reason (response_reasons config x) ≡ None = sym (ap (λ b. first_reason (cond b (response_reasons config x) (request_reasons config x))) response) ∙ late in
+    (passed (response_reasons config x) tests).1.1.0
 
 -- ---- lists and interfaces
 
@@ -314,7 +314,7 @@ changed_sound net changes router now config table (Disown p) named sound =
 -- ---- deliveries
 
 module _ (past : Past) (router iface : ℕ) (d : Sent) (moment : ℕ) (old new : State) (answer : Answer) (good : IsGoodState past router old)
-    (linked : AreLinked past.net d.router d.iface router iface) (told : TellsTruthSince past d.router d.bytes) where
+    (linked : AreLinked past.net d.router d.iface router iface) (told : IsSoundDatagramSince past d.router d.bytes) where
   abbrev arrival : Received
   arrival = arrival_of past.net d iface moment
 
@@ -361,7 +361,7 @@ module _ (past : Past) (router iface : ℕ) (d : Sent) (moment : ℕ) (old new :
 
 pub record AreGood (past : Past) (states : List State) (sent : List Sent) : Type 0 where
   pub states_good : (router : ℕ) (s : State) → slice_get states router ≡ Some s → IsGoodState past router s
-  pub sent_true : AllByRecursion (λ (d : Sent). TellsTruthSince past d.router d.bytes) sent
+  pub sent_true : AllByRecursion (λ (d : Sent). IsSoundDatagramSince past d.router d.bytes) sent
 
 module _ (net : Network) (owns : OwnsPrefixes net) where
   abbrev pub IsGood : World → Type 0
@@ -378,10 +378,10 @@ module _ (net : Network) (owns : OwnsPrefixes net) where
               | inr there ↦ state_grows net w.changes (changes_by router happening) r s (good.states_good r s there)
             ];
         sent_true = subst IsTrueOf (sym m.sent)
-            (each_weaker (λ (d : Sent). TellsTruthSince after d.router d.bytes) (λ (d : Sent). TellsTruthSince (past_of net w) d.router d.bytes)
+            (each_weaker (λ (d : Sent). IsSoundDatagramSince after d.router d.bytes) (λ (d : Sent). IsSoundDatagramSince (past_of net w) d.router d.bytes)
             (λ d. truth_grows net w.changes (changes_by router happening) d.router d.bytes) _
-            (each_append (λ (d : Sent). TellsTruthSince (past_of net w) d.router d.bytes) w.sent _ good.sent_true
-            (each_mapped (λ (d : Sent). TellsTruthSince (past_of net w) d.router d.bytes) (sent_by router) answer.sends
+            (each_append (λ (d : Sent). IsSoundDatagramSince (past_of net w) d.router d.bytes) w.sent _ good.sent_true
+            (each_mapped (λ (d : Sent). IsSoundDatagramSince (past_of net w) d.router d.bytes) (sent_by router) answer.sends
             (sends_true (past_of net w) router m.old happening answer m.new (good.states_good router m.old m.old_is).sound m.moves))));
       })
     where
@@ -389,7 +389,7 @@ module _ (net : Network) (owns : OwnsPrefixes net) where
       after = record { net = net; changes = w.changes ++ changes_by router happening }
 
       IsTrueOf : List Sent → Type 0
-      IsTrueOf sent = AllByRecursion (λ (d : Sent). TellsTruthSince after d.router d.bytes) sent
+      IsTrueOf sent = AllByRecursion (λ (d : Sent). IsSoundDatagramSince after d.router d.bytes) sent
 
   -- a move that is no change
   unchanging : (w w' : World) (router : ℕ) (happening : Happening) (answer : Answer) (m : RouterMoves w router happening answer w')
@@ -422,7 +422,7 @@ module _ (net : Network) (owns : OwnsPrefixes net) where
       let m = d.moves in
       unchanging w w' router (Arrives (arrival_of net d.sent iface now)) answer m good
       (delivered_good (past_of net w) router iface d.sent now m.old m.new answer (good.states_good router m.old m.old_is) d.linked
-      (each_at_place (λ (s : Sent). TellsTruthSince (past_of net w) s.router s.bytes) w.sent good.sent_true datagram d.sent d.sent_is)
+      (each_at_place (λ (s : Sent). IsSoundDatagramSince (past_of net w) s.router s.bytes) w.sent good.sent_true datagram d.sent d.sent_is)
       (max m.old.last now) _ _ refl refl m.moves)
 
   pub ran : (events : List Event) (w w' : World) → WorldRun net w events w' → IsGood w → IsGood w'
@@ -438,15 +438,15 @@ module _ (net : Network) (owns : OwnsPrefixes net) where
     starts_good : (n : ℕ) (nodes : List Node) (moments : List ℕ) (states : List State) (sent : List Sent)
         → ((k : ℕ) (node : Node) → slice_get nodes k ≡ Some node → slice_get net (n + k) ≡ Some node)
         → StartsFrom n nodes moments states sent
-        → ((k : ℕ) (s : State) → slice_get states k ≡ Some s → IsGoodState past (n + k) s) × AllByRecursion (λ (d : Sent). TellsTruthSince past d.router d.bytes) sent
-    starts_good n [] [] [] sent at starts = (λ k s is. absurd (None-Some s is), subst (AllByRecursion (λ (d : Sent). TellsTruthSince past d.router d.bytes)) (sym starts) tt)
+        → ((k : ℕ) (s : State) → slice_get states k ≡ Some s → IsGoodState past (n + k) s) × AllByRecursion (λ (d : Sent). IsSoundDatagramSince past d.router d.bytes) sent
+    starts_good n [] [] [] sent at starts = (λ k s is. absurd (None-Some s is), subst (AllByRecursion (λ (d : Sent). IsSoundDatagramSince past d.router d.bytes)) (sym starts) tt)
     starts_good n (node ∷ nodes) (now ∷ moments) (s ∷ states) sent at starts =
         let first : slice_get net n ≡ Some node = ap (slice_get net) (sym (add-zero n)) ∙ at 0 node refl in
         let rest = starts_good (suc n) nodes moments states starts.1 (λ k other is. ap (slice_get net) (shifted k) ∙ at (suc k) other is) starts.3 in (
           λ k t is. by_place k t is first rest.0,
-          subst (AllByRecursion (λ (d : Sent). TellsTruthSince past d.router d.bytes)) (sym starts.4)
-              (each_append (λ (d : Sent). TellsTruthSince past d.router d.bytes) _ starts.1
-              (each_mapped (λ (d : Sent). TellsTruthSince past d.router d.bytes) (sent_by n) starts.0.sends (starting_true past n (config_of node) now starts.0 s starts.2))
+          subst (AllByRecursion (λ (d : Sent). IsSoundDatagramSince past d.router d.bytes)) (sym starts.4)
+              (each_append (λ (d : Sent). IsSoundDatagramSince past d.router d.bytes) _ starts.1
+              (each_mapped (λ (d : Sent). IsSoundDatagramSince past d.router d.bytes) (sent_by n) starts.0.sends (starting_true past n (config_of node) now starts.0 s starts.2))
               rest.1),
         )
       where

@@ -7,10 +7,10 @@ use Rattle.std.proofs.lemmas.List.{length-map}
 use Rattle.std.proofs.lemmas.Bool.{eqb-true}
 use Rattle.std.proofs.lemmas.Bool.Decides.{nat_tests}
 use Rattle.std.proofs.lemmas.Option.{slice_get-map, slice_get_within}
-use Rattle.ripng_wire.specs.Wire.{first_failing}
-use Rattle.ripng_wire.proofs.FirstFailing.{each_passes}
-use Rattle.router_core.proofs.EachTested.{first_failing-append}
-use Rattle.ripng_world.proofs.NetworkLaws.{first_failing-map}
+use Rattle.ripng_wire.specs.Wire.{first_reason}
+use Rattle.ripng_wire.proofs.FirstReason.{each_passes}
+use Rattle.router_core.proofs.ReasonsOfEach.{first_reason-append}
+use Rattle.ripng_world.proofs.NetworkLaws.{first_reason-map}
 use Rattle.prefix6.specs.Prefix.{is_routable}
 use Rattle.std.specs.FinMap as map_of
 use Rattle.route_table.specs.Table.{table_limit}
@@ -20,14 +20,14 @@ use Rattle.router_core.specs.Machine.{State, Happening, Arrives, Reconfigures, M
 use Rattle.router_core.specs.Received.{Received}
 use Rattle.router_core.specs.declared.answer.Answer.{Answer}
 use Rattle.ripng_world.specs.Network.{Node, AreLinked, config_of, interface_at}
-use Rattle.router_core.specs.Reconfiguring.{IsPlaced, change_fault, change_tests}
+use Rattle.router_core.specs.Reconfiguring.{NamesInterface, change_fault, change_reasons}
 use Rattle.router_core.specs.declared.reconfiguring.Change.{Change}
 use Rattle.router_core.specs.declared.reconfiguring.Change.TheVariants.{Cost, Own, Disown}
 use Rattle.router_core.specs.declared.reconfiguring.ReconfigureRefused.{ReconfigureRefused}
 use Rattle.router_core.specs.declared.reconfiguring.ReconfigureRefused.TheVariants as refused
 use Rattle.ripng_world.specs.World.{World, Event, RouterMoves, Happens, Deliver, Stranger, Tick, Restart, Reconfigure, changes_by, is_heard, arrival_of, sent_by}
 use Rattle.ripng_world.specs.Stations.{StationValue, MoveStations, network_of, world_of}
-use Rattle.ripng_world.specs.Labs.{LabValue, IsRefusal, asked_tests, lab_of, event_fault, event_tests, named_tests, refusal_of, step_fault, is_one_link, link_at, link_of_datagram}
+use Rattle.ripng_world.specs.Labs.{LabValue, IsRefusal, asked_reasons, lab_of, event_fault, event_reasons, named_reasons, refusal_of, step_fault, is_one_link, link_at, link_of_datagram}
 use Rattle.ripng_world.specs.declared.event.LabError.{LabError}
 use Rattle.ripng_world.specs.declared.network.NetInterface.{NetInterface}
 use Rattle.ripng_world.specs.declared.sent.Sent.{Sent}
@@ -105,7 +105,7 @@ interface_within stations router iface i s is here =
 pub was_sent : (stations : List StationValue) (sent : List Sent) (datagram router iface now : ℕ)
     → event_fault (lab_of stations sent []) (Deliver datagram router iface now) ≡ None → datagram < length sent
 was_sent stations sent datagram router iface now none =
-    let passes = each_passes (event_tests (lab_of stations sent []) (Deliver datagram router iface now)) none in
+    let passes = each_passes (event_reasons (lab_of stations sent []) (Deliver datagram router iface now)) none in
     let h = passes.1.1.0 in
     grind (arith, nat_tests, h)
 
@@ -115,7 +115,7 @@ pub delivery_linked : (stations : List StationValue) (sent : List Sent) (datagra
     → AreLinked (network_of stations) d.router d.iface router iface
 delivery_linked stations sent datagram router iface now d none is =
     let net = network_of stations in
-    let passes = each_passes (event_tests (lab_of stations sent []) (Deliver datagram router iface now)) none in
+    let passes = each_passes (event_reasons (lab_of stations sent []) (Deliver datagram router iface now)) none in
     let link = one_link (link_of_datagram (lab_of stations sent []) datagram) (link_at net router iface) passes.1.1.1.0 in
     let there = mapped_of (λ (i : NetInterface). i.link) (interface_at net router iface) link.0 link.2 in
     let own : link_at net d.router d.iface ≡ Some link.0 = sym (ap (option_and_then (λ (s : Sent). link_at net s.router s.iface)) is) ∙ link.1 in
@@ -147,7 +147,7 @@ pub record IsStranger (stations : List StationValue) (router : ℕ) (x : Receive
 pub stranger : (stations : List StationValue) (sent : List Sent) (router : ℕ) (x : Received)
     → event_fault (lab_of stations sent []) (Stranger router x) ≡ None → IsStranger stations router x
 stranger stations sent router x none =
-    let passes = each_passes (event_tests (lab_of stations sent []) (Stranger router x)) none in
+    let passes = each_passes (event_reasons (lab_of stations sent []) (Stranger router x)) none in
     let i = some_of (interface_at (network_of stations) router x.iface) passes.1.0 in
     record {
       interface = i.0;
@@ -183,27 +183,27 @@ enough n size room capacity routes entries routes' entries' few is same same' fi
 -- ---- changes of the configuration
 
 -- the router of a change
-pub named_within : (stations : List StationValue) (router : ℕ) (c : Change) → first_failing (named_tests (network_of stations) router c) ≡ None → router < length stations
+pub named_within : (stations : List StationValue) (router : ℕ) (c : Change) → first_reason (named_reasons (network_of stations) router c) ≡ None → router < length stations
 named_within stations router c none =
     let few : router < length (network_of stations) = by_change c none in
     subst (λ (n : ℕ). router < n) (length-map stations (λ (s : StationValue). s.node)) few
   where
-    by_change : (d : Change) → first_failing (named_tests (network_of stations) router d) ≡ None → router < length (network_of stations)
-    by_change (Cost iface cost) passes = let h = (each_passes (named_tests (network_of stations) router (Cost iface cost)) passes).0 in grind (arith, nat_tests, h)
-    by_change (Own p tag) passes = let h = (each_passes (named_tests (network_of stations) router (Own p tag)) passes).0 in grind (arith, nat_tests, h)
-    by_change (Disown p) passes = let h = (each_passes (named_tests (network_of stations) router (Disown p)) passes).0 in grind (arith, nat_tests, h)
+    by_change : (d : Change) → first_reason (named_reasons (network_of stations) router d) ≡ None → router < length (network_of stations)
+    by_change (Cost iface cost) passes = let h = (each_passes (named_reasons (network_of stations) router (Cost iface cost)) passes).0 in grind (arith, nat_tests, h)
+    by_change (Own p tag) passes = let h = (each_passes (named_reasons (network_of stations) router (Own p tag)) passes).0 in grind (arith, nat_tests, h)
+    by_change (Disown p) passes = let h = (each_passes (named_reasons (network_of stations) router (Disown p)) passes).0 in grind (arith, nat_tests, h)
 
 -- and its interface
-pub named_placed : (stations : List StationValue) (router : ℕ) (c : Change) (s : StationValue) → first_failing (named_tests (network_of stations) router c) ≡ None
-    → slice_get stations router ≡ Some s → IsPlaced (config_of s.node) c
+pub named_placed : (stations : List StationValue) (router : ℕ) (c : Change) (s : StationValue) → first_reason (named_reasons (network_of stations) router c) ≡ None
+    → slice_get stations router ≡ Some s → NamesInterface (config_of s.node) c
 named_placed stations router (Cost iface cost) s none here =
-    let i = some_of (interface_at (network_of stations) router iface) (each_passes (named_tests (network_of stations) router (Cost iface cost)) none).1.0 in
+    let i = some_of (interface_at (network_of stations) router iface) (each_passes (named_reasons (network_of stations) router (Cost iface cost)) none).1.0 in
     subst (λ (n : ℕ). iface < n) (sym (length-map s.node.interfaces (λ (i : NetInterface). i.interface))) (interface_within stations router iface i.0 s i.1 here)
 named_placed stations router (Own p tag) s none here = tt
 named_placed stations router (Disown p) s none here = tt
 
 -- configurations of as many interfaces have the same places
-pub placed_alike : (a b : Config) (c : Change) → length a.interfaces ≡ length b.interfaces → IsPlaced a c → IsPlaced b c
+pub placed_alike : (a b : Config) (c : Change) → length a.interfaces ≡ length b.interfaces → NamesInterface a c → NamesInterface b c
 placed_alike a b (Cost iface cost) same there = subst (λ (n : ℕ). iface < n) same there
 placed_alike a b (Own p tag) same there = tt
 placed_alike a b (Disown p) same there = tt
@@ -212,9 +212,9 @@ placed_alike a b (Disown p) same there = tt
 asked : (lab : LabValue) (router now : ℕ) (c : Change) (s : State) → slice_get lab.world.states router ≡ Some s → event_fault lab (Reconfigure router now c) ≡ None
     → step_fault lab (Reconfigure router now c) ≡ option_map LabError.ReconfigureRefused (change_fault s.config s.table c)
 asked lab router now c s here none =
-    first_failing-append (event_tests lab (Reconfigure router now c)) (asked_tests lab.world (Reconfigure router now c)) none
-    ∙ ap (λ (o : Option State). first_failing (option_map_or (λ t. map (λ u. (u.0, LabError.ReconfigureRefused u.1)) (change_tests t.config t.table c)) o [])) here
-    ∙ first_failing-map LabError.ReconfigureRefused (change_tests s.config s.table c)
+    first_reason-append (event_reasons lab (Reconfigure router now c)) (asked_reasons lab.world (Reconfigure router now c)) none
+    ∙ ap (λ (o : Option State). first_reason (option_map_or (λ t. map (λ u. (u.0, LabError.ReconfigureRefused u.1)) (change_reasons t.config t.table c)) o [])) here
+    ∙ first_reason-map LabError.ReconfigureRefused (change_reasons s.config s.table c)
 
 -- none of them is for want of memory
 refused_as : (s : State) (c : Change) (why : ReconfigureRefused) → change_fault s.config s.table c ≡ Some why → refusal_of why ≡ LabError.ReconfigureRefused why
@@ -260,10 +260,10 @@ change_refused lab router now c s why here none is = by_fault (change_fault s.co
 pub happened_passes : (lab : LabValue) (e : Event) (answer : Answer) (w' : World) → event_fault lab e ≡ None → Happens lab.network lab.world e answer w' → step_fault lab e ≡ None
 happened_passes lab (Reconfigure router now c) answer w' none happens =
     asked lab router now c happens.old happens.old_is none ∙ ap (option_map LabError.ReconfigureRefused) happens.moves.allowed
-happened_passes lab (Deliver datagram router iface now) answer w' none happens = first_failing-append (event_tests lab (Deliver datagram router iface now)) [] none
-happened_passes lab (Stranger router x) answer w' none happens = first_failing-append (event_tests lab (Stranger router x)) [] none
-happened_passes lab (Tick router now word) answer w' none happens = first_failing-append (event_tests lab (Tick router now word)) [] none
-happened_passes lab (Restart router now) answer w' none happens = first_failing-append (event_tests lab (Restart router now)) [] none
+happened_passes lab (Deliver datagram router iface now) answer w' none happens = first_reason-append (event_reasons lab (Deliver datagram router iface now)) [] none
+happened_passes lab (Stranger router x) answer w' none happens = first_reason-append (event_reasons lab (Stranger router x)) [] none
+happened_passes lab (Tick router now word) answer w' none happens = first_reason-append (event_reasons lab (Tick router now word)) [] none
+happened_passes lab (Restart router now) answer w' none happens = first_reason-append (event_reasons lab (Restart router now)) [] none
 
 pub reconfigured : (stations : List StationValue) (router now : ℕ) (c : Change) (old new : StationValue) (answer : Answer)
     → slice_get stations router ≡ Some old → new.node ≡ old.node → Moves old.state (Reconfigures now c) answer new.state

@@ -27,13 +27,13 @@ use Rattle.router_core.specs.declared.answer.Destination.{Destination}
 use Rattle.router_core.specs.declared.answer.Destination.TheVariants.{Group, Peer}
 use Rattle.ripng_world.specs.Walks.{Hop}
 use Rattle.ripng_world.specs.Past.{Past, ReachesSince}
-use Rattle.ripng_world.specs.TruthSince.{IsSoundSince, IsSoundTableSince, IsTrueEntrySince, TellsTruthSince}
+use Rattle.ripng_world.specs.TruthSince.{IsSoundSince, IsSoundTableSince, IsSoundEntrySince, IsSoundDatagramSince}
 use Rattle.ripng_world.proofs.Each.{each_filter, each_take, each_drop, each_mapped, each_image, each_flat, each_weaker}
 
 module _ (past : Past) (router : ℕ) where
   -- unreachable entries are true
-  poison : (e : Rte) → e.metric ≡ infinity → IsTrueEntrySince past router e
-  poison e is = record { in_range = omega arith; truthful = λ h. absurd (omega arith) }
+  poison : (e : Rte) → e.metric ≡ infinity → IsSoundEntrySince past router e
+  poison e is = record { in_range = omega arith; backed = λ h. absurd (omega arith) }
 
   -- ---- ageing
 
@@ -67,41 +67,41 @@ module _ (past : Past) (router : ℕ) where
   -- ---- lists of entries
 
   abbrev AllTrue : List Rte → Type 0
-  AllTrue entries = AllByRecursion (IsTrueEntrySince past router) entries
+  AllTrue entries = AllByRecursion (IsSoundEntrySince past router) entries
 
   of_walk : (p : Prefix6) (metric tag : ℕ) → (metric < infinity → (walk : List Hop) × ReachesSince past router p metric tag walk)
-      → (addr len : ℕ) → cleared addr len ≡ p → metric ≤ infinity → IsTrueEntrySince past router (record { addr = addr; tag = tag; len = len; metric = metric })
+      → (addr len : ℕ) → cleared addr len ≡ p → metric ≤ infinity → IsSoundEntrySince past router (record { addr = addr; tag = tag; len = len; metric = metric })
   of_walk p metric tag backed addr len is low =
       record {
         in_range = low;
-        truthful = λ h. let b : (walk : List Hop) × ReachesSince past router p metric tag walk = backed h in
+        backed = λ h. let b : (walk : List Hop) × ReachesSince past router p metric tag walk = backed h in
             (b.0, subst (λ q. ReachesSince past router q metric tag b.0) (sym is) b.1);
       }
 
-  told_true : (iface : ℕ) (p : Prefix6) (r : RouteValue) → IsSoundSince past router p r → IsTrueEntrySince past router (told_entry iface (p, r))
+  told_true : (iface : ℕ) (p : Prefix6) (r : RouteValue) → IsSoundSince past router p r → IsSoundEntrySince past router (told_entry iface (p, r))
   told_true iface p r s =
-      elim (is_learned_on iface r.origin) as (λ b. IsTrueEntrySince past router (record { addr = p.addr; tag = r.tag; len = p.len; metric = cond b infinity r.metric })) [
+      elim (is_learned_on iface r.origin) as (λ b. IsSoundEntrySince past router (record { addr = p.addr; tag = r.tag; len = p.len; metric = cond b infinity r.metric })) [
         | true ↦ poison _ refl
         | false ↦ of_walk p r.metric r.tag (λ h. let b = s.backed h in (b.0, b.1)) p.addr p.len s.is_prefix s.in_range
       ]
 
   all_told : (iface : ℕ) (which : RouteValue → Bool) (table : Table) → IsSoundTableSince past router table → AllTrue (told iface which table)
   all_told iface which table sound =
-      each_mapped (IsTrueEntrySince past router) (told_entry iface) _
-      (each_filter (λ (t : Prefix6 × RouteValue). IsTrueEntrySince past router (told_entry iface t)) (λ t. which t.1) (map_of.entries table)
-      (all_entries (λ t. IsTrueEntrySince past router (told_entry iface t)) table (λ p r here. told_true iface p r (sound p r here))))
+      each_mapped (IsSoundEntrySince past router) (told_entry iface) _
+      (each_filter (λ (t : Prefix6 × RouteValue). IsSoundEntrySince past router (told_entry iface t)) (λ t. which t.1) (map_of.entries table)
+      (all_entries (λ t. IsSoundEntrySince past router (told_entry iface t)) table (λ p r here. told_true iface p r (sound p r here))))
 
   filled_true : (table : Table) → IsSoundTableSince past router table → (e : Rte) (o : Option RouteValue)
-      → ((r : RouteValue) → o ≡ Some r → IsSoundSince past router (cleared e.addr e.len) r) → IsTrueEntrySince past router (filled e o)
+      → ((r : RouteValue) → o ≡ Some r → IsSoundSince past router (cleared e.addr e.len) r) → IsSoundEntrySince past router (filled e o)
   filled_true table sound e None at = poison _ refl
   filled_true table sound e (Some r) at =
       let s : IsSoundSince past router (cleared e.addr e.len) r = at r refl in
       of_walk (cleared e.addr e.len) r.metric r.tag (λ h. let b = s.backed h in (b.0, b.1)) e.addr e.len refl s.in_range
 
-  reply_true : (table : Table) → IsSoundTableSince past router table → (e : Rte) → IsTrueEntrySince past router (reply_entry table e)
+  reply_true : (table : Table) → IsSoundTableSince past router table → (e : Rte) → IsSoundEntrySince past router (reply_entry table e)
   reply_true table sound e = by_length (nat_le e.len 128)
     where
-      by_length : (b : Bool) → IsTrueEntrySince past router (filled e (cond b (map_of.get table (cleared e.addr e.len)) None))
+      by_length : (b : Bool) → IsSoundEntrySince past router (filled e (cond b (map_of.get table (cleared e.addr e.len)) None))
       by_length true = filled_true table sound e _ (λ r is. sound (cleared e.addr e.len) r is)
       by_length false = filled_true table sound e None (λ r is. absurd (None-Some r is))
 
@@ -109,7 +109,7 @@ module _ (past : Past) (router : ℕ) where
   all_replied iface table asked sound =
       elim (asks_for_all asked) as (λ b. AllTrue (cond b (told iface every_route table) (map (reply_entry table) asked))) [
         | true ↦ all_told iface every_route table sound
-        | false ↦ each_image (IsTrueEntrySince past router) (reply_entry table) (reply_true table sound) asked
+        | false ↦ each_image (IsSoundEntrySince past router) (reply_entry table) (reply_true table sound) asked
       ]
 
   -- ---- messages
@@ -124,7 +124,7 @@ module _ (past : Past) (router : ℕ) where
   pieces_true : (n : ℕ) (entries : List Rte) → AllTrue entries → AllByRecursion AllTrue (pieces n entries)
   pieces_true n entries all =
       each_image AllTrue (λ k. slice_range entries (n * k) (n * k + n))
-      (λ k. each_take (IsTrueEntrySince past router) ((n * k + n) - n * k) (drop (n * k) entries) (each_drop (IsTrueEntrySince past router) (n * k) entries all))
+      (λ k. each_take (IsSoundEntrySince past router) ((n * k + n) - n * k) (drop (n * k) entries) (each_drop (IsSoundEntrySince past router) (n * k) entries all))
       (numbers_below ((length entries + (n - 1)) / n))
 
   responses_true : (config : Config) (iface : ℕ) (to : Destination) (entries : List Rte) → AllTrue entries → AllTrueMessages (responses config iface to entries)
@@ -172,10 +172,10 @@ module _ (past : Past) (router : ℕ) where
 
   -- ---- datagrams
 
-  abbrev AllTruthful : List Outgoing → Type 0
-  AllTruthful sends = AllByRecursion (λ o. TellsTruthSince past router o.bytes) sends
+  abbrev AllSound : List Outgoing → Type 0
+  AllSound sends = AllByRecursion (λ o. IsSoundDatagramSince past router o.bytes) sends
 
-  spelled_true : (ms : List Message) (sends : List Outgoing) → AllTrueMessages ms → AreSpelled ms sends → AllTruthful sends
+  spelled_true : (ms : List Message) (sends : List Outgoing) → AllTrueMessages ms → AreSpelled ms sends → AllSound sends
   spelled_true [] [] all spelled = tt
   spelled_true [] (o ∷ os) all spelled = absurd spelled
   spelled_true (m ∷ ms) [] all spelled = absurd spelled
@@ -187,23 +187,23 @@ module _ (past : Past) (router : ℕ) where
   )
 
   accepts_true : (old : State) (now : ℕ) (x : Received) (answer : Answer) (new : State) → IsSoundTableSince past router old.table
-      → (b : Bool) → MatchBool b (Hears old now x answer new) (Replies old now x answer new) → AllTruthful answer.sends
-  accepts_true old now x answer new sound true hears = spelled_true [] answer.sends tt hears.told.sends
+      → (b : Bool) → MatchBool b (Hears old now x answer new) (Replies old now x answer new) → AllSound answer.sends
+  accepts_true old now x answer new sound true hears = spelled_true [] answer.sends tt hears.answer_is.sends
   accepts_true old now x answer new sound false replies =
-      spelled_true (reply_messages old.config old.table x replies.entries) answer.sends (replies_true old.config old.table x replies.entries sound) replies.told.sends
+      spelled_true (reply_messages old.config old.table x replies.entries) answer.sends (replies_true old.config old.table x replies.entries sound) replies.answer_is.sends
 
   arrival_true : (old : State) (now : ℕ) (x : Received) (answer : Answer) (new : State) → IsSoundTableSince past router old.table
-      → (o : Option Fault) → MatchOption o (Accepts old now x answer new) (λ why. Refuses old now why answer new) → AllTruthful answer.sends
+      → (o : Option Fault) → MatchOption o (Accepts old now x answer new) (λ why. Refuses old now why answer new) → AllSound answer.sends
   arrival_true old now x answer new sound None accepts = accepts_true old now x answer new sound (is_response x.bytes) accepts
-  arrival_true old now x answer new sound (Some why) refuses = subst AllTruthful (sym (ap (λ (a : Answer). a.sends) refuses.answer_is)) tt
+  arrival_true old now x answer new sound (Some why) refuses = subst AllSound (sym (ap (λ (a : Answer). a.sends) refuses.answer_is)) tt
 
   pub sends_true : (old : State) (happening : Happening) (answer : Answer) (new : State)
-      → IsSoundTableSince past router old.table → Moves old happening answer new → AllTruthful answer.sends
+      → IsSoundTableSince past router old.table → Moves old happening answer new → AllSound answer.sends
   sends_true old (Arrives x) answer new sound moves = arrival_true old (max old.last x.now) x answer new sound (fault old.config x) moves
   sends_true old (Ticks now word) answer new sound moves =
-      spelled_true (tick_messages old (max old.last now)) answer.sends (tick_true old (max old.last now) sound) moves.told.sends
-  sends_true old (Restarts now) answer new sound moves = spelled_true (start_messages old.config) answer.sends (starts_true old.config) moves.told.sends
-  sends_true old (Reconfigures now c) answer new sound moves = spelled_true [] answer.sends tt moves.told.sends
+      spelled_true (tick_messages old (max old.last now)) answer.sends (tick_true old (max old.last now) sound) moves.answer_is.sends
+  sends_true old (Restarts now) answer new sound moves = spelled_true (start_messages old.config) answer.sends (starts_true old.config) moves.answer_is.sends
+  sends_true old (Reconfigures now c) answer new sound moves = spelled_true [] answer.sends tt moves.answer_is.sends
 
-  pub starting_true : (config : Config) (now : ℕ) (answer : Answer) (new : State) → Starts config now answer new → AllTruthful answer.sends
-  starting_true config now answer new starts = spelled_true (start_messages config) answer.sends (starts_true config) starts.told.sends
+  pub starting_true : (config : Config) (now : ℕ) (answer : Answer) (new : State) → Starts config now answer new → AllSound answer.sends
+  starting_true config now answer new starts = spelled_true (start_messages config) answer.sends (starts_true config) starts.answer_is.sends

@@ -13,8 +13,8 @@ use Rattle.router_core.specs.declared.answer.Answer.{Answer}
 use Rattle.router_core.specs.declared.answer.Outgoing.{Outgoing}
 use Rattle.ripng_world.specs.Network.{Network}
 use Rattle.ripng_world.specs.Past.{Past, beginning}
-use Rattle.ripng_world.specs.Truth.{IsNeighbor, IsSound, IsSoundTable, IsTrueEntry, TellsTruth}
-use Rattle.ripng_world.specs.TruthSince.{IsNeighborSince, IsSoundSince, IsSoundTableSince, IsTrueEntrySince, TellsTruthSince}
+use Rattle.ripng_world.specs.Truth.{IsNeighbor, IsSound, IsSoundTable, IsSoundEntry, IsSoundDatagram}
+use Rattle.ripng_world.specs.TruthSince.{IsNeighborSince, IsSoundSince, IsSoundTableSince, IsSoundEntrySince, IsSoundDatagramSince}
 use Rattle.ripng_world.proofs.Each.{each_weaker}
 use Rattle.ripng_world.proofs.Growing.{reaches_first, reaches_still, backed_first}
 use Rattle.ripng_world.proofs.Telling.{aged_sound, sends_true}
@@ -29,12 +29,12 @@ module _ (past : Past) (unchanged : past.changes ≡ []) (router : ℕ) where
   pub table_first : (table : Table) → IsSoundTableSince past router table → IsSoundTable past.net router table
   table_first table sound p r is = sound_first p r (sound p r is)
 
-  entry_first : (e : Rte) → IsTrueEntrySince past router e → IsTrueEntry past.net router e
+  entry_first : (e : Rte) → IsSoundEntrySince past router e → IsSoundEntry past.net router e
   entry_first e t =
-      record { in_range = t.in_range; truthful = λ low. let b = t.truthful low in (b.0, reaches_first past unchanged router (cleared e.addr e.len) e.metric e.tag b.0 b.1) }
+      record { in_range = t.in_range; backed = λ low. let b = t.backed low in (b.0, reaches_first past unchanged router (cleared e.addr e.len) e.metric e.tag b.0 b.1) }
 
-  pub truth_first : (bytes : List ℕ) → TellsTruthSince past router bytes → TellsTruth past.net router bytes
-  truth_first bytes told entries read = each_weaker (IsTrueEntry past.net router) (IsTrueEntrySince past router) entry_first entries (told entries read)
+  pub truth_first : (bytes : List ℕ) → IsSoundDatagramSince past router bytes → IsSoundDatagram past.net router bytes
+  truth_first bytes told entries read = each_weaker (IsSoundEntry past.net router) (IsSoundEntrySince past router) entry_first entries (told entries read)
 
 -- ---- and back
 
@@ -50,12 +50,12 @@ module _ (net : Network) (router : ℕ) where
   table_still : (table : Table) → IsSoundTable net router table → IsSoundTableSince (beginning net) router table
   table_still table sound p r is = sound_still p r (sound p r is)
 
-  entry_still : (e : Rte) → IsTrueEntry net router e → IsTrueEntrySince (beginning net) router e
+  entry_still : (e : Rte) → IsSoundEntry net router e → IsSoundEntrySince (beginning net) router e
   entry_still e t =
-      record { in_range = t.in_range; truthful = λ low. let b = t.truthful low in (b.0, reaches_still (beginning net) router (cleared e.addr e.len) e.metric e.tag b.0 b.1) }
+      record { in_range = t.in_range; backed = λ low. let b = t.backed low in (b.0, reaches_still (beginning net) router (cleared e.addr e.len) e.metric e.tag b.0 b.1) }
 
-  entries_still : (entries : List Rte) → AllByRecursion (IsTrueEntry net router) entries → AllByRecursion (IsTrueEntrySince (beginning net) router) entries
-  entries_still entries all = each_weaker (IsTrueEntrySince (beginning net) router) (IsTrueEntry net router) entry_still entries all
+  entries_still : (entries : List Rte) → AllByRecursion (IsSoundEntry net router) entries → AllByRecursion (IsSoundEntrySince (beginning net) router) entries
+  entries_still entries all = each_weaker (IsSoundEntrySince (beginning net) router) (IsSoundEntry net router) entry_still entries all
 
   neighbor_still : (g : Gateway) (sender sender_iface : ℕ) → IsNeighbor net router g sender sender_iface → IsNeighborSince (beginning net) router g sender sender_iface
   neighbor_still g sender sender_iface near = record { linked = near.linked; apart = near.apart; from = near.from; cost = inl near.cost }
@@ -66,15 +66,15 @@ module _ (net : Network) (router : ℕ) where
   aged_first now table sound = table_first (beginning net) refl router (aged_table now table) (aged_sound (beginning net) router now table (table_still table sound))
 
   pub sends_first : (old : State) (happening : Happening) (answer : Answer) (new : State) → IsSoundTable net router old.table → Moves old happening answer new
-      → AllByRecursion (λ (o : Outgoing). TellsTruth net router o.bytes) answer.sends
+      → AllByRecursion (λ (o : Outgoing). IsSoundDatagram net router o.bytes) answer.sends
   sends_first old happening answer new sound moves =
-      each_weaker (λ (o : Outgoing). TellsTruth net router o.bytes) (λ (o : Outgoing). TellsTruthSince (beginning net) router o.bytes)
+      each_weaker (λ (o : Outgoing). IsSoundDatagram net router o.bytes) (λ (o : Outgoing). IsSoundDatagramSince (beginning net) router o.bytes)
       (λ o. truth_first (beginning net) refl router o.bytes) answer.sends
       (sends_true (beginning net) router old happening answer new (table_still old.table sound) moves)
 
 pub heard_first : (net : Network) (router sender sender_iface : ℕ) (h : Hearing) (after : Table)
     → IsNeighbor net router h.gateway sender sender_iface
-    → AllByRecursion (IsTrueEntry net sender) h.entries
+    → AllByRecursion (IsSoundEntry net sender) h.entries
     → IsSoundTable net router h.before → Heard h after → IsSoundTable net router after
 heard_first net router sender sender_iface h after near all sound heard =
     table_first (beginning net) refl router after

@@ -7,18 +7,18 @@ use Rattle.prefix6.specs.Addr.{is_link_local}
 use Rattle.ripng_wire.specs.declared.rte.Rte.{Rte}
 use Rattle.ripng_wire.specs.declared.rte.Command.TheVariants.{Response}
 use Rattle.ripng_wire.specs.Layout.{Spells, entry_bytes, most_entries}
-use Rattle.ripng_wire.specs.Wire.{first_failing, wire_tests, is_response}
+use Rattle.ripng_wire.specs.Wire.{first_reason, wire_reasons, is_response}
 use Rattle.router_core.specs.Config.{Config, is_own_address}
 use Rattle.router_core.specs.Received.{Received}
-use Rattle.router_core.specs.Faults.{fault, arrival_tests, response_tests, request_tests}
+use Rattle.router_core.specs.Faults.{fault, arrival_reasons, response_reasons, request_reasons}
 use Rattle.router_core.specs.declared.arrival.Fault.{Fault}
 use Rattle.router_core.specs.declared.arrival.Fault.TheVariants.{Wire}
 use Rattle.ripng_wire.proofs.Entries.{length_entries}
 use Rattle.ripng_world.proofs.Each.{each_append}
 
-all_pass : {F : Type 0} (ts : List (Bool × F)) → AllByRecursion (λ t. t.0 ≡ false) ts → first_failing ts ≡ None
+all_pass : {F : Type 0} (ts : List (Bool × F)) → AllByRecursion (λ t. t.0 ≡ false) ts → first_reason ts ≡ None
 all_pass [] all = refl
-all_pass (t ∷ ts) all = ap (λ b. cond b (Some t.1) (first_failing ts)) all.0 ∙ all_pass ts all.1
+all_pass (t ∷ ts) all = ap (λ b. cond b (Some t.1) (first_reason ts)) all.0 ∙ all_pass ts all.1
 
 long_enough : (n : ℕ) → nat_lt (suc (suc (suc (suc n)))) 4 ≡ false
 long_enough n = grind (arith, nat_tests)
@@ -32,9 +32,9 @@ whole n l e = ap not (eq-eqb ((suc (suc (suc (suc l))) - 4) % 20) 0 (omega arith
 pub spelled_response : (es : List Rte) (bytes : List ℕ) → Spells Response es bytes → is_response bytes ≡ true
 spelled_response es bytes s = ap is_response s.bytes_are
 
-wire_passes : (es : List Rte) (bytes : List ℕ) → Spells Response es bytes → AllByRecursion (λ (t : Bool × Fault). t.0 ≡ false) (map (λ t. (t.0, Wire t.1)) (wire_tests bytes))
+wire_passes : (es : List Rte) (bytes : List ℕ) → Spells Response es bytes → AllByRecursion (λ (t : Bool × Fault). t.0 ≡ false) (map (λ t. (t.0, Wire t.1)) (wire_reasons bytes))
 wire_passes es bytes s =
-    subst (λ (bs : List ℕ). AllByRecursion (λ (t : Bool × Fault). t.0 ≡ false) (map (λ t. (t.0, Wire t.1)) (wire_tests bs))) (sym s.bytes_are) (
+    subst (λ (bs : List ℕ). AllByRecursion (λ (t : Bool × Fault). t.0 ≡ false) (map (λ t. (t.0, Wire t.1)) (wire_reasons bs))) (sym s.bytes_are) (
       long_enough (length (flat_map entry_bytes es)),
       (
         short_enough (length es) (length (flat_map entry_bytes es)) (length_entries es) s.few,
@@ -45,9 +45,9 @@ wire_passes es bytes s =
 pub no_fault : (config : Config) (x : Received) (es : List Rte) → Spells Response es x.bytes → x.source_port ≡ 521 → is_link_local x.source ≡ true
     → is_own_address config x.source ≡ false → x.hop_limit ≡ 255 → fault config x ≡ None
 no_fault config x es s port local own hops =
-    all_pass (map (λ t. (t.0, Wire t.1)) (wire_tests x.bytes) ++ arrival_tests config x)
-    (each_append (λ (t : Bool × Fault). t.0 ≡ false) (map (λ t. (t.0, Wire t.1)) (wire_tests x.bytes)) (arrival_tests config x) (wire_passes es x.bytes s)
-    (subst (λ b. AllByRecursion (λ (t : Bool × Fault). t.0 ≡ false) (cond b (response_tests config x) (request_tests config x))) (sym (spelled_response es x.bytes s))
+    all_pass (map (λ t. (t.0, Wire t.1)) (wire_reasons x.bytes) ++ arrival_reasons config x)
+    (each_append (λ (t : Bool × Fault). t.0 ≡ false) (map (λ t. (t.0, Wire t.1)) (wire_reasons x.bytes)) (arrival_reasons config x) (wire_passes es x.bytes s)
+    (subst (λ b. AllByRecursion (λ (t : Bool × Fault). t.0 ≡ false) (cond b (response_reasons config x) (request_reasons config x))) (sym (spelled_response es x.bytes s))
     (ap not (eq-eqb x.source_port 521 port), (ap not local, (own, (ap (λ b. x.to_group && not b) (eq-eqb x.hop_limit 255 hops) ∙ and_false x.to_group, tt))))))
   where
     and_false : (b : Bool) → (b && false) ≡ false

@@ -1,6 +1,7 @@
 -- A round, as it is asked for.
 use Rattle.std.specs.Prelude.{ℕ, List}
 
+-- what a caller asks of one round
 pub record Asked : Type 0 where
   pub ticks : List (ℕ × ℕ)  -- of each router, its moment and its word
   pub picks : List (ℕ × ℕ)  -- the word of each pick, and its moment

@@ -6,7 +6,7 @@ use Rattle.ripng_world.specs.Asked.{Asked}
 use Rattle.ripng_world.specs.Convergence.{IsNeverQuiet, FitsTables, AreConverged, HaveSettled}
 use Rattle.ripng_world.specs.Labs.{is_one_link, link_at}
 use Rattle.ripng_world.specs.Network.{Network}
-use Rattle.ripng_world.specs.Rounds.{Round, AllTick, AllHeard, QuietRounds, AreClose, events_of}
+use Rattle.ripng_world.specs.Rounds.{Round, AllTick, AllHeard, SynchronousRounds, AreClose, events_of}
 use Rattle.ripng_world.specs.World.{World, Event, Deliver, Tick, WorldRun, IsCold}
 use Rattle.ripng_world.specs.declared.pairs.Pair.{Pair}
 use Rattle.ripng_world.specs.declared.rounds.RoundsRefused.{RoundsRefused}
@@ -20,19 +20,20 @@ abbrev pub ticks_of : List (ℕ × ℕ) → List Event
 ticks_of ticks = map (λ t. Tick t.0 t.1.0 t.1.1) (enumerate_from 0 ticks)
 
 -- all interfaces, each with its router, in order
-abbrev pub places_of : Network → List (ℕ × ℕ)
-places_of net = flat_map (λ n. map (λ i. (n.0, i)) (range_with_len 0 (length n.1.interfaces))) (enumerate_from 0 net)
+abbrev pub interfaces_of : Network → List (ℕ × ℕ)
+interfaces_of net = flat_map (λ n. map (λ i. (n.0, i)) (range_with_len 0 (length n.1.interfaces))) (enumerate_from 0 net)
 
 -- another interface of the link that the datagram was sent on
 abbrev pub is_other : Network → Sent → ℕ × ℕ → Bool
-is_other net d place = is_one_link (link_at net d.router d.iface) (link_at net place.0 place.1) && not (place.0 == d.router && place.1 == d.iface)
+is_other net d at = is_one_link (link_at net d.router d.iface) (link_at net at.0 at.1) && not (at.0 == d.router && at.1 == d.iface)
 
+-- a datagram of a number, and an interface that it may come to
 abbrev pub pair_at : ℕ → ℕ × ℕ → Pair
-pair_at number place = record { datagram = number; router = place.0; iface = place.1 }
+pair_at number at = record { datagram = number; router = at.0; iface = at.1 }
 
 -- each datagram from a number on, with each other interface of its link, in order
 abbrev pub pairs_since : Network → ℕ → List Sent → List Pair
-pairs_since net first sent = flat_map (λ d. map (pair_at d.0) (filter (is_other net d.1) (places_of net))) (enumerate_from first (drop first sent))
+pairs_since net first sent = flat_map (λ d. map (pair_at d.0) (filter (is_other net d.1) (interfaces_of net))) (enumerate_from first (drop first sent))
 
 -- the datagram comes to the interface
 abbrev pub delivery : Pair → ℕ → Event
@@ -42,10 +43,11 @@ delivery pair now = Deliver pair.datagram pair.router pair.iface now
 abbrev pub picked_deliveries : List Pair → List (ℕ × ℕ) → List Event
 picked_deliveries pairs picks = filter_map (λ p. option_map (λ pair. delivery pair p.1) (slice_get pairs (p.0 % length pairs))) picks
 
+-- some pick takes the pair of that number
 abbrev pub is_picked : ℕ → List (ℕ × ℕ) → ℕ → Bool
-is_picked pairs picks place = list_any (λ p. p.0 % pairs == place) picks
+is_picked pairs picks number = list_any (λ p. p.0 % pairs == number) picks
 
--- the pairs at the other places are delivered, in order
+-- the pairs that are not picked are delivered, in order
 abbrev pub other_deliveries : (ℕ → Bool) → List Pair → ℕ → List Event
 other_deliveries picked pairs rest = map (λ p. delivery p.1 rest) (filter (λ p. not (picked p.0)) (enumerate_from 0 pairs))
 
@@ -55,10 +57,10 @@ deliveries_of pairs picks rest = picked_deliveries pairs picks ++ other_deliveri
 
 -- the events of a round that begins in one world, and whose ticks lead to another
 abbrev pub round_of : Network → Asked → World → World → Round
-round_of net asked w told =
+round_of net asked w after_ticks =
     record {
       ticks = ticks_of asked.ticks;
-      deliveries = deliveries_of (pairs_since net (length w.sent) told.sent) asked.picks asked.rest;
+      deliveries = deliveries_of (pairs_since net (length w.sent) after_ticks.sent) asked.picks asked.rest;
     }
 
 -- ---- rounds that are done
@@ -66,22 +68,22 @@ round_of net asked w told =
 -- the round makes just its events: its routers tick, each when its regular update is due, and the deliveries happen, and no
 -- new route wants for memory
 abbrev pub IsMade : Network → World → Asked → World → Type 0
-IsMade net w asked w' = (told : World) × AllTick net w (round_of net asked w told).ticks told × AllHeard net told (round_of net asked w told).deliveries w'
+IsMade net w asked w' = (after_ticks : World) × AllTick net w (round_of net asked w after_ticks).ticks after_ticks × AllHeard net after_ticks (round_of net asked w after_ticks).deliveries w'
 
 -- so do these rounds, one after another
 abbrev pub AreMade : Network → World → List Asked → List Round → World → Type 0
 AreMade net w [] [] w' = w' ≡ w
 AreMade net w (asked ∷ more) (round ∷ rounds) w' =
-    (told : World) × (mid : World) × (round ≡ round_of net asked w told)
-    × AllTick net w round.ticks told × AllHeard net told round.deliveries mid × AreMade net mid more rounds w'
+    (after_ticks : World) × (mid : World) × (round ≡ round_of net asked w after_ticks)
+    × AllTick net w round.ticks after_ticks × AllHeard net after_ticks round.deliveries mid × AreMade net mid more rounds w'
 AreMade net w _ _ w' = ⊥
 
--- all that were asked for are made, as quiet rounds, and nothing else happens
+-- all that were asked for are made, as synchronous rounds, and nothing else happens
 pub record AreAllMade (net : Network) (w : World) (asked : List Asked) (w' : World) : Type 0 where
   pub rounds : List Round
   pub made : AreMade net w asked rounds w'
   pub as_many : length rounds ≡ length asked
-  pub quiet : QuietRounds net w rounds w'
+  pub synchronous : SynchronousRounds net w rounds w'
   pub run : WorldRun net w (events_of rounds) w'
 
 -- from a cold start, where moments are close, so many rounds find all that is that near
@@ -109,14 +111,15 @@ IsAmongTicks net w ticks w' = (done : ℕ) × AllTick net w (take done (ticks_of
 -- all ticks are done, and some of the deliveries
 abbrev pub IsAmongDeliveries : Network → World → Asked → World → Type 0
 IsAmongDeliveries net w asked w' =
-    (told : World) × AllTick net w (round_of net asked w told).ticks told
-    × (done : ℕ) × WorldRun net told (take done (round_of net asked w told).deliveries) w'
+    (after_ticks : World) × AllTick net w (round_of net asked w after_ticks).ticks after_ticks
+    × (done : ℕ) × WorldRun net after_ticks (take done (round_of net asked w after_ticks).deliveries) w'
 
 -- a round stops for want of memory anywhere, and else exactly before a tick at which the regular update is not due
 abbrev pub StopsFor : Network → World → Asked → RoundsRefused → World → Type 0
 StopsFor net w asked (NoRegularUpdate round router) w' = StopsBefore net w asked.ticks router w'
 StopsFor net w asked (OutOfMemory round) w' = IsAmongTicks net w asked.ticks w' ⊎ IsAmongDeliveries net w asked w'
 
+-- the round that stopped, from 0
 abbrev pub round_in : RoundsRefused → ℕ
 round_in (NoRegularUpdate round router) = round
 round_in (OutOfMemory round) = round

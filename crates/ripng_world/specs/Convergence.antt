@@ -9,6 +9,7 @@ use Rattle.ripng_world.specs.Walks.{IsLeast, IsWithin}
 use Rattle.router_core.specs.Machine.{State}
 use Rattle.ripng_world.specs.World.{World}
 
+-- no router of the network is quiet
 abbrev pub IsNeverQuiet : Network → Type 0
 IsNeverQuiet net = (router : ℕ) (node : Node) → slice_get net router ≡ Some node → IsFalse node.quiet
 
@@ -22,6 +23,7 @@ pub record IsConverged (net : Network) (k router : ℕ) (table : Table) : Type 0
   pub least : (p : Prefix6) (r : RouteValue) → map_of.get table p ≡ Some r → r.metric < infinity → IsWithin net k router p r.metric
   pub found : (p : Prefix6) (metric : ℕ) → IsWithin net k router p metric → (r : RouteValue) × (map_of.get table p ≡ Some r) × (r.metric ≡ metric)
 
+-- so are all tables
 abbrev pub AreConverged : Network → ℕ → World → Type 0
 AreConverged net k w = (router : ℕ) (state : State) → slice_get w.states router ≡ Some state → IsConverged net k router state.table
 

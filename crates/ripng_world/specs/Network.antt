@@ -12,12 +12,15 @@ pub record Node : Type 0 where
   pub prefixes : List (Prefix6 × ℕ)  -- that it owns, with their tags
   pub quiet : Bool
 
+-- routers, each known by its place in the list
 abbrev pub Network : Type 0
 Network = List Node
 
+-- the configuration of a router, without its links
 abbrev pub config_of : Node → Config
 config_of node = record { interfaces = map (λ i. i.interface) node.interfaces; prefixes = node.prefixes; quiet = node.quiet }
 
+-- an interface of a router, if both are there
 abbrev pub interface_at : Network → ℕ → ℕ → Option NetInterface
 interface_at net router iface = option_and_then (λ node. slice_get node.interfaces iface) (slice_get net router)
 

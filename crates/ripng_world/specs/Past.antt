@@ -19,6 +19,7 @@ pub record Past : Type 0 where
 abbrev pub beginning : Network → Past
 beginning net = record { net = net; changes = [] }
 
+-- the router did this change
 abbrev pub WasDone : Past → ℕ → Change → Type 0
 WasDone past router c = (place : ℕ) × (slice_get past.changes place ≡ Some (router, c))
 
@@ -52,8 +53,8 @@ IsTableBackedSince past router table =
     (p : Prefix6) (r : RouteValue) → map_of.get table p ≡ Some r → r.metric < infinity → IsBackedSince past router p r
 
 -- an entry that is not unreachable tells the cost and tag of a walk from the router
-abbrev pub IsTruthfulSince : Past → ℕ → Rte → Type 0
-IsTruthfulSince past router e =
+abbrev pub IsEntryBackedSince : Past → ℕ → Rte → Type 0
+IsEntryBackedSince past router e =
     e.metric < infinity → (walk : List Hop) × ReachesSince past router (cleared e.addr e.len) e.metric e.tag walk
 
 -- some walk to an owner has this cost, and none a lower one

@@ -9,10 +9,12 @@ use Rattle.ripng_world.specs.Network.{Network, AreLinked}
 use Rattle.ripng_world.specs.World.{World, Event, Deliver, Stranger, Tick, Restart, Reconfigure, Happens}
 use Rattle.ripng_world.specs.declared.sent.Sent.{Sent}
 
+-- the ticks of a round, and then its deliveries
 pub record Round : Type 0 where
   pub ticks : List Event
   pub deliveries : List Event
 
+-- the router that an event happens to
 abbrev pub router_of : Event → ℕ
 router_of (Deliver datagram router iface now) = router
 router_of (Stranger router x) = router
@@ -20,6 +22,7 @@ router_of (Tick router now word) = router
 router_of (Restart router now) = router
 router_of (Reconfigure router now c) = router
 
+-- the moment at which it happens there
 abbrev pub moment_of : Event → ℕ
 moment_of (Deliver datagram router iface now) = now
 moment_of (Stranger router x) = x.now
@@ -32,6 +35,7 @@ abbrev pub IsDueTick : World → Event → Type 0
 IsDueTick w (Tick router now word) = (state : State) × (slice_get w.states router ≡ Some state) × (state.regular ≤ max state.last now)
 IsDueTick w _ = ⊥
 
+-- ticks of due updates happen one after another
 abbrev pub AllTick : Network → World → List Event → World → Type 0
 AllTick net w [] w' = w' ≡ w
 AllTick net w (e ∷ events) w' = (mid : World) × (answer : Answer) × IsDueTick w e × Happens net w e answer mid × AllTick net mid events w'
@@ -48,24 +52,25 @@ AllHeard net w (e ∷ events) w' =
     (mid : World) × (answer : Answer) × Happens net w e answer mid × All (λ n. n.kind ≢ NoMemory) answer.notes × AllHeard net mid events w'
 
 -- each router ticks once, and then each datagram of these ticks comes at least once to each other interface of its link
-pub record IsQuietRound (net : Network) (w : World) (round : Round) (w' : World) : Type 0 where
-  pub told : World
+pub record IsSynchronousRound (net : Network) (w : World) (round : Round) (w' : World) : Type 0 where
+  pub after_ticks : World
   pub each_ticks : (router : ℕ) → router < length net → Contains (map router_of round.ticks) router
   pub once : IsDistinct nat_eq (map router_of round.ticks)
-  pub all_tick : AllTick net w round.ticks told
-  pub only_these : All (IsDeliveryOf (length w.sent) (length told.sent)) round.deliveries
+  pub all_tick : AllTick net w round.ticks after_ticks
+  pub only_these : All (IsDeliveryOf (length w.sent) (length after_ticks.sent)) round.deliveries
   pub each_delivered : (datagram router iface : ℕ) (d : Sent)
-      → length w.sent ≤ datagram → slice_get told.sent datagram ≡ Some d → AreLinked net d.router d.iface router iface
+      → length w.sent ≤ datagram → slice_get after_ticks.sent datagram ≡ Some d → AreLinked net d.router d.iface router iface
       → (router ≢ d.router) ⊎ (iface ≢ d.iface)
       → (now : ℕ) × Contains round.deliveries (Deliver datagram router iface now)
   pub elsewhere : (datagram router iface now : ℕ) (d : Sent)
-      → Contains round.deliveries (Deliver datagram router iface now) → slice_get told.sent datagram ≡ Some d
+      → Contains round.deliveries (Deliver datagram router iface now) → slice_get after_ticks.sent datagram ≡ Some d
       → (router ≢ d.router) ⊎ (iface ≢ d.iface)
-  pub all_heard : AllHeard net told round.deliveries w'
+  pub all_heard : AllHeard net after_ticks round.deliveries w'
 
-abbrev pub QuietRounds : Network → World → List Round → World → Type 0
-QuietRounds net w [] w' = w' ≡ w
-QuietRounds net w (round ∷ rounds) w' = (mid : World) × IsQuietRound net w round mid × QuietRounds net mid rounds w'
+-- rounds one after another
+abbrev pub SynchronousRounds : Network → World → List Round → World → Type 0
+SynchronousRounds net w [] w' = w' ≡ w
+SynchronousRounds net w (round ∷ rounds) w' = (mid : World) × IsSynchronousRound net w round mid × SynchronousRounds net mid rounds w'
 
 -- all events of the rounds, in order
 abbrev pub events_of : List Round → List Event
@@ -85,5 +90,6 @@ AreCloseAfter before (round ∷ rounds) =
     ((router x y : ℕ) → before router x ⊎ IsMomentOf round router x → IsMomentOf round router y → (x < y + timeout) × (y < x + timeout))
     × AreCloseAfter (IsMomentOf round) rounds
 
+-- so it is from the first round on
 abbrev pub AreClose : List Round → Type 0
 AreClose rounds = AreCloseAfter (λ _ _. ⊥) rounds

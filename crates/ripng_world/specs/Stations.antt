@@ -13,9 +13,11 @@ pub record StationValue : Type 0 where
   pub node : Node
   pub state : State
 
+-- the network of these routers
 abbrev pub network_of : List StationValue → Network
 network_of stations = map (λ s. s.node) stations
 
+-- the world of these routers, with what was sent and changed
 abbrev pub world_of : List StationValue → List Sent → List (ℕ × Change) → World
 world_of stations sent changes = record { states = map (λ s. s.state) stations; sent = sent; changes = changes }
 

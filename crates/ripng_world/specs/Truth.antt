@@ -10,7 +10,7 @@ use Rattle.route_table.specs.Route.{RouteValue, infinity}
 use Rattle.route_table.specs.Table.{Table}
 use Rattle.router_core.specs.Adoption.{Gateway}
 use Rattle.ripng_world.specs.Network.{Network, AreLinked, interface_at}
-use Rattle.ripng_world.specs.Walks.{IsBacked, IsTruthful, cost_of_interface}
+use Rattle.ripng_world.specs.Walks.{IsBacked, IsEntryBacked, cost_of_interface}
 
 -- a route to a prefix, backed by a walk if it is not unreachable
 pub record IsSound (net : Network) (router : ℕ) (p : Prefix6) (r : RouteValue) : Type 0 where
@@ -18,17 +18,18 @@ pub record IsSound (net : Network) (router : ℕ) (p : Prefix6) (r : RouteValue)
   pub in_range : r.metric ≤ infinity
   pub backed : r.metric < infinity → IsBacked net router p r
 
+-- every route of the table is sound
 abbrev pub IsSoundTable : Network → ℕ → Table → Type 0
 IsSoundTable net router table = (p : Prefix6) (r : RouteValue) → map_of.get table p ≡ Some r → IsSound net router p r
 
--- no next hop entry, and truthful
-pub record IsTrueEntry (net : Network) (router : ℕ) (e : Rte) : Type 0 where
+-- an entry in range, so no next hop entry, and backed
+pub record IsSoundEntry (net : Network) (router : ℕ) (e : Rte) : Type 0 where
   pub in_range : e.metric ≤ infinity
-  pub truthful : IsTruthful net router e
+  pub backed : IsEntryBacked net router e
 
--- if the bytes are a Response, each entry is true
-abbrev pub TellsTruth : Network → ℕ → List ℕ → Type 0
-TellsTruth net router bytes = (entries : List Rte) → Spells Response entries bytes → AllByRecursion (IsTrueEntry net router) entries
+-- if the bytes are a Response, each of its entries is sound
+abbrev pub IsSoundDatagram : Network → ℕ → List ℕ → Type 0
+IsSoundDatagram net router bytes = (entries : List Rte) → Spells Response entries bytes → AllByRecursion (IsSoundEntry net router) entries
 
 -- a gateway that is an interface of another router of the link
 pub record IsNeighbor (net : Network) (router : ℕ) (g : Gateway) (sender sender_iface : ℕ) : Type 0 where

@@ -10,7 +10,7 @@ use Rattle.route_table.specs.Route.{RouteValue, infinity}
 use Rattle.route_table.specs.Table.{Table}
 use Rattle.router_core.specs.Adoption.{Gateway}
 use Rattle.ripng_world.specs.Network.{AreLinked, interface_at}
-use Rattle.ripng_world.specs.Past.{Past, HasCostSince, IsBackedSince, IsTruthfulSince}
+use Rattle.ripng_world.specs.Past.{Past, HasCostSince, IsBackedSince, IsEntryBackedSince}
 
 -- a route to a prefix, backed by a walk if it is not unreachable
 pub record IsSoundSince (past : Past) (router : ℕ) (p : Prefix6) (r : RouteValue) : Type 0 where
@@ -18,17 +18,18 @@ pub record IsSoundSince (past : Past) (router : ℕ) (p : Prefix6) (r : RouteVal
   pub in_range : r.metric ≤ infinity
   pub backed : r.metric < infinity → IsBackedSince past router p r
 
+-- every route of the table is sound
 abbrev pub IsSoundTableSince : Past → ℕ → Table → Type 0
 IsSoundTableSince past router table = (p : Prefix6) (r : RouteValue) → map_of.get table p ≡ Some r → IsSoundSince past router p r
 
--- no next hop entry, and truthful
-pub record IsTrueEntrySince (past : Past) (router : ℕ) (e : Rte) : Type 0 where
+-- an entry in range, so no next hop entry, and backed
+pub record IsSoundEntrySince (past : Past) (router : ℕ) (e : Rte) : Type 0 where
   pub in_range : e.metric ≤ infinity
-  pub truthful : IsTruthfulSince past router e
+  pub backed : IsEntryBackedSince past router e
 
--- if the bytes are a Response, each entry is true
-abbrev pub TellsTruthSince : Past → ℕ → List ℕ → Type 0
-TellsTruthSince past router bytes = (entries : List Rte) → Spells Response entries bytes → AllByRecursion (IsTrueEntrySince past router) entries
+-- if the bytes are a Response, each of its entries is sound
+abbrev pub IsSoundDatagramSince : Past → ℕ → List ℕ → Type 0
+IsSoundDatagramSince past router bytes = (entries : List Rte) → Spells Response entries bytes → AllByRecursion (IsSoundEntrySince past router) entries
 
 -- a gateway that is an interface of another router of the link, at a cost that the receiving interface has or had
 pub record IsNeighborSince (past : Past) (router : ℕ) (g : Gateway) (sender sender_iface : ℕ) : Type 0 where

@@ -15,6 +15,7 @@ pub record Hop : Type 0 where
   pub router : ℕ
   pub router_iface : ℕ
 
+-- the hop crosses a link, to another router
 abbrev pub IsHop : Network → ℕ → Hop → Type 0
 IsHop net at h = (at ≢ h.router) × AreLinked net at h.iface h.router h.router_iface
 
@@ -23,10 +24,12 @@ abbrev pub IsWalk : Network → ℕ → List Hop → Type 0
 IsWalk net at [] = Unit {0}
 IsWalk net at (h ∷ walk) = IsHop net at h × IsWalk net h.router walk
 
+-- the router where a walk from that one ends
 abbrev pub end_of : ℕ → List Hop → ℕ
 end_of at [] = at
 end_of at (h ∷ walk) = end_of h.router walk
 
+-- the cost of an interface; one that is not there reaches nothing
 abbrev pub cost_of_interface : Network → ℕ → ℕ → ℕ
 cost_of_interface net router iface = unwrap_or (option_map (λ i. i.interface.cost) (interface_at net router iface)) infinity
 
@@ -61,8 +64,8 @@ IsTableBacked net router table =
     (p : Prefix6) (r : RouteValue) → map_of.get table p ≡ Some r → r.metric < infinity → IsBacked net router p r
 
 -- an entry that is not unreachable tells the cost and tag of a walk from the router
-abbrev pub IsTruthful : Network → ℕ → Rte → Type 0
-IsTruthful net router e =
+abbrev pub IsEntryBacked : Network → ℕ → Rte → Type 0
+IsEntryBacked net router e =
     e.metric < infinity → (walk : List Hop) × Reaches net router (cleared e.addr e.len) e.metric e.tag walk
 
 -- some walk to an owner has this cost, and none a lower one

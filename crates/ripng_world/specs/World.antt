@@ -13,6 +13,7 @@ use Rattle.ripng_world.specs.Network.{Network, Node, AreLinked, config_of, inter
 use Rattle.ripng_world.specs.Past.{Past}
 use Rattle.ripng_world.specs.declared.sent.Sent.{Sent}
 
+-- the routers' states, and all that was sent since the cold start
 pub record World : Type 0 where
   pub states : List State
   pub sent : List Sent
@@ -22,6 +23,7 @@ pub record World : Type 0 where
 abbrev pub past_of : Network → World → Past
 past_of net w = record { net = net; changes = w.changes }
 
+-- what may happen to a network; losing a datagram is none: it is never delivered
 pub data Event : Type 0 where
   Deliver : (datagram router iface now : ℕ) → Event
   Stranger : (router : ℕ) → Received → Event
@@ -29,6 +31,7 @@ pub data Event : Type 0 where
   Restart : (router now : ℕ) → Event
   Reconfigure : (router now : ℕ) → Change → Event
 
+-- a datagram with the router that sent it
 abbrev pub sent_by : ℕ → Outgoing → Sent
 sent_by router o = record { router = router; iface = o.iface; to = o.to; bytes = o.bytes }
 
@@ -47,10 +50,12 @@ pub record RouterMoves (w : World) (router : ℕ) (happening : Happening) (answe
   pub sent : w'.sent ≡ w.sent ++ map (sent_by router) answer.sends
   pub changes : w'.changes ≡ w.changes ++ changes_by router happening
 
+-- it goes to all routers of the link
 abbrev pub is_to_group : Destination → Bool
 is_to_group Group = true
 is_to_group (Peer addr port) = false
 
+-- the address of an interface
 abbrev pub address_at : Network → ℕ → ℕ → ℕ
 address_at net router iface = unwrap_or (option_map (λ i. i.interface.addr) (interface_at net router iface)) 0
 
@@ -102,6 +107,7 @@ abbrev pub change_in : Event → Option (ℕ × Change)
 change_in (Reconfigure router now c) = Some (router, c)
 change_in _ = None
 
+-- the changes among events
 abbrev pub changes_in : List Event → List (ℕ × Change)
 changes_in events = filter_map change_in events
 

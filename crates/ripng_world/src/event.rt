@@ -51,7 +51,7 @@ pub enum Event<'a> {
     },
 }
 
-/// Why an event is refused: the first test that it fails, in this order.
+/// Why an event is refused: the first reason to refuse it, in this order.
 #[derive(Clone, Copy, Debug, PartialEq, Eq)]
 pub enum LabError {
     /// The network has no such router.

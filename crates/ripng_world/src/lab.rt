@@ -4,7 +4,7 @@
 ghost use Rattle.std.specs.Prelude.{◌≡◌, ℕ, ◌++◌, ◌∷◌, [], None, IfErr, IfOk, IfSome, OnErr, OnOk, length, map, take, slice_get, unwrap_or};
 ghost use Rattle.std.specs.Option.{option_copied};
 ghost use Rattle.ripng_world.specs.Events.{event_of};
-ghost use Rattle.ripng_world.specs.Labs.{AreRoutesBackedSince, AreNoneBelowLeastSince, IsNoneBelowLeast, IsNoneBelowLeastSince, IsTruthToldSince, HoldsFixed, IsTruthTold, HappensGiving, IsRefusal, IsRefusedNext, link_at, step_fault};
+ghost use Rattle.ripng_world.specs.Labs.{AreRoutesBackedSince, HaveNoneBelowLeastSince, HasNoneBelowLeast, HasNoneBelowLeastSince, AreDatagramsSoundSince, HoldsFixed, AreDatagramsSound, HappensGiving, IsRefusal, IsRefusedNext, link_at, step_fault};
 ghost use Rattle.ripng_world.specs.Past.{IsTableBackedSince};
 ghost use Rattle.ripng_world.specs.Stations.{network_of, world_of};
 ghost use Rattle.ripng_world.specs.Walks.{IsTableBacked};
@@ -52,7 +52,7 @@ impl<S: RouteStore> Model for Lab<S> {
     ghost invariant = { λ l. HasRun (network_of l.stations.items) (world_of l.stations.items l.sent.items l.changes.items) };
 }
 
-// Each router starts at its moment.
+/// Each router starts at its moment.
 fn start_all<S: RouteStore>(
     alloc: Global,
     routers: Vec<NetRouter>,
@@ -74,7 +74,7 @@ fn start_all<S: RouteStore>(
     Ok((stations, sent))
 }
 
-// What is handed out of an answer whose sends were taken.
+/// What is handed out of an answer whose sends were taken.
 fn handed_out(
     alloc: Global,
     fault: Option<Fault>,
@@ -102,8 +102,8 @@ impl<S: RouteStore> Lab<S> {
         ensures cold { IfOk result (λ lab. IsCold network moments.now lab.world) }
         ensures only_memory { IfErr result (λ why. why ≡ LabError.OutOfMemory) }
         ensures backed { IfOk result (λ lab. AreRoutesBackedSince lab.network lab.world) }
-        ensures least { IfOk result (λ lab. AreNoneBelowLeastSince lab.network lab.world) }
-        ensures truth { IfOk result (λ lab. IsTruthToldSince lab.network lab.world) }
+        ensures least { IfOk result (λ lab. HaveNoneBelowLeastSince lab.network lab.world) }
+        ensures truth { IfOk result (λ lab. AreDatagramsSoundSince lab.network lab.world) }
         ensures fixed { IfOk result (λ lab. HoldsFixed lab.network lab.world) }
     {
         let NetConfig { routers } = network;
@@ -128,9 +128,9 @@ impl<S: RouteStore> Lab<S> {
     pub fn router(&self, router: usize) -> Option<&Router<S>>
         ensures value { option_copied result ≡ slice_get self.now.world.states router }
         ensures backed { IfSome result (λ r. IsTableBackedSince (past_of self.now.network self.now.world) router r.now.table) }
-        ensures least { IfSome result (λ r. IsNoneBelowLeastSince self.now.network self.now.world router r.now) }
+        ensures least { IfSome result (λ r. HasNoneBelowLeastSince self.now.network self.now.world router r.now) }
         ensures fixed_backed { IfSome result (λ r. self.now.world.changes ≡ [] → IsTableBacked self.now.network router r.now.table) }
-        ensures fixed_least { IfSome result (λ r. self.now.world.changes ≡ [] → IsNoneBelowLeast self.now.network router r.now) }
+        ensures fixed_least { IfSome result (λ r. self.now.world.changes ≡ [] → HasNoneBelowLeast self.now.network router r.now) }
     {
         match self.stations.get(router) {
             Some(station) => Some(station.router()),
@@ -141,8 +141,8 @@ impl<S: RouteStore> Lab<S> {
     /// All datagrams ever sent, numbered from 0. Each entry below 16 hops of each Response tells a walk from its sender.
     pub fn sent(&self) -> &[Sent]
         ensures value { result.now ≡ self.now.world.sent }
-        ensures truth { IsTruthToldSince self.now.network self.now.world }
-        ensures fixed { self.now.world.changes ≡ [] → IsTruthTold self.now.network result.now }
+        ensures truth { AreDatagramsSoundSince self.now.network self.now.world }
+        ensures fixed { self.now.world.changes ≡ [] → AreDatagramsSound self.now.network result.now }
     {
         &self.sent
     }
@@ -165,7 +165,7 @@ impl<S: RouteStore> Lab<S> {
     /// answer that is given.
     ///
     /// # Errors
-    /// The first test that the event fails, or want of memory; the lab is then as it was. Room for a change is made before
+    /// The first reason to refuse the event, or want of memory; the lab is then as it was. Room for a change is made before
     /// its router is asked.
     pub fn step(&mut self, event: &Event<'_>) -> Result<Answer, LabError>
         ensures happens { IfOk result (λ answer. HappensGiving self.old (event_of event.entry.now) answer self.new.world) }
@@ -175,8 +175,8 @@ impl<S: RouteStore> Lab<S> {
         ensures refused { IfErr result (λ why. IsRefusal self.old (event_of event.entry.now) why) }
         ensures err { OnErr result (self.new ≡ self.old) }
         ensures backed { AreRoutesBackedSince self.new.network self.new.world }
-        ensures least { AreNoneBelowLeastSince self.new.network self.new.world }
-        ensures truth { IsTruthToldSince self.new.network self.new.world }
+        ensures least { HaveNoneBelowLeastSince self.new.network self.new.world }
+        ensures truth { AreDatagramsSoundSince self.new.network self.new.world }
         ensures fixed { HoldsFixed self.new.network self.new.world }
     {
         check(&self.stations, &self.sent, event)?;
@@ -188,7 +188,7 @@ impl<S: RouteStore> Lab<S> {
     /// Events happen one after another, until one is refused. Says how many were done, and why the next was refused.
     ///
     /// # Errors
-    /// The first test that the next event fails, else want of memory; the lab is as the events before it left it.
+    /// The first reason to refuse the next event, else want of memory; the lab is as the events before it left it.
     pub fn run(&mut self, events: &[Event<'_>]) -> (usize, Result<(), LabError>)
         ensures done { WorldRun self.old.network self.old.world (take result.0 (map event_of events.entry.now)) self.new.world }
         ensures network { self.new.network ≡ self.old.network }
@@ -196,8 +196,8 @@ impl<S: RouteStore> Lab<S> {
         ensures all { OnOk result.1 (result.0 ≡ length events.entry.now) }
         ensures refused { IfErr result.1 (λ why. IsRefusedNext self.new (map event_of events.entry.now) result.0 why) }
         ensures backed { AreRoutesBackedSince self.new.network self.new.world }
-        ensures least { AreNoneBelowLeastSince self.new.network self.new.world }
-        ensures truth { IsTruthToldSince self.new.network self.new.world }
+        ensures least { HaveNoneBelowLeastSince self.new.network self.new.world }
+        ensures truth { AreDatagramsSoundSince self.new.network self.new.world }
         ensures fixed { HoldsFixed self.new.network self.new.world }
     {
         // The lab is opened, so that what holds of it is known before the first event.

@@ -17,9 +17,9 @@ ghost use Rattle.ripng_world.specs.Network.{Network, IsNetwork};
 ghost use Rattle.ripng_world.specs.Walks.{Hop, IsWalk, Reaches, cost, IsTableBacked, IsLeast};
 ghost use Rattle.ripng_world.specs.Past.{Past, ReachesSince, IsTableBackedSince, IsLeastSince};
 ghost use Rattle.ripng_world.specs.Convergence.{IsNeverQuiet, FitsTables, AreConverged};
-ghost use Rattle.ripng_world.specs.Rounds.{Round, QuietRounds, AreClose, events_of};
-ghost use Rattle.ripng_world.specs.Truth.{IsNeighbor, IsSoundTable, IsTrueEntry, TellsTruth};
-ghost use Rattle.ripng_world.specs.TruthSince.{IsNeighborSince, IsSoundTableSince, IsTrueEntrySince, TellsTruthSince};
+ghost use Rattle.ripng_world.specs.Rounds.{Round, SynchronousRounds, AreClose, events_of};
+ghost use Rattle.ripng_world.specs.Truth.{IsNeighbor, IsSoundTable, IsSoundEntry, IsSoundDatagram};
+ghost use Rattle.ripng_world.specs.TruthSince.{IsNeighborSince, IsSoundTableSince, IsSoundEntrySince, IsSoundDatagramSince};
 ghost use Rattle.ripng_world.specs.World.{World, Event, IsCold, WorldRun, past_of, changes_in};
 
 /// A router whose routes are backed sends only entries that tell the cost and tag of a walk: over all that was in force
@@ -27,17 +27,17 @@ ghost use Rattle.ripng_world.specs.World.{World, Event, IsCold, WorldRun, past_o
 pub fn tells_only_walks()
     ensures since { (past : Past) (router : ℕ) (old new : State) (happening : Happening) (answer : Answer)
         → IsSoundTableSince past router old.table → Moves old happening answer new
-        → AllByRecursion (λ o. TellsTruthSince past router o.bytes) answer.sends }
+        → AllByRecursion (λ o. IsSoundDatagramSince past router o.bytes) answer.sends }
     ensures fixed { (net : Network) (router : ℕ) (old new : State) (happening : Happening) (answer : Answer)
         → IsSoundTable net router old.table → Moves old happening answer new
-        → AllByRecursion (λ o. TellsTruth net router o.bytes) answer.sends }
+        → AllByRecursion (λ o. IsSoundDatagram net router o.bytes) answer.sends }
 {}
 
 /// To hear such entries of a neighbor, to age, and to do a change keeps routes backed.
 pub fn keeps_routes_backed()
     ensures heard { (past : Past) (router sender sender_iface : ℕ) (h : Hearing) (after : Table)
         → IsNeighborSince past router h.gateway sender sender_iface
-        → AllByRecursion (IsTrueEntrySince past sender) h.entries
+        → AllByRecursion (IsSoundEntrySince past sender) h.entries
         → IsSoundTableSince past router h.before → Heard h after → IsSoundTableSince past router after }
     ensures aged { (past : Past) (router now : ℕ) (table : Table)
         → IsSoundTableSince past router table → IsSoundTableSince past router (aged_table now table) }
@@ -47,7 +47,7 @@ pub fn keeps_routes_backed()
         → IsSoundTableSince (record { net = net; changes = changes ++ (router, c) ∷ [] }) router (changed_table now table c) }
     ensures heard_fixed { (net : Network) (router sender sender_iface : ℕ) (h : Hearing) (after : Table)
         → IsNeighbor net router h.gateway sender sender_iface
-        → AllByRecursion (IsTrueEntry net sender) h.entries
+        → AllByRecursion (IsSoundEntry net sender) h.entries
         → IsSoundTable net router h.before → Heard h after → IsSoundTable net router after }
     ensures aged_fixed { (net : Network) (router now : ℕ) (table : Table)
         → IsSoundTable net router table → IsSoundTable net router (aged_table now table) }
@@ -67,7 +67,7 @@ pub fn invents_no_distance()
         → IsLeastSince (past_of net w) router p metric → metric ≤ r.metric }
     ensures sent { (net : Network) (moments : List ℕ) (events : List Event) (cold w : World)
         → IsNetwork net → IsCold net moments cold → WorldRun net cold events w
-        → AllByRecursion (λ d. TellsTruthSince (past_of net w) d.router d.bytes) w.sent }
+        → AllByRecursion (λ d. IsSoundDatagramSince (past_of net w) d.router d.bytes) w.sent }
     ensures done { (net : Network) (moments : List ℕ) (events : List Event) (cold w : World)
         → IsCold net moments cold → WorldRun net cold events w → w.changes ≡ changes_in events }
 {}
@@ -85,7 +85,7 @@ pub fn invents_no_distance_unchanged()
         → IsLeast net router p metric → metric ≤ r.metric }
     ensures sent { (net : Network) (moments : List ℕ) (events : List Event) (cold w : World)
         → IsNetwork net → IsCold net moments cold → WorldRun net cold events w → w.changes ≡ []
-        → AllByRecursion (λ d. TellsTruth net d.router d.bytes) w.sent }
+        → AllByRecursion (λ d. IsSoundDatagram net d.router d.bytes) w.sent }
 {}
 
 /// With no change done, walks at costs in force since the cold start are the walks of the network; and these always are
@@ -97,25 +97,25 @@ pub fn generalises_walks()
         → Reaches past.net from p metric tag walk → ReachesSince past from p metric tag walk }
 {}
 
-/// After so many quiet rounds from a cold start, every router has exactly the least costs of walks with so many hops.
+/// After so many synchronous rounds from a cold start, every router has exactly the least costs of walks with so many hops.
 pub fn converges_in_rounds()
     ensures exact { (net : Network) (moments : List ℕ) (rounds : List Round) (cold w : World)
         → IsNetwork net → IsNeverQuiet net → FitsTables net
-        → IsCold net moments cold → QuietRounds net cold rounds w → AreClose rounds
+        → IsCold net moments cold → SynchronousRounds net cold rounds w → AreClose rounds
         → AreConverged net (length rounds) w }
     ensures fourteen { (net : Network) (at : ℕ) (walk : List Hop) → IsNetwork net → IsWalk net at walk
         → cost net at walk < infinity → length walk ≤ 14 }
     ensures settled { (net : Network) (moments : List ℕ) (rounds : List Round) (cold w : World)
         → IsNetwork net → IsNeverQuiet net → FitsTables net
-        → IsCold net moments cold → QuietRounds net cold rounds w → AreClose rounds → 14 ≤ length rounds
+        → IsCold net moments cold → SynchronousRounds net cold rounds w → AreClose rounds → 14 ≤ length rounds
         → (router : ℕ) (state : State) (p : Prefix6) (metric : ℕ) → slice_get w.states router ≡ Some state
         → IsLeast net router p metric → metric < infinity
         → (r : RouteValue) × (map_of.get state.table p ≡ Some r) × (r.metric ≡ metric) }
 {}
 
-/// Quiet rounds are a run of just their events.
+/// Synchronous rounds are a run of just their events.
 pub fn rounds_are_run()
-    ensures { (net : Network) (rounds : List Round) (w end : World) → QuietRounds net w rounds end → WorldRun net w (events_of rounds) end }
+    ensures { (net : Network) (rounds : List Round) (w end : World) → SynchronousRounds net w rounds end → WorldRun net w (events_of rounds) end }
 {}
 
 /// A run goes on by a run.

@@ -2,10 +2,10 @@
 
 ghost use Rattle.std.specs.Prelude.{◌≡◌, ℕ, ◌+◌, ◌<◌, ◌≤◌, ◌++◌, ◌∷◌, [], List, None, IfErr, IfOk, OnErr, OnOk, map, length, vec_len};
 ghost use Rattle.std.specs.Vec.{vec_capacity};
-ghost use Rattle.ripng_wire.specs.Wire.{first_failing};
+ghost use Rattle.ripng_wire.specs.Wire.{first_reason};
 ghost use Rattle.router_core.specs.declared.reconfiguring.Change.{Change as ChangeValue};
 ghost use Rattle.ripng_world.specs.Events.{event_of};
-ghost use Rattle.ripng_world.specs.Labs.{IsRefusal, event_fault, lab_of, named_tests};
+ghost use Rattle.ripng_world.specs.Labs.{IsRefusal, event_fault, lab_of, named_reasons};
 ghost use Rattle.ripng_world.specs.Stations.{MoveStations, network_of};
 ghost use Rattle.ripng_world.specs.World.{Deliver, Stranger, Tick, Restart, Reconfigure, arrival_of, changes_in, sent_by};
 ghost use Rattle.ripng_world.specs.declared.sent.Sent.{Sent as SentValue};
@@ -16,13 +16,12 @@ use crate::sent::Sent;
 use crate::station::Station;
 use prefix6::Addr6;
 use route_table::{Moment, RouteStore};
-use router_core::{Answer, Arrival, Change, Destination, Listed, Outgoing, RIPNG_PORT};
+use router_core::{
+    Answer, Arrival, Change, Destination, Listed, MAX_HOP_LIMIT, Outgoing, RIPNG_PORT,
+};
 use std::alloc::AllocError;
 
-/// The hop limit of what no router forwarded.
-const FULL_HOP_LIMIT: u8 = 255;
-
-// A datagram of the network as it comes to an interface of its link.
+/// A datagram of the network as it comes to an interface of its link.
 fn arrival_of<'a, S: RouteStore>(
     stations: &[Station<S>],
     datagram: &'a Sent,
@@ -37,13 +36,13 @@ fn arrival_of<'a, S: RouteStore>(
         iface,
         source: sender.map_or(Addr6::from_bits(0), |i| i.interface.addr),
         source_port: RIPNG_PORT,
-        hop_limit: FULL_HOP_LIMIT,
+        hop_limit: MAX_HOP_LIMIT,
         to_group: matches!(datagram.to, Destination::Group),
         bytes: datagram.bytes.as_slice(),
     }
 }
 
-// A datagram of the network is delivered. Room for what is sent is made first, here and below.
+/// A datagram of the network is delivered. Room for what is sent is made first, here and below.
 fn deliver<S: RouteStore>(
     stations: &mut [Station<S>],
     sent: &mut Vec<Sent>,
@@ -65,7 +64,7 @@ fn deliver<S: RouteStore>(
     Ok(answer)
 }
 
-// A stranger's datagram comes.
+/// A stranger's datagram comes.
 fn intrude<S: RouteStore>(
     stations: &mut [Station<S>],
     sent: &mut Vec<Sent>,
@@ -93,7 +92,7 @@ fn intrude<S: RouteStore>(
     Ok(answer)
 }
 
-// Time passes at a router.
+/// Time passes at a router.
 fn tick<S: RouteStore>(
     stations: &mut [Station<S>],
     sent: &mut Vec<Sent>,
@@ -111,7 +110,7 @@ fn tick<S: RouteStore>(
     stations[router].tick(now, word)
 }
 
-// A router comes up again.
+/// A router comes up again.
 fn restart<S: RouteStore>(
     stations: &mut [Station<S>],
     sent: &mut Vec<Sent>,
@@ -128,7 +127,7 @@ fn restart<S: RouteStore>(
     stations[router].restart(now)
 }
 
-// The configuration of a router is changed. Room for the change, among those that were done, is made first.
+/// The configuration of a router is changed. Room for the change, among those that were done, is made first.
 fn reconfigure<S: RouteStore>(
     stations: &mut [Station<S>],
     changes: &mut Vec<(usize, Change)>,
@@ -136,7 +135,7 @@ fn reconfigure<S: RouteStore>(
     now: Moment,
     change: &Change,
 ) -> Result<Answer, LabError>
-    requires { first_failing (named_tests (network_of stations.old) router change.now) ≡ None }
+    requires { first_reason (named_reasons (network_of stations.old) router change.now) ≡ None }
     ensures moves { IfOk result (λ answer. (sent : List SentValue) → MoveStations stations.old sent changes.old.items (Reconfigure router now change.now) answer stations.new) }
     ensures silent { IfOk result (λ answer. answer.sends ≡ []) }
     ensures changes { OnOk result (changes.new.items ≡ changes.old.items ++ (router, change.now) ∷ []) }

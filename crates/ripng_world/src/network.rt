@@ -4,10 +4,10 @@ ghost use Rattle.std.specs.Prelude.{◌≡◌, ◌≢◌, ◌==◌, ◌++◌, Al
 ghost use Rattle.std.specs.List.{list_any};
 ghost use Rattle.std.specs.Result.{result_err};
 ghost use Rattle.prefix6.specs.Prefix.{IsPrefix};
-ghost use Rattle.ripng_wire.specs.Wire.{first_failing};
-ghost use Rattle.router_core.specs.Config.{IsConfig, each_tested};
+ghost use Rattle.ripng_wire.specs.Wire.{first_reason};
+ghost use Rattle.router_core.specs.Config.{IsConfig, reasons_of_each};
 ghost use Rattle.ripng_world.specs.Network.{IsNetwork, config_of};
-ghost use Rattle.ripng_world.specs.NetworkFaults.{address_tests, addresses, faults_of_router, network_fault, router_tests};
+ghost use Rattle.ripng_world.specs.NetworkFaults.{address_reasons, addresses, faults_of_router, network_fault, router_reasons};
 
 use prefix6::{Addr6, Prefix};
 use router_core::{ConfigRefused, Interface, RouterConfig};
@@ -48,7 +48,7 @@ impl Model for Node {
     } };
 }
 
-/// Why a network is refused: the first test that it fails, or want of memory. Each router is tested before the addresses
+/// Why a network is refused: the first reason to refuse it, or want of memory. Each router is tested before the addresses
 /// that routers share.
 #[derive(Clone, Copy, Debug, PartialEq, Eq)]
 pub enum NetRefused {
@@ -143,19 +143,19 @@ impl Model for NetConfig {
     ghost invariant = { λ n. IsNetwork n.routers.items };
 }
 
-// The interfaces without their links.
+/// The interfaces without their links.
 fn without_links(alloc: Global, interfaces: &[NetInterface]) -> Result<Vec<Interface>, AllocError>
     ensures { IfOk result (λ v. v.items ≡ map (λ i. i.interface) interfaces.now) }
 {
     interfaces.iter().map(|i| i.interface).collect(alloc)
 }
 
-// A router of its configuration, if that is lawful.
+/// A router of its configuration, if that is lawful.
 fn check_router(alloc: Global, number: usize, node: Node) -> Result<NetRouter, NetRefused>
     ensures kept { IfOk result (λ r. r ≡ node) }
-    ensures passes { OnOk result (first_failing (faults_of_router number node) ≡ None) }
+    ensures passes { OnOk result (first_reason (faults_of_router number node) ≡ None) }
     ensures lawful { OnOk result (IsConfig (config_of node)) }
-    ensures refused { IfErr result (λ why. why ≢ NetRefused.OutOfMemory → first_failing (faults_of_router number node) ≡ Some why) }
+    ensures refused { IfErr result (λ why. why ≢ NetRefused.OutOfMemory → first_reason (faults_of_router number node) ≡ Some why) }
 {
     let Node {
         interfaces,
@@ -171,7 +171,7 @@ fn check_router(alloc: Global, number: usize, node: Node) -> Result<NetRouter, N
     }
 }
 
-// The addresses of more interfaces.
+/// The addresses of more interfaces.
 fn add_addresses(all: &mut Vec<Addr6>, interfaces: &[NetInterface]) -> Result<(), AllocError>
     ensures { OnOk result (all.new.items ≡ all.old.items ++ map (λ i. i.interface.addr) interfaces.now) }
 {
@@ -181,7 +181,7 @@ fn add_addresses(all: &mut Vec<Addr6>, interfaces: &[NetInterface]) -> Result<()
     Ok(())
 }
 
-// The addresses of all interfaces, router by router.
+/// The addresses of all interfaces, router by router.
 fn addresses(alloc: Global, routers: &[NetRouter]) -> Result<Vec<Addr6>, AllocError>
     ensures { IfOk result (λ v. v.items ≡ addresses routers.now) }
 {
@@ -192,16 +192,16 @@ fn addresses(alloc: Global, routers: &[NetRouter]) -> Result<Vec<Addr6>, AllocEr
     Ok(all)
 }
 
-// Whether an address is one of those.
+/// Whether an address is one of those.
 fn has_address(addresses: &[Addr6], addr: Addr6) -> bool
     ensures { result ≡ list_any (λ a. a == addr) addresses.now }
 {
     addresses.iter().any(|&a| a == addr)
 }
 
-// Whether an address is an earlier one.
+/// Whether an address is an earlier one.
 fn check_address(earlier: &[Addr6], addr: Addr6) -> Result<(), NetRefused>
-    ensures { result_err result ≡ first_failing (address_tests earlier.now addr) }
+    ensures { result_err result ≡ first_reason (address_reasons earlier.now addr) }
 {
     if has_address(earlier, addr) {
         Err(NetRefused::AddressSharedInNetwork)
@@ -210,9 +210,9 @@ fn check_address(earlier: &[Addr6], addr: Addr6) -> Result<(), NetRefused>
     }
 }
 
-// Whether some address is an earlier one.
+/// Whether some address is an earlier one.
 fn check_addresses(addresses: &[Addr6]) -> Result<(), NetRefused>
-    ensures { result_err result ≡ first_failing (each_tested address_tests addresses.now) }
+    ensures { result_err result ≡ first_reason (reasons_of_each address_reasons addresses.now) }
 {
     for (place, &addr) in addresses.iter().enumerate() {
         check_address(&addresses[..place], addr)?;
@@ -220,12 +220,12 @@ fn check_addresses(addresses: &[Addr6]) -> Result<(), NetRefused>
     Ok(())
 }
 
-// Each router, if all are lawful.
+/// Each router, if all are lawful.
 fn check_routers(alloc: Global, nodes: Vec<Node>) -> Result<Vec<NetRouter>, NetRefused>
     ensures kept { IfOk result (λ v. v.items ≡ nodes.items) }
-    ensures passes { OnOk result (first_failing (each_tested router_tests nodes.items) ≡ None) }
+    ensures passes { OnOk result (first_reason (reasons_of_each router_reasons nodes.items) ≡ None) }
     ensures lawful { OnOk result (All (λ node. IsConfig (config_of node)) nodes.items) }
-    ensures refused { IfErr result (λ why. why ≢ NetRefused.OutOfMemory → first_failing (each_tested router_tests nodes.items) ≡ Some why) }
+    ensures refused { IfErr result (λ why. why ≢ NetRefused.OutOfMemory → first_reason (reasons_of_each router_reasons nodes.items) ≡ Some why) }
 {
     let mut routers = Vec::with_capacity(alloc, nodes.len())?;
     for node in nodes {
@@ -239,7 +239,7 @@ impl NetConfig {
     /// A network of these routers, numbered from 0.
     ///
     /// # Errors
-    /// The first test that fails, or want of memory; what was given is dropped.
+    /// The first reason that applies, or want of memory; what was given is dropped.
     pub fn check(alloc: Global, routers: Vec<Node>) -> Result<NetConfig, NetRefused>
         ensures kept { IfOk result (λ network. network ≡ routers.items) }
         ensures passes { OnOk result (network_fault routers.items ≡ None) }

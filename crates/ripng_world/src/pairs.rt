@@ -2,7 +2,7 @@
 
 ghost use Rattle.std.specs.Prelude.{◌≡◌, ◌≤◌, ◌++◌, IfOk, OnOk, length, map};
 ghost use Rattle.std.specs.List.{filter, range_with_len};
-ghost use Rattle.ripng_world.specs.AskedRounds.{is_other, pair_at, pairs_since, places_of};
+ghost use Rattle.ripng_world.specs.AskedRounds.{is_other, pair_at, pairs_since, interfaces_of};
 ghost use Rattle.ripng_world.specs.Stations.{network_of};
 
 use crate::event::Event;
@@ -38,35 +38,35 @@ impl Pair {
     }
 }
 
-// Adds the interfaces of a router, each with the router's number.
-fn add_places(
-    places: &mut Vec<(usize, usize)>,
+/// Adds the interfaces of a router, each with the router's number.
+fn add_interfaces(
+    interfaces: &mut Vec<(usize, usize)>,
     router: usize,
-    interfaces: usize,
+    count: usize,
 ) -> Result<(), AllocError>
-    ensures { OnOk result (places.new.items ≡ places.old.items ++ map (λ i. (router, i)) (range_with_len 0 interfaces)) }
+    ensures { OnOk result (interfaces.new.items ≡ interfaces.old.items ++ map (λ i. (router, i)) (range_with_len 0 count)) }
 {
-    for iface in 0..interfaces {
-        places.push((router, iface))?;
+    for iface in 0..count {
+        interfaces.push((router, iface))?;
     }
     Ok(())
 }
 
 /// All interfaces of the network, each behind its router's number, in order.
-pub fn places<S: RouteStore>(
+pub fn interfaces<S: RouteStore>(
     alloc: Global,
     stations: &[Station<S>],
 ) -> Result<Vec<(usize, usize)>, AllocError>
-    ensures { IfOk result (λ places. places.items ≡ places_of (network_of stations.now)) }
+    ensures { IfOk result (λ interfaces. interfaces.items ≡ interfaces_of (network_of stations.now)) }
 {
-    let mut places = Vec::new(alloc);
+    let mut interfaces = Vec::new(alloc);
     for (router, station) in stations.iter().enumerate() {
-        add_places(&mut places, router, station.interfaces().len())?;
+        add_interfaces(&mut interfaces, router, station.interfaces().len())?;
     }
-    Ok(places)
+    Ok(interfaces)
 }
 
-// Whether the interface is another one of the datagram's link.
+/// Whether the interface is another one of the datagram's link.
 fn is_other<S: RouteStore>(
     stations: &[Station<S>],
     datagram: &Sent,
@@ -86,17 +86,17 @@ fn is_other<S: RouteStore>(
     }
 }
 
-/// The places that are other interfaces of the link of a datagram, in order.
-pub fn other_places<S: RouteStore>(
+/// The other interfaces of the link of a datagram, in order.
+pub fn other_interfaces<S: RouteStore>(
     alloc: Global,
     stations: &[Station<S>],
-    places: &[(usize, usize)],
+    interfaces: &[(usize, usize)],
     datagram: &Sent,
 ) -> Result<Vec<(usize, usize)>, AllocError>
-    ensures { IfOk result (λ others. others.items ≡ filter (is_other (network_of stations.now) datagram.now) places.now) }
+    ensures { IfOk result (λ others. others.items ≡ filter (is_other (network_of stations.now) datagram.now) interfaces.now) }
 {
     let mut others = Vec::new(alloc);
-    for &(router, iface) in places {
+    for &(router, iface) in interfaces {
         if is_other(stations, datagram, router, iface) {
             others.push((router, iface))?;
         }
@@ -104,17 +104,17 @@ pub fn other_places<S: RouteStore>(
     Ok(others)
 }
 
-// Adds a datagram with each of the places that is another interface of its link.
+/// Adds a datagram with each interface of its link.
 fn add_pairs<S: RouteStore>(
     pairs: &mut Vec<Pair>,
     stations: &[Station<S>],
-    places: &[(usize, usize)],
+    interfaces: &[(usize, usize)],
     number: usize,
     datagram: &Sent,
 ) -> Result<(), AllocError>
-    ensures { OnOk result (pairs.new.items ≡ pairs.old.items ++ map (pair_at number) (filter (is_other (network_of stations.now) datagram.now) places.now)) }
+    ensures { OnOk result (pairs.new.items ≡ pairs.old.items ++ map (pair_at number) (filter (is_other (network_of stations.now) datagram.now) interfaces.now)) }
 {
-    for &(router, iface) in places {
+    for &(router, iface) in interfaces {
         if is_other(stations, datagram, router, iface) {
             pairs.push(Pair {
                 datagram: number,
@@ -136,10 +136,10 @@ pub fn pairs_since<S: RouteStore>(
     requires { first ≤ length sent.now }
     ensures { IfOk result (λ pairs. pairs.items ≡ pairs_since (network_of stations.now) first sent.now) }
 {
-    let places = places(alloc, stations)?;
+    let interfaces = interfaces(alloc, stations)?;
     let mut pairs = Vec::new(alloc);
     for number in first..sent.len() {
-        add_pairs(&mut pairs, stations, &places, number, &sent[number])?;
+        add_pairs(&mut pairs, stations, &interfaces, number, &sent[number])?;
     }
     Ok(pairs)
 }

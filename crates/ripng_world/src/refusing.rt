@@ -2,10 +2,10 @@
 
 ghost use Rattle.std.specs.Prelude.{◌≡◌, ℕ, List, None, Some, IfOk, OnOk, length};
 ghost use Rattle.std.specs.Result.{result_err};
-ghost use Rattle.ripng_wire.specs.Wire.{first_failing};
+ghost use Rattle.ripng_wire.specs.Wire.{first_reason};
 ghost use Rattle.ripng_world.specs.Events.{event_of};
 ghost use Rattle.router_core.specs.declared.reconfiguring.Change.{Change as ChangeValue};
-ghost use Rattle.ripng_world.specs.Labs.{event_fault, lab_of, named_tests, place_tests, presence_tests, link_at};
+ghost use Rattle.ripng_world.specs.Labs.{event_fault, lab_of, named_reasons, missing_interface_reasons, missing_router_reasons, link_at};
 ghost use Rattle.ripng_world.specs.Network.{interface_at};
 ghost use Rattle.ripng_world.specs.Stations.{network_of};
 ghost use Rattle.ripng_world.specs.World.{Deliver, Stranger, is_heard};
@@ -39,9 +39,9 @@ pub fn link_at<S: RouteStore>(stations: &[Station<S>], router: usize, iface: usi
     interface_at(stations, router, iface).map(|i| i.link)
 }
 
-// Whether there is such a router.
+/// Whether there is such a router.
 fn check_router<S: RouteStore>(stations: &[Station<S>], router: usize) -> Result<(), LabError>
-    ensures { result_err result ≡ first_failing (presence_tests (network_of stations.now) router) }
+    ensures { result_err result ≡ first_reason (missing_router_reasons (network_of stations.now) router) }
 {
     if router < stations.len() {
         Ok(())
@@ -50,13 +50,13 @@ fn check_router<S: RouteStore>(stations: &[Station<S>], router: usize) -> Result
     }
 }
 
-// The link of an interface, if there is such a router and interface.
-fn check_place<S: RouteStore>(
+/// The link of an interface, if there is such a router and interface.
+fn check_interface<S: RouteStore>(
     stations: &[Station<S>],
     router: usize,
     iface: usize,
 ) -> Result<u16, LabError>
-    ensures fault { result_err result ≡ first_failing (place_tests (network_of stations.now) router iface) }
+    ensures fault { result_err result ≡ first_reason (missing_interface_reasons (network_of stations.now) router iface) }
     ensures link { IfOk result (λ link. link_at (network_of stations.now) router iface ≡ Some link) }
 {
     check_router(stations, router)?;
@@ -66,7 +66,7 @@ fn check_place<S: RouteStore>(
     }
 }
 
-// Whether there is such a datagram, sent on the link of the interface.
+/// Whether there is such a datagram, sent on the link of the interface.
 fn check_delivery<S: RouteStore>(
     stations: &[Station<S>],
     sent: &[Sent],
@@ -76,7 +76,7 @@ fn check_delivery<S: RouteStore>(
 ) -> Result<(), LabError>
     ensures { (changes : List (ℕ × ChangeValue)) (now : ℕ) → result_err result ≡ event_fault (lab_of stations.now sent.now changes) (Deliver datagram router iface now) }
 {
-    let link = check_place(stations, router, iface)?;
+    let link = check_interface(stations, router, iface)?;
     let Some(datagram) = sent.get(datagram) else {
         return Err(LabError::NoSuchDatagram);
     };
@@ -86,7 +86,7 @@ fn check_delivery<S: RouteStore>(
     }
 }
 
-// Whether the router takes the arrival for a Response of its link.
+/// Whether the router takes the arrival for a Response of its link.
 fn is_heard<S: RouteStore>(router: &Router<S>, arrival: &Arrival<'_>) -> bool
     ensures { result ≡ is_heard router.now arrival.entry.now }
 {
@@ -97,7 +97,7 @@ fn is_heard<S: RouteStore>(router: &Router<S>, arrival: &Arrival<'_>) -> bool
             .is_some_and(|&command| command == Command::Response as u8)
 }
 
-// Whether the arrival may be a stranger's.
+/// Whether the arrival may be a stranger's.
 fn check_stranger<S: RouteStore>(
     stations: &[Station<S>],
     sent: &[Sent],
@@ -106,7 +106,7 @@ fn check_stranger<S: RouteStore>(
 ) -> Result<(), LabError>
     ensures { (changes : List (ℕ × ChangeValue)) → result_err result ≡ event_fault (lab_of stations.now sent.now changes) (Stranger router arrival.entry.now) }
 {
-    check_place(stations, router, arrival.iface)?;
+    check_interface(stations, router, arrival.iface)?;
     if is_heard(stations[router].router(), arrival) {
         Err(LabError::NotAStranger)
     } else {
@@ -114,24 +114,24 @@ fn check_stranger<S: RouteStore>(
     }
 }
 
-// Whether there is such a router, and such an interface where a cost is changed.
+/// Whether there is such a router, and such an interface where a cost is changed.
 fn check_named<S: RouteStore>(
     stations: &[Station<S>],
     router: usize,
     change: &Change,
 ) -> Result<(), LabError>
-    ensures { result_err result ≡ first_failing (named_tests (network_of stations.now) router change.now) }
+    ensures { result_err result ≡ first_reason (named_reasons (network_of stations.now) router change.now) }
 {
     match *change {
         Change::Cost { iface, .. } => {
-            check_place(stations, router, iface)?;
+            check_interface(stations, router, iface)?;
             Ok(())
         }
         Change::Own { .. } | Change::Disown { .. } => check_router(stations, router),
     }
 }
 
-/// The first test that an event fails, before its router is asked.
+/// The first reason to refuse an event, before its router is asked.
 pub fn check<S: RouteStore>(
     stations: &[Station<S>],
     sent: &[Sent],

@@ -3,7 +3,7 @@
 ghost use Rattle.std.specs.Prelude.{◌≡◌, ◌<◌, ◌≤◌, ◌*◌, ◌/◌, [], max, IfErr, IfOk, OnErr, length, slice_get, unwrap_or};
 ghost use Rattle.std.specs.FinMap as map_of;
 ghost use Rattle.router_core.specs.Machine.{Happening, Moves, Starts};
-ghost use Rattle.router_core.specs.Reconfiguring.{IsPlaced, change_fault};
+ghost use Rattle.router_core.specs.Reconfiguring.{NamesInterface, change_fault};
 ghost use Rattle.ripng_world.specs.Network.{config_of};
 
 use crate::network::{NetInterface, NetRouter, Node};
@@ -147,9 +147,9 @@ impl<S: RouteStore> Station<S> {
     /// The configuration of the router is changed.
     ///
     /// # Errors
-    /// The first test that the change fails, else want of memory; the router is then as it was.
+    /// The first reason to refuse the change, else want of memory; the router is then as it was.
     pub fn reconfigure(&mut self, now: Moment, change: Change) -> Result<Answer, ReconfigureRefused>
-        requires { IsPlaced (config_of self.old.node) change }
+        requires { NamesInterface (config_of self.old.node) change }
         ensures moves { IfOk result (λ answer. Moves self.old.state (Happening.Reconfigures now change) answer self.new.state) }
         ensures silent { IfOk result (λ answer. answer.sends ≡ []) }
         ensures node { self.new.node ≡ self.old.node }

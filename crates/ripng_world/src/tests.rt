@@ -19,7 +19,7 @@ fn prefix() -> Result<Prefix, PrefixError> {
     Prefix::new(Addr6::from_bits(0x2001_0db8 << 96), 32)
 }
 
-// A router with two interfaces of these addresses, on the links 0 and 1.
+/// A router with two interfaces of these addresses, on the links 0 and 1.
 fn node(alloc: Global, addresses: [u128; 2]) -> Result<Node, AllocError> {
     let mut interfaces = Vec::new(alloc);
     for (link, number) in [(0, addresses[0]), (1, addresses[1])] {
@@ -37,7 +37,7 @@ fn node(alloc: Global, addresses: [u128; 2]) -> Result<Node, AllocError> {
     })
 }
 
-// Two routers; the first owns a prefix.
+/// Two routers; the first owns a prefix.
 fn two(alloc: Global, first: [u128; 2], second: [u128; 2]) -> Result<Vec<Node>, Fail>
     ensures { IfOk result (λ v. length v.items ≡ 2) }
 {

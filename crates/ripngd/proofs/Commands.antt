@@ -43,6 +43,13 @@ about_set old new text app e is = record {
   local = ap (λ (f : Command-F Command). f.has_globals) e ∙ is.local;
 }
 
+-- nor do the sentences at the end of its help
+pub after_help_set : (old new : Command) (text : Option (Bor (List ℕ))) (app : App) → out-Command new ≡ record (out-Command old) { after_help = text } → IsCommand old app → IsCommand new app
+after_help_set old new text app e is = record {
+  app_is = ap app_of_fields e ∙ is.app_is;
+  local = ap (λ (f : Command-F Command). f.has_globals) e ∙ is.local;
+}
+
 -- a command that is given a version tells it
 pub version_set : (old new : Command) (text : Bor (List ℕ)) (app : App) → out-Command new ≡ record (out-Command old) { version = Some text } → IsCommand old app → IsCommand new (versioned app)
 version_set old new text app e is = record {

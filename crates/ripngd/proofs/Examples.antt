@@ -41,8 +41,8 @@ version_is_asked : fault_of ripngd (codes "ripngd" ∷ codes "--version" ∷ [])
 unfolding clap_on_literals
 version_is_asked = refl
 
--- `run -qt7 -R log --turns=3 c`: short options in one word, a long one with its value
-run_is_taken : takes ripngd (codes "ripngd" ∷ codes "run" ∷ codes "-qt7" ∷ codes "-R" ∷ codes "log" ∷ codes "--turns=3" ∷ codes "c" ∷ []) ≡ true
+-- `run -qdt7 -R log --turns=3 c`: short options in one word, a long one with its value
+run_is_taken : takes ripngd (codes "ripngd" ∷ codes "run" ∷ codes "-qdt7" ∷ codes "-R" ∷ codes "log" ∷ codes "--turns=3" ∷ codes "c" ∷ []) ≡ true
 unfolding clap_on_literals
 run_is_taken = refl
 

@@ -4,7 +4,7 @@ use Rattle.std.specs.List.{sum_by}
 use Rattle.std.specs.declared.alloc.Global.{Global}
 use Rattle.ripngd_config.specs.declared.configuration.Config.{Config}
 use Rattle.ripngd_config.specs.declared.peer.Peer.{Peer}
-use Rattle.ripngd.specs.Shown.{newline}
+use Rattle.ripngd_show.specs.Shown.{newline}
 
 -- the peers of all interfaces together, up to the greatest u64
 abbrev pub peers_counted : List (Vec Peer Global) → ℕ

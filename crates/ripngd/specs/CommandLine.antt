@@ -26,6 +26,10 @@ positional id = record (new_rule id) { required = true }
 abbrev pub quiet_option : Rule
 quiet_option = record (new_rule (codes "quiet")) { short = Some 113; action = Some SetTrue }
 
+-- `-d`
+abbrev pub debug_option : Rule
+debug_option = record (new_rule (codes "debug")) { short = Some 100; action = Some SetTrue }
+
 -- `-t TAG`, from 0 to 65,535; 0 if it is not given
 abbrev pub tag_option : Rule
 tag_option = record (new_rule (codes "tag")) {
@@ -52,6 +56,28 @@ turns_option = record (new_rule (codes "turns")) {
 abbrev pub trace_option : Rule
 trace_option = record (new_rule (codes "trace")) { long = Some (codes "trace"); action = Some SetTrue }
 
+-- `--port N`, from 0 to 65,535; 8532 if it is not given
+abbrev pub port_option : Rule
+port_option = record (new_rule (codes "port")) {
+  long = Some (codes "port");
+  value_names = 1;
+  parser = Some (parsers.Signed (pos 0) (pos 65535));
+  defaults = codes "8532" ∷ [];
+}
+
+-- `--requests N`, from 1 to 4,294,967,295, and that if it is not given
+abbrev pub requests_option : Rule
+requests_option = record (new_rule (codes "requests")) {
+  long = Some (codes "requests");
+  value_names = 1;
+  parser = Some (parsers.Signed (pos 1) (pos 4294967295));
+  defaults = codes "4294967295" ∷ [];
+}
+
+-- `--film SCRIPT`
+abbrev pub film_option : Rule
+film_option = record (new_rule (codes "film")) { long = Some (codes "film"); value_names = 1 }
+
 -- a subcommand with one argument
 abbrev pub one_argument : Text → Text → App
 one_argument name id = with_rule (new_app name) (positional id)
@@ -68,17 +94,23 @@ versioned a = on_top (λ s. record s { has_version = true }) a
 abbrev pub lab_command : App
 lab_command = with_rule (with_rule (new_app (codes "lab")) trace_option) (positional (codes "SCRIPT"))
 
--- `run [-q] [-t TAG] [-R FILE] [--turns N] CONFIG`
+-- `run [-q] [-d] [-t TAG] [-R FILE] [--turns N] CONFIG`
 abbrev pub run_command : App
 run_command =
-    with_rule (with_rule (with_rule (with_rule (with_rule (new_app (codes "run"))
-    quiet_option) tag_option) log_option) turns_option) (positional (codes "CONFIG"))
+    with_rule (with_rule (with_rule (with_rule (with_rule (with_rule (new_app (codes "run"))
+    quiet_option) debug_option) tag_option) log_option) turns_option) (positional (codes "CONFIG"))
 
--- `ripngd`, which tells its version, with `show HEX`, `check CONFIG`, `lab` or `run`
+-- `page [--port N] [--requests N] [--film SCRIPT]`
+abbrev pub page_command : App
+page_command = with_rule (with_rule (with_rule (new_app (codes "page")) port_option) requests_option) film_option
+
+-- `ripngd`, which tells its version, with `show HEX`, `check CONFIG`, `lab`, `run`, `table LOG` or `page`
 abbrev pub ripngd : App
-ripngd = with_subcommand (with_subcommand (with_subcommand (with_subcommand
+ripngd = with_subcommand (with_subcommand (with_subcommand (with_subcommand (with_subcommand (with_subcommand
     (subcommand_required (versioned (new_app (codes "ripngd"))))
     (one_argument (codes "show") (codes "HEX")).top)
     (one_argument (codes "check") (codes "CONFIG")).top)
     lab_command.top)
-    run_command.top
+    run_command.top)
+    (one_argument (codes "table") (codes "LOG")).top)
+    page_command.top

@@ -7,17 +7,19 @@ use Rattle.clap.specs.Walk.{Text}
 use Rattle.clap.specs.declared.error.kind.ErrorKind.TheVariants.{DisplayHelp, DisplayVersion}
 use Rattle.ripngd.specs.declared.asked.Ask.{Ask}
 use Rattle.ripngd.specs.declared.asked.Ask.TheVariants as asks
-use Rattle.ripngd.specs.declared.print_fault.PrintFault.{PrintFault}
-use Rattle.ripngd.specs.declared.print_fault.PrintFault.TheVariants as faults
 use Rattle.ripngd.specs.declared.failure.Failure.{Failure}
 use Rattle.ripngd.specs.declared.failure.Failure.TheVariants as failures
 use Rattle.ripngd_udp.specs.declared.udp.UdpError.{UdpError}
 use Rattle.ripngd_udp.specs.declared.udp.UdpError.TheVariants as link
 use Rattle.ripngd_engine.specs.declared.report.EngineFault.{EngineFault}
 use Rattle.ripngd_engine.specs.declared.report.EngineFault.TheVariants as engine
+use Rattle.ripngd_show.specs.declared.print_fault.PrintFault.{PrintFault}
+use Rattle.ripngd_show.specs.declared.print_fault.PrintFault.TheVariants as faults
+use Rattle.ripngd_page.specs.declared.fault.ServeFault.{ServeFault}
+use Rattle.ripngd_page.specs.declared.fault.ServeFault.TheVariants as serving
 use Rattle.ripngd.specs.Asked.{Asks}
 use Rattle.ripngd.specs.CommandLine.{ripngd}
-use Rattle.ripngd.specs.Shown.{IsShown}
+use Rattle.ripngd_show.specs.Shown.{IsShown}
 
 -- the bytes of a writer grew by the answer to what is asked: by the lines of a datagram. What the other subcommands
 -- print is not said here
@@ -27,6 +29,9 @@ AnswersAsk (asks.Check file) accepted old new = Unit {0}
 AnswersAsk (asks.Lab file) accepted old new = Unit {0}
 AnswersAsk (asks.Trace file) accepted old new = Unit {0}
 AnswersAsk (asks.Run order) accepted old new = Unit {0}
+AnswersAsk (asks.Table file) accepted old new = Unit {0}
+AnswersAsk (asks.Page serve) accepted old new = Unit {0}
+AnswersAsk (asks.Film file) accepted old new = Unit {0}
 
 -- the bytes of a writer grew by the answer to what the words ask
 abbrev pub AnswersWords : List Text → Bool → Option (List ℕ) → Option (List ℕ) → Type 0
@@ -39,11 +44,6 @@ AsksForHelp words = IsAmong DisplayHelp (fault_of ripngd words) ⊎ IsAmong Disp
 -- the words have a fault
 abbrev pub HasFault : List Text → Type 0
 HasFault words = fault_of ripngd words ≢ []
-
--- the numbers of the faults of a command that prints
-abbrev pub print_number : PrintFault → ℕ
-print_number faults.OutOfMemory = 1
-print_number faults.Write = 2
 
 -- what such a fault is to the program
 abbrev pub failure_of : PrintFault → Failure
@@ -59,3 +59,10 @@ failure_of_engine engine.OutOfMemory = failures.OutOfMemory
 abbrev pub failure_of_link : UdpError → Failure
 failure_of_link (link.Bind port) = failures.Bind port
 failure_of_link link.OutOfMemory = failures.OutOfMemory
+
+-- what a fault of the page's server is to the program
+abbrev pub failure_of_serve : ServeFault → Failure
+failure_of_serve (serving.Bind port) = failures.Bind port
+failure_of_serve serving.Accept = failures.Accept
+failure_of_serve serving.Write = failures.Output
+failure_of_serve serving.OutOfMemory = failures.OutOfMemory

@@ -1,7 +1,7 @@
 -- What is written of what a run lost (the format is this project's choice).
 use Rattle.std.specs.Prelude.{ℕ, Bool, true, false, List, [], ◌++◌, codes, decimal}
 use Rattle.ripngd_engine.specs.declared.report.Report.{Report}
-use Rattle.ripngd.specs.Shown.{newline}
+use Rattle.ripngd_show.specs.Shown.{newline}
 
 -- nothing was lost
 abbrev pub nothing_lost : Report

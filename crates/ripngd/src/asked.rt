@@ -11,8 +11,23 @@ pub enum Ask<'a> {
     Lab(&'a str),
     /// `lab --trace SCRIPT`: all that happens as a file's script is run.
     Trace(&'a str),
-    /// `run [-q] [-t TAG] [-R FILE] [--turns N] CONFIG`: one router that runs.
+    /// `run [-q] [-d] [-t TAG] [-R FILE] [--turns N] CONFIG`: one router that runs.
     Run(Order<'a>),
+    /// `table LOG`: the forwarding table that a file's log makes.
+    Table(&'a str),
+    /// `page [--port N] [--requests N]`: the page of a laboratory, to browsers of this machine.
+    Page(Serve),
+    /// `page --film SCRIPT`: the page, with what happens as a file's script is run.
+    Film(&'a str),
+}
+
+/// How the page is to be served.
+#[derive(Clone, Copy, Debug, PartialEq, Eq)]
+pub struct Serve {
+    /// The TCP port of 127.0.0.1 that browsers ask; 0 for one that the system chooses.
+    pub port: u16,
+    /// How many requests are answered, at least 1.
+    pub requests: u32,
 }
 
 /// How a router is to run.
@@ -20,6 +35,8 @@ pub enum Ask<'a> {
 pub struct Order<'a> {
     /// Whether it sends no Requests and no updates, and answers no router.
     pub quiet: bool,
+    /// Whether standard error gets a line for each refused datagram and entry, and counts at the end.
+    pub debug: bool,
     /// The route tag of each owned prefix that the configuration gives none.
     pub tag: u16,
     /// The file that gets a line for each change of a route.

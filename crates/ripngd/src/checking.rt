@@ -7,8 +7,8 @@ ghost use Rattle.ripngd_config.specs.declared.configuration.Config as configured
 ghost use Rattle.ripngd_config.specs.declared.fault.ConfigFault as refusal;
 ghost use Rattle.ripngd.specs.Checked.{counts_line, peers_counted};
 
-use crate::print_fault::PrintFault;
 use ripngd_config::{Config, ConfigFault, Peer, read_config};
+use ripngd_show::PrintFault;
 use std::alloc::Global;
 use std::io::{self, Write};
 

@@ -8,9 +8,10 @@ ghost use Rattle.clap.specs.Takes.{takes};
 ghost use Rattle.clap.specs.Walk.{Row, Text, first_of, rows_of};
 ghost use Rattle.clap.specs.Words.{found_of, kind_of, subcommand_rows_of};
 ghost use Rattle.ripngd.specs.Asked.{Asks, IsAsked, IsNumber, IsSet};
-ghost use Rattle.ripngd.specs.CommandLine.{IsArg, IsCommand, lab_command, log_option, one_argument, positional, quiet_option, ripngd, run_command, tag_option, trace_option, turns_option};
+ghost use Rattle.ripngd.specs.CommandLine.{IsArg, IsCommand, debug_option, film_option, lab_command, log_option, one_argument, page_command, port_option, positional, quiet_option, requests_option, ripngd, run_command, tag_option, trace_option, turns_option};
 
-use crate::asked::{Ask, Order};
+use crate::asked::{Ask, Order, Serve};
+use crate::help;
 use clap::error::ErrorKind;
 use clap::{Arg, ArgAction, ArgMatches, Command, Error, value_parser};
 use std::alloc::{AllocError, Global};
@@ -33,6 +34,16 @@ fn quiet<'a>(alloc: Global) -> Arg<'a>
         .short('q')
         .action(ArgAction::SetTrue)
         .help("Send no Requests and no updates, and answer no router")
+}
+
+/// `-d`: standard error gets a line for each refused datagram and entry, and counts at the end.
+fn debug<'a>(alloc: Global) -> Arg<'a>
+    ensures { IsArg result debug_option }
+{
+    Arg::new(alloc, "debug")
+        .short('d')
+        .action(ArgAction::SetTrue)
+        .help("Write each refused datagram and entry to standard error, and counts at the end")
 }
 
 /// `-t TAG`, from 0 to 65,535.
@@ -73,6 +84,7 @@ fn with_one<'a>(
     alloc: Global,
     name: &'a str,
     about: &'a str,
+    more: &'a str,
     id: &'a str,
     help: &'a str,
 ) -> Result<Command<'a>, AllocError>
@@ -80,6 +92,7 @@ fn with_one<'a>(
 {
     Command::new(alloc, name)
         .about(about)
+        .after_help(more)
         .arg(required(alloc, id, help))
 }
 
@@ -99,21 +112,72 @@ fn lab<'a>(alloc: Global) -> Result<Command<'a>, AllocError>
 {
     Command::new(alloc, "lab")
         .about("Run the network of routers that a script describes")
+        .after_help(help::LAB)
         .arg(trace(alloc))?
         .arg(required(alloc, "SCRIPT", "The file that holds it"))
 }
 
-/// `run [-q] [-t TAG] [-R FILE] [--turns N] CONFIG`.
+/// `run [-q] [-d] [-t TAG] [-R FILE] [--turns N] CONFIG`.
 fn run<'a>(alloc: Global) -> Result<Command<'a>, AllocError>
     ensures { IfOk result (λ c. IsCommand c run_command) }
 {
     Command::new(alloc, "run")
         .about("Run one router over UDP on loopback")
+        .after_help(help::RUN)
         .arg(quiet(alloc))?
+        .arg(debug(alloc))?
         .arg(tag(alloc))?
         .arg(log(alloc))?
         .arg(turns(alloc))?
         .arg(required(alloc, "CONFIG", "The file of its configuration"))
+}
+
+/// `--port N`, from 0 to 65,535.
+fn port<'a>(alloc: Global) -> Arg<'a>
+    ensures { IsArg result port_option }
+{
+    Arg::new(alloc, "port")
+        .long("port")
+        .value_name("N")
+        .value_parser(value_parser!(u16))
+        .default_value("8532")
+        .help("The TCP port of 127.0.0.1 that a browser asks for the page; 0 is one that is free")
+}
+
+/// `--requests N`, from 1 to 4,294,967,295.
+fn requests<'a>(alloc: Global) -> Arg<'a>
+    ensures { IsArg result requests_option }
+{
+    Arg::new(alloc, "requests")
+        .long("requests")
+        .value_name("N")
+        .value_parser(value_parser!(u32).range(1..))
+        .default_value("4294967295")
+        .help("End after N requests")
+}
+
+/// `--film SCRIPT`.
+fn film<'a>(alloc: Global) -> Arg<'a>
+    ensures { IsArg result film_option }
+{
+    Arg::new(alloc, "film")
+        .long("film")
+        .value_name("SCRIPT")
+        .help(
+            "Serve nothing, and print the page with all that happens as the script of the file runs",
+        )
+}
+
+/// `page [--port N] [--requests N] [--film SCRIPT]`.
+fn page<'a>(alloc: Global) -> Result<Command<'a>, AllocError>
+    ensures { IfOk result (λ c. IsCommand c page_command) }
+{
+    Command::new(alloc, "page")
+        .about("Serve the page of a laboratory to a browser of this machine")
+        .after_help(help::PAGE)
+        .arg(port(alloc))?
+        .arg(requests(alloc))?
+        .arg(film(alloc))
 }
 
 /// The command that the program's words are given to.
@@ -122,12 +186,14 @@ fn command<'a>(alloc: Global) -> Result<Command<'a>, AllocError>
 {
     Command::new(alloc, "ripngd")
         .about("A router for RIPng, the distance vector protocol of IPv6 (RFC 2080)")
+        .after_help(help::PROGRAM)
         .version(VERSION)
         .subcommand_required(true)
         .subcommand(with_one(
             alloc,
             "show",
             "Decode one datagram, given as hexadecimal digits",
+            help::SHOW,
             "HEX",
             "Its bytes, two digits of either case for each",
         )?)?
@@ -135,11 +201,21 @@ fn command<'a>(alloc: Global) -> Result<Command<'a>, AllocError>
             alloc,
             "check",
             "Read a configuration, and say whether a router can run on it",
+            help::CHECK,
             "CONFIG",
             "The file that holds it",
         )?)?
         .subcommand(lab(alloc)?)?
-        .subcommand(run(alloc)?)
+        .subcommand(run(alloc)?)?
+        .subcommand(with_one(
+            alloc,
+            "table",
+            "Print the forwarding table that a log makes, also while its router runs",
+            help::TABLE,
+            "LOG",
+            "The file that `run -R` writes it to",
+        )?)?
+        .subcommand(page(alloc)?)
 }
 
 /// Reads a command line, whose first word is the program's name.
@@ -189,6 +265,8 @@ fn asked_of<'a>(name: &'a str, matches: &ArgMatches<'a>) -> Option<Ask<'a>>
         "check" => Some(Ask::Check(text(matches, "CONFIG")?)),
         "lab" => lab_asked(matches),
         "run" => run_asked(matches),
+        "table" => Some(Ask::Table(text(matches, "LOG")?)),
+        "page" => page_asked(matches),
         _ => None,
     }
 }
@@ -205,12 +283,26 @@ fn lab_asked<'a>(matches: &ArgMatches<'a>) -> Option<Ask<'a>>
     })
 }
 
+/// The page: a film of it where the option was given, or how it is served.
+fn page_asked<'a>(matches: &ArgMatches<'a>) -> Option<Ask<'a>>
+    ensures { IfSome result (λ a. IsAsked a (codes "page") (rows_of (found_of matches.now))) }
+{
+    match text(matches, "film") {
+        Some(script) => Some(Ask::Film(script)),
+        None => Some(Ask::Page(Serve {
+            port: port_given(matches)?,
+            requests: requests_given(matches)?,
+        })),
+    }
+}
+
 /// A run, with what was found for its options.
 fn run_asked<'a>(matches: &ArgMatches<'a>) -> Option<Ask<'a>>
     ensures { IfSome result (λ a. IsAsked a (codes "run") (rows_of (found_of matches.now))) }
 {
     Some(Ask::Run(Order {
         quiet: is_set(matches, "quiet"),
+        debug: is_set(matches, "debug"),
         tag: tag_given(matches)?,
         log: text(matches, "log"),
         turns: turns_given(matches)?,
@@ -244,4 +336,18 @@ fn turns_given(matches: &ArgMatches<'_>) -> Option<u32>
 {
     let turns = matches.get_one::<u32>("turns")?;
     if turns == 0 { None } else { Some(turns) }
+}
+
+fn port_given(matches: &ArgMatches<'_>) -> Option<u16>
+    ensures { IfSome result (IsNumber (rows_of (found_of matches.now)) (codes "port")) }
+{
+    matches.get_one::<u16>("port")
+}
+
+fn requests_given(matches: &ArgMatches<'_>) -> Option<u32>
+    ensures number { IfSome result (IsNumber (rows_of (found_of matches.now)) (codes "requests")) }
+    ensures some { IfSome result (λ n. 1 ≤ n) }
+{
+    let requests = matches.get_one::<u32>("requests")?;
+    if requests == 0 { None } else { Some(requests) }
 }

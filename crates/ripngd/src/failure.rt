@@ -2,11 +2,12 @@
 
 ghost use Rattle.std.specs.Prelude.{◌≡◌, ◌≢◌};
 ghost use Rattle.std.specs.IoError.{error_kind};
-ghost use Rattle.ripngd.specs.Exit.{failure_of, failure_of_engine, failure_of_link};
+ghost use Rattle.ripngd.specs.Exit.{failure_of, failure_of_engine, failure_of_link, failure_of_serve};
 ghost use Rattle.ripngd.specs.declared.failure.Failure.TheVariants as failures;
 
-use crate::print_fault::PrintFault;
 use ripngd_engine::EngineFault;
+use ripngd_page::ServeFault;
+use ripngd_show::PrintFault;
 use ripngd_udp::UdpError;
 use std::io::{self, ErrorKind};
 use thiserror::Error;
@@ -26,6 +27,9 @@ pub(crate) enum Failure<'a> {
     /// A port of 127.0.0.1 cannot be bound.
     #[error("cannot bind {0}")]
     Bind(u16),
+    /// No browser's connection can be taken.
+    #[error("cannot accept a connection")]
+    Accept,
     /// A socket failed, after so many turns.
     #[error("link fault after {0} turns")]
     Link(u32),
@@ -73,6 +77,19 @@ impl From<UdpError> for Failure<'_> {
         match fault {
             UdpError::Bind(port) => Failure::Bind(port),
             UdpError::OutOfMemory => Failure::OutOfMemory,
+        }
+    }
+}
+
+impl From<ServeFault> for Failure<'_> {
+    ghost from_gives = { λ fault failure. failure ≡ failure_of_serve fault };
+
+    fn from(fault: ServeFault) -> Self {
+        match fault {
+            ServeFault::Bind(port) => Failure::Bind(port),
+            ServeFault::Accept => Failure::Accept,
+            ServeFault::Write => Failure::Output,
+            ServeFault::OutOfMemory => Failure::OutOfMemory,
         }
     }
 }

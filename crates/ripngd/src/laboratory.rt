@@ -1,6 +1,6 @@
 //! `lab`: a network of routers, run from a script, and the trace of one.
 
-use crate::print_fault::PrintFault;
+use ripngd_show::PrintFault;
 use std::alloc::Global;
 use std::io::Write;
 

@@ -14,6 +14,8 @@ pub(crate) struct Plan<'a> {
     pub(crate) config: Config,
     /// How many turns it makes.
     pub(crate) turns: u32,
+    /// Whether what it refuses is written to standard error.
+    pub(crate) debug: bool,
     /// The file that gets its log.
     pub(crate) log: Option<&'a str>,
 }
@@ -29,6 +31,7 @@ pub(crate) fn plan_of<'a>(
 ) -> Result<Plan<'a>, ConfigFault>
     ensures configured { IfOk result (λ plan. IsConfigured text.now order.entry.tag order.entry.quiet plan.config) }
     ensures turns { IfOk result (λ plan. plan.turns ≡ order.entry.turns) }
+    ensures debug { IfOk result (λ plan. plan.debug ≡ order.entry.debug) }
     ensures log { IfOk result (λ plan. plan.log ≡ order.entry.log) }
     ensures one_each { IfOk result (λ plan. HasOneEach plan.config) }
     ensures refused { IfErr result (Refuses text.now order.entry.tag order.entry.quiet) }
@@ -37,6 +40,7 @@ pub(crate) fn plan_of<'a>(
     Ok(Plan {
         config,
         turns: order.turns,
+        debug: order.debug,
         log: order.log,
     })
 }

@@ -5,14 +5,15 @@ ghost use Rattle.ripngd_config.specs.Configuration.{HasOneEach};
 use crate::asked::Order;
 use crate::checking::write_refusal;
 use crate::failure::{Failure, failed};
+use crate::forwarding::write_table;
 use crate::losses::with_link;
 use crate::plan::{Plan, plan_of};
 use crate::reading::read;
-use fib::Fib;
 use rand_pcg::Pcg32;
 use ripngd_config::Config;
-use ripngd_engine::{Engine, Report, RouteLine};
+use ripngd_engine::{Engine, Report, Unwatched, Watch};
 use ripngd_udp::{Udp, Uptime};
+use ripngd_watch::DebugLines;
 use route_table::TrieRoutes;
 use std::fs;
 use std::io::{self, Write};
@@ -22,54 +23,84 @@ use std::rt::{Clock, Files};
 /// Runs the router of a configuration for some turns, and then writes its forwarding table, a line for each entry. Each
 /// change of a route is a line of the log, if a file is named for it, whose old contents are lost. A configuration that
 /// is refused is written as `refused ..`, before that file is touched, and the answer is then false. What the router lost
-/// is left in `lost`, also where it ended early.
+/// is left in `lost`, also where it ended early. Where it is to be debugged, `err` gets a line for each arrival and entry
+/// that is refused, and counts of all at its end, early or not; a failure of `err` changes nothing else.
 ///
 /// # Errors
 /// The first thing that failed: to read the configuration, to make the log, to bind a port, the link, memory, or `out`.
-pub(crate) fn run<'a, R: Files + Clock + Net + AllocGlobal, O: Write>(
+pub(crate) fn run<'a, R: Files + Clock + Net + AllocGlobal, O: Write, E: Write>(
     rt: &R,
     order: Order<'a>,
     out: &mut O,
+    err: &mut E,
     lost: &mut Report,
 ) -> Result<bool, Failure<'a>> {
     let text = read(rt, order.config)?;
     match plan_of(rt.alloc(), order, text.as_slice()) {
         Ok(plan) => {
-            run_plan(rt, plan, out, lost)?;
+            if plan.debug {
+                run_debugged(rt, plan, out, err, lost)?;
+            } else {
+                run_plan(rt, plan, &mut Unwatched, out, lost)?;
+            }
             Ok(true)
         }
         Err(fault) => Ok(write_refusal(&fault, out)?),
     }
 }
 
-/// Makes the log, and runs.
-fn run_plan<'a, R: Files + Clock + Net + AllocGlobal, O: Write>(
+/// Runs with lines and counts on `err`.
+fn run_debugged<'a, R: Files + Clock + Net + AllocGlobal, O: Write, E: Write>(
     rt: &R,
     plan: Plan<'a>,
+    out: &mut O,
+    err: &mut E,
+    lost: &mut Report,
+) -> Result<(), Failure<'a>>
+    requires { HasOneEach plan.config }
+{
+    let mut lines = DebugLines::new(&mut *err);
+    let outcome = run_plan(rt, plan, &mut lines, out, lost);
+    let counts = lines.counts();
+    let _ = writeln!(err, "{counts}");
+    outcome
+}
+
+/// Makes the log, and runs.
+fn run_plan<'a, R: Files + Clock + Net + AllocGlobal, V: Watch, O: Write>(
+    rt: &R,
+    plan: Plan<'a>,
+    watch: &mut V,
     out: &mut O,
     lost: &mut Report,
 ) -> Result<(), Failure<'a>>
     requires { HasOneEach plan.config }
 {
-    let Plan { config, turns, log } = plan;
+    let Plan {
+        config,
+        turns,
+        log,
+        ..
+    } = plan;
     match log {
         Some(file) => {
             let mut lines = fs::create(rt, file).map_err(|error| failed(
                 Failure::Log(file),
                 &error,
             ))?;
-            run_logged(rt, config, turns, &mut lines, out, lost)
+            run_logged(rt, config, turns, &mut lines, watch, out, lost)
         }
-        None => run_logged(rt, config, turns, &mut io::sink(), out, lost),
+        None => run_logged(rt, config, turns, &mut io::sink(), watch, out, lost),
     }
 }
 
 /// Binds the ports, and runs.
-fn run_logged<'a, R: Clock + Net + AllocGlobal, W: Write, O: Write>(
+fn run_logged<'a, R: Clock + Net + AllocGlobal, W: Write, V: Watch, O: Write>(
     rt: &R,
     config: Config,
     turns: u32,
     log: &mut W,
+    watch: &mut V,
     out: &mut O,
     lost: &mut Report,
 ) -> Result<(), Failure<'a>>
@@ -91,7 +122,7 @@ fn run_logged<'a, R: Clock + Net + AllocGlobal, W: Write, O: Write>(
         rng,
         log,
     )?;
-    let outcome = show_turns(&mut engine, turns, log, out);
+    let outcome = show_turns(&mut engine, turns, log, watch, out);
     let report = engine.report();
     let mut link = engine.into_link();
     link.finish();
@@ -100,24 +131,13 @@ fn run_logged<'a, R: Clock + Net + AllocGlobal, W: Write, O: Write>(
 }
 
 /// Makes the turns, and then writes the forwarding table.
-fn show_turns<'a, 'b, R: Clock, W: Write, O: Write>(
+fn show_turns<'a, 'b, R: Clock, W: Write, V: Watch, O: Write>(
     engine: &mut Engine<TrieRoutes, Udp<'b, R>, Uptime<'b, R>, Pcg32>,
     turns: u32,
     log: &mut W,
+    watch: &mut V,
     out: &mut O,
 ) -> Result<(), Failure<'a>> {
-    engine.turns(turns, log)?;
+    engine.turns_watched(turns, log, watch)?;
     write_table(engine.fib(), out).map_err(|_| Failure::Output)
-}
-
-fn write_table<O: Write>(fib: &Fib, out: &mut O) -> io::Result<()> {
-    for (prefix, hop, metric) in fib.entries() {
-        let line = RouteLine {
-            prefix: *prefix,
-            hop: *hop,
-            metric: *metric,
-        };
-        writeln!(out, "{line}")?;
-    }
-    Ok(())
 }

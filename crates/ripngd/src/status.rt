@@ -5,18 +5,21 @@ ghost use Rattle.clap.specs.Words.{kind_of};
 ghost use Rattle.ripngd.specs.Exit.{AnswersAsk, AnswersWords, AsksForHelp, HasFault};
 
 use crate::asked::Ask;
+use crate::browser::{film, serve};
 use crate::checking::check;
 use crate::command_line::ask;
 use crate::failure::Failure;
+use crate::forwarding::table;
 use crate::laboratory::{lab, trace};
 use crate::losses::{NOTHING_LOST, write_losses};
 use crate::reading::read;
 use crate::running::run;
-use crate::showing::show;
 use clap::error::ErrorKind;
 use ripngd_engine::Report;
+use ripngd_show::show;
 use std::io::Write;
 use std::net::Net;
+use std::random::RandomSource;
 use std::rt::{Clock, Files};
 
 /// The exit status of the program.
@@ -24,7 +27,7 @@ use std::rt::{Clock, Files};
 pub(crate) enum Status {
     /// What was asked is done, help and the version among it.
     Done = 0,
-    /// The datagram, the configuration or a line of the script was refused; standard output says why.
+    /// The datagram, the configuration, or a line of the script or of the log was refused; standard output says why.
     Refused = 1,
     /// The command line is not one of the program's; standard error says why.
     Usage = 2,
@@ -35,16 +38,17 @@ pub(crate) enum Status {
 /// Does what the words of a command line ask for, the first of them the program's name, and answers the exit status:
 ///
 /// - 0 where it is done; help or the version, if that was asked for, is written to `out`;
-/// - 1 where the datagram, the configuration or a line of the script is refused, as a line on `out` says;
+/// - 1 where the datagram, the configuration, or a line of the script or of the log is refused, as a line on `out` says;
 /// - 2 at a fault of the command line, whose text is written to `err`;
 /// - 3 where something else failed, as a line on `err` says: `ripngd: cannot read FILE`, `ripngd: cannot write FILE` (with
-///   `stdout` for `out`), `ripngd: cannot bind PORT`, `ripngd: link fault after N turns` or `ripngd: out of memory`.
+///   `stdout` for `out`), `ripngd: cannot bind PORT`, `ripngd: cannot accept a connection`, `ripngd: link fault after N
+///   turns` or `ripngd: out of memory`.
 ///
-/// A run that lost something has a last line on `err` that says what, also with status 0: `ripngd: lost sends N, lost
+/// A run that is debugged writes what it refuses to `err`, and counts. One that lost something has a last line on `err` that says what, also with status 0: `ripngd: lost sends N, lost
 /// steps M`, with `, log failed` behind it where a write of the log failed.
 ///
 /// What was written to `out` is flushed before a status of 0 or 1 is answered. A failure of `err` changes no status.
-pub fn program<R: AllocGlobal + Files + Clock + Net, O: Write, E: Write>(
+pub fn program<R: AllocGlobal + Files + Clock + Net + RandomSource, O: Write, E: Write>(
     rt: &R,
     words: &[&str],
     out: &mut O,
@@ -68,7 +72,7 @@ pub fn program<R: AllocGlobal + Files + Clock + Net, O: Write, E: Write>(
 }
 
 /// Does what the words ask for.
-fn outcome<'a, R: AllocGlobal + Files + Clock + Net, O: Write, E: Write>(
+fn outcome<'a, R: AllocGlobal + Files + Clock + Net + RandomSource, O: Write, E: Write>(
     rt: &R,
     words: &'a [&'a str],
     out: &mut O,
@@ -83,16 +87,17 @@ fn outcome<'a, R: AllocGlobal + Files + Clock + Net, O: Write, E: Write>(
     ensures usage { result ≡ Ok Status.Usage → HasFault (map (λ w. w.now) words.now) }
 {
     match ask(rt.alloc(), words) {
-        Ok(asked) => answer(rt, asked, out, lost),
+        Ok(asked) => answer(rt, asked, out, err, lost),
         Err(error) => explain(&error, out, err),
     }
 }
 
 /// Does what is asked, and answers whether what was given is accepted.
-fn accepts<'a, R: AllocGlobal + Files + Clock + Net, O: Write>(
+fn accepts<'a, R: AllocGlobal + Files + Clock + Net + RandomSource, O: Write, E: Write>(
     rt: &R,
     asked: Ask<'a>,
     out: &mut O,
+    err: &mut E,
     lost: &mut Report,
 ) -> Result<bool, Failure<'a>>
     ensures { IfOk result (λ accepted. AnswersAsk asked.entry accepted (O.contents out.old) (O.contents out.new)) }
@@ -102,22 +107,26 @@ fn accepts<'a, R: AllocGlobal + Files + Clock + Net, O: Write>(
         Ask::Check(file) => Ok(check(rt.alloc(), read(rt, file)?.as_slice(), out)?),
         Ask::Lab(file) => Ok(lab(rt.alloc(), read(rt, file)?.as_slice(), out)?),
         Ask::Trace(file) => Ok(trace(rt.alloc(), read(rt, file)?.as_slice(), out)?),
-        Ask::Run(order) => run(rt, order, out, lost),
+        Ask::Run(order) => run(rt, order, out, err, lost),
+        Ask::Table(file) => Ok(table(rt.alloc(), read(rt, file)?.as_slice(), out)?),
+        Ask::Page(order) => serve(rt, order, out),
+        Ask::Film(file) => Ok(film(rt.alloc(), file, read(rt, file)?.as_slice(), out)?),
     }
 }
 
 /// Does what is asked.
-fn answer<'a, R: AllocGlobal + Files + Clock + Net, O: Write>(
+fn answer<'a, R: AllocGlobal + Files + Clock + Net + RandomSource, O: Write, E: Write>(
     rt: &R,
     asked: Ask<'a>,
     out: &mut O,
+    err: &mut E,
     lost: &mut Report,
 ) -> Result<Status, Failure<'a>>
     ensures done { result ≡ Ok Status.Done → AnswersAsk asked.entry true (O.contents out.old) (O.contents out.new) }
     ensures refused { result ≡ Ok Status.Refused → AnswersAsk asked.entry false (O.contents out.old) (O.contents out.new) }
     ensures no_usage { result ≢ Ok Status.Usage }
 {
-    let accepted = accepts(rt, asked, out, lost)?;
+    let accepted = accepts(rt, asked, out, err, lost)?;
     if out.flush().is_err() {
         return Err(Failure::Output);
     }

@@ -1,14 +1,11 @@
-//! What `show` prints and what the program answers: for datagrams of another router, for each kind of command line,
-//! and where a writer fails.
+//! What the program answers: to each kind of command line, and where a writer fails.
 
-mod captured;
 mod failures;
 mod running;
+mod tables;
 
-use crate::{Ask, PrintFault, VERSION, ask, program, show};
-use captured::CAPTURED;
+use crate::{Ask, VERSION, ask, program};
 use clap::error::ErrorKind;
-use std::alloc::{AllocError, Global};
 use std::io::{self, Write};
 use std::test::Fail;
 
@@ -61,7 +58,7 @@ const SHOWN: [(&str, u8, &str); 18] = [
 ];
 
 /// Command lines that ask for nothing that there is.
-const FAULTS: [&[&str]; 13] = [
+const FAULTS: [&[&str]; 18] = [
     &[],
     &["ripngd"],
     &["ripngd", "show"],
@@ -74,6 +71,11 @@ const FAULTS: [&[&str]; 13] = [
     &["ripngd", "run", "--turns", "4294967296", "file"],
     &["ripngd", "run", "-t", "65536", "file"],
     &["ripngd", "run", "-t", "0x10", "file"],
+    &["ripngd", "table"],
+    &["ripngd", "table", "log", "other"],
+    &["ripngd", "page", "file"],
+    &["ripngd", "page", "--port", "65536"],
+    &["ripngd", "page", "--requests", "0"],
     &["ripngd", "02"],
 ];
 
@@ -96,16 +98,6 @@ fn shows_and_answers_the_status(rt: HostRuntime) {
         assert!(rt; out.as_slice() == lines.as_bytes(), "at {hex}");
         assert!(rt; err.is_empty(), "at {hex}");
     }
-}
-
-#[test]
-fn shows_what_another_router_sent(rt: HostRuntime) -> Result<(), Fail> {
-    for (hex, lines) in CAPTURED {
-        let mut out = Vec::new(rt.alloc());
-        assert!(rt; show(rt.alloc(), hex, &mut out)?, "at {hex}");
-        assert!(rt; out.as_slice() == lines.as_bytes(), "at {hex}");
-    }
-    Ok(())
 }
 
 #[test]
@@ -164,39 +156,6 @@ fn words_are_asked(rt: HostRuntime) {
     }
 }
 
-/// A Response whose entries are all the route `2001:db8::/32`, tag 0, metric 1.
-fn response(alloc: Global, entries: usize) -> Result<String, AllocError> {
-    let mut hex = String::new(alloc);
-    hex.push_str("02010000")?;
-    for _ in 0..entries {
-        hex.push_str("20010db800000000000000000000000000002001")?;
-    }
-    Ok(hex)
-}
-
-#[test]
-fn shows_the_longest_datagram(rt: HostRuntime) -> Result<(), Fail> {
-    let longest = response(rt.alloc(), 3276)?;
-    let mut out = Vec::new(rt.alloc());
-    assert!(rt; show(rt.alloc(), longest.as_str(), &mut out)?);
-    let mut lines = Vec::new(rt.alloc());
-    writeln!(&mut lines, "response entries 3276")?;
-    for number in 0..3276 {
-        writeln!(&mut lines, "{number} 2001:db8::/32 tag 0 metric 1")?;
-    }
-    assert!(rt; out.as_slice() == lines.as_slice());
-    Ok(())
-}
-
-#[test]
-fn refuses_a_longer_datagram(rt: HostRuntime) -> Result<(), Fail> {
-    let longer = response(rt.alloc(), 3277)?;
-    let mut out = Vec::new(rt.alloc());
-    assert!(rt; !show(rt.alloc(), longer.as_str(), &mut out)?);
-    assert!(rt; out.as_slice() == b"refused 2 TooLong\n".as_slice());
-    Ok(())
-}
-
 /// A writer that takes some writes and flushes, and then fails at each.
 #[derive(Drop)]
 struct Failing {
@@ -226,24 +185,6 @@ impl Write for Failing {
 
 /// More writes than a text of two lines takes.
 const MANY: usize = 100;
-
-#[test]
-fn a_failed_write_ends_show(rt: HostRuntime) {
-    for hex in [ONE_ROUTE, "02", "0x"] {
-        let mut out = Failing { left: MANY };
-        assert!(rt; show(rt.alloc(), hex, &mut out).is_ok(), "at {hex}");
-        let writes = MANY.saturating_sub(out.left);
-        assert!(rt; writes > 0, "at {hex}");
-        for left in 0..writes {
-            let mut out = Failing { left };
-            assert_eq!(rt;
-                show(rt.alloc(), hex, &mut out),
-                Err(PrintFault::Write),
-                "after {left} writes"
-            );
-        }
-    }
-}
 
 #[test]
 fn a_failed_write_or_flush_of_standard_output_is_status_3(rt: HostRuntime) {

@@ -19,7 +19,7 @@ fn site(addr: u128) -> Result<Prefix, PrefixError> {
     Prefix::new(Addr6::from_bits(addr), 48)
 }
 
-// The changes that install an entry for each site.
+/// The changes that install an entry for each site.
 fn installs(alloc: Global, sites: &[u128]) -> Result<Vec<RouteChange>, AllocError> {
     let mut changes = Vec::with_capacity(alloc, sites.len())?;
     for addr in sites {

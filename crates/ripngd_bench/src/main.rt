@@ -24,7 +24,7 @@ const FEW: usize = 200;
 /// How often each measurement is made; the least number counts.
 const PASSES: u32 = 5;
 
-// Measures a table of that size, once.
+/// Measures a table of that size, once.
 fn measure<S: RouteStore>(rt: &HostRuntime, routes: usize) -> io::Result<Column> {
     let told = Neighborhood::new(rt.alloc(), routes)?;
     let router = measure_router::<S>(rt, &told)?;
@@ -32,7 +32,7 @@ fn measure<S: RouteStore>(rt: &HostRuntime, routes: usize) -> io::Result<Column>
     Ok(column_of(&router, &forwarding))
 }
 
-// The least numbers of some passes.
+/// The least numbers of some passes.
 fn least<S: RouteStore>(rt: &HostRuntime, routes: usize) -> io::Result<Column> {
     let mut least = measure::<S>(rt, routes)?;
     for _ in 1..PASSES {
@@ -44,7 +44,7 @@ fn least<S: RouteStore>(rt: &HostRuntime, routes: usize) -> io::Result<Column> {
     Ok(least)
 }
 
-// Measures a store at each size, and prints a table of what it took.
+/// Measures a store at each size, and prints a table of what it took.
 fn bench<S: RouteStore>(rt: &HostRuntime, store: &str, sizes: &[usize]) -> io::Result<()> {
     let mut columns = Vec::new(rt.alloc());
     for routes in sizes {
@@ -53,7 +53,7 @@ fn bench<S: RouteStore>(rt: &HostRuntime, store: &str, sizes: &[usize]) -> io::R
     print_table(rt, store, sizes, &columns)
 }
 
-// The numbers of routes that the words name.
+/// The numbers of routes that the words name.
 fn sizes_in(alloc: Global, words: &[String]) -> io::Result<Vec<usize>> {
     let mut sizes = Vec::new(alloc);
     for word in words {
@@ -64,7 +64,7 @@ fn sizes_in(alloc: Global, words: &[String]) -> io::Result<Vec<usize>> {
     Ok(sizes)
 }
 
-// Prints the memory of so many routes and forwarding entries.
+/// Prints the memory of so many routes and forwarding entries.
 fn print_memory(rt: &HostRuntime, routes: usize) -> io::Result<()> {
     let told = Neighborhood::new(rt.alloc(), routes)?;
     let route = measure_memory::<TrieRoutes>(rt, &told)?;

@@ -35,13 +35,13 @@ fn moment(ms: u32) -> Result<Moment, AllocError> {
     Moment::new(u64::from(ms)).ok_or(AllocError)
 }
 
-// A quiet router sends nothing, and so shows what a tick takes beside telling.
+/// A quiet router sends nothing, and so shows what a tick takes beside telling.
 fn fresh<S: RouteStore>(alloc: Global, is_quiet: bool) -> Result<Router<S>, AllocError> {
     let (router, _) = Router::start(alloc, config(alloc, is_quiet)?, moment(0)?)?;
     Ok(router)
 }
 
-// The nanoseconds that Responses of a neighbor on interface 0 take.
+/// The nanoseconds that Responses of a neighbor on interface 0 take.
 fn heard<S: RouteStore>(
     rt: &HostRuntime,
     router: &mut Router<S>,
@@ -67,7 +67,7 @@ fn heard<S: RouteStore>(
     Ok(start.elapsed(rt)?.as_nanos())
 }
 
-// The nanoseconds of a tick.
+/// The nanoseconds of a tick.
 fn ticked<S: RouteStore>(rt: &HostRuntime, router: &mut Router<S>, ms: u32) -> io::Result<u128> {
     let now = moment(ms)?;
     let start = Instant::now(rt)?;
@@ -75,7 +75,7 @@ fn ticked<S: RouteStore>(rt: &HostRuntime, router: &mut Router<S>, ms: u32) -> i
     Ok(start.elapsed(rt)?.as_nanos())
 }
 
-// The nanoseconds of a thousand ticks one after the other.
+/// The nanoseconds of a thousand ticks one after the other.
 fn idled<S: RouteStore>(rt: &HostRuntime, router: &mut Router<S>, ms: u32) -> io::Result<u128> {
     let now = moment(ms)?;
     let start = Instant::now(rt)?;
@@ -85,7 +85,7 @@ fn idled<S: RouteStore>(rt: &HostRuntime, router: &mut Router<S>, ms: u32) -> io
     Ok(start.elapsed(rt)?.as_nanos())
 }
 
-// The nanoseconds of a tick that loses all routes, which were told at 0 to a router that sends nothing.
+/// The nanoseconds of a tick that loses all routes, which were told at 0 to a router that sends nothing.
 fn lost<S: RouteStore>(rt: &HostRuntime, told: &Neighborhood) -> io::Result<u128> {
     let mut router: Router<S> = fresh(rt.alloc(), true)?;
     let _ = heard(rt, &mut router, 2, moment(0)?, &told.in_order)?;

@@ -48,7 +48,7 @@ impl Neighborhood {
     }
 }
 
-// Addresses of random prefixes of 48 bits in 2000::/3.
+/// Addresses of random prefixes of 48 bits in 2000::/3.
 fn random_sites(alloc: Global, random: &mut Pcg32, count: usize) -> Result<Vec<u128>, AllocError> {
     let mut sites = Vec::with_capacity(alloc, count)?;
     for _ in 0..count {
@@ -59,7 +59,7 @@ fn random_sites(alloc: Global, random: &mut Pcg32, count: usize) -> Result<Vec<u
     Ok(sites)
 }
 
-// The Responses that tell routes of one metric, each as full as a link of 1,500 bytes lets it be.
+/// The Responses that tell routes of one metric, each as full as a link of 1,500 bytes lets it be.
 fn responses(alloc: Global, sites: &[u128], metric: u8) -> Result<Vec<Vec<u8>>, AllocError> {
     let mut datagrams = Vec::new(alloc);
     for piece in sites.chunks(ROOM) {

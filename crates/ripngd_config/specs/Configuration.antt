@@ -18,6 +18,7 @@ use Rattle.ripngd_config.specs.declared.fault.ConfigFault.TheVariants.{BadToml, 
 use Rattle.ripngd_config.specs.declared.tables.Document.{Document}
 use Rattle.ripngd_config.specs.declared.tables.PrefixTable.{PrefixTable}
 
+-- the interfaces of a document, without their peers
 abbrev pub interfaces_of : Document → List Interface
 interfaces_of d = map (λ t. t.interface) d.interfaces.items
 
@@ -25,9 +26,11 @@ interfaces_of d = map (λ t. t.interface) d.interfaces.items
 abbrev pub owned_of : ℕ → PrefixTable → Prefix6 × ℕ
 owned_of tag t = (t.prefix, unwrap_or t.tag tag)
 
+-- its owned prefixes, with a default tag
 abbrev pub owned_by : ℕ → Document → List (Prefix6 × ℕ)
 owned_by tag d = map (owned_of tag) d.prefixes.items
 
+-- the local ports of its interfaces
 abbrev pub ports_of : Document → List ℕ
 ports_of d = map (λ t. t.local_port) d.interfaces.items
 

@@ -5,6 +5,7 @@ use Rattle.ripngd_config.specs.declared.fault.PathFault.TheVariants as at
 use Rattle.ripngd_config.specs.declared.fault.ConfigFault.{ConfigFault}
 use Rattle.ripngd_config.specs.declared.fault.ConfigFault.TheVariants.{BadToml, MissingKey, WrongType, BadValue, UnknownKey, Router, PortTwice, PeerTwice, OutOfMemory}
 
+-- the number of a refusal
 abbrev pub number_of : ConfigFault → ℕ
 number_of BadToml = 1
 number_of (MissingKey path) = 2

@@ -21,6 +21,7 @@ mutual
     no_keys : Keys
     key : List ℕ → Bool → Kind → Keys → Keys
 
+-- the keys of a peer
 abbrev pub peer_keys : Keys
 peer_keys = key (codes "address") true address
     (key (codes "local_port") true (number 1 65535)
@@ -28,6 +29,7 @@ peer_keys = key (codes "address") true address
     (key (codes "hop_limit") false (number 0 255)
     (key (codes "group") false truth no_keys))))
 
+-- the keys of an interface
 abbrev pub interface_keys : Keys
 interface_keys = key (codes "address") true address
     (key (codes "cost") true (number 0 255)
@@ -35,10 +37,12 @@ interface_keys = key (codes "address") true address
     (key (codes "local_port") true (number 1 65535)
     (key (codes "peer") false (sections peer_keys) no_keys))))
 
+-- the keys of an owned prefix
 abbrev pub prefix_keys : Keys
 prefix_keys = key (codes "prefix") true prefix
     (key (codes "tag") false (number 0 65535) no_keys)
 
+-- the keys of the whole
 abbrev pub document_keys : Keys
 document_keys = key (codes "seed") false (number 0 9223372036854775807)
     (key (codes "interface") false (sections interface_keys)
@@ -46,10 +50,12 @@ document_keys = key (codes "seed") false (number 0 9223372036854775807)
 
 -- ---- which keys a table has
 
+-- the names of keys
 abbrev pub names_of : Keys → List (List ℕ)
 names_of no_keys = []
 names_of (key name required kind rest) = name ∷ names_of rest
 
+-- the name is among them
 abbrev pub is_listed : List (List ℕ) → List ℕ → Bool
 is_listed names name = list_any (λ known. bytes_eq known name) names
 
@@ -58,6 +64,7 @@ abbrev pub HasOnlyOf : List (List ℕ) → Members → Type 0
 HasOnlyOf names no_members = ⊤
 HasOnlyOf names (member name d ms) = (is_listed names name ≡ true) × HasOnlyOf names ms
 
+-- no key but these
 abbrev pub HasOnly : Keys → Members → Type 0
 HasOnly keys ms = HasOnlyOf (names_of keys) ms
 
@@ -66,6 +73,7 @@ abbrev pub HasOtherOf : List (List ℕ) → Members → Type 0
 HasOtherOf names no_members = ⊥
 HasOtherOf names (member name d ms) = (is_listed names name ≡ false) ⊎ HasOtherOf names ms
 
+-- some key that is not among these
 abbrev pub HasOther : Keys → Members → Type 0
 HasOther keys ms = HasOtherOf (names_of keys) ms
 
@@ -76,6 +84,7 @@ abbrev pub IsOutside : ℕ → ℕ → ℤ → Type 0
 IsOutside low high (pos n) = (n < low) ⊎ (high < n)
 IsOutside low high (negsuc n) = ⊤
 
+-- what may be wrong with a number from low to high
 abbrev pub NumberFault : PathFault → ℕ → ℕ → Data → Type 0
 NumberFault WrongType low high d = as_integer d ≡ None
 NumberFault BadValue low high d = IsSomeAnd (as_integer d) (IsOutside low high)
@@ -93,6 +102,7 @@ PrefixFault WrongType d = as_str d ≡ None
 PrefixFault BadValue d = IsSomeAnd (as_str d) (λ text. (p : Prefix6) → ¬ (ReadsPrefix text p))
 PrefixFault _ d = ⊥
 
+-- what may be wrong with a truth value
 abbrev pub TruthFault : PathFault → Data → Type 0
 TruthFault WrongType d = as_bool d ≡ None
 TruthFault _ d = ⊥
@@ -112,6 +122,7 @@ abbrev pub ArrayFault : (PathFault → Members → Type 0) → PathFault → Dat
 ArrayFault Faulty f (array items) = ItemsFault Faulty f items
 ArrayFault Faulty f _ = f ≡ WrongType
 
+-- what is wrong where a key is absent
 abbrev pub AbsentFault : PathFault → Bool → Type 0
 AbsentFault f required = (f ≡ MissingKey) × (required ≡ true)
 

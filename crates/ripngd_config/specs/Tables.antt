@@ -8,6 +8,7 @@ use Rattle.ripngd_config.specs.declared.tables.Document.{Document}
 use Rattle.ripngd_config.specs.declared.tables.InterfaceTable.{InterfaceTable}
 use Rattle.ripngd_config.specs.declared.tables.PrefixTable.{PrefixTable}
 
+-- the table is read as this peer
 pub record IsPeer (ms : Members) (p : Peer) : Type 0 where
   pub addr : IsAt IsAddress (codes "address") None ms p.addr
   pub local_port : IsAt (IsNumber 1 65535) (codes "local_port") None ms p.local_port
@@ -16,6 +17,7 @@ pub record IsPeer (ms : Members) (p : Peer) : Type 0 where
   pub to_group : IsAt IsTruth (codes "group") (Some true) ms p.to_group
   pub only : HasOnly peer_keys ms
 
+-- the table is read as this interface
 pub record IsInterfaceTable (ms : Members) (t : InterfaceTable) : Type 0 where
   pub addr : IsAt IsAddress (codes "address") None ms t.interface.addr
   pub cost : IsAt (IsNumber 0 255) (codes "cost") None ms t.interface.cost
@@ -24,11 +26,13 @@ pub record IsInterfaceTable (ms : Members) (t : InterfaceTable) : Type 0 where
   pub peers : IsAt (AreSections IsPeer) (codes "peer") (Some []) ms t.peers.items
   pub only : HasOnly interface_keys ms
 
+-- the table is read as this owned prefix
 pub record IsPrefixTable (ms : Members) (t : PrefixTable) : Type 0 where
   pub prefix : IsAt IsPrefixValue (codes "prefix") None ms t.prefix
   pub tag : IsAt (IsSomeNumber 0 65535) (codes "tag") (Some None) ms t.tag
   pub only : HasOnly prefix_keys ms
 
+-- the whole is read as this document
 pub record IsDocument (ms : Members) (d : Document) : Type 0 where
   pub seed : IsAt (IsNumber 0 9223372036854775807) (codes "seed") (Some 0) ms d.seed
   pub interfaces : IsAt (AreSections IsInterfaceTable) (codes "interface") (Some []) ms d.interfaces.items

@@ -4,6 +4,7 @@ use Rattle.std.specs.List.{AllPairs, list_any}
 use Rattle.ripngd_config.specs.declared.peer.Peer.{Peer}
 use Rattle.ripngd_config.specs.declared.tables.InterfaceTable.{InterfaceTable}
 
+-- no two ports are one
 abbrev pub ArePortsDistinct : List ℕ → Type 0
 ArePortsDistinct = AllPairs (λ p q. p ≢ q)
 
@@ -12,6 +13,7 @@ pub record AreApart (p q : Peer) : Type 0 where
   pub addr : p.addr ≢ q.addr
   pub local_port : p.local_port ≢ q.local_port
 
+-- any two peers are apart
 abbrev pub ArePeersDistinct : List Peer → Type 0
 ArePeersDistinct = AllPairs AreApart
 

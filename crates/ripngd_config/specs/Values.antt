@@ -12,12 +12,15 @@ IsNumber low high d n = (d ≡ integer (pos n)) × (low ≤ n) × (n ≤ high)
 abbrev pub IsSomeNumber : ℕ → ℕ → Data → Option ℕ → Type 0
 IsSomeNumber low high d o = IsSomeAnd o (IsNumber low high d)
 
+-- a text that is read as the address
 abbrev pub IsAddress : Data → ℕ → Type 0
 IsAddress d a = (text : List ℕ) × (d ≡ string text) × Reads text a
 
+-- a text that is read as the prefix
 abbrev pub IsPrefixValue : Data → Prefix6 → Type 0
 IsPrefixValue d p = (text : List ℕ) × (d ≡ string text) × ReadsPrefix text p
 
+-- a truth value
 abbrev pub IsTruth : Data → Bool → Type 0
 IsTruth d b = d ≡ boolean b
 

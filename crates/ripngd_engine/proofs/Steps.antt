@@ -1,6 +1,6 @@
 -- The steps of an engine: what was carried out is a step of the run, and steps make turns.
 use Rattle.std.proofs.Common.{◌≡◌, ℕ, ◌+◌, List, [], ◌∷◌, ◌++◌, refl, sym, ap, ◌∙◌, arith, Bool, true, false, subst, inl, inr, append_assoc, append-nil, length-append}
-use Rattle.std.specs.Prelude.{Option, None, Some}
+use Rattle.std.specs.Prelude.{◌<◌, ◌≤◌, Option, None, Some, Ok, Err}
 use Rattle.std.specs.FinMap as map_of
 use Rattle.std.specs.Io.KnownBytes.{Appends}
 use Rattle.std.proofs.KnownBytes.{Appends-nil, Appends-trans}
@@ -14,13 +14,15 @@ use Rattle.router_core.specs.Machine.{State, Happening, Arrives, Ticks, Moves, S
 use Rattle.router_core.specs.declared.answer.Answer.{Answer}
 use Rattle.ripngd_engine.specs.declared.link.Received.{Received}
 use Rattle.ripngd_engine.specs.Telling.{Gains}
+use Rattle.ripngd_engine.specs.Watch.{Told, WasTold}
 use Rattle.ripngd_engine.specs.Log.{change_text, log_of}
 use Rattle.ripngd_engine.specs.Link.{Call, Gave, Silent, RecvFailed, Handed, Datagram, failed_sends, gave_call}
-use Rattle.ripngd_engine.specs.Run.{Machine, Trace, Step, Carries, FollowsUnless, Takes, TakesIn, TicksOnce, TicksUnless, Turn, Turns, arrival, handed, one_call, one_moment, nothing, joined, all_joined, counted}
+use Rattle.ripngd_engine.specs.Run.{Machine, Trace, Sends, Step, Carries, FollowsUnless, Takes, TakesIn, TicksOnce, TicksUnless, Turn, Turns, arrival, handed, heard, sent, one_call, one_moment, nothing, joined, all_joined, counted}
 use Rattle.ripngd_engine.specs.Outlet.{OutletSeen, CarriesOut}
-use Rattle.ripngd_engine.specs.Seen.{Seen, Outside, Shows, Acts, Started, Listens, Ran, fresh}
-use Rattle.ripngd_engine.specs.Running.{TakesReceived}
-use Rattle.ripngd_engine.proofs.Tells.{Gains-nil, Gains-trans, failed_sends-append}
+use Rattle.ripngd_engine.specs.Seen.{Seen, Outside, Shows, Acts, Started, Listens, Ran, TurnsWatched, fresh}
+use Rattle.ripngd_engine.specs.declared.report.EngineFault.TheVariants.{LinkFault, OutOfMemory}
+use Rattle.ripngd_engine.specs.Running.{TakesReceived, ActsTold}
+use Rattle.ripngd_engine.proofs.Tells.{Gains-nil, Gains-trans, WasTold-append, failed_sends-append}
 
 -- ---- what the outside gained
 pub Shows-nothing : (a : Outside) → Shows a nothing a
@@ -69,14 +71,15 @@ around o router lost_memory stream moments =
 abbrev pub WithStream : Stream → Happening → ℕ → Machine → Trace → Machine → Type 0
 WithStream stream happening now m t n = Step (record m { stream = stream }) happening now t n
 
--- what carrying out an answer did
-abbrev pub carried : ℕ → Answer → List Call → Trace
-carried now answer calls = record { calls = calls; moments = now ∷ []; changes = answer.changes }
+-- what carrying out an answer did, where this was told first
+abbrev pub carried : List Told → ℕ → Answer → Sends → Trace
+carried first now answer sends =
+    record { calls = handed sends; moments = now ∷ []; changes = answer.changes; told = first ++ sent sends }
 
-module _ (o p : OutletSeen) (answer : Answer) (out : CarriesOut o answer p) where
-  pub Shows-carried : (lost new_lost : ℕ) (router new_router : State) (stream new_stream : Stream) (before after : Option (List ℕ)) (now : ℕ) → Gains before after (now ∷ [])
-      → Shows (around o router lost stream before).outside (carried now answer (handed out.hands.sends)) (around p new_router new_lost new_stream after).outside
-  Shows-carried lost new_lost router new_router stream new_stream before after now told = record {
+module _ {V : Type 0} (takes : V → Told → V → Type 0) (v w : V) (o p : OutletSeen) (answer : Answer) (out : CarriesOut takes v w o answer p) where
+  pub Shows-carried : (first : List Told) (lost new_lost : ℕ) (router new_router : State) (stream new_stream : Stream) (before after : Option (List ℕ)) (now : ℕ) → Gains before after (now ∷ [])
+      → Shows (around o router lost stream before).outside (carried first now answer out.hands.sends) (around p new_router new_lost new_stream after).outside
+  Shows-carried first lost new_lost router new_router stream new_stream before after now told = record {
     calls = out.hands.calls;
     moments = told;
     lost_sends = out.hands.count;
@@ -84,8 +87,8 @@ module _ (o p : OutletSeen) (answer : Answer) (out : CarriesOut o answer p) wher
     log_gains = out.log_gains;
   }
 
-  pub Carries-out : (now : ℕ) (n : Machine) → n.ended ≡ p.ended → n.fib ≡ p.fib → Carries now answer o.fib (carried now answer (handed out.hands.sends)) n
-  Carries-out now n ended fib = record {
+  pub Carries-out : (first : List Told) (now : ℕ) (n : Machine) → n.ended ≡ p.ended → n.fib ≡ p.fib → Carries first now answer o.fib (carried first now answer out.hands.sends) n
+  Carries-out first now n ended fib = record {
     sends = out.hands.sends;
     all_sends = out.hands.all_sends;
     trace = refl;
@@ -98,36 +101,43 @@ module _ (o p : OutletSeen) (answer : Answer) (out : CarriesOut o answer p) wher
       let followed : FollowsUnless false o.fib answer.changes p.fib = subst (λ e. FollowsUnless e o.fib answer.changes p.fib) on out.fib in
       replays_to_one old p.fib new answer.changes (subst (λ f. Replays f answer.changes p.fib) same followed) replays
 
-module _ (o : OutletSeen) (router : State) (lost : ℕ) (stream new_stream : Stream) (before after : Option (List ℕ)) (now : ℕ) (happening : Happening) (told : Gains before after (now ∷ [])) where
-  pub Acts-moved : (p : OutletSeen) (answer : Answer) (new_router : State) → Moves router happening answer new_router → CarriesOut o answer p
-      → Acts (WithStream new_stream happening now) (around o router lost stream before) (around p new_router lost new_stream after)
-  Acts-moved p answer new_router moves out = record {
-    trace = carried now answer (handed out.hands.sends);
-    does = inl (record {
-      answer = answer;
-      moves = moves;
-      carries = Carries-out o p answer out now _ refl refl;
-      lost_memory = refl;
-      stream = refl;
-    });
-    shows = Shows-carried o p answer out lost lost router new_router stream new_stream before after now told;
+module _ {V : Type 0} (takes : V → Told → V → Type 0) (o : OutletSeen) (router : State) (lost : ℕ) (stream new_stream : Stream) (before after : Option (List ℕ)) (now : ℕ) (happening : Happening) (told : Gains before after (now ∷ [])) where
+  pub Acts-moved : (u v w : V) (p : OutletSeen) (answer : Answer) (new_router : State) → Moves router happening answer new_router
+      → WasTold takes u (heard happening answer) v → CarriesOut takes v w o answer p
+      → ActsTold takes u w (WithStream new_stream happening now) (around o router lost stream before) (around p new_router lost new_stream after)
+  Acts-moved u v w p answer new_router moves hears out = record {
+    acts = record {
+      trace = carried (heard happening answer) now answer out.hands.sends;
+      does = inl (record {
+        answer = answer;
+        moves = moves;
+        carries = Carries-out takes v w o p answer out (heard happening answer) now _ refl refl;
+        lost_memory = refl;
+        stream = refl;
+      });
+      shows = Shows-carried takes v w o p answer out (heard happening answer) lost lost router new_router stream new_stream before after now told;
+    };
+    told = WasTold-append takes u (heard happening answer) v (sent out.hands.sends) w hears out.hands.told;
   }
 
-  pub Acts-lost : (new_router : State) (new_lost : ℕ) → new_router ≡ router → new_lost ≡ counted lost 1
-      → Acts (WithStream new_stream happening now) (around o router lost stream before) (around o new_router new_lost new_stream after)
-  Acts-lost new_router new_lost same more = record {
-    trace = one_moment now;
-    does = inr (record {
-      trace = refl;
-      machine = λ i. record { router = same i; fib = o.fib; ended = o.ended; lost_memory = more i; stream = new_stream };
-    });
-    shows = record {
-      calls = Gains-nil o.calls;
-      moments = told;
-      lost_sends = omega arith;
-      log_ends = λ h. (h, refl);
-      log_gains = λ h. Appends-nil o.text;
+  pub Acts-lost : (v : V) (new_router : State) (new_lost : ℕ) → new_router ≡ router → new_lost ≡ counted lost 1
+      → ActsTold takes v v (WithStream new_stream happening now) (around o router lost stream before) (around o new_router new_lost new_stream after)
+  Acts-lost v new_router new_lost same more = record {
+    acts = record {
+      trace = one_moment now;
+      does = inr (record {
+        trace = refl;
+        machine = λ i. record { router = same i; fib = o.fib; ended = o.ended; lost_memory = more i; stream = new_stream };
+      });
+      shows = record {
+        calls = Gains-nil o.calls;
+        moments = told;
+        lost_sends = omega arith;
+        log_ends = λ h. (h, refl);
+        log_gains = λ h. Appends-nil o.text;
+      };
     };
+    told = refl;
   }
 
 -- an outlet on which nothing was carried out
@@ -135,31 +145,38 @@ abbrev pub unused : Option (List Call) → Option (List ℕ) → OutletSeen
 unused calls text =
     record { calls = calls; text = text; fib = map_of.empty; ended = false; lost_sends = 0; log_failed = false }
 
-pub Started-carried : (config : Config) (stream : Stream) (calls : Option (List Call)) (before after text : Option (List ℕ)) (now : ℕ) (p : OutletSeen) (answer : Answer) (router : State)
-    → Gains before after (now ∷ []) → RouterStarts config now answer router → CarriesOut (unused calls text) answer p → p.ended ≡ false
+pub Started-carried : {V : Type 0} (takes : V → Told → V → Type 0) (v w : V) (config : Config) (stream : Stream) (calls : Option (List Call)) (before after text : Option (List ℕ)) (now : ℕ) (p : OutletSeen) (answer : Answer) (router : State)
+    → Gains before after (now ∷ []) → RouterStarts config now answer router → CarriesOut takes v w (unused calls text) answer p → p.ended ≡ false
     → Started config stream (fresh calls before text) (around p router 0 stream after)
-Started-carried config stream calls before after text now p answer router told starts out on = record {
-  trace = carried now answer (handed out.hands.sends);
+Started-carried takes v w config stream calls before after text now p answer router told starts out on = record {
+  trace = carried [] now answer out.hands.sends;
   comes_up = record {
     now = now;
     answer = answer;
     starts = starts;
-    carries = Carries-out (unused calls text) p answer out now _ refl refl;
+    carries = Carries-out takes v w (unused calls text) p answer out [] now _ refl refl;
     going = on;
     lost_memory = refl;
     stream_is = refl;
   };
-  shows = Shows-carried (unused calls text) p answer out 0 0 router router stream stream before after now told;
+  shows = Shows-carried takes v w (unused calls text) p answer out [] 0 0 router router stream stream before after now told;
 }
 
-pub Acts-ticks : (a b : Seen) (now word : ℕ) (stream : Stream) → (word, stream) ≡ next_u32 a.machine.stream
-    → Acts (WithStream stream (Ticks now word) now) a b → Acts TicksOnce a b
-Acts-ticks a b now word stream drawn acts =
-    record { trace = acts.trace; does = record { now = now; word = word; stream = stream; drawn = drawn; step = acts.does }; shows = acts.shows }
+pub Acts-ticks : {V : Type 0} (takes : V → Told → V → Type 0) (v w : V) (a b : Seen) (now word : ℕ) (stream : Stream) → (word, stream) ≡ next_u32 a.machine.stream
+    → ActsTold takes v w (WithStream stream (Ticks now word) now) a b → ActsTold takes v w TicksOnce a b
+Acts-ticks takes v w a b now word stream drawn it = record {
+  acts = record {
+    trace = it.acts.trace;
+    does = record { now = now; word = word; stream = stream; drawn = drawn; step = it.acts.does };
+    shows = it.acts.shows;
+  };
+  told = it.told;
+}
 
-pub Acts-takes : (a b : Seen) (now : ℕ) (d : Datagram)
-    → Acts (WithStream a.machine.stream (Arrives (arrival now d)) now) a b → Acts (Takes d) a b
-Acts-takes a b now d acts = record { trace = acts.trace; does = (now, acts.does); shows = acts.shows }
+pub Acts-takes : {V : Type 0} (takes : V → Told → V → Type 0) (v w : V) (a b : Seen) (now : ℕ) (d : Datagram)
+    → ActsTold takes v w (WithStream a.machine.stream (Arrives (arrival now d)) now) a b → ActsTold takes v w (Takes d) a b
+Acts-takes takes v w a b now d it =
+    record { acts = record { trace = it.acts.trace; does = (now, it.acts.does); shows = it.acts.shows }; told = it.told }
 
 -- ---- one turn
 -- a call that is a `recv`
@@ -229,6 +246,24 @@ Turn-refused a b c o buffer going listens takes on = record {
       (Shows-trans b.outside c.outside c.outside _ _ takes.shows (Shows-nothing c.outside));
 }
 
+-- the same, with what a watcher is told
+module _ {V : Type 0} (hears : V → Told → V → Type 0) where
+  pub Turn-whole-told : (u v w : V) (a b c d : Seen) (o : Option Received) (buffer : List ℕ) → a.machine.ended ≡ false → Listens (gave_call o buffer) a b
+      → ActsTold hears u v (TakesReceived o buffer) b c → c.machine.ended ≡ false → ActsTold hears v w TicksOnce c d → ActsTold hears u w Turn a d
+  unfolding Turn-whole
+  Turn-whole-told u v w a b c d o buffer going listens takes on ticks = record {
+    acts = Turn-whole a b c d o buffer going listens takes.acts on ticks.acts;
+    told = WasTold-append hears u takes.acts.trace.told v ticks.acts.trace.told w takes.told ticks.told;
+  }
+
+  pub Turn-refused-told : (u v : V) (a b c : Seen) (o : Option Received) (buffer : List ℕ) → a.machine.ended ≡ false → Listens (gave_call o buffer) a b
+      → ActsTold hears u v (TakesReceived o buffer) b c → c.machine.ended ≡ true → ActsTold hears u v Turn a c
+  unfolding Turn-refused
+  Turn-refused-told u v a b c o buffer going listens takes on = record {
+    acts = Turn-refused a b c o buffer going listens takes.acts on;
+    told = WasTold-append hears u takes.acts.trace.told v [] v takes.told refl;
+  }
+
 -- ---- turns
 pub Turns-more : (m : Machine) (ts : List Trace) (k : Machine) (t : Trace) (n : Machine) → Turns m ts k → Turn k t n → Turns m (ts ++ t ∷ []) n
 Turns-more m [] k t n p q = (n, subst (λ x. Turn x t n) p q, refl)
@@ -271,3 +306,38 @@ Ran-trans j k a b c first second = record {
   turns = Turns-append a.machine first.traces b.machine second.traces c.machine first.turns second.turns;
   shows = rw (all_joined-append first.traces second.traces) (Shows-trans a.outside b.outside c.outside _ _ first.shows second.shows);
 }
+
+-- ---- what a watcher is told of turns
+module _ {V : Type 0} (takes : V → Told → V → Type 0) where
+  -- so many turns were made, and a watcher was told of just them
+  pub record RanTold (v w : V) (count : ℕ) (a b : Seen) : Type 0 where
+    pub ran : Ran count a b
+    pub told : WasTold takes v (all_joined ran.traces).told w
+
+  pub RanTold-none : (v : V) (a : Seen) → RanTold v v 0 a a
+  unfolding Ran-none
+  RanTold-none v a = record { ran = Ran-none a; told = refl }
+
+  pub RanTold-more : (u v w : V) (k : ℕ) (a b c : Seen) → RanTold u v k a b → ActsTold takes v w Turn b c → RanTold u w (k + 1) a c
+  unfolding Ran-more
+  RanTold-more u v w k a b c ran turn = record {
+    ran = Ran-more k a b c ran.ran turn.acts;
+    told = subst (λ t. WasTold takes u t.told w) (sym (all_joined-more ran.ran.traces turn.acts.trace))
+        (WasTold-append takes u (all_joined ran.ran.traces).told v turn.acts.trace.told w ran.told turn.told);
+  }
+
+  -- what a call for turns then answers
+  pub TurnsWatched-all : (v w : V) (k n : ℕ) (a b : Seen) → k ≡ n → b.machine.ended ≡ false → RanTold v w k a b → TurnsWatched takes v w n a (Ok tt) b
+  TurnsWatched-all v w k n a b all going ran =
+      let it : RanTold v w n a b = subst (λ x. RanTold v w x a b) all ran in
+      record { answer = (going, it.ran); told = it.told }
+
+  pub TurnsWatched-deaf : (v w : V) (done n : ℕ) (a m b : Seen) → b.machine.ended ≡ false → done < n → RanTold v w done a m → Listens RecvFailed m b
+      → TurnsWatched takes v w n a (Err (LinkFault done)) b
+  TurnsWatched-deaf v w done n a m b going before ran deaf =
+      record { answer = (going, before, record { middle = m; ran = ran.ran; deaf = deaf }); told = ran.told }
+
+  pub TurnsWatched-refused : (v w : V) (count n : ℕ) (a b : Seen) → b.machine.ended ≡ true → count ≤ n → RanTold v w count a b
+      → TurnsWatched takes v w n a (Err OutOfMemory) b
+  TurnsWatched-refused v w count n a b ended within ran =
+      record { answer = (ended, record { count = count; within = within; ran = ran.ran }); told = ran.told }

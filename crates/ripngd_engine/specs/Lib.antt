@@ -1,5 +1,6 @@
 pub mod Telling
 pub mod Link
+pub mod Watch
 pub mod Log
 pub mod Run
 pub mod Outlet

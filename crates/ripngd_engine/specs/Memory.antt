@@ -20,6 +20,6 @@ call_of kept.RecvFailed = RecvFailed
 call_of (kept.Handed outgoing went) = Handed outgoing went
 
 -- these, as long as there was memory to keep each
-abbrev pub told : {X : Type 0} → Bool → List X → Option (List X)
-told true xs = Some xs
-told false xs = None
+abbrev pub claimed : {X : Type 0} → Bool → List X → Option (List X)
+claimed true xs = Some xs
+claimed false xs = None

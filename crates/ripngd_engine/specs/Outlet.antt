@@ -7,7 +7,8 @@ use Rattle.router_core.specs.declared.answer.Outgoing.{Outgoing}
 use Rattle.ripngd_engine.specs.Telling.{Gains}
 use Rattle.ripngd_engine.specs.Link.{Call, failed_sends}
 use Rattle.ripngd_engine.specs.Log.{log_of}
-use Rattle.ripngd_engine.specs.Run.{Sends, datagrams_of, handed, counted, FollowsUnless}
+use Rattle.ripngd_engine.specs.Run.{Sends, datagrams_of, handed, sent, counted, FollowsUnless}
+use Rattle.ripngd_engine.specs.Watch.{Told, WasTold}
 use Rattle.ripngd_engine.specs.declared.outlet.Outlet.{Outlet}
 
 -- what an outlet holds, and its log
@@ -30,16 +31,18 @@ outlet_seen calls text o log =
       log_failed = o.log_failed;
     }
 
--- datagrams were handed to a link, each once and in order, failed or not, and those that failed were counted
-pub record HandsOver (before after : Option (List Call)) (datagrams : List Outgoing) (lost lost_after : ℕ) : Type 0 where
+-- datagrams were handed to a link, each once and in order, failed or not, those that failed were counted, and a watcher
+-- was told of each
+pub record HandsOver {V : Type 0} (takes : V → Told → V → Type 0) (v w : V) (before after : Option (List Call)) (datagrams : List Outgoing) (lost lost_after : ℕ) : Type 0 where
   pub sends : Sends
   pub all_sends : datagrams_of sends ≡ datagrams
   pub calls : Gains before after (handed sends)
   pub count : lost_after ≡ counted lost (failed_sends (handed sends))
+  pub told : WasTold takes v (sent sends) w
 
 -- an answer's datagrams were handed over, its changes followed, and a line written for each
-pub record CarriesOut (o : OutletSeen) (answer : Answer) (p : OutletSeen) : Type 0 where
-  pub hands : HandsOver o.calls p.calls answer.sends o.lost_sends p.lost_sends
+pub record CarriesOut {V : Type 0} (takes : V → Told → V → Type 0) (v w : V) (o : OutletSeen) (answer : Answer) (p : OutletSeen) : Type 0 where
+  pub hands : HandsOver takes v w o.calls p.calls answer.sends o.lost_sends p.lost_sends
   pub fib : FollowsUnless p.ended o.fib answer.changes p.fib
   pub log_ends : o.log_failed ≡ true → (p.log_failed ≡ true) × (p.text ≡ o.text)
   pub log_gains : p.log_failed ≡ false → Appends o.text p.text (log_of answer.changes)

@@ -5,11 +5,13 @@ use Rattle.rand_core.specs.Stream.{Stream, next_u32}
 use Rattle.fib.specs.Forwarding.{Forwarding, Replays}
 use Rattle.fib.specs.declared.change.RouteChange.{RouteChange}
 use Rattle.router_core.specs.Config.{Config}
-use Rattle.router_core.specs.Machine.{State, Happening, Arrives, Ticks, Moves, Starts}
+use Rattle.router_core.specs.Machine.{State, Happening, Arrives, Ticks, Restarts, Reconfigures, Moves, Starts}
 use Rattle.router_core.specs.Received.{Received}
 use Rattle.router_core.specs.declared.answer.Answer.{Answer}
 use Rattle.router_core.specs.declared.answer.Outgoing.{Outgoing}
 use Rattle.ripngd_engine.specs.Link.{Datagram, Call, Gave, Silent, RecvFailed, Handed}
+use Rattle.ripngd_engine.specs.Watch.{Told, Heard, Sent}
+use Rattle.ripngd_engine.specs.declared.watch.Arrived.{Arrived}
 
 -- what the turns of an engine go on from
 pub record Machine : Type 0 where
@@ -19,24 +21,31 @@ pub record Machine : Type 0 where
   pub lost_memory : ℕ  -- how many steps were refused for memory
   pub stream : Stream  -- the words that the source has left
 
--- what some steps did on the outside: the calls of the link, the moments that the clock gave, and the changes of
--- routes, each in order
+-- what some steps did on the outside: the calls of the link, the moments that the clock gave, the changes of routes, and
+-- what a watcher is told of them, each in order
 pub record Trace : Type 0 where
   pub calls : List Call
   pub moments : List ℕ
   pub changes : List RouteChange
+  pub told : List Told
 
 abbrev pub nothing : Trace
-nothing = record { calls = []; moments = []; changes = [] }
+nothing = record { calls = []; moments = []; changes = []; told = [] }
 
 abbrev pub one_call : Call → Trace
-one_call call = record { calls = call ∷ []; moments = []; changes = [] }
+one_call call = record { calls = call ∷ []; moments = []; changes = []; told = [] }
 
 abbrev pub one_moment : ℕ → Trace
-one_moment now = record { calls = []; moments = now ∷ []; changes = [] }
+one_moment now = record { calls = []; moments = now ∷ []; changes = []; told = [] }
 
 abbrev pub joined : Trace → Trace → Trace
-joined a b = record { calls = a.calls ++ b.calls; moments = a.moments ++ b.moments; changes = a.changes ++ b.changes }
+joined a b =
+    record {
+      calls = a.calls ++ b.calls;
+      moments = a.moments ++ b.moments;
+      changes = a.changes ++ b.changes;
+      told = a.told ++ b.told;
+    }
 
 abbrev pub all_joined : List Trace → Trace
 all_joined [] = nothing
@@ -54,6 +63,21 @@ datagrams_of sends = map (λ s. s.0) sends
 abbrev pub handed : Sends → List Call
 handed sends = map (λ s. Handed s.0 s.1) sends
 
+-- what a watcher is told of them
+abbrev pub sent : Sends → List Told
+sent sends = map (λ s. Sent s.0 s.1) sends
+
+-- what a watcher is told of an arrival beside its answer
+abbrev pub arrived : Received → Arrived
+arrived x = record { moment = x.now; iface = x.iface; source = x.source; source_port = x.source_port }
+
+-- what a watcher is told of an answer before that: an arrival, with its fault and its notes
+abbrev pub heard : Happening → Answer → List Told
+heard (Arrives x) answer = Heard (arrived x) answer.fault answer.notes ∷ []
+heard (Ticks now word) answer = []
+heard (Restarts now) answer = []
+heard (Reconfigures now c) answer = []
+
 -- the count after so many more, which stays at the greatest u64
 abbrev pub counted : ℕ → ℕ → ℕ
 counted n more = max n (min (n + more) (2 ^ 64 - 1))
@@ -62,18 +86,19 @@ counted n more = max n (min (n + more) (2 ^ 64 - 1))
 abbrev pub FollowsUnless : Bool → Forwarding → List RouteChange → Forwarding → Type 0
 FollowsUnless refused old changes new = MatchBool refused (new ≡ old) (Replays old changes new)
 
--- an answer of the router was carried out: its datagrams were handed over, failed or not, and its changes followed
-pub record Carries (now : ℕ) (answer : Answer) (old : Forwarding) (t : Trace) (n : Machine) : Type 0 where
+-- an answer of the router was carried out: its datagrams were handed over, failed or not, and its changes followed. This
+-- was told first
+pub record Carries (first : List Told) (now : ℕ) (answer : Answer) (old : Forwarding) (t : Trace) (n : Machine) : Type 0 where
   pub sends : Sends
   pub all_sends : datagrams_of sends ≡ answer.sends
-  pub trace : t ≡ record { calls = handed sends; moments = now ∷ []; changes = answer.changes }
+  pub trace : t ≡ record { calls = handed sends; moments = now ∷ []; changes = answer.changes; told = first ++ sent sends }
   pub fib : FollowsUnless n.ended old answer.changes n.fib
 
 -- the router moved, and its answer was carried out
 pub record Moved (m : Machine) (happening : Happening) (now : ℕ) (t : Trace) (n : Machine) : Type 0 where
   pub answer : Answer
   pub moves : Moves m.router happening answer n.router
-  pub carries : Carries now answer m.fib t n
+  pub carries : Carries (heard happening answer) now answer m.fib t n
   pub lost_memory : n.lost_memory ≡ m.lost_memory
   pub stream : n.stream ≡ m.stream
 
@@ -90,7 +115,7 @@ pub record ComesUp (config : Config) (stream : Stream) (t : Trace) (n : Machine)
   pub now : ℕ
   pub answer : Answer
   pub starts : Starts config now answer n.router
-  pub carries : Carries now answer map_of.empty t n
+  pub carries : Carries [] now answer map_of.empty t n
   pub going : n.ended ≡ false
   pub lost_memory : n.lost_memory ≡ 0
   pub stream_is : n.stream ≡ stream

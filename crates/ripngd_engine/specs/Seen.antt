@@ -8,6 +8,7 @@ use Rattle.router_core.specs.Machine.{State}
 use Rattle.ripngd_engine.specs.Telling.{Gains}
 use Rattle.ripngd_engine.specs.Link.{Call, RecvFailed, failed_sends}
 use Rattle.ripngd_engine.specs.Log.{log_of}
+use Rattle.ripngd_engine.specs.Watch.{Told, WasTold}
 use Rattle.ripngd_engine.specs.Run.{Machine, Trace, ComesUp, Turns, all_joined, counted}
 use Rattle.ripngd_engine.specs.declared.report.EngineFault.{EngineFault}
 use Rattle.ripngd_engine.specs.declared.report.EngineFault.TheVariants.{LinkFault, OutOfMemory}
@@ -112,3 +113,14 @@ abbrev pub TurnsAnswer : ℕ → Seen → Result (Unit {0}) EngineFault → Seen
 TurnsAnswer n a (Ok u) b = (b.machine.ended ≡ false) × Ran n a b
 TurnsAnswer n a (Err (LinkFault done)) b = (b.machine.ended ≡ false) × (done < n) × RanUntilDeaf done a b
 TurnsAnswer n a (Err OutOfMemory) b = (b.machine.ended ≡ true) × RanUntilRefused n a b
+
+-- what a watcher is told of the turns of such an answer
+abbrev pub told_of : (n : ℕ) (a : Seen) (result : Result (Unit {0}) EngineFault) (b : Seen) → TurnsAnswer n a result b → List Told
+told_of n a (Ok u) b answer = (all_joined answer.1.traces).told
+told_of n a (Err (LinkFault done)) b answer = (all_joined answer.2.ran.traces).told
+told_of n a (Err OutOfMemory) b answer = (all_joined answer.1.ran.traces).told
+
+-- such turns were made, and a watcher was told just what became of their arrivals and sends
+pub record TurnsWatched {V : Type 0} (takes : V → Told → V → Type 0) (v w : V) (n : ℕ) (a : Seen) (result : Result (Unit {0}) EngineFault) (b : Seen) : Type 0 where
+  pub answer : TurnsAnswer n a result b
+  pub told : WasTold takes v (told_of n a result b answer) w

@@ -12,5 +12,5 @@ pub trait TimeSource: Drop {
 
     /// The moment that it is now.
     fn now(&mut self) -> Moment
-        ensures told { Gains (moments self.old) (moments self.new) (result ∷ []) };
+        ensures gained { Gains (moments self.old) (moments self.new) (result ∷ []) };
 }

@@ -8,6 +8,7 @@ use crate::link::Link;
 use crate::outlet::Outlet;
 use crate::report::{EngineFault, Report};
 use crate::running::{Running, TurnFault};
+use crate::watch::{Unwatched, Watch};
 use fib::Fib;
 use rand_core::Rng;
 use route_table::RouteStore;
@@ -57,11 +58,11 @@ impl<S: RouteStore, L: Link, C: TimeSource, R: Rng + Drop> Model for Engine<S, L
 }
 
 impl<S: RouteStore, L: Link, C: TimeSource, R: Rng + Drop> Engine<S, L, C, R> {
-    ghost use Rattle.ripngd_engine.specs.Seen.{seen, fresh, Started, TurnsAnswer};
+    ghost use Rattle.ripngd_engine.specs.Seen.{seen, fresh, Started, TurnsAnswer, TurnsWatched};
 
     /// Starts a router over a link with as many interfaces: what it asks its neighbors is sent, and its routes are
     /// followed and logged. The log gets a line for each change of a route, in several writes; after one that fails it
-    /// gets no more.
+    /// gets no more. No watcher is told of it: there is no arrival yet, and `report` counts the sends that failed.
     ///
     /// # Errors
     /// Only want of memory: before anything is sent or logged, or at the forwarding table, and then all else was done.
@@ -109,7 +110,8 @@ impl<S: RouteStore, L: Link, C: TimeSource, R: Rng + Drop> Engine<S, L, C, R> {
             log_failed: false,
             ended: false,
         };
-        outlet.carry_out(answer, log)?;
+        let mut watch = Unwatched;
+        outlet.carry_out(answer, log, &mut watch)?;
         let running = Running {
             router,
             outlet,
@@ -135,11 +137,34 @@ impl<S: RouteStore, L: Link, C: TimeSource, R: Rng + Drop> Engine<S, L, C, R> {
         ensures ended { self.old.ended ≡ true
             → (result ≡ Err EngineFault.OutOfMemory) × (self.new ≡ self.old) × (log.new ≡ log.old) }
     {
+        let mut watch = Unwatched;
+        self.turns_watched(n, log, &mut watch)
+    }
+
+    /// Makes turns as `turns` does, and tells a watcher, in order, each arrival with what the router answered of it, and
+    /// then each datagram with whether the link took it. An arrival that is lost for want of memory is not told.
+    ///
+    /// # Errors
+    /// As `turns`. The watcher is told of all that was done until then, and of the step whose changes were refused.
+    pub fn turns_watched<W: Write, V: Watch>(
+        &mut self,
+        n: u32,
+        log: &mut W,
+        watch: &mut V,
+    ) -> Result<(), EngineFault>
+        ensures runs { self.old.ended ≡ false → TurnsAnswer n (seen R.stream W.contents self.old log.old) result
+            (seen R.stream W.contents self.new log.new) }
+        ensures told { self.old.ended ≡ false → TurnsWatched V.takes watch.old watch.new n
+            (seen R.stream W.contents self.old log.old) result (seen R.stream W.contents self.new log.new) }
+        ensures ended { self.old.ended ≡ true
+            → (result ≡ Err EngineFault.OutOfMemory) × (self.new ≡ self.old) × (log.new ≡ log.old) }
+        ensures untold { self.old.ended ≡ true → watch.new ≡ watch.old }
+    {
         if self.running.outlet.ended {
             return Err(EngineFault::OutOfMemory);
         }
         for done in 0..n {
-            match self.running.turn(&mut self.buffer, log) {
+            match self.running.turn(&mut self.buffer, log, watch) {
                 Ok(()) => {}
                 Err(TurnFault::NoLink) => return Err(EngineFault::LinkFault { done }),
                 Err(TurnFault::NoMemory) => return Err(EngineFault::OutOfMemory),

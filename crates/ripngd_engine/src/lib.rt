@@ -1,5 +1,6 @@
 //! The engine of a RIPng router: it runs a router's step over a link, a clock and a source of random words, follows
-//! its route changes with a forwarding table, and keeps a log of them.
+//! its route changes with a forwarding table, and keeps a log of them. A watcher may be told what becomes of arrivals and
+//! sends.
 //!
 //! What a run is stands in `specs/Run`; what the contracts of an engine say of one, and of what its link, clock and log
 //! tell, in `specs/Seen`.
@@ -16,9 +17,11 @@ mod report;
 mod running;
 #[cfg(test)]
 mod tests;
+mod watch;
 
 pub use change_lines::RouteLine;
 pub use clock::TimeSource;
 pub use engine::Engine;
 pub use link::{Link, LinkFault, Received};
 pub use report::{EngineFault, Report};
+pub use watch::{Arrived, Unwatched, Watch};

@@ -48,7 +48,7 @@ pub trait Link: Drop {
     /// # Errors
     /// Where the link could not be read. The caller may try again.
     fn recv(&mut self, buffer: &mut [u8]) -> Result<Option<Received>, LinkFault>
-        ensures told { Gains (calls self.old) (calls self.new) (recv_call result buffer.new ∷ []) }
+        ensures gained { Gains (calls self.old) (calls self.new) (recv_call result buffer.new ∷ []) }
         ensures interface { IfOk result (λ o. IfSome o (λ r. r.iface < interface_count self.old)) }
         ensures within { IfOk result (λ o. IfSome o (λ r. r.len ≤ length buffer.new)) }
         ensures same { interface_count self.new ≡ interface_count self.old };
@@ -58,6 +58,6 @@ pub trait Link: Drop {
     /// # Errors
     /// Where it could not be taken. It is then lost.
     fn send(&mut self, outgoing: &Outgoing) -> Result<(), LinkFault>
-        ensures told { Gains (calls self.old) (calls self.new) (Handed outgoing.now (is_ok result) ∷ []) }
+        ensures gained { Gains (calls self.old) (calls self.new) (Handed outgoing.now (is_ok result) ∷ []) }
         ensures same { interface_count self.new ≡ interface_count self.old };
 }

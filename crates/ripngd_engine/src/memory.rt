@@ -4,7 +4,7 @@
 ghost use Rattle.std.specs.Prelude.{◌≡◌, ◌∷◌, [], map, false, Some, IfOk, OnErr, option_map};
 ghost use Rattle.rand_core.specs.Steps.{stream_of, steps_u32};
 ghost use Rattle.ripngd_engine.specs.Link.{Handed};
-ghost use Rattle.ripngd_engine.specs.Memory.{call_of, told};
+ghost use Rattle.ripngd_engine.specs.Memory.{call_of, claimed};
 ghost use Rattle.ripngd_engine.specs.Telling.{Gains};
 
 use crate::clock::TimeSource;
@@ -103,8 +103,8 @@ impl MemoryLink {
 
     /// Keeps a call.
     fn keep(&mut self, call: Result<LinkCall, AllocError>)
-        ensures told { IfOk call (λ it. Gains (told self.old.telling (map call_of self.old.calls.items))
-            (told self.new.telling (map call_of self.new.calls.items)) (call_of it ∷ [])) }
+        ensures gained { IfOk call (λ it. Gains (claimed self.old.telling (map call_of self.old.calls.items))
+            (claimed self.new.telling (map call_of self.new.calls.items)) (call_of it ∷ [])) }
         ensures lost { OnErr call (self.new.telling ≡ false) }
         ensures same { self.new.interfaces ≡ self.old.interfaces }
     {
@@ -120,7 +120,7 @@ impl MemoryLink {
 }
 
 impl Link for MemoryLink {
-    ghost calls = { λ m. told m.telling (map call_of m.calls.items) };
+    ghost calls = { λ m. claimed m.telling (map call_of m.calls.items) };
 
     ghost interface_count = { λ m. m.interfaces };
 
@@ -191,7 +191,7 @@ impl MemoryClock {
 }
 
 impl TimeSource for MemoryClock {
-    ghost moments = { λ c. told c.telling c.given.items };
+    ghost moments = { λ c. claimed c.telling c.given.items };
 
     fn now(&mut self) -> Moment {
         let now = self.coming.pop_front().unwrap_or(self.last);

@@ -6,6 +6,7 @@ ghost use Rattle.ripngd_engine.specs.Outlet.{HandsOver};
 
 use crate::change_lines::write_lines;
 use crate::link::Link;
+use crate::watch::Watch;
 use fib::Fib;
 use router_core::{Answer, Outgoing};
 use std::alloc::AllocError;
@@ -29,15 +30,16 @@ pub(crate) fn one_more(count: u64) -> u64
     count.saturating_add(1)
 }
 
-/// Hands each datagram to the link, once and in order, and answers the count of those that failed.
-fn hand_over<L: Link>(link: &mut L, sends: &[Outgoing], lost: u64) -> u64
-    ensures hands { HandsOver (L.calls link.old) (L.calls link.new) sends.now lost result }
+/// Hands each datagram to the link, once and in order, tells of it, and answers the count of those that failed.
+fn hand_over<L: Link, V: Watch>(link: &mut L, sends: &[Outgoing], lost: u64, watch: &mut V) -> u64
+    ensures hands { HandsOver V.takes watch.old watch.new (L.calls link.old) (L.calls link.new) sends.now lost result }
     ensures same { L.interface_count link.new ≡ L.interface_count link.old }
 {
     let mut total = lost;
     for outgoing in sends {
-        let failed = link.send(outgoing).is_err();
-        if failed {
+        let went = link.send(outgoing).is_ok();
+        watch.sent(outgoing, went);
+        if !went {
             total = one_more(total);
         }
     }
@@ -47,21 +49,23 @@ fn hand_over<L: Link>(link: &mut L, sends: &[Outgoing], lost: u64) -> u64
 impl<L: Link> Outlet<L> {
     ghost use Rattle.ripngd_engine.specs.Outlet.{outlet_seen, CarriesOut};
 
-    /// Hands over the datagrams of an answer, follows its changes and writes their lines, in this order.
+    /// Hands over the datagrams of an answer and tells of each, follows its changes and writes their lines, in this order.
     ///
     /// # Errors
     /// Where memory for the forwarding table is refused; it is then as it was. All else is done all the same.
-    pub(crate) fn carry_out<W: Write>(
+    pub(crate) fn carry_out<W: Write, V: Watch>(
         &mut self,
         answer: Answer,
         log: &mut W,
+        watch: &mut V,
     ) -> Result<(), AllocError>
-        ensures carries { CarriesOut (outlet_seen L.calls W.contents self.old log.old) answer
+        ensures carries { CarriesOut V.takes watch.old watch.new (outlet_seen L.calls W.contents self.old log.old) answer
             (outlet_seen L.calls W.contents self.new log.new) }
         ensures ended { self.new.ended ≡ is_err result }
         ensures same { L.interface_count self.new.link ≡ L.interface_count self.old.link }
     {
-        self.lost_sends = hand_over(&mut self.link, answer.sends.as_slice(), self.lost_sends);
+        let sends = answer.sends.as_slice();
+        self.lost_sends = hand_over(&mut self.link, sends, self.lost_sends, watch);
         let followed = self.fib.apply(answer.changes.as_slice());
         self.log_failed = write_lines(log, answer.changes.as_slice(), self.log_failed);
         self.ended = followed.is_err();

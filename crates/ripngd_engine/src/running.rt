@@ -5,7 +5,6 @@ ghost use Rattle.rand_core.specs.Stream.{next_u32};
 ghost use Rattle.ripngd_engine.specs.Telling.{Gains};
 ghost use Rattle.ripngd_engine.specs.Link.{recv_call, datagram_in};
 ghost use Rattle.ripngd_engine.specs.Run.{Takes, TicksOnce};
-ghost use Rattle.ripngd_engine.specs.Seen.{Acts};
 ghost use Rattle.std.specs.Coded.{Coded-set, →_prop};
 ghost use Rattle.fib.specs.contracts.fib.Fib as forwarding;
 ghost use Rattle.router_core.specs.Changes.{forwards};
@@ -14,6 +13,7 @@ ghost use Rattle.ripngd_engine.specs.declared.running.TurnFault.TheVariants.{NoL
 use crate::clock::TimeSource;
 use crate::link::{Link, LinkFault, Received};
 use crate::outlet::{Outlet, one_more};
+use crate::watch::{Arrived, Watch};
 use rand_core::Rng;
 use route_table::{Moment, RouteStore};
 use router_core::{Arrival, Router};
@@ -59,7 +59,7 @@ pub(crate) struct Running<S: RouteStore, L: Link, C: TimeSource, R: Rng + Drop> 
 
 /// One `recv` into the buffer.
 fn listen<L: Link>(link: &mut L, buffer: &mut Vec<u8>) -> Result<Option<Received>, LinkFault>
-    ensures told { Gains (L.calls link.old) (L.calls link.new) (recv_call result buffer.new.items ∷ []) }
+    ensures gained { Gains (L.calls link.old) (L.calls link.new) (recv_call result buffer.new.items ∷ []) }
     ensures interface { IfOk result (λ o. IfSome o (λ r. r.iface < L.interface_count link.old)) }
     ensures within { IfOk result (λ o. IfSome o (λ r. r.len ≤ vec_len buffer.new)) }
     ensures same { L.interface_count link.new ≡ L.interface_count link.old }
@@ -69,7 +69,7 @@ fn listen<L: Link>(link: &mut L, buffer: &mut Vec<u8>) -> Result<Option<Received
 
 /// What a tick goes by: the moment that the clock gives, and the next word of the source.
 fn moment_and_word<C: TimeSource, R: Rng>(clock: &mut C, rng: &mut R) -> (Moment, u32)
-    ensures told { Gains (C.moments clock.old) (C.moments clock.new) (result.0 ∷ []) }
+    ensures gained { Gains (C.moments clock.old) (C.moments clock.new) (result.0 ∷ []) }
     ensures drawn { (result.1, R.stream rng.new) ≡ next_u32 (R.stream rng.old) }
 {
     let now = clock.now();
@@ -77,18 +77,18 @@ fn moment_and_word<C: TimeSource, R: Rng>(clock: &mut C, rng: &mut R) -> (Moment
 }
 
 impl<S: RouteStore, L: Link, C: TimeSource, R: Rng + Drop> Running<S, L, C, R> {
-    ghost use Rattle.ripngd_engine.specs.Running.{running_seen, TakesReceived, TurnAnswers};
+    ghost use Rattle.ripngd_engine.specs.Running.{running_seen, ActsTold, TakesReceived, TurnAnswers};
 
     /// A tick at the moment that the clock gives, with the next word of the source.
-    fn tick<W: Write>(&mut self, log: &mut W) -> Result<(), AllocError>
+    fn tick<W: Write, V: Watch>(&mut self, log: &mut W, watch: &mut V) -> Result<(), AllocError>
         requires { self.old.outlet.ended ≡ false }
-        ensures acts { Acts TicksOnce (running_seen L.calls C.moments R.stream W.contents self.old log.old)
+        ensures acts { ActsTold V.takes watch.old watch.new TicksOnce (running_seen L.calls C.moments R.stream W.contents self.old log.old)
             (running_seen L.calls C.moments R.stream W.contents self.new log.new) }
         ensures ended { self.new.outlet.ended ≡ is_err result }
     {
         let (now, word) = moment_and_word(&mut self.clock, &mut self.rng);
         match self.router.tick(now, word) {
-            Ok(answer) => self.outlet.carry_out(answer, log),
+            Ok(answer) => self.outlet.carry_out(answer, log, watch),
             Err(_) => {
                 self.lost_memory = one_more(self.lost_memory);
                 Ok(())
@@ -96,22 +96,29 @@ impl<S: RouteStore, L: Link, C: TimeSource, R: Rng + Drop> Running<S, L, C, R> {
         }
     }
 
-    /// The arrival of a datagram, at the moment that the clock gives.
-    fn arrive<W: Write>(
+    /// The arrival of a datagram, at the moment that the clock gives. Its answer is told before it is carried out.
+    fn arrive<W: Write, V: Watch>(
         &mut self,
         received: Received,
         buffer: &[u8],
         log: &mut W,
+        watch: &mut V,
     ) -> Result<(), AllocError>
         requires ended { self.old.outlet.ended ≡ false }
         requires interface { received.iface < length self.old.router.config.interfaces }
         requires within { received.len ≤ length buffer.now }
-        ensures acts { Acts (Takes (datagram_in received buffer.now)) (running_seen L.calls C.moments R.stream W.contents self.old log.old)
+        ensures acts { ActsTold V.takes watch.old watch.new (Takes (datagram_in received buffer.now)) (running_seen L.calls C.moments R.stream W.contents self.old log.old)
             (running_seen L.calls C.moments R.stream W.contents self.new log.new) }
         ensures ended { self.new.outlet.ended ≡ is_err result }
     {
+        let arrived = Arrived {
+            moment: self.clock.now(),
+            iface: received.iface,
+            source: received.source,
+            source_port: received.source_port,
+        };
         let arrival = Arrival {
-            now: self.clock.now(),
+            now: arrived.moment,
             iface: received.iface,
             source: received.source,
             source_port: received.source_port,
@@ -120,7 +127,10 @@ impl<S: RouteStore, L: Link, C: TimeSource, R: Rng + Drop> Running<S, L, C, R> {
             bytes: &buffer[..received.len],
         };
         match self.router.arrive(arrival) {
-            Ok(answer) => self.outlet.carry_out(answer, log),
+            Ok(answer) => {
+                watch.heard(arrived, answer.fault, answer.notes.as_slice());
+                self.outlet.carry_out(answer, log, watch)
+            }
             Err(_) => {
                 self.lost_memory = one_more(self.lost_memory);
                 Ok(())
@@ -129,38 +139,40 @@ impl<S: RouteStore, L: Link, C: TimeSource, R: Rng + Drop> Running<S, L, C, R> {
     }
 
     /// An arrival, if a datagram came.
-    fn take_in<W: Write>(
+    fn take_in<W: Write, V: Watch>(
         &mut self,
         received: Option<Received>,
         buffer: &[u8],
         log: &mut W,
+        watch: &mut V,
     ) -> Result<(), AllocError>
         requires ended { self.old.outlet.ended ≡ false }
         requires interface { IfSome received (λ r. r.iface < length self.old.router.config.interfaces) }
         requires within { IfSome received (λ r. r.len ≤ length buffer.now) }
-        ensures acts { Acts (TakesReceived received buffer.now) (running_seen L.calls C.moments R.stream W.contents self.old log.old)
+        ensures acts { ActsTold V.takes watch.old watch.new (TakesReceived received buffer.now) (running_seen L.calls C.moments R.stream W.contents self.old log.old)
             (running_seen L.calls C.moments R.stream W.contents self.new log.new) }
         ensures ended { self.new.outlet.ended ≡ is_err result }
     {
         match received {
             None => Ok(()),
-            Some(received) => self.arrive(received, buffer, log),
+            Some(received) => self.arrive(received, buffer, log, watch),
         }
     }
 
     /// One `recv` into the buffer, an arrival if it gave a datagram, and then a tick.
-    pub(crate) fn turn<W: Write>(
+    pub(crate) fn turn<W: Write, V: Watch>(
         &mut self,
         buffer: &mut Vec<u8>,
         log: &mut W,
+        watch: &mut V,
     ) -> Result<(), TurnFault>
         requires { self.old.outlet.ended ≡ false }
-        ensures { TurnAnswers (running_seen L.calls C.moments R.stream W.contents self.old log.old) result
+        ensures { TurnAnswers V.takes watch.old watch.new (running_seen L.calls C.moments R.stream W.contents self.old log.old) result
             (running_seen L.calls C.moments R.stream W.contents self.new log.new) }
     {
         let received = listen(&mut self.outlet.link, buffer)?;
-        self.take_in(received, buffer.as_slice(), log)?;
-        self.tick(log)?;
+        self.take_in(received, buffer.as_slice(), log, watch)?;
+        self.tick(log, watch)?;
         Ok(())
     }
 }

@@ -4,6 +4,7 @@
 ghost use Rattle.std.specs.Prelude.{◌≡◌, IfOk, length};
 
 mod recorded;
+mod watched;
 
 use crate::memory::{Datagram, LinkCall, MemoryClock, MemoryLink, MemoryLog, SameWord};
 use crate::{Engine, EngineFault, Report};

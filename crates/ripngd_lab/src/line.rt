@@ -82,7 +82,7 @@ pub fn read_line(alloc: Global, text: &str) -> Result<Line, Stop> {
     }
 }
 
-// A line that holds no bytes.
+/// A line that holds no bytes.
 fn plain_line(words: &[&str]) -> Result<Line, BadLine> {
     match words {
         ["router"] => Ok(Line::Router { quiet: false }),
@@ -100,7 +100,7 @@ fn plain_line(words: &[&str]) -> Result<Line, BadLine> {
     }
 }
 
-// `ADDR COST MTU LINK`
+/// `ADDR COST MTU LINK`
 fn read_interface(words: &[&str]) -> Result<NetInterface, BadLine> {
     let [address, cost, mtu, link] = words else {
         return Err(BadLine);
@@ -116,7 +116,7 @@ fn read_interface(words: &[&str]) -> Result<NetInterface, BadLine> {
     })
 }
 
-// What happens to one router, but for a stranger's datagram.
+/// What happens to one router, but for a stranger's datagram.
 fn read_event(words: &[&str]) -> Result<Event<'static>, BadLine> {
     match words {
         ["deliver", datagram, router, iface, now] => Ok(Event::Deliver {
@@ -138,7 +138,7 @@ fn read_event(words: &[&str]) -> Result<Event<'static>, BadLine> {
     }
 }
 
-// The configuration of a router that runs is changed.
+/// The configuration of a router that runs is changed.
 fn read_change(words: &[&str]) -> Result<Event<'static>, BadLine> {
     match words {
         ["cost", router, iface, now, cost] => Ok(Event::Reconfigure {
@@ -168,7 +168,7 @@ fn read_change(words: &[&str]) -> Result<Event<'static>, BadLine> {
     }
 }
 
-// `I NOW SOURCE PORT HOP group HEX`, or `peer` for `group`.
+/// `I NOW SOURCE PORT HOP group HEX`, or `peer` for `group`.
 fn read_foreign(alloc: Global, words: &[&str]) -> Result<Foreign, Stop> {
     let [iface, now, source, port, hop_limit, to, hex] = words else {
         return Err(Stop::from(BadLine));

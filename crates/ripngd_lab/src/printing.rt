@@ -20,7 +20,7 @@ pub fn print_routes<S: RouteStore, W: Write>(lab: &Lab<S>, out: &mut W) -> io::R
     Ok(())
 }
 
-// Writes the routes of one router.
+/// Writes the routes of one router.
 fn print_table<S: RouteStore, W: Write>(
     number: usize,
     router: &Router<S>,
@@ -38,7 +38,7 @@ fn print_table<S: RouteStore, W: Write>(
     Ok(())
 }
 
-// Writes the line of a route.
+/// Writes the line of a route.
 fn print_route<W: Write>(
     number: usize,
     prefix: Prefix,
@@ -75,7 +75,7 @@ pub fn print_sent<S: RouteStore, W: Write>(
     Ok(())
 }
 
-// Writes the line of a datagram.
+/// Writes the line of a datagram.
 fn print_datagram<W: Write>(
     alloc: Global,
     number: usize,

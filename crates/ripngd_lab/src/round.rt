@@ -63,7 +63,7 @@ pub fn moments_from(alloc: Global, count: u64, now: Moment, gap: u64) -> Result<
     Ok(moments)
 }
 
-// The moment so many gaps later, if there is one.
+/// The moment so many gaps later, if there is one.
 fn moment_after(now: Moment, gap: u64, gaps: u64) -> Option<Moment> {
     Moment::new(gap.checked_mul(gaps)?.checked_add(now.ms())?)
 }
@@ -88,7 +88,7 @@ pub fn make_rounds<V: Watch>(
     Ok(())
 }
 
-// A tick of each router at each moment.
+/// A tick of each router at each moment.
 fn ticks_at(alloc: Global, routers: usize, moments: &[Moment]) -> Result<Vec<Ticks>, AllocError>
     ensures { IfOk result (λ ticks. All (λ t. length t.1.items ≡ routers) ticks.items) }
 {
@@ -99,7 +99,7 @@ fn ticks_at(alloc: Global, routers: usize, moments: &[Moment]) -> Result<Vec<Tic
     Ok(ticks)
 }
 
-// The rounds of these ticks, each with no picks.
+/// The rounds of these ticks, each with no picks.
 fn rounds_of<'a>(alloc: Global, ticks: &'a [Ticks]) -> Result<Vec<Round<'a>>, AllocError>
     ensures { IfOk result (λ rounds. (routers : ℕ) → All (λ t. length t.1.items ≡ routers) ticks.now → All (λ r. length r.ticks ≡ routers) rounds.items) }
 {

@@ -40,7 +40,7 @@ pub fn watched<V: Watch>(alloc: Global, script: &[u8], watch: &mut V) -> io::Res
     Ok(true)
 }
 
-// An empty line, or a remark.
+/// An empty line, or a remark.
 fn is_skipped(line: &[u8]) -> bool {
     line.is_empty() || line.starts_with(b"#")
 }

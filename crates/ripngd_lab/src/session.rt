@@ -47,7 +47,7 @@ impl Session {
     }
 }
 
-// A line that lists a router, or what one has.
+/// A line that lists a router, or what one has.
 fn list(alloc: Global, nodes: &mut Vec<Node>, line: Line) -> Result<(), Stop> {
     match line {
         Line::Router { quiet } => nodes.push(Node {
@@ -62,19 +62,19 @@ fn list(alloc: Global, nodes: &mut Vec<Node>, line: Line) -> Result<(), Stop> {
     Ok(())
 }
 
-// The router that is being listed.
+/// The router that is being listed.
 fn newest(nodes: &mut [Node]) -> Result<&mut Node, BadLine> {
     nodes.last_mut().ok_or(BadLine)
 }
 
-// Checks the network and starts its routers at one moment.
+/// Checks the network and starts its routers at one moment.
 fn start(alloc: Global, nodes: Vec<Node>, now: Moment) -> Result<Lab<TrieRoutes>, Stop> {
     let moments = vec![in alloc; now; nodes.len()]?;
     let network = NetConfig::check(alloc, nodes)?;
     Ok(Lab::cold(alloc, network, moments.as_slice())?)
 }
 
-// A line about routers that run. What a router answers is for the witness alone.
+/// A line about routers that run. What a router answers is for the witness alone.
 fn run<V: Watch>(
     alloc: Global,
     lab: &mut Lab<TrieRoutes>,

@@ -31,7 +31,7 @@ pub enum OnSkip {
     Stop,
 }
 
-// A datagram comes to an interface.
+/// A datagram comes to an interface.
 fn deliver<V: Watch>(
     lab: &mut Lab<TrieRoutes>,
     event: &Event<'_>,
@@ -46,7 +46,7 @@ fn deliver<V: Watch>(
     Ok(())
 }
 
-// Whether the interface is another one of the link that the datagram was sent on.
+/// Whether the interface is another one of the link that the datagram was sent on.
 fn is_reached(lab: &Lab<TrieRoutes>, datagram: usize, router: usize, iface: usize) -> bool {
     let Some(sent) = lab.sent().get(datagram) else {
         return false;
@@ -57,7 +57,7 @@ fn is_reached(lab: &Lab<TrieRoutes>, datagram: usize, router: usize, iface: usiz
         && (router, iface) != (sent.router, sent.iface)
 }
 
-// A datagram comes to each other interface of its link that is one of this router.
+/// A datagram comes to each other interface of its link that is one of this router.
 fn deliver_to<V: Watch>(
     lab: &mut Lab<TrieRoutes>,
     datagram: usize,
@@ -80,7 +80,7 @@ fn deliver_to<V: Watch>(
     Ok(())
 }
 
-// A datagram comes to each other interface of its link.
+/// A datagram comes to each other interface of its link.
 fn deliver_all<V: Watch>(
     lab: &mut Lab<TrieRoutes>,
     datagram: usize,
@@ -112,7 +112,7 @@ pub fn deliver_since<V: Watch>(
     Ok(())
 }
 
-// Whether the regular update of a router is due, at a moment or at the last one that it was told.
+/// Whether the regular update of a router is due, at a moment or at the last one that it was told.
 fn is_due(lab: &Lab<TrieRoutes>, router: usize, now: Moment) -> bool {
     match lab.router(router) {
         Some(router) => router.regular().reached(router.last().max(now)),
@@ -120,7 +120,7 @@ fn is_due(lab: &Lab<TrieRoutes>, router: usize, now: Moment) -> bool {
     }
 }
 
-// Every router ticks in order, with the word 0, each when its regular update is due.
+/// Every router ticks in order, with the word 0, each when its regular update is due.
 fn tick_due<V: Watch>(
     lab: &mut Lab<TrieRoutes>,
     round: usize,

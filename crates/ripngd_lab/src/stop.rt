@@ -89,7 +89,7 @@ impl fmt::Display for Refusal {
     }
 }
 
-// An event is refused, and if by a router that is to be changed, why.
+/// An event is refused, and if by a router that is to be changed, why.
 fn write_event<W: fmt::Write>(error: LabError, f: &mut fmt::Formatter<W>) -> fmt::Result {
     write!(f, "{} {}", error.number(), error.name())?;
     match error {
@@ -98,7 +98,7 @@ fn write_event<W: fmt::Write>(error: LabError, f: &mut fmt::Formatter<W>) -> fmt
     }
 }
 
-// Rounds stop, and if before a tick, in which round and at which router.
+/// Rounds stop, and if before a tick, in which round and at which router.
 fn write_rounds<W: fmt::Write>(refused: RoundsRefused, f: &mut fmt::Formatter<W>) -> fmt::Result {
     write!(f, "{} {}", refused.number(), refused.name())?;
     match refused {
@@ -107,7 +107,7 @@ fn write_rounds<W: fmt::Write>(refused: RoundsRefused, f: &mut fmt::Formatter<W>
     }
 }
 
-// A network is refused, and if for a router, for which one and why.
+/// A network is refused, and if for a router, for which one and why.
 fn write_network<W: fmt::Write>(refused: NetRefused, f: &mut fmt::Formatter<W>) -> fmt::Result {
     write!(f, "{} {}", refused.number(), refused.name())?;
     match refused {

@@ -11,7 +11,7 @@ use std::str::FromStr;
 #[derive(Clone, Copy, Debug, PartialEq, Eq)]
 pub struct BadLine;
 
-// Decimal digits without sign or leading zero.
+/// Decimal digits without sign or leading zero.
 fn is_decimal(word: &[u8]) -> bool {
     match word {
         [b'0'] => true,

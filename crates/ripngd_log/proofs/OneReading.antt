@@ -10,7 +10,7 @@ use Rattle.fib.specs.declared.change.Hop.TheVariants.{Direct, Via}
 use Rattle.fib.specs.declared.change.RouteChange.{RouteChange}
 use Rattle.fib.specs.declared.change.RouteChange.TheVariants.{Install, Withdraw}
 use Rattle.ripngd_engine.specs.Log.{hop_text, change_text, log_of}
-use Rattle.ripngd_log.specs.Reading.{IsHop, IsChange, IsInLine, Tells, IsFirstBadLine}
+use Rattle.ripngd_log.specs.Reading.{IsHop, IsChange, IsInLine, IsLogOf, IsFirstBadLine}
 use Rattle.ripngd_log.proofs.WordTexts.{addr_in_word, decimal_in_word, prefix_in_word, change_in_line}
 
 abbrev pub Lacks : ℕ → List ℕ → Type 0
@@ -74,7 +74,7 @@ module _ (addr_reads : (a : ℕ) → a < 2 ^ 128 → Reads (written_addr a) a) (
       let parts = one_split 10 (change_text c) (log_of cs ++ r) (change_text d) (log_of ds ++ s) (change_in_line c is_c) (change_in_line d is_d) (sym (front c cs r) ∙ e ∙ front d ds s) in
       ap₂ ◌∷◌ (same_change c d is_c is_d parts.0) (same_log cs ds r s (All-tail IsChange c cs h) (All-tail IsChange d ds k) free other parts.1)
 
-  pub one_reading : (text : List ℕ) (cs ds : List RouteChange) → Tells text cs → Tells text ds → cs ≡ ds
+  pub one_reading : (text : List ℕ) (cs ds : List RouteChange) → IsLogOf text cs → IsLogOf text ds → cs ≡ ds
   one_reading text cs ds h k = same_log cs ds h.rest k.rest h.lawful k.lawful h.unended k.unended (sym h.spelled ∙ k.spelled)
 
   no_log : (cs ds : List RouteChange) (bad after r : List ℕ) → All IsChange cs → All IsChange ds → IsInLine bad → ((d : RouteChange) → IsChange d → change_text d ≢ bad) → IsInLine r → log_of cs ++ (bad ++ (10 ∷ after)) ≢ log_of ds ++ r
@@ -89,7 +89,7 @@ module _ (addr_reads : (a : ℕ) → a < 2 ^ 128 → Reads (written_addr a) a) (
       let parts = one_split 10 (change_text c) (log_of cs ++ (bad ++ (10 ∷ after))) (change_text d) (log_of ds ++ r) (change_in_line c is_c) (change_in_line d is_d) (sym (front c cs (bad ++ (10 ∷ after))) ∙ e ∙ front d ds r) in
       no_log cs ds bad after r (All-tail IsChange c cs h) (All-tail IsChange d ds k) line none free parts.1
 
-  pub no_reading : (text : List ℕ) (line : ℕ) (changes : List RouteChange) → IsFirstBadLine text line → ¬ (Tells text changes)
+  pub no_reading : (text : List ℕ) (line : ℕ) (changes : List RouteChange) → IsFirstBadLine text line → ¬ (IsLogOf text changes)
   no_reading text line changes h k =
       no_log h.before changes h.bad h.after k.rest h.lawful k.lawful h.is_line h.no_change k.unended
       (sym (append_assoc (log_of h.before) h.bad (10 ∷ h.after)) ∙ sym h.spelled ∙ k.spelled)

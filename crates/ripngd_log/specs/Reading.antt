@@ -27,7 +27,7 @@ abbrev pub IsInLine : List ℕ → Type 0
 IsInLine text = All (λ b. b ≢ 10) text
 
 -- a line for each change, and the rest, which is of a line that has no end yet
-pub record Tells (text : List ℕ) (changes : List RouteChange) : Type 0 where
+pub record IsLogOf (text : List ℕ) (changes : List RouteChange) : Type 0 where
   pub rest : List ℕ
   pub lawful : All IsChange changes
   pub spelled : text ≡ log_of changes ++ rest
@@ -36,7 +36,7 @@ pub record Tells (text : List ℕ) (changes : List RouteChange) : Type 0 where
 -- the table that the changes make, one after another, where there was none
 pub record MakesTable (text : List ℕ) (table : Forwarding) : Type 0 where
   pub changes : List RouteChange
-  pub told : Tells text changes
+  pub is_log : IsLogOf text changes
   pub replayed : Replays map.empty changes table
 
 -- the line of a number is the first that is not the line of a change
@@ -47,7 +47,7 @@ pub record IsFirstBadLine (text : List ℕ) (line : ℕ) : Type 0 where
   pub lawful : All IsChange before
   pub spelled : text ≡ log_of before ++ bad ++ (10 ∷ after)
   pub is_line : IsInLine bad
-  pub place : line ≡ length before + 1
+  pub numbered : line ≡ length before + 1
   pub no_change : (c : RouteChange) → IsChange c → change_text c ≢ bad
 
 -- what a refusal says of the text; want of memory says nothing

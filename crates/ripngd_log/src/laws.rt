@@ -2,14 +2,14 @@
 
 ghost use Rattle.std.specs.Prelude.{◌≡◌, ℕ, List};
 ghost use Rattle.fib.specs.declared.change.RouteChange.{RouteChange};
-ghost use Rattle.ripngd_log.specs.Reading.{Tells, IsFirstBadLine};
+ghost use Rattle.ripngd_log.specs.Reading.{IsLogOf, IsFirstBadLine};
 
 use prefix6::written_texts_are_read_back;
 
 /// A text tells one list of changes at most, and none where it has a bad line.
 pub fn logs_are_read_one_way()
-    ensures one { (text : List ℕ) (changes other : List RouteChange) → Tells text changes → Tells text other → changes ≡ other }
-    ensures none { (text : List ℕ) (line : ℕ) (changes : List RouteChange) → IsFirstBadLine text line → ¬ (Tells text changes) }
+    ensures one { (text : List ℕ) (changes other : List RouteChange) → IsLogOf text changes → IsLogOf text other → changes ≡ other }
+    ensures none { (text : List ℕ) (line : ℕ) (changes : List RouteChange) → IsFirstBadLine text line → ¬ (IsLogOf text changes) }
 {
     written_texts_are_read_back();
 }

@@ -4,7 +4,7 @@ ghost use Rattle.std.specs.Prelude.{List, IfOk, IfErr};
 ghost use Rattle.std.specs.FinMap as map;
 ghost use Rattle.fib.specs.declared.change.RouteChange.{RouteChange};
 ghost use Rattle.fib.specs.Forwarding.{Replays};
-ghost use Rattle.ripngd_log.specs.Reading.{Tells, MakesTable, Refuses};
+ghost use Rattle.ripngd_log.specs.Reading.{IsLogOf, MakesTable, Refuses};
 
 use crate::cutting::first_line;
 use crate::fault::LogFault;
@@ -15,7 +15,7 @@ use std::alloc::Global;
 
 /// The changes of the lines that have an end.
 fn read_changes(alloc: Global, text: &[u8]) -> Result<Vec<RouteChange>, LogFault>
-    ensures told { IfOk result (λ changes. Tells text.now changes.items) }
+    ensures log { IfOk result (λ changes. IsLogOf text.now changes.items) }
     ensures refused { IfErr result (Refuses text.now) }
 {
     let mut changes = Vec::new(alloc);
@@ -44,7 +44,7 @@ fn read_changes(alloc: Global, text: &[u8]) -> Result<Vec<RouteChange>, LogFault
 /// the changes or the table is refused.
 pub fn read_log(alloc: Global, text: &[u8]) -> Result<Fib, LogFault>
     ensures table { IfOk result (MakesTable text.now) }
-    ensures follows { IfOk result (λ table. (changes : List RouteChange) → Tells text.now changes → Replays map.empty changes table) }
+    ensures follows { IfOk result (λ table. (changes : List RouteChange) → IsLogOf text.now changes → Replays map.empty changes table) }
     ensures refused { IfErr result (Refuses text.now) }
 {
     logs_are_read_one_way();

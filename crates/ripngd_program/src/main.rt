@@ -5,13 +5,14 @@ use std::env;
 use std::io::{self, BufWriter, ErrorKind, Write};
 use std::net::Net;
 use std::process::ExitCode;
+use std::random::RandomSource;
 use std::rt::{Clock, Env, Files};
 
 /// Does what the arguments ask for, and answers the exit status.
 ///
 /// # Errors
 /// `OutOfMemory`, or `InvalidData` where an argument is not UTF-8.
-fn run<R: AllocGlobal + Env + Files + Clock + Net, O: Write + Drop, E: Write>(
+fn run<R: AllocGlobal + Env + Files + Clock + Net + RandomSource, O: Write + Drop, E: Write>(
     rt: &R,
     out: O,
     err: &mut E,

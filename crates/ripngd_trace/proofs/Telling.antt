@@ -10,7 +10,7 @@ use Rattle.prefix6.proofs.PrefixLaws.{prefixes_total, exact_prefixes}
 use Rattle.route_table.specs.Route.{RouteValue}
 use Rattle.route_table.specs.Table.{Table}
 use Rattle.route_table.proofs.TableLaws.{all_entries, None-Some}
-use Rattle.ripngd_trace.specs.Told.{with_routes, without}
+use Rattle.ripngd_trace.specs.Records.{with_routes, without}
 
 -- ---- one after another
 

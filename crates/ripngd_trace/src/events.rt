@@ -30,7 +30,7 @@ pub fn moment_of(event: &Event<'_>) -> Moment {
     }
 }
 
-// The router that sent a datagram, if it was sent.
+/// The router that sent a datagram, if it was sent.
 fn sender_of<S: RouteStore>(lab: &Lab<S>, datagram: usize) -> Option<SenderRecord> {
     match lab.sent().get(datagram) {
         Some(sent) => Some(SenderRecord {
@@ -42,7 +42,7 @@ fn sender_of<S: RouteStore>(lab: &Lab<S>, datagram: usize) -> Option<SenderRecor
     }
 }
 
-// A datagram of no router.
+/// A datagram of no router.
 fn stranger(alloc: Global, arrival: &Arrival<'_>) -> Result<Happened, AllocError> {
     Ok(Happened::Stranger {
         iface: arrival.iface,
@@ -54,7 +54,7 @@ fn stranger(alloc: Global, arrival: &Arrival<'_>) -> Result<Happened, AllocError
     })
 }
 
-// A change of a router's configuration.
+/// A change of a router's configuration.
 fn changed(change: &Change) -> Happened {
     match *change {
         Change::Cost { iface, cost } => Happened::Cost { iface, cost },

@@ -6,7 +6,7 @@ ghost use Rattle.prefix6.specs.Prefix.{Prefix6};
 ghost use Rattle.route_table.specs.Due.{next_due};
 ghost use Rattle.route_table.specs.Route.{deadline};
 ghost use Rattle.route_table.specs.Table.{Table};
-ghost use Rattle.ripngd_trace.specs.Told.{IsTold, due_in, gateway_of, route_record, timers_in, with_routes, without};
+ghost use Rattle.ripngd_trace.specs.Records.{LeadsTo, due_in, gateway_of, route_record, timers_in, with_routes, without};
 
 use crate::records::{DueRecord, GatewayRecord, RouteRecord, Timers};
 use prefix6::Prefix;
@@ -15,7 +15,7 @@ use route_table::{Origin, Route, RouteStore};
 use router_core::Router;
 use std::alloc::{AllocError, Global};
 
-// Where a route was learned, if it is not the router's own.
+/// Where a route was learned, if it is not the router's own.
 fn gateway_of(origin: Origin) -> Option<GatewayRecord>
     ensures { result ≡ gateway_of origin }
 {
@@ -33,7 +33,7 @@ fn gateway_of(origin: Origin) -> Option<GatewayRecord>
     }
 }
 
-// The deadline of a route that ages.
+/// The deadline of a route that ages.
 fn until_of(route: &Route) -> Option<u64>
     ensures { result ≡ deadline route.now }
 {
@@ -57,7 +57,7 @@ pub fn route_record(prefix: Prefix, route: &Route) -> RouteRecord
     }
 }
 
-// What is due next.
+/// What is due next.
 fn due_of<S: RouteStore>(router: &Router<S>) -> Option<DueRecord>
     ensures { result ≡ due_in router.now }
 {
@@ -70,7 +70,7 @@ fn due_of<S: RouteStore>(router: &Router<S>) -> Option<DueRecord>
     }
 }
 
-// The timers of a router.
+/// The timers of a router.
 fn timers_in<S: RouteStore>(router: &Router<S>) -> Timers
     ensures { result ≡ timers_in router.now }
 {
@@ -92,7 +92,7 @@ pub fn timers_of<S: RouteStore>(lab: &Lab<S>, router: usize) -> Option<Timers>
     }
 }
 
-// All routes of a table, in order.
+/// All routes of a table, in order.
 fn routes_in<S: RouteStore>(alloc: Global, table: &S) -> Result<Vec<(Prefix, Route)>, AllocError>
     ensures { IfOk result (λ routes. routes.items ≡ map_of.entries (S.table table.now)) }
 {
@@ -101,14 +101,14 @@ fn routes_in<S: RouteStore>(alloc: Global, table: &S) -> Result<Vec<(Prefix, Rou
     Ok(routes)
 }
 
-// Takes a prefix out of a known table if a table has no route to it, and adds it to those that are gone.
+/// Takes a prefix out of a known table if a table has no route to it, and adds it to those that are gone.
 fn forget<S: RouteStore>(
     known: &mut S,
     table: &S,
     prefix: Prefix,
     gone: &mut Vec<Prefix>,
 ) -> Result<(), AllocError>
-    ensures told { OnOk result ((t : Table) → S.table known.old ≡ without t gone.old.items → S.table known.new ≡ without t gone.new.items) }
+    ensures listed { OnOk result ((t : Table) → S.table known.old ≡ without t gone.old.items → S.table known.new ≡ without t gone.new.items) }
     ensures gone { OnOk result (map_of.get (S.table table.now) prefix ≡ None → map_of.get (S.table known.new) prefix ≡ None) }
     ensures fewer { OnOk result ((p : Prefix6) → map_of.get (S.table known.old) p ≡ None → map_of.get (S.table known.new) p ≡ None) }
 {
@@ -123,13 +123,13 @@ fn forget<S: RouteStore>(
     Ok(())
 }
 
-// Takes out of a known table the prefixes that a table has no route to. Says which, in order.
+/// Takes out of a known table the prefixes that a table has no route to. Says which, in order.
 fn forget_all<S: RouteStore>(
     alloc: Global,
     known: &mut S,
     table: &S,
 ) -> Result<Vec<Prefix>, AllocError>
-    ensures told { IfOk result (λ gone. S.table known.new ≡ without (S.table known.old) gone.items) }
+    ensures listed { IfOk result (λ gone. S.table known.new ≡ without (S.table known.old) gone.items) }
     ensures gone { OnOk result ((p : Prefix6) → map_of.get (S.table table.now) p ≡ None → map_of.get (S.table known.new) p ≡ None) }
 {
     let entries = routes_in(alloc, known)?;
@@ -140,7 +140,7 @@ fn forget_all<S: RouteStore>(
     Ok(gone)
 }
 
-// Puts a route into a table, whether it has one to the prefix or not.
+/// Puts a route into a table, whether it has one to the prefix or not.
 fn put<S: RouteStore>(table: &mut S, prefix: Prefix, route: Route) -> Result<(), AllocError>
     ensures { OnOk result (S.table table.new ≡ map_of.insert (S.table table.old) prefix route) }
 {
@@ -154,7 +154,7 @@ fn put<S: RouteStore>(table: &mut S, prefix: Prefix, route: Route) -> Result<(),
     }
 }
 
-// Whether two routes are the same.
+/// Whether two routes are the same.
 fn is_same(held: &Route, route: &Route) -> bool
     ensures { IsTrue result → held.now ≡ route.now }
 {
@@ -165,14 +165,14 @@ fn is_same(held: &Route, route: &Route) -> bool
         && held.clock() == route.clock()
 }
 
-// Puts a route into a known table, and adds it to the news unless the table has just that route to the prefix.
+/// Puts a route into a known table, and adds it to the news unless the table has just that route to the prefix.
 fn learn<S: RouteStore>(
     known: &mut S,
     prefix: Prefix,
     route: Route,
     news: &mut Vec<(Prefix, Route)>,
 ) -> Result<(), AllocError>
-    ensures told { OnOk result ((t : Table) → S.table known.old ≡ with_routes t news.old.items → S.table known.new ≡ with_routes t news.new.items) }
+    ensures listed { OnOk result ((t : Table) → S.table known.old ≡ with_routes t news.old.items → S.table known.new ≡ with_routes t news.new.items) }
     ensures held { OnOk result (S.table known.new ≡ map_of.insert (S.table known.old) prefix route) }
 {
     if let Some(held) = known.get(&prefix)
@@ -185,13 +185,13 @@ fn learn<S: RouteStore>(
     Ok(())
 }
 
-// Puts all routes of a table into a known one. Says which are news, in order.
+/// Puts all routes of a table into a known one. Says which are news, in order.
 fn learn_all<S: RouteStore>(
     alloc: Global,
     known: &mut S,
     table: &S,
 ) -> Result<Vec<(Prefix, Route)>, AllocError>
-    ensures told { IfOk result (λ news. S.table known.new ≡ with_routes (S.table known.old) news.items) }
+    ensures listed { IfOk result (λ news. S.table known.new ≡ with_routes (S.table known.old) news.items) }
     ensures all { OnOk result (S.table known.new ≡ with_routes (S.table known.old) (map_of.entries (S.table table.now))) }
 {
     let entries = routes_in(alloc, table)?;
@@ -202,7 +202,7 @@ fn learn_all<S: RouteStore>(
     Ok(news)
 }
 
-// Routes as records.
+/// Routes as records.
 fn route_records(alloc: Global, routes: &[(Prefix, Route)]) -> Result<Vec<RouteRecord>, AllocError>
     ensures { IfOk result (λ records. records.items ≡ map (λ e. route_record e.0 e.1) routes.now) }
 {
@@ -236,7 +236,7 @@ impl News {
 /// Want of memory.
 pub fn news_of<S: RouteStore>(alloc: Global, known: &mut S, table: &S) -> Result<News, AllocError>
     ensures known { OnOk result (S.table known.new ≡ S.table table.now) }
-    ensures told { IfOk result (λ news. IsTold (S.table known.old) news.routes.items news.gone.items (S.table table.now)) }
+    ensures listed { IfOk result (λ news. LeadsTo (S.table known.old) news.routes.items news.gone.items (S.table table.now)) }
 {
     let gone = forget_all(alloc, known, table)?;
     let learned = learn_all(alloc, known, table)?;

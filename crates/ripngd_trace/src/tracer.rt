@@ -1,7 +1,7 @@
 //! A script, traced.
 
 ghost use Rattle.std.specs.Prelude.{◌≡◌, IfOk, IfSome, option_map, slice_get};
-ghost use Rattle.ripngd_trace.specs.Told.{IsTold, timers_in};
+ghost use Rattle.ripngd_trace.specs.Records.{LeadsTo, timers_in};
 
 use crate::answers::{change_records, fault_record, note_records, sent_since};
 use crate::events::{happened, moment_of, router_of};
@@ -44,7 +44,7 @@ struct Tracer<'a, W: Write> {
     out: &'a mut W,
 }
 
-// What a reader has to be told of the table of a router.
+/// What a reader has to be told of the table of a router.
 fn news_at<S: RouteStore>(
     alloc: Global,
     known: &mut [S],
@@ -52,7 +52,7 @@ fn news_at<S: RouteStore>(
     router: usize,
 ) -> Result<News, AllocError>
     ensures { IfOk result (λ news. IfSome (slice_get known.old router) (λ table. IfSome (slice_get lab.now.world.states router) (λ state.
-        IsTold (S.table table) news.routes.items news.gone.items state.table))) }
+        LeadsTo (S.table table) news.routes.items news.gone.items state.table))) }
 {
     match (known.get_mut(router), lab.router(router)) {
         (Some(known), Some(router)) => news_of(alloc, known, router.routes()),
@@ -60,7 +60,7 @@ fn news_at<S: RouteStore>(
     }
 }
 
-// Writes a record as one line.
+/// Writes a record as one line.
 fn write_record<T: Serialize, W: Write>(alloc: Global, record: &T, out: &mut W) -> io::Result<()> {
     let Ok(mut text) = serde_json::to_vec(alloc, record) else {
         return Err(io::Error::from(AllocError));
@@ -70,7 +70,7 @@ fn write_record<T: Serialize, W: Write>(alloc: Global, record: &T, out: &mut W) 
 }
 
 impl<'a, W: Write> Tracer<'a, W> {
-    // A router that has started. Its routes are known from now on.
+    /// A router that has started. Its routes are known from now on.
     fn router_record(
         &mut self,
         lab: &Lab<TrieRoutes>,
@@ -102,7 +102,7 @@ impl<'a, W: Write> Tracer<'a, W> {
         Ok(records)
     }
 
-    // An event that was done.
+    /// An event that was done.
     fn event_record(
         &mut self,
         lab: &Lab<TrieRoutes>,
@@ -111,8 +111,8 @@ impl<'a, W: Write> Tracer<'a, W> {
         first: usize,
     ) -> Result<EventRecord, AllocError>
         ensures timers { IfOk result (λ r. r.timers ≡ option_map timers_in (slice_get lab.now.world.states r.router)) }
-        ensures told { IfOk result (λ r. IfSome (slice_get self.old.known.items r.router) (λ table. IfSome (slice_get lab.now.world.states r.router) (λ state.
-            IsTold table r.routes.items r.gone.items state.table))) }
+        ensures listed { IfOk result (λ r. IfSome (slice_get self.old.known.items r.router) (λ table. IfSome (slice_get lab.now.world.states r.router) (λ state.
+            LeadsTo table r.routes.items r.gone.items state.table))) }
     {
         let router = router_of(event);
         let news = news_at(self.alloc, &mut self.known, lab, router)?;
@@ -132,7 +132,7 @@ impl<'a, W: Write> Tracer<'a, W> {
         })
     }
 
-    // What a line prints.
+    /// What a line prints.
     fn write_prints(&mut self, record: &'static str, prints: &[u8]) -> io::Result<()> {
         let text = str::from_utf8(prints).unwrap_or("");
         let record = PrintRecord {

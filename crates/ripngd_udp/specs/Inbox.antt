@@ -1,9 +1,23 @@
 -- How datagrams wait for the router, and are given to it.
-use Rattle.std.specs.Prelude.{ℕ, ◌≡◌, ◌++◌, Bool, MatchBool, List, [], ◌∷◌, length, min, take, vec_len}
+use Rattle.std.specs.Prelude.{ℕ, ◌≡◌, ◌+◌, ◌<◌, ◌≤◌, ◌++◌, Bool, MatchBool, List, [], ◌∷◌, length, min, take, vec_len}
+use Rattle.std.specs.List.{sum_by}
 use Rattle.ripngd_config.specs.declared.peer.Peer.{Peer}
 use Rattle.ripngd_engine.specs.declared.link.Received.{Received}
 use Rattle.ripngd_udp.specs.declared.inbox.Heard.{Heard}
 use Rattle.ripngd_udp.specs.Udp.{as_of}
+
+-- how many bytes these datagrams have together
+abbrev pub bytes_of : List Heard → ℕ
+bytes_of heard = sum_by (λ h. vec_len h.bytes) heard
+
+-- 16,384 datagrams may wait, with 32 MiB together
+pub record MayWait (heard : List Heard) : Type 0 where
+  pub few : length heard ≤ 16384
+  pub small : bytes_of heard ≤ 33554432
+
+-- one of so many bytes may wait beside them
+abbrev pub HasRoom : List Heard → ℕ → Type 0
+HasRoom heard len = (length heard < 16384) × (bytes_of heard + len ≤ 33554432)
 
 -- a datagram of that peer waits behind the others
 pub record Behind (heard after : List Heard) (iface : ℕ) (peer : Peer) (bytes : List ℕ) : Type 0 where

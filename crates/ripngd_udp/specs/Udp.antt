@@ -7,6 +7,16 @@ use Rattle.router_core.specs.declared.answer.Destination.TheVariants as to
 use Rattle.ripngd_udp.specs.declared.udp.UdpError.{UdpError}
 use Rattle.ripngd_udp.specs.declared.udp.UdpError.TheVariants.{Bind, OutOfMemory}
 
+-- what contracts see of a link: its interfaces, the sends that failed when they had waited, and the arrivals that were not kept
+pub record LinkState : Type 0 where
+  pub interfaces : ℕ
+  pub failed_sends : ℕ
+  pub lost_arrivals : ℕ
+
+-- a link with so many interfaces that has lost nothing
+abbrev pub fresh : ℕ → LinkState
+fresh interfaces = record { interfaces = interfaces; failed_sends = 0; lost_arrivals = 0 }
+
 -- a port that is named is one of those that were asked for
 abbrev pub NamesPortOf : List ℕ → UdpError → Type 0
 NamesPortOf ports (Bind port) = Contains ports port

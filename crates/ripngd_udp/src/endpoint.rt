@@ -1,7 +1,9 @@
 //! The socket of an interface, at a port of 127.0.0.1, with its neighbors.
 
-ghost use Rattle.std.specs.Prelude.{◌≡◌, ◌==◌, ◌<◌, ◌≤◌, ◌↔◌, ◌⊎◌, [], Contains, IfErr, IfOk, IfSome, IsTrue, length};
+ghost use Rattle.std.specs.Prelude.{◌≡◌, ◌==◌, ◌<◌, ◌≤◌, ◌↔◌, ◌⊎◌, [], true, Contains, IfErr, IfOk, Ok, IfSome, IsTrue, length};
 ghost use Rattle.std.specs.IoError.{error_kind};
+ghost use Rattle.std.specs.Net.Socket.{IsPlainSocket};
+ghost use Rattle.ripngd_udp.specs.Sockets.{GrowsUpTo};
 
 use crate::inbox::Inbox;
 use crate::outbox::Outbox;
@@ -29,7 +31,9 @@ pub(crate) struct Endpoint {
 }
 
 /// A port of 127.0.0.1.
-pub(crate) fn local(port: u16) -> SocketAddr {
+pub(crate) fn local(port: u16) -> SocketAddr
+    ensures { IsPlainSocket result port }
+{
     SocketAddr::new(IpAddr::V4(Ipv4Addr::LOCALHOST), port)
 }
 
@@ -74,7 +78,9 @@ impl Endpoint {
         port: u16,
         peers: Vec<Peer>,
         wait: Duration,
-    ) -> io::Result<Endpoint> {
+    ) -> io::Result<Endpoint>
+        ensures { IfOk result (λ endpoint. endpoint.outbox.failed ≡ 0) }
+    {
         let socket = UdpSocket::bind(net, local(port))?;
         socket.set_read_timeout(Some(wait))?;
         socket.set_write_timeout(Some(wait))?;
@@ -91,7 +97,7 @@ impl Endpoint {
     /// another than the last time, and before a datagram is taken.
     fn recv_from(&mut self, buffer: &mut [u8], may_wait: bool) -> io::Result<(usize, SocketAddr)>
         ensures within { IfOk result (λ r. r.0 ≤ length buffer.new) }
-        ensures same { length buffer.new ≡ length buffer.old }
+        ensures same { (length buffer.new ≡ length buffer.old) × (self.new.outbox ≡ self.old.outbox) }
     {
         if self.waits != may_wait {
             self.socket.set_nonblocking(!may_wait)?;
@@ -102,7 +108,8 @@ impl Endpoint {
 
     /// The peer that stands at an address of this machine.
     fn peer_at(&self, from: SocketAddr) -> Option<Peer>
-        ensures { IfSome result (λ peer. Contains self.now.peers.items peer) }
+        ensures peer { IfSome result (λ peer. Contains self.now.peers.items peer) }
+        ensures port { IfSome result (λ peer. IsPlainSocket from peer.local_port) }
     {
         for peer in self.peers.iter() {
             if from == local(peer.local_port) {
@@ -112,7 +119,8 @@ impl Endpoint {
         None
     }
 
-    /// Takes in one datagram, by way of a buffer, and answers whether to look for another. One of a stranger is dropped.
+    /// Takes in one datagram, by way of a buffer, and answers whether to look for another. One of a stranger is dropped,
+    /// and one that is not kept is counted.
     ///
     /// # Errors
     /// Where the socket could not be read.
@@ -124,7 +132,9 @@ impl Endpoint {
         may_wait: bool,
     ) -> Result<bool, LinkFault>
         requires { iface < inbox.old.interfaces }
-        ensures same { inbox.new.interfaces ≡ inbox.old.interfaces }
+        ensures lost { GrowsUpTo 1 inbox.old.lost inbox.new.lost }
+        ensures more { result ≡ Ok true → inbox.new.lost ≡ inbox.old.lost }
+        ensures same { (inbox.new.interfaces ≡ inbox.old.interfaces) × (self.new.outbox ≡ self.old.outbox) }
     {
         match self.recv_from(buffer, may_wait) {
             Ok((len, from)) => match self.peer_at(from) {
@@ -136,7 +146,7 @@ impl Endpoint {
         }
     }
 
-    /// Takes in what is there, as far as there is room for it.
+    /// Takes in what is there, until there is no room for one, which is lost.
     ///
     /// # Errors
     /// Where the socket could not be read.
@@ -147,10 +157,11 @@ impl Endpoint {
         inbox: &mut Inbox,
     ) -> Result<(), LinkFault>
         requires { iface < inbox.old.interfaces }
-        ensures same { inbox.new.interfaces ≡ inbox.old.interfaces }
+        ensures lost { GrowsUpTo 1 inbox.old.lost inbox.new.lost }
+        ensures same { (inbox.new.interfaces ≡ inbox.old.interfaces) × (self.new.outbox ≡ self.old.outbox) }
     {
         for _ in 0..TAKEN_AT_ONCE {
-            if inbox.is_full() || !self.take_one(iface, buffer, inbox, false)? {
+            if !self.take_one(iface, buffer, inbox, false)? {
                 return Ok(());
             }
         }
@@ -158,20 +169,25 @@ impl Endpoint {
     }
 
     /// Sends to each peer that is meant, in its turn, at a moment in milliseconds.
-    pub(crate) fn send(&mut self, outgoing: &Outgoing, now: u64) -> Result<(), LinkFault> {
+    pub(crate) fn send(&mut self, outgoing: &Outgoing, now: u64) -> Result<(), LinkFault>
+        ensures { self.new.outbox.failed ≡ self.old.outbox.failed }
+    {
         self.outbox
             .send(&mut self.socket, self.peers.as_slice(), outgoing, now)
     }
 
     /// Sends of what waits as much as may go at a moment, in milliseconds.
-    pub(crate) fn send_due(&mut self, now: u64) {
+    pub(crate) fn send_due(&mut self, now: u64)
+        ensures { self.old.outbox.failed ≤ self.new.outbox.failed }
+    {
         self.outbox
             .send_due(&mut self.socket, self.peers.as_slice(), now);
     }
 
     /// Sends all that waits, at once.
     pub(crate) fn send_all(&mut self)
-        ensures { self.new.outbox.waiting.items ≡ [] }
+        ensures all { self.new.outbox.waiting.items ≡ [] }
+        ensures failed { self.old.outbox.failed ≤ self.new.outbox.failed }
     {
         self.outbox
             .send_all(&mut self.socket, self.peers.as_slice());
@@ -185,7 +201,9 @@ impl Endpoint {
     }
 
     /// How many datagrams could not be sent when they had waited.
-    pub(crate) fn failed(&self) -> u64 {
+    pub(crate) fn failed(&self) -> u64
+        ensures { result ≡ self.now.outbox.failed }
+    {
         self.outbox.failed()
     }
 }

@@ -1,9 +1,10 @@
 //! What neighbors sent and the router has not taken in yet. A socket holds little, so it is emptied into here while the
 //! router works.
 
-ghost use Rattle.std.specs.Prelude.{◌≡◌, ◌<◌, ◌≤◌, [], MatchOption, IfSome, is_ok, length, min, take};
+ghost use Rattle.std.specs.Prelude.{◌≡◌, ◌<◌, ◌≤◌, [], MatchOption, IfSome, IsTrue, if◌then◌else◌, is_ok, length, min, take};
 ghost use Rattle.std.specs.List.{All};
-ghost use Rattle.ripngd_udp.specs.Inbox.{Gives, Keeps};
+ghost use Rattle.ripngd_engine.specs.Run.{counted};
+ghost use Rattle.ripngd_udp.specs.Inbox.{Gives, HasRoom, Keeps, MayWait, bytes_of};
 
 use ripngd_config::Peer;
 use ripngd_engine::Received;
@@ -12,6 +13,9 @@ use std::collections::VecDeque;
 
 /// How many datagrams wait at most: more than a whole table from each neighbor on 16 interfaces has.
 const ROOM: usize = 16_384;
+
+/// How many bytes they have together at most, 32 MiB: as many as 16,384 datagrams of 2,048 bytes, more than any update's.
+const ROOM_BYTES: usize = 32 << 20;
 
 /// A datagram of a neighbor.
 #[derive(Drop)]
@@ -26,12 +30,16 @@ pub(crate) struct Heard {
 #[derive(Drop)]
 pub(crate) struct Inbox {
     heard: VecDeque<Heard>,
+    /// How many bytes they have together.
+    held: usize,
     /// How many interfaces the link has.
     interfaces: usize,
-    /// How many datagrams were lost for want of memory.
+    /// How many datagrams were lost for want of room or memory.
     lost: u64,
     alloc: Global,
     ghost inside: { All (λ h. h.iface < interfaces) heard.items },
+    ghost summed: { held ≡ bytes_of heard.items },
+    ghost room: { MayWait heard.items },
 }
 
 /// Copies as much as fits to the head of a buffer, and answers how much.
@@ -48,36 +56,41 @@ fn copy_into(buffer: &mut [u8], bytes: &[u8]) -> usize
 impl Inbox {
     /// Where nothing has come in.
     pub(crate) fn new(alloc: Global, interfaces: usize) -> Inbox
-        ensures { (result.heard.items ≡ []) × (result.interfaces ≡ interfaces) }
+        ensures { (result.heard.items ≡ []) × (result.interfaces ≡ interfaces) × (result.lost ≡ 0) }
     {
         Inbox {
             heard: VecDeque::new(alloc),
+            held: 0,
             interfaces,
             lost: 0,
             alloc,
         }
     }
 
-    /// Whether there is room for no more.
-    pub(crate) fn is_full(&self) -> bool {
-        self.heard.len() >= ROOM
+    /// Whether there is room for a datagram of so many bytes.
+    fn has_room(&self, len: usize) -> bool
+        ensures { IsTrue result → HasRoom self.now.heard.items len }
+    {
+        self.heard.len() < ROOM && len <= ROOM_BYTES - self.held
     }
 
-    /// How many datagrams were lost for want of memory.
+    /// How many datagrams were lost for want of room or memory.
     pub(crate) fn lost(&self) -> u64
         ensures { result ≡ self.now.lost }
     {
         self.lost
     }
 
-    /// Keeps a datagram of a neighbor behind the others, and answers whether there was memory for it. Without it is lost
-    /// alone.
+    /// Keeps a datagram of a neighbor behind the others, and answers whether there was room and memory for it. Without it
+    /// is lost alone, and counted.
     pub(crate) fn keep(&mut self, iface: usize, peer: Peer, bytes: &[u8]) -> bool
         requires { iface < self.old.interfaces }
         ensures kept { Keeps self.old.heard.items self.new.heard.items iface peer bytes.now result }
+        ensures room { MayWait self.new.heard.items }
+        ensures lost { self.new.lost ≡ counted self.old.lost (if result then 0 else 1) }
         ensures same { self.new.interfaces ≡ self.old.interfaces }
     {
-        let kept = self.push(iface, peer, bytes).is_ok();
+        let kept = self.has_room(bytes.len()) && self.push(iface, peer, bytes).is_ok();
         if !kept {
             self.lost = self.lost.saturating_add(1);
         }
@@ -85,12 +98,15 @@ impl Inbox {
     }
 
     fn push(&mut self, iface: usize, peer: Peer, bytes: &[u8]) -> Result<(), AllocError>
-        requires { iface < self.old.interfaces }
+        requires interface { iface < self.old.interfaces }
+        requires room { HasRoom self.old.heard.items (length bytes.now) }
         ensures kept { Keeps self.old.heard.items self.new.heard.items iface peer bytes.now (is_ok result) }
-        ensures same { self.new.interfaces ≡ self.old.interfaces }
+        ensures same { (self.new.interfaces ≡ self.old.interfaces) × (self.new.lost ≡ self.old.lost) }
     {
+        let len = bytes.len();
         let bytes = Vec::from_slice(self.alloc, bytes)?;
         self.heard.push_back(Heard { iface, peer, bytes })?;
+        self.held += len;
         Ok(())
     }
 
@@ -99,9 +115,10 @@ impl Inbox {
         ensures first { MatchOption result ((self.old.heard.items ≡ []) × (self.new.heard.items ≡ [])) (Gives self.old.heard.items self.new.heard.items buffer.new) }
         ensures interface { IfSome result (λ r. r.iface < self.old.interfaces) }
         ensures within { IfSome result (λ r. r.len ≤ length buffer.new) }
-        ensures same { self.new.interfaces ≡ self.old.interfaces }
+        ensures same { (self.new.interfaces ≡ self.old.interfaces) × (self.new.lost ≡ self.old.lost) }
     {
         let Heard { iface, peer, bytes } = self.heard.pop_front()?;
+        self.held -= bytes.len();
         let len = copy_into(buffer, bytes.as_slice());
         Some(Received {
             iface,

@@ -100,7 +100,8 @@ impl Outbox {
         outgoing: &Outgoing,
         now: u64,
     ) -> Result<(), LinkFault>
-        ensures { SentOrKept peers.now (C.tries carrier.old) (C.tries carrier.new) self.old.waiting.items self.new.waiting.items outgoing.now (is_ok result) }
+        ensures sent { SentOrKept peers.now (C.tries carrier.old) (C.tries carrier.new) self.old.waiting.items self.new.waiting.items outgoing.now (is_ok result) }
+        ensures same { self.new.failed ≡ self.old.failed }
     {
         if self.waiting.is_empty() && self.pace.take(1, now) == 1 {
             send(carrier, peers, &outgoing.to, outgoing.bytes.as_slice())

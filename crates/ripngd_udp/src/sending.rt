@@ -42,7 +42,7 @@ pub(crate) trait Carrier {
 
     /// Tries once to send the bytes to a port.
     fn try_send(&mut self, port: u16, bytes: &[u8]) -> Tried
-        ensures told { Gains (tries self.old) (tries self.new) (tried port bytes.now result ∷ []) };
+        ensures gained { Gains (tries self.old) (tries self.new) (tried port bytes.now result ∷ []) };
 }
 
 /// Whether a datagram to that destination goes to the peer.

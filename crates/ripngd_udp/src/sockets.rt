@@ -1,7 +1,7 @@
 //! The sockets of all interfaces: when they are read, when they are sent to, and when they are waited for.
 
 ghost use Rattle.std.specs.Prelude.{◌≡◌, true, ◌<◌, ◌≤◌, [], IsNone, IfOk, IfSome, length, vec_len};
-ghost use Rattle.ripngd_udp.specs.Sockets.{none_waits};
+ghost use Rattle.ripngd_udp.specs.Sockets.{failed_of, none_waits};
 
 use crate::clock::Uptime;
 use crate::endpoint::Endpoint;
@@ -52,7 +52,7 @@ pub(crate) struct Sockets<'a, R: Clock> {
 impl<'a, R: Clock> Sockets<'a, R> {
     /// These sockets, before anything has come in.
     pub(crate) fn new(rt: &'a R, alloc: Global, endpoints: Vec<Endpoint>) -> Sockets<'a, R>
-        ensures { result.endpoints ≡ endpoints }
+        ensures { (result.endpoints ≡ endpoints) × (result.inbox.lost ≡ 0) }
     {
         let inbox = Inbox::new(alloc, endpoints.len());
         Sockets {
@@ -73,6 +73,7 @@ impl<'a, R: Clock> Sockets<'a, R> {
 
     /// Sends of what waits as much as may go now.
     fn send_due(&mut self)
+        ensures failed { failed_of self.old.endpoints.items ≤ failed_of self.new.endpoints.items }
         ensures same { vec_len self.new.endpoints ≡ vec_len self.old.endpoints }
         ensures heard { self.new.inbox ≡ self.old.inbox }
     {
@@ -86,7 +87,9 @@ impl<'a, R: Clock> Sockets<'a, R> {
 
     /// Sends all that waits, at once.
     fn send_all(&mut self)
+        ensures failed { failed_of self.old.endpoints.items ≤ failed_of self.new.endpoints.items }
         ensures same { vec_len self.new.endpoints ≡ vec_len self.old.endpoints }
+        ensures heard { self.new.inbox ≡ self.old.inbox }
         ensures all { none_waits self.new.endpoints.items ≡ true }
     {
         for iface in 0..self.endpoints.len() {
@@ -109,6 +112,8 @@ impl<'a, R: Clock> Sockets<'a, R> {
 
     /// Takes in what is there.
     fn take_all(&mut self, buffer: &mut [u8]) -> Result<(), LinkFault>
+        ensures failed { failed_of self.new.endpoints.items ≡ failed_of self.old.endpoints.items }
+        ensures lost { self.old.inbox.lost ≤ self.new.inbox.lost }
         ensures same { vec_len self.new.endpoints ≡ vec_len self.old.endpoints }
     {
         for iface in 0..self.endpoints.len() {
@@ -122,6 +127,8 @@ impl<'a, R: Clock> Sockets<'a, R> {
     /// Waits a little where nothing has come in: until more may be sent, or for a datagram of the next interface.
     fn wait(&mut self, buffer: &mut [u8]) -> Result<(), LinkFault>
         requires { self.old.inbox.heard.items ≡ [] }
+        ensures failed { failed_of self.new.endpoints.items ≡ failed_of self.old.endpoints.items }
+        ensures lost { self.old.inbox.lost ≤ self.new.inbox.lost }
         ensures same { vec_len self.new.endpoints ≡ vec_len self.old.endpoints }
     {
         if !self.has_sent() {
@@ -147,6 +154,8 @@ impl<'a, R: Clock> Sockets<'a, R> {
         ensures silent { IfOk result (λ o. IsNone o → self.new.inbox.heard.items ≡ []) }
         ensures interface { IfOk result (λ o. IfSome o (λ r. r.iface < vec_len self.old.endpoints)) }
         ensures within { IfOk result (λ o. IfSome o (λ r. r.len ≤ length buffer.new)) }
+        ensures failed { failed_of self.old.endpoints.items ≤ failed_of self.new.endpoints.items }
+        ensures lost { self.old.inbox.lost ≤ self.new.inbox.lost }
         ensures same { vec_len self.new.endpoints ≡ vec_len self.old.endpoints }
     {
         self.send_due();
@@ -161,6 +170,8 @@ impl<'a, R: Clock> Sockets<'a, R> {
     pub(crate) fn recv(&mut self, buffer: &mut [u8]) -> Result<Option<Received>, LinkFault>
         ensures interface { IfOk result (λ o. IfSome o (λ r. r.iface < vec_len self.old.endpoints)) }
         ensures within { IfOk result (λ o. IfSome o (λ r. r.len ≤ length buffer.new)) }
+        ensures failed { failed_of self.old.endpoints.items ≤ failed_of self.new.endpoints.items }
+        ensures lost { self.old.inbox.lost ≤ self.new.inbox.lost }
         ensures same { vec_len self.new.endpoints ≡ vec_len self.old.endpoints }
     {
         let begun = self.clock.now().ms();
@@ -176,6 +187,8 @@ impl<'a, R: Clock> Sockets<'a, R> {
 
     /// Sends a datagram in its turn, on the interface that it names.
     pub(crate) fn send(&mut self, outgoing: &Outgoing) -> Result<(), LinkFault>
+        ensures failed { failed_of self.new.endpoints.items ≡ failed_of self.old.endpoints.items }
+        ensures lost { self.new.inbox.lost ≡ self.old.inbox.lost }
         ensures same { vec_len self.new.endpoints ≡ vec_len self.old.endpoints }
     {
         let now = self.clock.now().ms();
@@ -187,6 +200,8 @@ impl<'a, R: Clock> Sockets<'a, R> {
 
     /// Sends all that waits, at the pace of the neighbors.
     pub(crate) fn finish(&mut self)
+        ensures failed { failed_of self.old.endpoints.items ≤ failed_of self.new.endpoints.items }
+        ensures lost { self.new.inbox.lost ≡ self.old.inbox.lost }
         ensures same { vec_len self.new.endpoints ≡ vec_len self.old.endpoints }
         ensures all { none_waits self.new.endpoints.items ≡ true }
     {
@@ -201,7 +216,9 @@ impl<'a, R: Clock> Sockets<'a, R> {
     }
 
     /// How many datagrams could not be sent when they had waited.
-    pub(crate) fn failed_sends(&self) -> u64 {
+    pub(crate) fn failed_sends(&self) -> u64
+        ensures { result ≡ failed_of self.now.endpoints.items }
+    {
         let mut failed: u64 = 0;
         for endpoint in self.endpoints.iter() {
             failed = failed.saturating_add(endpoint.failed());
@@ -209,8 +226,10 @@ impl<'a, R: Clock> Sockets<'a, R> {
         failed
     }
 
-    /// How many datagrams of neighbors were lost since there was no memory to keep them.
-    pub(crate) fn lost_arrivals(&self) -> u64 {
+    /// How many datagrams of neighbors were lost since there was no room or no memory to keep them.
+    pub(crate) fn lost_arrivals(&self) -> u64
+        ensures { result ≡ self.now.inbox.lost }
+    {
         self.inbox.lost()
     }
 }

@@ -5,6 +5,7 @@ use Rattle.prefix6.specs.Places.{prefix_at}
 use Rattle.route_table.specs.Route.{RouteValue}
 use Rattle.route_table.specs.Table.{is_past}
 
+-- the routes of a table in the order of their prefixes
 abbrev pub Entries : Type 0
 Entries = List (Prefix6 × RouteValue)
 

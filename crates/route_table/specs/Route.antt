@@ -17,18 +17,22 @@ pub record RouteValue : Type 0 where
 abbrev pub infinity : ℕ
 infinity = 16
 
+-- the router itself has the prefix
 abbrev pub is_own : Origin → Bool
 is_own Own = true
 is_own (Learned iface from next_hop) = false
 
+-- it never ages
 abbrev pub is_fixed : Clock → Bool
 is_fixed Fixed = true
 is_fixed _ = false
 
+-- it waits for its deletion
 abbrev pub is_dying : Clock → Bool
 is_dying (Dying until) = true
 is_dying _ = false
 
+-- when the clock runs out, if it does
 abbrev pub deadline_by_clock : Clock → Option ℕ
 deadline_by_clock Fixed = None
 deadline_by_clock (Live until) = Some until

@@ -23,6 +23,7 @@ nothing = record { due = None; changed = false }
 abbrev pub summary_of_route : RouteValue → SummaryValue
 summary_of_route r = record { due = deadline r; changed = r.changed }
 
+-- the summary of several routes
 abbrev pub summary_of : List (Prefix6 × RouteValue) → SummaryValue
 summary_of [] = nothing
 summary_of (e ∷ es) = both (summary_of_route e.1) (summary_of es)
@@ -32,10 +33,12 @@ abbrev pub unpacked : Bool → ℕ → Option ℕ
 unpacked true n = Some n
 unpacked false n = None
 
+-- the number kept for a deadline; none is kept as 0
 abbrev pub packed_ms : Option ℕ → ℕ
 packed_ms None = 0
 packed_ms (Some n) = n
 
+-- where nothing ages, the number is 0
 abbrev pub IsPacked : ℕ → Bool → Type 0
 IsPacked due_ms ages = ages ≡ false → due_ms ≡ 0
 

@@ -11,6 +11,7 @@ use Rattle.route_table.specs.declared.store.AddRefused.TheVariants.{Full, NoMemo
 abbrev pub ByPrefix : Type 0 → Type 0
 ByPrefix X = map.FinMap prefix_cmp X
 
+-- a routing table: at most one route to each prefix
 abbrev pub Table : Type 0
 Table = ByPrefix RouteValue
 

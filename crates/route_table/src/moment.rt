@@ -73,7 +73,7 @@ impl Model for Deadline {
 }
 
 impl Deadline {
-    // The deadline that stands where there is none.
+    /// The deadline that stands where there is none.
     pub(crate) fn zero() -> Deadline
         ensures { result ≡ 0 }
     {

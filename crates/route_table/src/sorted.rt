@@ -44,7 +44,7 @@ impl Model for SortedRoutes {
     } };
 }
 
-// Where the prefix is, or where it would go.
+/// Where the prefix is, or where it would go.
 fn search(routes: &[(Prefix, Route)], prefix: &Prefix) -> Result<usize, usize>
     requires { T (is_sorted prefix_cmp routes.now) }
     ensures found { IfOk result (IsAt routes.now prefix.now) }
@@ -53,7 +53,7 @@ fn search(routes: &[(Prefix, Route)], prefix: &Prefix) -> Result<usize, usize>
     routes.binary_search_by_key(prefix, |&(p, _)| p)
 }
 
-// Where the routes past the prefix begin, or past none.
+/// Where the routes past the prefix begin, or past none.
 fn place_past(routes: &[(Prefix, Route)], after: Option<Prefix>) -> usize
     requires { T (is_sorted prefix_cmp routes.now) }
     ensures { IsStartPast routes.now after result }
@@ -67,7 +67,7 @@ fn place_past(routes: &[(Prefix, Route)], after: Option<Prefix>) -> usize
     }
 }
 
-// The least deadline of the routes that age, in milliseconds.
+/// The least deadline of the routes that age, in milliseconds.
 fn least_deadline(routes: &[(Prefix, Route)]) -> Option<u64>
     ensures { result ≡ least_deadline routes.now }
 {
@@ -78,7 +78,7 @@ fn least_deadline(routes: &[(Prefix, Route)]) -> Option<u64>
     summary.due_ms()
 }
 
-// The first route past the prefix that is wanted.
+/// The first route past the prefix that is wanted.
 fn first_wanted(
     routes: &[(Prefix, Route)],
     after: Option<Prefix>,
@@ -97,14 +97,14 @@ fn first_wanted(
 }
 
 impl SortedRoutes {
-    // The least deadline of the routes that age, in milliseconds.
+    /// The least deadline of the routes that age, in milliseconds.
     fn due_ms(&self) -> Option<u64>
         ensures { result ≡ least_deadline (entries self.now) }
     {
         least_deadline(&self.routes)
     }
 
-    // The first route past the prefix that is wanted.
+    /// The first route past the prefix that is wanted.
     fn first_wanted(&self, after: Option<Prefix>, wanted: Wanted) -> Option<(Prefix, Route)>
         ensures { result ≡ first_where (meets wanted) after (entries self.now) }
     {

@@ -16,7 +16,7 @@ fn prefix(addr: u128, len: u8) -> Result<Prefix, PrefixError> {
     Prefix::new(Addr6::from_bits(addr), len)
 }
 
-// The prefix of 48 bits at this place of 2001:db8::/32.
+/// The prefix of 48 bits at this place of 2001:db8::/32.
 fn site(number: u16) -> Result<Prefix, PrefixError> {
     prefix(DOC | u128::from(number) << 80, 48)
 }
@@ -105,7 +105,7 @@ fn a_route_is_added_replaced_and_removed(rt: HostRuntime) -> Result<(), Fail> {
     Ok(())
 }
 
-// A store with a route to each of the 65,536 sites.
+/// A store with a route to each of the 65,536 sites.
 fn full<S: RouteStore>(rt: &impl Abort, alloc: Global) -> Result<S, Fail> {
     let mut store = S::empty(alloc);
     for number in 0..=u16::MAX {

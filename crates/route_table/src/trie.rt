@@ -72,7 +72,7 @@ impl Model for Fork {
 }
 
 impl Fork {
-    // A fork with nothing at it: one that is to be filled, or to be freed.
+    /// A fork with nothing at it: one that is to be filled, or to be freed.
     fn hollow(prefix: Prefix) -> Fork
         ensures { result ≡ [] }
     {
@@ -85,7 +85,7 @@ impl Fork {
         }
     }
 
-    // A fork of these parts.
+    /// A fork of these parts.
     fn of(prefix: Prefix, own: Option<Box<Entry>>, low: Link, high: Link) -> Fork
         requires parts { AreParts prefix (owned own) (linked low) (linked high) }
         requires shared { AreShared (owned own) (linked low) (linked high) }
@@ -103,7 +103,7 @@ impl Fork {
         }
     }
 
-    // What the fork knows of the routes below it.
+    /// What the fork knows of the routes below it.
     fn summary(&self) -> Summary
         ensures { result ≡ summary_of self.now }
     {
@@ -112,7 +112,7 @@ impl Fork {
 }
 
 impl Link {
-    // Whether nothing hangs there.
+    /// Whether nothing hangs there.
     fn is_empty(&self) -> bool
         requires { HasEntries self.now }
         ensures { IsTrue result ↔ (length (linked self.now) ≡ 0) }
@@ -120,7 +120,7 @@ impl Link {
         matches!(self, Link::Empty)
     }
 
-    // What is known of the routes below the link without looking at them.
+    /// What is known of the routes below the link without looking at them.
     fn summary(&self) -> Summary
         ensures { result ≡ summary_of (linked self.now) }
     {
@@ -132,7 +132,7 @@ impl Link {
     }
 }
 
-// The summary of a fork of these parts.
+/// The summary of a fork of these parts.
 fn summary_of_parts(own: &Option<Box<Entry>>, low: &Link, high: &Link) -> Summary
     ensures { result ≡ summary_of (entries_of own.now low.now high.now) }
 {
@@ -158,8 +158,8 @@ pub fn get(link: &Link, key: &Prefix) -> Option<Route>
     Some(entry.1)
 }
 
-// The entry of a prefix below a link. A loop would be compiled to a choice between two addresses in place of a branch,
-// and then takes longer, since prefixes are mostly looked for in their order and the branch is foreseen.
+/// The entry of a prefix below a link. A loop would be compiled to a choice between two addresses in place of a branch,
+/// and then takes longer, since prefixes are mostly looked for in their order and the branch is foreseen.
 fn seek<'a>(link: &'a Link, key: &Prefix) -> Option<&'a Entry>
     ensures { option_map (λ (e : Prefix6 × RouteValue). e.1) (option_copied result) ≡ find prefix_cmp key.now (linked link.now) }
 {
@@ -179,14 +179,14 @@ fn seek<'a>(link: &'a Link, key: &Prefix) -> Option<&'a Entry>
     }
 }
 
-// The entry of a leaf, if it is the one of this prefix.
+/// The entry of a leaf, if it is the one of this prefix.
 fn at_leaf<'a>(leaf: &'a Entry, key: &Prefix) -> Option<&'a Entry>
     ensures { option_map (λ (e : Prefix6 × RouteValue). e.1) (option_copied result) ≡ find prefix_cmp key.now (leaf.now ∷ []) }
 {
     if *key == leaf.0 { Some(leaf) } else { None }
 }
 
-// The entry of a fork's own prefix, if it is the one of this prefix.
+/// The entry of a fork's own prefix, if it is the one of this prefix.
 fn at_own<'a>(own: &'a Option<Box<Entry>>, key: &Prefix) -> Option<&'a Entry>
     ensures { option_map (λ (e : Prefix6 × RouteValue). e.1) (option_copied result) ≡ find prefix_cmp key.now (owned own.now) }
 {
@@ -196,7 +196,7 @@ fn at_own<'a>(own: &'a Option<Box<Entry>>, key: &Prefix) -> Option<&'a Entry>
     }
 }
 
-// The entry of a leaf, if it is wanted.
+/// The entry of a leaf, if it is wanted.
 fn wanted_leaf(leaf: &Entry, wanted: Wanted) -> Option<&Entry>
     ensures { option_copied result ≡ first_where (meets wanted) None (leaf.now ∷ []) }
 {
@@ -207,7 +207,7 @@ fn wanted_leaf(leaf: &Entry, wanted: Wanted) -> Option<&Entry>
     }
 }
 
-// The entry of a fork's own prefix, if it is wanted.
+/// The entry of a fork's own prefix, if it is wanted.
 fn wanted_own(own: &Option<Box<Entry>>, wanted: Wanted) -> Option<&Entry>
     ensures { option_copied result ≡ first_where (meets wanted) None (owned own.now) }
 {
@@ -325,7 +325,7 @@ pub fn replace(link: &mut Link, key: &Prefix, route: &Route) -> bool
     }
 }
 
-// Sums a fork of these parts up anew if the summary of one of them may have changed. Says whether its own is another now.
+/// Sums a fork of these parts up anew if the summary of one of them may have changed. Says whether its own is another now.
 fn renew(
     summary: &mut Summary,
     changed: bool,
@@ -344,7 +344,7 @@ fn renew(
     }
 }
 
-// Sums a fork of these parts up anew, which few forks on the way up need. Says whether its summary is another now.
+/// Sums a fork of these parts up anew, which few forks on the way up need. Says whether its summary is another now.
 #[inline(never)]
 fn sum_up(summary: &mut Summary, own: &Option<Box<Entry>>, low: &Link, high: &Link) -> bool
     ensures summed { summary.new ≡ summary_of (entries_of own.now low.now high.now) }
@@ -353,7 +353,7 @@ fn sum_up(summary: &mut Summary, own: &Option<Box<Entry>>, low: &Link, high: &Li
     summary.set(summary_of_parts(own, low, high))
 }
 
-// Gives another route to a fork's own prefix, which has one. Says whether its summary may have changed.
+/// Gives another route to a fork's own prefix, which has one. Says whether its summary may have changed.
 #[inline(never)]
 fn set_own(own: &mut Option<Box<Entry>>, key: &Prefix, route: &Route) -> bool
     requires { IsSome own.old }

@@ -42,14 +42,14 @@ impl Model for TrieRoutes {
 }
 
 impl TrieRoutes {
-    // The least deadline of the routes that age, in milliseconds.
+    /// The least deadline of the routes that age, in milliseconds.
     fn due_ms(&self) -> Option<u64>
         ensures { result ≡ least_deadline (entries self.now) }
     {
         trie::due_ms(&self.root)
     }
 
-    // The first route past the prefix that is wanted.
+    /// The first route past the prefix that is wanted.
     fn first_wanted(&self, after: Option<Prefix>, wanted: Wanted) -> Option<(Prefix, Route)>
         ensures { result ≡ first_where (meets wanted) after (entries self.now) }
     {

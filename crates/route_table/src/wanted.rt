@@ -19,7 +19,7 @@ pub enum Wanted {
     Changed,
 }
 
-// Whether there is a deadline of at most so many milliseconds.
+/// Whether there is a deadline of at most so many milliseconds.
 fn is_reached(deadline: Option<Deadline>, by: u64) -> bool
     ensures { result ≡ is_reached by deadline }
 {

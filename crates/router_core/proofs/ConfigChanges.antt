@@ -8,13 +8,13 @@ use Rattle.std.proofs.lemmas.List.Elements.{All-filter, All-push}
 use Rattle.std.proofs.lemmas.Option.{slice_get-get_or}
 use Rattle.prefix6.specs.Prefix.{Prefix6, IsPrefix, same_prefix, is_routable}
 use Rattle.prefix6.proofs.PrefixLaws.{same_prefix-itself}
-use Rattle.ripng_wire.proofs.FirstFailing.{EachPasses, each_passes, none_fails}
+use Rattle.ripng_wire.proofs.FirstReason.{EachPasses, each_passes, none_fails}
 use Rattle.route_table.specs.Table.{Table, with_value}
 use Rattle.route_table.proofs.TableLaws.{None-Some, Some-same}
 use Rattle.route_table.proofs.TableSteps.{with_value-same}
-use Rattle.router_core.specs.Config.{Config, IsConfig, config_tests, each_tested, interface_tests, prefix_tests, has_address, has_prefix, is_usable_cost}
+use Rattle.router_core.specs.Config.{Config, IsConfig, config_reasons, reasons_of_each, interface_reasons, prefix_reasons, has_address, has_prefix, is_usable_cost}
 use Rattle.router_core.specs.Owning.{OwnsOnce}
-use Rattle.router_core.specs.Reconfiguring.{change_fault, change_tests, changed_config, given_up, with_cost, without_prefix}
+use Rattle.router_core.specs.Reconfiguring.{change_fault, change_reasons, changed_config, given_up, with_cost, without_prefix}
 use Rattle.router_core.specs.declared.config.ConfigRefused.{ConfigRefused}
 use Rattle.router_core.specs.declared.config.Interface.{Interface}
 use Rattle.router_core.specs.Config.{interface_limit, owned_limit}
@@ -40,18 +40,18 @@ passes_from {F = F} f n (y ∷ xs) at =
     later i x is = let e : n + suc i ≡ n + 1 + i = omega arith in subst (λ (m : ℕ). EachPasses {F = F} (f (m, x))) e (at (suc i) x is)
 
 -- what is known of each part of a configuration
-config_from : (c : Config) → 0 < length c.interfaces → length c.interfaces ≤ interface_limit → EachPasses (each_tested interface_tests c.interfaces)
-    → length c.prefixes ≤ owned_limit → EachPasses (each_tested prefix_tests c.prefixes) → All (λ t. IsPrefix t.0) c.prefixes → IsConfig c
+config_from : (c : Config) → 0 < length c.interfaces → length c.interfaces ≤ interface_limit → EachPasses (reasons_of_each interface_reasons c.interfaces)
+    → length c.prefixes ≤ owned_limit → EachPasses (reasons_of_each prefix_reasons c.prefixes) → All (λ t. IsPrefix t.0) c.prefixes → IsConfig c
 config_from c some few interfaces owned prefixes lawful =
     let none : (length c.interfaces == 0) ≡ false = grind (arith, nat_tests, some) in
     let below : nat_lt interface_limit (length c.interfaces) ≡ false = grind (arith, nat_tests, few) in
     let fits : nat_lt owned_limit (length c.prefixes) ≡ false = grind (arith, nat_tests, owned) in
     record {
-      passes = none_fails (config_tests c) (
+      passes = none_fails (config_reasons c) (
         none,
         (
           below,
-          passes-both (each_tested interface_tests c.interfaces) ((nat_lt owned_limit (length c.prefixes), ConfigRefused.TooManyPrefixes) ∷ each_tested prefix_tests c.prefixes) interfaces (fits, prefixes),
+          passes-both (reasons_of_each interface_reasons c.interfaces) ((nat_lt owned_limit (length c.prefixes), ConfigRefused.TooManyPrefixes) ∷ reasons_of_each prefix_reasons c.prefixes) interfaces (fits, prefixes),
         ),
       );
       prefixes = lawful;
@@ -94,15 +94,15 @@ module _ (xs : List Interface) (k cost : ℕ) (x : Interface) (is : slice_get xs
       ∙ ap (take j) (same_addresses xs k is) ∙ take-map (λ (i : Interface). i.addr) j xs)
       ∙ any_map (λ b. b == a) (λ (i : Interface). i.addr) (take j xs)
 
-  module _ (usable : is_usable_cost cost ≡ true) (at : (j : ℕ) (z : Interface) → slice_get xs j ≡ Some z → EachPasses (interface_tests (take j xs) z)) where
-    still : (j : ℕ) (y : Interface) → slice_get (slice_set xs k (record x { cost = cost })) j ≡ Some y → EachPasses (interface_tests (take j (slice_set xs k (record x { cost = cost }))) y)
+  module _ (usable : is_usable_cost cost ≡ true) (at : (j : ℕ) (z : Interface) → slice_get xs j ≡ Some z → EachPasses (interface_reasons (take j xs) z)) where
+    still : (j : ℕ) (y : Interface) → slice_get (slice_set xs k (record x { cost = cost })) j ≡ Some y → EachPasses (interface_reasons (take j (slice_set xs k (record x { cost = cost }))) y)
     still j y e = by_place (placed xs k (record x { cost = cost }) j y e)
       where
-        by_place : ((k ≡ j) × (record x { cost = cost } ≡ y)) ⊎ (slice_get xs j ≡ Some y) → EachPasses (interface_tests (take j (slice_set xs k (record x { cost = cost }))) y)
+        by_place : ((k ≡ j) × (record x { cost = cost } ≡ y)) ⊎ (slice_get xs j ≡ Some y) → EachPasses (interface_reasons (take j (slice_set xs k (record x { cost = cost }))) y)
         by_place (inr there) = let h = at j y there in (h.0, (same_earlier j y.addr ∙ h.1.0, h.1.1))
         by_place (inl both) =
             let h = at k x is in
-            subst (λ (z : Interface). EachPasses (interface_tests (take j (slice_set xs k (record x { cost = cost }))) z)) both.1
+            subst (λ (z : Interface). EachPasses (interface_reasons (take j (slice_set xs k (record x { cost = cost }))) z)) both.1
             (h.0, (same_earlier j x.addr ∙ ap (λ m. has_address (take m xs) x.addr) (sym both.0) ∙ h.1.0, (ap not usable, h.1.1.1)))
 
 pub lawful_cost : (c : Config) → IsConfig c → (k cost : ℕ) (x : Interface) → slice_get c.interfaces k ≡ Some x → is_usable_cost cost ≡ true
@@ -114,11 +114,11 @@ lawful_cost c lawful k cost x is usable =
     config_from (record c { interfaces = slice_set c.interfaces k (record x { cost = cost }) })
     (subst (λ (n : ℕ). 0 < n) (sym same) some)
     (subst (λ (n : ℕ). n ≤ interface_limit) (sym same) few)
-    (passes_from (λ t. interface_tests (take t.0 (slice_set c.interfaces k (record x { cost = cost }))) t.1) 0 (slice_set c.interfaces k (record x { cost = cost }))
+    (passes_from (λ t. interface_reasons (take t.0 (slice_set c.interfaces k (record x { cost = cost }))) t.1) 0 (slice_set c.interfaces k (record x { cost = cost }))
     (λ j y here. let e : 0 + j ≡ j = omega arith in
-    subst (λ (m : ℕ). EachPasses (interface_tests (take m (slice_set c.interfaces k (record x { cost = cost }))) y)) (sym e)
+    subst (λ (m : ℕ). EachPasses (interface_reasons (take m (slice_set c.interfaces k (record x { cost = cost }))) y)) (sym e)
     (still c.interfaces k cost x is usable (λ i z there. let f : 0 + i ≡ i = omega arith in
-    subst (λ (m : ℕ). EachPasses (interface_tests (take m c.interfaces) z)) f (interface_passes c lawful i z there)) j y here)))
+    subst (λ (m : ℕ). EachPasses (interface_reasons (take m c.interfaces) z)) f (interface_passes c lawful i z there)) j y here)))
     (few_prefixes c lawful) (prefixes_pass c lawful).1 lawful.prefixes
 
 -- the interface that was set
@@ -163,10 +163,10 @@ abbrev AreRoutable : List (Prefix6 × ℕ) → Type 0
 AreRoutable ts = AllByRecursion (λ t. not (is_routable t.0) ≡ false) ts
 
 module _ (c : Config) (lawful : IsConfig c) where
-  tests_at : (i : ℕ) (t : Prefix6 × ℕ) → slice_get c.prefixes i ≡ Some t → EachPasses (prefix_tests (take i c.prefixes) t)
+  tests_at : (i : ℕ) (t : Prefix6 × ℕ) → slice_get c.prefixes i ≡ Some t → EachPasses (prefix_reasons (take i c.prefixes) t)
   tests_at i t is =
       let e : 0 + i ≡ i = omega arith in
-      subst (λ (m : ℕ). EachPasses (prefix_tests (take m c.prefixes) t)) e (passes_at (λ u. prefix_tests (take u.0 c.prefixes) u.1) 0 c.prefixes i t is (prefixes_pass c lawful).1)
+      subst (λ (m : ℕ). EachPasses (prefix_reasons (take m c.prefixes) t)) e (passes_at (λ u. prefix_reasons (take u.0 c.prefixes) u.1) 0 c.prefixes i t is (prefixes_pass c lawful).1)
 
   -- no prefix stands twice
   pub owned_once : OwnsOnce c.prefixes
@@ -175,11 +175,11 @@ module _ (c : Config) (lawful : IsConfig c) where
   routable : AreRoutable c.prefixes
   routable = all_from (λ t. not (is_routable t.0) ≡ false) c.prefixes (λ j u is. (tests_at j u is).1.0)
 
-prefixes_from : (ts : List (Prefix6 × ℕ)) → OwnsOnce ts → AreRoutable ts → EachPasses (each_tested prefix_tests ts)
+prefixes_from : (ts : List (Prefix6 × ℕ)) → OwnsOnce ts → AreRoutable ts → EachPasses (reasons_of_each prefix_reasons ts)
 prefixes_from ts once may =
-    passes_from (λ u. prefix_tests (take u.0 ts) u.1) 0 ts
+    passes_from (λ u. prefix_reasons (take u.0 ts) u.1) 0 ts
     (λ i t is. let e : 0 + i ≡ i = omega arith in
-    subst (λ (m : ℕ). EachPasses (prefix_tests (take m ts) t)) (sym e) (once_at ts once i t is, (all_at (λ u. not (is_routable u.0) ≡ false) ts may i t is, tt)))
+    subst (λ (m : ℕ). EachPasses (prefix_reasons (take m ts) t)) (sym e) (once_at ts once i t is, (all_at (λ u. not (is_routable u.0) ≡ false) ts may i t is, tt)))
 
 -- other prefixes
 lawful_prefixes : (c : Config) → IsConfig c → (ts : List (Prefix6 × ℕ)) → length ts ≤ owned_limit → OwnsOnce ts → AreRoutable ts → All (λ t. IsPrefix t.0) ts
@@ -223,7 +223,7 @@ undone (t ∷ ts) p tag new itself =
 
 -- where nothing refuses that a prefix is owned, it is not owned yet
 pub not_owned : (c : Config) (table : Table) (p : Prefix6) (tag : ℕ) → change_fault c table (Own p tag) ≡ None → has_prefix c.prefixes p ≡ false
-not_owned c table p tag allowed = (each_passes (change_tests c table (Own p tag)) allowed).1.0
+not_owned c table p tag allowed = (each_passes (change_reasons c table (Own p tag)) allowed).1.0
 
 -- the configuration is as before it was owned
 pub undone_config : (c : Config) (table : Table) (p : Prefix6) (tag : ℕ) → change_fault c table (Own p tag) ≡ None

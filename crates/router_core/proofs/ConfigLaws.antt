@@ -3,9 +3,9 @@ use Rattle.std.proofs.Common.{◌≡◌, ℕ, zero, suc, ◌+◌, ◌<◌, ◌�
 use Rattle.std.specs.List.{enumerate_from, flat_map, list_any}
 use Rattle.std.proofs.lemmas.Bool.Decides.{nat_tests}
 use Rattle.prefix6.specs.Prefix.{Prefix6, same_prefix}
-use Rattle.ripng_wire.proofs.FirstFailing.{EachPasses, each_passes}
+use Rattle.ripng_wire.proofs.FirstReason.{EachPasses, each_passes}
 use Rattle.route_table.specs.Route.{infinity}
-use Rattle.router_core.specs.Config.{Config, IsConfig, mtu_at, config_tests, each_tested, interface_tests, prefix_tests}
+use Rattle.router_core.specs.Config.{Config, IsConfig, mtu_at, config_reasons, reasons_of_each, interface_reasons, prefix_reasons}
 use Rattle.router_core.specs.declared.config.ConfigRefused.{ConfigRefused}
 use Rattle.router_core.specs.declared.config.Interface.{Interface}
 use Rattle.router_core.specs.Config.{interface_limit, owned_limit}
@@ -30,14 +30,14 @@ passes_at {F = F} f n (y ∷ xs) (suc i) x is h =
     subst (λ (m : ℕ). EachPasses {F = F} (f (m, x))) e (passes_at f (n + 1) xs i x is rest)
 
 module _ (c : Config) (lawful : IsConfig c) where
-  pub all_pass : EachPasses (config_tests c)
-  all_pass = each_passes (config_tests c) lawful.passes
+  pub all_pass : EachPasses (config_reasons c)
+  all_pass = each_passes (config_reasons c) lawful.passes
 
-  pub interfaces_pass : EachPasses (each_tested interface_tests c.interfaces)
-  interfaces_pass = (passes-append (each_tested interface_tests c.interfaces) ((nat_lt owned_limit (length c.prefixes), ConfigRefused.TooManyPrefixes) ∷ each_tested prefix_tests c.prefixes) all_pass.1.1).0
+  pub interfaces_pass : EachPasses (reasons_of_each interface_reasons c.interfaces)
+  interfaces_pass = (passes-append (reasons_of_each interface_reasons c.interfaces) ((nat_lt owned_limit (length c.prefixes), ConfigRefused.TooManyPrefixes) ∷ reasons_of_each prefix_reasons c.prefixes) all_pass.1.1).0
 
-  pub prefixes_pass : (nat_lt owned_limit (length c.prefixes) ≡ false) × EachPasses (each_tested prefix_tests c.prefixes)
-  prefixes_pass = (passes-append (each_tested interface_tests c.interfaces) ((nat_lt owned_limit (length c.prefixes), ConfigRefused.TooManyPrefixes) ∷ each_tested prefix_tests c.prefixes) all_pass.1.1).1
+  pub prefixes_pass : (nat_lt owned_limit (length c.prefixes) ≡ false) × EachPasses (reasons_of_each prefix_reasons c.prefixes)
+  prefixes_pass = (passes-append (reasons_of_each interface_reasons c.interfaces) ((nat_lt owned_limit (length c.prefixes), ConfigRefused.TooManyPrefixes) ∷ reasons_of_each prefix_reasons c.prefixes) all_pass.1.1).1
 
   -- there are few interfaces and few prefixes
   pub few_interfaces : length c.interfaces ≤ interface_limit
@@ -50,8 +50,8 @@ module _ (c : Config) (lawful : IsConfig c) where
   some_interface = let h = all_pass.0 in grind (arith, nat_tests, h)
 
   module _ (i : ℕ) (x : Interface) (is : slice_get c.interfaces i ≡ Some x) where
-    pub interface_passes : EachPasses (interface_tests (take (0 + i) c.interfaces) x)
-    interface_passes = passes_at (λ t. interface_tests (take t.0 c.interfaces) t.1) 0 c.interfaces i x is interfaces_pass
+    pub interface_passes : EachPasses (interface_reasons (take (0 + i) c.interfaces) x)
+    interface_passes = passes_at (λ t. interface_reasons (take t.0 c.interfaces) t.1) 0 c.interfaces i x is interfaces_pass
 
     -- each MTU is 1,280 to 65,535 bytes
     pub mtu_low : 1280 ≤ x.mtu
@@ -73,6 +73,6 @@ module _ (c : Config) (lawful : IsConfig c) where
   -- no prefix is an earlier one
   pub prefix_is_new : (i : ℕ) (t : Prefix6 × ℕ) → slice_get c.prefixes i ≡ Some t → list_any (λ e. same_prefix e.0 t.0) (take i c.prefixes) ≡ false
   prefix_is_new i t is =
-      let h = (passes_at (λ u. prefix_tests (take u.0 c.prefixes) u.1) 0 c.prefixes i t is prefixes_pass.1).0 in
+      let h = (passes_at (λ u. prefix_reasons (take u.0 c.prefixes) u.1) 0 c.prefixes i t is prefixes_pass.1).0 in
       let e : 0 + i ≡ i = omega arith in
       subst (λ (m : ℕ). list_any (λ u. same_prefix u.0 t.0) (take m c.prefixes) ≡ false) e h

@@ -7,8 +7,8 @@ pub mod Cutting
 pub mod AgeReplaying
 pub mod MovesReplay
 pub mod WholeResponse
-pub mod EachTested
-pub mod ConfigTests
+pub mod ReasonsOfEach
+pub mod ConfigReasons
 mod CutPieces
 pub mod Sending
 pub mod ConfigLaws

@@ -57,9 +57,9 @@ accepted : (old new : State) (now : ℕ) (x : Received) (answer : Answer) (b : B
     → Replays (forwards old.table) answer.changes (forwards new.table)
 accepted old new now x answer true hears =
     let h : Hearing = record { config = old.config; gateway = gateway_of old now x; entries = hears.entries; before = old.table; notes = answer.notes } in
-    subst (λ (cs : List RouteChange). Replays (forwards old.table) cs (forwards new.table)) (sym hears.told.changes_are)
+    subst (λ (cs : List RouteChange). Replays (forwards old.table) cs (forwards new.table)) (sym hears.answer_is.changes_are)
     (subst (λ (t : Table). Replays (forwards old.table) (changes_of_hearing h) (forwards t)) (sym (ap (λ (s : State). s.table) hears.state)) (hearing_replays h hears.table hears.heard))
-accepted old new now x answer false replies = kept old new answer replies.told.changes_are (ap (λ (s : State). s.table) replies.state)
+accepted old new now x answer false replies = kept old new answer replies.answer_is.changes_are (ap (λ (s : State). s.table) replies.state)
 
 arrived : (old new : State) (now : ℕ) (x : Received) (answer : Answer) (o : Option Fault) → MatchOption o (Accepts old now x answer new) (λ why. Refuses old now why answer new)
     → Replays (forwards old.table) answer.changes (forwards new.table)
@@ -114,11 +114,11 @@ moves_replay old new (Arrives x) answer moves = arrived old new (max old.last x.
 moves_replay old new (Ticks now word) answer moves = λ p.
     ap (λ (s : State). map_of.get (forwards s.table) p) moves.state
     ∙ ticked_same old (max old.last now) word p
-    ∙ subst (λ (cs : List RouteChange). Replays (forwards old.table) cs (forwards (aged_table (max old.last now) old.table))) (sym moves.told.changes_are) (ageing_replays (max old.last now) old.table) p
+    ∙ subst (λ (cs : List RouteChange). Replays (forwards old.table) cs (forwards (aged_table (max old.last now) old.table))) (sym moves.answer_is.changes_are) (ageing_replays (max old.last now) old.table) p
 moves_replay old new (Restarts now) answer moves =
-    subst (λ (cs : List RouteChange). Replays map_of.empty cs (forwards new.table)) (sym moves.told.changes_are)
+    subst (λ (cs : List RouteChange). Replays map_of.empty cs (forwards new.table)) (sym moves.answer_is.changes_are)
     (subst (λ (t : Table). Replays map_of.empty (changes_of_start (owned_table old.config)) (forwards t)) (sym (ap (λ (s : State). s.table) moves.state)) (starting_replays (owned_table old.config)))
 moves_replay old new (Reconfigures now c) answer moves =
-    subst (λ (cs : List RouteChange). Replays (forwards old.table) cs (forwards new.table)) (sym moves.told.changes_are)
+    subst (λ (cs : List RouteChange). Replays (forwards old.table) cs (forwards new.table)) (sym moves.answer_is.changes_are)
     (subst (λ (t : Table). Replays (forwards old.table) (changes_of_change (max old.last now) old.table c) (forwards t)) (sym (ap (λ (s : State). s.table) moves.state))
     (change_replays (max old.last now) old.table c))

@@ -72,7 +72,7 @@ heard_response old now x es given g table sends changes notes answer through all
       table = table;
       heard = subst (λ (h : Hearing). Heard h table) same heard;
       state = refl;
-      told = record {
+      answer_is = record {
         fault = refl;
         sends = subst (AreSpelled []) (sym silent) tt;
         changes_are = changed ∙ ap changes_of_hearing same;

@@ -47,7 +47,7 @@ doc_entry metric = record { addr = 0x2001_0db8_ffff_0000_0000_0000_0000_0000; ta
 
 -- from fe80::n on interface 0
 abbrev pub from : ℕ → ℕ → Gateway
-from n now = record { iface = 0; cost = 1; from = local n; now = now }
+from n now = record { iface = 0; cost = 1; from = local n; moment = now }
 
 -- by fe80::n
 abbrev offer : ℕ → ℕ → Offer

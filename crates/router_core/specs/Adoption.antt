@@ -13,12 +13,13 @@ pub record Gateway : Type 0 where
   pub iface : ℕ
   pub cost : ℕ
   pub from : ℕ
-  pub now : ℕ
+  pub moment : ℕ
 
 -- the metric through the gateway
 abbrev pub metric_through : Gateway → Offer → ℕ
 metric_through g o = min (o.metric + g.cost) infinity
 
+-- a metric below infinity
 abbrev pub is_reachable : ℕ → Bool
 is_reachable metric = nat_lt metric infinity
 
@@ -29,7 +30,7 @@ taken g o =
       metric = metric_through g o;
       tag = o.tag;
       origin = Learned g.iface g.from o.next_hop;
-      clock = Live (g.now + timeout);
+      clock = Live (g.moment + timeout);
       changed = true;
     }
 
@@ -37,10 +38,12 @@ taken g o =
 abbrev pub lost : ℕ → RouteValue → RouteValue
 lost now r = record r { metric = infinity; clock = Dying (now + garbage_time); changed = true }
 
+-- the route was learned from the gateway
 abbrev pub is_through : Gateway → Origin → Bool
 is_through g Own = false
 is_through g (Learned iface from next_hop) = iface == g.iface && from == g.from
 
+-- the route has this next hop
 abbrev pub has_next_hop : ℕ → Origin → Bool
 has_next_hop h Own = false
 has_next_hop h (Learned iface from next_hop) = next_hop == h
@@ -54,12 +57,12 @@ abbrev pub refreshed : Gateway → Offer → RouteValue → RouteValue
 refreshed g o r =
     if is_reachable (metric_through g o)
     then record (taken g o) { changed = r.changed || not (is_repeated g o r) }
-    else lost g.now r
+    else lost g.moment r
 
 -- a lower metric wins at once, and an equal one when half of the timeout has passed
 abbrev pub is_preferred : Gateway → Offer → ℕ → ℕ → Bool
 is_preferred g o metric until =
-    nat_lt (metric_through g o) metric || (metric_through g o == metric && nat_le until (g.now + half_timeout))
+    nat_lt (metric_through g o) metric || (metric_through g o == metric && nat_le until (g.moment + half_timeout))
 
 -- what the offer makes of a route, by its clock: one that never ages stays
 abbrev pub adopted_by_clock : Gateway → Offer → RouteValue → Clock → RouteValue

@@ -6,6 +6,7 @@ use Rattle.route_table.specs.declared.route.Clock.{Clock}
 use Rattle.route_table.specs.declared.route.Clock.TheVariants.{Fixed, Live, Dying}
 use Rattle.router_core.specs.Adoption.{lost}
 
+-- what a clock makes of its route by a moment (RFC 2080, 2.3)
 abbrev pub aged_by_clock : ℕ → RouteValue → Clock → Option RouteValue
 aged_by_clock now r Fixed = Some r
 aged_by_clock now r (Live until) = if nat_le until now then Some (lost now r) else Some r
@@ -15,9 +16,11 @@ aged_by_clock now r (Dying until) = if nat_le until now then None else Some r
 abbrev pub aged : ℕ → RouteValue → Option RouteValue
 aged now r = aged_by_clock now r r.clock
 
+-- every route of the table has aged
 abbrev pub aged_table : ℕ → Table → Table
 aged_table now table = map_values (aged now) table
 
+-- the route, not marked as changed
 abbrev pub without_mark : RouteValue → Option RouteValue
 without_mark r = Some (record r { changed = false })
 

@@ -16,6 +16,7 @@ use Rattle.router_core.specs.Ageing.{aged}
 use Rattle.router_core.specs.Offers.{is_offer, prefix_named}
 use Rattle.router_core.specs.Hearing.{Hearing, route_after}
 
+-- where a route of that origin forwards to
 abbrev pub hop_of : Origin → Hop
 hop_of Own = Direct
 hop_of (Learned iface from next_hop) = Via iface next_hop
@@ -32,9 +33,11 @@ forwards table = map_values forward table
 abbrev pub change : Prefix6 → Option RouteValue → Option RouteValue → Option RouteChange
 change p old new = change_between p (option_and_then forward old) (option_and_then forward new)
 
+-- the installs of a first table
 abbrev pub changes_of_start : Table → List RouteChange
 changes_of_start table = filter_map (λ t. change t.0 None (Some t.1)) (map_of.entries table)
 
+-- what ageing installs and withdraws
 abbrev pub changes_of_ageing : ℕ → Table → List RouteChange
 changes_of_ageing now table = filter_map (λ t. change t.0 (Some t.1) (aged now t.1)) (map_of.entries table)
 
@@ -43,5 +46,6 @@ abbrev pub change_at : Hearing → ℕ → Rte → Option RouteChange
 change_at h place e =
     if is_offer e then change (prefix_named e) (route_after h place (prefix_named e)) (route_after h (place + 1) (prefix_named e)) else None
 
+-- the changes of all entries, in order
 abbrev pub changes_of_hearing : Hearing → List RouteChange
 changes_of_hearing h = filter_map (λ t. change_at h t.0 t.1) (enumerate_from 0 h.entries)

@@ -1,20 +1,22 @@
--- What a router is configured with, and which configurations are lawful. The tests, their order and their names are this
+-- What a router is configured with, and which configurations are lawful. The reasons, their order and their names are this
 -- project's choice; the ranges are those of RFC 2080, 2.1 and 2.4.2.
 use Rattle.std.specs.Prelude.{◌≡◌, ℕ, ◌==◌, ◌&&◌, not, nat_lt, nat_le, Bool, List, [], ◌∷◌, ◌++◌, length, take, flat_map, Option, None, All, unwrap_or, option_map, slice_get, codes}
 use Rattle.std.specs.List.{list_any, enumerate_from}
 use Rattle.prefix6.specs.Addr.{is_link_local}
 use Rattle.prefix6.specs.Prefix.{Prefix6, IsPrefix, same_prefix, is_routable}
-use Rattle.ripng_wire.specs.Wire.{first_failing}
+use Rattle.ripng_wire.specs.Wire.{first_reason}
 use Rattle.route_table.specs.Route.{infinity}
 use Rattle.router_core.specs.declared.config.ConfigRefused.{ConfigRefused}
 use Rattle.router_core.specs.declared.config.ConfigRefused.TheVariants.{NoInterface, TooManyInterfaces, AddressNotLinkLocal, AddressTwice, BadCost, BadMtu, TooManyPrefixes, PrefixTwice, PrefixNotAllowed}
 use Rattle.router_core.specs.declared.config.Interface.{Interface}
 
+-- the configuration of a router
 pub record Config : Type 0 where
   pub interfaces : List Interface
   pub prefixes : List (Prefix6 × ℕ)  -- with their tags
   pub quiet : Bool
 
+-- a configuration of these parts
 abbrev pub config : List Interface → List (Prefix6 × ℕ) → Bool → Config
 config interfaces prefixes quiet = record { interfaces = interfaces; prefixes = prefixes; quiet = quiet }
 
@@ -22,12 +24,15 @@ config interfaces prefixes quiet = record { interfaces = interfaces; prefixes = 
 abbrev pub cost_at : Config → ℕ → ℕ
 cost_at config iface = unwrap_or (option_map (λ i. i.cost) (slice_get config.interfaces iface)) infinity
 
+-- the MTU of an interface, or the least one of IPv6
 abbrev pub mtu_at : Config → ℕ → ℕ
 mtu_at config iface = unwrap_or (option_map (λ i. i.mtu) (slice_get config.interfaces iface)) 1280
 
+-- an interface has the address
 abbrev pub has_address : List Interface → ℕ → Bool
 has_address interfaces a = list_any (λ i. i.addr == a) interfaces
 
+-- the prefix is owned
 abbrev pub has_prefix : List (Prefix6 × ℕ) → Prefix6 → Bool
 has_prefix owned p = list_any (λ t. same_prefix t.0 p) owned
 
@@ -43,48 +48,50 @@ interface_limit = 16
 abbrev pub owned_limit : ℕ
 owned_limit = 1_024
 
--- ---- which configurations are lawful: each test stands with whether it fails
+-- ---- which configurations are lawful: each reason stands with whether it applies
 
 -- 1 to 15 hops
 abbrev pub is_usable_cost : ℕ → Bool
 is_usable_cost cost = nat_le 1 cost && nat_lt cost infinity
 
+-- from the least MTU of IPv6 to the longest datagram of UDP
 abbrev pub is_usable_mtu : ℕ → Bool
 is_usable_mtu mtu = nat_le 1280 mtu && nat_le mtu 65535
 
--- the tests of an interface behind earlier ones
-abbrev pub interface_tests : List Interface → Interface → List (Bool × ConfigRefused)
-interface_tests earlier i =
+-- the reasons to refuse an interface behind earlier ones
+abbrev pub interface_reasons : List Interface → Interface → List (Bool × ConfigRefused)
+interface_reasons earlier i =
     (not (is_link_local i.addr), AddressNotLinkLocal)
     ∷ (has_address earlier i.addr, AddressTwice)
     ∷ (not (is_usable_cost i.cost), BadCost)
     ∷ (not (is_usable_mtu i.mtu), BadMtu)
     ∷ []
 
--- the tests of an owned prefix behind earlier ones
-abbrev pub prefix_tests : List (Prefix6 × ℕ) → Prefix6 × ℕ → List (Bool × ConfigRefused)
-prefix_tests earlier t =
+-- the reasons to refuse an owned prefix behind earlier ones
+abbrev pub prefix_reasons : List (Prefix6 × ℕ) → Prefix6 × ℕ → List (Bool × ConfigRefused)
+prefix_reasons earlier t =
     (has_prefix earlier t.0, PrefixTwice)
     ∷ (not (is_routable t.0), PrefixNotAllowed)
     ∷ []
 
--- the tests of each member of a list behind the earlier ones, in order
-abbrev pub each_tested : {X F : Type 0} → (List X → X → List (Bool × F)) → List X → List (Bool × F)
-each_tested tests xs = flat_map (λ t. tests (take t.0 xs) t.1) (enumerate_from 0 xs)
+-- the reasons to refuse each member of a list behind the earlier ones, in order
+abbrev pub reasons_of_each : {X F : Type 0} → (List X → X → List (Bool × F)) → List X → List (Bool × F)
+reasons_of_each reasons xs = flat_map (λ t. reasons (take t.0 xs) t.1) (enumerate_from 0 xs)
 
-abbrev pub config_tests : Config → List (Bool × ConfigRefused)
-config_tests c =
+-- all reasons to refuse a configuration, in their order
+abbrev pub config_reasons : Config → List (Bool × ConfigRefused)
+config_reasons c =
     (length c.interfaces == 0, NoInterface)
     ∷ (nat_lt interface_limit (length c.interfaces), TooManyInterfaces)
-    ∷ each_tested interface_tests c.interfaces
+    ∷ reasons_of_each interface_reasons c.interfaces
     ++ (nat_lt owned_limit (length c.prefixes), TooManyPrefixes)
-    ∷ each_tested prefix_tests c.prefixes
+    ∷ reasons_of_each prefix_reasons c.prefixes
 
--- the first test that fails
+-- the first reason that applies
 abbrev pub config_fault : Config → Option ConfigRefused
-config_fault c = first_failing (config_tests c)
+config_fault c = first_reason (config_reasons c)
 
--- a configuration that fails no test, of prefixes that are prefixes
+-- a configuration that there is no reason to refuse, of prefixes that are prefixes
 pub record IsConfig (c : Config) : Type 0 where
   pub passes : config_fault c ≡ None
   pub prefixes : All (λ t. IsPrefix t.0) c.prefixes

@@ -1,7 +1,7 @@
 -- Which arrivals are refused (RFC 2080, 2.4.1 and 2.4.2).
 use Rattle.std.specs.Prelude.{ℕ, ◌==◌, ◌&&◌, ◌||◌, not, Bool, if◌then◌else◌, List, [], ◌∷◌, ◌++◌, map, length, codes, Option}
 use Rattle.prefix6.specs.Addr.{is_link_local, is_multicast, is_unspecified}
-use Rattle.ripng_wire.specs.Wire.{first_failing, wire_tests, is_response, refusal_name, refusal_number}
+use Rattle.ripng_wire.specs.Wire.{first_reason, wire_reasons, is_response, refusal_name, refusal_number}
 use Rattle.router_core.specs.Config.{Config, is_own_address}
 use Rattle.router_core.specs.Received.{Received}
 use Rattle.router_core.specs.declared.arrival.Fault.{Fault}
@@ -11,30 +11,34 @@ use Rattle.router_core.specs.declared.arrival.Fault.TheVariants.{Wire, NotRipngP
 abbrev pub ripng_port : ℕ
 ripng_port = 521
 
--- what a router of the same link shows. Each test stands with whether it fails
-abbrev pub neighbor_tests : Config → Received → List (Bool × Fault)
-neighbor_tests config x =
+-- what a router of the same link shows. Each reason stands with whether it applies
+abbrev pub neighbor_reasons : Config → Received → List (Bool × Fault)
+neighbor_reasons config x =
     (not (is_link_local x.source), NotLinkLocal)
     ∷ (is_own_address config x.source, OwnAddress)
     ∷ (x.to_group && not (x.hop_limit == 255), HopLimit)
     ∷ []
 
-abbrev pub response_tests : Config → Received → List (Bool × Fault)
-response_tests config x = (not (x.source_port == ripng_port), NotRipngPort) ∷ neighbor_tests config x
+-- why a Response is refused (RFC 2080, 2.4.2)
+abbrev pub response_reasons : Config → Received → List (Bool × Fault)
+response_reasons config x = (not (x.source_port == ripng_port), NotRipngPort) ∷ neighbor_reasons config x
 
-abbrev pub asker_tests : Received → List (Bool × Fault)
-asker_tests x = (is_multicast x.source || is_unspecified x.source || x.source_port == 0, BadSource) ∷ []
+-- why a Request of one that is no router is refused
+abbrev pub asker_reasons : Received → List (Bool × Fault)
+asker_reasons x = (is_multicast x.source || is_unspecified x.source || x.source_port == 0, BadSource) ∷ []
 
-abbrev pub request_tests : Config → Received → List (Bool × Fault)
-request_tests config x =
-    (length x.bytes == 4, EmptyRequest) ∷ (if x.source_port == ripng_port then neighbor_tests config x else asker_tests x)
+-- why a Request is refused (RFC 2080, 2.4.1)
+abbrev pub request_reasons : Config → Received → List (Bool × Fault)
+request_reasons config x =
+    (length x.bytes == 4, EmptyRequest) ∷ (if x.source_port == ripng_port then neighbor_reasons config x else asker_reasons x)
 
-abbrev pub arrival_tests : Config → Received → List (Bool × Fault)
-arrival_tests config x = if is_response x.bytes then response_tests config x else request_tests config x
+-- why an arrival that is a datagram is refused, in order
+abbrev pub arrival_reasons : Config → Received → List (Bool × Fault)
+arrival_reasons config x = if is_response x.bytes then response_reasons config x else request_reasons config x
 
--- the first test that fails
+-- the first reason that applies
 abbrev pub fault : Config → Received → Option Fault
-fault config x = first_failing (map (λ t. (t.0, Wire t.1)) (wire_tests x.bytes) ++ arrival_tests config x)
+fault config x = first_reason (map (λ t. (t.0, Wire t.1)) (wire_reasons x.bytes) ++ arrival_reasons config x)
 
 -- the number of a fault
 abbrev pub fault_number : Fault → ℕ

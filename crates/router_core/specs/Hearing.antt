@@ -15,7 +15,8 @@ use Rattle.router_core.specs.declared.answer.Note.{Note}
 use Rattle.router_core.specs.declared.answer.NoteKind.{NoteKind}
 use Rattle.router_core.specs.declared.answer.NoteKind.TheVariants.{TableFull, NoMemory}
 
--- the entries of a Response from a gateway, the table that they meet, and the notes that were made
+-- the entries of a Response from a gateway, the table that they meet, and the notes that were made. The notes result from the
+-- hearing, and are part of it since nothing else tells for which new routes memory was wanting; `Heard` says which notes may be
 pub record Hearing : Type 0 where
   pub config : Config
   pub gateway : Gateway
@@ -23,10 +24,12 @@ pub record Hearing : Type 0 where
   pub before : Table
   pub notes : List Note
 
+-- a hearing of these parts
 abbrev pub hearing : Config → Gateway → List Rte → Table → List Note → Hearing
 hearing config gateway entries before notes =
     record { config = config; gateway = gateway; entries = entries; before = before; notes = notes }
 
+-- a note of a new route that had no room
 abbrev pub is_refusal : Option NoteKind → Bool
 is_refusal (Some TableFull) = true
 is_refusal (Some NoMemory) = true
@@ -62,6 +65,7 @@ held_after h place =
 abbrev pub notes_of_new : Hearing → ℕ → List (Option NoteKind)
 notes_of_new h place = if nat_le table_limit (held_after h place) then Some TableFull ∷ [] else None ∷ Some NoMemory ∷ []
 
+-- the notes that an offer may get, by its flaw
 abbrev pub notes_of_offer : Hearing → ℕ → Rte → Option NoteKind → List (Option NoteKind)
 notes_of_offer h place e (Some kind) = Some kind ∷ []
 notes_of_offer h place e None = if would_add h place e then notes_of_new h place else None ∷ []

@@ -25,6 +25,7 @@ use Rattle.router_core.specs.declared.answer.Note.{Note}
 use Rattle.router_core.specs.declared.reconfiguring.Change.{Change}
 use Rattle.fib.specs.declared.change.RouteChange.{RouteChange}
 
+-- what a router is between two steps
 pub record State : Type 0 where
   pub config : Config
   pub table : Table
@@ -40,30 +41,35 @@ pub data Happening : Type 0 where
   Reconfigures : (now : ℕ) → Change → Happening
 
 -- an answer with no fault, of these messages, changes and notes
-pub record Tells (messages : List Message) (changes : List RouteChange) (notes : List Note) (answer : Answer) : Type 0 where
+pub record IsAnswer (messages : List Message) (changes : List RouteChange) (notes : List Note) (answer : Answer) : Type 0 where
   pub fault : answer.fault ≡ None
   pub sends : AreSpelled messages answer.sends
   pub changes_are : answer.changes ≡ changes
   pub notes_are : answer.notes ≡ notes
 
+-- the table of a router that comes up: its owned prefixes
 abbrev pub owned_table : Config → Table
 owned_table config = map_of.from_entries (map (λ t. (t.0, owned_route t.1)) config.prefixes)
 
+-- a router that comes up
 abbrev pub started : Config → ℕ → State
 started config now = record { config = config; table = owned_table config; last = now; regular = now; hold = now }
 
+-- the router comes up, and asks its neighbors for their routes
 pub record Starts (config : Config) (now : ℕ) (answer : Answer) (new : State) : Type 0 where
   pub state : new ≡ started config now
-  pub told : Tells (start_messages config) (changes_of_start (owned_table config)) [] answer
+  pub answer_is : IsAnswer (start_messages config) (changes_of_start (owned_table config)) [] answer
 
 -- a refused arrival is answered by its fault alone
 pub record Refuses (old : State) (now : ℕ) (why : Fault) (answer : Answer) (new : State) : Type 0 where
   pub state : new ≡ record old { last = now }
   pub answer_is : answer ≡ record { fault = Some why; sends = []; changes = []; notes = [] }
 
+-- the sender of an arrival, as a gateway
 abbrev pub gateway_of : State → ℕ → Received → Gateway
-gateway_of old now x = record { iface = x.iface; cost = cost_at old.config x.iface; from = x.source; now = now }
+gateway_of old now x = record { iface = x.iface; cost = cost_at old.config x.iface; from = x.source; moment = now }
 
+-- the arrival's entries, heard from that gateway
 abbrev pub hearing_of : State → ℕ → Received → List Rte → List Note → Hearing
 hearing_of old now x entries notes = hearing old.config (gateway_of old now x) entries old.table notes
 
@@ -74,24 +80,28 @@ pub record Hears (old : State) (now : ℕ) (x : Received) (answer : Answer) (new
   pub table : Table
   pub heard : Heard (hearing_of old now x entries answer.notes) table
   pub state : new ≡ record old { table = table; last = now }
-  pub told : Tells [] (changes_of_hearing (hearing_of old now x entries answer.notes)) answer.notes answer
+  pub answer_is : IsAnswer [] (changes_of_hearing (hearing_of old now x entries answer.notes)) answer.notes answer
 
 -- a Request is answered
 pub record Replies (old : State) (now : ℕ) (x : Received) (answer : Answer) (new : State) : Type 0 where
   pub entries : List Rte
   pub read : Spells Request entries x.bytes
   pub state : new ≡ record old { last = now }
-  pub told : Tells (reply_messages old.config old.table x entries) [] [] answer
+  pub answer_is : IsAnswer (reply_messages old.config old.table x entries) [] [] answer
 
+-- an arrival that is not refused is heard or answered
 abbrev pub Accepts : State → ℕ → Received → Answer → State → Type 0
 Accepts old now x answer new = MatchBool (is_response x.bytes) (Hears old now x answer new) (Replies old now x answer new)
 
+-- the time of the regular update has come
 abbrev pub is_regular_due : State → ℕ → Bool
 is_regular_due old now = nat_le old.regular now
 
+-- nothing holds a triggered update, and a route has changed
 abbrev pub is_triggered_due : State → ℕ → Bool
 is_triggered_due old now = nat_le old.hold now && list_any (λ t. t.1.changed) (map_of.entries (aged_table now old.table))
 
+-- what a tick sends: a regular update, a triggered one, or nothing (RFC 2080, 2.3 and 2.5.1)
 abbrev pub tick_messages : State → ℕ → List Message
 tick_messages old now =
     if is_regular_due old now then update_messages old.config every_route (aged_table now old.table)
@@ -107,9 +117,10 @@ ticked old now word =
     then record old { table = unmarked (aged_table now old.table); last = now; hold = next_hold now word }
     else record old { table = aged_table now old.table; last = now }
 
+-- a tick ages the routes, and sends the update that is due
 pub record Updates (old : State) (now word : ℕ) (answer : Answer) (new : State) : Type 0 where
   pub state : new ≡ ticked old now word
-  pub told : Tells (tick_messages old now) (changes_of_ageing now old.table) [] answer
+  pub answer_is : IsAnswer (tick_messages old now) (changes_of_ageing now old.table) [] answer
 
 -- the state after a change of the configuration
 abbrev pub reconfigured : State → ℕ → Change → State
@@ -121,7 +132,7 @@ pub record Obeys (old : State) (now : ℕ) (c : Change) (answer : Answer) (new :
   pub named : IsNamed old.config c
   pub allowed : change_fault old.config old.table c ≡ None
   pub state : new ≡ reconfigured old now c
-  pub told : Tells [] (changes_of_change now old.table c) [] answer
+  pub answer_is : IsAnswer [] (changes_of_change now old.table c) [] answer
 
 -- the router may answer so, and is then so. Time does not go back, but at a restart
 abbrev pub Moves : State → Happening → Answer → State → Type 0

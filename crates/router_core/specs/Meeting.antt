@@ -19,6 +19,7 @@ pub record Meeting : Type 0 where
   pub prefix : Prefix6
   pub table : Table
 
+-- a meeting of these parts
 abbrev pub meeting : Gateway → Offer → Prefix6 → Table → Meeting
 meeting g o p table = record { gateway = g; offer = o; prefix = p; table = table }
 
@@ -31,6 +32,7 @@ entry_meeting g e next_hop place table =
 abbrev pub held : Meeting → Option RouteValue
 held m = map_of.get m.table m.prefix
 
+-- the route after it
 abbrev pub met : Meeting → Option RouteValue
 met m = adopted m.gateway (held m) m.offer
 

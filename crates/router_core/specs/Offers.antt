@@ -5,7 +5,7 @@ use Rattle.prefix6.specs.Addr.{is_link_local}
 use Rattle.prefix6.specs.Prefix.{Prefix6, cleared, is_routable, same_prefix}
 use Rattle.ripng_wire.specs.declared.rte.Rte.{Rte}
 use Rattle.ripng_wire.specs.Layout.{is_next_hop}
-use Rattle.ripng_wire.specs.Wire.{first_failing}
+use Rattle.ripng_wire.specs.Wire.{first_reason}
 use Rattle.route_table.specs.Route.{infinity}
 use Rattle.router_core.specs.Config.{Config, is_own_address}
 use Rattle.router_core.specs.declared.answer.NoteKind.{NoteKind}
@@ -32,16 +32,18 @@ abbrev pub prefix_named : Rte → Prefix6
 prefix_named e = cleared e.addr e.len
 
 -- each with whether it fails
-abbrev pub entry_tests : Rte → List (Bool × NoteKind)
-entry_tests e =
+abbrev pub entry_reasons : Rte → List (Bool × NoteKind)
+entry_reasons e =
     (nat_lt 128 e.len, BadLength)
     ∷ (not (is_routable (prefix_named e)), BadPrefix)
     ∷ (e.metric == 0 || nat_lt infinity e.metric, BadMetric)
     ∷ []
 
+-- the first reason to skip an entry, if there is one
 abbrev pub flaw : Rte → Option NoteKind
-flaw e = first_failing (entry_tests e)
+flaw e = first_reason (entry_reasons e)
 
+-- the entry offers a route
 abbrev pub is_offer : Rte → Bool
 is_offer e = not (is_next_hop e) && is_none (flaw e)
 
@@ -54,12 +56,14 @@ usable_hop config source (Some e) = if is_link_local e.addr && not (is_own_addre
 abbrev pub next_hop_at : Config → ℕ → List Rte → ℕ → ℕ
 next_hop_at config source entries place = usable_hop config source (find is_next_hop (reverse (take place entries)))
 
+-- what an entry offers of its prefix
 pub record Offer : Type 0 where
   pub metric : ℕ
   pub tag : ℕ
   pub next_hop : ℕ
   pub place : ℕ
 
+-- the offer of the entry at a place
 abbrev pub offer_at : Config → ℕ → List Rte → ℕ → Rte → Offer
 offer_at config source entries place e =
     record { metric = e.metric; tag = e.tag; next_hop = next_hop_at config source entries place; place = place }

@@ -20,6 +20,7 @@ use Rattle.router_core.specs.declared.answer.Outgoing.{Outgoing}
 use Rattle.router_core.specs.declared.tell.Told.{Told}
 use Rattle.router_core.specs.declared.tell.Told.TheVariants.{Every, Changed}
 
+-- the route came from that interface
 abbrev pub is_learned_on : ℕ → Origin → Bool
 is_learned_on iface Own = false
 is_learned_on iface (Learned on from next_hop) = on == iface
@@ -42,9 +43,11 @@ told_of iface which routes = map (told_entry iface) (filter (λ t. which t.1) ro
 abbrev pub told : ℕ → (RouteValue → Bool) → Table → List Rte
 told iface which table = told_of iface which (map_of.entries table)
 
+-- all routes
 abbrev pub every_route : RouteValue → Bool
 every_route r = true
 
+-- only those that are marked
 abbrev pub is_changed : RouteValue → Bool
 is_changed r = r.changed
 
@@ -67,9 +70,11 @@ abbrev pub filled : Rte → Option RouteValue → Rte
 filled e None = record e { metric = infinity }
 filled e (Some r) = record e { metric = r.metric; tag = r.tag }
 
+-- an entry that was asked for, with what is known of its prefix
 abbrev pub reply_entry : Table → Rte → Rte
 reply_entry table e = filled e (if nat_le e.len 128 then map_of.get table (cleared e.addr e.len) else None)
 
+-- the entry that asks for the whole table (RFC 2080, 2.4.1)
 abbrev pub whole_table_request : Rte
 whole_table_request = record { addr = 0; tag = 0; len = 0; metric = infinity }
 
@@ -78,6 +83,7 @@ abbrev pub asks_for_all : List Rte → Bool
 asks_for_all (e ∷ []) = e.addr == 0 && e.len == 0 && e.metric == infinity
 asks_for_all _ = false
 
+-- the entries that answer a Request
 abbrev pub reply : ℕ → Table → List Rte → List Rte
 reply iface table asked = if asks_for_all asked then told iface every_route table else map (reply_entry table) asked
 
@@ -94,6 +100,7 @@ responses_at mtu iface to entries =
     map (λ piece. record { iface = iface; to = to; command = Response; entries = piece })
     (pieces (entries_for_mtu mtu) entries)
 
+-- a list as Responses of an interface
 abbrev pub responses : Config → ℕ → Destination → List Rte → List Message
 responses config iface to entries = responses_at (mtu_at config iface) iface to entries
 
@@ -115,6 +122,7 @@ reply_messages config table x asked =
     if config.quiet && x.source_port == ripng_port then []
     else responses config x.iface (Peer x.source x.source_port) (reply x.iface table asked)
 
+-- the datagram spells the message
 pub record IsSpelled (m : Message) (o : Outgoing) : Type 0 where
   pub iface : o.iface ≡ m.iface
   pub to : o.to ≡ m.to

@@ -20,6 +20,7 @@ pub record IsOwnRoute (tag : ℕ) (r : RouteValue) : Type 0 where
   pub origin : r.origin ≡ Own
   pub clock : r.clock ≡ Fixed
 
+-- the table has the route of an owned prefix
 abbrev pub HasOwnRoute : Table → Prefix6 × ℕ → Type 0
 HasOwnRoute table t = (r : RouteValue) × (map_of.get table t.0 ≡ Some r) × IsOwnRoute t.1 r
 

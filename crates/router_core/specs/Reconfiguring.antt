@@ -1,10 +1,10 @@
--- Changes of the configuration of a router that runs. The tests, their order and their names are this project's choice.
+-- Changes of the configuration of a router that runs. The reasons, their order and their names are this project's choice.
 use Rattle.std.specs.Prelude.{ℕ, ◌<◌, ◌&&◌, not, nat_le, Bool, true, List, [], ◌∷◌, ◌++◌, length, filter, Option, Some, is_none, unwrap_or, option_map, slice_get, slice_set, codes, ⊤}
 use Rattle.std.specs.List.{cons_option}
 use Rattle.std.specs.FinMap as map_of
 use Rattle.prefix6.specs.Prefix.{Prefix6, IsPrefix, is_routable, same_prefix}
 use Rattle.fib.specs.declared.change.RouteChange.{RouteChange}
-use Rattle.ripng_wire.specs.Wire.{first_failing}
+use Rattle.ripng_wire.specs.Wire.{first_reason}
 use Rattle.route_table.specs.Route.{RouteValue}
 use Rattle.route_table.specs.Table.{Table, table_limit, with_value}
 use Rattle.router_core.specs.Adoption.{lost}
@@ -19,9 +19,9 @@ use Rattle.router_core.specs.declared.reconfiguring.ReconfigureRefused.{Reconfig
 use Rattle.router_core.specs.declared.reconfiguring.ReconfigureRefused.TheVariants.{BadCost, PrefixNotAllowed, AlreadyOwned, OwnedFull, NotOwned, TableFull, OutOfMemory}
 
 -- a change of cost names an interface of the router
-abbrev pub IsPlaced : Config → Change → Type 0
-IsPlaced config (Cost iface cost) = iface < length config.interfaces
-IsPlaced config _ = ⊤
+abbrev pub NamesInterface : Config → Change → Type 0
+NamesInterface config (Cost iface cost) = iface < length config.interfaces
+NamesInterface config _ = ⊤
 
 -- so it does, and the others name a prefix
 abbrev pub IsNamed : Config → Change → Type 0
@@ -29,21 +29,22 @@ IsNamed config (Cost iface cost) = iface < length config.interfaces
 IsNamed config (Own p tag) = IsPrefix p
 IsNamed config (Disown p) = IsPrefix p
 
--- ---- which changes are refused: each test stands with whether it fails
+-- ---- which changes are refused: each reason stands with whether it applies
 
-abbrev pub change_tests : Config → Table → Change → List (Bool × ReconfigureRefused)
-change_tests config table (Cost iface cost) = (not (is_usable_cost cost), BadCost) ∷ []
-change_tests config table (Own p tag) =
+-- why a change is refused, in order
+abbrev pub change_reasons : Config → Table → Change → List (Bool × ReconfigureRefused)
+change_reasons config table (Cost iface cost) = (not (is_usable_cost cost), BadCost) ∷ []
+change_reasons config table (Own p tag) =
     (not (is_routable p), PrefixNotAllowed)
     ∷ (has_prefix config.prefixes p, AlreadyOwned)
     ∷ (nat_le owned_limit (length config.prefixes), OwnedFull)
     ∷ (is_none (map_of.get table p) && nat_le table_limit (map_of.len table), TableFull)
     ∷ []
-change_tests config table (Disown p) = (not (has_prefix config.prefixes p), NotOwned) ∷ []
+change_reasons config table (Disown p) = (not (has_prefix config.prefixes p), NotOwned) ∷ []
 
--- the first test that fails
+-- the first reason that applies
 abbrev pub change_fault : Config → Table → Change → Option ReconfigureRefused
-change_fault config table c = first_failing (change_tests config table c)
+change_fault config table c = first_reason (change_reasons config table c)
 
 -- ---- what a change does
 
@@ -52,9 +53,11 @@ abbrev pub with_cost : List Interface → ℕ → ℕ → List Interface
 with_cost interfaces iface cost =
     unwrap_or (option_map (λ i. slice_set interfaces iface (record i { cost = cost })) (slice_get interfaces iface)) interfaces
 
+-- the owned prefixes but that one
 abbrev pub without_prefix : List (Prefix6 × ℕ) → Prefix6 → List (Prefix6 × ℕ)
 without_prefix owned p = filter (λ t. not (same_prefix t.0 p)) owned
 
+-- the configuration after a change
 abbrev pub changed_config : Config → Change → Config
 changed_config config (Cost iface cost) = record config { interfaces = with_cost config.interfaces iface cost }
 changed_config config (Own p tag) = record config { prefixes = config.prefixes ++ (p, tag) ∷ [] }
@@ -82,6 +85,7 @@ changes_of_change now table (Disown p) = cons_option (change p (map_of.get table
 
 -- ---- refusals as numbers and names
 
+-- the number of a refusal
 abbrev pub reconfigure_number : ReconfigureRefused → ℕ
 reconfigure_number BadCost = 31
 reconfigure_number PrefixNotAllowed = 32
@@ -91,6 +95,7 @@ reconfigure_number NotOwned = 35
 reconfigure_number TableFull = 36
 reconfigure_number OutOfMemory = 37
 
+-- the name of a refusal
 abbrev pub reconfigure_name : ReconfigureRefused → List ℕ
 reconfigure_name BadCost = codes "BadCost"
 reconfigure_name PrefixNotAllowed = codes "PrefixNotAllowed"

@@ -11,6 +11,7 @@ use Rattle.router_core.specs.declared.tell.Told.TheVariants.{Every, Changed}
 abbrev pub update_due : State → ℕ → Option Told
 update_due old now = if is_regular_due old now then Some Every else if is_triggered_due old now then Some Changed else None
 
+-- the messages of an update
 abbrev pub update_of : State → ℕ → Option Told → List Message
 update_of old now None = []
 update_of old now (Some which) = update_messages old.config (selected which) (aged_table now old.table)

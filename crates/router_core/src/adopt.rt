@@ -29,7 +29,7 @@ impl Model for Gateway {
 
     ghost Value = { GatewayValue };
 
-    ghost view = { λ g. record { iface = g.iface; cost = g.cost; from = g.from; now = g.moment } };
+    ghost view = { λ g. record { iface = g.iface; cost = g.cost; from = g.from; moment = g.moment } };
 
     ghost invariant = { λ g. g.cost < infinity };
 }
@@ -58,7 +58,7 @@ impl Model for Offer {
 }
 
 impl Gateway {
-    // The metric of the offer here.
+    /// The metric of the offer here.
     fn metric_through(&self, offer: &Offer) -> u8
         ensures value { result ≡ metric_through self.now offer.now }
         ensures positive { 1 ≤ result }
@@ -67,7 +67,7 @@ impl Gateway {
         (offer.metric + self.cost).min(INFINITY)
     }
 
-    // The route through this gateway.
+    /// The route through this gateway.
     fn take(&self, offer: &Offer) -> Route
         requires { metric_through self.now offer.now < infinity }
         ensures { result ≡ taken self.now offer.now }
@@ -85,7 +85,7 @@ impl Gateway {
         )
     }
 
-    // Whether a route is through this gateway.
+    /// Whether a route is through this gateway.
     fn is_through(&self, origin: Origin) -> bool
         ensures { result ≡ is_through self.now origin }
     {
@@ -95,7 +95,7 @@ impl Gateway {
         }
     }
 
-    // Whether the offer says what the route says.
+    /// Whether the offer says what the route says.
     fn is_repeated(&self, offer: &Offer, route: Route) -> bool
         ensures { result ≡ is_repeated self.now offer.now route }
     {
@@ -106,7 +106,7 @@ impl Gateway {
         route.metric() == self.metric_through(offer) && route.tag() == offer.tag && has_next_hop
     }
 
-    // A live route whose own gateway speaks.
+    /// A live route whose own gateway speaks.
     fn refresh(&self, offer: &Offer, route: Route) -> Route
         ensures { result ≡ refreshed self.now offer.now route }
     {
@@ -118,7 +118,7 @@ impl Gateway {
         }
     }
 
-    // Whether the offer is better than a live route of another gateway.
+    /// Whether the offer is better than a live route of another gateway.
     fn is_preferred(&self, offer: &Offer, metric: u8, until: Deadline) -> bool
         ensures { result ≡ is_preferred self.now offer.now metric until }
     {
@@ -126,7 +126,7 @@ impl Gateway {
         offered < metric || (offered == metric && until <= self.moment.later(HALF_TIMEOUT_MS))
     }
 
-    // A learned route that is live until a deadline.
+    /// A learned route that is live until a deadline.
     fn adopt_live(&self, offer: &Offer, route: Route, until: Deadline) -> Route
         requires { route.clock ≡ Live until }
         ensures { result ≡ adopted_by_clock self.now offer.now route (Live until) }

@@ -11,6 +11,9 @@ use std::marker::Model;
 /// The UDP port of RIPng (RFC 2080, section 2).
 pub const RIPNG_PORT: u16 = 521;
 
+/// The hop limit of a datagram that no router has forwarded (RFC 2080, sections 2.4.2 and 2.5.2).
+pub const MAX_HOP_LIMIT: u8 = 255;
+
 /// A datagram as it came to an interface.
 #[derive(Drop)]
 pub struct Arrival<'a> {
@@ -46,7 +49,7 @@ impl<'a> Model for Arrival<'a> {
     } };
 }
 
-/// Why an arrival changes nothing: the first test that it fails (RFC 2080, sections 2.4.1 and 2.4.2).
+/// Why an arrival changes nothing: the first reason to refuse it (RFC 2080, sections 2.4.1 and 2.4.2).
 #[derive(Clone, Copy, Debug, PartialEq, Eq)]
 pub enum Fault {
     /// Its bytes are no datagram: faults 1 to 6.

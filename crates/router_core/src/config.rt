@@ -3,8 +3,8 @@
 ghost use Rattle.std.specs.Prelude.{◌≡◌, ◌<◌, true, false, not, All, Bool, IfOk, OnErr, OnOk, length};
 ghost use Rattle.std.specs.Result.{result_err};
 ghost use Rattle.prefix6.specs.Prefix.{IsPrefix, is_routable, same_prefix};
-ghost use Rattle.ripng_wire.specs.Wire.{first_failing};
-ghost use Rattle.router_core.specs.Config.{IsConfig, config, config_fault, each_tested, interface_tests, prefix_tests, is_own_address, has_address, has_prefix, is_usable_cost, is_usable_mtu, refused_name, refused_number};
+ghost use Rattle.ripng_wire.specs.Wire.{first_reason};
+ghost use Rattle.router_core.specs.Config.{IsConfig, config, config_fault, reasons_of_each, interface_reasons, prefix_reasons, is_own_address, has_address, has_prefix, is_usable_cost, is_usable_mtu, refused_name, refused_number};
 ghost use Rattle.router_core.specs.Reconfiguring.{changed_config};
 
 use crate::reconfiguring::Change;
@@ -27,12 +27,18 @@ pub struct Interface {
 /// The most interfaces of a router.
 pub const INTERFACE_LIMIT: usize = 16;
 
+/// The least MTU of an IPv6 link, in bytes (RFC 8200, section 5).
+pub const LEAST_MTU: u32 = 1_280;
+
+/// The greatest MTU of an interface, in bytes: the length of a UDP datagram is given in 16 bits (RFC 768).
+pub const MOST_MTU: u32 = 65_535;
+
 /// The most prefixes that a router owns. Each fits its table.
 pub const OWNED_LIMIT: usize = 1_024;
 
 const _: () = prove!(OWNED_LIMIT <= route_table::TABLE_LIMIT);
 
-/// Why a configuration is refused: the first test that it fails, in this order.
+/// Why a configuration is refused: the first reason to refuse it, in this order.
 #[derive(Clone, Copy, Debug, PartialEq, Eq)]
 pub enum ConfigRefused {
     /// It has no interface.
@@ -107,14 +113,14 @@ impl Model for RouterConfig {
     }) };
 }
 
-// Whether one of the interfaces has the address.
+/// Whether one of the interfaces has the address.
 fn has_address(interfaces: &[Interface], addr: Addr6) -> bool
     ensures { result ≡ has_address interfaces.now addr }
 {
     interfaces.iter().any(|i| i.addr == addr)
 }
 
-// Whether the prefix is one of those that are owned.
+/// Whether the prefix is one of those that are owned.
 fn has_prefix(owned: &[(Prefix, u16)], prefix: Prefix) -> bool
     ensures value { result ≡ has_prefix owned.now prefix }
     ensures lawful { IsPrefix prefix }
@@ -132,16 +138,16 @@ pub fn is_usable_cost(cost: u8) -> bool
     1 <= cost && cost < INFINITY
 }
 
-// Whether packets of IPv6 fit, and lengths their fields.
+/// Whether packets of IPv6 fit, and lengths their fields.
 fn is_usable_mtu(mtu: u32) -> bool
     ensures { result ≡ is_usable_mtu mtu }
 {
-    1280 <= mtu && mtu <= 65_535
+    LEAST_MTU <= mtu && mtu <= MOST_MTU
 }
 
-// The first test that an interface behind earlier ones fails.
+/// The first reason to refuse an interface behind earlier ones.
 fn check_interface(earlier: &[Interface], interface: &Interface) -> Result<(), ConfigRefused>
-    ensures { result_err result ≡ first_failing (interface_tests earlier.now interface.now) }
+    ensures { result_err result ≡ first_reason (interface_reasons earlier.now interface.now) }
 {
     if !interface.addr.is_link_local() {
         Err(ConfigRefused::AddressNotLinkLocal)
@@ -156,9 +162,9 @@ fn check_interface(earlier: &[Interface], interface: &Interface) -> Result<(), C
     }
 }
 
-// The first test that an interface fails.
+/// The first reason to refuse an interface.
 fn check_interfaces(interfaces: &[Interface]) -> Result<(), ConfigRefused>
-    ensures { result_err result ≡ first_failing (each_tested interface_tests interfaces.now) }
+    ensures { result_err result ≡ first_reason (reasons_of_each interface_reasons interfaces.now) }
 {
     for (place, interface) in interfaces.iter().enumerate() {
         check_interface(&interfaces[..place], interface)?;
@@ -166,9 +172,9 @@ fn check_interfaces(interfaces: &[Interface]) -> Result<(), ConfigRefused>
     Ok(())
 }
 
-// The first test that an owned prefix behind earlier ones fails.
+/// The first reason to refuse an owned prefix behind earlier ones.
 fn check_prefix(earlier: &[(Prefix, u16)], owned: &(Prefix, u16)) -> Result<(), ConfigRefused>
-    ensures fault { result_err result ≡ first_failing (prefix_tests earlier.now owned.now) }
+    ensures fault { result_err result ≡ first_reason (prefix_reasons earlier.now owned.now) }
     ensures prefix { OnOk result (IsPrefix owned.now.0) }
 {
     if has_prefix(earlier, owned.0) {
@@ -180,9 +186,9 @@ fn check_prefix(earlier: &[(Prefix, u16)], owned: &(Prefix, u16)) -> Result<(), 
     }
 }
 
-// The first test that an owned prefix fails.
+/// The first reason to refuse an owned prefix.
 fn check_prefixes(prefixes: &[(Prefix, u16)]) -> Result<(), ConfigRefused>
-    ensures fault { result_err result ≡ first_failing (each_tested prefix_tests prefixes.now) }
+    ensures fault { result_err result ≡ first_reason (reasons_of_each prefix_reasons prefixes.now) }
     ensures prefixes { OnOk result (All (λ t. IsPrefix t.0) prefixes.now) }
 {
     for (place, owned) in prefixes.iter().enumerate() {
@@ -191,7 +197,7 @@ fn check_prefixes(prefixes: &[(Prefix, u16)]) -> Result<(), ConfigRefused>
     Ok(())
 }
 
-// The first test that interfaces and owned prefixes fail.
+/// The first reason to refuse interfaces and owned prefixes.
 fn check_lists(interfaces: &[Interface], prefixes: &[(Prefix, u16)]) -> Result<(), ConfigRefused>
     ensures fault { (quiet : Bool) → result_err result ≡ config_fault (config interfaces.now prefixes.now quiet) }
     ensures prefixes { OnOk result (All (λ t. IsPrefix t.0) prefixes.now) }
@@ -214,7 +220,7 @@ impl RouterConfig {
     /// answers askers that are no routers. Takes no memory.
     ///
     /// # Errors
-    /// The first test that fails; what was given is dropped.
+    /// The first reason that applies; what was given is dropped.
     pub fn check(
         interfaces: Vec<Interface>,
         prefixes: Vec<(Prefix, u16)>,

@@ -12,7 +12,7 @@ use prefix6::{Addr6, Prefix};
 use ripng_wire::Rte;
 use route_table::INFINITY;
 
-/// The prefix that an entry offers a route to, or the first test that it fails.
+/// The prefix that an entry offers a route to, or the first reason to refuse it.
 pub fn judge(entry: &Rte) -> Result<Prefix, NoteKind>
     ensures flaw { result_err result ≡ flaw entry.now }
     ensures prefix { IfOk result (λ p. p ≡ prefix_named entry.now) }

@@ -1,33 +1,33 @@
-//! Which arrivals are refused, and by which test (RFC 2080, sections 2.4.1 and 2.4.2).
+//! Which arrivals are refused, and why (RFC 2080, sections 2.4.1 and 2.4.2).
 
 ghost use Rattle.std.specs.Prelude.{◌≡◌, IfOk};
 ghost use Rattle.std.specs.Result.{result_err};
 ghost use Rattle.ripng_wire.specs.Layout.{Spells};
-ghost use Rattle.ripng_wire.specs.Wire.{first_failing};
-ghost use Rattle.router_core.specs.Faults.{asker_tests, fault, neighbor_tests, request_tests, response_tests};
+ghost use Rattle.ripng_wire.specs.Wire.{first_reason};
+ghost use Rattle.router_core.specs.Faults.{asker_reasons, fault, neighbor_reasons, request_reasons, response_reasons};
 
-use crate::arrival::{Arrival, Fault, RIPNG_PORT};
+use crate::arrival::{Arrival, Fault, MAX_HOP_LIMIT, RIPNG_PORT};
 use crate::config::RouterConfig;
 use ripng_wire::{Command, Datagram, decode};
 
-// What a router of the same link shows: its own link-local address, and to the group a hop limit that no router lowered.
+/// What a router of the same link shows: its own link-local address, and to the group a hop limit that no router lowered.
 fn check_neighbor(config: &RouterConfig, arrival: &Arrival<'_>) -> Result<(), Fault>
-    ensures { result_err result ≡ first_failing (neighbor_tests config.now arrival.entry.now) }
+    ensures { result_err result ≡ first_reason (neighbor_reasons config.now arrival.entry.now) }
 {
     if !arrival.source.is_link_local() {
         Err(Fault::NotLinkLocal)
     } else if config.is_own_address(arrival.source) {
         Err(Fault::OwnAddress)
-    } else if arrival.to_group && arrival.hop_limit != 255 {
+    } else if arrival.to_group && arrival.hop_limit != MAX_HOP_LIMIT {
         Err(Fault::HopLimit)
     } else {
         Ok(())
     }
 }
 
-// The tests of a Response.
+/// The reasons to refuse a Response.
 fn check_response(config: &RouterConfig, arrival: &Arrival<'_>) -> Result<(), Fault>
-    ensures { result_err result ≡ first_failing (response_tests config.now arrival.entry.now) }
+    ensures { result_err result ≡ first_reason (response_reasons config.now arrival.entry.now) }
 {
     if arrival.source_port != RIPNG_PORT {
         return Err(Fault::NotRipngPort);
@@ -35,9 +35,9 @@ fn check_response(config: &RouterConfig, arrival: &Arrival<'_>) -> Result<(), Fa
     check_neighbor(config, arrival)
 }
 
-// An asker that is no router can be answered: it has a unicast address and a port.
+/// An asker that is no router can be answered: it has a unicast address and a port.
 fn check_asker(arrival: &Arrival<'_>) -> Result<(), Fault>
-    ensures { result_err result ≡ first_failing (asker_tests arrival.entry.now) }
+    ensures { result_err result ≡ first_reason (asker_reasons arrival.entry.now) }
 {
     if arrival.source.is_multicast()
         || arrival.source.is_unspecified()
@@ -49,14 +49,14 @@ fn check_asker(arrival: &Arrival<'_>) -> Result<(), Fault>
     }
 }
 
-// The tests of a Request, whose datagram was read.
+/// The reasons to refuse a Request, whose datagram was read.
 fn check_request(
     config: &RouterConfig,
     arrival: &Arrival<'_>,
     request: &Datagram<'_>,
 ) -> Result<(), Fault>
     requires { Spells Command.Request request.now.entries arrival.now.bytes }
-    ensures { result_err result ≡ first_failing (request_tests config.now arrival.entry.now) }
+    ensures { result_err result ≡ first_reason (request_reasons config.now arrival.entry.now) }
 {
     if request.entries().len() == 0 {
         Err(Fault::EmptyRequest)
@@ -67,7 +67,7 @@ fn check_request(
     }
 }
 
-/// The datagram of an arrival, or the first test that the arrival fails. Takes no memory.
+/// The datagram of an arrival, or the first reason to refuse the arrival. Takes no memory.
 pub fn accept<'a>(config: &RouterConfig, arrival: &Arrival<'a>) -> Result<Datagram<'a>, Fault>
     ensures fault { result_err result ≡ fault config.now arrival.entry.now }
     ensures read { IfOk result (λ d. Spells d.command d.entries arrival.entry.now.bytes) }
@@ -83,7 +83,7 @@ pub fn accept<'a>(config: &RouterConfig, arrival: &Arrival<'a>) -> Result<Datagr
     Ok(datagram)
 }
 
-/// Why an arrival changes nothing, if so: the first test that it fails. Takes no memory.
+/// Why an arrival changes nothing, if so: the first reason to refuse it. Takes no memory.
 pub fn fault_of(config: &RouterConfig, arrival: &Arrival<'_>) -> Option<Fault>
     ensures { result ≡ fault config.now arrival.entry.now }
 {

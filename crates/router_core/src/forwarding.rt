@@ -7,7 +7,7 @@ use fib::{Hop, RouteChange};
 use prefix6::Prefix;
 use route_table::{INFINITY, Origin, Route};
 
-// Where packets go by a route.
+/// Where packets go by a route.
 fn hop_of(origin: Origin) -> Hop
     ensures { result ≡ hop_of origin }
 {
@@ -21,7 +21,7 @@ fn hop_of(origin: Origin) -> Hop
     }
 }
 
-// Hop and metric of a route that is not unreachable.
+/// Hop and metric of a route that is not unreachable.
 fn forward(route: Option<Route>) -> Option<(Hop, u8)>
     ensures { result ≡ option_map (λ f. (f.hop, f.metric)) (option_and_then forward route) }
 {

@@ -20,8 +20,8 @@ use prefix6::{Addr6, Prefix};
 use ripng_wire::{NEXT_HOP_METRIC, Rte, Rtes};
 use route_table::{AddRefused, Route, RouteStore};
 
-/// Puts a route in the place of the old one, or adds it where there is none.
-pub fn place<S: RouteStore>(
+/// Puts a route where the old one was, or adds it where there is none.
+pub fn put<S: RouteStore>(
     store: &mut S,
     prefix: Prefix,
     is_held: bool,
@@ -45,7 +45,7 @@ pub fn place<S: RouteStore>(
     }
 }
 
-// One offer meets the routes: the change that it makes, or why its first route to a prefix is refused.
+/// One offer meets the routes: the change that it makes, or why its first route to a prefix is refused.
 fn meet<S: RouteStore>(
     store: &mut S,
     gateway: &Gateway,
@@ -63,12 +63,12 @@ fn meet<S: RouteStore>(
     let old = store.get(&prefix);
     let new = gateway.adopt(old, offer);
     if let Some(route) = new {
-        place(store, prefix, old.is_some(), route)?;
+        put(store, prefix, old.is_some(), route)?;
     }
     Ok(change(prefix, old, new))
 }
 
-// One entry that is no next hop entry: the change that its offer makes, or why it is skipped.
+/// One entry that is no next hop entry: the change that its offer makes, or why it is skipped.
 fn hear_entry<S: RouteStore>(
     store: &mut S,
     gateway: &Gateway,

@@ -24,8 +24,10 @@ mod ticking;
 mod timers;
 
 pub use answer::{Answer, Destination, Note, NoteKind, Outgoing};
-pub use arrival::{Arrival, Fault, RIPNG_PORT};
-pub use config::{ConfigRefused, INTERFACE_LIMIT, Interface, OWNED_LIMIT, RouterConfig};
+pub use arrival::{Arrival, Fault, MAX_HOP_LIMIT, RIPNG_PORT};
+pub use config::{
+    ConfigRefused, INTERFACE_LIMIT, Interface, LEAST_MTU, MOST_MTU, OWNED_LIMIT, RouterConfig,
+};
 pub use laws::{changes_replay, held_is_size, owned_routes_stay, pieces_join, start_replays};
 pub use listed::Listed;
 pub use reconfiguring::{Change, ReconfigureRefused};

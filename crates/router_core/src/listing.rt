@@ -15,7 +15,7 @@ use prefix6::Prefix;
 use route_table::{Moment, Route, RouteStore};
 use std::alloc::{AllocError, Global};
 
-// The first route past the prefix that is due or marked as changed.
+/// The first route past the prefix that is due or marked as changed.
 fn walk_due_or_changed<S: RouteStore>(
     store: &S,
     after: Option<Prefix>,
@@ -37,7 +37,7 @@ fn walk_due_or_changed<S: RouteStore>(
     }
 }
 
-// The first route past the prefix that the update may tell: a triggered one only what is due or marked.
+/// The first route past the prefix that the update may tell: a triggered one only what is due or marked.
 fn walk_told<S: RouteStore>(
     store: &S,
     which: Told,
@@ -52,7 +52,7 @@ fn walk_told<S: RouteStore>(
     }
 }
 
-// A route as an update tells it once it has aged, if the update tells it.
+/// A route as an update tells it once it has aged, if the update tells it.
 fn told_route(route: Route, which: Told, now: Moment) -> Option<Route>
     ensures { result ≡ told_route now which route }
 {
@@ -81,7 +81,7 @@ pub fn has_told<S: RouteStore>(store: &S, which: Told, now: Moment) -> bool
     false
 }
 
-// What is left of all routes, in the order of prefixes.
+/// What is left of all routes, in the order of prefixes.
 fn every_at<S: RouteStore>(
     alloc: Global,
     store: &S,
@@ -99,14 +99,14 @@ fn every_at<S: RouteStore>(
         .collect(alloc)
 }
 
-// A prefix and its route as a triggered update tells it once it has aged, if the update tells it.
+/// A prefix and its route as a triggered update tells it once it has aged, if the update tells it.
 fn left_to_tell(prefix: Prefix, route: Route, now: Moment) -> Option<(Prefix, Route)>
     ensures { result ≡ option_map (λ left. (prefix, left)) (told_route now Told.Changed route) }
 {
     told_route(route, Told::Changed, now).map(|left| (prefix, left))
 }
 
-// The routes that a triggered update tells, in the order of prefixes.
+/// The routes that a triggered update tells, in the order of prefixes.
 fn changed_at<S: RouteStore>(
     alloc: Global,
     store: &S,

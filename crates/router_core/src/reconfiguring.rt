@@ -3,7 +3,7 @@
 ghost use Rattle.std.specs.Prelude.{◌≡◌, OnOk};
 ghost use Rattle.std.specs.Result.{result_err};
 ghost use Rattle.prefix6.specs.Prefix.{IsPrefix};
-ghost use Rattle.router_core.specs.Reconfiguring.{IsNamed, IsPlaced, change_fault, reconfigure_name, reconfigure_number};
+ghost use Rattle.router_core.specs.Reconfiguring.{IsNamed, NamesInterface, change_fault, reconfigure_name, reconfigure_number};
 
 use crate::config::{OWNED_LIMIT, RouterConfig, is_usable_cost};
 use prefix6::Prefix;
@@ -31,7 +31,7 @@ pub enum Change {
     },
 }
 
-/// Why a change is refused: the first test of its kind that it fails, in this order.
+/// Why a change is refused: the first reason of its kind to refuse it, in this order.
 #[derive(Clone, Copy, Debug, PartialEq, Eq)]
 pub enum ReconfigureRefused {
     /// The cost is not 1 to 15 hops.
@@ -84,7 +84,7 @@ impl From<AllocError> for ReconfigureRefused {
     }
 }
 
-// The first test that a prefix to be owned fails.
+/// The first reason to refuse a prefix to be owned.
 fn check_own<S: RouteStore>(
     config: &RouterConfig,
     store: &S,
@@ -107,14 +107,14 @@ fn check_own<S: RouteStore>(
     }
 }
 
-/// The first test that a change fails.
+/// The first reason to refuse a change.
 pub fn check<S: RouteStore>(
     config: &RouterConfig,
     store: &S,
     change: &Change,
 ) -> Result<(), ReconfigureRefused>
     ensures fault { result_err result ≡ change_fault config.now (S.table store.now) change.now }
-    ensures named { OnOk result (IsPlaced config.now change.now → IsNamed config.now change.now) }
+    ensures named { OnOk result (NamesInterface config.now change.now → IsNamed config.now change.now) }
 {
     match *change {
         Change::Cost { cost, .. } => {

@@ -8,7 +8,7 @@ ghost use Rattle.router_core.specs.Output.{AreSpelled, asks_for_all, reply, repl
 
 use crate::answer::{Destination, Outgoing};
 use crate::arrival::{Arrival, RIPNG_PORT};
-use crate::config::RouterConfig;
+use crate::config::{LEAST_MTU, RouterConfig};
 use crate::cut::push_responses;
 use crate::tell::{listed, told_on};
 use prefix6::{Addr6, Prefix};
@@ -16,7 +16,7 @@ use ripng_wire::{Datagram, Rte};
 use route_table::{INFINITY, RouteStore};
 use std::alloc::{AllocError, Global};
 
-// Whether the entries ask for the whole table: one entry of `::`, length 0 and metric 16, whatever its tag.
+/// Whether the entries ask for the whole table: one entry of `::`, length 0 and metric 16, whatever its tag.
 fn asks_for_all(request: &Datagram<'_>) -> bool
     ensures { result ≡ asks_for_all request.now.entries }
 {
@@ -27,7 +27,7 @@ fn asks_for_all(request: &Datagram<'_>) -> bool
     }
 }
 
-// What is answered to one entry: what was asked, with the metric and tag of the route to exactly its prefix.
+/// What is answered to one entry: what was asked, with the metric and tag of the route to exactly its prefix.
 fn reply_entry<S: RouteStore>(store: &S, asked: Rte) -> Rte
     ensures { result ≡ reply_entry (S.table store.now) asked }
 {
@@ -48,7 +48,7 @@ fn reply_entry<S: RouteStore>(store: &S, asked: Rte) -> Rte
     }
 }
 
-// What is answered on an interface to the entries of a Request.
+/// What is answered on an interface to the entries of a Request.
 fn entries<S: RouteStore>(
     alloc: Global,
     store: &S,
@@ -67,7 +67,7 @@ fn entries<S: RouteStore>(
         .collect(alloc)
 }
 
-// The MTU of an interface in bytes, 1,280 to 65,535.
+/// The MTU of an interface in bytes, 1,280 to 65,535.
 fn mtu_at(config: &RouterConfig, iface: usize) -> u32
     ensures value { result ≡ mtu_at config.now iface }
     ensures low { 1280 ≤ result }
@@ -75,7 +75,7 @@ fn mtu_at(config: &RouterConfig, iface: usize) -> u32
 {
     match config.interfaces().get(iface) {
         Some(interface) => interface.mtu,
-        None => 1280,
+        None => LEAST_MTU,
     }
 }
 

@@ -68,8 +68,8 @@ impl<S: RouteStore> Model for Router<S> {
     } };
 }
 
-// An answer with no fault.
-fn told(sends: Vec<Outgoing>, changes: Vec<RouteChange>, notes: Vec<Note>) -> Answer
+/// An answer with no fault.
+fn answer_of(sends: Vec<Outgoing>, changes: Vec<RouteChange>, notes: Vec<Note>) -> Answer
     ensures { result ≡ record { fault = None; sends = sends.items; changes = changes.items; notes = notes.items } }
 {
     Answer {
@@ -80,7 +80,7 @@ fn told(sends: Vec<Outgoing>, changes: Vec<RouteChange>, notes: Vec<Note>) -> An
     }
 }
 
-// The cost of an interface in hops, below 16.
+/// The cost of an interface in hops, below 16.
 fn cost_at(config: &RouterConfig, iface: usize) -> u8
     requires { iface < length config.now.interfaces }
     ensures value { result ≡ cost_at config.now iface }
@@ -89,7 +89,7 @@ fn cost_at(config: &RouterConfig, iface: usize) -> u8
     config.interfaces()[iface].cost
 }
 
-// The routes of a router that comes up, and what it answers.
+/// The routes of a router that comes up, and what it answers.
 fn come_up<S: RouteStore>(alloc: Global, config: &RouterConfig) -> Result<(S, Answer), AllocError>
     ensures owned { IfOk result (λ r. S.table r.0 ≡ owned_table config.now) }
     ensures fault { IfOk result (λ r. r.1.fault ≡ None) }
@@ -101,7 +101,7 @@ fn come_up<S: RouteStore>(alloc: Global, config: &RouterConfig) -> Result<(S, An
     let sends = requests(alloc, config)?;
     let store = owned_routes(alloc, config)?;
     let changes = changes_of_start(alloc, &store)?;
-    Ok((store, told(sends, changes, Vec::new(alloc))))
+    Ok((store, answer_of(sends, changes, Vec::new(alloc))))
 }
 
 impl<S: RouteStore> Router<S> {
@@ -201,14 +201,14 @@ impl<S: RouteStore> Router<S> {
         self.store.next_due()
     }
 
-    // A moment before the last one counts as that.
+    /// A moment before the last one counts as that.
     fn effective(&self, now: Moment) -> Moment
         ensures { result ≡ max self.now.last now }
     {
         self.last.max(now)
     }
 
-    // The update that is due.
+    /// The update that is due.
     fn update_due(&self, now: Moment) -> Option<Told>
         ensures { result ≡ update_due self.now now }
     {
@@ -221,7 +221,7 @@ impl<S: RouteStore> Router<S> {
         }
     }
 
-    // Whether an update has no datagram.
+    /// Whether an update has no datagram.
     fn is_silent(&self, which: Told, now: Moment) -> bool
         ensures { IsTrue result ↔ (update_of self.now now (Some which) ≡ []) }
     {
@@ -230,7 +230,7 @@ impl<S: RouteStore> Router<S> {
             || !has_told(&self.store, which, now)
     }
 
-    // The datagrams of an update.
+    /// The datagrams of an update.
     fn update(&self, due: Option<Told>, now: Moment) -> Result<Vec<Outgoing>, AllocError>
         ensures spelled { IfOk result (λ sends. AreSpelled (update_of self.now now due) sends.items) }
         ensures few { IfOk result (λ sends. length sends.items ≤ map_of.len self.now.table * length self.now.config.interfaces) }
@@ -246,7 +246,7 @@ impl<S: RouteStore> Router<S> {
         updates(self.alloc, &self.config, &routes)
     }
 
-    // When the next regular update is due, after an update.
+    /// When the next regular update is due, after an update.
     fn next_regular(&self, due: Option<Told>, now: Moment, word: u32) -> Deadline
         ensures { result ≡ regular_after self.now now word due }
     {
@@ -256,7 +256,7 @@ impl<S: RouteStore> Router<S> {
         }
     }
 
-    // Until when triggered updates are held, after an update.
+    /// Until when triggered updates are held, after an update.
     fn next_hold(&self, due: Option<Told>, now: Moment, word: u32) -> Deadline
         ensures { result ≡ hold_after self.now now word due }
     {
@@ -290,10 +290,10 @@ impl<S: RouteStore> Router<S> {
         self.last = now;
         self.regular = regular;
         self.hold = hold;
-        Ok(told(sends, changes, Vec::new(self.alloc)))
+        Ok(answer_of(sends, changes, Vec::new(self.alloc)))
     }
 
-    // The gateway that an arrival came through.
+    /// The gateway that an arrival came through.
     fn gateway(&self, arrival: &Arrival<'_>, now: Moment) -> Gateway
         requires { arrival.now.iface < length self.now.config.interfaces }
         ensures { result ≡ gateway_of self.now now arrival.entry.now }
@@ -306,7 +306,7 @@ impl<S: RouteStore> Router<S> {
         }
     }
 
-    // A Response is heard. Room for a note and a change of each entry is made first.
+    /// A Response is heard. Room for a note and a change of each entry is made first.
     fn hear(
         &mut self,
         arrival: &Arrival<'_>,
@@ -333,10 +333,10 @@ impl<S: RouteStore> Router<S> {
             &mut changes,
         );
         self.last = now;
-        Ok(told(Vec::new(self.alloc), changes, notes))
+        Ok(answer_of(Vec::new(self.alloc), changes, notes))
     }
 
-    /// A datagram comes to one of the router's interfaces. Where it fails a test, the fault is answered and no route
+    /// A datagram comes to one of the router's interfaces. Where there is a reason to refuse it, the fault is answered and no route
     /// changes; a Response is heard, and a Request is answered.
     ///
     /// # Errors
@@ -365,7 +365,7 @@ impl<S: RouteStore> Router<S> {
         }
     }
 
-    // A refused arrival is answered by its fault alone.
+    /// A refused arrival is answered by its fault alone.
     fn refuse(&mut self, now: Moment, fault: Fault) -> Answer
         ensures answer { result ≡ record { fault = Some fault; sends = []; changes = []; notes = [] } }
         ensures state { self.new ≡ record self.old { last = now } }
@@ -379,7 +379,7 @@ impl<S: RouteStore> Router<S> {
         }
     }
 
-    // A Request is answered.
+    /// A Request is answered.
     fn reply(
         &mut self,
         arrival: &Arrival<'_>,
@@ -392,6 +392,6 @@ impl<S: RouteStore> Router<S> {
     {
         let sends = reply(self.alloc, &self.store, &self.config, arrival, request)?;
         self.last = now;
-        Ok(told(sends, Vec::new(self.alloc), Vec::new(self.alloc)))
+        Ok(answer_of(sends, Vec::new(self.alloc), Vec::new(self.alloc)))
     }
 }

@@ -25,7 +25,7 @@ pub enum Told {
 }
 
 impl Told {
-    // Whether an update of this kind tells the route.
+    /// Whether an update of this kind tells the route.
     pub fn selects(self, route: &Route) -> bool
         ensures { result ≡ selected self route.now }
     {
@@ -36,7 +36,7 @@ impl Told {
     }
 }
 
-// A route as it is told on an interface: unreachable where it was learned.
+/// A route as it is told on an interface: unreachable where it was learned.
 fn told_entry(iface: usize, prefix: Prefix, route: Route) -> Rte
     ensures { result ≡ told_entry iface (prefix, route) }
 {

@@ -13,7 +13,7 @@ use prefix6::Prefix;
 use route_table::{Moment, Route, RouteStore};
 use std::alloc::{AllocError, Global};
 
-// The change of a prefix's forwarding entry as its route ages, if the entry differs.
+/// The change of a prefix's forwarding entry as its route ages, if the entry differs.
 fn change_of_ageing(prefix: Prefix, route: Route, now: Moment) -> Option<RouteChange>
     ensures { result ≡ change prefix (Some route) (aged now route) }
 {
@@ -46,7 +46,7 @@ pub fn changes_of_ageing<S: RouteStore>(
     Ok(changes)
 }
 
-// Puts what is left of a route in its place.
+/// Puts what is left of a route in its place.
 fn put<S: RouteStore>(store: &mut S, prefix: Prefix, route: Route, left: Option<Route>)
     requires { get (S.table store.old) prefix ≡ Some route }
     ensures { S.table store.new ≡ with_value (S.table store.old) prefix left }
@@ -57,7 +57,7 @@ fn put<S: RouteStore>(store: &mut S, prefix: Prefix, route: Route, left: Option<
     }
 }
 
-// Every route ages. Only those that are due are looked at.
+/// Every route ages. Only those that are due are looked at.
 fn age_all<S: RouteStore>(store: &mut S, now: Moment)
     ensures { S.table store.new ≡ aged_table now (S.table store.old) }
 {
@@ -71,7 +71,7 @@ fn age_all<S: RouteStore>(store: &mut S, now: Moment)
     }
 }
 
-// Every route loses its mark. Only those that are marked are looked at.
+/// Every route loses its mark. Only those that are marked are looked at.
 fn unmark_all<S: RouteStore>(store: &mut S)
     ensures { S.table store.new ≡ unmarked (S.table store.old) }
 {

@@ -27,7 +27,7 @@ use std::alloc::Global;
 use std::process::Abort;
 use std::test::Fail;
 
-// An arrival at an interface that there is. It must be answered by the fault that was foreseen.
+/// An arrival at an interface that there is. It must be answered by the fault that was foreseen.
 fn arrive<S: RouteStore>(router: &mut Router<S>, arrival: Arrival<'_>) -> Result<Answer, Fail> {
     if arrival.iface >= router.config().interfaces().len() {
         return Err(Fail::from("no such interface"));
@@ -60,7 +60,7 @@ fn hear_sites<S: RouteStore>(
     arrive(router, from_neighbor(words, bytes.as_slice())?)
 }
 
-// A neighbor's Responses of 2,048 sites each fill the table.
+/// A neighbor's Responses of 2,048 sites each fill the table.
 fn fill<S: RouteStore>(
     out: &mut String,
     alloc: Global,
@@ -80,7 +80,7 @@ fn fill<S: RouteStore>(
     Ok(writeln!(out, "changes {changes}")?)
 }
 
-// What each beginning of a neighbor's Response is answered by.
+/// What each beginning of a neighbor's Response is answered by.
 fn faults_of_beginnings<S: RouteStore>(
     alloc: Global,
     router: &mut Router<S>,
@@ -113,7 +113,7 @@ fn hear_beginnings<S: RouteStore>(
     Ok(())
 }
 
-// What the router answers to a command.
+/// What the router answers to a command.
 fn answer_of<S: RouteStore>(
     alloc: Global,
     router: &mut Router<S>,
@@ -128,7 +128,7 @@ fn answer_of<S: RouteStore>(
     }
 }
 
-// The change that a command asks for.
+/// The change that a command asks for.
 fn change_of(words: &[&str]) -> Result<(Moment, Change), Fail> {
     match words {
         ["cost", iface, now, cost] => Ok((
@@ -155,7 +155,7 @@ fn change_of(words: &[&str]) -> Result<(Moment, Change), Fail> {
     }
 }
 
-// Changes the router's configuration, and writes what it answers.
+/// Changes the router's configuration, and writes what it answers.
 fn reconfigure<S: RouteStore>(
     out: &mut String,
     alloc: Global,
@@ -182,7 +182,7 @@ fn show_route<S: RouteStore>(out: &mut String, router: &Router<S>, word: &str) -
     }
 }
 
-// Does a command, and writes what comes out.
+/// Does a command, and writes what comes out.
 fn obey<S: RouteStore>(
     out: &mut String,
     alloc: Global,
@@ -204,7 +204,7 @@ fn obey<S: RouteStore>(
     }
 }
 
-// The router that the first line starts.
+/// The router that the first line starts.
 fn begin<S: RouteStore>(out: &mut String, alloc: Global, line: &str) -> Result<Router<S>, Fail> {
     writeln!(out, "{line}")?;
     let words = words_of(alloc, line)?;
@@ -220,7 +220,7 @@ fn begin<S: RouteStore>(out: &mut String, alloc: Global, line: &str) -> Result<R
     Ok(router)
 }
 
-// The transcript as it turns out.
+/// The transcript as it turns out.
 fn played<S: RouteStore>(alloc: Global, transcript: &str) -> Result<String, Fail> {
     let mut out = String::new(alloc);
     let mut lines = transcript.lines();

@@ -20,13 +20,13 @@ pub fn moment(word: &str) -> Result<Moment, Fail> {
     Ok(Moment::new(word.parse::<u64>()?).ok_or("a moment")?)
 }
 
-// The prefix 2001:db8:N::/48.
+/// The prefix 2001:db8:N::/48.
 fn site(number: u32) -> Result<Prefix, Fail> {
     let bits = (0x2001_0db8_u128 << 96) + (u128::from(number) << 80);
     Ok(Prefix::new(Addr6::from_bits(bits), 48)?)
 }
 
-// The interfaces of the router of every scenario.
+/// The interfaces of the router of every scenario.
 fn interfaces(alloc: Global) -> Result<Vec<Interface>, Fail> {
     let mut interfaces = Vec::new(alloc);
     for (text, mtu) in [("fe80::1", 1280), ("fe80::1:1", 1500)] {
@@ -36,7 +36,7 @@ fn interfaces(alloc: Global) -> Result<Vec<Interface>, Fail> {
     Ok(interfaces)
 }
 
-// So many sites from 0 on, each with tag 0.
+/// So many sites from 0 on, each with tag 0.
 fn owned_sites(alloc: Global, count: u32) -> Result<Vec<(Prefix, u16)>, Fail> {
     let mut owned = Vec::new(alloc);
     for number in 0..count {
@@ -45,7 +45,7 @@ fn owned_sites(alloc: Global, count: u32) -> Result<Vec<(Prefix, u16)>, Fail> {
     Ok(owned)
 }
 
-// The own prefixes that `sites N` or `own PREFIX TAG` names.
+/// The own prefixes that `sites N` or `own PREFIX TAG` names.
 fn owned(alloc: Global, words: &[&str]) -> Result<Vec<(Prefix, u16)>, Fail> {
     match words {
         [] | ["quiet"] => Ok(Vec::new(alloc)),
@@ -83,7 +83,7 @@ pub fn refusal_of(
     Ok(RouterConfig::check(listed, owned_sites(alloc, prefixes)?, false).err())
 }
 
-// Adds bytes so many times.
+/// Adds bytes so many times.
 fn push_times(bytes: &mut Vec<u8>, count: usize, part: &[u8]) -> Result<(), Fail> {
     for _ in 0..count {
         bytes.extend_from_slice(part)?;

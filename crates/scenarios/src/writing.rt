@@ -6,7 +6,7 @@ use route_table::{Clock, Origin, Route, RouteStore};
 use router_core::{Answer, Destination, Note, NoteKind, Outgoing, Router};
 use std::alloc::{AllocError, Global};
 
-// Bytes as hexadecimal digits, four bytes a word, as RFC 2080 draws a datagram.
+/// Bytes as hexadecimal digits, four bytes a word, as RFC 2080 draws a datagram.
 fn write_bytes(out: &mut String, alloc: Global, bytes: &[u8]) -> Result<(), AllocError> {
     for word in bytes.chunks(4) {
         write!(out, " {}", hex::encode(alloc, word)?)?;
@@ -14,7 +14,7 @@ fn write_bytes(out: &mut String, alloc: Global, bytes: &[u8]) -> Result<(), Allo
     writeln!(out)
 }
 
-// A datagram that is sent: the interface, to whom, and its bytes.
+/// A datagram that is sent: the interface, to whom, and its bytes.
 fn write_send(out: &mut String, alloc: Global, send: &Outgoing) -> Result<(), AllocError> {
     write!(out, "send {}", send.iface)?;
     match send.to {
@@ -24,7 +24,7 @@ fn write_send(out: &mut String, alloc: Global, send: &Outgoing) -> Result<(), Al
     write_bytes(out, alloc, send.bytes.as_slice())
 }
 
-// A change of the forwarding table.
+/// A change of the forwarding table.
 fn write_change(out: &mut String, change: &RouteChange) -> Result<(), AllocError> {
     match *change {
         RouteChange::Install {
@@ -61,7 +61,7 @@ pub fn write_answer(out: &mut String, alloc: Global, answer: &Answer) -> Result<
     Ok(())
 }
 
-// How many of the notes are of a kind.
+/// How many of the notes are of a kind.
 fn count_of(notes: &[Note], kind: NoteKind) -> usize {
     notes.iter().filter(|note| note.kind == kind).count()
 }
@@ -100,7 +100,7 @@ pub fn write_sizes(out: &mut String, alloc: Global, answer: &Answer) -> Result<(
     write_note_counts(out, answer.notes.as_slice())
 }
 
-// How many datagrams are sent on an interface, and the size of the last.
+/// How many datagrams are sent on an interface, and the size of the last.
 fn write_sent_on(out: &mut String, sends: &[Outgoing], iface: usize) -> Result<(), AllocError> {
     let on_it = sends.iter().filter(|send| send.iface == iface);
     let (count, last) = on_it.fold((0usize, 0), |(count, _), send| {

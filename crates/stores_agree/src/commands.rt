@@ -9,13 +9,13 @@ use std::test::Fail;
 
 const COMMANDS: u16 = 20_000;
 
-// A prefix of at most 16 bits, so that prefixes often meet and lie in one another.
+/// A prefix of at most 16 bits, so that prefixes often meet and lie in one another.
 fn short_prefix(word: u32) -> Option<Prefix> {
     let len = (word % 17) as u8;
     Prefix::new(Addr6::from_bits(u128::from(word / 17 % 65_536) << 112), len).ok()
 }
 
-// A route of a kind and a deadline that the word says.
+/// A route of a kind and a deadline that the word says.
 fn some_route(word: u32, tag: u16) -> Option<Route> {
     let until = Moment::new(u64::from(word / 8 % 100))?.later(1);
     let origin = Origin::Learned {
@@ -32,7 +32,7 @@ fn some_route(word: u32, tag: u16) -> Option<Route> {
     })
 }
 
-// The routes of a store, listed.
+/// The routes of a store, listed.
 fn listed<S: RouteStore>(alloc: Global, store: &S) -> Option<Vec<(Prefix, Route)>> {
     let mut routes = Vec::with_capacity(alloc, store.len()).ok()?;
     store.list(&mut routes);

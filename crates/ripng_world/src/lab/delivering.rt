@@ -4,11 +4,11 @@ ghost use Rattle.std.specs.Prelude.{◌≡◌, ◌≢◌, ℕ, ◌<◌, ◌∷�
 ghost use Rattle.router_core.specs.declared.answer.NoteKind.TheVariants.{NoMemory};
 ghost use Rattle.ripng_world.specs.AskedRounds.{delivery, is_picked, other_deliveries, pair_at, picked_deliveries};
 ghost use Rattle.ripng_world.specs.Delivering.{AllDelivered, HappenInPart, deliveries_since};
-ghost use Rattle.ripng_world.specs.Labs.{AreRoutesBackedSince, AreNoneBelowLeastSince, IsTruthToldSince, HoldsFixed};
+ghost use Rattle.ripng_world.specs.Labs.{AreRoutesBackedSince, HaveNoneBelowLeastSince, AreDatagramsSoundSince, HoldsFixed};
 ghost use Rattle.ripng_world.specs.World.{WorldRun};
 
 use super::Lab;
-use crate::pairs::{Pair, other_places, places};
+use crate::pairs::{Pair, interfaces, other_interfaces};
 use route_table::{Moment, RouteStore};
 use router_core::{Note, NoteKind};
 use std::alloc::AllocError;
@@ -22,7 +22,7 @@ pub(super) enum OnSkip {
     Stop,
 }
 
-// Whether a new route wants for memory.
+/// Whether a new route wants for memory.
 fn wants_memory(notes: &[Note]) -> bool
     ensures { IsFalse result → All (λ n. n.kind ≢ NoMemory) notes.now }
 {
@@ -30,13 +30,14 @@ fn wants_memory(notes: &[Note]) -> bool
 }
 
 impl<S: RouteStore> Lab<S> {
-    // A datagram comes to an interface of its link.
+    /// A datagram comes to an interface of its link.
     fn deliver(&mut self, pair: &Pair, now: Moment, on_skip: OnSkip) -> Result<(), AllocError>
         ensures network { self.new.network ≡ self.old.network }
         ensures delivered { OnOk result (AllDelivered on_skip self.old.network self.old.world (delivery pair.now now ∷ []) self.new.world) }
         ensures stopped { OnErr result (HappenInPart self.old.network self.old.world (delivery pair.now now ∷ []) self.new.world) }
     {
         let Ok(answer) = self.step(&pair.delivery(now)) else {
+            // The datagram is there, and so is the interface, on its link: only memory can have been wanting.
             return Err(AllocError);
         };
         if on_skip == OnSkip::Stop && wants_memory(answer.notes.as_slice()) {
@@ -45,19 +46,19 @@ impl<S: RouteStore> Lab<S> {
         Ok(())
     }
 
-    // A datagram comes to these interfaces, each given behind its router.
+    /// A datagram comes to these interfaces, each given behind its router.
     fn deliver_to(
         &mut self,
         datagram: usize,
-        places: &[(usize, usize)],
+        interfaces: &[(usize, usize)],
         now: Moment,
         on_skip: OnSkip,
     ) -> Result<(), AllocError>
         ensures network { self.new.network ≡ self.old.network }
-        ensures delivered { OnOk result (AllDelivered on_skip self.old.network self.old.world (map (λ p. delivery p now) (map (pair_at datagram) places.now)) self.new.world) }
-        ensures stopped { OnErr result (HappenInPart self.old.network self.old.world (map (λ p. delivery p now) (map (pair_at datagram) places.now)) self.new.world) }
+        ensures delivered { OnOk result (AllDelivered on_skip self.old.network self.old.world (map (λ p. delivery p now) (map (pair_at datagram) interfaces.now)) self.new.world) }
+        ensures stopped { OnErr result (HappenInPart self.old.network self.old.world (map (λ p. delivery p now) (map (pair_at datagram) interfaces.now)) self.new.world) }
     {
-        for &(router, iface) in places {
+        for &(router, iface) in interfaces {
             let pair = Pair {
                 datagram,
                 router,
@@ -68,7 +69,7 @@ impl<S: RouteStore> Lab<S> {
         Ok(())
     }
 
-    // Each datagram from a number on, of those that are sent already, comes to each other interface of its link.
+    /// Each datagram from a number on, of those that are sent already, comes to each other interface of its link.
     pub(super) fn deliver_each(
         &mut self,
         first: usize,
@@ -79,15 +80,20 @@ impl<S: RouteStore> Lab<S> {
         ensures delivered { OnOk result (AllDelivered on_skip self.old.network self.old.world (deliveries_since self.old.network first self.old.world.sent now) self.new.world) }
         ensures stopped { OnErr result (HappenInPart self.old.network self.old.world (deliveries_since self.old.network first self.old.world.sent now) self.new.world) }
     {
-        let places = places(self.alloc, &self.stations)?;
+        let interfaces = interfaces(self.alloc, &self.stations)?;
         for datagram in first..self.sent.len() {
-            let others = other_places(self.alloc, &self.stations, &places, &self.sent[datagram])?;
+            let others = other_interfaces(
+                self.alloc,
+                &self.stations,
+                &interfaces,
+                &self.sent[datagram],
+            )?;
             self.deliver_to(datagram, &others, now, on_skip)?;
         }
         Ok(())
     }
 
-    // The pairs that are picked are delivered, in order. Says of each pair whether it is among them.
+    /// The pairs that are picked are delivered, in order. Says of each pair whether it is among them.
     pub(super) fn deliver_picked(
         &mut self,
         pairs: &[Pair],
@@ -111,7 +117,7 @@ impl<S: RouteStore> Lab<S> {
         Ok(picked)
     }
 
-    // The pairs that were not picked are delivered, in order.
+    /// The pairs that were not picked are delivered, in order.
     pub(super) fn deliver_others(
         &mut self,
         pairs: &[Pair],
@@ -142,8 +148,8 @@ impl<S: RouteStore> Lab<S> {
         ensures delivered { OnOk result (WorldRun self.old.network self.old.world (deliveries_since self.old.network first self.old.world.sent now) self.new.world) }
         ensures stopped { OnErr result (HappenInPart self.old.network self.old.world (deliveries_since self.old.network first self.old.world.sent now) self.new.world) }
         ensures backed { AreRoutesBackedSince self.new.network self.new.world }
-        ensures least { AreNoneBelowLeastSince self.new.network self.new.world }
-        ensures truth { IsTruthToldSince self.new.network self.new.world }
+        ensures least { HaveNoneBelowLeastSince self.new.network self.new.world }
+        ensures truth { AreDatagramsSoundSince self.new.network self.new.world }
         ensures fixed { HoldsFixed self.new.network self.new.world }
     {
         let outcome = self.deliver_each(first, now, OnSkip::GoOn);

@@ -4,7 +4,7 @@ ghost use Rattle.std.specs.Prelude.{◌≡◌, ◌<◌, ◌≤◌, ◌↔◌, ma
 ghost use Rattle.router_core.specs.Machine.{State};
 ghost use Rattle.ripng_world.specs.AskedRounds.{AreAllMade, AreMade, Converges, HaveStopped, IsMade, StopsFor, deliveries_of, pairs_since, round_in, ticks_of};
 ghost use Rattle.ripng_world.specs.Delivering.{AllDelivered, HappenInPart};
-ghost use Rattle.ripng_world.specs.Labs.{AreRoutesBackedSince, AreNoneBelowLeastSince, IsTruthToldSince, HoldsFixed};
+ghost use Rattle.ripng_world.specs.Labs.{AreRoutesBackedSince, HaveNoneBelowLeastSince, AreDatagramsSoundSince, HoldsFixed};
 ghost use Rattle.ripng_world.specs.Rounds.{AllTick, Round as RoundEvents};
 
 use super::Lab;
@@ -15,7 +15,7 @@ use crate::rounds::{Round, RoundsRefused};
 use route_table::{Moment, RouteStore};
 use std::alloc::AllocError;
 
-// A moment before the last one counts as that.
+/// A moment before the last one counts as that.
 fn later(last: Moment, now: Moment) -> Moment
     ensures { result ≡ max last now }
 {
@@ -23,7 +23,7 @@ fn later(last: Moment, now: Moment) -> Moment
 }
 
 impl<S: RouteStore> Lab<S> {
-    // Whether the regular update of a router is due, at a moment or at the last one that it was told.
+    /// Whether the regular update of a router is due, at a moment or at the last one that it was told.
     fn is_due(&self, router: usize, now: Moment) -> bool
         requires { router < length self.now.network }
         ensures { (state : State) × (slice_get self.now.world.states router ≡ Some state) × (IsTrue result ↔ (state.regular ≤ max state.last now)) }
@@ -33,7 +33,7 @@ impl<S: RouteStore> Lab<S> {
         router.regular().reached(now)
     }
 
-    // Each router ticks, in order, each when its regular update is due.
+    /// Each router ticks, in order, each when its regular update is due.
     fn tick_all(&mut self, number: usize, round: &Round<'_>) -> Result<(), RoundsRefused>
         requires { length round.now.ticks ≡ length self.old.network }
         ensures network { self.new.network ≡ self.old.network }
@@ -56,7 +56,7 @@ impl<S: RouteStore> Lab<S> {
         Ok(())
     }
 
-    // The deliveries of a round, once its routers have ticked: those that are picked, and then each pair that was not.
+    /// The deliveries of a round, once its routers have ticked: those that are picked, and then each pair that was not.
     fn deliver_asked(&mut self, first: usize, round: &Round<'_>) -> Result<(), AllocError>
         requires { first ≤ length self.old.world.sent }
         ensures network { self.new.network ≡ self.old.network }
@@ -71,7 +71,7 @@ impl<S: RouteStore> Lab<S> {
         self.deliver_others(&pairs, &picked, round.rest)
     }
 
-    // A round is made as it is asked for.
+    /// A round is made as it is asked for.
     fn make_round(&mut self, number: usize, round: &Round<'_>) -> Result<(), RoundsRefused>
         requires { length round.now.ticks ≡ length self.old.network }
         ensures network { self.new.network ≡ self.old.network }
@@ -87,7 +87,7 @@ impl<S: RouteStore> Lab<S> {
         Ok(())
     }
 
-    // Rounds are made one after another, until one is refused.
+    /// Rounds are made one after another, until one is refused.
     fn make_rounds(&mut self, rounds: &[Round<'_>]) -> Result<(), RoundsRefused>
         requires { All (λ r. length r.ticks ≡ length self.old.network) rounds.now }
         ensures network { self.new.network ≡ self.old.network }
@@ -114,8 +114,8 @@ impl<S: RouteStore> Lab<S> {
         ensures converges { OnOk result (Converges self.old.network self.old.world rounds.entry.now self.new.world) }
         ensures refused { IfErr result (λ why. HaveStopped self.old.network self.old.world rounds.entry.now why self.new.world) }
         ensures backed { AreRoutesBackedSince self.new.network self.new.world }
-        ensures least { AreNoneBelowLeastSince self.new.network self.new.world }
-        ensures truth { IsTruthToldSince self.new.network self.new.world }
+        ensures least { HaveNoneBelowLeastSince self.new.network self.new.world }
+        ensures truth { AreDatagramsSoundSince self.new.network self.new.world }
         ensures fixed { HoldsFixed self.new.network self.new.world }
     {
         let outcome = self.make_rounds(rounds);

@@ -14,7 +14,7 @@ fn moment(now: u64) -> Result<Moment, Fail> {
     Ok(Moment::new(now).ok_or("a moment")?)
 }
 
-// A router with interfaces of these addresses, costs and links.
+/// A router with interfaces of these addresses, costs and links.
 fn node(alloc: Global, interfaces: [(u128, u8, u16); 2]) -> Result<Node, AllocError> {
     let mut node = Node {
         interfaces: Vec::new(alloc),
@@ -36,7 +36,7 @@ fn prefix() -> Result<Prefix, Fail> {
     Ok(Prefix::new(Addr6::from_bits(0x2001_0db8 << 96), 32)?)
 }
 
-// The first router owns the prefix, and its link to the last costs 9.
+/// The first router owns the prefix, and its link to the last costs 9.
 fn square(alloc: Global) -> Result<Lab<SortedRoutes>, Fail> {
     let mut owner = node(alloc, [(0xa0, 1, 0), (0xa1, 9, 3)])?;
     owner.prefixes.push((prefix()?, 0))?;
@@ -51,7 +51,7 @@ fn square(alloc: Global) -> Result<Lab<SortedRoutes>, Fail> {
     Ok(lab.ok().ok_or("a lab")?)
 }
 
-// The metrics of the prefix at all four routers, 0 where there is no route.
+/// The metrics of the prefix at all four routers, 0 where there is no route.
 fn metrics(lab: &Lab<SortedRoutes>) -> Result<[u8; 4], Fail> {
     let mut metrics = [0; 4];
     for (place, metric) in metrics.iter_mut().enumerate() {
@@ -61,7 +61,7 @@ fn metrics(lab: &Lab<SortedRoutes>) -> Result<[u8; 4], Fail> {
     Ok(metrics)
 }
 
-// One round at a moment, with these picks.
+/// One round at a moment, with these picks.
 fn one(lab: &mut Lab<SortedRoutes>, now: u64, picks: &[(u32, Moment)]) -> Result<(), Fail> {
     if lab.routers() != 4 {
         return Err(Fail::from("four routers"));
@@ -90,7 +90,7 @@ fn fourteen_rounds_find_the_least_costs(rt: HostRuntime) -> Result<(), Fail> {
     Ok(())
 }
 
-// Each of the first routers' ticks sends a datagram of one entry on each interface, if there is a route.
+/// Each of the first routers' ticks sends a datagram of one entry on each interface, if there is a route.
 #[test]
 fn all_pairs_may_be_picked_backwards_and_twice(rt: HostRuntime) -> Result<(), Fail> {
     let alloc = rt.alloc();

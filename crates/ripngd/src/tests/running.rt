@@ -34,7 +34,7 @@ fn socket<N: Net>(net: &N) -> io::Result<(UdpSocket, u16)> {
 }
 
 /// A port that nothing stands at.
-fn free_port<N: Net>(net: &N) -> io::Result<u16> {
+pub fn free_port<N: Net>(net: &N) -> io::Result<u16> {
     Ok(socket(net)?.1)
 }
 
@@ -134,7 +134,7 @@ fn two_routers_learn_from_each_other(rt: HostRuntime) -> Result<(), Fail> {
 }
 
 /// The status of a command line, what it prints, and what it says on standard error.
-fn outcome(rt: &HostRuntime, words: &[&str]) -> Result<(u8, Vec<u8>, Vec<u8>), Fail> {
+pub fn outcome(rt: &HostRuntime, words: &[&str]) -> Result<(u8, Vec<u8>, Vec<u8>), Fail> {
     let mut out = Vec::new(rt.alloc());
     let mut err = Vec::new(rt.alloc());
     let status = program(rt, words, &mut out, &mut err);
@@ -281,7 +281,7 @@ fn check_counts_the_peers_of_all_interfaces(rt: HostRuntime) -> Result<(), Fail>
 
 /// Command lines on files, with their status and what they write to standard output or, with status 3, to standard
 /// error. The file `few.toml` has no interface, `few.lab` a router without one.
-const ON_FILES: [(&[&str], u8, &str); 9] = [
+const ON_FILES: [(&[&str], u8, &str); 11] = [
     (
         &["ripngd", "check", "few.toml"],
         1,
@@ -314,6 +314,16 @@ const ON_FILES: [(&[&str], u8, &str); 9] = [
     ),
     (
         &["ripngd", "lab", "absent"],
+        3,
+        "ripngd: cannot read absent\n",
+    ),
+    (
+        &["ripngd", "table", "absent"],
+        3,
+        "ripngd: cannot read absent\n",
+    ),
+    (
+        &["ripngd", "page", "--film", "absent"],
         3,
         "ripngd: cannot read absent\n",
     ),

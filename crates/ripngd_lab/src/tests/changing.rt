@@ -28,7 +28,7 @@ struct History {
 }
 
 impl History {
-    // The square of four routers, whose first owns the prefix.
+    /// The square of four routers, whose first owns the prefix.
     fn new(alloc: Global) -> Result<History, Fail> {
         let mut script = String::new(alloc);
         script.push_str(until_cold(SQUARE))?;
@@ -41,7 +41,7 @@ impl History {
         })
     }
 
-    // An interface costs another amount.
+    /// An interface costs another amount.
     fn change_cost(&mut self, word: usize) -> Result<(), Fail> {
         let cost = 1 + word / 8 % 6;
         if let Some(port) = self.ports.get(word % 8) {
@@ -52,7 +52,7 @@ impl History {
         Ok(())
     }
 
-    // A router gains the prefix, or gives it up.
+    /// A router gains the prefix, or gives it up.
     fn move_prefix(&mut self, router: usize) -> Result<(), Fail> {
         if self.owning.contains(&router) {
             self.owning.retain(|owner| *owner != router);
@@ -65,7 +65,7 @@ impl History {
         Ok(())
     }
 
-    // What a random word says happens next.
+    /// What a random word says happens next.
     fn go_on(&mut self, word: usize) -> Result<(), Fail> {
         match word % 4 {
             0 => self.change_cost(word / 4),
@@ -78,7 +78,7 @@ impl History {
     }
 }
 
-// Forty things that happen.
+/// Forty things that happen.
 fn happened(alloc: Global, seed: u32) -> Result<History, Fail> {
     let mut history = History::new(alloc)?;
     for word in words(alloc, seed, 40)? {
@@ -87,7 +87,7 @@ fn happened(alloc: Global, seed: u32) -> Result<History, Fail> {
     Ok(history)
 }
 
-// How many of the printed routes below 16 are backed, and how many are not.
+/// How many of the printed routes below 16 are backed, and how many are not.
 fn count(alloc: Global, prints: &str, history: &History) -> Result<(usize, usize), Fail> {
     let (mut backed, mut others) = (0_usize, 0_usize);
     for line in prints.lines() {

@@ -120,7 +120,7 @@ fn fourteen_rounds_print_as_one_by_one(rt: HostRuntime) -> Result<(), Fail> {
     Ok(())
 }
 
-// A quiet router learns, and tells nobody: its neighbor has no route.
+/// A quiet router learns, and tells nobody: its neighbor has no route.
 #[test]
 fn a_quiet_router_may_be_among_them(rt: HostRuntime) -> Result<(), Fail> {
     let mut out = Vec::new(rt.alloc());
@@ -132,7 +132,7 @@ fn a_quiet_router_may_be_among_them(rt: HostRuntime) -> Result<(), Fail> {
     Ok(())
 }
 
-// The least cost of a walk with so many hops to an owner of the prefix, if that is at most 15.
+/// The least cost of a walk with so many hops to an owner of the prefix, if that is at most 15.
 fn least_cost(
     alloc: Global,
     ports: &[Port],
@@ -153,7 +153,7 @@ fn least_cost(
     Ok(least)
 }
 
-// The metric that is printed of a prefix at a router, if there is such a line.
+/// The metric that is printed of a prefix at a router, if there is such a line.
 fn printed(alloc: Global, prints: &str, from: (usize, &str)) -> Result<Option<usize>, Fail> {
     for line in prints.lines() {
         let words: Vec<&str> = line.split(' ').collect(alloc)?;

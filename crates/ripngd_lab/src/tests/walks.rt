@@ -76,7 +76,7 @@ fn add_walk(walks: &mut Walks, from: usize, cost: usize) -> Result<(), AllocErro
     Ok(())
 }
 
-// Puts a hop before a walk, over each interface that hears the router where the walk begins.
+/// Puts a hop before a walk, over each interface that hears the router where the walk begins.
 fn add_hops(walks: &mut Walks, ports: &[Port], at: usize, cost: usize) -> Result<(), AllocError> {
     for (router, _, _, hop, link) in ports {
         let hears = ports.iter().any(|port| port.0 == at && port.4 == *link);
@@ -111,7 +111,7 @@ pub fn walks_to(
     Ok(walks)
 }
 
-// Whether some walk begins over the interface at the neighbor, and has that cost.
+/// Whether some walk begins over the interface at the neighbor, and has that cost.
 fn begins(walks: &Walks, ports: &[Port], here: (usize, usize), from: &str, metric: usize) -> bool {
     let Some(sender) = ports.iter().find(|port| port.2 == from) else {
         return false;
@@ -123,7 +123,7 @@ fn begins(walks: &Walks, ports: &[Port], here: (usize, usize), from: &str, metri
             && walk.1.checked_add(port.3) == Some(metric)))
 }
 
-// Whether a learned route is backed by a walk to an owner of its prefix with its tag.
+/// Whether a learned route is backed by a walk to an owner of its prefix with its tag.
 fn is_learned(
     alloc: Global,
     ports: &[Port],
@@ -187,7 +187,7 @@ pub fn is_backed(
     }
 }
 
-// How many of the printed routes are backed by a walk, and how many are not.
+/// How many of the printed routes are backed by a walk, and how many are not.
 fn count_backed(
     alloc: Global,
     prints: &str,

@@ -242,7 +242,7 @@ print
 sent
 ";
 
-// How many records a line wrote, and how many of them hold a text.
+/// How many records a line wrote, and how many of them hold a text.
 fn count(alloc: Global, trace: &str, line: usize, text: &str) -> Result<(usize, usize), Fail> {
     let beginning = format!(in alloc; "{{\"line\":{line},")?;
     let (mut records, mut holding) = (0_usize, 0_usize);
@@ -257,7 +257,7 @@ fn count(alloc: Global, trace: &str, line: usize, text: &str) -> Result<(usize, 
     Ok((records, holding))
 }
 
-// Whether each of these lines wrote one record, and that holds the text.
+/// Whether each of these lines wrote one record, and that holds the text.
 fn holds(alloc: Global, script: &str, facts: &[(usize, &str)]) -> Result<bool, Fail> {
     let (out, done) = traced(alloc, script)?;
     let trace = str::from_utf8(out.as_slice())?;
@@ -279,7 +279,7 @@ fn examples_hold_what_they_show(rt: HostRuntime) -> Result<(), Fail> {
     Ok(())
 }
 
-// Each event of a round has a record: four ticks, and a delivery of each datagram to the other interface of its link.
+/// Each event of a round has a record: four ticks, and a delivery of each datagram to the other interface of its link.
 #[test]
 fn rounds_tell_their_events(rt: HostRuntime) -> Result<(), Fail> {
     let alloc = rt.alloc();
@@ -299,7 +299,7 @@ fn rounds_tell_their_events(rt: HostRuntime) -> Result<(), Fail> {
     Ok(())
 }
 
-// Whether a trace has each line that the script prints.
+/// Whether a trace has each line that the script prints.
 fn tells_prints(alloc: Global, script: &str) -> Result<bool, Fail> {
     let (out, done) = traced(alloc, script)?;
     let trace = str::from_utf8(out.as_slice())?;
@@ -312,7 +312,7 @@ fn tells_prints(alloc: Global, script: &str) -> Result<bool, Fail> {
     Ok(all)
 }
 
-// Rounds whose events are told are those that are made at once.
+/// Rounds whose events are told are those that are made at once.
 #[test]
 fn rounds_are_those_made_at_once(rt: HostRuntime) -> Result<(), Fail> {
     for script in [SQUARE, ROUNDS, TWINS] {

@@ -10,7 +10,7 @@ fn prefix(addr: u128, len: u8) -> Result<Prefix, PrefixError> {
     Prefix::new(Addr6::from_bits(addr), len)
 }
 
-// A learned route until a moment, marked as changed.
+/// A learned route until a moment, marked as changed.
 fn until(ms: u32) -> Option<Route> {
     let origin = Origin::Learned {
         iface: 0,

@@ -60,7 +60,7 @@ pub fn add(link: Link, leaf: Box<Entry>, spare: Box<Fork>) -> Link
     }
 }
 
-// Hangs a leaf where there is one: in its place, below it, or above or beside it.
+/// Hangs a leaf where there is one: in its place, below it, or above or beside it.
 fn add_to_leaf(old: Box<Entry>, leaf: Box<Entry>, spare: Box<Fork>) -> Link
     ensures some { HasEntries result }
     ensures put { linked result ≡ put prefix_cmp leaf.value.0 leaf.value.1 (old.value ∷ []) }
@@ -78,7 +78,7 @@ fn add_to_leaf(old: Box<Entry>, leaf: Box<Entry>, spare: Box<Fork>) -> Link
     }
 }
 
-// Hangs a leaf above or beside what lies in a prefix, where the leaf does not lie below that prefix.
+/// Hangs a leaf above or beside what lies in a prefix, where the leaf does not lie below that prefix.
 fn add_over(below: Link, prefix: &Prefix, leaf: Box<Entry>, spare: Box<Fork>) -> Link
     requires entries { AreIn prefix.now (linked below) }
     requires some { HasEntries below }
@@ -102,7 +102,7 @@ fn add_over(below: Link, prefix: &Prefix, leaf: Box<Entry>, spare: Box<Fork>) ->
     }
 }
 
-// Takes the route to a prefix out of what hangs at a link, and joins a fork that is no longer needed.
+/// Takes the route to a prefix out of what hangs at a link, and joins a fork that is no longer needed.
 pub fn remove(link: Link, key: &Prefix) -> Link
     requires { HasEntries link }
     ensures some { HasEntries result }
@@ -136,7 +136,7 @@ pub fn remove(link: Link, key: &Prefix) -> Link
     }
 }
 
-// What these parts make: a fork in a box that is there, or the one part that has no need of it.
+/// What these parts make: a fork in a box that is there, or the one part that has no need of it.
 fn closed(
     mut fork: Box<Fork>,
     prefix: Prefix,

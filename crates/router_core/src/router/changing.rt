@@ -6,12 +6,12 @@ ghost use Rattle.fib.specs.Forwarding.{Replays};
 ghost use Rattle.prefix6.specs.Prefix.{IsPrefix};
 ghost use Rattle.router_core.specs.Changes.{change, forwards};
 ghost use Rattle.router_core.specs.Machine.{Happening, Moves};
-ghost use Rattle.router_core.specs.Reconfiguring.{IsNamed, IsPlaced, change_fault, changed_config, changed_table, changes_of_change};
+ghost use Rattle.router_core.specs.Reconfiguring.{IsNamed, NamesInterface, change_fault, changed_config, changed_table, changes_of_change};
 
-use super::{Router, told};
+use super::{Router, answer_of};
 use crate::answer::Answer;
 use crate::forwarding::change;
-use crate::hear::place;
+use crate::hear::put;
 use crate::reconfiguring::{Change, ReconfigureRefused, check};
 use crate::timers::GARBAGE_TIME_MS;
 use fib::RouteChange;
@@ -20,7 +20,7 @@ use route_table::{Moment, Route, RouteStore};
 use std::alloc::AllocError;
 
 impl<S: RouteStore> Router<S> {
-    // The change of one prefix, as a list of one or none.
+    /// The change of one prefix, as a list of one or none.
     fn changes_at(
         &self,
         prefix: Prefix,
@@ -36,7 +36,7 @@ impl<S: RouteStore> Router<S> {
         Ok(changes)
     }
 
-    // The prefix is owned from now on: the changes of forwarding.
+    /// The prefix is owned from now on: the changes of forwarding.
     fn own(&mut self, prefix: Prefix, tag: u16) -> Result<Vec<RouteChange>, AllocError>
         requires prefix { IsPrefix prefix }
         requires allowed { change_fault self.old.config self.old.table (Change.Own prefix tag) ≡ None }
@@ -51,8 +51,9 @@ impl<S: RouteStore> Router<S> {
         let route = Route::own(tag).with_mark(true);
         let changes = self.changes_at(prefix, old, Some(route))?;
         self.config.own(prefix, tag)?;
-        match place(&mut self.store, prefix, old.is_some(), route) {
+        match put(&mut self.store, prefix, old.is_some(), route) {
             Ok(()) => Ok(changes),
+            // The table was seen to have room, so only memory can have been wanting.
             Err(_) => {
                 self.config.disown(prefix);
                 Err(AllocError)
@@ -60,7 +61,7 @@ impl<S: RouteStore> Router<S> {
         }
     }
 
-    // The prefix is owned no longer: the changes of forwarding.
+    /// The prefix is owned no longer: the changes of forwarding.
     fn disown(&mut self, prefix: Prefix, now: Moment) -> Result<Vec<RouteChange>, AllocError>
         ensures done { OnOk result (self.new ≡ record self.old {
           config = changed_config self.old.config (Change.Disown prefix);
@@ -80,7 +81,7 @@ impl<S: RouteStore> Router<S> {
         Ok(changes)
     }
 
-    // What a change that no test refuses does: the changes of forwarding.
+    /// What a change that is not refused does: the changes of forwarding.
     fn obey(&mut self, change: Change, now: Moment) -> Result<Vec<RouteChange>, AllocError>
         requires named { IsNamed self.old.config change }
         requires allowed { change_fault self.old.config self.old.table change ≡ None }
@@ -106,9 +107,9 @@ impl<S: RouteStore> Router<S> {
     /// tick.
     ///
     /// # Errors
-    /// The first test that the change fails, else want of memory; the router is then as it was. A cost takes no memory.
+    /// The first reason to refuse the change, else want of memory; the router is then as it was. A cost takes no memory.
     pub fn reconfigure(&mut self, now: Moment, change: Change) -> Result<Answer, ReconfigureRefused>
-        requires { IsPlaced self.old.config change }
+        requires { NamesInterface self.old.config change }
         ensures moves { IfOk result (λ answer. Moves self.old (Happening.Reconfigures now change) answer self.new) }
         ensures refused { IfErr result (λ why. why ≡ unwrap_or (change_fault self.old.config self.old.table change) ReconfigureRefused.OutOfMemory) }
         ensures err { OnErr result (self.new ≡ self.old) }
@@ -122,6 +123,6 @@ impl<S: RouteStore> Router<S> {
         check(&self.config, &self.store, &change)?;
         let changes = self.obey(change, now)?;
         self.last = now;
-        Ok(told(Vec::new(self.alloc), changes, Vec::new(self.alloc)))
+        Ok(answer_of(Vec::new(self.alloc), changes, Vec::new(self.alloc)))
     }
 }

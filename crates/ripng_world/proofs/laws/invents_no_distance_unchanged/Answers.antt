@@ -1,5 +1,5 @@
-use Rattle.ripng_world.specs.Truth.{TellsTruth}
-use Rattle.ripng_world.specs.TruthSince.{TellsTruthSince}
+use Rattle.ripng_world.specs.Truth.{IsSoundDatagram}
+use Rattle.ripng_world.specs.TruthSince.{IsSoundDatagramSince}
 use Rattle.ripng_world.specs.World.{past_of}
 use Rattle.ripng_world.proofs.Each.{each_weaker}
 use Rattle.ripng_world.proofs.Growing.{backed_first}
@@ -18,5 +18,5 @@ returns-clause-least c = λ net moments events cold w is_net is run unchanged ro
 
 pub returns-clause-sent : goal.returns-clause-sent
 returns-clause-sent c = λ net moments events cold w is_net is run unchanged.
-    each_weaker (λ d. TellsTruth net d.router d.bytes) (λ d. TellsTruthSince (past_of net w) d.router d.bytes)
+    each_weaker (λ d. IsSoundDatagram net d.router d.bytes) (λ d. IsSoundDatagramSince (past_of net w) d.router d.bytes)
     (λ d. truth_first (past_of net w) unchanged d.router d.bytes) w.sent (run_from_cold net is_net.owns_prefixes moments events cold w is run).sent_true

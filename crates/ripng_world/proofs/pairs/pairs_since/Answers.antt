@@ -1,6 +1,6 @@
 use Rattle.std.proofs.Common.{ℕ, ◌+◌, ◌-◌, ◌++◌, List, map, take, drop, filter, ap, ◌∙◌, arith}
 use Rattle.std.specs.List.{enumerate_from}
-use Rattle.ripng_world.specs.AskedRounds.{is_other, pair_at, places_of}
+use Rattle.ripng_world.specs.AskedRounds.{is_other, pair_at, interfaces_of}
 use Rattle.ripng_world.specs.Network.{Network}
 use Rattle.ripng_world.specs.Stations.{network_of}
 use Rattle.ripng_world.specs.declared.pairs.Pair.{Pair}
@@ -9,7 +9,7 @@ use Rattle.ripng_world.proofs.Among.{numbered_more, flat_grows}
 use Rattle.ripng_world.proofs.pairs.pairs_since.Goals as goal
 
 of_datagram : Network → ℕ × Sent → List Pair
-of_datagram net d = map (pair_at d.0) (filter (is_other net d.1) (places_of net))
+of_datagram net d = map (pair_at d.0) (filter (is_other net d.1) (interfaces_of net))
 
 pub loop-number-preserved : goal.loop-number-preserved
 unfolding of_datagram
@@ -17,7 +17,7 @@ loop-number-preserved g c =
     let net = network_of c.args.stations.now in
     let n = c.loop-number.number in
     let d = c.index-sent-number.result in
-    let places_are = c.deref.ensures.value ∙ c.in_ok-places.ensures in
+    let places_are = c.deref.ensures.value ∙ c.in_ok-interfaces.ensures in
     flat_grows (of_datagram net) (enumerate_from c.args.first (take (n - c.args.first) (drop c.args.first c.args.sent.now)))
     (enumerate_from c.args.first (take (n + 1 - c.args.first) (drop c.args.first c.args.sent.now))) (n, d) c.loop-number.pairs.items c.add_pairs.new.pairs.items c.loop-number.invariant
     (c.in_ok-add_pairs.ensures ∙ ap (λ (ps : List (ℕ × ℕ)). c.loop-number.pairs.items ++ map (pair_at n) (filter (is_other net d) ps)) places_are)

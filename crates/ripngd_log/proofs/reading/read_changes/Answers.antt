@@ -16,6 +16,6 @@ returns-then-not-branch-clause-refused c =
           c.loop-line.invariant.spelled ∙ ap (λ t. log_of c.loop-line.changes.items ++ t) c.in-Some.ensures.spelled
           ∙ sym (append_assoc (log_of c.loop-line.changes.items) c.in-Some.line.now (10 ∷ c.in-Some.after.now));
       is_line = c.in-Some.ensures.line;
-      place = let same = ap length none.1 in grind (arith, common_steps);
+      numbered = let same = ap length none.1 in grind (arith, common_steps);
       no_change = none.0;
     }

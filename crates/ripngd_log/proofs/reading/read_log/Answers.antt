@@ -4,7 +4,7 @@ use Rattle.fib.specs.Forwarding.{Replays}
 use Rattle.ripngd_log.proofs.reading.read_log.Goals as goal
 
 pub returns-clause-follows : goal.returns-clause-follows
-returns-clause-follows c changes told =
-    let same = c.logs_are_read_one_way.ensures.one c.args.text.now c.in_ok-changes.changes.items changes c.in_ok-changes.ensures.told told in
+returns-clause-follows c changes log =
+    let same = c.logs_are_read_one_way.ensures.one c.args.text.now c.in_ok-changes.changes.items changes c.in_ok-changes.ensures.log log in
     let from_empty = subst (λ old. Replays old c.deref.result.now c.apply.new.self) c.new-fib.ensures c.in_ok-apply.ensures.ok in
     subst (λ read. Replays map.empty read c.apply.new.self) (c.deref.ensures.value ∙ same) from_empty

@@ -4,8 +4,8 @@ use Rattle.route_table.proofs.TableSteps.{get-with_value_here}
 use Rattle.ripngd_trace.proofs.Telling.{removed_elsewhere, told_gone}
 use Rattle.ripngd_trace.proofs.tables.forget.Goals as goal
 
-pub returns-clause-told : goal.returns-clause-told
-returns-clause-told g c =
+pub returns-clause-listed : goal.returns-clause-listed
+returns-clause-listed g c =
     λ t before. told_gone t _ _ c.args.gone.now.items c.push.new.self.items c.args.prefix c.remove.ensures c.in_ok-push.ensures.items before
 
 pub returns-clause-gone : goal.returns-clause-gone

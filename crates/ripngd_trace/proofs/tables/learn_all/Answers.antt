@@ -3,12 +3,12 @@ use Rattle.std.specs.FinMap as map_of
 use Rattle.std.proofs.lemmas.List.{drop_more, drop_all}
 use Rattle.prefix6.specs.Prefix.{Prefix6}
 use Rattle.route_table.specs.Route.{RouteValue}
-use Rattle.ripngd_trace.specs.Told.{with_routes}
+use Rattle.ripngd_trace.specs.Records.{with_routes}
 use Rattle.ripngd_trace.proofs.tables.learn_all.Goals as goal
 
 pub loop-entry-init : goal.loop-entry-init
 loop-entry-init g c = record {
-  told = sym (ap (with_routes (g.S.RouteStore.table c.args.known.now)) c.new-news.ensures.items);
+  listed = sym (ap (with_routes (g.S.RouteStore.table c.args.known.now)) c.new-news.ensures.items);
   all = refl;
 }
 
@@ -23,13 +23,13 @@ loop-entry-preserved g c =
     subst (λ (es : List (Prefix6 × RouteValue)). drop i es ≡ e ∷ drop (i + 1) es) is
     (drop_more c.deref-entry-items.result.now i e c.loop-entry-test.true ∙ ap (λ x. x ∷ drop (i + 1) c.deref-entry-items.result.now) (sym c.entry-item.is)) in
     record {
-      told = c.in_ok-learn.ensures.told known c.loop-entry.invariant.told;
+      listed = c.in_ok-learn.ensures.listed known c.loop-entry.invariant.listed;
       all = ap (λ t. with_routes t (drop (i + 1) entries)) c.in_ok-learn.ensures.held
           ∙ ap (with_routes (g.S.RouteStore.table c.loop-entry.known)) (sym next) ∙ c.loop-entry.invariant.all;
     }
 
-pub returns-clause-told : goal.returns-clause-told
-returns-clause-told g c = c.loop-entry.invariant.told
+pub returns-clause-listed : goal.returns-clause-listed
+returns-clause-listed g c = c.loop-entry.invariant.listed
 
 pub returns-clause-all : goal.returns-clause-all
 returns-clause-all g c =

@@ -3,7 +3,7 @@ use Rattle.std.proofs.lemmas.Bool.Decides.{nat_tests}
 use Rattle.std.proofs.lemmas.Result.{err_from_is_err_and}
 use Rattle.router_core.specs.Config.{config}
 use Rattle.router_core.specs.Config.{interface_limit, owned_limit}
-use Rattle.router_core.proofs.ConfigTests.{by_interfaces, by_count, by_prefixes}
+use Rattle.router_core.proofs.ConfigReasons.{by_interfaces, by_count, by_prefixes}
 use Rattle.router_core.proofs.config.check_lists.Goals as goal
 
 pub returns-in_err-check_interfaces-clause-fault : goal.returns-in_err-check_interfaces-clause-fault

@@ -7,7 +7,7 @@ use Rattle.router_core.specs.Adoption.{Gateway, adopted}
 use Rattle.router_core.specs.Offers.{Offer}
 use Rattle.router_core.specs.Meeting.{Meeting, meeting, held, met, table_met}
 use Rattle.router_core.proofs.hear.meet.Goals as goal
-use Rattle.router_core.proofs.hear.meet.Goals.{in-Some+in_ok-place, in_default}
+use Rattle.router_core.proofs.hear.meet.Goals.{in-Some+in_ok-put, in_default}
 
 -- an offer takes no route away
 none_before : (g : Gateway) (old : Option RouteValue) (o : Offer) → adopted g old o ≡ None → old ≡ None
@@ -25,6 +25,6 @@ returns-clause-table g c =
     let becomes = c.adopt-new.ensures ∙ ap (λ old. adopted c.args.gateway.now old c.args.offer.now) c.get-old.ensures in
     let m = meeting c.args.gateway.now c.args.offer.now c.args.prefix (g.S.RouteStore.table c.args.store.now) in
     elim c.match-new.branch [
-      | in-Some+in_ok-place w ↦ placed m _ _ (sym becomes ∙ w.in-Some.is) (ap g.S.RouteStore.table w.store-is ∙ w.in_ok-place.ensures.placed)
+      | in-Some+in_ok-put w ↦ placed m _ _ (sym becomes ∙ w.in-Some.is) (ap g.S.RouteStore.table w.store-is ∙ w.in_ok-put.ensures.placed)
       | in_default w ↦ unplaced m _ (sym becomes ∙ w.in_default.is) (ap g.S.RouteStore.table w.store-is)
     ]

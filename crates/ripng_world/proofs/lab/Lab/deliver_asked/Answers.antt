@@ -10,7 +10,7 @@ use Rattle.ripng_world.specs.World.{Event}
 use Rattle.ripng_world.specs.declared.lab.delivering.OnSkip.TheVariants.{Stop}
 use Rattle.ripng_world.specs.declared.pairs.Pair.{Pair}
 use Rattle.ripng_world.specs.declared.sent.Sent.{Sent}
-use Rattle.ripng_world.proofs.AskedQuiet.{on_ok}
+use Rattle.ripng_world.proofs.AskedSynchronous.{on_ok}
 use Rattle.ripng_world.proofs.Delivered.{asked_all, asked_stop, none_asked, on_err, part_more, to_err}
 use Rattle.ripng_world.proofs.lab.Lab.deliver_asked.Goals.{After-deliver_each, After-drop-pairs-2}
 use Rattle.ripng_world.proofs.lab.Lab.deliver_asked.Goals as goal

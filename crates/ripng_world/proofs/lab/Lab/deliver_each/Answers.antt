@@ -1,7 +1,7 @@
 use Rattle.std.proofs.Common.{◌≡◌, ◌-◌, ◌<◌, ◌≤◌, ℕ, List, filter, length, drop, subst, ◌∙◌, ap, ap₂, arith}
 use Rattle.std.specs.List.{enumerate_from}
 use Rattle.std.proofs.lemmas.List.{length-drop, take_all}
-use Rattle.ripng_world.specs.AskedRounds.{is_other, places_of}
+use Rattle.ripng_world.specs.AskedRounds.{is_other, interfaces_of}
 use Rattle.ripng_world.specs.Delivering.{AllDelivered}
 use Rattle.ripng_world.specs.Labs.{LabValue}
 use Rattle.ripng_world.specs.Network.{Network}
@@ -35,11 +35,11 @@ returns-in_err-deliver_to-clause-stopped g c =
     (ap (λ (l : LabValue). l.world.sent) c.self-in-loop-datagram.view_is) high d c.index.ensures in
     let net_is : network_of c.self-in-loop-datagram.inside.stations.items ≡ net = ap (λ (l : LabValue). l.network) c.self-in-loop-datagram.view_is ∙ c.loop-datagram.invariant.network in
     let first_is : network_of c.self.inside.stations.items ≡ net = ap (λ (l : LabValue). l.network) c.self.view_is in
-    let others_are : c.deref-in-loop-datagram-3.result.now ≡ filter (is_other net d) (places_of net) =
+    let others_are : c.deref-in-loop-datagram-3.result.now ≡ filter (is_other net d) (interfaces_of net) =
     c.deref-in-loop-datagram-3.ensures.value ∙ c.in_ok-others.ensures
     ∙ ap₂ (λ (n : Network) (ps : List (ℕ × ℕ)). filter (is_other n d) ps)
     (ap (λ (ss : List StationValue). network_of ss) c.deref-in-loop-datagram.ensures.value ∙ net_is)
-    (c.deref-in-loop-datagram-2.ensures.value ∙ c.in_ok-places.ensures ∙ ap (λ (ss : List StationValue). places_of (network_of ss)) c.deref.ensures.value ∙ ap places_of first_is) in
+    (c.deref-in-loop-datagram-2.ensures.value ∙ c.in_ok-interfaces.ensures ∙ ap (λ (ss : List StationValue). interfaces_of (network_of ss)) c.deref.ensures.value ∙ ap interfaces_of first_is) in
     to_err c.from_residual-in_err-deliver_to.result _
     (each_stop c.args.on_skip net c.loop-datagram.self.network c.args.self.now.world c.loop-datagram.self.world c.deliver_to.new.self.world c.loop-datagram.invariant.network c.args.now c.args.first
     c.loop-datagram.datagram d c.deref-in-loop-datagram-3.result.now low high d_is others_are c.loop-datagram.invariant.delivered c.in_err-deliver_to.ensures.stopped)
@@ -55,11 +55,11 @@ loop-datagram-preserved g c =
     (ap (λ (l : LabValue). l.world.sent) c.self-in-loop-datagram.view_is) high d c.index.ensures in
     let net_is : network_of c.self-in-loop-datagram.inside.stations.items ≡ net = ap (λ (l : LabValue). l.network) c.self-in-loop-datagram.view_is ∙ c.loop-datagram.invariant.network in
     let first_is : network_of c.self.inside.stations.items ≡ net = ap (λ (l : LabValue). l.network) c.self.view_is in
-    let others_are : c.deref-in-loop-datagram-3.result.now ≡ filter (is_other net d) (places_of net) =
+    let others_are : c.deref-in-loop-datagram-3.result.now ≡ filter (is_other net d) (interfaces_of net) =
     c.deref-in-loop-datagram-3.ensures.value ∙ c.in_ok-others.ensures
     ∙ ap₂ (λ (n : Network) (ps : List (ℕ × ℕ)). filter (is_other n d) ps)
     (ap (λ (ss : List StationValue). network_of ss) c.deref-in-loop-datagram.ensures.value ∙ net_is)
-    (c.deref-in-loop-datagram-2.ensures.value ∙ c.in_ok-places.ensures ∙ ap (λ (ss : List StationValue). places_of (network_of ss)) c.deref.ensures.value ∙ ap places_of first_is) in
+    (c.deref-in-loop-datagram-2.ensures.value ∙ c.in_ok-interfaces.ensures ∙ ap (λ (ss : List StationValue). interfaces_of (network_of ss)) c.deref.ensures.value ∙ ap interfaces_of first_is) in
     record {
       network = c.deliver_to.ensures.network ∙ c.loop-datagram.invariant.network;
       delivered = each_next c.args.on_skip net c.loop-datagram.self.network c.args.self.now.world c.loop-datagram.self.world c.deliver_to.new.self.world c.loop-datagram.invariant.network c.args.now c.args.first

@@ -1,7 +1,7 @@
 use Rattle.ripng_world.specs.AskedRounds.{pairs_since}
 use Rattle.ripng_world.specs.Delivering.{deliveries_since}
 use Rattle.ripng_world.specs.declared.lab.delivering.OnSkip.TheVariants.{GoOn}
-use Rattle.ripng_world.proofs.AskedQuiet.{on_ok, since_still}
+use Rattle.ripng_world.proofs.AskedSynchronous.{on_ok, since_still}
 use Rattle.ripng_world.proofs.Delivered.{delivered_run}
 use Rattle.ripng_world.proofs.LabRuns.{backed, least, truth, fixed}
 use Rattle.ripng_world.proofs.lab.Lab.deliver_since.Goals as goal

@@ -5,20 +5,20 @@ use Rattle.ripng_world.proofs.lab.Lab.deliver_to.Goals as goal
 
 pub returns-in_err-deliver-clause-stopped : goal.returns-in_err-deliver-clause-stopped
 returns-in_err-deliver-clause-stopped g c =
-    let places = c.args.places.now in
+    let interfaces = c.args.interfaces.now in
     let i = c.loop-router.router-index in
-    let x = get_or places i (0, 0) in
+    let x = get_or interfaces i (0, 0) in
     to_err c.from_residual.result _
-    (to_stop c.args.on_skip c.args.self.now.network c.loop-router.self.network c.args.self.now.world c.loop-router.self.world c.deliver.new.self.world c.loop-router.invariant.network c.args.datagram c.args.now places i x
-    c.loop-router-test.true (get_or_default places i (0, 0) x c.loop-router-test.true) c.loop-router.invariant.delivered c.in_err-deliver.ensures.stopped)
+    (to_stop c.args.on_skip c.args.self.now.network c.loop-router.self.network c.args.self.now.world c.loop-router.self.world c.deliver.new.self.world c.loop-router.invariant.network c.args.datagram c.args.now interfaces i x
+    c.loop-router-test.true (get_or_default interfaces i (0, 0) x c.loop-router-test.true) c.loop-router.invariant.delivered c.in_err-deliver.ensures.stopped)
 
 pub loop-router-preserved : goal.loop-router-preserved
 loop-router-preserved g c =
-    let places = c.args.places.now in
+    let interfaces = c.args.interfaces.now in
     let i = c.loop-router.router-index in
-    let x = get_or places i (0, 0) in
+    let x = get_or interfaces i (0, 0) in
     record {
       network = c.deliver.ensures.network ∙ c.loop-router.invariant.network;
-      delivered = to_next c.args.on_skip c.args.self.now.network c.loop-router.self.network c.args.self.now.world c.loop-router.self.world c.deliver.new.self.world c.loop-router.invariant.network c.args.datagram c.args.now places i x
-          c.loop-router-test.true (get_or_default places i (0, 0) x c.loop-router-test.true) c.loop-router.invariant.delivered c.in_ok-deliver.ensures.delivered;
+      delivered = to_next c.args.on_skip c.args.self.now.network c.loop-router.self.network c.args.self.now.world c.loop-router.self.world c.deliver.new.self.world c.loop-router.invariant.network c.args.datagram c.args.now interfaces i x
+          c.loop-router-test.true (get_or_default interfaces i (0, 0) x c.loop-router-test.true) c.loop-router.invariant.delivered c.in_ok-deliver.ensures.delivered;
     }

@@ -16,22 +16,22 @@ deliver_asked-requires g c =
 pub returns-in_default-clause-refused : goal.returns-in_default-clause-refused
 returns-in_default-clause-refused g c =
     let round = c.args.round.now in
-    let told = c.tick_all.new.self.world in
+    let after_ticks = c.tick_all.new.self.world in
     let w' = c.deliver_asked.new.self.world in
-    let part : HappenInPart c.args.self.now.network told (deliveries_of (pairs_since c.args.self.now.network (length c.args.self.now.world.sent) told.sent) round.picks round.rest) w' =
-    subst (λ (n : Network). HappenInPart n told (deliveries_of (pairs_since n (length c.args.self.now.world.sent) told.sent) round.picks round.rest) w') c.tick_all.ensures.network
-    (subst (λ (ds : List Sent). HappenInPart c.tick_all.new.self.network told (deliveries_of (pairs_since c.tick_all.new.self.network (length ds) told.sent) round.picks round.rest) w') c.sent-first.ensures.value
+    let part : HappenInPart c.args.self.now.network after_ticks (deliveries_of (pairs_since c.args.self.now.network (length c.args.self.now.world.sent) after_ticks.sent) round.picks round.rest) w' =
+    subst (λ (n : Network). HappenInPart n after_ticks (deliveries_of (pairs_since n (length c.args.self.now.world.sent) after_ticks.sent) round.picks round.rest) w') c.tick_all.ensures.network
+    (subst (λ (ds : List Sent). HappenInPart c.tick_all.new.self.network after_ticks (deliveries_of (pairs_since c.tick_all.new.self.network (length ds) after_ticks.sent) round.picks round.rest) w') c.sent-first.ensures.value
     c.in_default.ensures.stopped) in
-    let done = in_part c.args.self.now.network _ told w' part in
-    inr (told, c.in_ok-tick_all.ensures.ticked, done.0, done.1)
+    let done = in_part c.args.self.now.network _ after_ticks w' part in
+    inr (after_ticks, c.in_ok-tick_all.ensures.ticked, done.0, done.1)
 
 pub returns-clause-made : goal.returns-clause-made
 returns-clause-made g c =
     let round = c.args.round.now in
-    let told = c.tick_all.new.self.world in
+    let after_ticks = c.tick_all.new.self.world in
     let w' = c.deliver_asked.new.self.world in
-    let all : AllDelivered Stop c.args.self.now.network told (deliveries_of (pairs_since c.args.self.now.network (length c.args.self.now.world.sent) told.sent) round.picks round.rest) w' =
-    subst (λ (n : Network). AllDelivered Stop n told (deliveries_of (pairs_since n (length c.args.self.now.world.sent) told.sent) round.picks round.rest) w') c.tick_all.ensures.network
-    (subst (λ (ds : List Sent). AllDelivered Stop c.tick_all.new.self.network told (deliveries_of (pairs_since c.tick_all.new.self.network (length ds) told.sent) round.picks round.rest) w') c.sent-first.ensures.value
+    let all : AllDelivered Stop c.args.self.now.network after_ticks (deliveries_of (pairs_since c.args.self.now.network (length c.args.self.now.world.sent) after_ticks.sent) round.picks round.rest) w' =
+    subst (λ (n : Network). AllDelivered Stop n after_ticks (deliveries_of (pairs_since n (length c.args.self.now.world.sent) after_ticks.sent) round.picks round.rest) w') c.tick_all.ensures.network
+    (subst (λ (ds : List Sent). AllDelivered Stop c.tick_all.new.self.network after_ticks (deliveries_of (pairs_since c.tick_all.new.self.network (length ds) after_ticks.sent) round.picks round.rest) w') c.sent-first.ensures.value
     c.in-Ok.ensures.delivered) in
-    (told, c.in_ok-tick_all.ensures.ticked, delivered_heard c.args.self.now.network _ told w' all)
+    (after_ticks, c.in_ok-tick_all.ensures.ticked, delivered_heard c.args.self.now.network _ after_ticks w' all)

@@ -1,6 +1,6 @@
 use Rattle.std.proofs.Common.{◌≡◌, ◌++◌, map, take}
 use Rattle.ripng_world.specs.Events.{event_of}
-use Rattle.ripng_world.specs.Labs.{AreRoutesBackedSince, AreNoneBelowLeastSince, IsTruthToldSince, HoldsFixed}
+use Rattle.ripng_world.specs.Labs.{AreRoutesBackedSince, HaveNoneBelowLeastSince, AreDatagramsSoundSince, HoldsFixed}
 use Rattle.ripng_world.specs.World.{WorldRun, changes_in}
 use Rattle.ripng_world.proofs.lab.Lab.run.Given as goal
 
@@ -10,7 +10,7 @@ invariant-loop-done g l = record {
   network : l.self.network ≡ l.fn.self.network;
   changes : l.self.world.changes ≡ l.fn.self.world.changes ++ changes_in (take l.done (map event_of l.events));
   backed : AreRoutesBackedSince l.self.network l.self.world;
-  least : AreNoneBelowLeastSince l.self.network l.self.world;
-  truth : IsTruthToldSince l.self.network l.self.world;
+  least : HaveNoneBelowLeastSince l.self.network l.self.world;
+  truth : AreDatagramsSoundSince l.self.network l.self.world;
   fixed : HoldsFixed l.self.network l.self.world;
 }

@@ -3,7 +3,7 @@ use Rattle.ripng_world.specs.AskedRounds.{AreAllMade, AreMade}
 use Rattle.ripng_world.specs.Labs.{LabValue}
 use Rattle.ripng_world.specs.Network.{IsNetwork}
 use Rattle.ripng_world.specs.Rounds.{Round}
-use Rattle.ripng_world.proofs.AskedQuiet.{all_made, converging, on_ok, to_ok, rounds_still}
+use Rattle.ripng_world.proofs.AskedSynchronous.{all_made, converging, on_ok, to_ok, rounds_still}
 use Rattle.ripng_world.proofs.LabRuns.{backed, least, truth, fixed}
 use Rattle.ripng_world.proofs.lab.Lab.run_rounds.Goals as goal
 

@@ -1,9 +1,9 @@
 use Rattle.std.proofs.Common.{◌≡◌, ◌≤◌, List, ℕ, length, None, sym, subst, ap, ◌∙◌, arith}
 use Rattle.std.proofs.lemmas.Result.{err_from_is_err_and}
-use Rattle.ripng_wire.specs.Wire.{first_failing}
-use Rattle.router_core.specs.Config.{each_tested}
+use Rattle.ripng_wire.specs.Wire.{first_reason}
+use Rattle.router_core.specs.Config.{reasons_of_each}
 use Rattle.ripng_world.specs.Network.{IsNetwork}
-use Rattle.ripng_world.specs.NetworkFaults.{addresses, address_tests, network_fault, router_limit}
+use Rattle.ripng_world.specs.NetworkFaults.{addresses, address_reasons, network_fault, router_limit}
 use Rattle.ripng_world.proofs.LawfulNetworks.{by_router, by_addresses, is_network}
 use Rattle.ripng_world.proofs.network.NetConfig.check.Goals as goal
 
@@ -21,14 +21,14 @@ returns-in_err-check_addresses-clause-refused c =
     let all = c.deref-2.ensures.value ∙ c.in_ok-addresses.ensures ∙ ap addresses (c.deref.ensures.value ∙ c.in_ok-routers.ensures.kept) in
     rw (p.1, p.2) (λ _.
     by_addresses c.args.routers.items few c.in_ok-routers.ensures.passes
-    ∙ ap (λ (xs : List ℕ). first_failing (each_tested address_tests xs)) (sym all) ∙ sym c.in_err-check_addresses.ensures)
+    ∙ ap (λ (xs : List ℕ). first_reason (reasons_of_each address_reasons xs)) (sym all) ∙ sym c.in_err-check_addresses.ensures)
 
 passes : (c : goal.In_ok-check_addresses) → network_fault c.args.routers.items ≡ None
 passes c =
     let few : length c.args.routers.items ≤ router_limit = omega (arith, c.if-len-gt-ROUTER_LIMIT.false, c.len.ensures, c.args.routers.ok.0) in
     let all = c.deref-2.ensures.value ∙ c.in_ok-addresses.ensures ∙ ap addresses (c.deref.ensures.value ∙ c.in_ok-routers.ensures.kept) in
     by_addresses c.args.routers.items few c.in_ok-routers.ensures.passes
-    ∙ ap (λ (xs : List ℕ). first_failing (each_tested address_tests xs)) (sym all) ∙ sym c.in_ok-check_addresses.ensures
+    ∙ ap (λ (xs : List ℕ). first_reason (reasons_of_each address_reasons xs)) (sym all) ∙ sym c.in_ok-check_addresses.ensures
 
 lawful : (c : goal.In_ok-check_addresses) → IsNetwork c.in_ok-routers.routers.items
 lawful c = subst IsNetwork (sym c.in_ok-routers.ensures.kept) (is_network c.args.routers.items (passes c) c.in_ok-routers.ensures.lawful)

@@ -5,10 +5,10 @@ use Rattle.ripngd_engine.proofs.engine.Engine.start_with.Goals as goal
 pub invariant_of-running : goal.invariant_of-running
 invariant_of-running g c = record {
   same_interfaces = c.carry_out.ensures.same ∙ c.requires ∙ ap (λ s. length s.config.interfaces) (sym c.in_ok-router.ensures.starts.state);
-  fib_follows = λ on. follows _ _ _ c.carry_out.ensures.carries _ _ c.new.ensures c.in_ok-router.ensures.replays on;
+  fib_follows = λ on. follows _ _ _ _ _ _ c.carry_out.ensures.carries _ _ c.new.ensures c.in_ok-router.ensures.replays on;
 }
 
 pub returns-clause-ok : goal.returns-clause-ok
 returns-clause-ok g c =
-    Started-carried _ _ _ _ _ _ c.now-now.result _ _ _ c.now-now.ensures.told c.in_ok-router.ensures.starts
+    Started-carried _ _ _ _ _ _ _ _ _ c.now-now.result _ _ _ c.now-now.ensures.gained c.in_ok-router.ensures.starts
     (rw c.new.ensures at c.carry_out.ensures.carries) c.in_ok-carry_out.ensures.ended

@@ -13,6 +13,6 @@ pub returns-clause-replays : goal.returns-clause-replays
 returns-clause-replays g c =
     let old = c.args.self.now in
     subst (λ (cs : List RouteChange). Replays (forwards old.table) cs (forwards (g.S.RouteStore.table c.self-2.inside.store)))
-    (sym (ap (λ (a : Answer). a.changes) c.told.ensures ∙ c.in_ok-changes.ensures.changes))
+    (sym (ap (λ (a : Answer). a.changes) c.answer_of.ensures ∙ c.in_ok-changes.ensures.changes))
     (subst (λ (t : Table). Replays (forwards old.table) (changes_of_change c.effective-now.result old.table c.args.change) (forwards t)) (sym (ap (λ (s : State). s.table) (c.self-2.view_is ∙ c.in_ok-changes.ensures.done)))
     (change_replays c.effective-now.result old.table c.args.change))

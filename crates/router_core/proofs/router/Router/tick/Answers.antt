@@ -14,5 +14,5 @@ returns-in_err-sends-clause-idle_is_free g c =
 pub returns-clause-replays : goal.returns-clause-replays
 returns-clause-replays g c =
     rw (← c.self.view_is)
-    (ticked_replays c.effective-now.result c.is_some.result (g.S.RouteStore.table c.self.inside.store) (g.S.RouteStore.table c.settle_all.new.store) c.told.result.changes
-    c.settle_all.ensures (ap (λ (a : Answer). a.changes) c.told.ensures ∙ c.in_ok-changes.ensures.listed))
+    (ticked_replays c.effective-now.result c.is_some.result (g.S.RouteStore.table c.self.inside.store) (g.S.RouteStore.table c.settle_all.new.store) c.answer_of.result.changes
+    c.settle_all.ensures (ap (λ (a : Answer). a.changes) c.answer_of.ensures ∙ c.in_ok-changes.ensures.listed))

@@ -1,0 +1,73 @@
+//! What help says of the program and of its subcommands, beside their lines and those of their arguments: whole sentences,
+//! and an example of each.
+
+/// Of the program.
+pub(crate) const PROGRAM: &str = "\
+`ripngd help COMMAND` says what a command does, with an example.
+
+The exit status is 0 where what was asked is done, 1 where what was given is
+refused, as standard output says, 2 where the command line has a fault, and 3
+where something outside failed, as standard error says.";
+
+/// Of `show`.
+pub(crate) const SHOW: &str = "\
+The first line is `request entries N` or `response entries N`. A line follows
+for each entry, numbered from 0: its prefix, its route tag and its metric, or
+the next hop that it names. Bytes that are no datagram print `refused NR NAME`
+instead, and the exit status is 1.
+
+Example:
+  ripngd show 0201000020010db800000000000000000000000000002001";
+
+/// Of `check`.
+pub(crate) const CHECK: &str = "\
+A configuration is a TOML text. Where a router can run on it, one line counts
+its interfaces, its prefixes and its peers. Else one line names the first fault
+and the key that has it, and the exit status is 1.
+
+Example:
+  ripngd check examples/east.toml";
+
+/// Of `lab`.
+pub(crate) const LAB: &str = "\
+The lines of a script make routers and links, and then deliver datagrams, let
+time pass, and change costs and prefixes. No socket and no clock takes part, so
+a script does the same whenever it is run. What its lines `print` and `sent` ask
+for is printed. The first line that is refused ends it, with exit status 1.
+
+Example:
+  ripngd lab examples/line.lab";
+
+/// Of `run`.
+pub(crate) const RUN: &str = "\
+Each interface of the router is a socket on 127.0.0.1, and each of its neighbors
+another program there. It learns routes from its neighbors and tells them its
+own, until it has made its turns or a signal ends it. In a turn it takes in one
+datagram at the most, and then does what time has made due. After the last turn
+it prints its forwarding table. What it lost is said on standard error, and with
+`-d` each datagram and entry that it refuses, with counts of all at the end.
+
+Example, of two routers that learn from each other:
+  ripngd run --turns 400 -R east.log examples/east.toml &
+  ripngd run --turns 400 examples/west.toml";
+
+/// Of `table`.
+pub(crate) const TABLE: &str = "\
+The table that the changes of the log make is printed, a line for each prefix,
+as `run` prints it at its end. The router of the log may still run: a last line
+that it has not written to its end is left out. Where a line is that of no
+change, its number is printed instead, and the exit status is 1.
+
+Example:
+  ripngd table east.log";
+
+/// Of `page`.
+pub(crate) const PAGE: &str = "\
+The address of the page is printed, and a browser of this machine shows there
+what happens in a network as a script runs. It stops after N requests, or when a
+signal ends it. With `--film` nothing is served: the page with the script's
+events in it is printed, as one file that any browser opens by itself. A script
+that is refused gives a film up to there, and the exit status 1.
+
+Example:
+  ripngd page --film examples/line.lab > line.html";

@@ -1,0 +1,65 @@
+-- What is asked of the page's server, and what it answers.
+use Rattle.std.specs.Prelude.{◌≡◌, ◌≢◌, ◌⊎◌, ◌≤◌, ℕ, Bool, List, [], ◌∷◌, ◌++◌, codes, length, IsUtf8}
+use Rattle.http.specs.declared.request.Parts.{Parts}
+use Rattle.http.specs.declared.request.Request.{Request}
+use Rattle.http.specs.Request.{head_of, body_of}
+use Rattle.http_server.specs.declared.response.Response.{Response}
+use Rattle.http_server.specs.Response.{IsResponse}
+use Rattle.http_uri.specs.Uri.{uri_path}
+use Rattle.ripngd_show.specs.Shown.{IsShown}
+use Rattle.ripngd_page.specs.declared.asked.Asked.{Asked}
+use Rattle.ripngd_page.specs.declared.asked.Asked.TheVariants as asks
+use Rattle.ripngd_page.specs.Texts.{examples_text, page_with}
+use Rattle.ripngd_page.specs.Welcome.{IsWelcome}
+
+-- what is asked at a path by a method
+abbrev pub IsAskedAt : List ℕ → List ℕ → Asked → Type 0
+IsAskedAt path method asks.Stranger = ⊥
+IsAskedAt path method asks.Page = (path ≡ codes "/") × (method ≡ codes "GET")
+IsAskedAt path method asks.Trace = (path ≡ codes "/trace") × (method ≡ codes "POST")
+IsAskedAt path method asks.Show = (path ≡ codes "/show") × (method ≡ codes "POST")
+IsAskedAt path method asks.NotGet = (path ≡ codes "/") × (method ≢ codes "GET")
+IsAskedAt path method asks.NotPost = ((path ≡ codes "/trace") ⊎ (path ≡ codes "/show")) × (method ≢ codes "POST")
+IsAskedAt path method asks.OtherPath = (path ≢ codes "/") × (path ≢ codes "/trace") × (path ≢ codes "/show")
+
+-- what the head of a request asks at a port: nothing, where it is not welcome
+abbrev pub IsAsked : ℕ → Parts → Asked → Type 0
+IsAsked port head asks.Stranger = ¬ (IsWelcome port head.headers)
+IsAsked port head asked = IsWelcome port head.headers × IsAskedAt (uri_path head.uri) head.method asked
+
+-- the fields of each answer: what its body is, and that no other request follows on the connection
+abbrev pub fields_with : List ℕ → List (List ℕ × List ℕ)
+fields_with kind = (codes "connection", codes "close") ∷ (codes "content-type", kind) ∷ []
+
+-- a text is answered
+abbrev pub IsTextAnswer : ℕ → List ℕ → Response → Type 0
+IsTextAnswer status text = IsResponse status (fields_with (codes "text/plain; charset=utf-8")) text
+
+-- the page is answered, with the scripts of the examples and no trace
+abbrev pub IsPageAnswer : Response → Type 0
+IsPageAnswer = IsResponse 200 (fields_with (codes "text/html; charset=utf-8")) (page_with examples_text [])
+
+-- the path takes another method alone (RFC 9110, section 15.5.6)
+abbrev pub IsMethodAnswer : List ℕ → Response → Type 0
+IsMethodAnswer method = IsResponse 405 ((codes "allow", method) ∷ fields_with (codes "text/plain; charset=utf-8"))
+    (codes "no such method here\n")
+
+-- a text of this kind, up to 32 MiB, is answered; or that it would be longer; or that there was no memory for it
+abbrev pub IsPrinted : (List ℕ → Type 0) → Response → Type 0
+IsPrinted Kind r = ((text : List ℕ) × Kind text × (length text ≤ 33554432) × IsTextAnswer 200 text r)
+    ⊎ (IsTextAnswer 422 (codes "the answer is too long\n") r) ⊎ (IsTextAnswer 503 (codes "out of memory\n") r)
+
+-- the answer to what is asked, with this body; that the text is a trace is not said here
+abbrev pub IsAnswer : Asked → List ℕ → Response → Type 0
+IsAnswer asks.Stranger body r = IsTextAnswer 403 (codes "only the page itself may ask\n") r
+IsAnswer asks.Page body r = IsPageAnswer r
+IsAnswer asks.Trace body r = IsPrinted (λ text. Unit {0}) r
+IsAnswer asks.Show body r = (¬ (IsUtf8 body) × IsTextAnswer 400 (codes "these are no digits\n") r)
+    ⊎ (IsPrinted (λ text. (accepted : Bool) × IsShown body accepted text) r)
+IsAnswer asks.NotGet body r = IsMethodAnswer (codes "GET") r
+IsAnswer asks.NotPost body r = IsMethodAnswer (codes "POST") r
+IsAnswer asks.OtherPath body r = IsTextAnswer 404 (codes "there is no such page\n") r
+
+-- the response answers the request at a port
+abbrev pub Answers : ℕ → Request (List ℕ) → Response → Type 0
+Answers port request r = (asked : Asked) × IsAsked port (head_of request) asked × IsAnswer asked (body_of request) r

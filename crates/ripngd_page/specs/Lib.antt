@@ -1,0 +1,4 @@
+pub mod Texts
+pub mod Film
+pub mod Welcome
+pub mod Answering

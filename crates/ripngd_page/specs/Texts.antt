@@ -1,0 +1,27 @@
+-- The parts of the page, of page/template.html. They are closed: no proof has to read them.
+use Rattle.std.specs.Prelude.{ℕ, List, ◌++◌}
+use Rattle.ripngd_page.specs.declared.template.TheConstants.{EXAMPLES, HEAD, MIDDLE, TAIL}
+
+-- what stands before the scripts
+unfoldable pub head_text : List ℕ
+head_text = HEAD.now
+
+-- the scripts of the examples, as elements
+unfoldable pub examples_text : List ℕ
+examples_text = EXAMPLES.now
+
+-- what stands between the scripts and the trace
+unfoldable pub middle_text : List ℕ
+middle_text = MIDDLE.now
+
+-- what stands behind the trace
+unfoldable pub tail_text : List ℕ
+tail_text = TAIL.now
+
+-- the page with these scripts, to where the trace stands
+abbrev pub front_with : List ℕ → List ℕ
+front_with scripts = head_text ++ (scripts ++ middle_text)
+
+-- the page with these scripts and this trace
+abbrev pub page_with : List ℕ → List ℕ → List ℕ
+page_with scripts trace = front_with scripts ++ (trace ++ tail_text)

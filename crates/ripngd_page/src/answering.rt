@@ -1,0 +1,151 @@
+//! Answers as they are filled in.
+
+ghost use Rattle.std.specs.Prelude.{◌≡◌, ◌≤◌, ◌≢◌, ◌⊎◌, Bool, List, ℕ, [], ◌∷◌, ◌++◌, codes, length, IfOk, OnOk, Ok, Err, Result};
+ghost use Rattle.http_server.specs.Response.{IsBlank, IsResponse, fields_of};
+ghost use Rattle.ripngd_show.specs.Shown.{IsShown};
+ghost use Rattle.ripngd_page.specs.Answering.{IsAnswer, IsMethodAnswer, IsPageAnswer, IsPrinted, IsTextAnswer, fields_with};
+
+use crate::asked::Asked;
+use crate::bounded::Bounded;
+use crate::film::traced;
+use crate::page::ANSWER_LIMIT;
+use crate::texts::{examples, head, middle, tail};
+use bytes::BufMut;
+use http::StatusCode;
+use http::header::{ALLOW, CONNECTION, CONTENT_TYPE, HeaderValue};
+use http_server::Response;
+use ripngd_show::{PrintFault, show};
+use std::alloc::{AllocError, Global};
+use std::str;
+
+/// Answers what is asked, with the body of the request.
+pub(crate) fn answer(
+    alloc: Global,
+    asked: Asked,
+    body: &[u8],
+    response: &mut Response,
+) -> Result<(), AllocError>
+    requires { IsBlank response.old }
+    ensures { OnOk result (IsAnswer asked body.now response.new) }
+{
+    match asked {
+        Asked::Stranger => say(
+            StatusCode::FORBIDDEN,
+            b"only the page itself may ask\n",
+            response,
+        ),
+        Asked::Page => give_page(response),
+        Asked::Trace => answer_trace(alloc, body, response),
+        Asked::Show => answer_show(alloc, body, response),
+        Asked::NotGet => refuse_method(HeaderValue::from_static("GET"), response),
+        Asked::NotPost => refuse_method(HeaderValue::from_static("POST"), response),
+        Asked::OtherPath => say(StatusCode::NOT_FOUND, b"there is no such page\n", response),
+    }
+}
+
+/// Says what the body is, and that no other request follows on the connection, which might keep all others waiting.
+fn declare(kind: HeaderValue, response: &mut Response) -> Result<(), AllocError>
+    ensures fields { OnOk result (fields_of response.new ≡ fields_of response.old ++ fields_with kind.bytes) }
+    ensures status { response.new.status ≡ response.old.status }
+    ensures body { response.new.body ≡ response.old.body }
+{
+    response.add_header(CONNECTION, HeaderValue::from_static("close"))?;
+    response.add_header(CONTENT_TYPE, kind)
+}
+
+/// Answers with a text.
+fn say(status: StatusCode, text: &[u8], response: &mut Response) -> Result<(), AllocError>
+    requires { IsBlank response.old }
+    ensures { OnOk result (IsTextAnswer status text.now response.new) }
+{
+    declare(
+        HeaderValue::from_static("text/plain; charset=utf-8"),
+        response,
+    )?;
+    response.status = status;
+    response.body.put_slice(text)
+}
+
+/// Answers that the path takes another method alone.
+fn refuse_method(taken: HeaderValue, response: &mut Response) -> Result<(), AllocError>
+    requires { IsBlank response.old }
+    ensures { OnOk result (IsMethodAnswer taken.bytes response.new) }
+{
+    response.add_header(ALLOW, taken)?;
+    declare(
+        HeaderValue::from_static("text/plain; charset=utf-8"),
+        response,
+    )?;
+    response.status = StatusCode::METHOD_NOT_ALLOWED;
+    response.body.put_slice(b"no such method here\n")
+}
+
+/// Answers with the page.
+fn give_page(response: &mut Response) -> Result<(), AllocError>
+    requires { IsBlank response.old }
+    ensures { OnOk result (IsPageAnswer response.new) }
+{
+    declare(
+        HeaderValue::from_static("text/html; charset=utf-8"),
+        response,
+    )?;
+    response.body.put_slice(head())?;
+    response.body.put_slice(examples())?;
+    response.body.put_slice(middle())?;
+    response.body.put_slice(tail())
+}
+
+/// Answers with the trace of a script.
+fn answer_trace(alloc: Global, script: &[u8], response: &mut Response) -> Result<(), AllocError>
+    requires { IsBlank response.old }
+    ensures { OnOk result (IsAnswer Asked.Trace script.now response.new) }
+{
+    let mut printed: Bounded<ANSWER_LIMIT> = Bounded::new(alloc);
+    match traced(alloc, script, &mut printed) {
+        Ok(_) => say(StatusCode::OK, printed.as_bytes(), response),
+        Err(fault) => explain(fault, response),
+    }
+}
+
+/// Answers with the lines of a datagram.
+fn answer_show(alloc: Global, digits: &[u8], response: &mut Response) -> Result<(), AllocError>
+    requires { IsBlank response.old }
+    ensures { OnOk result (IsAnswer Asked.Show digits.now response.new) }
+{
+    match str::from_utf8(digits) {
+        Ok(hex) => answer_digits(alloc, hex, response),
+        Err(_) => say(StatusCode::BAD_REQUEST, b"these are no digits\n", response),
+    }
+}
+
+/// Answers with the lines of the datagram that digits stand for.
+fn answer_digits(alloc: Global, hex: &str, response: &mut Response) -> Result<(), AllocError>
+    requires { IsBlank response.old }
+    ensures { OnOk result (IsPrinted (λ text. (accepted : Bool) × IsShown hex.now accepted text) response.new) }
+{
+    let mut printed: Bounded<ANSWER_LIMIT> = Bounded::new(alloc);
+    match show(alloc, hex, &mut printed) {
+        Ok(_) => say(StatusCode::OK, printed.as_bytes(), response),
+        Err(fault) => explain(fault, response),
+    }
+}
+
+/// Answers why there is nothing that was printed.
+fn explain(fault: PrintFault, response: &mut Response) -> Result<(), AllocError>
+    requires { IsBlank response.old }
+    ensures { OnOk result (IsTextAnswer 422 (codes "the answer is too long\n") response.new
+        ⊎ IsTextAnswer 503 (codes "out of memory\n") response.new) }
+{
+    match fault {
+        PrintFault::OutOfMemory => say(
+            StatusCode::SERVICE_UNAVAILABLE,
+            b"out of memory\n",
+            response,
+        ),
+        PrintFault::Write => say(
+            StatusCode::UNPROCESSABLE_ENTITY,
+            b"the answer is too long\n",
+            response,
+        ),
+    }
+}

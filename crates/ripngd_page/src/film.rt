@@ -1,0 +1,100 @@
+//! A film: the page with one script and its trace in it, which needs no server.
+
+ghost use Rattle.std.specs.Prelude.{◌≡◌, ℕ, List, Err, IfOk, OnOk};
+ghost use Rattle.std.specs.Io.KnownBytes.{Appends};
+ghost use Rattle.ripngd_page.specs.Film.{before_name, element_start, film_text, name_of, script_element};
+ghost use Rattle.ripngd_page.specs.Texts.{front_with};
+
+use crate::escaping::write_escaped;
+use crate::texts::{head, middle, tail};
+use ripngd_show::PrintFault;
+use std::alloc::Global;
+use std::io::{self, Write};
+use std::path::Path;
+
+/// Runs the script that a file holds, as [`ripngd_trace::trace`] does, writes the page with the script, under the file's name,
+/// and its trace, and answers whether every line was done. One that is refused has a film too, which shows where.
+///
+/// # Errors
+/// `OutOfMemory` before anything is written; `Write` where `out` failed.
+pub fn write_film<W: Write>(
+    alloc: Global,
+    file: &str,
+    script: &[u8],
+    out: &mut W,
+) -> Result<bool, PrintFault>
+    ensures film { OnOk result ((trace : List ℕ)
+        × Appends (W.contents out.old) (W.contents out.new) (film_text (name_of file.now) script.now trace)) }
+    ensures out_of_memory { result ≡ Err PrintFault.OutOfMemory → out.new ≡ out.old }
+{
+    let mut trace = Vec::new(alloc);
+    let done = traced(alloc, script, &mut trace)?;
+    let mut film = Vec::new(alloc);
+    write_page(name_of(file), script, trace.as_slice(), &mut film)?;
+    match out.write_all(film.as_slice()) {
+        Ok(()) => Ok(done),
+        Err(_) => Err(PrintFault::Write),
+    }
+}
+
+/// The last part of a path; the path where it has none.
+fn name_of(file: &str) -> &str
+    ensures { result.now ≡ name_of file.now }
+{
+    Path::new(file).file_name().unwrap_or(file)
+}
+
+/// Runs a script, and answers whether every line was done.
+pub(crate) fn traced<W: Write>(
+    alloc: Global,
+    script: &[u8],
+    out: &mut W,
+) -> Result<bool, PrintFault> {
+    Ok(ripngd_trace::trace(alloc, script, out)?)
+}
+
+/// Writes the page with a script and its trace.
+fn write_page<W: Write>(name: &str, script: &[u8], trace: &[u8], out: &mut W) -> io::Result<()>
+    ensures { OnOk result (Appends (W.contents out.old) (W.contents out.new) (film_text name.now script.now trace.now)) }
+{
+    write_front(name, script, out)?;
+    write_escaped(trace, false, out)?;
+    out.write_all(tail())
+}
+
+/// Writes the page with a script, to where the trace stands.
+fn write_front<W: Write>(name: &str, script: &[u8], out: &mut W) -> io::Result<()>
+    ensures { OnOk result (Appends (W.contents out.old) (W.contents out.new) (front_with (script_element name.now script.now))) }
+{
+    out.write_all(head())?;
+    write_script(name, script, out)?;
+    out.write_all(middle())
+}
+
+/// Writes the element that holds a script.
+#[tactic(auto, unfolding(crate::specs::Film::script_element))]
+fn write_script<W: Write>(name: &str, script: &[u8], out: &mut W) -> io::Result<()>
+    ensures { OnOk result (Appends (W.contents out.old) (W.contents out.new) (script_element name.now script.now)) }
+{
+    write_start(name, out)?;
+    write_escaped(script, false, out)?;
+    out.write_all(b"</div>\n")
+}
+
+/// Writes the start of the element of a script.
+#[tactic(auto, unfolding(crate::specs::Film::element_start))]
+fn write_start<W: Write>(name: &str, out: &mut W) -> io::Result<()>
+    ensures { OnOk result (Appends (W.contents out.old) (W.contents out.new) (element_start name.now)) }
+{
+    out.write_all(before_name())?;
+    write_escaped(name.as_bytes(), true, out)?;
+    out.write_all(b"\">")
+}
+
+/// What stands before the name of a script.
+#[tactic(auto, unfolding(crate::specs::Film::before_name))]
+fn before_name() -> &'static [u8]
+    ensures { result.now ≡ before_name }
+{
+    b"<div data-name=\"".as_slice()
+}

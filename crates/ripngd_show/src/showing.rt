@@ -1,0 +1,114 @@
+//! `show`: one datagram, given as hexadecimal digits, as lines of text.
+
+ghost use Rattle.std.specs.Prelude.{◌≡◌, ℕ, IfOk, List, OnOk};
+ghost use Rattle.std.specs.Io.KnownBytes.{Appends};
+ghost use Rattle.ripngd_show.specs.Shown.{IsBytesText, IsShown, command_text, entry_line, head_line, listing, next_hop_line, refusal_line, route_line};
+
+use crate::print_fault::PrintFault;
+use hex::FromHexError;
+use prefix6::Addr6;
+use ripng_wire::{Command, Datagram, Rte, WireError};
+use std::alloc::Global;
+use std::io::{self, Write};
+
+/// Writes the lines of the datagram that a text of hexadecimal digits stands for, and answers whether it is one.
+/// Bytes that are no datagram give the line `refused NR NAME`, digits that stand for no bytes `refused bad hex`.
+///
+/// # Errors
+/// `OutOfMemory` before anything is written; `Write` where `out` failed.
+pub fn show<W: Write>(alloc: Global, hex: &str, out: &mut W) -> Result<bool, PrintFault>
+    ensures shown { IfOk result (λ accepted. (text : List ℕ) × IsShown hex.now accepted text
+        × Appends (W.contents out.old) (W.contents out.new) text) }
+    ensures out_of_memory { result ≡ Err PrintFault.OutOfMemory → out.new ≡ out.old }
+{
+    match hex::decode(alloc, hex) {
+        Ok(bytes) => show_bytes(bytes.as_slice(), out).map_err(|_| PrintFault::Write),
+        Err(FromHexError::OutOfMemory) => Err(PrintFault::OutOfMemory),
+        Err(_) => {
+            writeln!(out, "refused bad hex").map_err(|_| PrintFault::Write)?;
+            Ok(false)
+        }
+    }
+}
+
+/// Writes what the bytes say, and answers whether they are a datagram.
+fn show_bytes<W: Write>(bytes: &[u8], out: &mut W) -> io::Result<bool>
+    ensures { IfOk result (λ accepted. (text : List ℕ) × IsBytesText bytes.now accepted text
+        × Appends (W.contents out.old) (W.contents out.new) text) }
+{
+    match ripng_wire::decode(bytes) {
+        Ok(datagram) => {
+            write_listing(out, &datagram)?;
+            Ok(true)
+        }
+        Err(error) => {
+            write_refusal(out, error)?;
+            Ok(false)
+        }
+    }
+}
+
+fn write_refusal<W: Write>(out: &mut W, error: WireError) -> io::Result<()>
+    ensures { OnOk result (Appends (W.contents out.old) (W.contents out.new) (refusal_line error)) }
+{
+    writeln!(out, "refused {} {}", error.number(), error.name())
+}
+
+/// Writes the head line, and then a line for each entry, numbered from 0.
+fn write_listing<W: Write>(out: &mut W, datagram: &Datagram<'_>) -> io::Result<()>
+    ensures { OnOk result (Appends (W.contents out.old) (W.contents out.new)
+        (listing datagram.now.command datagram.now.entries)) }
+{
+    write_head(out, datagram.command(), datagram.entries().len())?;
+    for (index, entry) in datagram.entries().enumerate() {
+        write_entry(out, index, entry)?;
+    }
+    Ok(())
+}
+
+fn write_head<W: Write>(out: &mut W, command: Command, count: usize) -> io::Result<()>
+    ensures { OnOk result (Appends (W.contents out.old) (W.contents out.new) (head_line command count)) }
+{
+    writeln!(out, "{} entries {count}", command_name(command))
+}
+
+fn command_name(command: Command) -> &'static str
+    ensures { result.now ≡ command_text command }
+{
+    match command {
+        Command::Request => "request",
+        Command::Response => "response",
+    }
+}
+
+/// Writes the line of an entry, which is a route or a next hop.
+#[tactic(auto, unfolding(crate::specs::Shown::entry_line))]
+fn write_entry<W: Write>(out: &mut W, index: usize, entry: Rte) -> io::Result<()>
+    ensures { OnOk result (Appends (W.contents out.old) (W.contents out.new) (entry_line index entry)) }
+{
+    if entry.is_next_hop() {
+        write_next_hop(out, index, entry)
+    } else {
+        write_route(out, index, entry)
+    }
+}
+
+fn write_next_hop<W: Write>(out: &mut W, index: usize, entry: Rte) -> io::Result<()>
+    ensures { OnOk result (Appends (W.contents out.old) (W.contents out.new) (next_hop_line index entry)) }
+{
+    writeln!(out, "{index} nexthop {}", Addr6::from_bits(entry.addr))
+}
+
+/// Writes the line of a route, with its address as it came: bits past its length too.
+fn write_route<W: Write>(out: &mut W, index: usize, entry: Rte) -> io::Result<()>
+    ensures { OnOk result (Appends (W.contents out.old) (W.contents out.new) (route_line index entry)) }
+{
+    let addr = Addr6::from_bits(entry.addr);
+    let Rte {
+        tag,
+        len,
+        metric,
+        ..
+    } = entry;
+    writeln!(out, "{index} {addr}/{len} tag {tag} metric {metric}")
+}

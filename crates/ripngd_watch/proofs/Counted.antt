@@ -1,0 +1,36 @@
+-- Counts, one telling after another.
+use Rattle.std.proofs.Common.{◌≡◌, ℕ, ◌+◌, List, [], ◌∷◌, sym, arith, subst}
+use Rattle.ripngd_engine.specs.Run.{counted}
+use Rattle.ripngd_engine.specs.Watch.{Told, WasTold}
+use Rattle.ripngd_watch.specs.Counting.{Counted, total}
+use Rattle.ripngd_watch.specs.declared.counts.Counts.{Counts}
+
+-- nothing was counted
+pub counted-none : (n : ℕ) → n ≡ counted n 0
+counted-none n = omega arith
+
+-- some were counted, and then others
+pub counted-more : (m n k a b : ℕ) → n ≡ counted m (a + 0) → k ≡ counted n b → k ≡ counted m (a + b)
+counted-more m n k a b p q = omega (arith, p, q)
+
+pub Counted-none : (c : Counts) → Counted c [] c
+Counted-none c = record {
+  arrivals = counted-none c.arrivals;
+  sends = counted-none c.sends;
+  failed_sends = counted-none c.failed_sends;
+  faults = λ place h. counted-none _;
+  notes = λ place h. counted-none _;
+}
+
+pub Counted-more : (c d e : Counts) (t : Told) (ts : List Told) → Counted c (t ∷ []) d → Counted d ts e → Counted c (t ∷ ts) e
+Counted-more c d e t ts p q = record {
+  arrivals = counted-more _ _ _ _ _ p.arrivals q.arrivals;
+  sends = counted-more _ _ _ _ _ p.sends q.sends;
+  failed_sends = counted-more _ _ _ _ _ p.failed_sends q.failed_sends;
+  faults = λ place h. counted-more _ _ _ _ _ (p.faults place h) (q.faults place h);
+  notes = λ place h. counted-more _ _ _ _ _ (p.notes place h) (q.notes place h);
+}
+
+pub Counted-all : (c d : Counts) (ts : List Told) → WasTold (λ v t w. Counted v (t ∷ []) w) c ts d → Counted c ts d
+Counted-all c d [] h = subst (λ x. Counted c [] x) (sym h) (Counted-none c)
+Counted-all c d (t ∷ ts) h = Counted-more c h.0 d t ts h.1 (Counted-all h.0 d ts h.2)

@@ -1,0 +1,10 @@
+use Rattle.std.proofs.Common.{refl}
+use Rattle.std.proofs.KnownBytes.{Appends-nil}
+use Rattle.ripngd_watch.proofs.lines.DebugLinesWatch.sent.Goals as goal
+
+pub returns : goal.returns
+returns g c = record {
+  counts = c.count_send.ensures c.args._outgoing.now;
+  ends = λ h. (h, refl);
+  gains = λ h. Appends-nil (g.W.Write.contents c.args.self.now.out);
+}

@@ -1,0 +1,13 @@
+//! What becomes of arrivals and sends while an engine runs: counted, and what was refused said line by line.
+//!
+//! What is counted stands in `specs/Counting`, and what is said in `specs/Lines`.
+#![tactic(auto)]
+
+mod counts;
+pub mod laws;
+mod lines;
+#[cfg(test)]
+mod tests;
+
+pub use counts::Counts;
+pub use lines::DebugLines;
