@@ -5,7 +5,7 @@ ghost use Rattle.ripngd_config.specs.Configuration.{RefusesText, Says};
 
 use crate::fault::ConfigFault;
 use crate::from_section::FromSection;
-use crate::place::Place;
+use crate::table_path::TablePath;
 use crate::tables::Document;
 use crate::values::Section;
 use std::alloc::Global;
@@ -23,6 +23,6 @@ pub(crate) fn document_of(alloc: Global, text: &[u8]) -> Result<Document, Config
     Document::from_section(Section {
         alloc,
         table: &table,
-        place: Place::Top,
+        path: TablePath::Top,
     })
 }

@@ -3,7 +3,7 @@
 ghost use Rattle.std.specs.Prelude.{◌≡◌};
 ghost use Rattle.ripngd_config.specs.declared.fault.ConfigFault.TheVariants.{OutOfMemory, Router};
 
-use crate::place::Place;
+use crate::table_path::TablePath;
 use router_core::ConfigRefused;
 use std::alloc::{AllocError, AllocFailed, Global};
 use thiserror::Error;
@@ -91,23 +91,23 @@ impl ConfigFault {
     }
 
     /// The fault of the value at a key of a table.
-    pub(crate) fn at(alloc: Global, fault: PathFault, place: Place, key: &str) -> ConfigFault
+    pub(crate) fn at(alloc: Global, fault: PathFault, table: TablePath, key: &str) -> ConfigFault
         ensures { RefusesAt (λ f. f ≡ fault) result }
     {
-        ConfigFault::of(fault, format!(in alloc; "{place}{key}"))
+        ConfigFault::of(fault, format!(in alloc; "{table}{key}"))
     }
 
     /// The fault of a member of the array at a key of a table.
     pub(crate) fn at_member(
         alloc: Global,
         fault: PathFault,
-        place: Place,
+        table: TablePath,
         key: &str,
         index: usize,
     ) -> ConfigFault
         ensures { RefusesAt (λ f. f ≡ fault) result }
     {
-        ConfigFault::of(fault, format!(in alloc; "{place}{key}[{index}]"))
+        ConfigFault::of(fault, format!(in alloc; "{table}{key}[{index}]"))
     }
 
     /// The fault at a path, where there was memory for the path.

@@ -37,17 +37,17 @@ fn member_of<T: FromSection>(
     ensures fault { IfErr result (RefusesAt (λ f.
         ItemFault (HasFault T.keys) f (view value.now))) }
 {
-    let place = section.place.member(key, index);
+    let path = section.path.member(key, index);
     match value.as_table() {
         Some(table) => T::from_section(Section {
             table,
-            place,
+            path,
             ..section
         }),
         None => Err(ConfigFault::at_member(
             section.alloc,
             PathFault::WrongType,
-            section.place,
+            section.path,
             key,
             index,
         )),

@@ -9,7 +9,7 @@ mod document;
 mod fault;
 mod from_section;
 mod peer;
-mod place;
+mod table_path;
 mod tables;
 mod twice;
 mod values;

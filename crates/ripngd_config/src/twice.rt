@@ -6,7 +6,7 @@ ghost use Rattle.ripngd_config.specs.Twice.{AreAllPeersDistinct, ArePeersDistinc
 
 use crate::fault::{ConfigFault, PathFault};
 use crate::peer::Peer;
-use crate::place::Place;
+use crate::table_path::TablePath;
 use crate::tables::InterfaceTable;
 use std::alloc::Global;
 
@@ -17,15 +17,15 @@ pub(crate) fn check_ports(alloc: Global, ports: &[u16]) -> Result<(), ConfigFaul
 {
     for (index, port) in ports.iter().enumerate() {
         if ports[..index].contains(port) {
-            let place = Place::Top.member("interface", index);
-            return Err(ConfigFault::at(alloc, PathFault::PortTwice, place, "local_port"));
+            let path = TablePath::Top.member("interface", index);
+            return Err(ConfigFault::at(alloc, PathFault::PortTwice, path, "local_port"));
         }
     }
     Ok(())
 }
 
 /// Refuses the first peer of the interface that has the address or the local port of an earlier one.
-fn check_peers(alloc: Global, interface: Place, peers: &[Peer]) -> Result<(), ConfigFault>
+fn check_peers(alloc: Global, interface: TablePath, peers: &[Peer]) -> Result<(), ConfigFault>
     ensures ok { OnOk result (ArePeersDistinct peers.now) }
     ensures fault { IfErr result (RefusesAt (λ f. (f ≡ PathFault.PeerTwice) × ¬ (ArePeersDistinct peers.now))) }
 {
@@ -53,7 +53,11 @@ pub(crate) fn check_all_peers(
         (f ≡ PathFault.PeerTwice) × ¬ (AreAllPeersDistinct interfaces.now))) }
 {
     for (index, table) in interfaces.iter().enumerate() {
-        check_peers(alloc, Place::Top.member("interface", index), &table.peers)?;
+        check_peers(
+            alloc,
+            TablePath::Top.member("interface", index),
+            &table.peers,
+        )?;
     }
     Ok(())
 }

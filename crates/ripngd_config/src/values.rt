@@ -8,7 +8,7 @@ ghost use Rattle.ripngd_config.specs.Keys.{AddressFault, HasOnlyOf, HasOtherOf, 
 ghost use Rattle.ripngd_config.specs.Values.{IsAddress, IsAt, IsNumber, IsPrefixValue, IsSomeNumber, IsTruth};
 
 use crate::fault::{ConfigFault, PathFault};
-use crate::place::Place;
+use crate::table_path::TablePath;
 use prefix6::{Addr6, Prefix, parse_addr, parse_prefix};
 use std::alloc::Global;
 use toml::{Table, Value};
@@ -18,7 +18,7 @@ use toml::{Table, Value};
 pub(crate) struct Section<'a> {
     pub alloc: Global,
     pub table: &'a Table,
-    pub place: Place,
+    pub path: TablePath,
 }
 
 impl<'a> Section<'a> {
@@ -33,7 +33,7 @@ impl<'a> Section<'a> {
     pub fn fault(&self, fault: PathFault, key: &str) -> ConfigFault
         ensures { RefusesAt (λ f. f ≡ fault) result }
     {
-        ConfigFault::at(self.alloc, fault, self.place, key)
+        ConfigFault::at(self.alloc, fault, self.path, key)
     }
 
     /// The number at a key, from `low` to `high`; with no default the key is required.

@@ -20,6 +20,7 @@ pub record OutletSeen : Type 0 where
   pub lost_sends : ℕ
   pub log_failed : Bool
 
+-- an outlet and its log, where `calls` gives what a link tells, and `text` what stands in a log
 abbrev pub outlet_seen : {L W : Type 0} → (L → Option (List Call)) → (W → Option (List ℕ)) → Outlet L → W → OutletSeen
 outlet_seen calls text o log =
     record {

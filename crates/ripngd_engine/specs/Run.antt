@@ -29,15 +29,19 @@ pub record Trace : Type 0 where
   pub changes : List RouteChange
   pub told : List Told
 
+-- no step was made
 abbrev pub nothing : Trace
 nothing = record { calls = []; moments = []; changes = []; told = [] }
 
+-- this call of the link, and nothing else
 abbrev pub one_call : Call → Trace
 one_call call = record { calls = call ∷ []; moments = []; changes = []; told = [] }
 
+-- the clock gave this moment, and nothing else was done
 abbrev pub one_moment : ℕ → Trace
 one_moment now = record { calls = []; moments = now ∷ []; changes = []; told = [] }
 
+-- what was done first, and then
 abbrev pub joined : Trace → Trace → Trace
 joined a b =
     record {
@@ -47,6 +51,7 @@ joined a b =
       told = a.told ++ b.told;
     }
 
+-- all of these, one after the other
 abbrev pub all_joined : List Trace → Trace
 all_joined [] = nothing
 all_joined (t ∷ ts) = joined t (all_joined ts)
@@ -107,10 +112,12 @@ pub record Lost (m : Machine) (now : ℕ) (t : Trace) (n : Machine) : Type 0 whe
   pub trace : t ≡ one_moment now
   pub machine : n ≡ record m { lost_memory = counted m.lost_memory 1 }
 
+-- a step of the router: its answer was carried out, or it was refused for memory
 abbrev pub Step : Machine → Happening → ℕ → Trace → Machine → Type 0
 Step m happening now t n = Moved m happening now t n ⊎ Lost m now t n
 
 -- ---- a start
+-- a router came up, and its first answer was carried out over an empty forwarding table
 pub record ComesUp (config : Config) (stream : Stream) (t : Trace) (n : Machine) : Type 0 where
   pub now : ℕ
   pub answer : Answer
@@ -121,6 +128,7 @@ pub record ComesUp (config : Config) (stream : Stream) (t : Trace) (n : Machine)
   pub stream_is : n.stream ≡ stream
 
 -- ---- a turn
+-- a datagram as what arrives at the router at this moment
 abbrev pub arrival : ℕ → Datagram → Received
 arrival now d =
     record {

@@ -14,6 +14,7 @@ use Rattle.ripngd_engine.specs.declared.link.Link as Link
 use Rattle.ripngd_engine.specs.declared.clock.TimeSource as TimeSource
 use Rattle.rand_core.specs.declared.Rng as Rng
 
+-- a running router and its log, where the first four give what its link, clock, source and log tell
 abbrev pub running_seen : {S L C R W : Type 0} {s : RouteStore.Ghosts S} {l : Link.Ghosts L} {c : TimeSource.Ghosts C} {r : Rng.Ghosts R}
     → (L → Option (List Call)) → (C → Option (List ℕ)) → (R → Stream) → (W → Option (List ℕ)) → Running S L C R s l c r → W → Seen
 running_seen calls moments stream text e log =

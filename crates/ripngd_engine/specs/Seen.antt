@@ -33,6 +33,7 @@ pub record Outside : Type 0 where
   pub lost_sends : ℕ
   pub log_failed : Bool
 
+-- what an engine goes on from, and what its outside tells
 pub record Seen : Type 0 where
   pub machine : Machine
   pub outside : Outside

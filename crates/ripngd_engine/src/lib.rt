@@ -9,7 +9,7 @@
 mod change_lines;
 mod clock;
 mod engine;
-pub mod laws;
+mod laws;
 mod link;
 pub mod memory;
 mod outlet;
@@ -22,6 +22,7 @@ mod watch;
 pub use change_lines::RouteLine;
 pub use clock::TimeSource;
 pub use engine::Engine;
+pub use laws::turns_go_on;
 pub use link::{Link, LinkFault, Received};
 pub use report::{EngineFault, Report};
 pub use watch::{Arrived, Unwatched, Watch};

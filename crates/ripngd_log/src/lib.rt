@@ -5,7 +5,7 @@
 
 mod cutting;
 mod fault;
-pub mod laws;
+mod laws;
 mod line;
 mod reading;
 #[cfg(test)]
@@ -13,4 +13,5 @@ mod tests;
 mod words;
 
 pub use fault::LogFault;
+pub use laws::logs_are_read_one_way;
 pub use reading::read_log;

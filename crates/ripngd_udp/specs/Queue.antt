@@ -34,5 +34,6 @@ pub record Kept (peers : List Peer) (before after : Option (List Try)) (waited l
   pub known : ok ≡ true → is_known peers d.to ≡ true
   pub waits : left ≡ (if ok then waited ++ d ∷ [] else waited)
 
+-- the datagram was sent at once, or waits or is lost without a try
 abbrev pub SentOrKept : List Peer → Option (List Try) → Option (List Try) → List Outgoing → List Outgoing → Outgoing → Bool → Type 0
 SentOrKept peers before after waited left d ok = SentAtOnce peers before after waited left d ok ⊎ Kept peers before after waited left d ok

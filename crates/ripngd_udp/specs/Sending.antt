@@ -15,9 +15,11 @@ pub record Try : Type 0 where
   pub bytes : List ℕ
   pub outcome : Tried
 
+-- bytes were tried at a port, with this outcome
 abbrev pub tried : ℕ → List ℕ → Tried → Try
 tried port bytes outcome = record { port = port; bytes = bytes; outcome = outcome }
 
+-- whether a try with this outcome sent the bytes
 abbrev pub went : Tried → Bool
 went Sent = true
 went Interrupted = false

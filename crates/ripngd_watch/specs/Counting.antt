@@ -8,20 +8,22 @@ use Rattle.ripngd_engine.specs.Run.{counted}
 use Rattle.ripngd_engine.specs.Watch.{Told, Heard, Sent}
 use Rattle.ripngd_watch.specs.declared.counts.Counts.{Counts}
 
+-- whether this is an arrival, as a count
 abbrev pub arrivals_in : Told → ℕ
 arrivals_in (Heard a fault notes) = 1
 arrivals_in (Sent s went) = 0
 
+-- whether this is a datagram that was handed to the link, as a count
 abbrev pub sends_in : Told → ℕ
 sends_in (Heard a fault notes) = 0
 sends_in (Sent s went) = 1
 
--- the datagrams that the link did not take
+-- whether this is a datagram that the link did not take, as a count
 abbrev pub failed_sends_in : Told → ℕ
 failed_sends_in (Heard a fault notes) = 0
 failed_sends_in (Sent s went) = if went then 0 else 1
 
--- whether this is the fault of that number
+-- whether this is the fault of that number, as a count
 abbrev pub is_fault : ℕ → Option Fault → ℕ
 is_fault number None = 0
 is_fault number (Some fault) = if fault_number fault == number then 1 else 0

@@ -4,10 +4,11 @@
 #![tactic(auto)]
 
 mod counts;
-pub mod laws;
+mod laws;
 mod lines;
 #[cfg(test)]
 mod tests;
 
 pub use counts::Counts;
+pub use laws::counts_are_of_all_told;
 pub use lines::DebugLines;
