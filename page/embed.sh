@@ -1,16 +1,19 @@
 #!/usr/bin/env bash
-# The page and the examples' scripts as constants of the program: writes crates/ripngd_page/src/template.rt.
+# The page and the examples' scripts as constants of the program: writes crates/ripngd_page/src/template/*.rt.
 #
-#     page/embed.sh            writes the file
-#     page/embed.sh --check    says whether it is what would be written, by its exit status
+#     page/embed.sh            writes the files
+#     page/embed.sh --check    says whether they are what would be written, by its exit status
 #
-# Needs bash, sed and awk. The gate checks it first.
-set -eu
+# The page is cut where scripts and a trace are put in, and at two remarks of its script. Needs bash, sed and awk. The gate calls
+# it first.
+set -euo pipefail
 
 root=$(realpath "$(dirname "$0")/..")
-target=$root/crates/ripngd_page/src/template.rt
-text=$(mktemp)
-trap 'rm -f "$text"' EXIT
+target=$root/crates/ripngd_page/src/template
+layout='// ---- The layout ----'
+panes='// ---- Script and events ----'
+folder=$(mktemp -d)
+trap 'rm -rf "$folder"' EXIT
 
 # Text as it stands within an element.
 escape() {
@@ -29,9 +32,16 @@ constant() {
     '
 }
 
-# The lines of the template from behind one mark, or its start, to before another, or its end.
+# `between FROM TO`: the lines of the template from one mark, or its start, to before another, or its end. A mark that is a
+# place to fill is left out. Fails where there is no such mark.
 between() {
-    awk -v from="$1" -v to="$2" 'BEGIN { on = from == "" } to != "" && $0 == to { exit } on { print } $0 == from { on = 1 }' "$root/page/template.html"
+    awk -v from="$1" -v to="$2" '
+        BEGIN { on = from == "" }
+        to != "" && $0 == to { ended = 1; exit }
+        $0 == from { on = 1 }
+        on && $0 != "<!-- scripts -->" && $0 != "<!-- trace -->" { print }
+        END { exit !on || (to != "" && !ended) }
+    ' "$root/page/template.html"
 }
 
 examples() {
@@ -43,16 +53,30 @@ examples() {
     done
 }
 
+# `file NAME WHAT`: standard input, constants, as the file of that name, which holds this.
+file() {
+    {
+        echo "//! $2."
+        echo '//! Written by page/embed.sh: change page/template.html or examples/, and run it.'
+        cat
+    } > "$folder/$1.rt"
+}
+
 {
-    echo '//! The page of page/template.html, with the scripts of the examples. Written by page/embed.sh: change those files, and run it.'
     between '' '<!-- scripts -->' | constant HEAD 'What stands before the scripts.'
-    examples | constant EXAMPLES 'The scripts to choose from, each an element with its name.'
     between '<!-- scripts -->' '<!-- trace -->' | constant MIDDLE 'What stands between the scripts and the trace.'
-    between '<!-- trace -->' '' | constant TAIL 'What stands behind the trace: the script of the page.'
-} > "$text"
+} | file markup 'The style of the page, and its elements'
+examples | constant EXAMPLES 'Each script as an element with its name.' | file examples 'The scripts to choose from'
+between '<!-- trace -->' "$layout" | constant READING 'From behind the trace to the layout.' |
+    file reading 'The start of the script of the page: how a trace is read'
+between "$layout" "$panes" | constant DRAWING 'From the layout to the other panes.' |
+    file drawing 'The script of the page: layout and drawing'
+between "$panes" '' | constant PANES 'From the other panes to the end of the page.' |
+    file panes 'The end of the script of the page: the other panes, and what a click or a key does'
 
 if [ "${1:-}" = --check ]; then
-    cmp "$text" "$target"
+    diff -r "$folder" "$target"
 else
-    cp "$text" "$target"
+    mkdir -p "$target"
+    cp "$folder"/*.rt "$target"
 fi

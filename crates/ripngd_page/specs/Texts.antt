@@ -1,6 +1,10 @@
 -- The parts of the page, of page/template.html. They are closed: no proof has to read them.
 use Rattle.std.specs.Prelude.{ℕ, List, ◌++◌}
-use Rattle.ripngd_page.specs.declared.template.TheConstants.{EXAMPLES, HEAD, MIDDLE, TAIL}
+use Rattle.ripngd_page.specs.declared.template.drawing.TheConstants.{DRAWING}
+use Rattle.ripngd_page.specs.declared.template.examples.TheConstants.{EXAMPLES}
+use Rattle.ripngd_page.specs.declared.template.markup.TheConstants.{HEAD, MIDDLE}
+use Rattle.ripngd_page.specs.declared.template.panes.TheConstants.{PANES}
+use Rattle.ripngd_page.specs.declared.template.reading.TheConstants.{READING}
 
 -- what stands before the scripts
 unfoldable pub head_text : List ℕ
@@ -14,9 +18,21 @@ examples_text = EXAMPLES.now
 unfoldable pub middle_text : List ℕ
 middle_text = MIDDLE.now
 
+-- what stands behind the trace, to where the page's script lays out what it draws
+unfoldable pub reading_text : List ℕ
+reading_text = READING.now
+
+-- the part of the page's script that draws
+unfoldable pub drawing_text : List ℕ
+drawing_text = DRAWING.now
+
+-- the rest of the page's script, and of the page
+unfoldable pub panes_text : List ℕ
+panes_text = PANES.now
+
 -- what stands behind the trace
 unfoldable pub tail_text : List ℕ
-tail_text = TAIL.now
+tail_text = reading_text ++ (drawing_text ++ panes_text)
 
 -- the page with these scripts, to where the trace stands
 abbrev pub front_with : List ℕ → List ℕ

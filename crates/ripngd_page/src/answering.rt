@@ -4,16 +4,17 @@ ghost use Rattle.std.specs.Prelude.{◌≡◌, ◌≤◌, ◌≢◌, ◌⊎◌, 
 ghost use Rattle.http_server.specs.Response.{IsBlank, IsResponse, fields_of};
 ghost use Rattle.ripngd_show.specs.Shown.{IsShown};
 ghost use Rattle.ripngd_page.specs.Answering.{IsAnswer, IsMethodAnswer, IsPageAnswer, IsPrinted, IsTextAnswer, fields_with};
+ghost use Rattle.ripngd_page.specs.Texts.{tail_text};
 
 use crate::asked::Asked;
 use crate::bounded::Bounded;
 use crate::film::traced;
 use crate::page::ANSWER_LIMIT;
-use crate::texts::{examples, head, middle, tail};
+use crate::texts::{drawing, examples, head, middle, panes, reading};
 use bytes::BufMut;
 use http::StatusCode;
 use http::header::{ALLOW, CONNECTION, CONTENT_TYPE, HeaderValue};
-use http_server::Response;
+use http_server::{Response, Rope};
 use ripngd_show::{PrintFault, show};
 use std::alloc::{AllocError, Global};
 use std::str;
@@ -92,7 +93,17 @@ fn give_page(response: &mut Response) -> Result<(), AllocError>
     response.body.put_slice(head())?;
     response.body.put_slice(examples())?;
     response.body.put_slice(middle())?;
-    response.body.put_slice(tail())
+    put_tail(&mut response.body)
+}
+
+/// Puts what stands behind the trace.
+#[tactic(auto, unfolding(crate::specs::Texts::tail_text))]
+fn put_tail(body: &mut Rope) -> Result<(), AllocError>
+    ensures { OnOk result (body.new.items ≡ body.old.items ++ tail_text) }
+{
+    body.put_slice(reading())?;
+    body.put_slice(drawing())?;
+    body.put_slice(panes())
 }
 
 /// Answers with the trace of a script.

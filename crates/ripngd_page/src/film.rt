@@ -3,10 +3,10 @@
 ghost use Rattle.std.specs.Prelude.{◌≡◌, ℕ, List, Err, IfOk, OnOk};
 ghost use Rattle.std.specs.Io.KnownBytes.{Appends};
 ghost use Rattle.ripngd_page.specs.Film.{before_name, element_start, film_text, name_of, script_element};
-ghost use Rattle.ripngd_page.specs.Texts.{front_with};
+ghost use Rattle.ripngd_page.specs.Texts.{front_with, tail_text};
 
 use crate::escaping::write_escaped;
-use crate::texts::{head, middle, tail};
+use crate::texts::{drawing, head, middle, panes, reading};
 use ripngd_show::PrintFault;
 use std::alloc::Global;
 use std::io::{self, Write};
@@ -59,7 +59,7 @@ fn write_page<W: Write>(name: &str, script: &[u8], trace: &[u8], out: &mut W) ->
 {
     write_front(name, script, out)?;
     write_escaped(trace, false, out)?;
-    out.write_all(tail())
+    write_tail(out)
 }
 
 /// Writes the page with a script, to where the trace stands.
@@ -69,6 +69,16 @@ fn write_front<W: Write>(name: &str, script: &[u8], out: &mut W) -> io::Result<(
     out.write_all(head())?;
     write_script(name, script, out)?;
     out.write_all(middle())
+}
+
+/// Writes what stands behind the trace.
+#[tactic(auto, unfolding(crate::specs::Texts::tail_text))]
+fn write_tail<W: Write>(out: &mut W) -> io::Result<()>
+    ensures { OnOk result (Appends (W.contents out.old) (W.contents out.new) tail_text) }
+{
+    out.write_all(reading())?;
+    out.write_all(drawing())?;
+    out.write_all(panes())
 }
 
 /// Writes the element that holds a script.
