@@ -1,6 +1,6 @@
 //! `show`: one datagram, given as hexadecimal digits, as lines of text.
 
-ghost use Rattle.std.specs.Prelude.{◌≡◌, ℕ, IfOk, List, OnOk};
+ghost use Rattle.std.specs.Prelude.{◌≡◌, ◌≢◌, ◌%◌, ℕ, Err, IfOk, List, OnOk, length};
 ghost use Rattle.std.specs.Io.KnownBytes.{Appends};
 ghost use Rattle.ripngd_show.specs.Shown.{IsBytesText, IsShown, command_text, entry_line, head_line, listing, next_hop_line, refusal_line, route_line};
 
@@ -20,6 +20,7 @@ pub fn show<W: Write>(alloc: Global, hex: &str, out: &mut W) -> Result<bool, Pri
     ensures shown { IfOk result (λ accepted. (text : List ℕ) × IsShown hex.now accepted text
         × Appends (W.contents out.old) (W.contents out.new) text) }
     ensures out_of_memory { result ≡ Err PrintFault.OutOfMemory → out.new ≡ out.old }
+    ensures odd { length hex.now % 2 ≡ 1 → result ≢ Err PrintFault.OutOfMemory }
 {
     match hex::decode(alloc, hex) {
         Ok(bytes) => show_bytes(bytes.as_slice(), out).map_err(|_| PrintFault::Write),
