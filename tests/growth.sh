@@ -43,6 +43,9 @@ lab.run 327 359
 lab.round 315 359
 log.read 386 399
 engine.turns 348 396
+link.bind 395 398
+link.send 361 370
+link.recv 382 395
 '
 
 [ $# = 0 ] || calls=$(grep -F -- "$1 " <<< "$calls")
@@ -74,7 +77,7 @@ judge() {
         'not made' | undisturbed) ;;
         *) echo "a refusal may come before those that were tried" ;;
     esac
-    grep -qE "^$1 (refused|an entry skipped|one step lost)" "$folder/said" || echo "no growth of it was refused"
+    grep -qE "^$1 (refused|an entry skipped|one (step|datagram|arrival) lost)" "$folder/said" || echo "no growth of it was refused"
 }
 
 passed=0

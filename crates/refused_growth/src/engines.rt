@@ -113,7 +113,9 @@ fn outcome_of_turns(mut engine: MemoryEngine, log: &mut MemoryLog) -> Outcome {
     match engine.turns(3, log) {
         Ok(()) => went_on(&mut engine, log),
         Err(EngineFault::OutOfMemory) => ended(&mut engine, log),
-        Err(EngineFault::LinkFault { .. }) => Outcome::Wrong("a link fault that there was not"),
+        Err(EngineFault::LinkFault { .. }) => Outcome::Wrong(
+            "turns should answer no fault of a link that works, and answered one",
+        ),
     }
 }
 
@@ -134,7 +136,9 @@ fn outcome(alloc: Global) -> Option<Outcome> {
     Some(match started {
         Ok(engine) => outcome_of_turns(engine, &mut log),
         Err(EngineFault::OutOfMemory) => Outcome::Right("no start"),
-        Err(EngineFault::LinkFault { .. }) => Outcome::Wrong("a link fault at the start"),
+        Err(EngineFault::LinkFault { .. }) => Outcome::Wrong(
+            "a start should answer no fault of a link that works, and answered one",
+        ),
     })
 }
 

@@ -7,6 +7,7 @@
 mod digest;
 mod engines;
 mod labs;
+mod links;
 mod log_reading;
 mod parts;
 mod rounds;
@@ -21,6 +22,8 @@ use crate::trial::Outcome;
 use route_table::{RouteStore, SortedRoutes, TrieRoutes};
 use std::alloc::Global;
 use std::io;
+use std::net::Net;
+use std::rt::Clock;
 
 /// The call of a router that has a name.
 fn step_named(name: &str) -> Option<Step> {
@@ -67,8 +70,19 @@ fn of_lab(alloc: Global, name: &str) -> Option<Outcome> {
     }
 }
 
+/// A call of a link.
+fn of_link<R: Clock + Net>(rt: &R, alloc: Global, name: &str) -> Option<Outcome> {
+    match name {
+        "bind" => Some(links::outcome_of_bind(rt, alloc)),
+        "send" => Some(links::outcome_of_send(rt, alloc)),
+        "recv" => Some(links::outcome_of_recv(rt, alloc)),
+        _ => None,
+    }
+}
+
 /// The call that has a name: what it is a call of, and which.
-fn outcome_of(alloc: Global, name: &str) -> Option<Outcome> {
+fn outcome_of<R: AllocGlobal + Clock + Net>(rt: &R, name: &str) -> Option<Outcome> {
+    let alloc = rt.alloc();
     match name.split_once('.')? {
         ("sorted", name) => of_router::<SortedRoutes>(alloc, name),
         ("trie", name) => of_router::<TrieRoutes>(alloc, name),
@@ -77,6 +91,7 @@ fn outcome_of(alloc: Global, name: &str) -> Option<Outcome> {
         ("fib", "apply") => Some(parts::outcome_of_changes(alloc)),
         ("network", "check") => Some(parts::outcome_of_check(alloc)),
         ("log", "read") => Some(log_reading::outcome_of_log(alloc)),
+        ("link", name) => of_link(rt, alloc, name),
         ("engine", "turns") => Some(engines::outcome_of_engine(alloc)),
         _ => None,
     }
@@ -89,7 +104,7 @@ fn main(rt: HostRuntime) -> io::Result<()> {
     for _ in 0..number.parse::<u32>().unwrap_or(0) {
         let _ = Box::new(rt.alloc(), 1u8);
     }
-    match outcome_of(rt.alloc(), name) {
+    match outcome_of(&rt, name) {
         Some(outcome) => println!(rt; "{name} {outcome}"),
         None => println!(rt; "no call {name}"),
     }

@@ -128,7 +128,9 @@ fn refused(alloc: Global, lab: &Lab<Routes>, now: Moment) -> Outcome {
     let first = other.sent().len();
     tick_until_met(lab, &mut other, now)
         .or_else(|| deliver_until_met(lab, &mut other, first, now))
-        .unwrap_or(Outcome::Wrong("a round that was refused is not that of the events done"))
+        .unwrap_or(Outcome::Wrong(
+            "a refused round should leave the lab as the events done leave it, and left it otherwise",
+        ))
 }
 
 /// The round is made.

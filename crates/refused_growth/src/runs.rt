@@ -69,7 +69,9 @@ fn compare_runs(
     }
     let is_same = result.is_ok() && first == done && digest_of(other) == left;
     if was_refused && !is_same {
-        return Outcome::Wrong("a run that was refused is not that of the events done");
+        return Outcome::Wrong(
+            "a refused run should leave the lab as the events done leave it, and left it otherwise",
+        );
     }
     let (_, rest) = other.run(coming);
     if rest.is_err() {
@@ -97,7 +99,9 @@ fn take_last_again(
     if here.is_ok() && there.is_ok() && digest_of(lab) == digest_of(other) {
         Outcome::Skipped
     } else {
-        Outcome::Wrong("the events not done did not do what they do undisturbed")
+        Outcome::Wrong(
+            "the events not done should do when made again what they do undisturbed, and did otherwise",
+        )
     }
 }
 

@@ -130,3 +130,60 @@ impl Inbox {
         })
     }
 }
+
+#[cfg(test)]
+mod tests {
+    use super::*;
+    use prefix6::Addr6;
+    use std::test::Fail;
+
+    /// A neighbor at `fe80::2`.
+    fn neighbor() -> Peer {
+        Peer {
+            addr: Addr6::from_bits((0xfe80 << 112) + 2),
+            local_port: 5002,
+            port: 521,
+            hop_limit: 255,
+            to_group: true,
+        }
+    }
+
+    fn of_length(alloc: Global, len: usize) -> Result<Vec<u8>, AllocError> {
+        vec![in alloc; 7; len]
+    }
+
+    /// Whether a datagram on the first interface is kept.
+    fn keeps(inbox: &mut Inbox, bytes: &[u8]) -> bool {
+        inbox.interfaces > 0 && inbox.keep(0, neighbor(), bytes)
+    }
+
+    /// How many of so many datagrams are kept.
+    fn kept(inbox: &mut Inbox, bytes: &[u8], count: usize) -> usize {
+        let mut kept: usize = 0;
+        for _ in 0..count {
+            if keeps(inbox, bytes) {
+                kept = kept.saturating_add(1);
+            }
+        }
+        kept
+    }
+
+    #[test]
+    fn datagrams_wait_up_to_32_mib_together(rt: HostRuntime) -> Result<(), Fail> {
+        let mut inbox = Inbox::new(rt.alloc(), 1);
+        let longest = of_length(rt.alloc(), 65_535)?;
+        // 512 of the longest leave 512 of the 33,554,432 bytes.
+        assert_eq!(rt; kept(&mut inbox, &longest, 512), 512);
+        assert!(rt; !keeps(&mut inbox, &of_length(rt.alloc(), 513)?));
+        assert_eq!(rt; inbox.lost(), 1);
+        assert!(rt; keeps(&mut inbox, &of_length(rt.alloc(), 512)?));
+        assert_eq!(rt; inbox.lost(), 1);
+        assert!(rt; !keeps(&mut inbox, b"h"));
+        assert_eq!(rt; inbox.lost(), 2);
+        // The router takes the first of them, and so there is room for another.
+        assert!(rt; inbox.next(&mut [0; 16]).is_some());
+        assert!(rt; keeps(&mut inbox, &longest));
+        assert_eq!(rt; inbox.lost(), 2);
+        Ok(())
+    }
+}
