@@ -1,6 +1,8 @@
 //! What the program answers: to each kind of command line, and where a writer fails.
 
+mod debugging;
 mod failures;
+mod help;
 mod running;
 mod tables;
 
