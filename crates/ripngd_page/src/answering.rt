@@ -164,6 +164,7 @@ fn explain(fault: PrintFault, response: &mut Response) -> Result<(), AllocError>
     }
 }
 
+/// Answers that there was no memory.
 fn say_out_of_memory(response: &mut Response) -> Result<(), AllocError>
     requires { IsBlank response.old }
     ensures { OnOk result (IsWithoutMemory response.new) }
@@ -175,6 +176,7 @@ fn say_out_of_memory(response: &mut Response) -> Result<(), AllocError>
     )
 }
 
+/// Answers that there would be too much to answer.
 fn say_too_long(response: &mut Response) -> Result<(), AllocError>
     requires { IsBlank response.old }
     ensures { OnOk result (IsTooLong response.new) }
