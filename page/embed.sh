@@ -4,8 +4,8 @@
 #     page/embed.sh            writes the files
 #     page/embed.sh --check    says whether they are what would be written, by its exit status
 #
-# The page is cut where scripts and a trace are put in, and at two remarks of its script. Needs bash, sed and awk. The gate calls
-# it first.
+# The page is cut where scripts and a trace are put in, and at two remarks of its script. Needs bash, sed and awk. The gate
+# calls it first.
 set -euo pipefail
 
 root=$(realpath "$(dirname "$0")/..")
