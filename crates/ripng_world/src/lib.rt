@@ -22,5 +22,3 @@ pub use network::{NetConfig, NetInterface, NetRefused, Node, ROUTER_LIMIT};
 pub use rounds::{Round, RoundsRefused};
 pub use sent::Sent;
 
-#[cfg(test)]
-mod tests;

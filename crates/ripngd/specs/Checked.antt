@@ -1,8 +1,12 @@
--- What `check` writes of a configuration that it accepts (the format is this project's choice).
-use Rattle.std.specs.Prelude.{ℕ, ◌+◌, ◌-◌, ◌^◌, List, ◌++◌, codes, decimal, length, min, vec_len, Vec}
+-- What `check` writes of a configuration that it accepts, and what it refuses (the format is this project's choice).
+use Rattle.std.specs.Prelude.{◌≢◌, ℕ, ◌+◌, ◌-◌, ◌^◌, Bool, true, false, List, ◌++◌, Option, codes, decimal, length, min, vec_len, Vec}
 use Rattle.std.specs.List.{sum_by}
+use Rattle.std.specs.Io.KnownBytes.{Appends}
 use Rattle.std.specs.declared.alloc.Global.{Global}
+use Rattle.ripngd_config.specs.Configuration.{IsConfigured, Refuses}
 use Rattle.ripngd_config.specs.declared.configuration.Config.{Config}
+use Rattle.ripngd_config.specs.declared.fault.ConfigFault.{ConfigFault}
+use Rattle.ripngd_config.specs.declared.fault.ConfigFault.TheVariants.{OutOfMemory}
 use Rattle.ripngd_config.specs.declared.peer.Peer.{Peer}
 use Rattle.ripngd_show.specs.Shown.{newline}
 
@@ -15,3 +19,9 @@ abbrev pub counts_line : Config → List ℕ
 counts_line c =
     codes "ok interfaces " ++ (decimal (length c.router.interfaces) ++ (codes " prefixes " ++ (decimal (length c.router.prefixes)
     ++ (codes " peers " ++ (decimal (peers_counted c.peers.items) ++ newline)))))
+
+-- a text is a configuration, of a router that is not quiet and has the default tag 0, and its line was written; or it is
+-- refused, and not for want of memory. What is then written is not said here
+abbrev pub IsChecked : List ℕ → Bool → Option (List ℕ) → Option (List ℕ) → Type 0
+IsChecked text true old new = (config : Config) × IsConfigured text 0 false config × Appends old new (counts_line config)
+IsChecked text false old new = (fault : ConfigFault) × (fault ≢ OutOfMemory) × Refuses text 0 false fault

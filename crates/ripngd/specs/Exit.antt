@@ -1,5 +1,5 @@
 -- What the exit statuses of ripngd tell (they are this project's choice).
-use Rattle.std.specs.Prelude.{◌≢◌, ◌⊎◌, ℕ, Bool, List, [], Option}
+use Rattle.std.specs.Prelude.{◌≡◌, ◌≢◌, ◌⊎◌, ℕ, Bool, true, List, [], Option, ⊤}
 use Rattle.std.specs.Io.KnownBytes.{Appends}
 use Rattle.clap.specs.Faults.{fault_of}
 use Rattle.clap.specs.Kinds.{IsAmong}
@@ -18,24 +18,43 @@ use Rattle.ripngd_show.specs.declared.print_fault.PrintFault.TheVariants as faul
 use Rattle.ripngd_page.specs.declared.fault.ServeFault.{ServeFault}
 use Rattle.ripngd_page.specs.declared.fault.ServeFault.TheVariants as serving
 use Rattle.ripngd.specs.Asked.{Asks}
+use Rattle.ripngd.specs.Checked.{IsChecked}
 use Rattle.ripngd.specs.CommandLine.{ripngd}
+use Rattle.ripngd.specs.Failing.{MayFail}
+use Rattle.ripngd.specs.Ran.{IsRan}
+use Rattle.ripngd.specs.Tabled.{IsTabled}
+use Rattle.ripngd_page.specs.Film.{film_text, name_of}
 use Rattle.ripngd_show.specs.Shown.{IsShown}
 
--- the bytes of a writer grew by the answer to what is asked: by the lines of a datagram. What the other subcommands
--- print is not said here
-abbrev pub AnswersAsk : Ask → Bool → Option (List ℕ) → Option (List ℕ) → Type 0
-AnswersAsk (asks.Show hex) accepted old new = (text : List ℕ) × IsShown hex.now accepted text × Appends old new text
-AnswersAsk (asks.Check file) accepted old new = Unit {0}
-AnswersAsk (asks.Lab file) accepted old new = Unit {0}
-AnswersAsk (asks.Trace file) accepted old new = Unit {0}
-AnswersAsk (asks.Run order) accepted old new = Unit {0}
-AnswersAsk (asks.Table file) accepted old new = Unit {0}
-AnswersAsk (asks.Page serve) accepted old new = Unit {0}
-AnswersAsk (asks.Film file) accepted old new = Unit {0}
+-- the bytes of a writer grew by the answer to what is asked, of a text that the file which is asked about may hold. What
+-- `lab` prints, and that a trace is that of its script, is not said here; nor what a server answers
+abbrev pub AnswersAsk : (List ℕ → List ℕ → Type 0) → Ask → Bool → Option (List ℕ) → Option (List ℕ) → Type 0
+AnswersAsk holds (asks.Show hex) accepted old new = (text : List ℕ) × IsShown hex.now accepted text × Appends old new text
+AnswersAsk holds (asks.Check file) accepted old new =
+    (config : List ℕ) × holds file.now config × IsChecked config accepted old new
+AnswersAsk holds (asks.Lab file) accepted old new = (script : List ℕ) × holds file.now script
+AnswersAsk holds (asks.Trace file) accepted old new = (script : List ℕ) × holds file.now script
+AnswersAsk holds (asks.Run order) accepted old new =
+    (config : List ℕ) × holds order.config.now config × IsRan order config accepted old new
+AnswersAsk holds (asks.Table file) accepted old new = (log : List ℕ) × holds file.now log
+    × (text : List ℕ) × IsTabled log accepted text × Appends old new text
+AnswersAsk holds (asks.Page serve) accepted old new = accepted ≡ true
+AnswersAsk holds (asks.Film file) accepted old new = (script : List ℕ) × holds file.now script
+    × (trace : List ℕ) × Appends old new (film_text (name_of file.now) script trace)
 
 -- the bytes of a writer grew by the answer to what the words ask
-abbrev pub AnswersWords : List Text → Bool → Option (List ℕ) → Option (List ℕ) → Type 0
-AnswersWords words accepted old new = (ask : Ask) × Asks words ask × AnswersAsk ask accepted old new
+abbrev pub AnswersWords : (List ℕ → List ℕ → Type 0) → List Text → Bool → Option (List ℕ) → Option (List ℕ) → Type 0
+AnswersWords holds words accepted old new = (ask : Ask) × Asks words ask × AnswersAsk holds ask accepted old new
+
+-- a file may hold anything: of those of the system nothing is known
+abbrev pub holds_any : List ℕ → List ℕ → Type 0
+holds_any file text = ⊤
+
+-- what failed is what is printed, or memory, or it is of what the words ask
+abbrev pub FailsWords : List Text → Failure → Type 0
+FailsWords words failures.Output = ⊤
+FailsWords words failures.OutOfMemory = ⊤
+FailsWords words failure = (ask : Ask) × Asks words ask × MayFail ask failure
 
 -- the words ask for help, or for the version
 abbrev pub AsksForHelp : List Text → Type 0

@@ -1,5 +1,11 @@
 //! `page`: the page of a laboratory, served to browsers, or written with what happens in a script.
 
+ghost use Rattle.std.specs.Prelude.{◌≡◌, ℕ, Err, IfErr, IfOk, List, OnOk, true};
+ghost use Rattle.std.specs.Io.KnownBytes.{Appends};
+ghost use Rattle.ripngd.specs.Failing.{MayFail};
+ghost use Rattle.ripngd.specs.declared.asked.Ask.TheVariants as asks;
+ghost use Rattle.ripngd_page.specs.Film.{film_text, name_of};
+
 use crate::asked::Serve;
 use crate::failure::Failure;
 use ripngd_page::{serve_page, write_film};
@@ -18,7 +24,10 @@ pub(crate) fn serve<'a, R: AllocGlobal + Clock + Net + RandomSource, O: Write>(
     rt: &R,
     order: Serve,
     out: &mut O,
-) -> Result<bool, Failure<'a>> {
+) -> Result<bool, Failure<'a>>
+    ensures served { IfOk result (λ accepted. accepted ≡ true) }
+    ensures failed { IfErr result (MayFail (asks.Page order)) }
+{
     serve_page(rt, order.port, Some(u64::from(order.requests)), out)?;
     Ok(true)
 }
@@ -33,6 +42,10 @@ pub(crate) fn film<W: Write>(
     file: &str,
     script: &[u8],
     out: &mut W,
-) -> Result<bool, PrintFault> {
+) -> Result<bool, PrintFault>
+    ensures film { OnOk result ((trace : List ℕ)
+        × Appends (W.contents out.old) (W.contents out.new) (film_text (name_of file.now) script.now trace)) }
+    ensures out_of_memory { result ≡ Err PrintFault.OutOfMemory → out.new ≡ out.old }
+{
     write_film(alloc, file, script, out)
 }

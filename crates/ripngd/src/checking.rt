@@ -1,11 +1,8 @@
 //! `check`: whether a text is a configuration that a router can run on.
 
-ghost use Rattle.std.specs.Prelude.{◌≡◌, ◌≢◌, Ok, IfOk, OnOk, false, true};
+ghost use Rattle.std.specs.Prelude.{◌≡◌, ◌≢◌, IfOk, OnOk, false};
 ghost use Rattle.std.specs.Io.KnownBytes.{Appends};
-ghost use Rattle.ripngd_config.specs.Configuration.{IsConfigured, Refuses};
-ghost use Rattle.ripngd_config.specs.declared.configuration.Config as configured;
-ghost use Rattle.ripngd_config.specs.declared.fault.ConfigFault as refusal;
-ghost use Rattle.ripngd.specs.Checked.{counts_line, peers_counted};
+ghost use Rattle.ripngd.specs.Checked.{IsChecked, counts_line, peers_counted};
 
 use ripngd_config::{Config, ConfigFault, Peer, read_config};
 use ripngd_show::PrintFault;
@@ -18,9 +15,7 @@ use std::io::{self, Write};
 /// # Errors
 /// `OutOfMemory` before anything is written; `Write` where `out` failed.
 pub fn check<W: Write>(alloc: Global, text: &[u8], out: &mut W) -> Result<bool, PrintFault>
-    ensures accepted { result ≡ Ok true → (config : configured.Config) × IsConfigured text.now 0 false config
-        × Appends (W.contents out.old) (W.contents out.new) (counts_line config) }
-    ensures refused { result ≡ Ok false → (fault : refusal.ConfigFault) × (fault ≢ ConfigFault.OutOfMemory) × Refuses text.now 0 false fault }
+    ensures checked { IfOk result (λ accepted. IsChecked text.now accepted (W.contents out.old) (W.contents out.new)) }
     ensures out_of_memory { result ≡ Err PrintFault.OutOfMemory → out.new ≡ out.old }
 {
     match read_config(alloc, text, 0, false) {

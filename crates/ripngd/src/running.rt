@@ -1,6 +1,13 @@
 //! `run`: one router over UDP sockets of loopback.
 
+ghost use Rattle.std.specs.Prelude.{◌≡◌, IfErr, IfOk, List, OnOk, false, option_map, ℕ};
+ghost use Rattle.std.specs.Io.KnownBytes.{Appends};
 ghost use Rattle.ripngd_config.specs.Configuration.{HasOneEach};
+ghost use Rattle.ripngd_engine.specs.Seen.{Ran, seen};
+ghost use Rattle.ripngd.specs.declared.asked.Ask.TheVariants as asks;
+ghost use Rattle.ripngd.specs.Failing.{FailsLogged, FailsTurns, MayFail};
+ghost use Rattle.ripngd.specs.Ran.{IsRan, ShowsTurns, words_of};
+ghost use Rattle.ripngd.specs.Tabled.{table_text};
 
 use crate::asked::Order;
 use crate::checking::write_refusal;
@@ -8,7 +15,7 @@ use crate::failure::{Failure, failed};
 use crate::forwarding::write_table;
 use crate::losses::with_link;
 use crate::plan::{Plan, plan_of};
-use crate::reading::read;
+use crate::reading::FileSource;
 use rand_pcg::Pcg32;
 use ripngd_config::Config;
 use ripngd_engine::{Engine, Report, Unwatched, Watch};
@@ -28,14 +35,19 @@ use std::rt::{Clock, Files};
 ///
 /// # Errors
 /// The first thing that failed: to read the configuration, to make the log, to bind a port, the link, memory, or `out`.
-pub(crate) fn run<'a, R: Files + Clock + Net + AllocGlobal, O: Write, E: Write>(
+pub(crate) fn run<'a, R: Files + Clock + Net + AllocGlobal, F: FileSource, O: Write, E: Write>(
     rt: &R,
+    files: &F,
     order: Order<'a>,
     out: &mut O,
     err: &mut E,
     lost: &mut Report,
-) -> Result<bool, Failure<'a>> {
-    let text = read(rt, order.config)?;
+) -> Result<bool, Failure<'a>>
+    ensures ran { IfOk result (λ accepted. (config : List ℕ) × F.holds files.now order.entry.config.now config
+        × IsRan order.entry config accepted (O.contents out.old) (O.contents out.new)) }
+    ensures failed { IfErr result (MayFail (asks.Run order.entry)) }
+{
+    let text = files.read(order.config)?;
     match plan_of(rt.alloc(), order, text.as_slice()) {
         Ok(plan) => {
             if plan.debug {
@@ -58,6 +70,8 @@ fn run_debugged<'a, R: Files + Clock + Net + AllocGlobal, O: Write, E: Write>(
     lost: &mut Report,
 ) -> Result<(), Failure<'a>>
     requires { HasOneEach plan.config }
+    ensures shown { OnOk result (ShowsTurns plan.entry.config plan.entry.turns (O.contents out.old) (O.contents out.new)) }
+    ensures failed { IfErr result (FailsLogged plan.entry.turns (option_map (λ s. s.now) plan.entry.log)) }
 {
     let mut lines = DebugLines::new(&mut *err);
     let outcome = run_plan(rt, plan, &mut lines, out, lost);
@@ -75,6 +89,8 @@ fn run_plan<'a, R: Files + Clock + Net + AllocGlobal, V: Watch, O: Write>(
     lost: &mut Report,
 ) -> Result<(), Failure<'a>>
     requires { HasOneEach plan.config }
+    ensures shown { OnOk result (ShowsTurns plan.entry.config plan.entry.turns (O.contents out.old) (O.contents out.new)) }
+    ensures failed { IfErr result (FailsLogged plan.entry.turns (option_map (λ s. s.now) plan.entry.log)) }
 {
     let Plan {
         config,
@@ -105,6 +121,8 @@ fn run_logged<'a, R: Clock + Net + AllocGlobal, W: Write, V: Watch, O: Write>(
     lost: &mut Report,
 ) -> Result<(), Failure<'a>>
     requires { HasOneEach config }
+    ensures shown { OnOk result (ShowsTurns config turns (O.contents out.old) (O.contents out.new)) }
+    ensures failed { IfErr result (FailsTurns turns) }
 {
     let Config {
         router,
@@ -137,7 +155,13 @@ fn show_turns<'a, 'b, R: Clock, W: Write, V: Watch, O: Write>(
     log: &mut W,
     watch: &mut V,
     out: &mut O,
-) -> Result<(), Failure<'a>> {
+) -> Result<(), Failure<'a>>
+    requires { engine.old.ended ≡ false }
+    ensures ran { OnOk result (Ran turns (seen words_of W.contents engine.old log.old)
+        (seen words_of W.contents engine.new log.new)) }
+    ensures shown { OnOk result (Appends (O.contents out.old) (O.contents out.new) (table_text engine.new.fib)) }
+    ensures failed { IfErr result (FailsTurns turns) }
+{
     engine.turns_watched(turns, log, watch)?;
     write_table(engine.fib(), out).map_err(|_| Failure::Output)
 }

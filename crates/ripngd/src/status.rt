@@ -1,8 +1,10 @@
 //! The program on two writers: each subcommand with its exit status.
 
-ghost use Rattle.std.specs.Prelude.{◌≡◌, ◌≢◌, ◌⊎◌, ◌≤◌, IfOk, Ok, false, map, true};
+ghost use Rattle.std.specs.Prelude.{◌≡◌, ◌≢◌, ◌⊎◌, ◌≤◌, IfErr, IfOk, Ok, false, map, true};
 ghost use Rattle.clap.specs.Words.{kind_of};
-ghost use Rattle.ripngd.specs.Exit.{AnswersAsk, AnswersWords, AsksForHelp, HasFault};
+ghost use Rattle.ripngd.specs.Exit.{AnswersAsk, AnswersWords, AsksForHelp, FailsWords, HasFault, holds_any};
+ghost use Rattle.ripngd.specs.Failing.{MayFail};
+ghost use Rattle.ripngd.specs.declared.failure.Failure.TheVariants as failures;
 
 use crate::asked::Ask;
 use crate::browser::{film, serve};
@@ -12,7 +14,7 @@ use crate::failure::Failure;
 use crate::forwarding::table;
 use crate::laboratory::{lab, trace};
 use crate::losses::{NOTHING_LOST, write_losses};
-use crate::reading::read;
+use crate::reading::{FileSource, SystemFiles};
 use crate::running::run;
 use clap::error::ErrorKind;
 use ripngd_engine::Report;
@@ -54,15 +56,15 @@ pub fn program<R: AllocGlobal + Files + Clock + Net + RandomSource, O: Write, E:
     out: &mut O,
     err: &mut E,
 ) -> u8
-    ensures done { result ≡ 0 → AnswersWords (map (λ w. w.now) words.now) true (O.contents out.old) (O.contents out.new)
+    ensures done { result ≡ 0 → AnswersWords holds_any (map (λ w. w.now) words.now) true (O.contents out.old) (O.contents out.new)
         ⊎ AsksForHelp (map (λ w. w.now) words.now) }
     ensures refused { result ≡ 1
-        → AnswersWords (map (λ w. w.now) words.now) false (O.contents out.old) (O.contents out.new) }
+        → AnswersWords holds_any (map (λ w. w.now) words.now) false (O.contents out.old) (O.contents out.new) }
     ensures usage { result ≡ 2 → HasFault (map (λ w. w.now) words.now) }
     ensures in_range { result ≤ 3 }
 {
     let mut lost = NOTHING_LOST;
-    let status = match outcome(rt, words, out, err, &mut lost) {
+    let status = match outcome(rt, &SystemFiles(rt), words, out, err, &mut lost) {
         Ok(status) => status,
         Err(failure) => report(failure, err),
     };
@@ -72,61 +74,88 @@ pub fn program<R: AllocGlobal + Files + Clock + Net + RandomSource, O: Write, E:
 }
 
 /// Does what the words ask for.
-fn outcome<'a, R: AllocGlobal + Files + Clock + Net + RandomSource, O: Write, E: Write>(
+fn outcome<
+    'a,
+    R: AllocGlobal + Files + Clock + Net + RandomSource,
+    F: FileSource,
+    O: Write,
+    E: Write,
+>(
     rt: &R,
+    files: &F,
     words: &'a [&'a str],
     out: &mut O,
     err: &mut E,
     lost: &mut Report,
 ) -> Result<Status, Failure<'a>>
     ensures done { result ≡ Ok Status.Done
-        → AnswersWords (map (λ w. w.now) words.now) true (O.contents out.old) (O.contents out.new)
+        → AnswersWords (F.holds files.now) (map (λ w. w.now) words.now) true (O.contents out.old) (O.contents out.new)
         ⊎ AsksForHelp (map (λ w. w.now) words.now) }
     ensures refused { result ≡ Ok Status.Refused
-        → AnswersWords (map (λ w. w.now) words.now) false (O.contents out.old) (O.contents out.new) }
+        → AnswersWords (F.holds files.now) (map (λ w. w.now) words.now) false (O.contents out.old) (O.contents out.new) }
     ensures usage { result ≡ Ok Status.Usage → HasFault (map (λ w. w.now) words.now) }
+    ensures failed { IfErr result (FailsWords (map (λ w. w.now) words.entry.now)) }
 {
     match ask(rt.alloc(), words) {
-        Ok(asked) => answer(rt, asked, out, err, lost),
+        Ok(asked) => answer(rt, files, asked, out, err, lost),
         Err(error) => explain(&error, out, err),
     }
 }
 
 /// Does what is asked, and answers whether what was given is accepted.
-fn accepts<'a, R: AllocGlobal + Files + Clock + Net + RandomSource, O: Write, E: Write>(
+fn accepts<
+    'a,
+    R: AllocGlobal + Files + Clock + Net + RandomSource,
+    F: FileSource,
+    O: Write,
+    E: Write,
+>(
     rt: &R,
+    files: &F,
     asked: Ask<'a>,
     out: &mut O,
     err: &mut E,
     lost: &mut Report,
 ) -> Result<bool, Failure<'a>>
-    ensures { IfOk result (λ accepted. AnswersAsk asked.entry accepted (O.contents out.old) (O.contents out.new)) }
+    ensures answered { IfOk result (λ accepted. AnswersAsk (F.holds files.now) asked.entry accepted
+        (O.contents out.old) (O.contents out.new)) }
+    ensures failed { IfErr result (MayFail asked.entry) }
 {
     match asked {
         Ask::Show(hex) => Ok(show(rt.alloc(), hex, out)?),
-        Ask::Check(file) => Ok(check(rt.alloc(), read(rt, file)?.as_slice(), out)?),
-        Ask::Lab(file) => Ok(lab(rt.alloc(), read(rt, file)?.as_slice(), out)?),
-        Ask::Trace(file) => Ok(trace(rt.alloc(), read(rt, file)?.as_slice(), out)?),
-        Ask::Run(order) => run(rt, order, out, err, lost),
-        Ask::Table(file) => Ok(table(rt.alloc(), read(rt, file)?.as_slice(), out)?),
+        Ask::Check(file) => Ok(check(rt.alloc(), files.read(file)?.as_slice(), out)?),
+        Ask::Lab(file) => Ok(lab(rt.alloc(), files.read(file)?.as_slice(), out)?),
+        Ask::Trace(file) => Ok(trace(rt.alloc(), files.read(file)?.as_slice(), out)?),
+        Ask::Run(order) => run(rt, files, order, out, err, lost),
+        Ask::Table(file) => Ok(table(rt.alloc(), files.read(file)?.as_slice(), out)?),
         Ask::Page(order) => serve(rt, order, out),
-        Ask::Film(file) => Ok(film(rt.alloc(), file, read(rt, file)?.as_slice(), out)?),
+        Ask::Film(file) => Ok(film(rt.alloc(), file, files.read(file)?.as_slice(), out)?),
     }
 }
 
 /// Does what is asked.
-fn answer<'a, R: AllocGlobal + Files + Clock + Net + RandomSource, O: Write, E: Write>(
+fn answer<
+    'a,
+    R: AllocGlobal + Files + Clock + Net + RandomSource,
+    F: FileSource,
+    O: Write,
+    E: Write,
+>(
     rt: &R,
+    files: &F,
     asked: Ask<'a>,
     out: &mut O,
     err: &mut E,
     lost: &mut Report,
 ) -> Result<Status, Failure<'a>>
-    ensures done { result ≡ Ok Status.Done → AnswersAsk asked.entry true (O.contents out.old) (O.contents out.new) }
-    ensures refused { result ≡ Ok Status.Refused → AnswersAsk asked.entry false (O.contents out.old) (O.contents out.new) }
+    ensures done { result ≡ Ok Status.Done
+        → AnswersAsk (F.holds files.now) asked.entry true (O.contents out.old) (O.contents out.new) }
+    ensures refused { result ≡ Ok Status.Refused
+        → AnswersAsk (F.holds files.now) asked.entry false (O.contents out.old) (O.contents out.new) }
     ensures no_usage { result ≢ Ok Status.Usage }
+    ensures failed { IfErr result (MayFail asked.entry) }
 {
-    let accepted = accepts(rt, asked, out, err, lost)?;
+    let accepted = accepts(rt, files, asked, out, err, lost)?;
     if out.flush().is_err() {
         return Err(Failure::Output);
     }
@@ -147,6 +176,7 @@ fn explain<'a, O: Write, E: Write>(
         → (kind_of error.now ≡ ErrorKind.DisplayHelp) ⊎ (kind_of error.now ≡ ErrorKind.DisplayVersion) }
     ensures usage { result ≡ Ok Status.Usage → kind_of error.now ≢ ErrorKind.OutOfMemory }
     ensures not_refused { result ≢ Ok Status.Refused }
+    ensures failed { IfErr result (λ f. (f ≡ failures.OutOfMemory) ⊎ (f ≡ failures.Output)) }
 {
     match error.kind() {
         ErrorKind::OutOfMemory => Err(Failure::OutOfMemory),
@@ -160,7 +190,8 @@ fn explain<'a, O: Write, E: Write>(
 
 /// Writes help or the version that was asked for.
 fn print<'a, O: Write>(help: &clap::Error, out: &mut O) -> Result<Status, Failure<'a>>
-    ensures { IfOk result (λ status. status ≡ Status.Done) }
+    ensures done { IfOk result (λ status. status ≡ Status.Done) }
+    ensures failed { IfErr result (λ f. f ≡ failures.Output) }
 {
     write!(out, "{help}").map_err(|_| Failure::Output)?;
     out.flush().map_err(|_| Failure::Output)?;

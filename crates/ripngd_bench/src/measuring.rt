@@ -92,36 +92,82 @@ fn lost<S: RouteStore>(rt: &HostRuntime, told: &Neighborhood) -> io::Result<u128
     ticked(rt, &mut router, 180_000)
 }
 
+/// What the Responses of two neighbors took a router, and the regular update between them.
+#[derive(Clone, Copy)]
+struct Hearing {
+    learned: u128,
+    first_regular: u128,
+    refreshed: u128,
+    not_preferred: u128,
+}
+
+/// A router learns all routes, tells them for the first time, and hears them again from either neighbor.
+fn measure_hearing<S: RouteStore>(
+    rt: &HostRuntime,
+    router: &mut Router<S>,
+    told: &Neighborhood,
+) -> io::Result<Hearing> {
+    let (begin, later) = (moment(0)?, moment(1)?);
+    Ok(Hearing {
+        learned: heard(rt, router, 2, begin, &told.in_order)?,
+        // The first regular update is due at once, and takes all marks.
+        first_regular: ticked(rt, router, 0)?,
+        refreshed: heard(rt, router, 2, later, &told.in_order)?,
+        not_preferred: heard(rt, router, 3, later, &told.dearer)?,
+    })
+}
+
+/// What the ticks of a router took that holds all routes.
+#[derive(Clone, Copy)]
+struct Ticking {
+    idle: u128,
+    triggered: u128,
+    regular: u128,
+}
+
+/// A router with no mark ticks in vain, tells news, and then tells all routes.
+fn measure_ticking<S: RouteStore>(
+    rt: &HostRuntime,
+    router: &mut Router<S>,
+    told: &Neighborhood,
+) -> io::Result<Ticking> {
+    let idle = idled(rt, router, 2)?;
+    let _ = heard(rt, router, 2, moment(1)?, &told.news)?;
+    Ok(Ticking {
+        idle,
+        triggered: ticked(rt, router, 3)?,
+        // Past the next regular update, and before the first route is due.
+        regular: ticked(rt, router, 60_000)?,
+    })
+}
+
+/// The nanoseconds of a router that learns all routes in a random order.
+fn learned_at_random<S: RouteStore>(rt: &HostRuntime, told: &Neighborhood) -> io::Result<u128> {
+    let mut router: Router<S> = fresh(rt.alloc(), false)?;
+    heard(rt, &mut router, 2, moment(0)?, &told.shuffled)
+}
+
 /// Measures a router over a store that comes to hold what its neighbors tell.
 pub fn measure_router<S: RouteStore>(
     rt: &HostRuntime,
     told: &Neighborhood,
 ) -> io::Result<RouterTimes> {
     let routes = told.sites.len();
-    let (begin, later) = (moment(0)?, moment(1)?);
     let mut router: Router<S> = fresh(rt.alloc(), false)?;
-    let learned = heard(rt, &mut router, 2, begin, &told.in_order)?;
-    // The first regular update is due at once, and takes all marks.
-    let first_regular = ticked(rt, &mut router, 0)?;
-    let refreshed = heard(rt, &mut router, 2, later, &told.in_order)?;
-    let not_preferred = heard(rt, &mut router, 3, later, &told.dearer)?;
-    let idle = idled(rt, &mut router, 2)?;
-    let _ = heard(rt, &mut router, 2, later, &told.news)?;
-    let triggered = ticked(rt, &mut router, 3)?;
-    // Past the next regular update, and before the first route is due.
-    let regular = ticked(rt, &mut router, 60_000)?;
-    let mut other: Router<S> = fresh(rt.alloc(), false)?;
-    let at_random = heard(rt, &mut other, 2, begin, &told.shuffled)?;
+    let hearing = measure_hearing(rt, &mut router, told)?;
+    let ticking = measure_ticking(rt, &mut router, told)?;
+    let at_random = learned_at_random::<S>(rt, told)?;
+    let lost = lost::<S>(rt, told)?;
     Ok(RouterTimes {
-        learned_ns: each(learned, routes),
+        learned_ns: each(hearing.learned, routes),
         learned_at_random_ns: each(at_random, routes),
-        refreshed_ns: each(refreshed, routes),
-        not_preferred_ns: each(not_preferred, routes),
-        idle_tick_ns: each(idle, 1_000),
-        lost_ns: each(lost::<S>(rt, told)?, routes),
-        first_told_ns: each(first_regular, routes.saturating_mul(2)),
-        told_ns: each(regular, routes.saturating_mul(2)),
-        triggered_ns: each(triggered, ROOM.min(routes).saturating_mul(2)),
+        refreshed_ns: each(hearing.refreshed, routes),
+        not_preferred_ns: each(hearing.not_preferred, routes),
+        idle_tick_ns: each(ticking.idle, 1_000),
+        lost_ns: each(lost, routes),
+        first_told_ns: each(hearing.first_regular, routes.saturating_mul(2)),
+        told_ns: each(ticking.regular, routes.saturating_mul(2)),
+        triggered_ns: each(ticking.triggered, ROOM.min(routes).saturating_mul(2)),
     })
 }
 

@@ -16,6 +16,3 @@ pub use printing::{print_routes, print_sent};
 pub use script::{lab, watched};
 pub use stop::Refusal;
 pub use watching::Watch;
-
-#[cfg(test)]
-mod tests;

@@ -1,5 +1,5 @@
 -- What is asked of the page's server, and what it answers.
-use Rattle.std.specs.Prelude.{◌≡◌, ◌≢◌, ◌⊎◌, ◌≤◌, ℕ, Bool, List, [], ◌∷◌, ◌++◌, codes, length, IsUtf8}
+use Rattle.std.specs.Prelude.{◌≡◌, ◌≢◌, ◌⊎◌, ◌≤◌, ◌<◌, ℕ, Bool, List, [], ◌∷◌, codes, length, IsUtf8}
 use Rattle.http.specs.declared.request.Parts.{Parts}
 use Rattle.http.specs.declared.request.Request.{Request}
 use Rattle.http.specs.Request.{head_of, body_of}
@@ -44,18 +44,34 @@ abbrev pub IsMethodAnswer : List ℕ → Response → Type 0
 IsMethodAnswer method = IsResponse 405 ((codes "allow", method) ∷ fields_with (codes "text/plain; charset=utf-8"))
     (codes "no such method here\n")
 
--- a text of this kind, up to 32 MiB, is answered; or that it would be longer; or that there was no memory for it
-abbrev pub IsPrinted : (List ℕ → Type 0) → Response → Type 0
-IsPrinted Kind r = ((text : List ℕ) × Kind text × (length text ≤ 33554432) × IsTextAnswer 200 text r)
-    ⊎ (IsTextAnswer 422 (codes "the answer is too long\n") r) ⊎ (IsTextAnswer 503 (codes "out of memory\n") r)
+-- it is answered that the answer would be too long
+abbrev pub IsTooLong : Response → Type 0
+IsTooLong = IsTextAnswer 422 (codes "the answer is too long\n")
 
--- the answer to what is asked, with this body; that the text is a trace is not said here
+-- it is answered that there was no memory
+abbrev pub IsWithoutMemory : Response → Type 0
+IsWithoutMemory = IsTextAnswer 503 (codes "out of memory\n")
+
+-- a text is answered where it has at most 32 MiB, else that it is too long
+abbrev pub IsPrinted : List ℕ → Response → Type 0
+IsPrinted text r = ((length text ≤ 33554432) × IsTextAnswer 200 text r) ⊎ ((33554432 < length text) × IsTooLong r)
+
+-- the lines of a datagram are answered, or that there was no memory for them
+abbrev pub IsLinesAnswer : List ℕ → Response → Type 0
+IsLinesAnswer digits r =
+    ((accepted : Bool) × (text : List ℕ) × IsShown digits accepted text × IsPrinted text r) ⊎ (IsWithoutMemory r)
+
+-- some text is answered, up to 32 MiB, or why there is none; that it is a trace is not said here
+abbrev pub IsTraceAnswer : Response → Type 0
+IsTraceAnswer r = ((text : List ℕ) × (length text ≤ 33554432) × IsTextAnswer 200 text r) ⊎ (IsTooLong r) ⊎ (IsWithoutMemory r)
+
+-- the answer to what is asked, with this body
 abbrev pub IsAnswer : Asked → List ℕ → Response → Type 0
 IsAnswer asks.Stranger body r = IsTextAnswer 403 (codes "only the page itself may ask\n") r
 IsAnswer asks.Page body r = IsPageAnswer r
-IsAnswer asks.Trace body r = IsPrinted (λ text. Unit {0}) r
-IsAnswer asks.Show body r = (¬ (IsUtf8 body) × IsTextAnswer 400 (codes "these are no digits\n") r)
-    ⊎ (IsPrinted (λ text. (accepted : Bool) × IsShown body accepted text) r)
+IsAnswer asks.Trace body r = IsTraceAnswer r
+IsAnswer asks.Show body r =
+    (¬ (IsUtf8 body) × IsTextAnswer 400 (codes "these are no digits\n") r) ⊎ (IsUtf8 body × IsLinesAnswer body r)
 IsAnswer asks.NotGet body r = IsMethodAnswer (codes "GET") r
 IsAnswer asks.NotPost body r = IsMethodAnswer (codes "POST") r
 IsAnswer asks.OtherPath body r = IsTextAnswer 404 (codes "there is no such page\n") r

@@ -2,3 +2,4 @@ pub mod Texts
 pub mod Film
 pub mod Welcome
 pub mod Answering
+pub mod Serving

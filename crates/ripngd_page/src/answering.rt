@@ -1,9 +1,8 @@
 //! Answers as they are filled in.
 
-ghost use Rattle.std.specs.Prelude.{◌≡◌, ◌≤◌, ◌≢◌, ◌⊎◌, Bool, List, ℕ, [], ◌∷◌, ◌++◌, codes, length, IfOk, OnOk, Ok, Err, Result};
-ghost use Rattle.http_server.specs.Response.{IsBlank, IsResponse, fields_of};
-ghost use Rattle.ripngd_show.specs.Shown.{IsShown};
-ghost use Rattle.ripngd_page.specs.Answering.{IsAnswer, IsMethodAnswer, IsPageAnswer, IsPrinted, IsTextAnswer, fields_with};
+ghost use Rattle.std.specs.Prelude.{◌≡◌, ◌⊎◌, ◌++◌, OnOk};
+ghost use Rattle.http_server.specs.Response.{IsBlank, fields_of};
+ghost use Rattle.ripngd_page.specs.Answering.{IsAnswer, IsLinesAnswer, IsMethodAnswer, IsPageAnswer, IsPrinted, IsTextAnswer, IsTooLong, IsWithoutMemory, fields_with};
 ghost use Rattle.ripngd_page.specs.Texts.{tail_text};
 
 use crate::asked::Asked;
@@ -129,34 +128,60 @@ fn answer_show(alloc: Global, digits: &[u8], response: &mut Response) -> Result<
     }
 }
 
-/// Answers with the lines of the datagram that digits stand for.
+/// Answers with the lines of the datagram that digits stand for. They are never many more bytes than the digits.
 fn answer_digits(alloc: Global, hex: &str, response: &mut Response) -> Result<(), AllocError>
     requires { IsBlank response.old }
-    ensures { OnOk result (IsPrinted (λ text. (accepted : Bool) × IsShown hex.now accepted text) response.new) }
+    ensures { OnOk result (IsLinesAnswer hex.now response.new) }
 {
-    let mut printed: Bounded<ANSWER_LIMIT> = Bounded::new(alloc);
+    let mut printed = Vec::new(alloc);
     match show(alloc, hex, &mut printed) {
-        Ok(_) => say(StatusCode::OK, printed.as_bytes(), response),
-        Err(fault) => explain(fault, response),
+        Ok(_) => give_lines(printed.as_slice(), response),
+        // Memory is written to, and refuses nothing else.
+        Err(_) => say_out_of_memory(response),
+    }
+}
+
+/// Answers with lines, if they are not too many bytes.
+fn give_lines(lines: &[u8], response: &mut Response) -> Result<(), AllocError>
+    requires { IsBlank response.old }
+    ensures { OnOk result (IsPrinted lines.now response.new) }
+{
+    if lines.len() > ANSWER_LIMIT {
+        say_too_long(response)
+    } else {
+        say(StatusCode::OK, lines, response)
     }
 }
 
 /// Answers why there is nothing that was printed.
 fn explain(fault: PrintFault, response: &mut Response) -> Result<(), AllocError>
     requires { IsBlank response.old }
-    ensures { OnOk result (IsTextAnswer 422 (codes "the answer is too long\n") response.new
-        ⊎ IsTextAnswer 503 (codes "out of memory\n") response.new) }
+    ensures { OnOk result (IsTooLong response.new ⊎ IsWithoutMemory response.new) }
 {
     match fault {
-        PrintFault::OutOfMemory => say(
-            StatusCode::SERVICE_UNAVAILABLE,
-            b"out of memory\n",
-            response,
-        ),
-        PrintFault::Write => say(
-            StatusCode::UNPROCESSABLE_ENTITY,
-            b"the answer is too long\n",
-            response,
-        ),
+        PrintFault::OutOfMemory => say_out_of_memory(response),
+        PrintFault::Write => say_too_long(response),
     }
+}
+
+fn say_out_of_memory(response: &mut Response) -> Result<(), AllocError>
+    requires { IsBlank response.old }
+    ensures { OnOk result (IsWithoutMemory response.new) }
+{
+    say(
+        StatusCode::SERVICE_UNAVAILABLE,
+        b"out of memory\n",
+        response,
+    )
+}
+
+fn say_too_long(response: &mut Response) -> Result<(), AllocError>
+    requires { IsBlank response.old }
+    ensures { OnOk result (IsTooLong response.new) }
+{
+    say(
+        StatusCode::UNPROCESSABLE_ENTITY,
+        b"the answer is too long\n",
+        response,
+    )
 }

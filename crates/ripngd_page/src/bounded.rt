@@ -34,7 +34,9 @@ impl<const LIMIT: usize> Bounded<LIMIT> {
 }
 
 impl<const LIMIT: usize> Write for Bounded<LIMIT> {
-    ghost use Rattle.std.specs.Prelude.{Some};
+    ghost use Rattle.std.specs.Prelude.{◌⊎◌, Some};
+    ghost use Rattle.std.specs.IoError.{error_kind};
+    ghost use Rattle.std.specs.declared.io.ErrorKind.TheVariants as kinds;
 
     ghost contents = { λ b. Some b.bytes.items };
 
@@ -45,6 +47,8 @@ impl<const LIMIT: usize> Write for Bounded<LIMIT> {
         ensures all { IfOk result (λ n. (n ≡ length piece.now) × (self.new.bytes.items ≡ self.old.bytes.items ++ piece.now)) }
         ensures none { OnErr result (self.new.bytes.items ≡ self.old.bytes.items) }
         ensures refused { LIMIT < length self.old.bytes.items + length piece.now → IsErr result }
+        ensures why { IfErr result (λ e. (error_kind e ≡ kinds.OutOfMemory)
+            ⊎ ((LIMIT < length self.old.bytes.items + length piece.now) × (error_kind e ≡ kinds.WriteZero))) }
     {
         if piece.len() > LIMIT - self.bytes.len() {
             return Err(ErrorKind::WriteZero.into());
@@ -55,6 +59,7 @@ impl<const LIMIT: usize> Write for Bounded<LIMIT> {
 
     fn flush(&mut self) -> io::Result<()>
         ensures bytes { Keeps (Some self.old.bytes.items) (Some self.new.bytes.items) }
+        ensures ok { IsOk result }
         ensures kept { self.new ≡ self.old }
     {
         Ok(())

@@ -1,25 +1,25 @@
 //! Who may ask: a page of the web must not reach the laboratory.
 
 ghost use Rattle.std.specs.Prelude.{◌≡◌, ◌↔◌, ◌++◌, ◌⊎◌, codes, decimal, IfOk, IfSome, IsTrue};
+ghost use Rattle.std.specs.String.{string_bytes};
 ghost use Rattle.http.specs.Request.{head_of};
 ghost use Rattle.ripngd_page.specs.Welcome.{IsOwnHost, IsOwnOrigin, IsWelcome};
 
 use bytes::Bytes;
 use http::Request;
 use http::header::{HOST, HeaderValue, ORIGIN};
-use std::alloc::Global;
-use std::io::{self, Write};
+use std::alloc::{AllocError, Global};
 
 /// The hosts at which the page is served.
 #[derive(Drop)]
 pub struct Callers {
     port: u16,
     /// `127.0.0.1:PORT`
-    by_address: Vec<u8>,
+    by_address: String,
     /// `localhost:PORT`
-    by_name: Vec<u8>,
-    ghost address: { by_address.items ≡ codes "127.0.0.1:" ++ decimal port },
-    ghost name: { by_name.items ≡ codes "localhost:" ++ decimal port },
+    by_name: String,
+    ghost address: { string_bytes by_address ≡ codes "127.0.0.1:" ++ decimal port },
+    ghost name: { string_bytes by_name ≡ codes "localhost:" ++ decimal port },
 }
 
 impl Callers {
@@ -27,17 +27,13 @@ impl Callers {
     ///
     /// # Errors
     /// Want of memory.
-    pub fn new(alloc: Global, port: u16) -> io::Result<Callers>
+    pub fn new(alloc: Global, port: u16) -> Result<Callers, AllocError>
         ensures { IfOk result (λ callers. callers.port ≡ port) }
     {
-        let mut by_address = Vec::new(alloc);
-        write!(&mut by_address, "127.0.0.1:{port}")?;
-        let mut by_name = Vec::new(alloc);
-        write!(&mut by_name, "localhost:{port}")?;
         Ok(Callers {
             port,
-            by_address,
-            by_name,
+            by_address: format!(in alloc; "127.0.0.1:{port}")?,
+            by_name: format!(in alloc; "localhost:{port}")?,
         })
     }
 
@@ -66,7 +62,7 @@ impl Callers {
     fn is_own(&self, host: &[u8]) -> bool
         ensures { IsTrue result ↔ IsOwnHost self.now.port host.now }
     {
-        host == self.by_address.as_slice() || host == self.by_name.as_slice()
+        host == self.by_address.as_bytes() || host == self.by_name.as_bytes()
     }
 }
 

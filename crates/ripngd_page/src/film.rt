@@ -8,7 +8,7 @@ ghost use Rattle.ripngd_page.specs.Texts.{front_with, tail_text};
 use crate::escaping::write_escaped;
 use crate::texts::{drawing, head, middle, panes, reading};
 use ripngd_show::PrintFault;
-use std::alloc::Global;
+use std::alloc::{AllocError, Global};
 use std::io::{self, Write};
 use std::path::Path;
 
@@ -27,13 +27,37 @@ pub fn write_film<W: Write>(
         × Appends (W.contents out.old) (W.contents out.new) (film_text (name_of file.now) script.now trace)) }
     ensures out_of_memory { result ≡ Err PrintFault.OutOfMemory → out.new ≡ out.old }
 {
-    let mut trace = Vec::new(alloc);
-    let done = traced(alloc, script, &mut trace)?;
-    let mut film = Vec::new(alloc);
-    write_page(name_of(file), script, trace.as_slice(), &mut film)?;
-    match out.write_all(film.as_slice()) {
-        Ok(()) => Ok(done),
+    let Ok(film) = Film::of(alloc, file, script) else {
+        return Err(PrintFault::OutOfMemory);
+    };
+    match out.write_all(film.text.as_slice()) {
+        Ok(()) => Ok(film.done),
         Err(_) => Err(PrintFault::Write),
+    }
+}
+
+/// A film in memory.
+#[derive(Drop)]
+struct Film {
+    text: Vec<u8>,
+    /// Whether every line of its script was done.
+    done: bool,
+}
+
+impl Film {
+    /// The film of the script that a file holds. A write to memory fails for want of it alone.
+    fn of(alloc: Global, file: &str, script: &[u8]) -> Result<Film, AllocError>
+        ensures { IfOk result (λ film. (trace : List ℕ) × (film.text.items ≡ film_text (name_of file.now) script.now trace)) }
+    {
+        let mut trace = Vec::new(alloc);
+        let Ok(done) = traced(alloc, script, &mut trace) else {
+            return Err(AllocError);
+        };
+        let mut text = Vec::new(alloc);
+        match write_page(name_of(file), script, trace.as_slice(), &mut text) {
+            Ok(()) => Ok(Film { text, done }),
+            Err(_) => Err(AllocError),
+        }
     }
 }
 

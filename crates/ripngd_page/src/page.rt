@@ -10,7 +10,6 @@ use bytes::Bytes;
 use http::Request;
 use http_server::{Response, Service};
 use std::alloc::{AllocError, Global};
-use std::io;
 
 /// The bytes of a request's body, at most: a script, or a datagram's digits. A longer one is refused with 413 before it is
 /// read whole.
@@ -31,7 +30,7 @@ impl Page {
     ///
     /// # Errors
     /// Want of memory.
-    pub fn new(alloc: Global, port: u16) -> io::Result<Page>
+    pub fn new(alloc: Global, port: u16) -> Result<Page, AllocError>
         ensures { IfOk result (λ page. page.callers.port ≡ port) }
     {
         Ok(Page {

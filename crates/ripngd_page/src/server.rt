@@ -1,6 +1,10 @@
 //! The socket at which the page is served: one connection after another, with a request each.
 
-ghost use Rattle.std.specs.Prelude.{◌≡◌, IfOk};
+ghost use Rattle.std.specs.Prelude.{◌≡◌, ◌≢◌, ◌⊎◌, ℕ, Err, IfErr, OnOk};
+ghost use Rattle.std.specs.Io.KnownBytes.{Appends};
+ghost use Rattle.std.specs.IoError.{error_kind};
+ghost use Rattle.std.specs.declared.io.ErrorKind.TheVariants as kinds;
+ghost use Rattle.ripngd_page.specs.Serving.{address_line};
 
 use crate::fault::ServeFault;
 use crate::page::{BODY_LIMIT, Page};
@@ -21,7 +25,10 @@ pub struct Server<'a, R: Net> {
 }
 
 /// What an error of a socket is: want of memory, or else this.
-fn fault_of(error: &io::Error, other: ServeFault) -> ServeFault {
+fn fault_of(error: &io::Error, other: ServeFault) -> ServeFault
+    ensures memory { error_kind error.now ≡ kinds.OutOfMemory → result ≡ ServeFault.OutOfMemory }
+    ensures other { error_kind error.now ≢ kinds.OutOfMemory → result ≡ other }
+{
     match error.kind() {
         ErrorKind::OutOfMemory => ServeFault::OutOfMemory,
         _ => other,
@@ -33,7 +40,9 @@ impl<'a, R: AllocGlobal + Clock + Net + RandomSource> Server<'a, R> {
     ///
     /// # Errors
     /// `Bind` with the port where it cannot be bound; `OutOfMemory`.
-    pub fn bind(rt: &'a R, port: u16) -> Result<Server<'a, R>, ServeFault> {
+    pub fn bind(rt: &'a R, port: u16) -> Result<Server<'a, R>, ServeFault>
+        ensures refused { IfErr result (λ e. (e ≡ ServeFault.OutOfMemory) ⊎ (e ≡ ServeFault.Bind port)) }
+    {
         let bound = bind_loopback(rt, port);
         match bound {
             Ok((listener, page)) => Ok(Server { rt, listener, page }),
@@ -42,7 +51,9 @@ impl<'a, R: AllocGlobal + Clock + Net + RandomSource> Server<'a, R> {
     }
 
     /// The port at which it is served.
-    pub fn port(&self) -> u16 {
+    pub fn port(&self) -> u16
+        ensures { result ≡ self.now.page.callers.port }
+    {
         self.page.port()
     }
 
@@ -52,7 +63,9 @@ impl<'a, R: AllocGlobal + Clock + Net + RandomSource> Server<'a, R> {
     ///
     /// # Errors
     /// `Accept` where the socket gives no more connections; `OutOfMemory`.
-    pub fn serve(&mut self, requests: Option<u64>) -> Result<(), ServeFault> {
+    pub fn serve(&mut self, requests: Option<u64>) -> Result<(), ServeFault>
+        ensures refused { IfErr result (λ e. (e ≡ ServeFault.OutOfMemory) ⊎ (e ≡ ServeFault.Accept)) }
+    {
         let mut rest = requests.unwrap_or(u64::MAX);
         for _ in 0..u64::MAX {
             if rest == 0 {
@@ -66,7 +79,9 @@ impl<'a, R: AllocGlobal + Clock + Net + RandomSource> Server<'a, R> {
     }
 
     /// Waits for a connection, and answers whether anything was answered on it.
-    fn serve_next(&mut self) -> Result<bool, ServeFault> {
+    fn serve_next(&mut self) -> Result<bool, ServeFault>
+        ensures { IfErr result (λ e. (e ≡ ServeFault.OutOfMemory) ⊎ (e ≡ ServeFault.Accept)) }
+    {
         match self.listener.accept() {
             Ok((mut stream, _)) => Ok(self.attend_to(&mut stream).unwrap_or(false)),
             Err(error) if is_passing(&error) => Ok(false),
@@ -112,14 +127,21 @@ pub fn serve_page<R: AllocGlobal + Clock + Net + RandomSource, O: Write>(
     port: u16,
     requests: Option<u64>,
     out: &mut O,
-) -> Result<(), ServeFault> {
+) -> Result<(), ServeFault>
+    ensures address { OnOk result ((given : ℕ) × Appends (O.contents out.old) (O.contents out.new) (address_line given)) }
+    ensures accept { result ≡ Err ServeFault.Accept
+        → (given : ℕ) × Appends (O.contents out.old) (O.contents out.new) (address_line given) }
+    ensures bind { IfErr result (λ e. (p : ℕ) → e ≡ ServeFault.Bind p → (p ≡ port) × (out.new ≡ out.old)) }
+{
     let mut server = Server::bind(rt, port)?;
     write_address(server.port(), out).map_err(|_| ServeFault::Write)?;
     server.serve(requests)
 }
 
 /// Writes the address of the page at a port.
-fn write_address<O: Write>(port: u16, out: &mut O) -> io::Result<()> {
+fn write_address<O: Write>(port: u16, out: &mut O) -> io::Result<()>
+    ensures { OnOk result (Appends (O.contents out.old) (O.contents out.new) (address_line port)) }
+{
     writeln!(out, "http://127.0.0.1:{port}/")?;
     out.flush()
 }

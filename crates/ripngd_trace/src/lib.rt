@@ -10,6 +10,3 @@ mod tables;
 mod tracer;
 
 pub use tracer::trace;
-
-#[cfg(test)]
-mod tests;

@@ -3,8 +3,8 @@
 ghost use Rattle.std.specs.Prelude.{◌≡◌, IfOk, length};
 
 use super::addr;
-use crate::{Lab, NetConfig, NetInterface, Node, Round, RoundsRefused};
 use prefix6::{Addr6, Prefix};
+use ripng_world::{Lab, NetConfig, NetInterface, Node, Round, RoundsRefused};
 use route_table::{Moment, RouteStore, SortedRoutes};
 use router_core::Interface;
 use std::alloc::{AllocError, Global};

@@ -5,7 +5,7 @@ use super::SQUARE;
 use super::rounds::until_cold;
 use super::walks::{Owner, Port, SQUARE_PORTS, is_backed};
 use super::words::words;
-use crate::lab;
+use ripngd_lab::lab;
 use std::alloc::Global;
 use std::fmt::Write;
 use std::str;

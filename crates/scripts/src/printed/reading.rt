@@ -1,6 +1,6 @@
 //! Lines of a script: which are read, which are refused, and at which line.
 
-use crate::lab;
+use ripngd_lab::lab;
 use std::io::Write;
 use std::test::Fail;
 

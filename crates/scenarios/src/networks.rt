@@ -4,8 +4,8 @@ ghost use Rattle.std.specs.Prelude.{◌≡◌, IfOk, length};
 
 mod rounds;
 
-use crate::{Event, Lab, LabError, NetConfig, NetInterface, NetRefused, Node};
 use prefix6::{Addr6, Prefix, PrefixError};
+use ripng_world::{Event, Lab, LabError, NetConfig, NetInterface, NetRefused, Node};
 use route_table::{Moment, RouteStore, SortedRoutes};
 use router_core::{Arrival, Change, ConfigRefused, Interface, ReconfigureRefused};
 use std::alloc::{AllocError, Global};

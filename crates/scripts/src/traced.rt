@@ -3,7 +3,7 @@
 mod examples;
 mod lines;
 
-use crate::trace;
+use ripngd_trace::trace;
 use std::alloc::Global;
 use std::io::{self, Write};
 use std::test::Fail;

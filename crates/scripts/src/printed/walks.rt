@@ -1,7 +1,7 @@
 //! Each printed route against a plain search of all walks that cost at most 15.
 
 use super::{LINE, LINE_PRINTS, SQUARE, SQUARE_PRINTS};
-use crate::lab;
+use ripngd_lab::lab;
 use std::alloc::{AllocError, Global};
 use std::str;
 use std::test::Fail;

@@ -2,7 +2,7 @@
 
 use super::walks::{Owner, Port, SQUARE_PORTS, TWINS, TWINS_PORTS, walks_to};
 use super::{SQUARE, SQUARE_PRINTS};
-use crate::lab;
+use ripngd_lab::lab;
 use std::alloc::{AllocError, Global};
 use std::io::Write;
 use std::str;

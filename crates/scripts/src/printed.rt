@@ -7,7 +7,7 @@ mod rounds;
 mod walks;
 mod words;
 
-use crate::lab;
+use ripngd_lab::lab;
 use std::io::Write;
 use std::test::Fail;
 

@@ -1,0 +1,31 @@
+-- A flush that keeps what was written keeps an answer.
+use Rattle.std.proofs.Common.{◌∙◌, ℕ, Bool, true, false, List, Option, None, Some}
+use Rattle.std.specs.Io.KnownBytes.{Appends, Keeps}
+use Rattle.ripngd.specs.declared.asked.Ask.{Ask}
+use Rattle.ripngd.specs.declared.asked.Ask.TheVariants as asks
+use Rattle.ripngd.specs.Exit.{AnswersAsk}
+
+-- what was appended stays
+appends_kept : (text : List ℕ) (old mid new : Option (List ℕ)) → Appends old mid text → Keeps mid new → Appends old new text
+appends_kept text None mid new wrote kept = tt
+appends_kept text (Some xs) None new wrote kept = absurd wrote
+appends_kept text (Some xs) (Some ys) None wrote kept = absurd kept
+appends_kept text (Some xs) (Some ys) (Some zs) wrote kept = kept ∙ wrote
+
+-- whatever was asked
+pub answer_kept : (holds : List ℕ → List ℕ → Type 0) (ask : Ask) (accepted : Bool) (old mid new : Option (List ℕ))
+    → AnswersAsk holds ask accepted old mid → Keeps mid new → AnswersAsk holds ask accepted old new
+answer_kept holds (asks.Show hex) accepted old mid new (text, is, wrote) kept = (text, is, appends_kept text old mid new wrote kept)
+answer_kept holds (asks.Check file) true old mid new (text, held, (config, is, wrote)) kept =
+    (text, held, (config, is, appends_kept _ old mid new wrote kept))
+answer_kept holds (asks.Check file) false old mid new answer kept = answer
+answer_kept holds (asks.Lab file) accepted old mid new answer kept = answer
+answer_kept holds (asks.Trace file) accepted old mid new answer kept = answer
+answer_kept holds (asks.Run order) true old mid new (text, held, (config, is, (table, made, wrote))) kept =
+    (text, held, (config, is, (table, made, appends_kept _ old mid new wrote kept)))
+answer_kept holds (asks.Run order) false old mid new answer kept = answer
+answer_kept holds (asks.Table file) accepted old mid new (log, held, text, is, wrote) kept =
+    (log, held, text, is, appends_kept text old mid new wrote kept)
+answer_kept holds (asks.Page serve) accepted old mid new answer kept = answer
+answer_kept holds (asks.Film file) accepted old mid new (script, held, trace, wrote) kept =
+    (script, held, trace, appends_kept _ old mid new wrote kept)
