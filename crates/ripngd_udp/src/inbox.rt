@@ -1,7 +1,7 @@
 //! What neighbors sent and the router has not taken in yet. A socket holds little, so it is emptied into here while the
 //! router works.
 
-ghost use Rattle.std.specs.Prelude.{◌≡◌, ◌<◌, ◌≤◌, [], MatchOption, IfSome, IsTrue, if◌then◌else◌, is_ok, length, min, take};
+ghost use Rattle.std.specs.Prelude.{◌≡◌, ◌<◌, ◌≤◌, ◌↔◌, [], MatchOption, IfSome, IsTrue, if◌then◌else◌, is_ok, length, min, take};
 ghost use Rattle.std.specs.List.{All};
 ghost use Rattle.ripngd_engine.specs.Run.{counted};
 ghost use Rattle.ripngd_udp.specs.Inbox.{Gives, HasRoom, Keeps, MayWait, bytes_of};
@@ -69,7 +69,7 @@ impl Inbox {
 
     /// Whether there is room for a datagram of so many bytes.
     fn has_room(&self, len: usize) -> bool
-        ensures { IsTrue result → HasRoom self.now.heard.items len }
+        ensures { IsTrue result ↔ HasRoom self.now.heard.items len }
     {
         self.heard.len() < ROOM && len <= ROOM_BYTES - self.held
     }
