@@ -103,36 +103,6 @@ fn a_router_tells_its_neighbor_over_sockets(rt: HostRuntime) -> Result<(), Fail>
     Ok(())
 }
 
-#[test]
-fn two_routers_learn_from_each_other(rt: HostRuntime) -> Result<(), Fail> {
-    let (east_port, west_port) = (free_port(&rt)?, free_port(&rt)?);
-    let east = config_text(
-        rt.alloc(),
-        "2001:db8:e::/48",
-        (1, east_port),
-        (2, west_port),
-    )?;
-    let west = config_text(
-        rt.alloc(),
-        "2001:db8:f::/48",
-        (2, west_port),
-        (1, east_port),
-    )?;
-    let mut east = started(&rt, east.as_str())?;
-    let mut west = started(&rt, west.as_str())?;
-    for _ in 0..4 {
-        east.turns(1, &mut io::sink())?;
-        west.turns(1, &mut io::sink())?;
-    }
-    let metrics = |engine: &TestEngine<'_, HostRuntime>| {
-        let entries = engine.fib().entries();
-        (entries.first().map(|e| e.2), entries.last().map(|e| e.2))
-    };
-    assert_eq!(rt; metrics(&east), (Some(1), Some(2)));
-    assert_eq!(rt; metrics(&west), (Some(2), Some(1)));
-    Ok(())
-}
-
 /// The status of a command line, what it prints, and what it says on standard error.
 pub fn outcome(rt: &HostRuntime, words: &[&str]) -> Result<(u8, Vec<u8>, Vec<u8>), Fail> {
     let mut out = Vec::new(rt.alloc());
