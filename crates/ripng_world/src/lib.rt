@@ -21,4 +21,3 @@ pub use laws::{
 pub use network::{NetConfig, NetInterface, NetRefused, Node, ROUTER_LIMIT};
 pub use rounds::{Round, RoundsRefused};
 pub use sent::Sent;
-
