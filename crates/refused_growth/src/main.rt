@@ -8,7 +8,6 @@ mod digest;
 mod engines;
 mod labs;
 mod links;
-mod log_reading;
 mod parts;
 mod rounds;
 mod routers;
@@ -90,7 +89,7 @@ fn outcome_of<R: AllocGlobal + Clock + Net>(rt: &R, name: &str) -> Option<Outcom
         ("wire", "encode") => Some(parts::outcome_of_writing(alloc)),
         ("fib", "apply") => Some(parts::outcome_of_changes(alloc)),
         ("network", "check") => Some(parts::outcome_of_check(alloc)),
-        ("log", "read") => Some(log_reading::outcome_of_log(alloc)),
+        ("log", "read") => Some(parts::outcome_of_reading(alloc)),
         ("link", name) => of_link(rt, alloc, name),
         ("engine", "turns") => Some(engines::outcome_of_engine(alloc)),
         _ => None,

@@ -1,4 +1,5 @@
-//! The calls below a router: a datagram is written, a forwarding table takes changes, a network is checked.
+//! The calls beside a router: a datagram is written, a forwarding table takes changes, or is read from lines of changes, a
+//! network is checked.
 
 use crate::digest::Digest;
 use crate::rows::{entry, line, link_local, site};
@@ -6,6 +7,7 @@ use crate::trial::{Outcome, Said, Trial, outcome_of};
 use fib::{Fib, Hop, RouteChange};
 use ripng_wire::{Command, encode};
 use ripng_world::{NetConfig, NetRefused, Node};
+use ripngd_log::{LogFault, read_log};
 use std::alloc::{AllocError, Global};
 
 /// A datagram of three entries.
@@ -107,6 +109,56 @@ fn before_changes(alloc: Global) -> Option<Forwarding> {
 /// What comes of changes of a forwarding table.
 pub fn outcome_of_changes(alloc: Global) -> Outcome {
     outcome_of(before_changes(alloc))
+}
+
+/// Lines of nine changes, which leave four entries.
+const LINES: &str = "add 2001:db8::/32 metric 1 direct\n\
+    add 2001:db8:1::/48 metric 2 via fe80::2 iface 0\n\
+    add 2001:db8:2::/48 metric 3 via fe80::2 iface 0\n\
+    add 2001:db8:3::/48 metric 4 via fe80::2 iface 0\n\
+    del 2001:db8:2::/48\n\
+    add 2001:db8:1::/48 metric 5 via fe80::1234:5678:9abc:def0 iface 1\n\
+    add ::/0 metric 15 via fe80::2 iface 0\n\
+    del 2001:db8:9::/48\n\
+    add 2001:db8:3::/48 metric 2 via fe80::3 iface 1\n";
+
+/// A forwarding table that is read from lines.
+#[derive(Drop)]
+struct Reading {
+    alloc: Global,
+}
+
+impl Trial for Reading {
+    fn another(&self) -> Option<Reading> {
+        Some(Reading { alloc: self.alloc })
+    }
+
+    fn readers(&self) -> u64 {
+        0
+    }
+
+    fn call(&mut self) -> Said {
+        match read_log(self.alloc, LINES.as_bytes()) {
+            Ok(fib) => {
+                let mut digest = Digest::new();
+                digest.forwarding(&fib);
+                Said::Done {
+                    answer: digest.sum(),
+                    notes: 0,
+                }
+            }
+            Err(LogFault::OutOfMemory) => Said::Refused,
+            Err(LogFault::BadLine { .. }) => Said::Done {
+                answer: 0,
+                notes: 0,
+            },
+        }
+    }
+}
+
+/// What comes of a forwarding table's being read.
+pub fn outcome_of_reading(alloc: Global) -> Outcome {
+    outcome_of(Some(Reading { alloc }))
 }
 
 /// Networks that are checked one after another, each the same.
