@@ -9,7 +9,7 @@ use Rattle.std.proofs.lemmas.Bool.Decides.{nat_tests}
 use Rattle.std.proofs.lemmas.Option.{slice_get-map, slice_get_within}
 use Rattle.ripng_wire.specs.Wire.{first_reason}
 use Rattle.ripng_wire.proofs.FirstReason.{each_passes}
-use Rattle.router_core.proofs.ReasonsOfEach.{first_reason-append}
+use Rattle.router_core.proofs.ReasonsOfEach.{first_reason-append, first_reason-found}
 use Rattle.ripng_world.proofs.NetworkLaws.{first_reason-map}
 use Rattle.prefix6.specs.Prefix.{is_routable}
 use Rattle.std.specs.FinMap as map_of
@@ -286,6 +286,10 @@ change_refused lab router now c s why here none is = by_fault (change_fault s.co
     by_fault None fault same = inr (none, ap refusal_of same)
     by_fault (Some f) fault same =
         inl (asked lab router now c s here none ∙ ap (option_map LabError.ReconfigureRefused) fault ∙ ap Some (sym (ap refusal_of same ∙ refused_as s c f fault)))
+
+-- nor of an event that is refused before its router is asked
+pub refused_first : (lab : LabValue) (e : Event) (why : LabError) → event_fault lab e ≡ Some why → IsRefusal lab e why
+refused_first lab e why fault = inl (first_reason-found (event_reasons lab e) (asked_reasons lab.world e) why fault)
 
 -- an event that happens fails no test
 pub happened_passes : (lab : LabValue) (e : Event) (answer : Answer) (w' : World) → event_fault lab e ≡ None → Happens lab.network lab.world e answer w' → step_fault lab e ≡ None

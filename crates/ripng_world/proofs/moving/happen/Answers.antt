@@ -1,9 +1,9 @@
-use Rattle.std.proofs.Common.{◌≡◌, None, sym, subst}
+use Rattle.std.proofs.Common.{◌≡◌, inr, None, sym, subst}
 use Rattle.std.proofs.lemmas.Result.{IfErr-weaker}
 use Rattle.ripng_world.specs.Events.{event_of}
 use Rattle.ripng_world.specs.Labs.{IsRefusal, event_fault, lab_of}
 use Rattle.ripng_world.specs.Stations.{MoveStations}
-use Rattle.ripng_world.proofs.StationMoves.{router_within}
+use Rattle.ripng_world.proofs.StationMoves.{router_within, err_is}
 use Rattle.ripng_world.proofs.moving.happen.Goals as goal
 
 pub returns-in_ok-deliver-in-Deliver-clause-moves : goal.returns-in_ok-deliver-in-Deliver-clause-moves
@@ -49,3 +49,17 @@ restart-requires g c = router_within c.args.stations.now c.in-Restart.router (su
 
 pub reconfigure-requires : goal.reconfigure-requires
 reconfigure-requires g c = subst (λ e. event_fault (lab_of c.args.stations.now c.args.sent.now.items c.args.changes.now.items) (event_of e) ≡ None) c.in-Reconfigure.is c.requires
+
+-- no router moves for want of memory
+
+pub returns-in_err-deliver-in-Deliver-clause-refused : goal.returns-in_err-deliver-in-Deliver-clause-refused
+returns-in_err-deliver-in-Deliver-clause-refused g c = err_is c.from_residual.result _ _ (λ why is. inr (c.requires, is)) c.from_residual.ensures.1
+
+pub returns-in_err-intrude-in-Stranger-clause-refused : goal.returns-in_err-intrude-in-Stranger-clause-refused
+returns-in_err-intrude-in-Stranger-clause-refused g c = err_is c.from_residual-in_err-intrude-in-Stranger.result _ _ (λ why is. inr (c.requires, is)) c.from_residual-in_err-intrude-in-Stranger.ensures.1
+
+pub returns-in_err-tick-in-Tick-clause-refused : goal.returns-in_err-tick-in-Tick-clause-refused
+returns-in_err-tick-in-Tick-clause-refused g c = err_is c.from_residual-in_err-tick-in-Tick.result _ _ (λ why is. inr (c.requires, is)) c.from_residual-in_err-tick-in-Tick.ensures.1
+
+pub returns-in_err-restart-in-Restart-clause-refused : goal.returns-in_err-restart-in-Restart-clause-refused
+returns-in_err-restart-in-Restart-clause-refused g c = err_is c.from_residual-in_err-restart-in-Restart.result _ _ (λ why is. inr (c.requires, is)) c.from_residual-in_err-restart-in-Restart.ensures.1

@@ -1,12 +1,12 @@
 use Rattle.std.proofs.Common.{◌≡◌, ℕ, List, [], ◌∷◌, ◌++◌, map, take, drop, length, sym, subst, ◌∙◌, ap, ap₂}
 use Rattle.ripng_world.specs.Events.{event_of}
-use Rattle.ripng_world.specs.Labs.{HasRun, event_fault, lab_of}
+use Rattle.ripng_world.specs.Labs.{HasRun, IsRefusal, event_fault, lab_of}
 use Rattle.ripng_world.specs.Rounds.{router_of}
 use Rattle.ripng_world.specs.Stations.{StationValue, MoveStations, network_of, world_of}
 use Rattle.ripng_world.specs.World.{Happens, changes_in, sent_by}
 use Rattle.ripng_world.specs.declared.sent.Sent.{Sent}
 use Rattle.ripng_world.proofs.LabRuns.{backed, least, truth, fixed, stepped, stepped_on, written_back}
-use Rattle.ripng_world.proofs.StationMoves.{happened_passes}
+use Rattle.ripng_world.proofs.StationMoves.{err_is, happened_passes, refused_first}
 use Rattle.ripng_world.proofs.lab.Lab.step.Goals as goal
 
 pub returns-in_err-check-clause-backed : goal.returns-in_err-check-clause-backed
@@ -103,3 +103,38 @@ returns-clause-passes g c =
     rw (← c.self.view_is)
     (happened_passes (lab_of c.self.inside.stations.items c.self.inside.sent.items c.self.inside.changes.items) (event_of c.args.event.now) c.in_ok-answer.answer
     (world_of c.happen.new.stations c.file.new.sent.items c.happen.new.changes.items) none (happens g c))
+
+pub returns-clause-network : goal.returns-clause-network
+returns-clause-network g c = rw (← c.self.view_is, stations g c) (moves g c).network
+
+pub returns-clause-changes : goal.returns-clause-changes
+returns-clause-changes g c = rw (← c.self.view_is) (done g c)
+
+-- what the parts ask, and why the event is refused
+pub happen-requires : goal.happen-requires
+happen-requires g c =
+    let sent = c.self.inside.sent.items in
+    let changes = c.self.inside.changes.items in
+    let e = event_of c.args.event.now in
+    ap (λ (ss : List StationValue). event_fault (lab_of ss sent changes) e) c.deref_mut.ensures.value
+    ∙ sym (c.in_ok-check.ensures changes ∙ ap₂ (λ (ss : List StationValue) (ds : List Sent). event_fault (lab_of ss ds changes) e) c.deref.ensures.value c.deref-2.ensures.value)
+
+pub file-requires : goal.file-requires
+file-requires g c = c.in_ok-answer.ensures.room
+
+pub returns-in_err-check-clause-refused : goal.returns-in_err-check-clause-refused
+returns-in_err-check-clause-refused g c =
+    let changes = c.self.inside.changes.items in
+    let lab = lab_of c.self.inside.stations.items c.self.inside.sent.items changes in
+    let e = event_of c.args.event.now in
+    let fault = sym (c.in_err-check.ensures changes ∙ ap₂ (λ (ss : List StationValue) (ds : List Sent). event_fault (lab_of ss ds changes) e) c.deref.ensures.value c.deref-2.ensures.value) in
+    rw (← c.self.view_is) (err_is c.from_residual.result _ _ (λ why is. subst (IsRefusal lab e) (sym is) (refused_first lab e c.in_err-check.field-0.0 fault)) c.from_residual.ensures.1)
+
+pub returns-in_err-answer-clause-refused : goal.returns-in_err-answer-clause-refused
+returns-in_err-answer-clause-refused g c =
+    let sent = c.self.inside.sent.items in
+    let changes = c.self.inside.changes.items in
+    let e = event_of c.args.event.now in
+    let refused = subst (λ (ss : List StationValue). IsRefusal (lab_of ss sent changes) e c.in_err-answer.field-0.0) c.deref_mut.ensures.value c.in_err-answer.ensures.refused in
+    rw (← c.self.view_is)
+    (err_is c.from_residual-in_err-answer.result _ _ (λ why is. subst (IsRefusal (lab_of c.self.inside.stations.items sent changes) e) (sym is) refused) c.from_residual-in_err-answer.ensures.1)
