@@ -1,11 +1,11 @@
 -- What holds of a network that has run since a cold start, and how runs and cold starts go on.
-use Rattle.std.proofs.Common.{◌≡◌, ℕ, zero, suc, ◌+◌, ◌<◌, List, [], ◌∷◌, ◌++◌, map, take, drop, length, get_or, refl, ap, ap₂, sym, subst, ◌∙◌, arith, append_assoc}
-use Rattle.std.proofs.lemmas.List.{append-nil, map_more, take-map, map-append, length-map, take_more}
+use Rattle.std.proofs.Common.{◌≡◌, ℕ, zero, suc, ◌+◌, ◌<◌, ◌≤◌, List, [], ◌∷◌, ◌++◌, map, take, drop, length, get_or, refl, ap, ap₂, sym, subst, ◌∙◌, arith, append_assoc}
+use Rattle.std.proofs.lemmas.List.{append-nil, map_more, take-map, map-append, length-map, length-append, take_more, take_all}
 use Rattle.router_core.specs.Machine.{State, Starts}
 use Rattle.router_core.specs.declared.answer.Answer.{Answer}
 use Rattle.ripng_world.specs.Network.{Network, Node, config_of}
 use Rattle.router_core.specs.declared.reconfiguring.Change.{Change}
-use Rattle.ripng_world.specs.World.{World, Event, Happens, WorldRun, StartsFrom, changes_in, past_of, sent_by}
+use Rattle.ripng_world.specs.World.{World, Event, Happens, WorldRun, IsCold, StartsFrom, changes_in, past_of, sent_by}
 use Rattle.ripng_world.specs.Events.{event_of}
 use Rattle.ripng_world.specs.Rounds.{router_of}
 use Rattle.ripng_world.specs.Stations.{StationValue, MoveStations, network_of, world_of}
@@ -140,6 +140,34 @@ cold_on stations stations' moments sent sent' s now answer n n' k more size next
     (subst (λ (ms : List ℕ). StartsFrom 0 (network_of stations ++ s.node ∷ []) ms (map (λ (t : StationValue). t.state) stations') sent') (sym times)
     (subst (λ (ss : List State). StartsFrom 0 (network_of stations ++ s.node ∷ []) (take n moments ++ now ∷ []) ss sent') (sym states)
     (subst (λ (ds : List Sent). StartsFrom 0 (network_of stations ++ s.node ∷ []) (take n moments ++ now ∷ []) (map (λ (t : StationValue). t.state) stations ++ s.state ∷ []) ds) (sym datagrams) all)))
+
+-- there is a moment for each router that is still to start
+pub started_few : (stations : List StationValue) (left rest all : List Node) (node : Node) (moments : List ℕ) (n : ℕ) → network_of stations ++ left ≡ all → left ≡ node ∷ rest
+    → length moments ≡ length all → n ≡ length stations → n < length moments
+started_few stations left rest all node moments n listed is each size =
+    omega (arith, ap length listed, length-append (network_of stations) left, length-map stations (λ (s : StationValue). s.node), ap length is)
+
+-- room for all that are left is room for the next, and then for the others
+pub next_room : {X : Type 0} (n room : ℕ) (left rest : List X) (x : X) → left ≡ x ∷ rest → n + length left ≤ room → n < room
+next_room n room left rest x is fits = omega (arith, ap length is)
+
+pub room_left : {X : Type 0} (n room n' room' : ℕ) (left rest : List X) (x : X) → left ≡ x ∷ rest → n + length left ≤ room → n' ≡ n + 1 → room' ≡ room → n' + length rest ≤ room'
+room_left n room n' room' left rest x is fits more same = omega (arith, ap length is)
+
+-- every router has started
+pub all_listed : (stations : List StationValue) (left all : List Node) → network_of stations ++ left ≡ all → length left ≡ 0 → network_of stations ≡ all
+all_listed stations [] all listed none = sym (append-nil (network_of stations)) ∙ listed
+all_listed stations (n ∷ left) all listed none = absurd (omega arith)
+
+pub all_cold : (stations : List StationValue) (nodes : List Node) (moments : List ℕ) (sent : List Sent) (n : ℕ) → network_of stations ≡ nodes → length moments ≡ length nodes
+    → n ≡ length stations → StartsFrom 0 (network_of stations) (take n moments) (map (λ s. s.state) stations) sent → IsCold nodes moments (world_of stations sent [])
+all_cold stations nodes moments sent n are each size from =
+    let states = map (λ (s : StationValue). s.state) stations in
+    let all : take n moments ≡ moments = take_all n moments (omega (arith, ap length are, length-map stations (λ (s : StationValue). s.node))) in
+    record {
+      starts = subst (λ (ns : List Node). StartsFrom 0 ns moments states sent) are (subst (λ (ms : List ℕ). StartsFrom 0 (network_of stations) ms states sent) all from);
+      unchanged = refl;
+    }
 
 -- a slice that was written back whole
 pub written_back : {X : Type 0} (n : ℕ) (xs ys : List X) → length xs ≡ length ys → n ≡ length ys → take n (xs ++ drop (length xs) ys) ≡ xs

@@ -1,12 +1,12 @@
-use Rattle.std.proofs.Common.{◌<◌, ◌++◌, List, map, length, sym, subst, ◌∙◌, ap, arith}
-use Rattle.std.proofs.lemmas.List.{length-map, length-append}
+use Rattle.std.proofs.Common.{◌≡◌, ℕ, ◌+◌, ◌≤◌, ◌++◌, List, map, length, vec_len, sym, subst, ◌∙◌, ap}
+use Rattle.std.specs.Vec.{vec_capacity}
 use Rattle.std.specs.Vec.Iter.{into_iter_items}
 use Rattle.router_core.specs.Machine.{Starts}
 use Rattle.ripng_world.specs.Network.{Node, config_of}
-use Rattle.ripng_world.specs.Stations.{StationValue, network_of}
+use Rattle.ripng_world.specs.Stations.{network_of}
 use Rattle.ripng_world.specs.World.{sent_by}
 use Rattle.ripng_world.specs.declared.sent.Sent.{Sent}
-use Rattle.ripng_world.proofs.LabRuns.{listed_on, cold_on}
+use Rattle.ripng_world.proofs.LabRuns.{all_cold, all_listed, cold_on, listed_on, next_room, room_left, started_few}
 use Rattle.ripng_world.proofs.lab.start_all.Goals as goal
 
 pub loop-router-preserved : goal.loop-router-preserved
@@ -17,8 +17,8 @@ loop-router-preserved g c =
     let rest = into_iter_items c.next.new.self in
     let left_is = c.in-Some.ensures.steps.0 in
     let all_are = c.into_iter-router-iterator.ensures.into_iter_gives in
-    let few : c.loop-router.stations.len < length c.args.moments.now =
-    omega (arith, c.requires, ap length c.loop-router.invariant.network, length-append (network_of stations) left, length-map stations (λ (s : StationValue). s.node), ap length left_is, c.loop-router.stations.ok.0, ap length all_are.0) in
+    let each = c.requires ∙ sym (ap length all_are.0) in
+    let few = started_few stations left rest (into_iter_items c.into_iter-router-iterator.result) c.in-Some.router c.args.moments.now c.loop-router.stations.len c.loop-router.invariant.network left_is each c.loop-router.stations.ok.0 in
     record {
       can_next = tt;
       is_finite = tt;
@@ -27,5 +27,34 @@ loop-router-preserved g c =
           c.push_reserved.ensures.items c.loop-router.stations.ok.0 c.push_reserved.ensures.len c.len-number.ensures
           (c.file.ensures ∙ ap (λ (ds : List Sent). ds ++ map (sent_by c.len-number.result) c.in_ok-station.answer.sends) c.reserve.ensures.items) few c.index-moments-number.is c.loop-router.invariant.cold
           (subst (λ (n : Node). Starts (config_of n) c.index-moments-number.result c.in_ok-station.answer station.state) (sym c.in_ok-station.ensures.node) c.in_ok-station.ensures.starts);
-      room = omega (arith, c.loop-router.invariant.room, ap length left_is, c.push_reserved.ensures.len, c.push_reserved.ensures.capacity);
+      room = room_left _ _ _ _ left rest c.in-Some.router left_is c.loop-router.invariant.room c.push_reserved.ensures.len c.push_reserved.ensures.capacity;
     }
+
+-- what the parts of a turn ask
+pub bounds-moments-number : goal.bounds-moments-number
+bounds-moments-number g c =
+    let left = into_iter_items c.loop-router.router-iterator in
+    let each = c.requires ∙ sym (ap length c.into_iter-router-iterator.ensures.into_iter_gives.0) in
+    started_few c.loop-router.stations.items left (into_iter_items c.next.new.self) (into_iter_items c.into_iter-router-iterator.result) c.in-Some.router c.args.moments.now c.len-number.result
+    c.loop-router.invariant.network c.in-Some.ensures.steps.0 each (c.len-number.ensures ∙ c.loop-router.stations.ok.0)
+
+pub file-requires : goal.file-requires
+file-requires g c = subst (λ (n : ℕ). vec_len c.reserve.new.self + n ≤ vec_capacity c.reserve.new.self) (ap length c.as_slice.ensures) c.in_ok-reserve.ensures.ok
+
+pub push_reserved-requires : goal.push_reserved-requires
+push_reserved-requires g c = next_room _ _ (into_iter_items c.loop-router.router-iterator) (into_iter_items c.next.new.self) c.in-Some.router c.in-Some.ensures.steps.0 c.loop-router.invariant.room
+
+-- every router has started
+module _ (g : _) (c : goal.After-drop-router-iterator-2 g) where
+  are : network_of c.loop-router.stations.items ≡ c.args.routers.items
+  are =
+      all_listed c.loop-router.stations.items (into_iter_items c.loop-router.router-iterator) c.args.routers.items
+      (c.loop-router.invariant.network ∙ c.into_iter-router-iterator.ensures.into_iter_gives.0) (sym c.loop-router.router-iterator.rest.ok.0 ∙ c.in-None.ensures.steps.0)
+
+pub returns-clause-network : goal.returns-clause-network
+returns-clause-network g c = are g c
+
+pub returns-clause-cold : goal.returns-clause-cold
+returns-clause-cold g c =
+    all_cold c.loop-router.stations.items c.args.routers.items c.args.moments.now c.loop-router.sent.items c.loop-router.stations.len (are g c) c.requires c.loop-router.stations.ok.0
+    c.loop-router.invariant.cold
