@@ -1,7 +1,9 @@
 //! What `show` prints of datagrams of another router, of the longest, and where a writer fails.
 
-use crate::captured::CAPTURED;
-use crate::{PrintFault, show};
+mod captured;
+
+use captured::CAPTURED;
+use ripngd_show::{PrintFault, show};
 use std::alloc::{AllocError, Global};
 use std::io::Write;
 use std::test::Fail;

@@ -1,4 +1,4 @@
-use super::*;
+use fib::{Fib, Hop, RouteChange};
 use prefix6::{Addr6, Prefix};
 use std::process::Abort;
 use std::test::Fail;

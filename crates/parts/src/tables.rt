@@ -2,10 +2,10 @@
 
 mod tries;
 
-use crate::{
+use prefix6::{Addr6, Prefix, PrefixError};
+use route_table::{
     AddRefused, Clock, Moment, Origin, Route, RouteStore, SortedRoutes, TABLE_LIMIT, TrieRoutes,
 };
-use prefix6::{Addr6, Prefix, PrefixError};
 use std::alloc::Global;
 use std::process::Abort;
 use std::test::Fail;

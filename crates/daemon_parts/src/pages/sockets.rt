@@ -1,6 +1,6 @@
 //! The server over real sockets of 127.0.0.1.
 
-use crate::{Server, serve_page};
+use ripngd_page::{Server, serve_page};
 use std::io::{Read, Write};
 use std::net::{Shutdown, TcpStream};
 use std::test::Fail;

@@ -1,7 +1,7 @@
 //! Requests as bytes, and what is answered.
 
-use crate::{ANSWER_LIMIT, BODY_LIMIT, Bounded, Page};
 use http_server::{Config, Connection};
+use ripngd_page::{ANSWER_LIMIT, BODY_LIMIT, Bounded, Page};
 use std::hash::RandomState;
 use std::io::Write;
 use std::str;

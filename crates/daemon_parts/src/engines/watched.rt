@@ -3,8 +3,8 @@
 ghost use Rattle.std.specs.Prelude.{⊤};
 
 use super::{from_neighbor, link_local, start, told};
-use crate::memory::{Datagram, MemoryLink, MemoryLog};
-use crate::{Arrived, Watch};
+use ripngd_engine::memory::{Datagram, MemoryLink, MemoryLog};
+use ripngd_engine::{Arrived, Watch};
 use route_table::Moment;
 use router_core::{Fault, Note, NoteKind, Outgoing};
 use std::alloc::Global;

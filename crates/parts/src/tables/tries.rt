@@ -1,7 +1,7 @@
 //! A trie that forks, joins again, and knows what is due and what is marked.
 
-use crate::{Moment, Origin, Route, RouteStore, TrieRoutes};
 use prefix6::{Addr6, Prefix, PrefixError};
+use route_table::{Moment, Origin, Route, RouteStore, TrieRoutes};
 use std::test::Fail;
 
 const DOC: u128 = 0x2001_0db8 << 96;

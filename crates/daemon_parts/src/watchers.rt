@@ -1,10 +1,10 @@
 //! Lines and counts over memory. Expected lines are written by hand from docs/FORMATS.md.
 
-use crate::{Counts, DebugLines};
 use prefix6::Addr6;
 use ripng_wire::WireError;
 use ripngd_engine::memory::MemoryLog;
 use ripngd_engine::{Arrived, Watch};
+use ripngd_watch::{Counts, DebugLines};
 use route_table::Moment;
 use router_core::{Fault, Note, NoteKind};
 use std::process::Abort;

@@ -1,8 +1,8 @@
 //! Logs with the tables that they make, and malformed lines with their numbers.
 
-use crate::{LogFault, read_log};
 use fib::Hop;
 use prefix6::{Addr6, Prefix};
+use ripngd_log::{LogFault, read_log};
 use std::process::Abort;
 use std::test::Fail;
 

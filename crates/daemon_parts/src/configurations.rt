@@ -2,10 +2,10 @@
 
 mod rows;
 
-use crate::{Config, Peer, read_config};
 use prefix6::Addr6;
 use rand_core::{Rng, SeedableRng};
 use rand_pcg::Pcg32;
+use ripngd_config::{Config, Peer, read_config};
 use router_core::Interface;
 use rows::{DEFAULTS, EXAMPLE, NO_DEFAULTS, TAILS, TEXTS};
 use std::alloc::{AllocError, Global};

@@ -1,6 +1,6 @@
 //! Films.
 
-use crate::write_film;
+use ripngd_page::write_film;
 use ripngd_show::PrintFault;
 use std::test::Fail;
 

@@ -1,12 +1,11 @@
-//! The order of what a start does, and what it leaves undone: seen by a link and a log that note what happens to them in
-//! one record.
+//! The order of what a start does, seen by a link and a log that note what happens to them in one record.
 
 ghost use Rattle.std.specs.Prelude.{◌≡◌, IfOk, length};
 
 use super::{clock, link_local};
-use crate::memory::{MemoryClock, MemoryLog, SameWord};
-use crate::{Engine, EngineFault, Link, LinkFault, Received};
 use prefix6::{Addr6, Prefix};
+use ripngd_engine::memory::{MemoryClock, MemoryLog, SameWord};
+use ripngd_engine::{Engine, EngineFault, Link, LinkFault, Received};
 use route_table::TrieRoutes;
 use router_core::{Interface, Outgoing, RouterConfig};
 use std::alloc::{AllocError, Global};
@@ -111,24 +110,6 @@ fn owner(rt: &impl Abort, alloc: Global) -> Result<RouterConfig, AllocError>
     };
     let owned = vec![in alloc; (prefix(0x2001_0db8), 0u16), (prefix(0x2001_0db9), 0u16)]?;
     Ok(RouterConfig::check(interfaces, owned, false).expect(rt, "a lawful configuration"))
-}
-
-#[test]
-fn a_start_without_a_buffer_does_nothing(rt: HostRuntime) -> Result<(), Fail> {
-    let alloc = rt.alloc();
-    let record = Record::new(alloc);
-    let started: Result<NotingEngine<'_>, EngineFault> = Engine::start_with(
-        alloc,
-        Err(AllocError),
-        owner(&rt, alloc)?,
-        NotingLink(&record),
-        clock(&rt, alloc, 1)?,
-        SameWord(0),
-        &mut NotingLog(&record),
-    );
-    assert_eq!(rt; started.err(), Some(EngineFault::OutOfMemory));
-    assert!(rt; record.is(&[]));
-    Ok(())
 }
 
 #[test]

@@ -6,9 +6,9 @@ ghost use Rattle.std.specs.Prelude.{◌≡◌, IfOk, length};
 mod recorded;
 mod watched;
 
-use crate::memory::{Datagram, LinkCall, MemoryClock, MemoryLink, MemoryLog, SameWord};
-use crate::{Engine, EngineFault, Report};
 use prefix6::Addr6;
+use ripngd_engine::memory::{Datagram, LinkCall, MemoryClock, MemoryLink, MemoryLog, SameWord};
+use ripngd_engine::{Engine, EngineFault, Report};
 use route_table::{Moment, SortedRoutes};
 use router_core::{Interface, RouterConfig};
 use std::alloc::{AllocError, Global};

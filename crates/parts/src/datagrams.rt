@@ -1,6 +1,6 @@
 //! Datagrams laid out by hand from RFC 2080, section 2.1: each refusal, their order, and what is read and written.
 
-use crate::{
+use ripng_wire::{
     Command, Datagram, MAX_ENTRIES, NEXT_HOP_METRIC, Rte, WireError, decode, encode,
     entries_for_mtu,
 };

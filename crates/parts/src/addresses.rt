@@ -1,9 +1,6 @@
 //! Texts that are read and refused, and what is written, by examples.
 
-use super::{parse_addr, parse_prefix};
-use crate::addr::Addr6;
-use crate::error::PrefixError;
-use crate::prefix::Prefix;
+use prefix6::{Addr6, Prefix, PrefixError, parse_addr, parse_prefix};
 use std::test::Fail;
 
 #[test]
