@@ -2,28 +2,43 @@
 
 use http_server::{Config, Connection};
 use ripngd_page::{ANSWER_LIMIT, BODY_LIMIT, Bounded, Page};
+use std::alloc::Global;
 use std::hash::RandomState;
-use std::io::Write;
+use std::io::{self, Write};
 use std::str;
 use std::test::Fail;
 
-/// What the page at port 8532 answers to a request.
-fn answered(rt: &HostRuntime, request: &[u8]) -> Result<String, Fail> {
-    let alloc = rt.alloc();
-    let mut page = Page::new(alloc, 8532)?;
+/// A connection on which nothing came yet.
+fn connected(rt: &HostRuntime) -> io::Result<Connection> {
     let config = Config {
         max_body_len: BODY_LIMIT,
         ..Config::default()
     };
-    let mut connection = Connection::new(alloc, RandomState::new(rt)?, config);
-    let mut reader = request;
-    connection.read_from(&mut reader)?;
-    connection.advance(&mut page);
-    let mut text = Vec::new(alloc);
+    Ok(Connection::new(rt.alloc(), RandomState::new(rt)?, config))
+}
+
+/// The bytes that a connection has to send.
+fn sent(alloc: Global, connection: &mut Connection) -> io::Result<Vec<u8>> {
+    let mut bytes = Vec::new(alloc);
     for _ in 0..100 {
-        connection.write_to(&mut text)?;
+        connection.write_to(&mut bytes)?;
     }
-    Ok(String::from_str(alloc, str::from_utf8(text.as_slice())?)?)
+    Ok(bytes)
+}
+
+/// The bytes that the page at port 8532 answers to a request.
+fn answer(rt: &HostRuntime, mut request: &[u8]) -> io::Result<Vec<u8>> {
+    let mut page = Page::new(rt.alloc(), 8532)?;
+    let mut connection = connected(rt)?;
+    connection.read_from(&mut request)?;
+    connection.advance(&mut page);
+    sent(rt.alloc(), &mut connection)
+}
+
+/// What the page answers to a request, as a text.
+fn answered(rt: &HostRuntime, request: &[u8]) -> Result<String, Fail> {
+    let bytes = answer(rt, request)?;
+    Ok(String::from_str(rt.alloc(), str::from_utf8(bytes.as_slice())?)?)
 }
 
 /// Requests, each with the status and the end of its answer.
