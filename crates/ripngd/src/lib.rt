@@ -25,6 +25,3 @@ pub use ripngd_engine::{Engine, EngineFault, Link, LinkFault, Received, Report, 
 pub use ripngd_show::{PrintFault, show};
 pub use ripngd_udp::{Udp, UdpError, Uptime};
 pub use status::program;
-
-#[cfg(test)]
-mod tests;
