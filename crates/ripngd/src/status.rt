@@ -10,7 +10,7 @@ use crate::asked::Ask;
 use crate::browser::{film, serve};
 use crate::checking::check;
 use crate::command_line::ask;
-use crate::failure::Failure;
+use crate::failure::{Failure, write_failure};
 use crate::forwarding::table;
 use crate::laboratory::{lab, trace};
 use crate::losses::{NOTHING_LOST, write_losses};
@@ -198,10 +198,10 @@ fn print<'a, O: Write>(help: &clap::Error, out: &mut O) -> Result<Status, Failur
     Ok(Status::Done)
 }
 
-/// Writes what failed to `err`.
-pub(crate) fn report<E: Write>(failure: Failure<'_>, err: &mut E) -> Status
+/// Writes what failed to `err`, and answers the status of a failure.
+fn report<E: Write>(failure: Failure<'_>, err: &mut E) -> Status
     ensures { result ≡ Status.Failed }
 {
-    let _ = writeln!(err, "ripngd: {failure}");
+    let _ = write_failure(failure, err);
     Status::Failed
 }
