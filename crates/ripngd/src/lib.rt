@@ -14,6 +14,7 @@ mod plan;
 mod reading;
 mod running;
 mod status;
+mod subcommands;
 
 pub use asked::{Ask, Order, Serve};
 pub use checking::check;

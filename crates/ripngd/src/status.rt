@@ -7,15 +7,13 @@ ghost use Rattle.ripngd.specs.Failing.{MayFail};
 ghost use Rattle.ripngd.specs.declared.failure.Failure.TheVariants as failures;
 
 use crate::asked::Ask;
-use crate::browser::{film, serve};
-use crate::checking::check;
+use crate::browser::serve;
 use crate::command_line::ask;
 use crate::failure::{Failure, write_failure};
-use crate::forwarding::table;
-use crate::laboratory::{lab, trace};
 use crate::losses::{NOTHING_LOST, write_losses};
 use crate::reading::{FileSource, SystemFiles};
 use crate::running::run;
+use crate::subcommands::{check_file, film_file, lab_file, table_file, trace_file};
 use clap::error::ErrorKind;
 use ripngd_engine::Report;
 use ripngd_show::show;
@@ -123,13 +121,13 @@ fn accepts<
 {
     match asked {
         Ask::Show(hex) => Ok(show(rt.alloc(), hex, out)?),
-        Ask::Check(file) => Ok(check(rt.alloc(), files.read(file)?.as_slice(), out)?),
-        Ask::Lab(file) => Ok(lab(rt.alloc(), files.read(file)?.as_slice(), out)?),
-        Ask::Trace(file) => Ok(trace(rt.alloc(), files.read(file)?.as_slice(), out)?),
+        Ask::Check(file) => check_file(rt.alloc(), files, file, out),
+        Ask::Lab(file) => lab_file(rt.alloc(), files, file, out),
+        Ask::Trace(file) => trace_file(rt.alloc(), files, file, out),
         Ask::Run(order) => run(rt, files, order, out, err, lost),
-        Ask::Table(file) => Ok(table(rt.alloc(), files.read(file)?.as_slice(), out)?),
+        Ask::Table(file) => table_file(rt.alloc(), files, file, out),
         Ask::Page(order) => serve(rt, order, out),
-        Ask::Film(file) => Ok(film(rt.alloc(), file, files.read(file)?.as_slice(), out)?),
+        Ask::Film(file) => film_file(rt.alloc(), files, file, out),
     }
 }
 
