@@ -157,11 +157,11 @@ fn answer<
     if out.flush().is_err() {
         return Err(Failure::Output);
     }
-    Ok(if accepted {
-        Status::Done
+    if accepted {
+        Ok(Status::Done)
     } else {
-        Status::Refused
-    })
+        Ok(Status::Refused)
+    }
 }
 
 /// Writes why the command line asks for nothing: help or the version to `out`, a fault to `err`.
