@@ -1,6 +1,6 @@
 //! What a run with `-d` writes to standard error.
 
-use super::running::{free_port, outcome};
+use crate::running::{free_port, outcome};
 use std::alloc::{AllocError, Global};
 use std::test::Fail;
 

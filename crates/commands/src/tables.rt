@@ -1,6 +1,6 @@
 //! What `table` prints of logs.
 
-use crate::{program, table};
+use ripngd::{program, table};
 use std::test::Fail;
 
 /// A log, whether it is one, and what `table` prints of it.
