@@ -27,7 +27,7 @@ use Rattle.router_core.specs.declared.reconfiguring.ReconfigureRefused.{Reconfig
 use Rattle.router_core.specs.declared.reconfiguring.ReconfigureRefused.TheVariants as refused
 use Rattle.ripng_world.specs.World.{World, Event, RouterMoves, Happens, Deliver, Stranger, Tick, Restart, Reconfigure, changes_by, is_heard, arrival_of, sent_by}
 use Rattle.ripng_world.specs.Stations.{StationValue, MoveStations, network_of, world_of}
-use Rattle.ripng_world.specs.Labs.{LabValue, IsRefusal, asked_reasons, lab_of, event_fault, event_reasons, named_reasons, refusal_of, step_fault, is_one_link, link_at, link_of_datagram}
+use Rattle.ripng_world.specs.Labs.{LabValue, IsRefusal, asked_reasons, lab_of, event_fault, event_reasons, missing_router_reasons, named_reasons, refusal_of, step_fault, is_one_link, link_at, link_of_datagram}
 use Rattle.ripng_world.specs.declared.event.LabError.{LabError}
 use Rattle.ripng_world.specs.declared.network.NetInterface.{NetInterface}
 use Rattle.ripng_world.specs.declared.sent.Sent.{Sent}
@@ -109,7 +109,25 @@ was_sent stations sent datagram router iface now none =
     let h = passes.1.1.0 in
     grind (arith, nat_tests, h)
 
--- it comes to an interface of the link that it was sent on
+-- it comes to an interface that is there
+delivery_placed : (stations : List StationValue) (sent : List Sent) (datagram router iface now : ℕ)
+    → event_fault (lab_of stations sent []) (Deliver datagram router iface now) ≡ None → (i : NetInterface) × (interface_at (network_of stations) router iface ≡ Some i)
+delivery_placed stations sent datagram router iface now none =
+    some_of (interface_at (network_of stations) router iface) (each_passes (event_reasons (lab_of stations sent []) (Deliver datagram router iface now)) none).1.0
+
+pub delivery_within : (stations : List StationValue) (sent : List Sent) (datagram router iface now : ℕ)
+    → event_fault (lab_of stations sent []) (Deliver datagram router iface now) ≡ None → router < length stations
+delivery_within stations sent datagram router iface now none =
+    let placed = delivery_placed stations sent datagram router iface now none in
+    within stations router iface placed.0 placed.1
+
+pub delivery_interface : (stations : List StationValue) (sent : List Sent) (datagram router iface now : ℕ) (s : StationValue)
+    → event_fault (lab_of stations sent []) (Deliver datagram router iface now) ≡ None → slice_get stations router ≡ Some s → iface < length s.node.interfaces
+delivery_interface stations sent datagram router iface now s none here =
+    let placed = delivery_placed stations sent datagram router iface now none in
+    interface_within stations router iface placed.0 s placed.1 here
+
+-- of the link that it was sent on
 pub delivery_linked : (stations : List StationValue) (sent : List Sent) (datagram router iface now : ℕ) (d : Sent)
     → event_fault (lab_of stations sent []) (Deliver datagram router iface now) ≡ None → slice_get sent datagram ≡ Some d
     → AreLinked (network_of stations) d.router d.iface router iface
@@ -157,6 +175,12 @@ stranger stations sent router x none =
           ∙ passes.1.1.0;
     }
 
+pub stranger_within : (stations : List StationValue) (sent : List Sent) (router : ℕ) (x : Received)
+    → event_fault (lab_of stations sent []) (Stranger router x) ≡ None → router < length stations
+stranger_within stations sent router x none =
+    let lawful = stranger stations sent router x none in
+    within stations router x.iface lawful.interface lawful.interface_is
+
 pub intruded : (stations : List StationValue) (sent : List Sent) (router : ℕ) (x : Received) (old new : StationValue) (answer : Answer)
     → event_fault (lab_of stations sent []) (Stranger router x) ≡ None
     → slice_get stations router ≡ Some old → new.node ≡ old.node → length old.state.config.interfaces ≡ length old.node.interfaces
@@ -180,18 +204,25 @@ pub enough : (n size room capacity routes entries routes' entries' : ℕ) → n 
     → size + room ≤ capacity → size + n ≤ capacity
 enough n size room capacity routes entries routes' entries' few is same same' fits = omega arith
 
+pub enough_for : (n size room capacity most most' : ℕ) → n ≤ most → room ≡ most' → most' ≡ most → size + room ≤ capacity → size + n ≤ capacity
+enough_for n size room capacity most most' few is same fits = omega arith
+
+-- a router that must be there
+pub router_within : (stations : List StationValue) (router : ℕ) → first_reason (missing_router_reasons (network_of stations) router) ≡ None → router < length stations
+router_within stations router none =
+    let h = (each_passes (missing_router_reasons (network_of stations) router) none).0 in
+    let few : router < length (network_of stations) = grind (arith, nat_tests, h) in
+    subst (λ (n : ℕ). router < n) (length-map stations (λ (s : StationValue). s.node)) few
+
 -- ---- changes of the configuration
 
 -- the router of a change
 pub named_within : (stations : List StationValue) (router : ℕ) (c : Change) → first_reason (named_reasons (network_of stations) router c) ≡ None → router < length stations
-named_within stations router c none =
-    let few : router < length (network_of stations) = by_change c none in
-    subst (λ (n : ℕ). router < n) (length-map stations (λ (s : StationValue). s.node)) few
-  where
-    by_change : (d : Change) → first_reason (named_reasons (network_of stations) router d) ≡ None → router < length (network_of stations)
-    by_change (Cost iface cost) passes = let h = (each_passes (named_reasons (network_of stations) router (Cost iface cost)) passes).0 in grind (arith, nat_tests, h)
-    by_change (Own p tag) passes = let h = (each_passes (named_reasons (network_of stations) router (Own p tag)) passes).0 in grind (arith, nat_tests, h)
-    by_change (Disown p) passes = let h = (each_passes (named_reasons (network_of stations) router (Disown p)) passes).0 in grind (arith, nat_tests, h)
+named_within stations router (Cost iface cost) none =
+    let i = some_of (interface_at (network_of stations) router iface) (each_passes (named_reasons (network_of stations) router (Cost iface cost)) none).1.0 in
+    within stations router iface i.0 i.1
+named_within stations router (Own p tag) none = router_within stations router none
+named_within stations router (Disown p) none = router_within stations router none
 
 -- and its interface
 pub named_placed : (stations : List StationValue) (router : ℕ) (c : Change) (s : StationValue) → first_reason (named_reasons (network_of stations) router c) ≡ None

@@ -1,8 +1,9 @@
-use Rattle.std.proofs.Common.{sym, subst}
+use Rattle.std.proofs.Common.{◌≡◌, None, sym, subst}
 use Rattle.std.proofs.lemmas.Result.{IfErr-weaker}
 use Rattle.ripng_world.specs.Events.{event_of}
-use Rattle.ripng_world.specs.Labs.{IsRefusal, lab_of}
+use Rattle.ripng_world.specs.Labs.{IsRefusal, event_fault, lab_of}
 use Rattle.ripng_world.specs.Stations.{MoveStations}
+use Rattle.ripng_world.proofs.StationMoves.{router_within}
 use Rattle.ripng_world.proofs.moving.happen.Goals as goal
 
 pub returns-in_ok-deliver-in-Deliver-clause-moves : goal.returns-in_ok-deliver-in-Deliver-clause-moves
@@ -31,3 +32,20 @@ returns-in-Reconfigure-clause-refused g c =
     (λ why refused.
     subst (λ e. IsRefusal (lab_of c.args.stations.now c.args.sent.now.items c.args.changes.now.items) (event_of e) why) (sym c.in-Reconfigure.is) (refused c.args.sent.now.items))
     c.reconfigure.ensures.refused
+
+-- what is asked of each kind of event
+
+pub deliver-requires : goal.deliver-requires
+deliver-requires g c = subst (λ e. event_fault (lab_of c.args.stations.now c.args.sent.now.items c.args.changes.now.items) (event_of e) ≡ None) c.in-Deliver.is c.requires
+
+pub intrude-requires : goal.intrude-requires
+intrude-requires g c = subst (λ e. event_fault (lab_of c.args.stations.now c.args.sent.now.items c.args.changes.now.items) (event_of e) ≡ None) c.in-Stranger.is c.requires
+
+pub tick-requires : goal.tick-requires
+tick-requires g c = router_within c.args.stations.now c.in-Tick.router (subst (λ e. event_fault (lab_of c.args.stations.now c.args.sent.now.items c.args.changes.now.items) (event_of e) ≡ None) c.in-Tick.is c.requires)
+
+pub restart-requires : goal.restart-requires
+restart-requires g c = router_within c.args.stations.now c.in-Restart.router (subst (λ e. event_fault (lab_of c.args.stations.now c.args.sent.now.items c.args.changes.now.items) (event_of e) ≡ None) c.in-Restart.is c.requires)
+
+pub reconfigure-requires : goal.reconfigure-requires
+reconfigure-requires g c = subst (λ e. event_fault (lab_of c.args.stations.now c.args.sent.now.items c.args.changes.now.items) (event_of e) ≡ None) c.in-Reconfigure.is c.requires

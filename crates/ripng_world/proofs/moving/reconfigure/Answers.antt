@@ -1,9 +1,10 @@
-use Rattle.std.proofs.Common.{◌≡◌, Some, get_or, slice_get, map, option_map, sym, subst, ◌∙◌, ap}
+use Rattle.std.proofs.Common.{◌≡◌, Some, length, get_or, slice_get, map, option_map, sym, subst, ◌∙◌, ap}
 use Rattle.std.proofs.lemmas.Option.{slice_get-map, slice_get-get_or}
+use borrow.Author.Rules.{scaled_Fits}
 use Rattle.ripng_world.specs.Labs.{IsRefusal, lab_of}
 use Rattle.ripng_world.specs.Stations.{StationValue}
 use Rattle.ripng_world.specs.World.{Reconfigure}
-use Rattle.ripng_world.proofs.StationMoves.{named_within, change_refused, err_is, reconfigured}
+use Rattle.ripng_world.proofs.StationMoves.{named_within, named_placed, change_refused, err_is, reconfigured}
 use Rattle.ripng_world.proofs.moving.reconfigure.Goals as goal
 
 pub returns-in_err-answer-clause-refused : goal.returns-in_err-answer-clause-refused
@@ -29,3 +30,16 @@ returns-clause-moves g c =
     let old = get_or stations router c.index-stations-router.result in
     let here = slice_get-get_or stations router c.index-stations-router.result (named_within stations router change c.requires) in
     λ sent. reconfigured stations router c.args.now change old c.reconfigure.new.self c.in_ok-answer.answer here c.reconfigure.ensures.node c.in_ok-answer.ensures.moves sent c.args.changes.now.items
+
+pub offset_bounds-stations-router : goal.offset_bounds-stations-router
+offset_bounds-stations-router g c = scaled_Fits c.args.router (length c.args.stations.now) _ (named_within c.args.stations.now c.args.router c.args.change.now c.requires) c.well_formed.0.1
+
+pub bounds-stations-router : goal.bounds-stations-router
+bounds-stations-router g c = named_within c.args.stations.now c.args.router c.args.change.now c.requires
+
+pub reconfigure-requires : goal.reconfigure-requires
+reconfigure-requires g c =
+    let stations = c.args.stations.now in
+    let router = c.args.router in
+    let old = get_or stations router c.index-stations-router.result in
+    named_placed stations router c.args.change.now old c.requires (slice_get-get_or stations router c.index-stations-router.result (named_within c.args.stations.now c.args.router c.args.change.now c.requires))
