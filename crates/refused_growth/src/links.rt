@@ -66,7 +66,10 @@ fn bind_again<R: Clock + Net>(rt: &R, alloc: Global, ports: &[u16; 5]) -> Outcom
 
 /// What comes of a link's being bound.
 pub fn outcome_of_bind<R: Clock + Net>(rt: &R, alloc: Global) -> Outcome {
-    let Some((peers, ports)) = nobody(alloc).zip(free_ports(rt)) else {
+    let Some(peers) = nobody(alloc) else {
+        return Outcome::NotMade;
+    };
+    let Some(ports) = free_ports(rt) else {
         return Outcome::NotMade;
     };
     match Udp::bind(rt, alloc, &ports, peers).err() {
