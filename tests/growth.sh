@@ -42,6 +42,7 @@ lab.own 347 359
 lab.run 327 359
 lab.round 315 359
 log.read 386 399
+engine.start 385 397
 engine.turns 348 396
 link.bind 395 398
 link.send 361 370

@@ -8,8 +8,6 @@ mod merging;
 mod replaying;
 mod room;
 mod searching;
-#[cfg(test)]
-mod tests;
 
 pub use change::{Hop, RouteChange};
 pub use fib::Fib;

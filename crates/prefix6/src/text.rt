@@ -129,6 +129,3 @@ pub fn written_texts_are_canonical()
     ensures exact { (groups text : List ℕ) → IsCanonical groups text ↔ (text ≡ written groups) }
     ensures group { (n : ℕ) → n < 2 ^ 16 → IsPlainGroup (hex n) n }
 {}
-
-#[cfg(test)]
-mod tests;

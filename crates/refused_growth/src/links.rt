@@ -36,28 +36,45 @@ fn nobody(alloc: Global) -> Option<Vec<Vec<Peer>>>
     .ok()
 }
 
-/// A link that was refused memory is bound again.
-fn bind_again<R: Clock + Net>(rt: &R, alloc: Global) -> Outcome {
+/// Five ports at which nothing stands.
+fn free_ports<R: Net>(rt: &R) -> Option<[u16; 5]> {
+    let sockets = [
+        neighbor(rt)?,
+        neighbor(rt)?,
+        neighbor(rt)?,
+        neighbor(rt)?,
+        neighbor(rt)?,
+    ];
+    let mut ports = [0; 5];
+    for (port, socket) in ports.iter_mut().zip(sockets.iter()) {
+        *port = socket.local_addr().ok()?.port();
+    }
+    Some(ports)
+}
+
+/// A link that was refused memory is bound again, at the same ports: none of them is held.
+fn bind_again<R: Clock + Net>(rt: &R, alloc: Global, ports: &[u16; 5]) -> Outcome {
     let Some(peers) = nobody(alloc) else {
         return Outcome::Wrong("memory was refused a second time");
     };
-    if Udp::bind(rt, alloc, &[0; 5], peers).is_ok() {
-        Outcome::Refused
-    } else {
-        Outcome::Wrong(
-            "a bind that was refused memory should succeed when it is made again, and failed",
-        )
+    match Udp::bind(rt, alloc, ports, peers).err() {
+        None => Outcome::Refused,
+        Some(UdpError::OutOfMemory) => Outcome::Wrong("memory was refused a second time"),
+        Some(UdpError::Bind(_)) => Outcome::Wrong("a bind that was refused memory held a port"),
     }
 }
 
-/// What comes of a link's being bound, at ports that the system chooses.
+/// What comes of a link's being bound.
 pub fn outcome_of_bind<R: Clock + Net>(rt: &R, alloc: Global) -> Outcome {
     let Some(peers) = nobody(alloc) else {
         return Outcome::NotMade;
     };
-    match Udp::bind(rt, alloc, &[0; 5], peers).err() {
+    let Some(ports) = free_ports(rt) else {
+        return Outcome::NotMade;
+    };
+    match Udp::bind(rt, alloc, &ports, peers).err() {
         None => Outcome::Undisturbed,
-        Some(UdpError::OutOfMemory) => bind_again(rt, alloc),
+        Some(UdpError::OutOfMemory) => bind_again(rt, alloc, &ports),
         Some(UdpError::Bind(_)) => Outcome::Wrong(
             "a bind that was refused memory should say so, and named a port",
         ),

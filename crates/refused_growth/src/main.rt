@@ -13,6 +13,7 @@ mod rounds;
 mod routers;
 mod rows;
 mod runs;
+mod starts;
 mod trial;
 
 use crate::labs::Kind;
@@ -91,6 +92,7 @@ fn outcome_of<R: AllocGlobal + Clock + Net>(rt: &R, name: &str) -> Option<Outcom
         ("network", "check") => Some(parts::outcome_of_check(alloc)),
         ("log", "read") => Some(parts::outcome_of_reading(alloc)),
         ("link", name) => of_link(rt, alloc, name),
+        ("engine", "start") => Some(starts::outcome_of_start(alloc)),
         ("engine", "turns") => Some(engines::outcome_of_engine(alloc)),
         _ => None,
     }

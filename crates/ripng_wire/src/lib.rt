@@ -12,6 +12,3 @@ pub use laws::{one_datagram, spelled_has_no_fault};
 pub use reading::{Datagram, Rtes, decode};
 pub use rte::{Command, MAX_ENTRIES, NEXT_HOP_METRIC, Rte, entries_for_mtu};
 pub use writing::encode;
-
-#[cfg(test)]
-mod tests;

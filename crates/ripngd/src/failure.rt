@@ -1,40 +1,59 @@
-//! What fails outside the program.
+//! What fails outside the program, and what standard error says of it.
 
-ghost use Rattle.std.specs.Prelude.{◌≡◌, ◌≢◌};
+ghost use Rattle.std.specs.Prelude.{◌≡◌, ◌≢◌, OnOk, Some};
+ghost use Rattle.std.specs.Io.KnownBytes.{Appends};
 ghost use Rattle.std.specs.IoError.{error_kind};
 ghost use Rattle.ripngd.specs.Exit.{failure_of, failure_of_engine, failure_of_link, failure_of_serve};
+ghost use Rattle.ripngd.specs.Said.{failure_line, failure_text};
 ghost use Rattle.ripngd.specs.declared.failure.Failure.TheVariants as failures;
 
 use ripngd_engine::EngineFault;
 use ripngd_page::ServeFault;
 use ripngd_show::PrintFault;
 use ripngd_udp::UdpError;
-use std::io::{self, ErrorKind};
-use thiserror::Error;
+use std::fmt::{self, Display};
+use std::io::{self, ErrorKind, Write};
 
 /// What failed outside the program, with the file, the port or the turns that it failed at.
-#[derive(Clone, Copy, Debug, PartialEq, Eq, Error)]
+#[derive(Clone, Copy, Debug, PartialEq, Eq)]
 pub(crate) enum Failure<'a> {
     /// A file cannot be read.
-    #[error("cannot read {0}")]
     Read(&'a str),
     /// A file for the log cannot be made.
-    #[error("cannot write {0}")]
     Log(&'a str),
     /// Standard output failed.
-    #[error("cannot write stdout")]
     Output,
     /// A port of 127.0.0.1 cannot be bound.
-    #[error("cannot bind {0}")]
     Bind(u16),
     /// No browser's connection can be taken.
-    #[error("cannot accept a connection")]
     Accept,
     /// A socket failed, after so many turns.
-    #[error("link fault after {0} turns")]
     Link(u32),
-    #[error("out of memory")]
+    /// Memory was refused.
     OutOfMemory,
+}
+
+impl Display for Failure<'_> {
+    ghost output = { λ failure. Some (failure_text failure) };
+
+    fn fmt<W: fmt::Write>(&self, f: &mut fmt::Formatter<W>) -> fmt::Result {
+        match *self {
+            Failure::Read(file) => write!(f, "cannot read {file}"),
+            Failure::Log(file) => write!(f, "cannot write {file}"),
+            Failure::Output => write!(f, "cannot write stdout"),
+            Failure::Bind(port) => write!(f, "cannot bind {port}"),
+            Failure::Accept => write!(f, "cannot accept a connection"),
+            Failure::Link(done) => write!(f, "link fault after {done} turns"),
+            Failure::OutOfMemory => write!(f, "out of memory"),
+        }
+    }
+}
+
+/// Writes what failed, as `ripngd: cannot read FILE`.
+pub(crate) fn write_failure<W: Write>(failure: Failure<'_>, err: &mut W) -> io::Result<()>
+    ensures { OnOk result (Appends (W.contents err.old) (W.contents err.new) (failure_line failure.entry)) }
+{
+    writeln!(err, "ripngd: {failure}")
 }
 
 /// What a fault of the system is, where something was tried: want of memory, or else that this failed.

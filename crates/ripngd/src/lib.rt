@@ -14,6 +14,7 @@ mod plan;
 mod reading;
 mod running;
 mod status;
+mod subcommands;
 
 pub use asked::{Ask, Order, Serve};
 pub use checking::check;
@@ -25,6 +26,3 @@ pub use ripngd_engine::{Engine, EngineFault, Link, LinkFault, Received, Report, 
 pub use ripngd_show::{PrintFault, show};
 pub use ripngd_udp::{Udp, UdpError, Uptime};
 pub use status::program;
-
-#[cfg(test)]
-mod tests;

@@ -7,15 +7,13 @@ ghost use Rattle.ripngd.specs.Failing.{MayFail};
 ghost use Rattle.ripngd.specs.declared.failure.Failure.TheVariants as failures;
 
 use crate::asked::Ask;
-use crate::browser::{film, serve};
-use crate::checking::check;
+use crate::browser::serve;
 use crate::command_line::ask;
-use crate::failure::Failure;
-use crate::forwarding::table;
-use crate::laboratory::{lab, trace};
+use crate::failure::{Failure, write_failure};
 use crate::losses::{NOTHING_LOST, write_losses};
 use crate::reading::{FileSource, SystemFiles};
 use crate::running::run;
+use crate::subcommands::{check_file, film_file, lab_file, table_file, trace_file};
 use clap::error::ErrorKind;
 use ripngd_engine::Report;
 use ripngd_show::show;
@@ -123,13 +121,13 @@ fn accepts<
 {
     match asked {
         Ask::Show(hex) => Ok(show(rt.alloc(), hex, out)?),
-        Ask::Check(file) => Ok(check(rt.alloc(), files.read(file)?.as_slice(), out)?),
-        Ask::Lab(file) => Ok(lab(rt.alloc(), files.read(file)?.as_slice(), out)?),
-        Ask::Trace(file) => Ok(trace(rt.alloc(), files.read(file)?.as_slice(), out)?),
+        Ask::Check(file) => check_file(rt.alloc(), files, file, out),
+        Ask::Lab(file) => lab_file(rt.alloc(), files, file, out),
+        Ask::Trace(file) => trace_file(rt.alloc(), files, file, out),
         Ask::Run(order) => run(rt, files, order, out, err, lost),
-        Ask::Table(file) => Ok(table(rt.alloc(), files.read(file)?.as_slice(), out)?),
+        Ask::Table(file) => table_file(rt.alloc(), files, file, out),
         Ask::Page(order) => serve(rt, order, out),
-        Ask::Film(file) => Ok(film(rt.alloc(), file, files.read(file)?.as_slice(), out)?),
+        Ask::Film(file) => film_file(rt.alloc(), files, file, out),
     }
 }
 
@@ -159,11 +157,11 @@ fn answer<
     if out.flush().is_err() {
         return Err(Failure::Output);
     }
-    Ok(if accepted {
-        Status::Done
+    if accepted {
+        Ok(Status::Done)
     } else {
-        Status::Refused
-    })
+        Ok(Status::Refused)
+    }
 }
 
 /// Writes why the command line asks for nothing: help or the version to `out`, a fault to `err`.
@@ -198,10 +196,10 @@ fn print<'a, O: Write>(help: &clap::Error, out: &mut O) -> Result<Status, Failur
     Ok(Status::Done)
 }
 
-/// Writes what failed to `err`.
-pub(crate) fn report<E: Write>(failure: Failure<'_>, err: &mut E) -> Status
+/// Writes what failed to `err`, and answers the status of a failure.
+fn report<E: Write>(failure: Failure<'_>, err: &mut E) -> Status
     ensures { result ≡ Status.Failed }
 {
-    let _ = writeln!(err, "ripngd: {failure}");
+    let _ = write_failure(failure, err);
     Status::Failed
 }

@@ -17,6 +17,3 @@ mod values;
 pub use configuration::{Config, read_config};
 pub use fault::ConfigFault;
 pub use peer::Peer;
-
-#[cfg(test)]
-mod tests;

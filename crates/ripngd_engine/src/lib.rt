@@ -15,8 +15,6 @@ pub mod memory;
 mod outlet;
 mod report;
 mod running;
-#[cfg(test)]
-mod tests;
 mod watch;
 
 pub use change_lines::RouteLine;

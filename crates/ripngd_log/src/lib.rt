@@ -8,8 +8,6 @@ mod fault;
 mod laws;
 mod line;
 mod reading;
-#[cfg(test)]
-mod tests;
 mod words;
 
 pub use fault::LogFault;

@@ -20,6 +20,3 @@ pub use fault::ServeFault;
 pub use film::write_film;
 pub use page::{ANSWER_LIMIT, BODY_LIMIT, Page};
 pub use server::{Server, serve_page};
-
-#[cfg(test)]
-mod tests;

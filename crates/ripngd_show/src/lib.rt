@@ -6,8 +6,3 @@ mod showing;
 
 pub use print_fault::PrintFault;
 pub use showing::show;
-
-#[cfg(test)]
-mod captured;
-#[cfg(test)]
-mod tests;

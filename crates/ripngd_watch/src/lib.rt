@@ -6,8 +6,6 @@
 mod counts;
 mod laws;
 mod lines;
-#[cfg(test)]
-mod tests;
 
 pub use counts::Counts;
 pub use laws::counts_are_of_all_told;

@@ -17,6 +17,3 @@ pub use route::{Clock, INFINITY, Origin, Route};
 pub use sorted::SortedRoutes;
 pub use store::{AddRefused, RouteStore, TABLE_LIMIT};
 pub use trie_routes::TrieRoutes;
-
-#[cfg(test)]
-mod tests;

@@ -1,23 +1,20 @@
-use Rattle.std.proofs.Common.{Bool, true, false, subst}
-use Rattle.ripngd.specs.Exit.{AnswersAsk}
 use Rattle.ripngd.proofs.Kept.{answer_kept}
 use Rattle.ripngd.proofs.status.answer.Goals as goal
-use Rattle.ripngd.proofs.status.answer.Goals.{then-accepted, else-accepted}
 
-pub returns-clause-done : goal.returns-clause-done
-returns-clause-done g c =
+pub returns-then-accepted-clause-done : goal.returns-then-accepted-clause-done
+returns-then-accepted-clause-done g c =
     let kept = answer_kept (g.F.FileSource.holds c.args.files.now) c.args.asked c.in_ok-accepted.accepted _ _ _
     c.in_ok-accepted.ensures.answered c.flush.ensures.bytes in
-    λ is. elim c.if-accepted.branch [
-      | then-accepted w ↦ rw w.if-accepted.true at kept
-      | else-accepted w ↦ absurd (let other = rw w.result-is at is in cc other)
-    ]
+    λ is. rw c.if-accepted.true at kept
 
-pub returns-clause-refused : goal.returns-clause-refused
-returns-clause-refused g c =
+pub returns-else-accepted-clause-refused : goal.returns-else-accepted-clause-refused
+returns-else-accepted-clause-refused g c =
     let kept = answer_kept (g.F.FileSource.holds c.args.files.now) c.args.asked c.in_ok-accepted.accepted _ _ _
     c.in_ok-accepted.ensures.answered c.flush.ensures.bytes in
-    λ is. elim c.if-accepted.branch [
-      | then-accepted w ↦ absurd (let other = rw w.result-is at is in cc other)
-      | else-accepted w ↦ rw w.if-accepted.false at kept
-    ]
+    λ is. rw c.if-accepted.false at kept
+
+pub returns-then-accepted-clause-refused : goal.returns-then-accepted-clause-refused
+returns-then-accepted-clause-refused g c = λ is. absurd (cc is)
+
+pub returns-else-accepted-clause-done : goal.returns-else-accepted-clause-done
+returns-else-accepted-clause-done g c = λ is. absurd (cc is)

@@ -1,0 +1,47 @@
+//! Command lines that ask for nothing that there is.
+
+use ripngd::program;
+
+/// Words that have a fault.
+const FAULTS: [&[&str]; 18] = [
+    &[],
+    &["ripngd"],
+    &["ripngd", "show"],
+    &["ripngd", "show", "-02"],
+    &["ripngd", "show", "02", "01"],
+    &["ripngd", "check"],
+    &["ripngd", "lab"],
+    &["ripngd", "run"],
+    &["ripngd", "run", "--turns", "0", "file"],
+    &["ripngd", "run", "--turns", "4294967296", "file"],
+    &["ripngd", "run", "-t", "65536", "file"],
+    &["ripngd", "run", "-t", "0x10", "file"],
+    &["ripngd", "table"],
+    &["ripngd", "table", "log", "other"],
+    &["ripngd", "page", "file"],
+    &["ripngd", "page", "--port", "65536"],
+    &["ripngd", "page", "--requests", "0"],
+    &["ripngd", "02"],
+];
+
+#[test]
+fn a_fault_of_the_command_line_is_status_2(rt: HostRuntime) {
+    for words in FAULTS {
+        let mut out = Vec::new(rt.alloc());
+        let mut err = Vec::new(rt.alloc());
+        assert_eq!(rt; program(&rt, words, &mut out, &mut err), 2, "at {words:?}");
+        assert!(rt; out.is_empty(), "at {words:?}");
+        assert!(rt; err.as_slice().starts_with(b"error: "), "at {words:?}");
+    }
+}
+
+#[test]
+fn a_fault_of_the_command_line_is_explained(rt: HostRuntime) {
+    let mut out = Vec::new(rt.alloc());
+    let mut err = Vec::new(rt.alloc());
+    let status = program(&rt, &["ripngd", "show"], &mut out, &mut err);
+    assert_eq!(rt; status, 2);
+    let text =
+        "error: the following required arguments were not provided:\n  <HEX>\n\nUsage: ripngd show <HEX>\n\nFor more information, try '--help'.\n";
+    assert!(rt; err.as_slice() == text.as_bytes());
+}

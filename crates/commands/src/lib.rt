@@ -1,0 +1,19 @@
+//! The commands of `ripngd`: what they write, and their exit statuses.
+#![tactic(auto)]
+
+#[cfg(test)]
+mod debugging;
+#[cfg(test)]
+mod faults;
+#[cfg(test)]
+mod files;
+#[cfg(test)]
+mod help;
+#[cfg(test)]
+mod running;
+#[cfg(test)]
+mod shown;
+#[cfg(test)]
+mod tables;
+#[cfg(test)]
+mod writers;

@@ -1,0 +1,263 @@
+//! An engine of a router with two interfaces, over memory: what it sends and logs, and what it does where a send, a
+//! `recv` or a write of the log fails.
+
+ghost use Rattle.std.specs.Prelude.{◌≡◌, IfOk, length};
+
+mod recorded;
+mod watched;
+
+use prefix6::Addr6;
+use ripngd_engine::memory::{Datagram, LinkCall, MemoryClock, MemoryLink, MemoryLog, SameWord};
+use ripngd_engine::{Engine, EngineFault, Report};
+use route_table::{Moment, SortedRoutes};
+use router_core::{Interface, RouterConfig};
+use std::alloc::{AllocError, Global};
+use std::collections::VecDeque;
+use std::process::Abort;
+use std::test::Fail;
+
+type MemoryEngine = Engine<SortedRoutes, MemoryLink, MemoryClock, SameWord>;
+
+/// A request for a neighbor's whole table.
+const REQUEST: [u8; 24] = [
+    1, 1, 0, 0, 0, 0, 0, 0, 0, 0, 0, 0, 0, 0, 0, 0, 0, 0, 0, 0, 0, 0, 0, 16,
+];
+
+/// A Response with the route `2001:db8::/32`, tag 0, of a metric.
+fn response(metric: u8) -> [u8; 24] {
+    [
+        2, 1, 0, 0, 0x20, 0x01, 0x0d, 0xb8, 0, 0, 0, 0, 0, 0, 0, 0, 0, 0, 0, 0, 0, 0, 32, metric,
+    ]
+}
+
+/// The link-local address `fe80::HOST`.
+fn link_local(host: u32) -> Addr6 {
+    Addr6::from_bits((0xfe80 << 112) + u128::from(host))
+}
+
+/// `fe80::1` with MTU 1,280 and `fe80::1:1` with MTU 1,500, each of cost 1, and no prefix of its own.
+fn config(rt: &impl Abort, alloc: Global) -> Result<RouterConfig, AllocError>
+    ensures { IfOk result (λ c. length c.interfaces ≡ 2) }
+{
+    let interfaces = vec![in alloc;
+        Interface {
+            addr: link_local(1),
+            cost: 1,
+            mtu: 1280,
+        },
+        Interface {
+            addr: link_local(0x1_0001),
+            cost: 1,
+            mtu: 1500,
+        },
+    ]?;
+    Ok(RouterConfig::check(interfaces, Vec::new(alloc), false).expect(rt, "a lawful configuration"))
+}
+
+/// A datagram that `fe80::2` sends to the group on interface 0.
+fn from_neighbor(bytes: Vec<u8>) -> Option<Datagram> {
+    Some(Datagram {
+        iface: 0,
+        source: link_local(2),
+        source_port: 521,
+        hop_limit: 255,
+        to_group: true,
+        bytes,
+    })
+}
+
+/// The datagram by which it tells the route.
+fn told(alloc: Global, metric: u8) -> Result<Option<Datagram>, AllocError> {
+    Ok(from_neighbor(Vec::from_slice(alloc, &response(metric))?))
+}
+
+/// A clock that gives 0 as often as is said, and then 2 for ever.
+fn clock(rt: &impl Abort, alloc: Global, zeros: u32) -> Result<MemoryClock, AllocError> {
+    let zero = Moment::new(0).expect(rt, "a moment");
+    let mut moments = VecDeque::new(alloc);
+    for _ in 0..zeros {
+        moments.push_back(zero)?;
+    }
+    Ok(MemoryClock::new(alloc, moments, Moment::new(2).expect(rt, "a moment")))
+}
+
+/// The engine over a link of two interfaces, with words of 0.
+fn start(
+    rt: &impl Abort,
+    alloc: Global,
+    link: MemoryLink,
+    log: &mut MemoryLog,
+) -> Result<MemoryEngine, Fail>
+    requires { link.interfaces ≡ 2 }
+{
+    let config = config(rt, alloc)?;
+    let clock = clock(rt, alloc, 2)?;
+    Ok(Engine::start(alloc, config, link, clock, SameWord(0), log)?)
+}
+
+/// That just these were handed to the link, in order: the interface, whether it went out, and the bytes.
+fn expect_handed(rt: &impl Abort, link: &MemoryLink, expected: &[(usize, bool, [u8; 24])]) {
+    let calls = link.calls().expect(rt, "memory for each call");
+    let mut count = 0usize;
+    for call in calls {
+        if let LinkCall::Handed(outgoing, went) = call {
+            let wanted = expected.get(count).expect(rt, "a datagram that is wanted");
+            assert_eq!(rt; (outgoing.iface, *went), (wanted.0, wanted.1));
+            assert_eq!(rt; outgoing.bytes.as_slice(), wanted.2.as_slice());
+            count = count.saturating_add(1);
+        }
+    }
+    assert_eq!(rt; count, expected.len());
+}
+
+#[test]
+fn a_failed_send_is_counted_and_a_failed_recv_ends_the_turns(rt: HostRuntime) -> Result<(), Fail> {
+    let alloc = rt.alloc();
+    let mut link = MemoryLink::new(alloc, 2);
+    link.failing_send = Some(0);
+    link.failing_recv = Some(2);
+    let mut log = MemoryLog::new(alloc);
+    let mut engine = start(&rt, alloc, link, &mut log)?;
+    expect_handed(
+        &rt,
+        engine.link(),
+        &[(0, false, REQUEST), (1, true, REQUEST)],
+    );
+    assert_eq!(rt; engine.report().lost_sends, 1);
+    let fault = EngineFault::LinkFault { done: 2 };
+    assert_eq!(rt; engine.turns(5, &mut log), Err(fault));
+    assert_eq!(rt; (fault.number(), EngineFault::OutOfMemory.number()), (1, 2));
+    assert_eq!(rt; engine.report().lost_sends, 1);
+    Ok(())
+}
+
+#[test]
+fn a_route_is_learned_told_and_logged(rt: HostRuntime) -> Result<(), Fail> {
+    let alloc = rt.alloc();
+    let mut link = MemoryLink::new(alloc, 2);
+    link.coming.push_back(told(alloc, 1)?)?;
+    let mut log = MemoryLog::new(alloc);
+    let mut engine = start(&rt, alloc, link, &mut log)?;
+    assert_eq!(rt; engine.turns(1, &mut log), Ok(()));
+    expect_handed(
+        &rt,
+        engine.link(),
+        &[
+            (0, true, REQUEST),
+            (1, true, REQUEST),
+            (0, true, response(16)),
+            (1, true, response(2)),
+        ],
+    );
+    assert_eq!(rt;
+        log.text(),
+        b"add 2001:db8::/32 metric 2 via fe80::2 iface 0\n".as_slice()
+    );
+    assert_eq!(rt; engine.router().regular().ms(), 15_002);
+    let undisturbed = Report {
+        lost_sends: 0,
+        lost_memory: 0,
+        log_failed: false,
+    };
+    assert_eq!(rt; engine.report(), undisturbed);
+    Ok(())
+}
+
+/// A link of two interfaces: at its second `recv` the route is told, and at its third it is taken back.
+fn told_and_taken_back(alloc: Global) -> Result<MemoryLink, AllocError>
+    ensures { IfOk result (λ link. link.interfaces ≡ 2) }
+{
+    let mut link = MemoryLink::new(alloc, 2);
+    link.coming.push_back(None)?;
+    link.coming.push_back(told(alloc, 1)?)?;
+    link.coming.push_back(told(alloc, 16)?)?;
+    Ok(link)
+}
+
+const TOLD_AND_TAKEN_BACK: &[u8] =
+    b"add 2001:db8::/32 metric 2 via fe80::2 iface 0\ndel 2001:db8::/32\n";
+
+/// What that link is handed in five turns, where one send may fail.
+fn sends(failing: Option<u64>) -> [(usize, bool, [u8; 24]); 4] {
+    [
+        (0, failing != Some(0), REQUEST),
+        (1, failing != Some(1), REQUEST),
+        (0, failing != Some(2), response(16)),
+        (1, failing != Some(3), response(2)),
+    ]
+}
+
+#[test]
+fn a_failed_send_loses_its_own_datagram_alone(rt: HostRuntime) -> Result<(), Fail> {
+    let alloc = rt.alloc();
+    for failing in 0..4u64 {
+        let mut link = told_and_taken_back(alloc)?;
+        link.failing_send = Some(failing);
+        let mut log = MemoryLog::new(alloc);
+        let mut engine = start(&rt, alloc, link, &mut log)?;
+        assert_eq!(rt; engine.turns(5, &mut log), Ok(()));
+        expect_handed(&rt, engine.link(), &sends(Some(failing)));
+        assert_eq!(rt; engine.report().lost_sends, 1);
+        assert_eq!(rt; log.text(), TOLD_AND_TAKEN_BACK);
+        assert!(rt; engine.fib().is_empty());
+    }
+    Ok(())
+}
+
+#[test]
+fn turns_go_on_after_a_failed_recv(rt: HostRuntime) -> Result<(), Fail> {
+    let alloc = rt.alloc();
+    for done in 0..5u32 {
+        let mut link = told_and_taken_back(alloc)?;
+        link.failing_recv = Some(u64::from(done));
+        let mut log = MemoryLog::new(alloc);
+        let mut engine = start(&rt, alloc, link, &mut log)?;
+        assert_eq!(rt;
+            engine.turns(5, &mut log),
+            Err(EngineFault::LinkFault { done })
+        );
+        assert_eq!(rt; engine.turns(5 - done, &mut log), Ok(()));
+        expect_handed(&rt, engine.link(), &sends(None));
+        assert_eq!(rt; engine.report().lost_sends, 0);
+        assert_eq!(rt; log.text(), TOLD_AND_TAKEN_BACK);
+    }
+    Ok(())
+}
+
+#[test]
+fn a_failed_write_ends_the_log_alone(rt: HostRuntime) -> Result<(), Fail> {
+    let alloc = rt.alloc();
+    let mut writes = 1u64;
+    for failing in 0..64u64 {
+        let mut log = MemoryLog::new(alloc);
+        log.failing_write = Some(failing);
+        let mut engine = start(&rt, alloc, told_and_taken_back(alloc)?, &mut log)?;
+        assert_eq!(rt; engine.turns(5, &mut log), Ok(()));
+        expect_handed(&rt, engine.link(), &sends(None));
+        assert!(rt; engine.fib().is_empty());
+        writes = log.writes;
+        let failed = failing < writes;
+        assert_eq!(rt; engine.report().log_failed, failed);
+        assert!(rt;
+            !failed || writes == failing.saturating_add(1),
+            "no write after {failing}"
+        );
+        assert_eq!(rt; log.text() == TOLD_AND_TAKEN_BACK, !failed);
+    }
+    assert!(rt; writes < 64);
+    Ok(())
+}
+
+#[test]
+fn the_longest_datagram_fits_the_buffer(rt: HostRuntime) -> Result<(), Fail> {
+    let alloc = rt.alloc();
+    let mut link = MemoryLink::new(alloc, 2);
+    link.coming
+        .push_back(from_neighbor(vec![in alloc; 0u8; 65_535]?))?;
+    let mut log = MemoryLog::new(alloc);
+    let mut engine = start(&rt, alloc, link, &mut log)?;
+    assert_eq!(rt; engine.turns(1, &mut log), Ok(()));
+    let calls = engine.link().calls().expect(&rt, "memory for each call");
+    assert!(rt; calls.iter().any(|call| matches!(call, LinkCall::Gave(_))));
+    Ok(())
+}

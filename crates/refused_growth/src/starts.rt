@@ -1,0 +1,149 @@
+//! The start of an engine that is refused: it did nothing, or all but the forwarding table.
+
+ghost use Rattle.std.specs.Prelude.{◌≡◌, IfSome, length};
+
+use crate::rows::link_local;
+use crate::trial::Outcome;
+use prefix6::{Addr6, Prefix};
+use ripngd_engine::memory::{MemoryClock, SameWord};
+use ripngd_engine::{Engine, EngineFault, Link, LinkFault, Received};
+use route_table::{Moment, TrieRoutes};
+use router_core::{Interface, Outgoing, RouterConfig};
+use std::alloc::Global;
+use std::cell::Cell;
+use std::collections::VecDeque;
+use std::io::{self, Write};
+
+/// How often a link was handed a datagram, and how many lines a log was given.
+#[derive(Drop)]
+struct Calls {
+    sends: Cell<u32>,
+    lines: Cell<u32>,
+}
+
+/// One call more.
+fn count(calls: &Cell<u32>) {
+    calls.set(calls.get().saturating_add(1));
+}
+
+/// A link of one interface on which nothing comes.
+#[derive(Drop)]
+struct CountedLink<'a>(&'a Calls);
+
+impl Link for CountedLink<'_> {
+    ghost use Rattle.std.specs.Prelude.{None};
+
+    ghost calls = { λ _. None };
+
+    ghost interface_count = { λ _. 1 };
+
+    fn interfaces(&self) -> usize {
+        1
+    }
+
+    fn recv(&mut self, _buffer: &mut [u8]) -> Result<Option<Received>, LinkFault> {
+        Ok(None)
+    }
+
+    fn send(&mut self, _outgoing: &Outgoing) -> Result<(), LinkFault> {
+        count(&self.0.sends);
+        Ok(())
+    }
+}
+
+/// A log, of which the last write of each line ends it.
+#[derive(Drop)]
+struct CountedLog<'a>(&'a Calls);
+
+impl Write for CountedLog<'_> {
+    fn write(&mut self, buf: &[u8]) -> io::Result<usize> {
+        if buf.ends_with(b"\n") {
+            count(&self.0.lines);
+        }
+        Ok(buf.len())
+    }
+
+    fn flush(&mut self) -> io::Result<()> {
+        Ok(())
+    }
+}
+
+type CountedEngine<'a> = Engine<TrieRoutes, CountedLink<'a>, MemoryClock, SameWord>;
+
+/// `fe80::1`, which owns `2001:db8::/32` and `2001:db9::/32`.
+fn owner(alloc: Global) -> Option<RouterConfig>
+    ensures { IfSome result (λ c. length c.interfaces ≡ 1) }
+{
+    let interfaces = vec![in alloc;
+        Interface {
+            addr: link_local(1),
+            cost: 1,
+            mtu: 1280,
+        },
+    ]
+    .ok()?;
+    let mut prefixes = Vec::new(alloc);
+    for first in 0x2001_0db8..0x2001_0dbau32 {
+        let addr = Addr6::from_bits(u128::from(first) << 96);
+        prefixes.push((Prefix::new(addr, 32).ok()?, 0u16)).ok()?;
+    }
+    RouterConfig::check(interfaces, prefixes, false).ok()
+}
+
+/// What came of a start: whether it was refused, what was sent, and what was logged.
+#[derive(Clone, Copy, Debug, PartialEq, Eq)]
+struct Start {
+    is_refused: bool,
+    sends: u32,
+    lines: u32,
+}
+
+/// The start of a router with one interface and two prefixes: it asks on the one, and logs the others.
+const WHOLE: Start = Start {
+    is_refused: false,
+    sends: 1,
+    lines: 2,
+};
+
+/// Starts, if what that needs could be made.
+fn started(alloc: Global) -> Option<Start> {
+    let config = owner(alloc)?;
+    let clock = MemoryClock::new(alloc, VecDeque::new(alloc), Moment::new(0)?);
+    let calls = Calls {
+        sends: Cell::new(0),
+        lines: Cell::new(0),
+    };
+    let engine: Result<CountedEngine<'_>, EngineFault> = Engine::start(
+        alloc,
+        config,
+        CountedLink(&calls),
+        clock,
+        SameWord(0),
+        &mut CountedLog(&calls),
+    );
+    Some(Start {
+        is_refused: engine.is_err(),
+        sends: calls.sends.get(),
+        lines: calls.lines.get(),
+    })
+}
+
+/// What is said of a start that was refused: it did nothing, and made again it does all, or it did all.
+fn refused(alloc: Global, start: Start) -> Outcome {
+    match (start.sends, start.lines) {
+        (0, 0) if started(alloc) == Some(WHOLE) => Outcome::Refused,
+        (0, 0) => Outcome::Wrong("the start made again did not do what it does undisturbed"),
+        (1, 2) => Outcome::Right("no memory for the forwarding table: all else was done"),
+        _ => Outcome::Wrong("a start that was refused did a part of what it owes"),
+    }
+}
+
+/// What comes of an engine's start.
+pub fn outcome_of_start(alloc: Global) -> Outcome {
+    match started(alloc) {
+        None => Outcome::NotMade,
+        Some(WHOLE) => Outcome::Undisturbed,
+        Some(start) if start.is_refused => refused(alloc, start),
+        Some(_) => Outcome::Wrong("a start that was not refused left something undone"),
+    }
+}

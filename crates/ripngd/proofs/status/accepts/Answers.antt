@@ -1,0 +1,40 @@
+use Rattle.ripngd.proofs.status.accepts.Goals as goal
+
+pub returns-in-Check-clause-answered : goal.returns-in-Check-clause-answered
+returns-in-Check-clause-answered g c = rw c.in-Check.is c.check_file.ensures.answered
+
+pub returns-in-Check-clause-failed : goal.returns-in-Check-clause-failed
+returns-in-Check-clause-failed g c = rw c.in-Check.is c.check_file.ensures.failed
+
+pub returns-in-Lab-clause-answered : goal.returns-in-Lab-clause-answered
+returns-in-Lab-clause-answered g c = rw c.in-Lab.is c.lab_file.ensures.answered
+
+pub returns-in-Lab-clause-failed : goal.returns-in-Lab-clause-failed
+returns-in-Lab-clause-failed g c = rw c.in-Lab.is c.lab_file.ensures.failed
+
+pub returns-in-Trace-clause-answered : goal.returns-in-Trace-clause-answered
+returns-in-Trace-clause-answered g c = rw c.in-Trace.is c.trace_file.ensures.answered
+
+pub returns-in-Trace-clause-failed : goal.returns-in-Trace-clause-failed
+returns-in-Trace-clause-failed g c = rw c.in-Trace.is c.trace_file.ensures.failed
+
+pub returns-in-Run-clause-answered : goal.returns-in-Run-clause-answered
+returns-in-Run-clause-answered g c = rw c.in-Run.is c.run.ensures.ran
+
+pub returns-in-Run-clause-failed : goal.returns-in-Run-clause-failed
+returns-in-Run-clause-failed g c = rw c.in-Run.is c.run.ensures.failed
+
+pub returns-in-Table-clause-answered : goal.returns-in-Table-clause-answered
+returns-in-Table-clause-answered g c = rw c.in-Table.is c.table_file.ensures.answered
+
+pub returns-in-Table-clause-failed : goal.returns-in-Table-clause-failed
+returns-in-Table-clause-failed g c = rw c.in-Table.is c.table_file.ensures.failed
+
+pub returns-in-Film-clause-answered : goal.returns-in-Film-clause-answered
+returns-in-Film-clause-answered g c = rw c.in-Film.is c.film_file.ensures.answered
+
+pub returns-in-Film-clause-failed : goal.returns-in-Film-clause-failed
+returns-in-Film-clause-failed g c = rw c.in-Film.is c.film_file.ensures.failed
+
+pub returns-in-Page-clause-failed : goal.returns-in-Page-clause-failed
+returns-in-Page-clause-failed g c = rw c.in-Page.is c.serve.ensures.failed
