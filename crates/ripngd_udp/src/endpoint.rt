@@ -1,6 +1,6 @@
 //! The socket of an interface, at a port of 127.0.0.1, with its neighbors.
 
-ghost use Rattle.std.specs.Prelude.{◌≡◌, ◌==◌, ◌<◌, ◌≤◌, ◌↔◌, ◌⊎◌, [], true, Contains, IfErr, IfOk, Ok, IfSome, IsTrue, length};
+ghost use Rattle.std.specs.Prelude.{◌≡◌, ◌==◌, ◌+◌, ◌-◌, ◌<◌, ◌≤◌, ◌↔◌, ◌⊎◌, [], true, Contains, IfErr, IfOk, Ok, IfSome, IsTrue, length};
 ghost use Rattle.std.specs.IoError.{error_kind};
 ghost use Rattle.std.specs.Net.Socket.{IsPlainSocket};
 ghost use Rattle.ripngd_udp.specs.Sockets.{GrowsUpTo};
@@ -178,7 +178,9 @@ impl Endpoint {
 
     /// Sends of what waits as much as may go at a moment, in milliseconds.
     pub(crate) fn send_due(&mut self, now: u64)
-        ensures { self.old.outbox.failed ≤ self.new.outbox.failed }
+        ensures failed { self.old.outbox.failed ≤ self.new.outbox.failed }
+        ensures due { self.old.outbox.pace.since + 4 ≤ now
+            → length self.new.outbox.waiting.items ≡ length self.old.outbox.waiting.items - 16 }
     {
         self.outbox
             .send_due(&mut self.socket, self.peers.as_slice(), now);

@@ -1,6 +1,6 @@
 //! What is sent on an interface: datagrams go out in order, at the pace of its peers, and wait as long as that takes.
 
-ghost use Rattle.std.specs.Prelude.{◌≡◌, ◌==◌, ◌≤◌, ◌-◌, ◌++◌, ◌∷◌, [], IfOk, is_ok, if◌then◌else◌, length};
+ghost use Rattle.std.specs.Prelude.{◌≡◌, ◌==◌, ◌+◌, ◌<◌, ◌≤◌, ◌-◌, ◌++◌, ◌∷◌, [], IfOk, is_ok, if◌then◌else◌, length};
 ghost use Rattle.ripngd_engine.specs.Run.{counted};
 ghost use Rattle.ripngd_udp.specs.Queue.{Goes, SentOrKept};
 
@@ -133,10 +133,14 @@ impl Outbox {
         }
     }
 
-    /// Sends of what waits as many as may go at a moment, in milliseconds.
+    /// Sends of what waits as many as may go at a moment, in milliseconds: 16 where the pause is over, and else what may go
+    /// before it.
     pub(crate) fn send_due<C: Carrier>(&mut self, carrier: &mut C, peers: &[Peer], now: u64)
         ensures sends { Goes peers.now (C.tries carrier.old) (C.tries carrier.new) self.old.waiting.items self.new.waiting.items self.old.failed self.new.failed }
         ensures paced { length self.old.waiting.items - 16 ≤ length self.new.waiting.items }
+        ensures due { self.old.pace.since + 4 ≤ now → length self.new.waiting.items ≡ length self.old.waiting.items - 16 }
+        ensures paused { now < self.old.pace.since + 4
+            → length self.new.waiting.items ≡ length self.old.waiting.items - self.old.pace.left }
     {
         let count = self.pace.take(self.waiting.len(), now);
         self.send_some(carrier, peers, count);

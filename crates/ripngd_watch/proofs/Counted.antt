@@ -2,7 +2,7 @@
 use Rattle.std.proofs.Common.{◌≡◌, ℕ, ◌+◌, List, [], ◌∷◌, sym, arith, subst}
 use Rattle.ripngd_engine.specs.Run.{counted}
 use Rattle.ripngd_engine.specs.Watch.{Told, WasTold}
-use Rattle.ripngd_watch.specs.Counting.{Counted, total}
+use Rattle.ripngd_watch.specs.Counting.{Counted}
 use Rattle.ripngd_watch.specs.declared.counts.Counts.{Counts}
 
 -- nothing was counted

@@ -13,7 +13,6 @@ ghost use Rattle.ripngd_watch.specs.Counting.{Counted, is_fault, no_counts};
 use ripng_wire::WireError;
 use ripngd_engine::{Arrived, Watch};
 use router_core::{Fault, Note, NoteKind, Outgoing};
-use std::fmt::{self, Display};
 
 /// How many there were, each up to the greatest `u64`.
 #[derive(Clone, Copy, Debug, PartialEq, Eq)]
@@ -39,7 +38,7 @@ fn raise(counts: &mut [u64], place: usize)
 }
 
 /// The place of a fault: its number, 1 to 12, less 1.
-fn place_of(fault: Fault) -> usize
+pub(crate) fn place_of(fault: Fault) -> usize
     ensures place { result + 1 ≡ fault_number fault }
     ensures within { result < 12 }
 {
@@ -60,7 +59,7 @@ fn place_of(fault: Fault) -> usize
 }
 
 /// The place of a note: its number, 20 to 24, less 20.
-fn place_of_note(kind: NoteKind) -> usize
+pub(crate) fn place_of_note(kind: NoteKind) -> usize
     ensures place { result + 20 ≡ note_number kind }
     ensures within { result < 5 }
 {
@@ -139,66 +138,4 @@ impl Watch for Counts {
     fn sent(&mut self, _outgoing: &Outgoing, went: bool) {
         self.count_send(went);
     }
-}
-
-const FAULTS: [Fault; 12] = [
-    Fault::Wire(WireError::Short),
-    Fault::Wire(WireError::TooLong),
-    Fault::Wire(WireError::Ragged),
-    Fault::Wire(WireError::BadCommand),
-    Fault::Wire(WireError::BadVersion),
-    Fault::Wire(WireError::NotZero),
-    Fault::NotRipngPort,
-    Fault::NotLinkLocal,
-    Fault::OwnAddress,
-    Fault::HopLimit,
-    Fault::EmptyRequest,
-    Fault::BadSource,
-];
-
-const NOTES: [NoteKind; 5] = [
-    NoteKind::BadLength,
-    NoteKind::BadPrefix,
-    NoteKind::BadMetric,
-    NoteKind::TableFull,
-    NoteKind::NoMemory,
-];
-
-/// `arrivals A sends S failed F`, and on lines of their own, behind it, `refused NR NAME N` for each fault and `noted NR NAME
-/// N` for each kind of note that was counted. The last line is not ended.
-impl Display for Counts {
-    fn fmt<W: fmt::Write>(&self, f: &mut fmt::Formatter<W>) -> fmt::Result {
-        let Counts {
-            arrivals,
-            sends,
-            failed_sends,
-            faults,
-            notes,
-        } = *self;
-        write!(f, "arrivals {arrivals} sends {sends} failed {failed_sends}")?;
-        write_faults(f, &faults)?;
-        write_notes(f, &notes)
-    }
-}
-
-/// A line for each fault that was counted.
-fn write_faults<W: fmt::Write>(f: &mut fmt::Formatter<W>, counts: &[u64; 12]) -> fmt::Result {
-    for fault in FAULTS {
-        let count = counts[place_of(fault)];
-        if count > 0 {
-            write!(f, "\nrefused {} {} {count}", fault.number(), fault.name())?;
-        }
-    }
-    Ok(())
-}
-
-/// A line for each kind of note that was counted.
-fn write_notes<W: fmt::Write>(f: &mut fmt::Formatter<W>, counts: &[u64; 5]) -> fmt::Result {
-    for kind in NOTES {
-        let count = counts[place_of_note(kind)];
-        if count > 0 {
-            write!(f, "\nnoted {} {} {count}", kind.number(), kind.name())?;
-        }
-    }
-    Ok(())
 }
