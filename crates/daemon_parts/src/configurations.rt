@@ -9,7 +9,6 @@ use ripngd_config::{Config, Peer, read_config};
 use router_core::Interface;
 use rows::{DEFAULTS, EXAMPLE, NO_DEFAULTS, TAILS, TEXTS};
 use std::alloc::{AllocError, Global};
-use std::process::Abort;
 use std::test::Fail;
 
 /// The line that `check` prints: what the configuration has, or why it is refused.
@@ -29,42 +28,23 @@ fn outcome(alloc: Global, text: &[u8]) -> Result<String, AllocError> {
     }
 }
 
-/// A text gives its line.
-fn expect_line(rt: &impl Abort, alloc: Global, text: &str, line: &str) -> Result<(), Fail> {
-    let given = outcome(alloc, text.as_bytes())?;
-    assert_eq!(rt; given.as_str(), line, "of {text}");
-    Ok(())
-}
-
-/// Each text gives its line.
-fn expect_lines(rt: &impl Abort, alloc: Global, rows: &[(&str, &str)]) -> Result<(), Fail> {
-    for (text, line) in rows {
-        expect_line(rt, alloc, text, line)?;
-    }
-    Ok(())
-}
-
-/// Each tail, behind its head, gives its line.
-fn expect_lines_of_tails(
-    rt: &impl Abort,
-    alloc: Global,
-    rows: &[(&str, &str, &str)],
-) -> Result<(), Fail> {
-    for (head, tail, line) in rows {
-        let text = format!(in alloc; "{head}{tail}")?;
-        expect_line(rt, alloc, &text, line)?;
-    }
-    Ok(())
-}
-
 #[test]
 fn texts_give_their_lines(rt: HostRuntime) -> Result<(), Fail> {
-    expect_lines(&rt, rt.alloc(), &TEXTS)
+    for (text, line) in TEXTS {
+        let given = outcome(rt.alloc(), text.as_bytes())?;
+        assert_eq!(rt; given.as_str(), line, "of {text}");
+    }
+    Ok(())
 }
 
 #[test]
 fn tails_give_their_lines(rt: HostRuntime) -> Result<(), Fail> {
-    expect_lines_of_tails(&rt, rt.alloc(), &TAILS)
+    for (head, tail, line) in TAILS {
+        let text = format!(in rt.alloc(); "{head}{tail}")?;
+        let given = outcome(rt.alloc(), text.as_bytes())?;
+        assert_eq!(rt; given.as_str(), line, "of {text}");
+    }
+    Ok(())
 }
 
 #[test]

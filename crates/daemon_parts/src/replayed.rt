@@ -3,7 +3,6 @@
 use fib::Hop;
 use prefix6::{Addr6, Prefix};
 use ripngd_log::{LogFault, read_log};
-use std::alloc::Global;
 use std::process::Abort;
 use std::test::Fail;
 
@@ -102,28 +101,23 @@ const BAD_LINES: [&str; 34] = [
     "add 2001:db8::/32 metric 1 by fe80::a iface 0",
 ];
 
-/// Each line is refused with its number, as the first of a log and behind others.
-fn expect_refused(rt: &impl Abort, alloc: Global, lines: &[&str]) -> Result<(), Fail> {
-    for bad in lines {
-        let mut log = String::new(alloc);
+#[test]
+fn malformed_line_is_refused_with_its_number(rt: HostRuntime) -> Result<(), Fail> {
+    for bad in BAD_LINES {
+        let mut log = String::new(rt.alloc());
         log.push_str(bad)?;
         log.push('\n')?;
-        let first = read_log(alloc, log.as_bytes()).err();
+        let first = read_log(rt.alloc(), log.as_bytes()).err();
         assert!(rt; first == Some(LogFault::BadLine { line: 1 }), "at {bad}");
 
-        let mut log = String::new(alloc);
+        let mut log = String::new(rt.alloc());
         log.push_str("add 2001:db8::/32 metric 1 direct\ndel 2001:db8::/32\n")?;
         log.push_str(bad)?;
         log.push_str("\ndel ::/0\nnone\n")?;
-        let third = read_log(alloc, log.as_bytes()).err();
+        let third = read_log(rt.alloc(), log.as_bytes()).err();
         assert!(rt; third == Some(LogFault::BadLine { line: 3 }), "at {bad}");
     }
     Ok(())
-}
-
-#[test]
-fn malformed_line_is_refused_with_its_number(rt: HostRuntime) -> Result<(), Fail> {
-    expect_refused(&rt, rt.alloc(), &BAD_LINES)
 }
 
 #[test]

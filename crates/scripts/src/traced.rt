@@ -6,7 +6,6 @@ mod lines;
 use ripngd_trace::trace;
 use std::alloc::Global;
 use std::io::{self, Write};
-use std::process::Abort;
 use std::test::Fail;
 
 /// Two routers on one link; the first owns a prefix.
@@ -68,19 +67,14 @@ fn a_start(rt: HostRuntime) -> Result<(), Fail> {
     Ok(())
 }
 
-/// Each script has its records.
-fn expect_records(rt: &impl Abort, alloc: Global, rows: &[(&str, &str)]) -> Result<(), Fail> {
-    for (script, records) in rows {
-        let (out, done) = traced(alloc, script)?;
+#[test]
+fn scripts_without_events(rt: HostRuntime) -> Result<(), Fail> {
+    for (script, records) in SHORT {
+        let (out, done) = traced(rt.alloc(), script)?;
         assert!(rt; out.as_slice() == records.as_bytes(), "{script}");
         assert_eq!(rt; done, !records.contains("refused"), "{script}");
     }
     Ok(())
-}
-
-#[test]
-fn scripts_without_events(rt: HostRuntime) -> Result<(), Fail> {
-    expect_records(&rt, rt.alloc(), &SHORT)
 }
 
 /// A pipe that breaks after so many writes.

@@ -1,9 +1,7 @@
 //! Lines of a script: which are read, which are refused, and at which line.
 
 use ripngd_lab::lab;
-use std::alloc::Global;
 use std::io::Write;
-use std::process::Abort;
 use std::test::Fail;
 
 /// Three routers in a line that have started.
@@ -92,21 +90,16 @@ const TENTH: [(&str, &str); 36] = [
     ),
 ];
 
-/// Each line, as the tenth of a script, prints what it must.
-fn expect_tenth(rt: &impl Abort, alloc: Global, rows: &[(&str, &str)]) -> Result<(), Fail> {
-    for (line, prints) in rows {
-        let script = format!(in alloc; "{STARTED}{line}")?;
-        let mut out = Vec::new(alloc);
-        let accepted = lab(alloc, script.as_str().as_bytes(), &mut out)?;
+#[test]
+fn a_line_of_routers_that_run(rt: HostRuntime) -> Result<(), Fail> {
+    for (line, prints) in TENTH {
+        let script = format!(in rt.alloc(); "{STARTED}{line}")?;
+        let mut out = Vec::new(rt.alloc());
+        let accepted = lab(rt.alloc(), script.as_str().as_bytes(), &mut out)?;
         assert!(rt; out.as_slice() == prints.as_bytes(), "at {line}");
         assert_eq!(rt; accepted, !prints.starts_with("line"), "at {line}");
     }
     Ok(())
-}
-
-#[test]
-fn a_line_of_routers_that_run(rt: HostRuntime) -> Result<(), Fail> {
-    expect_tenth(&rt, rt.alloc(), &TENTH)
 }
 
 /// Scripts with what they print.
@@ -159,20 +152,15 @@ const SCRIPTS: [(&[u8], &[u8]); 22] = [
     ),
 ];
 
-/// Each script prints what it must.
-fn expect_prints(rt: &impl Abort, alloc: Global, rows: &[(&[u8], &[u8])]) -> Result<(), Fail> {
-    for (number, (script, prints)) in rows.iter().enumerate() {
-        let mut out = Vec::new(alloc);
-        let accepted = lab(alloc, script, &mut out)?;
+#[test]
+fn a_script(rt: HostRuntime) -> Result<(), Fail> {
+    for (number, (script, prints)) in SCRIPTS.iter().enumerate() {
+        let mut out = Vec::new(rt.alloc());
+        let accepted = lab(rt.alloc(), script, &mut out)?;
         assert!(rt; out.as_slice() == *prints, "script {number}");
         assert_eq!(rt; accepted, prints.is_empty(), "script {number}");
     }
     Ok(())
-}
-
-#[test]
-fn a_script(rt: HostRuntime) -> Result<(), Fail> {
-    expect_prints(&rt, rt.alloc(), &SCRIPTS)
 }
 
 #[test]

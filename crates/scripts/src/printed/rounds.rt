@@ -5,7 +5,6 @@ use super::{SQUARE, SQUARE_PRINTS};
 use ripngd_lab::lab;
 use std::alloc::{AllocError, Global};
 use std::io::Write;
-use std::process::Abort;
 use std::str;
 use std::test::Fail;
 
@@ -89,22 +88,16 @@ pub fn until_cold(script: &str) -> &str {
     }
 }
 
-/// Each line, behind the start of a square of routers, prints what it must.
-fn expect_fifteenth(rt: &impl Abort, alloc: Global, rows: &[(&str, &str)]) -> Result<(), Fail> {
-    for (line, prints) in rows {
-        let mut script = Vec::new(alloc);
+#[test]
+fn rounds_are_refused(rt: HostRuntime) -> Result<(), Fail> {
+    for (line, prints) in FIFTEENTH {
+        let mut script = Vec::new(rt.alloc());
         writeln!(&mut script, "{}{line}", until_cold(SQUARE))?;
-        let mut out = Vec::new(alloc);
-        let accepted = lab(alloc, script.as_slice(), &mut out)?;
+        let mut out = Vec::new(rt.alloc());
+        let accepted = lab(rt.alloc(), script.as_slice(), &mut out)?;
         assert!(rt; out.as_slice() == prints.as_bytes(), "{line}");
         assert_eq!(rt; accepted, prints.is_empty(), "{line}");
     }
-    Ok(())
-}
-
-#[test]
-fn rounds_are_refused(rt: HostRuntime) -> Result<(), Fail> {
-    expect_fifteenth(&rt, rt.alloc(), &FIFTEENTH)?;
     let mut out = Vec::new(rt.alloc());
     assert!(rt; !lab(rt.alloc(), b"router\nrounds 1 0 0\n", &mut out)?);
     assert!(rt; out.as_slice() == b"line 2 refused BadLine\n".as_slice());

@@ -1,8 +1,6 @@
 //! What each kind of line writes, word by word.
 
 use super::{TWO, traced};
-use std::alloc::Global;
-use std::process::Abort;
 use std::test::Fail;
 
 /// Lines behind the six that start two routers, with what the last of them writes.
@@ -192,23 +190,14 @@ deliver 1 1 0 31",
     ),
 ];
 
-/// Lines behind the start of two routers end in their record.
-fn expect_record_of_lines(
-    rt: &impl Abort,
-    alloc: Global,
-    rows: &[(&str, &str)],
-) -> Result<(), Fail> {
-    for (lines, record) in rows {
-        let script = format!(in alloc; "{TWO}{lines}")?;
-        let (out, done) = traced(alloc, script.as_str())?;
-        let wanted = format!(in alloc; "\n{record}\n")?;
+#[test]
+fn lines_of_two_routers(rt: HostRuntime) -> Result<(), Fail> {
+    for (lines, record) in LINES {
+        let script = format!(in rt.alloc(); "{TWO}{lines}")?;
+        let (out, done) = traced(rt.alloc(), script.as_str())?;
+        let wanted = format!(in rt.alloc(); "\n{record}\n")?;
         assert!(rt; out.as_slice().ends_with(wanted.as_bytes()), "{lines}");
         assert_eq!(rt; done, !record.contains("\"refused\""), "{lines}");
     }
     Ok(())
-}
-
-#[test]
-fn lines_of_two_routers(rt: HostRuntime) -> Result<(), Fail> {
-    expect_record_of_lines(&rt, rt.alloc(), &LINES)
 }
