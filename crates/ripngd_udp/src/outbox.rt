@@ -116,6 +116,7 @@ impl Outbox {
     fn send_first<C: Carrier>(&mut self, carrier: &mut C, peers: &[Peer])
         ensures sends { Goes peers.now (C.tries carrier.old) (C.tries carrier.new) self.old.waiting.items self.new.waiting.items self.old.failed self.new.failed }
         ensures count { length self.new.waiting.items ≡ length self.old.waiting.items - 1 }
+        ensures pace { self.new.pace ≡ self.old.pace }
     {
         if let Some(outgoing) = self.waiting.pop_front() {
             let went = send_each(carrier, peers, &outgoing.to, outgoing.bytes.as_slice());
@@ -127,6 +128,7 @@ impl Outbox {
     fn send_some<C: Carrier>(&mut self, carrier: &mut C, peers: &[Peer], count: usize)
         ensures sends { Goes peers.now (C.tries carrier.old) (C.tries carrier.new) self.old.waiting.items self.new.waiting.items self.old.failed self.new.failed }
         ensures count { length self.new.waiting.items ≡ length self.old.waiting.items - count }
+        ensures pace { self.new.pace ≡ self.old.pace }
     {
         for _ in 0..count {
             self.send_first(carrier, peers);
@@ -139,8 +141,12 @@ impl Outbox {
         ensures sends { Goes peers.now (C.tries carrier.old) (C.tries carrier.new) self.old.waiting.items self.new.waiting.items self.old.failed self.new.failed }
         ensures paced { length self.old.waiting.items - 16 ≤ length self.new.waiting.items }
         ensures due { self.old.pace.since + 4 ≤ now → length self.new.waiting.items ≡ length self.old.waiting.items - 16 }
+        ensures anew { self.old.pace.since + 4 ≤ now
+            → (self.new.pace.left ≡ 16 - length self.old.waiting.items) × (self.new.pace.since ≡ now) }
         ensures paused { now < self.old.pace.since + 4
             → length self.new.waiting.items ≡ length self.old.waiting.items - self.old.pace.left }
+        ensures left { now < self.old.pace.since + 4
+            → (self.new.pace.left ≡ self.old.pace.left - length self.old.waiting.items) × (self.new.pace.since ≡ self.old.pace.since) }
     {
         let count = self.pace.take(self.waiting.len(), now);
         self.send_some(carrier, peers, count);

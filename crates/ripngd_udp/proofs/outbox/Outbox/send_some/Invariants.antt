@@ -7,3 +7,4 @@ abbrev pub invariant-loop : goal.invariant-loop
 invariant-loop g l =
     Goes l.peers (g.C.Carrier.tries l.initial.carrier) (g.C.Carrier.tries l.carrier) l.initial.self.waiting.items l.self.waiting.items l.initial.self.failed l.self.failed
     × (length l.self.waiting.items ≡ length l.initial.self.waiting.items - l.counter)
+    × (l.self.pace ≡ l.initial.self.pace)
