@@ -34,11 +34,11 @@ use Rattle.ripng_world.proofs.Improving.{RouteAt, IsFine, IsToldOffer, IsHeardSt
 
 -- ---- a table of owned prefixes has no more routes than there are owned prefixes
 
-IsIn : Prefix6 → List Prefix6 → Type 0
+pub IsIn : Prefix6 → List Prefix6 → Type 0
 IsIn p [] = ⊥
 IsIn p (q ∷ qs) = (p ≡ q) ⊎ IsIn p qs
 
-in_from_contains : (qs : List Prefix6) (p : Prefix6) → Contains qs p → IsIn p qs
+pub in_from_contains : (qs : List Prefix6) (p : Prefix6) → Contains qs p → IsIn p qs
 unfolding IsIn
 in_from_contains [] p c = absurd (omega arith)
 in_from_contains (q ∷ qs) p c = by_place c.0 c.1 c.2 (λ k h e. in_from_contains qs p (k, h, e))
@@ -47,7 +47,7 @@ in_from_contains (q ∷ qs) p c = by_place c.0 c.1 c.2 (λ k h e. in_from_contai
     by_place zero h e later = inl (sym e)
     by_place (suc k) h e later = inr (later k (omega arith) e)
 
-few_routes : (qs : List Prefix6) (t : Table) → ((p : Prefix6) (r : RouteValue) → map_of.get t p ≡ Some r → IsIn p qs) → map_of.len t ≤ length qs
+pub few_routes : (qs : List Prefix6) (t : Table) → ((p : Prefix6) (r : RouteValue) → map_of.get t p ≡ Some r → IsIn p qs) → map_of.len t ≤ length qs
 unfolding IsIn
 few_routes [] t owned = le_of (ap map_of.len (map_of.same_map prefixes_total exact_prefixes t map_of.empty (λ p. none p (map_of.get t p) refl ∙ sym (map_of.get-empty prefix_cmp p))) ∙ map_of.len-empty prefix_cmp RouteValue)
   where

@@ -101,7 +101,7 @@ like_route old new same p r is = by_value (map_of.get old p) refl (sym (ap (opti
         let eq = Some-same _ _ e in
         (s, at, record { metric = ap (λ (x : RouteValue). x.metric) eq; tag = ap (λ (x : RouteValue). x.tag) eq; origin = ap (λ (x : RouteValue). x.origin) eq; clock = ap (λ (x : RouteValue). x.clock) eq })
 
-spelled_at : (ms : List Message) (os : List Outgoing) → AreSpelled ms os → (m : Message) → At ms m → (o : Outgoing) × At os o × IsSpelled m o
+pub spelled_at : (ms : List Message) (os : List Outgoing) → AreSpelled ms os → (m : Message) → At ms m → (o : Outgoing) × At os o × IsSpelled m o
 spelled_at [] [] s m a = absurd (None-Some m a.1)
 spelled_at [] (o ∷ os) s m a = absurd s
 spelled_at (n ∷ ms) [] s m a = absurd s

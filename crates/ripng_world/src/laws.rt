@@ -18,6 +18,7 @@ ghost use Rattle.ripng_world.specs.Walks.{Hop, IsWalk, Reaches, cost, IsTableBac
 ghost use Rattle.ripng_world.specs.Past.{Past, ReachesSince, IsTableBackedSince, IsLeastSince};
 ghost use Rattle.ripng_world.specs.Convergence.{IsNeverQuiet, FitsTables, AreConverged};
 ghost use Rattle.ripng_world.specs.Rounds.{Round, SynchronousRounds, AreClose, events_of};
+ghost use Rattle.ripng_world.specs.Healing.{AreCloser, AreHealed, FitsTablesSince, network_now};
 ghost use Rattle.ripng_world.specs.Truth.{IsNeighbor, IsSoundTable, IsSoundEntry, IsSoundDatagram};
 ghost use Rattle.ripng_world.specs.TruthSince.{IsNeighborSince, IsSoundTableSince, IsSoundEntrySince, IsSoundDatagramSince};
 ghost use Rattle.ripng_world.specs.World.{World, Event, IsCold, WorldRun, past_of, changes_in};
@@ -111,6 +112,16 @@ pub fn converges_in_rounds()
         → (router : ℕ) (state : State) (p : Prefix6) (metric : ℕ) → slice_get w.states router ≡ Some state
         → IsLeast net router p metric → metric < infinity
         → (r : RouteValue) × (map_of.get state.table p ≡ Some r) × (r.metric ≡ metric) }
+{}
+
+/// A network heals. Whatever happened since a cold start, losses, restarts and reconfigurations among it: from there on, once
+/// every router has told and heard all in so many synchronous rounds, each table holds exactly the least costs that the costs
+/// and owners of now make, and nothing else below infinity.
+pub fn heals_in_rounds()
+    ensures { (net : Network) (moments : List ℕ) (events : List Event) (rounds : List Round) (cold w end : World)
+        → IsNetwork net → IsNeverQuiet net → IsCold net moments cold → WorldRun net cold events w → FitsTablesSince (past_of net w)
+        → SynchronousRounds net w rounds end → AreCloser rounds → 26 ≤ length rounds
+        → AreHealed (network_now (past_of net end)) end }
 {}
 
 /// Synchronous rounds are a run of just their events.

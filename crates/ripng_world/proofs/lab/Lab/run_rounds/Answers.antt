@@ -1,9 +1,10 @@
-use Rattle.std.proofs.Common.{List, subst, ◌∙◌, ap}
+use Rattle.std.proofs.Common.{List, subst, ap}
 use Rattle.ripng_world.specs.AskedRounds.{AreAllMade, AreMade}
-use Rattle.ripng_world.specs.Labs.{LabValue}
+use Rattle.ripng_world.specs.Labs.{LabValue, HasRun}
 use Rattle.ripng_world.specs.Network.{IsNetwork}
 use Rattle.ripng_world.specs.Rounds.{Round}
 use Rattle.ripng_world.proofs.AskedSynchronous.{all_made, converging, on_ok, to_ok, rounds_still}
+use Rattle.ripng_world.proofs.Healed.{heals_asked}
 use Rattle.ripng_world.proofs.LabRuns.{backed, least, truth, fixed}
 use Rattle.ripng_world.proofs.lab.Lab.run_rounds.Goals as goal
 
@@ -22,16 +23,22 @@ pub returns-clause-converges : goal.returns-clause-converges
 returns-clause-converges g c =
     to_ok c.make_rounds-outcome.result _
     (converging c.args.self.now.network c.args.rounds.now c.args.self.now.world c.make_rounds-outcome.new.self.world
-    (subst IsNetwork (ap (λ (l : LabValue). l.network) c.self.view_is ∙ c.make_rounds-outcome.ensures.network) c.self.invariant.lawful) c.requires)
+    (subst IsNetwork (ap (λ (l : LabValue). l.network) c.self.view_is) c.self.invariant.lawful) c.requires)
+
+pub returns-clause-heals : goal.returns-clause-heals
+returns-clause-heals g c =
+    to_ok c.make_rounds-outcome.result _
+    (heals_asked c.args.self.now.network c.args.rounds.now c.args.self.now.world c.make_rounds-outcome.new.self.world
+    (subst (λ (l : LabValue). HasRun l.network l.world) c.self.view_is c.self.invariant) c.requires)
 
 pub returns-clause-backed : goal.returns-clause-backed
-returns-clause-backed g c = rw (← c.self.view_is) (backed _ _ c.self.invariant)
+returns-clause-backed g c = rw (← c.self-2.view_is) (backed _ _ c.self-2.invariant)
 
 pub returns-clause-least : goal.returns-clause-least
-returns-clause-least g c = rw (← c.self.view_is) (least _ _ c.self.invariant)
+returns-clause-least g c = rw (← c.self-2.view_is) (least _ _ c.self-2.invariant)
 
 pub returns-clause-truth : goal.returns-clause-truth
-returns-clause-truth g c = rw (← c.self.view_is) (truth _ _ c.self.invariant)
+returns-clause-truth g c = rw (← c.self-2.view_is) (truth _ _ c.self-2.invariant)
 
 pub returns-clause-fixed : goal.returns-clause-fixed
-returns-clause-fixed g c = rw (← c.self.view_is) (fixed _ _ c.self.invariant)
+returns-clause-fixed g c = rw (← c.self-2.view_is) (fixed _ _ c.self-2.invariant)

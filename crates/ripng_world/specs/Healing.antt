@@ -1,0 +1,82 @@
+-- What a network becomes in counted rounds, whatever happened to it before: costs and owners of now, and nothing else.
+use Rattle.std.specs.Prelude.{◌≡◌, ℕ, ◌+◌, ◌<◌, ◌≤◌, List, [], ◌∷◌, ◌++◌, fold, length, Contains, Some, unwrap_or, option_map, slice_get, slice_set}
+use Rattle.std.specs.FinMap as map_of
+use Rattle.prefix6.specs.Prefix.{Prefix6}
+use Rattle.route_table.specs.Route.{RouteValue, infinity}
+use Rattle.route_table.specs.Table.{Table, table_limit}
+use Rattle.router_core.specs.Machine.{State}
+use Rattle.router_core.specs.Reconfiguring.{without_prefix}
+use Rattle.router_core.specs.Timers.{garbage_time}
+use Rattle.router_core.specs.declared.reconfiguring.Change.{Change}
+use Rattle.router_core.specs.declared.reconfiguring.Change.TheVariants.{Cost, Own, Disown}
+use Rattle.ripng_world.specs.Asked.{Asked}
+use Rattle.ripng_world.specs.AskedRounds.{AreMade}
+use Rattle.ripng_world.specs.Convergence.{IsNeverQuiet}
+use Rattle.ripng_world.specs.Network.{Network, Node}
+use Rattle.ripng_world.specs.Past.{Past, OwnsSince}
+use Rattle.ripng_world.specs.Rounds.{Round, IsMomentOf}
+use Rattle.ripng_world.specs.Walks.{IsLeast}
+use Rattle.ripng_world.specs.World.{World, Tick, past_of}
+use Rattle.ripng_world.specs.declared.network.NetInterface.{NetInterface}
+
+-- ---- the network as it is now
+
+-- one interface costs another amount
+abbrev pub with_link_cost : List NetInterface → ℕ → ℕ → List NetInterface
+with_link_cost interfaces iface cost =
+    unwrap_or (option_map (λ i. slice_set interfaces iface (record i { interface = record i.interface { cost = cost } })) (slice_get interfaces iface)) interfaces
+
+-- what a router is configured with after a change
+abbrev pub changed_node : Node → Change → Node
+changed_node node (Cost iface cost) = record node { interfaces = with_link_cost node.interfaces iface cost }
+changed_node node (Own p tag) = record node { prefixes = node.prefixes ++ (p, tag) ∷ [] }
+changed_node node (Disown p) = record node { prefixes = without_prefix node.prefixes p }
+
+-- the network after a change that one router has done
+abbrev pub changed_network : Network → ℕ × Change → Network
+changed_network net done = unwrap_or (option_map (λ node. slice_set net done.0 (changed_node node done.1)) (slice_get net done.0)) net
+
+-- the network after all changes that were done: its costs and owners are those of now
+abbrev pub network_now : Past → Network
+network_now past = fold changed_network past.net past.changes
+
+-- no more distinct prefixes than a table holds were ever owned
+abbrev pub FitsTablesSince : Past → Type 0
+FitsTablesSince past =
+    (owned : List Prefix6) × (length owned ≤ table_limit) × ((router : ℕ) (p : Prefix6) (tag : ℕ) → OwnsSince past router p tag → Contains owned p)
+
+-- ---- rounds that follow one another closely
+
+-- the router ticks at that moment in the round
+abbrev pub IsTickOf : Round → ℕ → ℕ → Type 0
+IsTickOf round router moment = (word : ℕ) × Contains round.ticks (Tick router moment word)
+
+-- a router ticks less than a garbage time after its tick of the round before, and all that it hears in a round comes less than
+-- that after its tick of the round
+abbrev pub AreCloserAfter : (ℕ → ℕ → Type 0) → List Round → Type 0
+AreCloserAfter before [] = Unit {0}
+AreCloserAfter before (round ∷ rounds) =
+    ((router x y : ℕ) → before router x → IsTickOf round router y → y < x + garbage_time)
+    × ((router x y : ℕ) → IsTickOf round router x → IsMomentOf round router y → y < x + garbage_time)
+    × AreCloserAfter (IsTickOf round) rounds
+
+-- so it is in all rounds
+abbrev pub AreCloser : List Round → Type 0
+AreCloser rounds = AreCloserAfter (λ _ _. ⊥) rounds
+
+-- ---- what is left
+
+-- the routes below infinity have exactly the least costs, and there is one wherever the least cost is below infinity
+pub record IsHealed (net : Network) (router : ℕ) (table : Table) : Type 0 where
+  pub least : (p : Prefix6) (r : RouteValue) → map_of.get table p ≡ Some r → r.metric < infinity → IsLeast net router p r.metric
+  pub found : (p : Prefix6) (metric : ℕ) → IsLeast net router p metric → metric < infinity → (r : RouteValue) × (map_of.get table p ≡ Some r) × (r.metric ≡ metric)
+
+-- so are all tables
+abbrev pub AreHealed : Network → World → Type 0
+AreHealed net w = (router : ℕ) (state : State) → slice_get w.states router ≡ Some state → IsHealed net router state.table
+
+-- whatever happened before, so many rounds leave each table with the least costs of now, and nothing else
+abbrev pub Heals : Network → World → List Asked → World → Type 0
+Heals net w asked w' =
+    (rounds : List Round) → IsNeverQuiet net → FitsTablesSince (past_of net w) → AreMade net w asked rounds w' → AreCloser rounds → 26 ≤ length asked
+    → AreHealed (network_now (past_of net w')) w'
