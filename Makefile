@@ -7,6 +7,7 @@
 # make bench        times of a router and its forwarding table, as tables grow
 # make pictures     films and pictures of the examples, below docs (needs Chromium, a package of the system)
 # make test         the merge gate: every proof from nothing, the edits that must fail, tests and programs
+# make edits CRATE= tries all wrong bodies of a crate, also those that the gate does not; with EDIT= the one of that name
 # make clean        forgets what earlier runs kept
 
 HEX ?= 02010000
@@ -19,7 +20,7 @@ BINARIES = $(DESTDIR)$(PREFIX)/bin
 MANUALS = $(DESTDIR)$(PREFIX)/share/man/man8
 PAGES = $(DESTDIR)$(PREFIX)/share/doc/ripngd
 
-.PHONY: all lab show page install uninstall bench test clean
+.PHONY: all lab show page install uninstall bench test edits clean
 
 # Libraries that do not need each other are proved side by side; each waits for those below it.
 all:
@@ -63,6 +64,9 @@ pictures: bin/ripngd
 
 test:
 	tests/gate.sh
+
+edits:
+	tests/edits.sh $(CRATE) $(EDIT)
 
 clean:
 	rm -rf bin crates/*/out
