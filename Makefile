@@ -1,5 +1,6 @@
 # make              proves and builds the program, and leaves it at bin/ripngd
 # make lab SCRIPT=  runs a network of routers from a script
+# make try SCRIPT=  the same on the sources as they stand, with no proof; with a folder, all of its scripts
 # make show HEX=    decodes one datagram, given as hexadecimal digits
 # make page         serves the page of the laboratory, at PORT of 127.0.0.1, until it is interrupted
 # make install      puts the program, its manual page and the examples below PREFIX (and DESTDIR before it)
@@ -7,6 +8,7 @@
 # make bench        times of a router and its forwarding table, as tables grow
 # make pictures     films and pictures of the examples, below docs (needs Chromium, a package of the system)
 # make test         the merge gate: every proof from nothing, the edits that must fail, tests and programs
+# make edits CRATE= tries all wrong bodies of a crate, also those that the gate does not; with EDIT= the one of that name
 # make clean        forgets what earlier runs kept
 
 HEX ?= 02010000
@@ -19,7 +21,7 @@ BINARIES = $(DESTDIR)$(PREFIX)/bin
 MANUALS = $(DESTDIR)$(PREFIX)/share/man/man8
 PAGES = $(DESTDIR)$(PREFIX)/share/doc/ripngd
 
-.PHONY: all lab show page install uninstall bench test clean
+.PHONY: all lab try show page install uninstall bench pictures test edits clean
 
 # Libraries that do not need each other are proved side by side; each waits for those below it.
 all:
@@ -30,6 +32,9 @@ all:
 
 lab: all
 	bin/ripngd lab $(SCRIPT)
+
+try:
+	tests/try.sh $(SCRIPT)
 
 show: all
 	bin/ripngd show $(HEX)
@@ -63,6 +68,9 @@ pictures: bin/ripngd
 
 test:
 	tests/gate.sh
+
+edits:
+	tests/edits.sh $(CRATE) $(EDIT)
 
 clean:
 	rm -rf bin crates/*/out

@@ -24,6 +24,10 @@ try_script() {
 # A line for each script, and what differs. Other files of the folder are passed over.
 try_folder() {
     local script name
+    if ! ls "$1"/*.lab > /dev/null 2>&1; then
+        echo "no script (NAME.lab) stands in $1" >&2
+        return 2
+    fi
     for script in "$1"/*.lab; do
         name=$(basename "$script" .lab)
         cp "$script" "$folder/$name"
