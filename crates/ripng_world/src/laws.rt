@@ -129,6 +129,12 @@ pub fn rounds_are_run()
     ensures { (net : Network) (rounds : List Round) (w end : World) → SynchronousRounds net w rounds end → WorldRun net w (events_of rounds) end }
 {}
 
+/// Rounds go on by rounds: those of several calls are those of one.
+pub fn rounds_go_on()
+    ensures { (net : Network) (rounds later : List Round) (w mid end : World)
+        → SynchronousRounds net w rounds mid → SynchronousRounds net mid later end → SynchronousRounds net w (rounds ++ later) end }
+{}
+
 /// A run goes on by a run.
 pub fn runs_go_on()
     ensures { (net : Network) (events later : List Event) (w mid end : World)

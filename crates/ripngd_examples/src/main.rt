@@ -5,12 +5,13 @@ use std::fs;
 use std::io::{self, Write};
 
 /// The words of a command line behind `ripngd`, and the file with what it prints.
-const EXAMPLES: [([&str; 2], &str); 7] = [
+const EXAMPLES: [([&str; 2], &str); 8] = [
     (["lab", "line.lab"], "line.out"),
     (["lab", "square.lab"], "square.out"),
     (["lab", "counting.lab"], "counting.out"),
     (["lab", "rounds.lab"], "rounds.out"),
     (["lab", "moving.lab"], "moving.out"),
+    (["lab", "healing.lab"], "healing.out"),
     (["check", "east.toml"], "east.out"),
     (["check", "west.toml"], "west.out"),
 ];

@@ -71,6 +71,51 @@ tick 1 285000 0
 deliver 61 3 1 285000
 print
 </div>
+<div data-name="healing.lab"># A network heals. Routers stand in a square whose link between routers 0 and 3 is dear. While datagrams are lost, the prefix
+# moves and another link becomes dear; 26 rounds later every router has exactly the least cost at the costs and owners of
+# now, whatever it believed before. A walk costs 1, and for each hop the cost of the interface that receives.
+router
+iface fe80::a0 1 1280 0
+iface fe80::a1 9 1280 3
+own 2001:db8::/32 0
+router
+iface fe80::b0 1 1280 0
+iface fe80::b1 1 1280 1
+router
+iface fe80::c0 1 1280 1
+iface fe80::c1 1 1280 2
+router
+iface fe80::d0 1 1280 2
+iface fe80::d1 9 1280 3
+cold 0
+# All goes well for three rounds: each router has the walk to router 0 the cheap way around.
+rounds 3 0 15000
+print
+# The prefix moves from router 0 to router 2, and the link between routers 0 and 1 costs 5 from now on. Routers 0 and 2 tell
+# it (datagrams 24 to 27), and all of that is lost.
+drop 0 31000 2001:db8::/32
+gain 2 31000 2001:db8::/32 1
+cost 0 0 31000 5
+cost 1 0 31000 5
+tick 0 31000 0
+tick 2 31000 0
+# Router 3 knows of nothing, and tells its old route to router 0 over the dear link (29): 4 + 9 = 13. So the old owner
+# believes in a walk to itself, with the old tag.
+tick 3 45000 0
+deliver 29 0 1 45000
+print
+# From now on all arrives. The walks to router 2 cost 2 from its neighbors, and from router 0 by way of router 1
+# 1 + 1 + 5 = 7; over the dear link it would be 1 + 1 + 9 = 11.
+rounds 26 60000 15000
+print
+# All routers restart: a cold start with the costs and owners of now. It finds the same tables.
+restart 0 450000
+restart 1 450000
+restart 2 450000
+restart 3 450000
+rounds 14 450000 15000
+print
+</div>
 <div data-name="line.lab"># Three routers in a line. Link 0 joins routers 0 and 1, link 1 joins routers 1 and 2.
 router
 iface fe80::a0 1 1280 0
