@@ -2,6 +2,7 @@
 
 use crate::running::{config_text, outcome};
 use ripngd::check;
+use std::io::Write;
 use std::test::Fail;
 
 /// Two interfaces, the first with two peers and the second with one, and one prefix.
@@ -25,6 +26,19 @@ fn check_counts_the_peers_of_all_interfaces(rt: HostRuntime) -> Result<(), Fail>
     let mut out = Vec::new(rt.alloc());
     assert!(rt; check(rt.alloc(), TWO_INTERFACES, &mut out)?);
     assert!(rt; out.as_slice() == b"ok interfaces 2 prefixes 1 peers 3\n".as_slice());
+    Ok(())
+}
+
+#[test]
+fn check_refuses_a_prefix_more_than_a_router_may_own(rt: HostRuntime) -> Result<(), Fail> {
+    let mut text = Vec::new(rt.alloc());
+    text.extend_from_slice(TWO_INTERFACES)?;
+    for number in 1..1_025 {
+        write!(text, "[[prefix]]\nprefix = '2001:db8:{number:x}::/48'\n")?;
+    }
+    let mut out = Vec::new(rt.alloc());
+    assert!(rt; !check(rt.alloc(), text.as_slice(), &mut out)?);
+    assert!(rt; out.as_slice() == b"refused 6 Router 7 TooManyPrefixes\n".as_slice());
     Ok(())
 }
 

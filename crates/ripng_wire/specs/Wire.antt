@@ -4,12 +4,12 @@ use Rattle.ripng_wire.specs.declared.error.WireError.{WireError}
 use Rattle.ripng_wire.specs.declared.error.WireError.TheVariants.{Short, TooLong, Ragged, BadCommand, BadVersion, NotZero}
 use Rattle.ripng_wire.specs.Layout.{most_entries, version}
 
--- the name of the first reason that fails
+-- the name of the first reason that applies
 abbrev pub first_reason : {F : Type 0} → List (Bool × F) → Option F
 first_reason [] = None
 first_reason (reason ∷ reasons) = if reason.0 then Some reason.1 else first_reason reasons
 
--- each reason of the bytes, with whether it fails
+-- each reason to refuse the bytes, with whether it applies
 abbrev pub wire_reasons : List ℕ → List (Bool × WireError)
 wire_reasons bytes =
     (nat_lt (length bytes) 4, Short)

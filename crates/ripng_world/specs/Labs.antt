@@ -153,7 +153,7 @@ asked_reasons w (Reconfigure router now c) =
     option_map_or (λ s. map (λ t. (t.0, LabError.ReconfigureRefused t.1)) (change_reasons s.config s.table c)) (slice_get w.states router) []
 asked_reasons w _ = []
 
--- the first test of all that fails
+-- the first reason of all that applies
 abbrev pub step_fault : LabValue → Event → Option LabError
 step_fault lab e = first_reason (event_reasons lab e ++ asked_reasons lab.world e)
 

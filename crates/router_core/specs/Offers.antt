@@ -31,7 +31,7 @@ note_name NoMemory = codes "NoMemory"
 abbrev pub prefix_named : Rte → Prefix6
 prefix_named e = cleared e.addr e.len
 
--- each with whether it fails
+-- each with whether it applies
 abbrev pub entry_reasons : Rte → List (Bool × NoteKind)
 entry_reasons e =
     (nat_lt 128 e.len, BadLength)

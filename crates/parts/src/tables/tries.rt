@@ -65,6 +65,26 @@ fn forks_join_again(rt: HostRuntime) -> Result<(), Fail> {
 }
 
 #[test]
+fn a_joining_fork_goes_with_its_second_route(rt: HostRuntime) -> Result<(), Fail> {
+    let mut store = TrieRoutes::empty(rt.alloc());
+    let all = prefix(0, 0)?;
+    let doc = prefix(DOC, 32)?;
+    let next = prefix(0x2001_0db9 << 96, 32)?;
+    let inner = prefix(DOC | 1 << 80, 48)?;
+    for (tag, prefix) in [(1, doc), (2, next), (3, inner), (4, all)] {
+        assert_eq!(rt; store.get(&prefix), None);
+        store.add(prefix, Route::own(tag))?;
+    }
+    assert!(rt; store.get(&next).is_some());
+    store.remove(&next);
+    assert_eq!(rt; store.walk(None), Some((all, Route::own(4))));
+    assert_eq!(rt; store.walk(Some(all)), Some((doc, Route::own(1))));
+    assert_eq!(rt; store.walk(Some(doc)), Some((inner, Route::own(3))));
+    assert_eq!(rt; store.walk(Some(inner)), None);
+    Ok(())
+}
+
+#[test]
 fn what_is_due_comes_in_the_order_of_prefixes(rt: HostRuntime) -> Result<(), Fail> {
     let mut store = TrieRoutes::empty(rt.alloc());
     let own = prefix(0, 0)?;
