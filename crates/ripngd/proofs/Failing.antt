@@ -1,40 +1,15 @@
--- The faults of what the program calls are failures of what is asked.
-use Rattle.std.proofs.Common.{◌≡◌, ◌<◌, ℕ, refl, subst, sym, Err}
-use Rattle.ripngd_show.specs.declared.print_fault.PrintFault.{PrintFault}
-use Rattle.ripngd_show.specs.declared.print_fault.PrintFault.TheVariants as printing
+-- The faults of the page's server are failures of what is asked.
+use Rattle.std.proofs.Common.{refl}
 use Rattle.ripngd_page.specs.declared.fault.ServeFault.{ServeFault}
 use Rattle.ripngd_page.specs.declared.fault.ServeFault.TheVariants as serving
-use Rattle.ripngd_udp.specs.declared.udp.UdpError.{UdpError}
-use Rattle.ripngd_udp.specs.declared.udp.UdpError.TheVariants as link
-use Rattle.ripngd_engine.specs.Seen.{Seen, TurnsAnswer}
-use Rattle.ripngd_engine.specs.declared.report.EngineFault.{EngineFault}
-use Rattle.ripngd_engine.specs.declared.report.EngineFault.TheVariants as engine
-use Rattle.ripngd.specs.declared.asked.Ask.{Ask}
-use Rattle.ripngd.specs.declared.asked.Ask.TheVariants as asks
-use Rattle.ripngd.specs.declared.asked.Order.{Order}
-use Rattle.ripngd.specs.declared.asked.Serve.{Serve}
-use Rattle.ripngd.specs.Exit.{failure_of, failure_of_engine, failure_of_link, failure_of_serve}
-use Rattle.ripngd.specs.Failing.{FailsTurns, MayFail}
+use Rattle.ripngd_command_line.specs.declared.asked.Ask.TheVariants as asks
+use Rattle.ripngd_command_line.specs.declared.asked.Serve.{Serve}
+use Rattle.ripngd.specs.Exit.{failure_of_serve}
+use Rattle.ripngd_daemon.specs.Failing.{MayFail}
 
--- of a command that prints
-pub print_fails : (ask : Ask) (fault : PrintFault) → MayFail ask (failure_of fault)
-print_fails ask printing.OutOfMemory = tt
-print_fails ask printing.Write = tt
-
--- of the page's server
+-- whatever port and requests were ordered
 pub serve_fails : (order : Serve) (fault : ServeFault) → MayFail (asks.Page order) (failure_of_serve fault)
 serve_fails order (serving.Bind port) = refl
 serve_fails order serving.Accept = refl
 serve_fails order serving.Write = tt
 serve_fails order serving.OutOfMemory = tt
-
--- of a link that is bound
-pub link_fails : (turns : ℕ) (fault : UdpError) → FailsTurns turns (failure_of_link fault)
-link_fails turns (link.Bind port) order same = refl
-link_fails turns link.OutOfMemory order same = tt
-
--- of an engine's turns
-pub turns_fail : (turns : ℕ) (a : Seen) (fault : EngineFault) (b : Seen) → TurnsAnswer turns a (Err fault) b
-    → FailsTurns turns (failure_of_engine fault)
-turns_fail turns a (engine.LinkFault done) b answer order same = subst (λ n. done < n) (sym same) answer.1
-turns_fail turns a engine.OutOfMemory b answer order same = tt

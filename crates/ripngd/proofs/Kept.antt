@@ -1,8 +1,8 @@
 -- A flush that keeps what was written keeps an answer.
 use Rattle.std.proofs.Common.{◌∙◌, ℕ, Bool, true, false, List, Option, None, Some}
 use Rattle.std.specs.Io.KnownBytes.{Appends, Keeps}
-use Rattle.ripngd.specs.declared.asked.Ask.{Ask}
-use Rattle.ripngd.specs.declared.asked.Ask.TheVariants as asks
+use Rattle.ripngd_command_line.specs.declared.asked.Ask.{Ask}
+use Rattle.ripngd_command_line.specs.declared.asked.Ask.TheVariants as asks
 use Rattle.ripngd.specs.Exit.{AnswersAsk}
 
 -- what was appended stays

@@ -5,24 +5,18 @@ use Rattle.clap.specs.Faults.{fault_of}
 use Rattle.clap.specs.Kinds.{IsAmong}
 use Rattle.clap.specs.Walk.{Text}
 use Rattle.clap.specs.declared.error.kind.ErrorKind.TheVariants.{DisplayHelp, DisplayVersion}
-use Rattle.ripngd.specs.declared.asked.Ask.{Ask}
-use Rattle.ripngd.specs.declared.asked.Ask.TheVariants as asks
-use Rattle.ripngd.specs.declared.failure.Failure.{Failure}
-use Rattle.ripngd.specs.declared.failure.Failure.TheVariants as failures
-use Rattle.ripngd_udp.specs.declared.udp.UdpError.{UdpError}
-use Rattle.ripngd_udp.specs.declared.udp.UdpError.TheVariants as link
-use Rattle.ripngd_engine.specs.declared.report.EngineFault.{EngineFault}
-use Rattle.ripngd_engine.specs.declared.report.EngineFault.TheVariants as engine
-use Rattle.ripngd_show.specs.declared.print_fault.PrintFault.{PrintFault}
-use Rattle.ripngd_show.specs.declared.print_fault.PrintFault.TheVariants as faults
+use Rattle.ripngd_command_line.specs.declared.asked.Ask.{Ask}
+use Rattle.ripngd_command_line.specs.declared.asked.Ask.TheVariants as asks
+use Rattle.ripngd_daemon.specs.declared.failure.Failure.{Failure}
+use Rattle.ripngd_daemon.specs.declared.failure.Failure.TheVariants as failures
 use Rattle.ripngd_page.specs.declared.fault.ServeFault.{ServeFault}
 use Rattle.ripngd_page.specs.declared.fault.ServeFault.TheVariants as serving
-use Rattle.ripngd.specs.Asked.{Asks}
-use Rattle.ripngd.specs.Checked.{IsChecked}
-use Rattle.ripngd.specs.CommandLine.{ripngd}
-use Rattle.ripngd.specs.Failing.{MayFail}
-use Rattle.ripngd.specs.Ran.{IsRan}
-use Rattle.ripngd.specs.Tabled.{IsTabled}
+use Rattle.ripngd_command_line.specs.Asked.{Asks}
+use Rattle.ripngd_daemon.specs.Checked.{IsChecked}
+use Rattle.ripngd_command_line.specs.CommandLine.{ripngd}
+use Rattle.ripngd_daemon.specs.Failing.{MayFail}
+use Rattle.ripngd_daemon.specs.Ran.{IsRan}
+use Rattle.ripngd_daemon.specs.Tabled.{IsTabled}
 use Rattle.ripngd_page.specs.Film.{film_text, name_of}
 use Rattle.ripngd_show.specs.Shown.{IsShown}
 
@@ -63,21 +57,6 @@ AsksForHelp words = IsAmong DisplayHelp (fault_of ripngd words) ⊎ IsAmong Disp
 -- the words have a fault
 abbrev pub HasFault : List Text → Type 0
 HasFault words = fault_of ripngd words ≢ []
-
--- what such a fault is to the program
-abbrev pub failure_of : PrintFault → Failure
-failure_of faults.OutOfMemory = failures.OutOfMemory
-failure_of faults.Write = failures.Output
-
--- what a fault of the engine is to the program
-abbrev pub failure_of_engine : EngineFault → Failure
-failure_of_engine (engine.LinkFault done) = failures.Link done
-failure_of_engine engine.OutOfMemory = failures.OutOfMemory
-
--- what a link that was not bound is to the program
-abbrev pub failure_of_link : UdpError → Failure
-failure_of_link (link.Bind port) = failures.Bind port
-failure_of_link link.OutOfMemory = failures.OutOfMemory
 
 -- what a fault of the page's server is to the program
 abbrev pub failure_of_serve : ServeFault → Failure

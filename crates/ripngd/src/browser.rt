@@ -2,13 +2,14 @@
 
 ghost use Rattle.std.specs.Prelude.{◌≡◌, ℕ, Err, IfErr, IfOk, List, OnOk, true};
 ghost use Rattle.std.specs.Io.KnownBytes.{Appends};
-ghost use Rattle.ripngd.specs.Failing.{MayFail};
-ghost use Rattle.ripngd.specs.declared.asked.Ask.TheVariants as asks;
+ghost use Rattle.ripngd_daemon.specs.Failing.{MayFail};
+ghost use Rattle.ripngd_command_line.specs.declared.asked.Ask.TheVariants as asks;
+ghost use Rattle.ripngd.specs.Exit.{failure_of_serve};
 ghost use Rattle.ripngd_page.specs.Film.{film_text, name_of};
 
-use crate::asked::Serve;
-use crate::failure::Failure;
-use ripngd_page::{serve_page, write_film};
+use ripngd_command_line::Serve;
+use ripngd_daemon::Failure;
+use ripngd_page::{ServeFault, serve_page, write_film};
 use ripngd_show::PrintFault;
 use std::alloc::Global;
 use std::io::Write;
@@ -28,8 +29,22 @@ pub(crate) fn serve<'a, R: AllocGlobal + Clock + Net + RandomSource, O: Write>(
     ensures served { IfOk result (λ accepted. accepted ≡ true) }
     ensures failed { IfErr result (MayFail (asks.Page order)) }
 {
-    serve_page(rt, order.port, Some(u64::from(order.requests)), out)?;
-    Ok(true)
+    match serve_page(rt, order.port, Some(u64::from(order.requests)), out) {
+        Ok(()) => Ok(true),
+        Err(fault) => Err(serving_failure(fault)),
+    }
+}
+
+/// What a fault of the page's server is to the program.
+fn serving_failure<'a>(fault: ServeFault) -> Failure<'a>
+    ensures { result ≡ failure_of_serve fault }
+{
+    match fault {
+        ServeFault::Bind(port) => Failure::Bind(port),
+        ServeFault::Accept => Failure::Accept,
+        ServeFault::Write => Failure::Output,
+        ServeFault::OutOfMemory => Failure::OutOfMemory,
+    }
 }
 
 /// Writes the page with what happens as the script of a file runs, as [`write_film`] does, and answers whether every line

@@ -3,20 +3,18 @@
 ghost use Rattle.std.specs.Prelude.{◌≡◌, ◌≢◌, ◌⊎◌, ◌≤◌, IfErr, IfOk, Ok, false, map, true};
 ghost use Rattle.clap.specs.Words.{kind_of};
 ghost use Rattle.ripngd.specs.Exit.{AnswersAsk, AnswersWords, AsksForHelp, FailsWords, HasFault, holds_any};
-ghost use Rattle.ripngd.specs.Failing.{MayFail};
-ghost use Rattle.ripngd.specs.declared.failure.Failure.TheVariants as failures;
+ghost use Rattle.ripngd_daemon.specs.Failing.{MayFail};
+ghost use Rattle.ripngd_daemon.specs.declared.failure.Failure.TheVariants as failures;
 
-use crate::asked::Ask;
 use crate::browser::serve;
-use crate::command_line::ask;
-use crate::failure::{Failure, write_failure};
-use crate::losses::{NOTHING_LOST, write_losses};
-use crate::reading::{FileSource, SystemFiles};
-use crate::running::run;
-use crate::subcommands::{check_file, film_file, lab_file, table_file, trace_file};
+use crate::subcommands::{film_file, lab_file, show_digits, trace_file};
 use clap::error::ErrorKind;
+use ripngd_command_line::{Ask, ask};
+use ripngd_daemon::{
+    Failure, FileSource, NOTHING_LOST, SystemFiles, check_file, run, table_file, write_failure,
+    write_losses,
+};
 use ripngd_engine::Report;
-use ripngd_show::show;
 use std::io::Write;
 use std::net::Net;
 use std::random::RandomSource;
@@ -120,7 +118,7 @@ fn accepts<
     ensures failed { IfErr result (MayFail asked.entry) }
 {
     match asked {
-        Ask::Show(hex) => Ok(show(rt.alloc(), hex, out)?),
+        Ask::Show(hex) => show_digits(rt.alloc(), hex, out),
         Ask::Check(file) => check_file(rt.alloc(), files, file, out),
         Ask::Lab(file) => lab_file(rt.alloc(), files, file, out),
         Ask::Trace(file) => trace_file(rt.alloc(), files, file, out),

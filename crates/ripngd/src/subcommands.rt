@@ -1,32 +1,31 @@
-//! The subcommands that read one file and print. Each fails with `Read` where the file cannot be read, with `Output` where
-//! `out` failed, or with `OutOfMemory`.
+//! The subcommands that print: of digits, and of a script's file. Each fails with `Read` where its file cannot be read, with
+//! `Output` where `out` failed, or with `OutOfMemory`.
 
-ghost use Rattle.std.specs.Prelude.{IfErr, IfOk};
-ghost use Rattle.ripngd.specs.Exit.{AnswersAsk};
-ghost use Rattle.ripngd.specs.Failing.{MayFail};
-ghost use Rattle.ripngd.specs.declared.asked.Ask.TheVariants as asks;
+ghost use Rattle.std.specs.Prelude.{IfErr, IfOk, List, ℕ};
+ghost use Rattle.std.specs.Io.KnownBytes.{Appends};
+ghost use Rattle.ripngd_daemon.specs.Failing.{MayFail};
+ghost use Rattle.ripngd_command_line.specs.declared.asked.Ask.TheVariants as asks;
+ghost use Rattle.ripngd_page.specs.Film.{film_text, name_of};
+ghost use Rattle.ripngd_show.specs.Shown.{IsShown};
 
 use crate::browser::film;
-use crate::checking::check;
-use crate::failure::Failure;
-use crate::forwarding::table;
 use crate::laboratory::{lab, trace};
-use crate::reading::FileSource;
+use ripngd_daemon::{Failure, FileSource};
+use ripngd_show::show;
 use std::alloc::Global;
 use std::io::Write;
 
-/// `check CONFIG`: whether the file is a configuration.
-pub(crate) fn check_file<'a, F: FileSource, O: Write>(
+/// `show HEX`: whether the digits are those of a datagram.
+pub(crate) fn show_digits<'a, O: Write>(
     alloc: Global,
-    files: &F,
-    file: &'a str,
+    hex: &'a str,
     out: &mut O,
 ) -> Result<bool, Failure<'a>>
-    ensures answered { IfOk result (λ accepted. AnswersAsk (F.holds files.now) (asks.Check file.entry) accepted
-        (O.contents out.old) (O.contents out.new)) }
-    ensures failed { IfErr result (MayFail (asks.Check file.entry)) }
+    ensures answered { IfOk result (λ accepted. (text : List ℕ) × IsShown hex.entry.now accepted text
+        × Appends (O.contents out.old) (O.contents out.new) text) }
+    ensures failed { IfErr result (MayFail (asks.Show hex.entry)) }
 {
-    Ok(check(alloc, files.read(file)?.as_slice(), out)?)
+    Ok(show(alloc, hex, out)?)
 }
 
 /// `lab SCRIPT`: whether every line of the file was done.
@@ -36,8 +35,7 @@ pub(crate) fn lab_file<'a, F: FileSource, O: Write>(
     file: &'a str,
     out: &mut O,
 ) -> Result<bool, Failure<'a>>
-    ensures answered { IfOk result (λ accepted. AnswersAsk (F.holds files.now) (asks.Lab file.entry) accepted
-        (O.contents out.old) (O.contents out.new)) }
+    ensures answered { IfOk result (λ accepted. (script : List ℕ) × F.holds files.now file.entry.now script) }
     ensures failed { IfErr result (MayFail (asks.Lab file.entry)) }
 {
     Ok(lab(alloc, files.read(file)?.as_slice(), out)?)
@@ -50,25 +48,10 @@ pub(crate) fn trace_file<'a, F: FileSource, O: Write>(
     file: &'a str,
     out: &mut O,
 ) -> Result<bool, Failure<'a>>
-    ensures answered { IfOk result (λ accepted. AnswersAsk (F.holds files.now) (asks.Trace file.entry) accepted
-        (O.contents out.old) (O.contents out.new)) }
+    ensures answered { IfOk result (λ accepted. (script : List ℕ) × F.holds files.now file.entry.now script) }
     ensures failed { IfErr result (MayFail (asks.Trace file.entry)) }
 {
     Ok(trace(alloc, files.read(file)?.as_slice(), out)?)
-}
-
-/// `table LOG`: whether every line of the file is that of a change.
-pub(crate) fn table_file<'a, F: FileSource, O: Write>(
-    alloc: Global,
-    files: &F,
-    file: &'a str,
-    out: &mut O,
-) -> Result<bool, Failure<'a>>
-    ensures answered { IfOk result (λ accepted. AnswersAsk (F.holds files.now) (asks.Table file.entry) accepted
-        (O.contents out.old) (O.contents out.new)) }
-    ensures failed { IfErr result (MayFail (asks.Table file.entry)) }
-{
-    Ok(table(alloc, files.read(file)?.as_slice(), out)?)
 }
 
 /// `page --film SCRIPT`: whether every line of the file was done.
@@ -78,8 +61,8 @@ pub(crate) fn film_file<'a, F: FileSource, O: Write>(
     file: &'a str,
     out: &mut O,
 ) -> Result<bool, Failure<'a>>
-    ensures answered { IfOk result (λ accepted. AnswersAsk (F.holds files.now) (asks.Film file.entry) accepted
-        (O.contents out.old) (O.contents out.new)) }
+    ensures answered { IfOk result (λ accepted. (script : List ℕ) × F.holds files.now file.entry.now script
+        × (trace : List ℕ) × Appends (O.contents out.old) (O.contents out.new) (film_text (name_of file.entry.now) script trace)) }
     ensures failed { IfErr result (MayFail (asks.Film file.entry)) }
 {
     Ok(film(alloc, file, files.read(file)?.as_slice(), out)?)

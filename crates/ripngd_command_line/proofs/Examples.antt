@@ -1,0 +1,57 @@
+-- Command lines that are written out, and what the command says of them.
+use Rattle.std.proofs.Common.{◌≡◌, true, [], ◌∷◌, refl, codes}
+use Rattle.clap.specs.Faults.{fault_of}
+use Rattle.clap.specs.Takes.{takes}
+use Rattle.clap.specs.declared.error.kind.ErrorKind.TheVariants.{DisplayHelp, DisplayVersion, MissingRequiredArgument, UnknownArgument, ValueValidation}
+use Rattle.clap.proofs.OnLiterals.{clap_on_literals}
+use Rattle.ripngd_command_line.specs.CommandLine.{ripngd}
+
+-- `show 02`
+digits_are_taken : takes ripngd (codes "ripngd" ∷ codes "show" ∷ codes "02" ∷ []) ≡ true
+unfolding clap_on_literals
+digits_are_taken = refl
+
+-- `show -`: a lone dash is a value
+dash_is_taken : takes ripngd (codes "ripngd" ∷ codes "show" ∷ codes "-" ∷ []) ≡ true
+unfolding clap_on_literals
+dash_is_taken = refl
+
+-- `show ''`
+empty_is_taken : takes ripngd (codes "ripngd" ∷ codes "show" ∷ [] ∷ []) ≡ true
+unfolding clap_on_literals
+empty_is_taken = refl
+
+-- `show -02`: any other word with a dash in front is an option, and there is none
+dashed_is_no_value : fault_of ripngd (codes "ripngd" ∷ codes "show" ∷ codes "-02" ∷ []) ≡ UnknownArgument ∷ []
+unfolding clap_on_literals
+dashed_is_no_value = refl
+
+-- `show`
+hex_is_missing : fault_of ripngd (codes "ripngd" ∷ codes "show" ∷ []) ≡ MissingRequiredArgument ∷ []
+unfolding clap_on_literals
+hex_is_missing = refl
+
+-- `--help`
+help_is_asked : fault_of ripngd (codes "ripngd" ∷ codes "--help" ∷ []) ≡ DisplayHelp ∷ []
+unfolding clap_on_literals
+help_is_asked = refl
+
+-- `--version`
+version_is_asked : fault_of ripngd (codes "ripngd" ∷ codes "--version" ∷ []) ≡ DisplayVersion ∷ []
+unfolding clap_on_literals
+version_is_asked = refl
+
+-- `run -qdt7 -R log --turns=3 c`: short options in one word, a long one with its value
+run_is_taken : takes ripngd (codes "ripngd" ∷ codes "run" ∷ codes "-qdt7" ∷ codes "-R" ∷ codes "log" ∷ codes "--turns=3" ∷ codes "c" ∷ []) ≡ true
+unfolding clap_on_literals
+run_is_taken = refl
+
+-- `run --turns 0 c`
+turns_are_some : fault_of ripngd (codes "ripngd" ∷ codes "run" ∷ codes "--turns" ∷ codes "0" ∷ codes "c" ∷ []) ≡ ValueValidation ∷ []
+unfolding clap_on_literals
+turns_are_some = refl
+
+-- `run -t 65536 c`
+tag_has_two_bytes : fault_of ripngd (codes "ripngd" ∷ codes "run" ∷ codes "-t" ∷ codes "65536" ∷ codes "c" ∷ []) ≡ ValueValidation ∷ []
+unfolding clap_on_literals
+tag_has_two_bytes = refl

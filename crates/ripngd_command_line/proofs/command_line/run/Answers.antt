@@ -1,0 +1,15 @@
+use Rattle.std.proofs.Common.{codes, rules}
+use Rattle.clap.specs.Simple.{new_app}
+use Rattle.ripngd_command_line.specs.CommandLine.{IsCommand}
+use Rattle.ripngd_command_line.proofs.Commands.{arg_added, arg_added_ok}
+use Rattle.ripngd_command_line.proofs.command_line.run.Goals as goal
+
+pub returns : goal.returns
+returns c =
+    let s0 : IsCommand c.after_help.result (new_app (codes "run")) = record { app_is = search rules; local = search rules } in
+    let s1 = arg_added _ _ _ _ _ c.in_ok-arg.ensures c.quiet.ensures s0 in
+    let s2 = arg_added _ _ _ _ _ c.in_ok-arg-2.ensures c.debug.ensures s1 in
+    let s3 = arg_added _ _ _ _ _ c.in_ok-arg-3.ensures c.tag.ensures s2 in
+    let s4 = arg_added _ _ _ _ _ c.in_ok-arg-4.ensures c.log.ensures s3 in
+    let s5 = arg_added _ _ _ _ _ c.in_ok-arg-5.ensures c.turns.ensures s4 in
+    arg_added_ok _ _ _ _ c.arg-6.result c.arg-6.ensures c.required.ensures s5

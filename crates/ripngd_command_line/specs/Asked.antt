@@ -1,0 +1,61 @@
+-- What the words of a command line ask of ripngd.
+use Rattle.std.specs.Prelude.{◌≡◌, ◌≤◌, ℕ, List, Some, None, codes, option_map, IsTrue, ◌↔◌}
+use Rattle.std.specs.Str.Parse.{digits_value, without_leading_plus}
+use Rattle.clap.specs.Walk.{Row, Text, first_of, one_of}
+use Rattle.clap.specs.Simple.{subcommand_of}
+use Rattle.ripngd_command_line.specs.declared.asked.Ask.{Ask}
+use Rattle.ripngd_command_line.specs.declared.asked.Order.{Order}
+use Rattle.ripngd_command_line.specs.declared.asked.Serve.{Serve}
+use Rattle.ripngd_command_line.specs.declared.asked.Ask.TheVariants as asks
+use Rattle.ripngd_command_line.specs.CommandLine.{ripngd}
+
+-- the number that a decimal text stands for
+abbrev pub number_of : Text → ℕ
+number_of text = digits_value 10 (without_leading_plus text)
+
+-- the argument has this number as its value
+abbrev pub IsNumber : List Row → Text → ℕ → Type 0
+IsNumber rows id n = (text : Text) × (one_of id rows ≡ Some text) × (number_of text ≡ n)
+
+-- the flag was given
+abbrev pub IsSet : List Row → Text → Type 0
+IsSet rows id = one_of id rows ≡ Some (codes "true")
+
+-- the rows of `run` order this
+pub record IsOrdered (order : Order) (rows : List Row) : Type 0 where
+  pub quiet : IsTrue order.quiet ↔ IsSet rows (codes "quiet")
+  pub debug : IsTrue order.debug ↔ IsSet rows (codes "debug")
+  pub tag : IsNumber rows (codes "tag") order.tag
+  pub log : option_map (λ s. s.now) order.log ≡ first_of (codes "log") rows
+  pub turns : IsNumber rows (codes "turns") order.turns
+  pub some : 1 ≤ order.turns
+  pub config : first_of (codes "CONFIG") rows ≡ Some order.config.now
+
+-- the rows of `page` order this, without a film
+pub record IsServed (serve : Serve) (rows : List Row) : Type 0 where
+  pub port : IsNumber rows (codes "port") serve.port
+  pub requests : IsNumber rows (codes "requests") serve.requests
+  pub some_request : 1 ≤ serve.requests
+  pub no_film : first_of (codes "film") rows ≡ None
+
+-- the subcommand of this name, with the rows of its arguments, is what is asked
+abbrev pub IsAsked : Ask → Text → List Row → Type 0
+IsAsked (asks.Show hex) name rows =
+    (name ≡ codes "show") × (first_of (codes "HEX") rows ≡ Some hex.now)
+IsAsked (asks.Check file) name rows =
+    (name ≡ codes "check") × (first_of (codes "CONFIG") rows ≡ Some file.now)
+IsAsked (asks.Lab file) name rows =
+    (name ≡ codes "lab") × (first_of (codes "SCRIPT") rows ≡ Some file.now) × ¬ (IsSet rows (codes "trace"))
+IsAsked (asks.Trace file) name rows =
+    (name ≡ codes "lab") × (first_of (codes "SCRIPT") rows ≡ Some file.now) × IsSet rows (codes "trace")
+IsAsked (asks.Run order) name rows = (name ≡ codes "run") × IsOrdered order rows
+IsAsked (asks.Table file) name rows =
+    (name ≡ codes "table") × (first_of (codes "LOG") rows ≡ Some file.now)
+IsAsked (asks.Page serve) name rows = (name ≡ codes "page") × IsServed serve rows
+IsAsked (asks.Film file) name rows =
+    (name ≡ codes "page") × (first_of (codes "film") rows ≡ Some file.now)
+
+-- the words ask this
+abbrev pub Asks : List Text → Ask → Type 0
+Asks words a =
+    (met : Text × List Row) × (subcommand_of ripngd words ≡ Some met) × IsAsked a met.0 met.1

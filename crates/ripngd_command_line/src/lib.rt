@@ -1,0 +1,9 @@
+//! The command line of `ripngd`: its subcommands with their arguments, and what words ask of it.
+#![tactic(auto)]
+
+mod asked;
+mod command_line;
+mod help;
+
+pub use asked::{Ask, Order, Serve};
+pub use command_line::{VERSION, ask};

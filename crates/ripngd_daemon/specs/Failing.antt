@@ -1,0 +1,57 @@
+-- What may fail, by what is asked.
+use Rattle.std.specs.Prelude.{◌≡◌, ◌<◌, ℕ, Bool, true, false, List, Option, None, Some, option_map, IsTrue, ⊤}
+use Rattle.ripngd_command_line.specs.declared.asked.Ask.{Ask}
+use Rattle.ripngd_command_line.specs.declared.asked.Ask.TheVariants as asks
+use Rattle.ripngd_command_line.specs.declared.asked.Order.{Order}
+use Rattle.ripngd_daemon.specs.declared.failure.Failure.{Failure}
+use Rattle.ripngd_daemon.specs.declared.failure.Failure.TheVariants as failures
+
+-- the file that is read for it
+abbrev pub file_of : Ask → Option (List ℕ)
+file_of (asks.Show hex) = None
+file_of (asks.Check file) = Some file.now
+file_of (asks.Lab file) = Some file.now
+file_of (asks.Trace file) = Some file.now
+file_of (asks.Run order) = Some order.config.now
+file_of (asks.Table file) = Some file.now
+file_of (asks.Page serve) = None
+file_of (asks.Film file) = Some file.now
+
+-- the file that gets its log
+abbrev pub log_file_of : Ask → Option (List ℕ)
+log_file_of (asks.Run order) = option_map (λ s. s.now) order.log
+log_file_of _ = None
+
+-- how many turns it makes
+abbrev pub turns_of : Ask → ℕ
+turns_of (asks.Run order) = order.turns
+turns_of _ = 0
+
+-- whether it takes connections of browsers
+abbrev pub serves : Ask → Bool
+serves (asks.Page serve) = true
+serves _ = false
+
+-- whether it has sockets
+abbrev pub has_sockets : Ask → Bool
+has_sockets (asks.Run order) = true
+has_sockets ask = serves ask
+
+-- what may fail where this is asked: no file but those that it names, and no link after its turns
+abbrev pub MayFail : Ask → Failure → Type 0
+MayFail ask (failures.Read file) = file_of ask ≡ Some file.now
+MayFail ask (failures.Log file) = log_file_of ask ≡ Some file.now
+MayFail ask failures.Output = ⊤
+MayFail ask (failures.Bind port) = IsTrue (has_sockets ask)
+MayFail ask failures.Accept = IsTrue (serves ask)
+MayFail ask (failures.Link done) = done < turns_of ask
+MayFail ask failures.OutOfMemory = ⊤
+
+-- what may fail a run of so many turns, whatever else is ordered
+abbrev pub FailsTurns : ℕ → Failure → Type 0
+FailsTurns turns failure = (order : Order) → order.turns ≡ turns → MayFail (asks.Run order) failure
+
+-- what may fail a run of so many turns with this log, whatever else is ordered
+abbrev pub FailsLogged : ℕ → Option (List ℕ) → Failure → Type 0
+FailsLogged turns log failure =
+    (order : Order) → order.turns ≡ turns → option_map (λ s. s.now) order.log ≡ log → MayFail (asks.Run order) failure

@@ -1,0 +1,40 @@
+-- What `run` writes, and of which run.
+use Rattle.std.specs.Prelude.{◌≡◌, ◌≢◌, ℕ, Bool, true, false, List, Option, None}
+use Rattle.std.specs.Io.KnownBytes.{Appends}
+use Rattle.rand_core.specs.Steps.{steps_u32, stream_of}
+use Rattle.rand_core.specs.Stream.{Stream}
+use Rattle.rand_pcg.specs.Lcg.{Lcg}
+use Rattle.rand_pcg.specs.Pcg.{pcg32}
+use Rattle.fib.specs.Forwarding.{Forwarding}
+use Rattle.ripngd_config.specs.Configuration.{IsConfigured, Refuses}
+use Rattle.ripngd_config.specs.declared.configuration.Config.{Config}
+use Rattle.ripngd_config.specs.declared.fault.ConfigFault.{ConfigFault}
+use Rattle.ripngd_config.specs.declared.fault.ConfigFault.TheVariants as config_faults
+use Rattle.ripngd_engine.specs.Seen.{Ran, Seen, Started, fresh}
+use Rattle.ripngd_command_line.specs.declared.asked.Order.{Order}
+use Rattle.ripngd_daemon.specs.Tabled.{table_text}
+
+-- the words that a random source has left
+abbrev pub words_of : Lcg → Stream
+words_of = stream_of (steps_u32 pcg32)
+
+-- a router of this configuration started, over a link and a clock that tell nothing, and made so many turns; this is its
+-- forwarding table then
+pub record MakesTurns (config : Config) (turns : ℕ) (table : Forwarding) : Type 0 where
+  pub log : Option (List ℕ)  -- what stood in its log
+  pub begun : Seen
+  pub done : Seen
+  pub started : Started config.router (words_of config.rng) (fresh None None log) begun
+  pub ran : Ran turns begun done
+  pub table_is : table ≡ done.machine.fib
+
+-- the writer gained the forwarding table of such a router
+abbrev pub ShowsTurns : Config → ℕ → Option (List ℕ) → Option (List ℕ) → Type 0
+ShowsTurns config turns old new = (table : Forwarding) × MakesTurns config turns table × Appends old new (table_text table)
+
+-- a run of a configuration's text as it is ordered: all turns were made, and the table was written; or the text is refused
+abbrev pub IsRan : Order → List ℕ → Bool → Option (List ℕ) → Option (List ℕ) → Type 0
+IsRan order text true old new =
+    (config : Config) × IsConfigured text order.tag order.quiet config × ShowsTurns config order.turns old new
+IsRan order text false old new =
+    (fault : ConfigFault) × (fault ≢ config_faults.OutOfMemory) × Refuses text order.tag order.quiet fault

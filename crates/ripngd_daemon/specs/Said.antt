@@ -1,0 +1,19 @@
+-- What standard error says of a failure (the format is this project's choice).
+use Rattle.std.specs.Prelude.{ℕ, List, ◌++◌, codes, decimal}
+use Rattle.ripngd_daemon.specs.declared.failure.Failure.{Failure}
+use Rattle.ripngd_daemon.specs.declared.failure.Failure.TheVariants as failures
+use Rattle.ripngd_show.specs.Shown.{newline}
+
+-- what failed, with its file, its port or its turns
+abbrev pub failure_text : Failure → List ℕ
+failure_text (failures.Read file) = codes "cannot read " ++ file.now
+failure_text (failures.Log file) = codes "cannot write " ++ file.now
+failure_text failures.Output = codes "cannot write stdout"
+failure_text (failures.Bind port) = codes "cannot bind " ++ decimal port
+failure_text failures.Accept = codes "cannot accept a connection"
+failure_text (failures.Link done) = codes "link fault after " ++ (decimal done ++ codes " turns")
+failure_text failures.OutOfMemory = codes "out of memory"
+
+-- its line, `ripngd: ` and what failed
+abbrev pub failure_line : Failure → List ℕ
+failure_line failure = codes "ripngd: " ++ (failure_text failure ++ newline)

@@ -1,0 +1,68 @@
+//! `check`: whether a text is a configuration that a router can run on.
+
+ghost use Rattle.std.specs.Prelude.{◌≡◌, ◌≢◌, IfOk, OnOk, false};
+ghost use Rattle.std.specs.Io.KnownBytes.{Appends};
+ghost use Rattle.ripngd_daemon.specs.Checked.{IsChecked, counts_line, peers_counted};
+
+use ripngd_config::{Config, ConfigFault, Peer, read_config};
+use ripngd_show::PrintFault;
+use std::alloc::Global;
+use std::io::{self, Write};
+
+/// Writes what a configuration has, as `ok interfaces A prefixes B peers C`, or why it is refused, as `refused ..`, and
+/// answers whether it is accepted. It is read as for a router that is not quiet, with the default tag 0.
+///
+/// # Errors
+/// `OutOfMemory` before anything is written; `Write` where `out` failed.
+pub fn check<W: Write>(alloc: Global, text: &[u8], out: &mut W) -> Result<bool, PrintFault>
+    ensures checked { IfOk result (λ accepted. IsChecked text.now accepted (W.contents out.old) (W.contents out.new)) }
+    ensures out_of_memory { result ≡ Err PrintFault.OutOfMemory → out.new ≡ out.old }
+{
+    match read_config(alloc, text, 0, false) {
+        Ok(config) => match write_counts(&config, out) {
+            Ok(()) => Ok(true),
+            Err(_) => Err(PrintFault::Write),
+        },
+        Err(fault) => write_refusal(&fault, out),
+    }
+}
+
+/// How many peers there are on all interfaces together, or the greatest `usize`.
+fn count_peers(peers: &[Vec<Peer>]) -> usize
+    ensures { result ≡ peers_counted peers.now }
+{
+    let mut count = 0_usize;
+    for of_interface in peers {
+        count = count.saturating_add(of_interface.len());
+    }
+    count
+}
+
+fn write_counts<W: Write>(config: &Config, out: &mut W) -> io::Result<()>
+    ensures { OnOk result (Appends (W.contents out.old) (W.contents out.new) (counts_line config.now)) }
+{
+    let interfaces = config.router.interfaces().len();
+    let prefixes = config.router.prefixes().len();
+    let peers = count_peers(config.peers.as_slice());
+    writeln!(
+        out,
+        "ok interfaces {interfaces} prefixes {prefixes} peers {peers}"
+    )
+}
+
+/// Writes why a configuration is refused, and answers that it is not accepted.
+///
+/// # Errors
+/// `OutOfMemory` where that is the fault, and then nothing is written; `Write` where `out` failed.
+pub(crate) fn write_refusal<W: Write>(fault: &ConfigFault, out: &mut W) -> Result<bool, PrintFault>
+    ensures refused { IfOk result (λ accepted. (accepted ≡ false) × (fault.now ≢ ConfigFault.OutOfMemory)) }
+    ensures out_of_memory { result ≡ Err PrintFault.OutOfMemory → out.new ≡ out.old }
+{
+    match fault {
+        ConfigFault::OutOfMemory => Err(PrintFault::OutOfMemory),
+        _ => {
+            writeln!(out, "refused {fault}").map_err(|_| PrintFault::Write)?;
+            Ok(false)
+        }
+    }
+}

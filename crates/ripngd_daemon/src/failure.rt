@@ -1,0 +1,100 @@
+//! What fails outside the program, and what standard error says of it.
+
+ghost use Rattle.std.specs.Prelude.{◌≡◌, ◌≢◌, OnOk, Some};
+ghost use Rattle.std.specs.Io.KnownBytes.{Appends};
+ghost use Rattle.std.specs.IoError.{error_kind};
+ghost use Rattle.ripngd_daemon.specs.Faults.{failure_of, failure_of_engine, failure_of_link};
+ghost use Rattle.ripngd_daemon.specs.Said.{failure_line, failure_text};
+ghost use Rattle.ripngd_daemon.specs.declared.failure.Failure.TheVariants as failures;
+
+use ripngd_engine::EngineFault;
+use ripngd_show::PrintFault;
+use ripngd_udp::UdpError;
+use std::fmt::{self, Display};
+use std::io::{self, ErrorKind, Write};
+
+/// What failed outside the program, with the file, the port or the turns that it failed at.
+#[derive(Clone, Copy, Debug, PartialEq, Eq)]
+pub enum Failure<'a> {
+    /// A file cannot be read.
+    Read(&'a str),
+    /// A file for the log cannot be made.
+    Log(&'a str),
+    /// Standard output failed.
+    Output,
+    /// A port of 127.0.0.1 cannot be bound.
+    Bind(u16),
+    /// No browser's connection can be taken.
+    Accept,
+    /// A socket failed, after so many turns.
+    Link(u32),
+    /// Memory was refused.
+    OutOfMemory,
+}
+
+impl Display for Failure<'_> {
+    ghost output = { λ failure. Some (failure_text failure) };
+
+    fn fmt<W: fmt::Write>(&self, f: &mut fmt::Formatter<W>) -> fmt::Result {
+        match *self {
+            Failure::Read(file) => write!(f, "cannot read {file}"),
+            Failure::Log(file) => write!(f, "cannot write {file}"),
+            Failure::Output => write!(f, "cannot write stdout"),
+            Failure::Bind(port) => write!(f, "cannot bind {port}"),
+            Failure::Accept => write!(f, "cannot accept a connection"),
+            Failure::Link(done) => write!(f, "link fault after {done} turns"),
+            Failure::OutOfMemory => write!(f, "out of memory"),
+        }
+    }
+}
+
+/// Writes what failed, as `ripngd: cannot read FILE`.
+pub fn write_failure<W: Write>(failure: Failure<'_>, err: &mut W) -> io::Result<()>
+    ensures { OnOk result (Appends (W.contents err.old) (W.contents err.new) (failure_line failure.entry)) }
+{
+    writeln!(err, "ripngd: {failure}")
+}
+
+/// What a fault of the system is, where something was tried: want of memory, or else that this failed.
+pub(crate) fn failed<'a>(tried: Failure<'a>, error: &io::Error) -> Failure<'a>
+    ensures memory { error_kind error.now ≡ ErrorKind.OutOfMemory → result ≡ failures.OutOfMemory }
+    ensures other { error_kind error.now ≢ ErrorKind.OutOfMemory → result ≡ tried.entry }
+{
+    match error.kind() {
+        ErrorKind::OutOfMemory => Failure::OutOfMemory,
+        _ => tried,
+    }
+}
+
+impl From<PrintFault> for Failure<'_> {
+    ghost from_gives = { λ fault failure. failure ≡ failure_of fault };
+
+    fn from(fault: PrintFault) -> Self {
+        match fault {
+            PrintFault::OutOfMemory => Failure::OutOfMemory,
+            PrintFault::Write => Failure::Output,
+        }
+    }
+}
+
+impl From<EngineFault> for Failure<'_> {
+    ghost from_gives = { λ fault failure. failure ≡ failure_of_engine fault };
+
+    fn from(fault: EngineFault) -> Self {
+        match fault {
+            EngineFault::LinkFault { done } => Failure::Link(done),
+            EngineFault::OutOfMemory => Failure::OutOfMemory,
+        }
+    }
+}
+
+impl From<UdpError> for Failure<'_> {
+    ghost from_gives = { λ fault failure. failure ≡ failure_of_link fault };
+
+    fn from(fault: UdpError) -> Self {
+        match fault {
+            UdpError::Bind(port) => Failure::Bind(port),
+            UdpError::OutOfMemory => Failure::OutOfMemory,
+        }
+    }
+}

@@ -1,0 +1,20 @@
+//! One router and its files, as the program's command line orders: `run`, `check` and `table`, what they print, and what
+//! fails outside the program.
+#![tactic(auto)]
+
+mod checking;
+mod failure;
+mod forwarding;
+mod losses;
+mod plan;
+mod reading;
+mod running;
+mod subcommands;
+
+pub use checking::check;
+pub use failure::{Failure, write_failure};
+pub use forwarding::table;
+pub use losses::{NOTHING_LOST, write_losses};
+pub use reading::{FileSource, SystemFiles};
+pub use running::run;
+pub use subcommands::{check_file, table_file};

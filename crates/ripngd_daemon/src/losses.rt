@@ -1,0 +1,65 @@
+//! What a run lost, as a line of standard error.
+
+ghost use Rattle.std.specs.Prelude.{◌≡◌, ◌≢◌, OnOk};
+ghost use Rattle.std.specs.Io.KnownBytes.{Appends};
+ghost use Rattle.ripngd_engine.specs.Run.{counted};
+ghost use Rattle.ripngd_daemon.specs.Losses.{log_text, losses_line, nothing_lost};
+
+use ripngd_engine::Report;
+use std::io::{self, Write};
+
+/// The report of a run that lost nothing.
+pub const NOTHING_LOST: Report = Report {
+    lost_sends: 0,
+    lost_memory: 0,
+    log_failed: false,
+};
+
+/// The report of a run with what its link lost beside: sends that failed after they were taken, and arrivals for which it
+/// had no memory.
+pub(crate) fn with_link(report: Report, failed_sends: u64, lost_arrivals: u64) -> Report
+    ensures { result ≡ record report {
+      lost_sends = counted report.lost_sends failed_sends;
+      lost_memory = counted report.lost_memory lost_arrivals;
+    } }
+{
+    Report {
+        lost_sends: report.lost_sends.saturating_add(failed_sends),
+        lost_memory: report.lost_memory.saturating_add(lost_arrivals),
+        ..report
+    }
+}
+
+fn log_text(failed: bool) -> &'static str
+    ensures { result.now ≡ log_text failed }
+{
+    if failed { ", log failed" } else { "" }
+}
+
+/// Writes what was lost: `ripngd: lost sends N, lost steps M`, with `, log failed` behind it where a write of the log failed.
+fn write_line<W: Write>(report: Report, out: &mut W) -> io::Result<()>
+    ensures { OnOk result (Appends (W.contents out.old) (W.contents out.new) (losses_line report)) }
+{
+    let Report {
+        lost_sends,
+        lost_memory,
+        log_failed,
+    } = report;
+    let log = log_text(log_failed);
+    writeln!(
+        out,
+        "ripngd: lost sends {lost_sends}, lost steps {lost_memory}{log}"
+    )
+}
+
+/// Writes what was lost, if anything was.
+pub fn write_losses<W: Write>(report: Report, out: &mut W) -> io::Result<()>
+    ensures nothing { report ≡ nothing_lost → out.new ≡ out.old }
+    ensures line { report ≢ nothing_lost → OnOk result (Appends (W.contents out.old) (W.contents out.new) (losses_line report)) }
+{
+    if report == NOTHING_LOST {
+        Ok(())
+    } else {
+        write_line(report, out)
+    }
+}

@@ -1,0 +1,46 @@
+//! What a run is to do, made of what is asked and of a configuration's text.
+
+ghost use Rattle.std.specs.Prelude.{◌≡◌, IfErr, IfOk};
+ghost use Rattle.ripngd_config.specs.Configuration.{HasOneEach, IsConfigured, Refuses};
+
+use ripngd_command_line::Order;
+use ripngd_config::{Config, ConfigFault, read_config};
+use std::alloc::Global;
+
+/// What a run is to do.
+#[derive(Drop)]
+pub(crate) struct Plan<'a> {
+    /// What the router runs on.
+    pub(crate) config: Config,
+    /// How many turns it makes.
+    pub(crate) turns: u32,
+    /// Whether what it refuses is written to standard error.
+    pub(crate) debug: bool,
+    /// The file that gets its log.
+    pub(crate) log: Option<&'a str>,
+}
+
+/// Reads the text of the configuration of a run that is ordered.
+///
+/// # Errors
+/// Those of [`read_config`], for a router that is as quiet as ordered, with the tag that is ordered for prefixes without.
+pub(crate) fn plan_of<'a>(
+    alloc: Global,
+    order: Order<'a>,
+    text: &[u8],
+) -> Result<Plan<'a>, ConfigFault>
+    ensures configured { IfOk result (λ plan. IsConfigured text.now order.entry.tag order.entry.quiet plan.config) }
+    ensures turns { IfOk result (λ plan. plan.turns ≡ order.entry.turns) }
+    ensures debug { IfOk result (λ plan. plan.debug ≡ order.entry.debug) }
+    ensures log { IfOk result (λ plan. plan.log ≡ order.entry.log) }
+    ensures one_each { IfOk result (λ plan. HasOneEach plan.config) }
+    ensures refused { IfErr result (Refuses text.now order.entry.tag order.entry.quiet) }
+{
+    let config = read_config(alloc, text, order.tag, order.quiet)?;
+    Ok(Plan {
+        config,
+        turns: order.turns,
+        debug: order.debug,
+        log: order.log,
+    })
+}

@@ -1,0 +1,39 @@
+//! Files that the program is given.
+
+ghost use Rattle.std.specs.Prelude.{◌≡◌, ◌⊎◌, IfErr, IfOk, List, ℕ};
+ghost use Rattle.ripngd_daemon.specs.declared.failure.Failure.TheVariants as failures;
+
+use crate::failure::{Failure, failed};
+use std::fs;
+use std::rt::Files;
+
+/// What the texts of files are read from.
+pub trait FileSource {
+    // Whether a file of that name may hold this.
+    ghost holds: { Self → List ℕ → List ℕ → Type 0 };
+
+    /// What a file holds.
+    ///
+    /// # Errors
+    /// `Read` with its name where it cannot be read; `OutOfMemory`.
+    fn read<'a>(&self, file: &'a str) -> Result<Vec<u8>, Failure<'a>>
+        ensures text { IfOk result (λ text. holds self.now file.entry.now text.items) }
+        ensures failed { IfErr result (λ f. (f ≡ failures.OutOfMemory) ⊎ (f ≡ failures.Read file.entry)) };
+}
+
+/// The files of the system, of which contracts know nothing.
+#[derive(Drop)]
+pub struct SystemFiles<'r, R>(pub &'r R);
+
+impl<R: AllocGlobal + Files> FileSource for SystemFiles<'_, R> {
+    ghost use Rattle.std.specs.Prelude.{⊤};
+
+    ghost holds = { λ _ _ _. ⊤ };
+
+    fn read<'a>(&self, file: &'a str) -> Result<Vec<u8>, Failure<'a>> {
+        match fs::read(self.0, file) {
+            Ok(text) => Ok(text),
+            Err(error) => Err(failed(Failure::Read(file), &error)),
+        }
+    }
+}
