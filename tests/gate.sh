@@ -1,7 +1,7 @@
 #!/usr/bin/env bash
-# The merge gate, from nothing: proofs, edits that must be refused, tests and programs (`rt ci`); then real daemons and flooded
-# networks and the page, run by the program that this built; then calls whose growths are refused. Its last line, `N passed, M
-# failed`, counts them all.
+# The merge gate, from nothing: proofs, edits that must be refused, tests and programs (`rt ci`); then real daemons, flooded
+# networks, networks that heal, and the page, run by the program that this built; then calls whose growths are refused. Its last
+# line, `N passed, M failed`, counts them all.
 set -u
 cd "$(dirname "$0")/.." || exit 1
 
@@ -27,6 +27,8 @@ tests/daemon.sh "$program" | tee "$folder/daemons"
 [ "${PIPESTATUS[0]}" = 0 ] || status=1
 tests/floods.sh "$program" | tee "$folder/floods"
 [ "${PIPESTATUS[0]}" = 0 ] || status=1
+tests/healing.sh "$program" | tee "$folder/healings"
+[ "${PIPESTATUS[0]}" = 0 ] || status=1
 tests/page.sh "$program" | tee "$folder/pages"
 [ "${PIPESTATUS[0]}" = 0 ] || status=1
 tests/growth.sh | tee "$folder/growths"
@@ -34,7 +36,7 @@ tests/growth.sh | tee "$folder/growths"
 
 passed=0
 failed=0
-for said in proofs daemons floods pages growths; do
+for said in proofs daemons floods healings pages growths; do
     passed=$((passed + $(counted passed "$folder/$said")))
     failed=$((failed + $(counted failed "$folder/$said")))
 done
