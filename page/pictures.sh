@@ -19,6 +19,7 @@ picture() {
 
 mkdir -p "$root/docs/films" "$root/docs/pictures"
 picture counting 36 1
+picture healing 38 0
 picture line 10 1
 picture moving 9 1
 picture rounds 20 3
