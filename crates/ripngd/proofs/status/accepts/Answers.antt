@@ -1,7 +1,13 @@
 use Rattle.ripngd.proofs.status.accepts.Goals as goal
 
+pub returns-in-Show-clause-answered : goal.returns-in-Show-clause-answered
+returns-in-Show-clause-answered g c = rw c.in-Show.is c.show_digits.ensures.answered
+
+pub returns-in-Show-clause-failed : goal.returns-in-Show-clause-failed
+returns-in-Show-clause-failed g c = rw c.in-Show.is c.show_digits.ensures.failed
+
 pub returns-in-Check-clause-answered : goal.returns-in-Check-clause-answered
-returns-in-Check-clause-answered g c = rw c.in-Check.is c.check_file.ensures.answered
+returns-in-Check-clause-answered g c = rw c.in-Check.is c.check_file.ensures.checked
 
 pub returns-in-Check-clause-failed : goal.returns-in-Check-clause-failed
 returns-in-Check-clause-failed g c = rw c.in-Check.is c.check_file.ensures.failed
@@ -25,7 +31,7 @@ pub returns-in-Run-clause-failed : goal.returns-in-Run-clause-failed
 returns-in-Run-clause-failed g c = rw c.in-Run.is c.run.ensures.failed
 
 pub returns-in-Table-clause-answered : goal.returns-in-Table-clause-answered
-returns-in-Table-clause-answered g c = rw c.in-Table.is c.table_file.ensures.answered
+returns-in-Table-clause-answered g c = rw c.in-Table.is c.table_file.ensures.tabled
 
 pub returns-in-Table-clause-failed : goal.returns-in-Table-clause-failed
 returns-in-Table-clause-failed g c = rw c.in-Table.is c.table_file.ensures.failed
@@ -35,6 +41,9 @@ returns-in-Film-clause-answered g c = rw c.in-Film.is c.film_file.ensures.answer
 
 pub returns-in-Film-clause-failed : goal.returns-in-Film-clause-failed
 returns-in-Film-clause-failed g c = rw c.in-Film.is c.film_file.ensures.failed
+
+pub returns-in-Page-clause-answered : goal.returns-in-Page-clause-answered
+returns-in-Page-clause-answered g c = rw c.in-Page.is c.serve.ensures.served
 
 pub returns-in-Page-clause-failed : goal.returns-in-Page-clause-failed
 returns-in-Page-clause-failed g c = rw c.in-Page.is c.serve.ensures.failed
