@@ -1,6 +1,6 @@
 #!/usr/bin/env bash
-# The merge gate, from nothing: proofs, edits that must be refused, tests and programs (`rt ci`); then real daemons, flooded
-# networks, networks that heal, and the page, run by the program that this built; then calls whose growths are refused. Its last
+# The merge gate, from nothing: proofs, edits that must be refused, tests and programs (`rt ci`); then the examples, real daemons,
+# flooded networks, networks that heal, and the page, run by the program that this built; then calls whose growths are refused. Its last
 # line, `N passed, M failed`, counts them all.
 set -u
 cd "$(dirname "$0")/.." || exit 1
@@ -13,16 +13,16 @@ counted() {
     tail -n 1 "$2" | grep -oE "[0-9]+ $1" | grep -oE '^[0-9]+'
 }
 
-# The gate runs programs on files of their own, so the examples stand twice: they must be the same. So does the page, in a file
-# and as constants of the program.
+# The page stands twice, in a file and as constants of the program: it must be the same.
 status=0
-diff -r examples crates/ripngd_examples/data || status=1
 page/embed.sh --check || status=1
 
 rt ci | tee "$folder/proofs"
 [ "${PIPESTATUS[0]}" = 0 ] || status=1
 
 program=crates/ripngd_program/out/ripngd_program
+tests/examples.sh "$program" | tee "$folder/examples"
+[ "${PIPESTATUS[0]}" = 0 ] || status=1
 tests/daemon.sh "$program" | tee "$folder/daemons"
 [ "${PIPESTATUS[0]}" = 0 ] || status=1
 tests/floods.sh "$program" | tee "$folder/floods"
@@ -36,7 +36,7 @@ tests/growth.sh | tee "$folder/growths"
 
 passed=0
 failed=0
-for said in proofs daemons floods healings pages growths; do
+for said in proofs examples daemons floods healings pages growths; do
     passed=$((passed + $(counted passed "$folder/$said")))
     failed=$((failed + $(counted failed "$folder/$said")))
 done

@@ -4,6 +4,8 @@
 #[cfg(test)]
 mod debugging;
 #[cfg(test)]
+mod failing_writes;
+#[cfg(test)]
 mod faults;
 #[cfg(test)]
 mod files;
