@@ -1,25 +1,21 @@
 -- After k synchronous rounds from a cold start every router has exactly the least costs within k hops.
-use Rattle.std.proofs.Common.{◌≡◌, ◌⊎◌, inl, inr, ℕ, zero, suc, ◌+◌, ◌<◌, ◌≤◌, Bool, true, false, cond, List, [], ◌∷◌, map, length, Some, slice_get, refl, ap, sym, subst, ◌∙◌, arith, le_refl, add-zero}
+use Rattle.std.proofs.Common.{◌≡◌, ◌⊎◌, inl, inr, ℕ, suc, ◌+◌, ◌<◌, ◌≤◌, List, [], ◌∷◌, map, length, Some, slice_get, refl, ap, sym, subst, ◌∙◌, arith, le_refl, add-zero}
 use Rattle.std.specs.FinMap as map_of
-use Rattle.std.specs.FinMap.{find}
-use Rattle.std.specs.Ordering.{eq_by_cmp, is_eq}
-use Rattle.std.specs.Cmp.{tied_itself}
-use Rattle.prefix6.specs.Prefix.{Prefix6, prefix_cmp}
+use Rattle.prefix6.specs.Prefix.{Prefix6}
 use Rattle.prefix6.proofs.PrefixLaws.{prefixes_total}
 use Rattle.route_table.specs.Route.{RouteValue, infinity}
-use Rattle.route_table.proofs.TableLaws.{Some-same, None-Some, at_from_entries}
+use Rattle.route_table.proofs.TableLaws.{Some-same, at_from_entries}
 use Rattle.router_core.specs.Owning.{owned_route}
 use Rattle.router_core.specs.Machine.{State, started, owned_table}
-use Rattle.ripng_world.specs.declared.sent.Sent.{Sent}
 use Rattle.ripng_world.specs.Network.{Network, Node, config_of, Owns, OwnsPrefixes, HasDistinctAddresses}
 use Rattle.ripng_world.specs.Walks.{Hop, Reaches}
-use Rattle.ripng_world.specs.World.{World, StartsFrom, IsCold}
+use Rattle.ripng_world.specs.World.{World, IsCold}
 use Rattle.ripng_world.specs.Rounds.{Round, SynchronousRounds, AreCloseAfter, AreClose, IsMomentOf}
 use Rattle.ripng_world.specs.Network.{IsUsable}
 use Rattle.ripng_world.specs.Convergence.{IsNeverQuiet, FitsTables, AreConverged}
 use Rattle.ripng_world.proofs.Each.{each_mapped, each_from_places}
 use Rattle.ripng_world.proofs.ColdStates.{cold_states, found_at}
-use Rattle.ripng_world.proofs.Members.{At, at_map}
+use Rattle.ripng_world.proofs.Members.{at_map}
 use Rattle.ripng_world.proofs.Improving.{RouteAt, one_route, IsFine}
 use Rattle.ripng_world.proofs.RoundEnd.{IsSettled, next_settled}
 

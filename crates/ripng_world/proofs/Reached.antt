@@ -1,14 +1,11 @@
 -- What every state of a router has that was ever reached: which routes it may hold, by their clocks, and its own ones.
-use Rattle.std.proofs.Common.{◌≡◌, ℕ, zero, suc, ◌+◌, min, ◌<◌, ◌≤◌, Bool, true, false, cond, not, ◌&&◌, ◌||◌, ◌==◌, nat_lt, nat_le, List, [], ◌∷◌, map, filter, fold, length, Option, Some, None, is_none, option_and_then, slice_get, refl, ap, sym, subst, ◌∙◌, arith, le_refl}
+use Rattle.std.proofs.Common.{◌≡◌, ℕ, ◌+◌, min, ◌<◌, ◌≤◌, Bool, true, false, cond, not, ◌&&◌, ◌||◌, ◌==◌, nat_lt, nat_le, List, [], ◌∷◌, map, filter, fold, length, Option, Some, None, is_none, option_and_then, refl, ap, sym, subst, ◌∙◌, arith, le_refl}
 use Rattle.std.specs.Prelude.{⊤}
 use Rattle.std.specs.List.{AllByRecursion, enumerate_from}
 use Rattle.std.specs.FinMap as map_of
-use Rattle.std.specs.FinMap.{find}
-use Rattle.std.specs.Ordering.{eq_by_cmp, is_eq}
-use Rattle.std.specs.Cmp.{tied_itself}
 use Rattle.std.proofs.lemmas.Bool.{ltb-true}
 use Rattle.std.proofs.lemmas.Bool.Decides.{nat_tests}
-use Rattle.prefix6.specs.Prefix.{Prefix6, prefix_cmp, same_prefix}
+use Rattle.prefix6.specs.Prefix.{Prefix6, same_prefix}
 use Rattle.prefix6.proofs.PrefixLaws.{prefixes_total, same_prefix-true}
 use Rattle.ripng_wire.specs.declared.rte.Rte.{Rte}
 use Rattle.ripng_wire.specs.Layout.{is_next_hop}

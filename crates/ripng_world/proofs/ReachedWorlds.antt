@@ -1,5 +1,5 @@
 -- Whatever happens, a reached world stays one.
-use Rattle.std.proofs.Common.{◌≡◌, inl, ℕ, zero, suc, max, ◌≤◌, Bool, true, false, cond, ◌&&◌, ◌==◌, MatchBool, MatchOption, List, [], ◌∷◌, ◌++◌, Option, Some, None, is_none, option_map, unwrap_or, slice_get, refl, ap, sym, subst, ◌∙◌, arith}
+use Rattle.std.proofs.Common.{◌≡◌, inl, ℕ, max, ◌≤◌, Bool, true, false, cond, ◌&&◌, ◌==◌, MatchBool, MatchOption, List, [], ◌∷◌, ◌++◌, Option, Some, None, is_none, option_map, unwrap_or, slice_get, refl, ap, sym, subst, ◌∙◌, arith}
 use Rattle.std.specs.List.{AllByRecursion}
 use Rattle.std.proofs.lemmas.Bool.{eq-eqb}
 use Rattle.prefix6.specs.Prefix.{Prefix6, IsPrefix}
@@ -8,21 +8,20 @@ use Rattle.ripng_wire.specs.declared.rte.Command.TheVariants.{Response}
 use Rattle.ripng_wire.specs.Layout.{Spells}
 use Rattle.ripng_wire.specs.Wire.{is_response}
 use Rattle.route_table.specs.Route.{infinity}
-use Rattle.route_table.proofs.TableLaws.{Some-same, None-Some}
 use Rattle.router_core.specs.Config.{cost_at}
 use Rattle.router_core.specs.Faults.{fault}
 use Rattle.router_core.specs.Received.{Received}
-use Rattle.router_core.specs.Machine.{State, Arrives, Ticks, Restarts, Reconfigures, Hears, Replies, Refuses, started, gateway_of}
+use Rattle.router_core.specs.Machine.{State, Arrives, Ticks, Restarts, Reconfigures, Hears, Replies, Refuses, gateway_of}
 use Rattle.router_core.specs.Reconfiguring.{changed_config}
 use Rattle.router_core.specs.declared.answer.Answer.{Answer}
 use Rattle.router_core.specs.declared.arrival.Fault.{Fault}
 use Rattle.ripng_world.specs.declared.network.NetInterface.{NetInterface}
 use Rattle.ripng_world.specs.declared.sent.Sent.{Sent}
 use Rattle.ripng_world.specs.Healing.{changed_node, network_now}
-use Rattle.ripng_world.specs.Network.{Network, Node, IsNetwork, config_of, interface_at}
+use Rattle.ripng_world.specs.Network.{Network, IsNetwork, config_of, interface_at}
 use Rattle.ripng_world.specs.Past.{OwnsSince}
 use Rattle.ripng_world.specs.TruthSince.{IsSoundDatagramSince, IsSoundEntrySince}
-use Rattle.ripng_world.specs.World.{World, Event, Deliver, Stranger, Tick, Restart, Reconfigure, Happens, WorldRun, StartsFrom, IsCold, past_of, arrival_of}
+use Rattle.ripng_world.specs.World.{World, Event, Deliver, Stranger, Tick, Restart, Reconfigure, Happens, WorldRun, IsCold, past_of, arrival_of}
 use Rattle.ripng_world.proofs.Each.{each_append, each_at_place}
 use Rattle.ripng_world.proofs.ColdStates.{cold_states}
 use Rattle.ripng_world.proofs.Members.{At}
