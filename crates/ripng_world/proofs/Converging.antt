@@ -1,24 +1,21 @@
 -- After k synchronous rounds from a cold start every router has exactly the least costs within k hops.
-use Rattle.std.proofs.Common.{◌≡◌, ◌⊎◌, inl, inr, ℕ, zero, suc, ◌+◌, ◌<◌, ◌≤◌, Bool, true, false, cond, List, [], ◌∷◌, map, length, Some, slice_get, refl, ap, sym, subst, ◌∙◌, arith, le_refl, add-zero}
+use Rattle.std.proofs.Common.{◌≡◌, ◌⊎◌, inl, inr, ℕ, suc, ◌+◌, ◌<◌, ◌≤◌, List, [], ◌∷◌, map, length, Some, slice_get, refl, ap, sym, subst, ◌∙◌, arith, le_refl, add-zero}
 use Rattle.std.specs.FinMap as map_of
-use Rattle.std.specs.FinMap.{find}
-use Rattle.std.specs.Ordering.{eq_by_cmp, is_eq}
-use Rattle.std.specs.Cmp.{tied_itself}
-use Rattle.prefix6.specs.Prefix.{Prefix6, prefix_cmp}
+use Rattle.prefix6.specs.Prefix.{Prefix6}
 use Rattle.prefix6.proofs.PrefixLaws.{prefixes_total}
 use Rattle.route_table.specs.Route.{RouteValue, infinity}
-use Rattle.route_table.proofs.TableLaws.{Some-same, None-Some, at_from_entries}
+use Rattle.route_table.proofs.TableLaws.{Some-same, at_from_entries}
 use Rattle.router_core.specs.Owning.{owned_route}
 use Rattle.router_core.specs.Machine.{State, started, owned_table}
-use Rattle.ripng_world.specs.declared.sent.Sent.{Sent}
 use Rattle.ripng_world.specs.Network.{Network, Node, config_of, Owns, OwnsPrefixes, HasDistinctAddresses}
 use Rattle.ripng_world.specs.Walks.{Hop, Reaches}
-use Rattle.ripng_world.specs.World.{World, StartsFrom, IsCold}
+use Rattle.ripng_world.specs.World.{World, IsCold}
 use Rattle.ripng_world.specs.Rounds.{Round, SynchronousRounds, AreCloseAfter, AreClose, IsMomentOf}
 use Rattle.ripng_world.specs.Network.{IsUsable}
 use Rattle.ripng_world.specs.Convergence.{IsNeverQuiet, FitsTables, AreConverged}
 use Rattle.ripng_world.proofs.Each.{each_mapped, each_from_places}
-use Rattle.ripng_world.proofs.Members.{At, at_map}
+use Rattle.ripng_world.proofs.ColdStates.{cold_states, found_at}
+use Rattle.ripng_world.proofs.Members.{at_map}
 use Rattle.ripng_world.proofs.Improving.{RouteAt, one_route, IsFine}
 use Rattle.ripng_world.proofs.RoundEnd.{IsSettled, next_settled}
 
@@ -69,24 +66,6 @@ module _ (net : Network) (usable : IsUsable net) (owns : OwnsPrefixes net) (nois
 
   -- ---- the cold start
 
-  cold_states : (n : ℕ) (nodes : List Node) (moments : List ℕ) (states : List State) (sent : List Sent) → StartsFrom n nodes moments states sent
-      → ((i : ℕ) (s : State) → slice_get states i ≡ Some s → (node : Node) × (now : ℕ) × (slice_get nodes i ≡ Some node) × (s ≡ started (config_of node) now))
-      × ((i : ℕ) (node : Node) → slice_get nodes i ≡ Some node → (s : State) × (slice_get states i ≡ Some s))
-  cold_states n [] [] [] sent starts = (λ i s is. absurd (None-Some s is), λ i node is. absurd (None-Some node is))
-  cold_states n (node ∷ nodes) (now ∷ moments) (s ∷ states) sent starts =
-      let rest = cold_states (suc n) nodes moments states starts.1 starts.3 in
-      (λ i t is. first i t is rest.0, λ i other is. second i other is rest.1)
-    where
-      first : (i : ℕ) (t : State) → slice_get (s ∷ states) i ≡ Some t → ((j : ℕ) (u : State) → slice_get states j ≡ Some u → (o : Node) × (m : ℕ) × (slice_get nodes j ≡ Some o) × (u ≡ started (config_of o) m))
-          → (o : Node) × (m : ℕ) × (slice_get (node ∷ nodes) i ≡ Some o) × (t ≡ started (config_of o) m)
-      first zero t is later = (node, now, refl, sym (Some-same s t is) ∙ starts.2.state)
-      first (suc i) t is later = later i t is
-
-      second : (i : ℕ) (other : Node) → slice_get (node ∷ nodes) i ≡ Some other → ((j : ℕ) (o : Node) → slice_get nodes j ≡ Some o → (u : State) × (slice_get states j ≡ Some u)) → (u : State) × (slice_get (s ∷ states) i ≡ Some u)
-      second zero other is later = (s, refl)
-      second (suc i) other is later = later i other is
-  cold_states n _ _ _ sent starts = absurd starts
-
   own_fine : (base : World) (moments : ℕ → Type 0) (router last : ℕ) (node : Node) → slice_get net router ≡ Some node → (p : Prefix6) (r : RouteValue) → map_of.get (owned_table (config_of node)) p ≡ Some r
       → IsFine net base 0 moments router last p r
   own_fine base moments router last node is =
@@ -106,20 +85,6 @@ module _ (net : Network) (usable : IsUsable net) (owns : OwnsPrefixes net) (nois
             positive = le_refl _;
             shape = (refl, refl);
           }
-
-  found_at : (es : List (Prefix6 × RouteValue)) (p : Prefix6) (r : RouteValue) → At es (p, r) → (q : RouteValue) × (find prefix_cmp p es ≡ Some q)
-  found_at [] p r a = absurd (None-Some (p, r) a.1)
-  found_at (e ∷ es) p r a = by_tie (eq_by_cmp prefix_cmp p e.0) refl a.0 a.1 (λ i is. found_at es p r (i, is))
-    where
-      by_tie : (b : Bool) → eq_by_cmp prefix_cmp p e.0 ≡ b → (i : ℕ) → slice_get (e ∷ es) i ≡ Some (p, r) → ((j : ℕ) → slice_get es j ≡ Some (p, r) → (q : RouteValue) × (find prefix_cmp p es ≡ Some q))
-          → (q : RouteValue) × (find prefix_cmp p (e ∷ es) ≡ Some q)
-      by_tie true tie i is later = (e.1, ap (λ b. cond b (Some e.1) (find prefix_cmp p es)) tie)
-      by_tie false tie zero is later =
-          absurd (clash (sym tie ∙ ap (λ (x : Prefix6 × RouteValue). eq_by_cmp prefix_cmp p x.0) (Some-same e (p, r) is) ∙ ap is_eq (tied_itself prefixes_total p)))
-        where
-          clash : false ≡ true → ⊥
-          clash e = cc
-      by_tie false tie (suc i) is later = let l = later i is in (l.0, ap (λ b. cond b (Some e.1) (find prefix_cmp p es)) tie ∙ l.1)
 
   cold_settled : (moments : List ℕ) (cold : World) → IsCold net moments cold → IsSettled net 0 (λ _ _. ⊥) cold
   cold_settled moments cold is =

@@ -1,14 +1,11 @@
 -- What every state of a router has that was ever reached: which routes it may hold, by their clocks, and its own ones.
-use Rattle.std.proofs.Common.{◌≡◌, ℕ, zero, suc, ◌+◌, min, ◌<◌, ◌≤◌, Bool, true, false, cond, not, ◌&&◌, ◌||◌, ◌==◌, nat_lt, nat_le, List, [], ◌∷◌, map, filter, fold, length, Option, Some, None, is_none, option_and_then, slice_get, refl, ap, sym, subst, ◌∙◌, arith, le_refl}
+use Rattle.std.proofs.Common.{◌≡◌, ℕ, ◌+◌, min, ◌<◌, ◌≤◌, Bool, true, false, cond, not, ◌&&◌, ◌||◌, ◌==◌, nat_lt, nat_le, List, [], ◌∷◌, map, filter, fold, length, Option, Some, None, is_none, option_and_then, refl, ap, sym, subst, ◌∙◌, arith, le_refl}
 use Rattle.std.specs.Prelude.{⊤}
 use Rattle.std.specs.List.{AllByRecursion, enumerate_from}
 use Rattle.std.specs.FinMap as map_of
-use Rattle.std.specs.FinMap.{find}
-use Rattle.std.specs.Ordering.{eq_by_cmp, is_eq}
-use Rattle.std.specs.Cmp.{tied_itself}
 use Rattle.std.proofs.lemmas.Bool.{ltb-true}
 use Rattle.std.proofs.lemmas.Bool.Decides.{nat_tests}
-use Rattle.prefix6.specs.Prefix.{Prefix6, prefix_cmp, same_prefix}
+use Rattle.prefix6.specs.Prefix.{Prefix6, same_prefix}
 use Rattle.prefix6.proofs.PrefixLaws.{prefixes_total, same_prefix-true}
 use Rattle.ripng_wire.specs.declared.rte.Rte.{Rte}
 use Rattle.ripng_wire.specs.Layout.{is_next_hop}
@@ -31,6 +28,7 @@ use Rattle.ripng_world.specs.Past.{Past, OwnsSince}
 use Rattle.ripng_world.specs.TruthSince.{IsSoundEntrySince}
 use Rattle.ripng_world.specs.Walks.{end_of}
 use Rattle.ripng_world.proofs.Each.{each_filter, each_passing, each_enumerated, each_mapped, each_from_places}
+use Rattle.ripng_world.proofs.ColdStates.{found_at}
 use Rattle.ripng_world.proofs.Members.{At, at_map}
 use Rattle.ripng_world.proofs.HealPlain.{IsPlainRow, IsClocked}
 
@@ -59,47 +57,6 @@ HasOwned config table = (p : Prefix6) (tag : ℕ) → At config.prefixes (p, tag
 pub record IsReached (past : Past) (s : State) : Type 0 where
   pub rows : AreRows past s.config s.last s.table
   pub owned : HasOwned s.config s.table
-
--- ---- lists and maps
-
-pub found_at : (es : List (Prefix6 × RouteValue)) (p : Prefix6) (r : RouteValue) → At es (p, r) → (q : RouteValue) × (find prefix_cmp p es ≡ Some q)
-found_at [] p r a = absurd (None-Some (p, r) a.1)
-found_at (e ∷ es) p r a = by_tie (eq_by_cmp prefix_cmp p e.0) refl a.0 a.1 (λ i is. found_at es p r (i, is))
-  where
-    by_tie : (b : Bool) → eq_by_cmp prefix_cmp p e.0 ≡ b → (i : ℕ) → slice_get (e ∷ es) i ≡ Some (p, r) → ((j : ℕ) → slice_get es j ≡ Some (p, r) → (q : RouteValue) × (find prefix_cmp p es ≡ Some q))
-        → (q : RouteValue) × (find prefix_cmp p (e ∷ es) ≡ Some q)
-    by_tie true tie i is later = (e.1, ap (λ b. cond b (Some e.1) (find prefix_cmp p es)) tie)
-    by_tie false tie zero is later =
-        absurd (clash (sym tie ∙ ap (λ (x : Prefix6 × RouteValue). eq_by_cmp prefix_cmp p x.0) (Some-same e (p, r) is) ∙ ap is_eq (tied_itself prefixes_total p)))
-      where
-        clash : false ≡ true → ⊥
-        clash e = cc
-    by_tie false tie (suc i) is later = let l = later i is in (l.0, ap (λ b. cond b (Some e.1) (find prefix_cmp p es)) tie ∙ l.1)
-
-pub at_passing : {X : Type 0} (test : X → Bool) (xs : List X) (x : X) → At xs x → test x ≡ true → At (filter test xs) x
-at_passing test [] x a passes = absurd (None-Some x a.1)
-at_passing {X = X} test (y ∷ ys) x a passes = by_place a.0 a.1 (λ i e. at_passing test ys x (i, e) passes)
-  where
-    by_place : (i : ℕ) → slice_get (y ∷ ys) i ≡ Some x → ((j : ℕ) → slice_get ys j ≡ Some x → At (filter test ys) x) → At (cond (test y) (y ∷ filter test ys) (filter test ys)) x
-    by_place zero e later =
-        subst (λ b. At (cond b (y ∷ filter test ys) (filter test ys)) x) (sym (ap test (Some-same y x e) ∙ passes)) (0, e)
-    by_place (suc i) e later = by_test (test y) (later i e)
-      where
-        by_test : (b : Bool) → At (filter test ys) x → At (cond b (y ∷ filter test ys) (filter test ys)) x
-        by_test true l = (suc l.0, l.1)
-        by_test false l = l
-
-pub of_filter : {X : Type 0} (test : X → Bool) (xs : List X) (x : X) → At (filter test xs) x → At xs x × (test x ≡ true)
-of_filter test [] x a = absurd (None-Some x a.1)
-of_filter {X = X} test (y ∷ ys) x a = by_test (test y) refl a (λ b. of_filter test ys x b)
-  where
-    by_test : (b : Bool) → test y ≡ b → At (cond b (y ∷ filter test ys) (filter test ys)) x → (At (filter test ys) x → At ys x × (test x ≡ true)) → At (y ∷ ys) x × (test x ≡ true)
-    by_test true is a later = by_place a.0 a.1
-      where
-        by_place : (i : ℕ) → slice_get (y ∷ filter test ys) i ≡ Some x → At (y ∷ ys) x × (test x ≡ true)
-        by_place zero e = ((0, e), ap test (sym (Some-same y x e)) ∙ is)
-        by_place (suc i) e = let l = later (i, e) in ((suc l.0.0, l.0.1), l.1)
-    by_test false is a later = let l = later a in ((suc l.0.0, l.0.1), l.1)
 
 -- ---- time goes on
 

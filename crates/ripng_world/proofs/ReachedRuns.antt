@@ -28,9 +28,10 @@ use Rattle.ripng_world.specs.Network.{Network, Node, IsNetwork, config_of}
 use Rattle.ripng_world.specs.Past.{Past}
 use Rattle.ripng_world.specs.World.{World, RouterMoves, past_of, changes_by}
 use Rattle.ripng_world.proofs.Growing.{owner_grows}
+use Rattle.ripng_world.proofs.Among.{in_filter, to_filter}
 use Rattle.ripng_world.proofs.Members.{At, at_left, at_right, split_at}
 use Rattle.ripng_world.proofs.NetworkNow.{AreLawful, IsLawfulChange, set_get}
-use Rattle.ripng_world.proofs.Reached.{IsKnown, IsReached, IsReachedBy, IsReachedRow, AreRows, HasOwned, at_passing, of_filter, later_row, own_row, aged_rows, aged_owned, unmarked_rows, unmarked_owned}
+use Rattle.ripng_world.proofs.Reached.{IsKnown, IsReached, IsReachedBy, IsReachedRow, AreRows, HasOwned, later_row, own_row, aged_rows, aged_owned, unmarked_rows, unmarked_owned}
 
 -- ---- changes
 
@@ -149,12 +150,12 @@ module _ (net : Network) (changes : List (ℕ × Change)) (router : ℕ) where
               subst (λ (x : Prefix6). IsReachedRow (after (Disown q)) (changed_config s.config (Disown q)) n x r) (sym (tells_apart exact_prefixes p q tie)) (gone (map_of.get s.table q) refl e)
           by_tie false tie e =
               reconfigured_row (after (Disown q)) s.config (changed_config s.config (Disown q)) n p r
-              (λ t a. at_passing (λ (x : Prefix6 × ℕ). not (same_prefix x.0 q)) s.config.prefixes (p, t) a (ap not (apart p q tie)))
+              (λ t a. to_filter (λ (x : Prefix6 × ℕ). not (same_prefix x.0 q)) s.config.prefixes (p, t) a (ap not (apart p q tie)))
               (later_row (after (Disown q)) s.config s.last n p r le (row_grows net changes ((router, Disown q) ∷ []) s.config s.last p r (good.rows p r e)))
 
       owned : HasOwned (changed_config s.config (Disown q)) (with_value s.table q (given_up n (map_of.get s.table q)))
       owned p t a =
-          let f = of_filter (λ (x : Prefix6 × ℕ). not (same_prefix x.0 q)) s.config.prefixes (p, t) a in
+          let f = in_filter (λ (x : Prefix6 × ℕ). not (same_prefix x.0 q)) s.config.prefixes (p, t) a in
           let o = good.owned p t f.0 in (
             o.0,
             get-with_value s.table q (given_up n (map_of.get s.table q)) p ∙ ap (λ b. cond b (given_up n (map_of.get s.table q)) (map_of.get s.table p)) (untied p q f.1) ∙ o.1,

@@ -1,5 +1,5 @@
 -- Whatever happens, a reached world stays one.
-use Rattle.std.proofs.Common.{◌≡◌, inl, ℕ, zero, suc, max, ◌≤◌, Bool, true, false, cond, ◌&&◌, ◌==◌, MatchBool, MatchOption, List, [], ◌∷◌, ◌++◌, Option, Some, None, is_none, option_map, unwrap_or, slice_get, refl, ap, sym, subst, ◌∙◌, arith}
+use Rattle.std.proofs.Common.{◌≡◌, inl, ℕ, max, ◌≤◌, Bool, true, false, cond, ◌&&◌, ◌==◌, MatchBool, MatchOption, List, [], ◌∷◌, ◌++◌, Option, Some, None, is_none, option_map, unwrap_or, slice_get, refl, ap, sym, subst, ◌∙◌, arith}
 use Rattle.std.specs.List.{AllByRecursion}
 use Rattle.std.proofs.lemmas.Bool.{eq-eqb}
 use Rattle.prefix6.specs.Prefix.{Prefix6, IsPrefix}
@@ -8,22 +8,22 @@ use Rattle.ripng_wire.specs.declared.rte.Command.TheVariants.{Response}
 use Rattle.ripng_wire.specs.Layout.{Spells}
 use Rattle.ripng_wire.specs.Wire.{is_response}
 use Rattle.route_table.specs.Route.{infinity}
-use Rattle.route_table.proofs.TableLaws.{Some-same, None-Some}
 use Rattle.router_core.specs.Config.{cost_at}
 use Rattle.router_core.specs.Faults.{fault}
 use Rattle.router_core.specs.Received.{Received}
-use Rattle.router_core.specs.Machine.{State, Arrives, Ticks, Restarts, Reconfigures, Hears, Replies, Refuses, started, gateway_of}
+use Rattle.router_core.specs.Machine.{State, Arrives, Ticks, Restarts, Reconfigures, Hears, Replies, Refuses, gateway_of}
 use Rattle.router_core.specs.Reconfiguring.{changed_config}
 use Rattle.router_core.specs.declared.answer.Answer.{Answer}
 use Rattle.router_core.specs.declared.arrival.Fault.{Fault}
 use Rattle.ripng_world.specs.declared.network.NetInterface.{NetInterface}
 use Rattle.ripng_world.specs.declared.sent.Sent.{Sent}
 use Rattle.ripng_world.specs.Healing.{changed_node, network_now}
-use Rattle.ripng_world.specs.Network.{Network, Node, IsNetwork, config_of, interface_at}
+use Rattle.ripng_world.specs.Network.{Network, IsNetwork, config_of, interface_at}
 use Rattle.ripng_world.specs.Past.{OwnsSince}
 use Rattle.ripng_world.specs.TruthSince.{IsSoundDatagramSince, IsSoundEntrySince}
-use Rattle.ripng_world.specs.World.{World, Event, Deliver, Stranger, Tick, Restart, Reconfigure, Happens, WorldRun, StartsFrom, IsCold, past_of, arrival_of}
+use Rattle.ripng_world.specs.World.{World, Event, Deliver, Stranger, Tick, Restart, Reconfigure, Happens, WorldRun, IsCold, past_of, arrival_of}
 use Rattle.ripng_world.proofs.Each.{each_append, each_at_place}
+use Rattle.ripng_world.proofs.ColdStates.{cold_states}
 use Rattle.ripng_world.proofs.Members.{At}
 use Rattle.ripng_world.proofs.Running.{IsGood, cost_is, ran, cold_good}
 use Rattle.ripng_world.proofs.NetworkNow.{AreLawful, changed_alike, changed_at, now_lawful, now_more}
@@ -131,24 +131,6 @@ module _ (net : Network) (is_net : IsNetwork net) where
       reached_on events run.0 w' run.3 (ran net is_net.owns_prefixes (e ∷ []) w run.0 (run.0, run.1, run.2, refl) good) (happened w run.0 all good e run.1 run.2)
 
   -- ---- the beginning
-
-  cold_states : (n : ℕ) (nodes : List Node) (moments : List ℕ) (states : List State) (sent : List Sent) → StartsFrom n nodes moments states sent
-      → ((i : ℕ) (s : State) → slice_get states i ≡ Some s → (node : Node) × (now : ℕ) × (slice_get nodes i ≡ Some node) × (s ≡ started (config_of node) now))
-      × ((i : ℕ) (node : Node) → slice_get nodes i ≡ Some node → (s : State) × (slice_get states i ≡ Some s))
-  cold_states n [] [] [] sent starts = (λ i s is. absurd (None-Some s is), λ i node is. absurd (None-Some node is))
-  cold_states n (node ∷ nodes) (now ∷ moments) (s ∷ states) sent starts =
-      let rest = cold_states (suc n) nodes moments states starts.1 starts.3 in
-      (λ i t is. first i t is rest.0, λ i other is. second i other is rest.1)
-    where
-      first : (i : ℕ) (t : State) → slice_get (s ∷ states) i ≡ Some t → ((j : ℕ) (u : State) → slice_get states j ≡ Some u → (o : Node) × (m : ℕ) × (slice_get nodes j ≡ Some o) × (u ≡ started (config_of o) m))
-          → (o : Node) × (m : ℕ) × (slice_get (node ∷ nodes) i ≡ Some o) × (t ≡ started (config_of o) m)
-      first zero t is later = (node, now, refl, sym (Some-same s t is) ∙ starts.2.state)
-      first (suc i) t is later = later i t is
-
-      second : (i : ℕ) (other : Node) → slice_get (node ∷ nodes) i ≡ Some other → ((j : ℕ) (o : Node) → slice_get nodes j ≡ Some o → (u : State) × (slice_get states j ≡ Some u)) → (u : State) × (slice_get (s ∷ states) i ≡ Some u)
-      second zero other is later = (s, refl)
-      second (suc i) other is later = later i other is
-  cold_states n _ _ _ sent starts = absurd starts
 
   cold_reached : (moments : List ℕ) (w : World) → IsCold net moments w → AreReached net w
   cold_reached moments w cold =

@@ -2,6 +2,7 @@
 
 ghost use Rattle.std.specs.Prelude.{◌≡◌, IfOk, length};
 
+mod healing;
 mod rounds;
 
 use prefix6::{Addr6, Prefix, PrefixError};
