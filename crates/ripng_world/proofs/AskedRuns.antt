@@ -1,30 +1,19 @@
 -- Rounds that were asked for, one event and one round after another.
 use Rattle.std.proofs.Common.{◌≡◌, ℕ, List, [], ◌∷◌, ◌++◌, length, refl, sym, subst, ◌∙◌, ap, ap₂, take, map, get_or, ◌+◌, ◌<◌, arith, ◌≤◌, Bool, true, false, inl, inr}
 use Rattle.std.specs.List.{enumerate_from}
-use Rattle.std.proofs.lemmas.List.{length-append, take-map, map_more, take_more}
+use Rattle.std.proofs.lemmas.List.{length-append, take-map, map_more}
 use Rattle.std.proofs.lemmas.Bool.{cases_lt, false≢true}
 use Rattle.std.proofs.lemmas.List.FromFn.{length-enumerate_from, get_or-enumerate_from}
 use Rattle.router_core.specs.declared.answer.Answer.{Answer}
-use Rattle.ripng_world.specs.Asked.{Asked}
-use Rattle.ripng_world.specs.AskedRounds.{AreMade, IsMade, round_of, ticks_of}
+use Rattle.ripng_world.specs.AskedRounds.{ticks_of}
 use Rattle.ripng_world.specs.Network.{Network}
-use Rattle.ripng_world.specs.Rounds.{Round, AllTick, IsDueTick}
+use Rattle.ripng_world.specs.Rounds.{AllTick, IsDueTick}
 use Rattle.ripng_world.specs.World.{World, Event, Happens, Deliver, Stranger, Tick, Restart, Reconfigure, sent_by}
 
 pub tick_on : (net : Network) (es : List Event) (e : Event) (answer : Answer) (w mid w' : World) → AllTick net w es mid → IsDueTick mid e → Happens net mid e answer w'
     → AllTick net w (es ++ e ∷ []) w'
 tick_on net [] e answer w mid w' first due happens = (w', answer, subst (λ v. IsDueTick v e) first due, subst (λ v. Happens net v e answer w') first happens, refl)
 tick_on net (x ∷ es) e answer w mid w' first due happens = (first.0, first.1, first.2, first.3, tick_on net es e answer first.0 mid w' first.4 due happens)
-
-pub made_on : (net : Network) (asks : List Asked) (rs : List Round) (a : Asked) (w mid w' : World) → AreMade net w asks rs mid → IsMade net mid a w'
-    → (ss : List Round) × AreMade net w (asks ++ a ∷ []) ss w'
-made_on net [] [] a w mid w' first made =
-    let next = subst (λ v. IsMade net v a w') first made in
-    (round_of net a w next.0 ∷ [], (next.0, w', refl, next.1, next.2, refl))
-made_on net (x ∷ asks) (r ∷ rs) a w mid w' first made =
-    let more = made_on net asks rs a first.1 mid w' first.5 made in
-    (r ∷ more.0, (first.0, first.1, first.2, first.3, first.4, more.1))
-made_on net _ _ a w mid w' first made = absurd first
 
 -- one more tick
 pub take_tick : (ticks : List (ℕ × ℕ)) (n : ℕ) (t : ℕ × ℕ) → n < length ticks → t ≡ get_or ticks n t
@@ -37,13 +26,6 @@ take_tick ticks n t here is =
     let none : 0 + n ≡ n = omega arith in
     take-map f (n + 1) numbered ∙ map_more f numbered n (n, t) long
     ∙ ap₂ (λ (xs : List Event) (x : ℕ × (ℕ × ℕ)). xs ++ f x ∷ []) (sym (take-map f n numbered)) (at ∙ ap₂ (λ (m : ℕ) (x : ℕ × ℕ). (m, x)) none (sym is))
-
--- one more round
-pub made_more : (net : Network) (asks : List Asked) (n : ℕ) (a : Asked) (w mid w' : World) → n < length asks → a ≡ get_or asks n a
-    → (m : (rs : List Round) × AreMade net w (take n asks) rs mid) → IsMade net mid a w' → (rs : List Round) × AreMade net w (take (n + 1) asks) rs w'
-made_more net asks n a w mid w' here is m made =
-    let next : take (n + 1) asks ≡ take n asks ++ a ∷ [] = take_more asks n a here ∙ ap (λ x. take n asks ++ x ∷ []) (sym is) in
-    subst (λ xs. (rs : List Round) × AreMade net w xs rs w') (sym next) (made_on net (take n asks) m.0 a w mid w' m.1 made)
 
 -- ticks only add to what was sent
 pub ticks_grow : (net : Network) (es : List Event) (w w' : World) → AllTick net w es w' → length w.sent ≤ length w'.sent

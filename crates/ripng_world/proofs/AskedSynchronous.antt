@@ -1,5 +1,5 @@
 -- Rounds that are made as they were asked for are synchronous rounds, and change no configuration.
-use Rattle.std.proofs.Common.{◌≡◌, ◌≢◌, ◌⊎◌, inl, inr, ℕ, suc, ◌+◌, ◌<◌, ◌≤◌, ◌==◌, ◌%◌, Bool, true, false, not, ◌&&◌, ◌||◌, ◌-◌, List, [], ◌∷◌, ◌++◌, All, Contains, map, take, drop, filter, length, Option, Some, None, slice_get, option_map, refl, sym, subst, ◌∙◌, ap, ap₂, arith, le_trans, Result, Ok, Err, OnErr, OnOk, IfErr}
+use Rattle.std.proofs.Common.{◌≡◌, ◌≢◌, ◌⊎◌, inl, inr, ℕ, suc, ◌+◌, ◌<◌, ◌≤◌, ◌==◌, ◌%◌, Bool, true, false, not, ◌&&◌, ◌||◌, ◌-◌, List, [], ◌∷◌, ◌++◌, All, Contains, map, take, drop, filter, length, Option, Some, None, slice_get, option_map, refl, sym, subst, ◌∙◌, ap, ap₂, arith, le_trans, Result, Ok, Err, OnErr, OnOk}
 use Rattle.std.specs.List.{IsDistinct, enumerate_from, range_with_len, cons_option}
 use Rattle.std.specs.Prelude.{nat_eq}
 use Rattle.std.proofs.lemmas.Bool.{false≢true}
@@ -313,11 +313,6 @@ on_ok (Err e) P Q f h = tt
 pub to_ok : {X E : Type 0} (r : Result X E) (Q : Type 0) → Q → OnOk r Q
 to_ok (Ok x) Q h = h
 to_ok (Err e) Q h = tt
-
-pub rounds_still : {X : Type 0} (net : Network) (asks : List Asked) (w w' : World) (r : Result X RoundsRefused) → OnOk r ((rs : List Round) × AreMade net w asks rs w')
-    → IfErr r (λ why. HaveStopped net w asks why w') → w'.changes ≡ w.changes
-rounds_still net asks w w' (Ok x) made stopped = made_still net asks made.0 w w' made.1
-rounds_still net asks w w' (Err why) made stopped = stopped_still net asks why w w' stopped
 
 -- deliveries change no configuration, all or in part
 pub since_still : {X E : Type 0} (net : Network) (pairs : List Pair) (now : ℕ) (w w' : World) (r : Result X E) → OnOk r (WorldRun net w (map (λ p. delivery p now) pairs) w')

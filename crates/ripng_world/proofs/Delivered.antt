@@ -1,5 +1,5 @@
 -- Deliveries one after another: how they go on, and how they stop.
-use Rattle.std.proofs.Common.{◌≡◌, ℕ, ◌+◌, ◌-◌, ◌%◌, ◌<◌, ◌≤◌, Bool, true, false, cond, not, Result, Ok, Err, OnErr, List, [], ◌∷◌, ◌++◌, map, take, drop, filter, filter_map, flat_map, length, get_or, Option, Some, slice_get, option_map, refl, ap, sym, subst, ◌∙◌, arith, append_assoc}
+use Rattle.std.proofs.Common.{◌≡◌, ℕ, ◌+◌, ◌-◌, ◌%◌, ◌<◌, ◌≤◌, Bool, true, false, cond, not, List, [], ◌∷◌, ◌++◌, map, take, drop, filter, filter_map, flat_map, length, get_or, Option, Some, slice_get, option_map, refl, ap, sym, subst, ◌∙◌, arith, append_assoc}
 use Rattle.std.specs.List.{enumerate_from}
 use Rattle.std.proofs.lemmas.Grind.{flat_map-append}
 use Rattle.std.proofs.lemmas.List.{get_or_append_left, length-append, map-append, take_more, take-append-drop, append-nil}
@@ -7,49 +7,37 @@ use Rattle.std.proofs.Math.Seq.{take-append_seam}
 use Rattle.std.proofs.lemmas.List.Elements.{filter-append, filter_map-append}
 use Rattle.router_core.specs.declared.answer.Answer.{Answer}
 use Rattle.ripng_world.specs.AskedRounds.{delivery, deliveries_of, is_other, is_picked, other_deliveries, pair_at, picked_deliveries, interfaces_of}
-use Rattle.ripng_world.specs.Delivering.{AllDelivered, HappenInPart, deliveries_since}
+use Rattle.ripng_world.specs.Delivering.{HappenInPart, deliveries_since}
 use Rattle.ripng_world.specs.Network.{Network}
 use Rattle.ripng_world.specs.Rounds.{AllHeard}
 use Rattle.ripng_world.specs.World.{World, Event, Deliver, Stranger, Tick, Restart, Reconfigure, Happens, WorldRun, sent_by}
-use Rattle.ripng_world.specs.declared.lab.delivering.OnSkip.{OnSkip}
-use Rattle.ripng_world.specs.declared.lab.delivering.OnSkip.TheVariants.{Stop}
 use Rattle.ripng_world.specs.declared.pairs.Pair.{Pair}
 use Rattle.ripng_world.specs.declared.sent.Sent.{Sent}
 use Rattle.ripng_world.proofs.Among.{numbered_more, enumerate_append}
 use Rattle.ripng_world.proofs.Picking.{others_more, others_same, picked_more}
-use Rattle.ripng_world.proofs.RoundRuns.{run_on}
+use Rattle.ripng_world.specs.Watching.{Told, WatchedRun, WatchedInPart, heard}
+use Rattle.ripng_world.proofs.Watched.{part_from, until_all, until_run, watched_any, watched_on, watched_run}
 
-delivered_on : (s : OnSkip) (net : Network) (es fs : List Event) (w mid w' : World) → AllDelivered s net w es mid → AllDelivered s net mid fs w' → AllDelivered s net w (es ++ fs) w'
-delivered_on s net [] fs w mid w' first rest = subst (λ v. AllDelivered s net v fs w') first rest
-delivered_on s net (e ∷ es) fs w mid w' first rest = (first.0, first.1, first.2, first.3, delivered_on s net es fs first.0 mid w' first.4 rest)
-
-pub delivered_run : (s : OnSkip) (net : Network) (es : List Event) (w w' : World) → AllDelivered s net w es w' → WorldRun net w es w'
-delivered_run s net [] w w' is = is
-delivered_run s net (e ∷ es) w w' is = (is.0, is.1, is.2, delivered_run s net es is.0 w' is.4)
-
-pub delivered_heard : (net : Network) (es : List Event) (w w' : World) → AllDelivered Stop net w es w' → AllHeard net w es w'
-delivered_heard net [] w w' is = is
-delivered_heard net (e ∷ es) w w' is = (is.0, is.1, is.2, is.3 refl, delivered_heard net es is.0 w' is.4)
+pub delivered_heard : {V : Type 0} (t : V → Told → V → Type 0) (net : Network) (es : List Event) (w w' : World × V) → WatchedRun t heard net w es w' → AllHeard net w.0 es w'.0
+delivered_heard t net [] w w' is = ap (λ v. v.0) is
+delivered_heard t net (e ∷ es) w w' is = (is.0.0, is.1, is.3, is.2, delivered_heard t net es is.0 w' is.5)
 
 -- deliveries go on in a network that is the same
-pub delivered_next : (s : OnSkip) (net net' : Network) (part this next : List Event) (w mid w' : World) → net' ≡ net → AllDelivered s net w part mid → AllDelivered s net' mid this w' → next ≡ part ++ this
-    → AllDelivered s net w next w'
-delivered_next s net net' part this next w mid w' same first rest is =
-    subst (λ (es : List Event). AllDelivered s net w es w') (sym is) (delivered_on s net part this w mid w' first (subst (λ (n : Network). AllDelivered s n mid this w') same rest))
+pub delivered_next : {V : Type 0} (t : V → Told → V → Type 0) (net net' : Network) (part this next : List Event) (w mid w' : World × V) → net' ≡ net → WatchedRun t heard net w part mid
+    → WatchedRun t heard net' mid this w' → next ≡ part ++ this → WatchedRun t heard net w next w'
+delivered_next t net net' part this next w mid w' same first rest is =
+    subst (λ (es : List Event). WatchedRun t heard net w es w') (sym is)
+    (watched_on t heard net part this w mid w' first (subst (λ (n : Network). WatchedRun t heard n mid this w') same rest))
 
 -- and stop in the midst of all
-pub part_next : (s : OnSkip) (net net' : Network) (part this next left whole : List Event) (w mid w' : World) → net' ≡ net → AllDelivered s net w part mid → HappenInPart net' mid this w' → next ≡ part ++ this
-    → whole ≡ next ++ left → HappenInPart net w whole w'
-part_next s net net' part this next left whole w mid w' same first stops next_is whole_is =
-    let stop : HappenInPart net mid this w' = subst (λ (n : Network). HappenInPart n mid this w') same stops in
-    record {
-      done = part ++ stop.done;
-      left = stop.left ++ left;
-      events_are = whole_is
-          ∙ ap (λ (es : List Event). es ++ left) (next_is ∙ ap (λ (es : List Event). part ++ es) stop.events_are ∙ sym (append_assoc part stop.done stop.left))
-          ∙ append_assoc (part ++ stop.done) stop.left left;
-      run = run_on net part stop.done w mid w' (delivered_run s net part w mid first) stop.run;
-    }
+pub part_next : {V : Type 0} (t f : V → Told → V → Type 0) (k : ℕ) (net net' : Network) (part this next left whole : List Event) (w mid w' : World × V) → net' ≡ net → WatchedRun t heard net w part mid
+    → WatchedInPart t f k net' mid this w' → next ≡ part ++ this → whole ≡ next ++ left → WatchedInPart t f k net w whole w'
+part_next t f k net net' part this next left whole w mid w' same first stops next_is whole_is =
+    part_from t f k net net' part this next left whole w mid w' same (watched_any t heard net part w mid first) stops next_is whole_is
+
+-- as far as the world goes
+pub told_part : {V : Type 0} (t f : V → Told → V → Type 0) (k : ℕ) (net : Network) (es : List Event) (w w' : World × V) → WatchedInPart t f k net w es w' → HappenInPart net w.0 es w'.0
+told_part t f k net es w w' p = record { done = p.part; left = p.left; events_are = p.events_are; run = until_run t f k net p.part w w' p.run }
 
 pub in_part : (net : Network) (es : List Event) (w w' : World) → HappenInPart net w es w' → (done : ℕ) × WorldRun net w (take done es) w'
 in_part net es w w' p = (
@@ -73,15 +61,15 @@ sent_grow net (e ∷ es) w w' is =
     let later = sent_grow net es is.0 w' is.3 in
     (here.0 ++ later.0, later.1 ∙ ap (λ (ds : List Sent). ds ++ later.0) here.1 ∙ append_assoc w.sent here.0 later.0)
 
-module _ (s : OnSkip) (net : Network) (es : List Event) (w w' : World) (sent : List Sent) (n : ℕ) (done : AllDelivered s net w es w') (sent_is : sent ≡ w'.sent) (here : n < length w.sent) where
-  grown : (more : List Sent) × (sent ≡ w.sent ++ more)
-  grown = let g = sent_grow net es w w' (delivered_run s net es w w' done) in (g.0, sent_is ∙ g.1)
+module _ {V : Type 0} (t : V → Told → V → Type 0) (net : Network) (es : List Event) (w w' : World × V) (sent : List Sent) (n : ℕ) (done : WatchedRun t heard net w es w') (sent_is : sent ≡ w'.0.sent) (here : n < length w.0.sent) where
+  grown : (more : List Sent) × (sent ≡ w.0.sent ++ more)
+  grown = let g = sent_grow net es w.0 w'.0 (watched_run t heard net es w w' done) in (g.0, sent_is ∙ g.1)
 
   pub still_within : n < length sent
-  still_within = omega (arith, here, ap length grown.1, length-append w.sent grown.0)
+  still_within = omega (arith, here, ap length grown.1, length-append w.0.sent grown.0)
 
-  pub still_at : (d : Sent) → d ≡ get_or sent n d → d ≡ get_or w.sent n d
-  still_at d is = is ∙ ap (λ (ds : List Sent). get_or ds n d) grown.1 ∙ get_or_append_left w.sent grown.0 d n here
+  pub still_at : (d : Sent) → d ≡ get_or sent n d → d ≡ get_or w.0.sent n d
+  still_at d is = is ∙ ap (λ (ds : List Sent). get_or ds n d) grown.1 ∙ get_or_append_left w.0.sent grown.0 d n here
 
 -- ---- a datagram that comes to a list of places
 
@@ -91,21 +79,21 @@ to_places datagram now places = map (λ p. delivery p now) (map (pair_at datagra
 to_both : (datagram now : ℕ) (xs ys : List (ℕ × ℕ)) → to_places datagram now (xs ++ ys) ≡ to_places datagram now xs ++ to_places datagram now ys
 to_both datagram now xs ys = ap (map (λ p. delivery p now)) (map-append (pair_at datagram) xs ys) ∙ map-append (λ p. delivery p now) (map (pair_at datagram) xs) (map (pair_at datagram) ys)
 
-module _ (s : OnSkip) (net net' : Network) (w mid w' : World) (same : net' ≡ net) where
+module _ {V : Type 0} (t f : V → Told → V → Type 0) (k : ℕ) (net net' : Network) (w mid w' : World × V) (same : net' ≡ net) where
   module _ (datagram now : ℕ) (places : List (ℕ × ℕ)) (i : ℕ) (x : ℕ × ℕ) (here : i < length places) (is : x ≡ get_or places i x)
-      (first : AllDelivered s net w (to_places datagram now (take i places)) mid) where
+      (first : WatchedRun t heard net w (to_places datagram now (take i places)) mid) where
     next_place : to_places datagram now (take (i + 1) places) ≡ to_places datagram now (take i places) ++ delivery (pair_at datagram x) now ∷ []
     next_place =
         ap (to_places datagram now) (take_more places i x here ∙ ap (λ (y : ℕ × ℕ). take i places ++ y ∷ []) (sym is))
         ∙ to_both datagram now (take i places) (x ∷ [])
 
-    pub to_next : AllDelivered s net' mid (delivery (pair_at datagram x) now ∷ []) w' → AllDelivered s net w (to_places datagram now (take (i + 1) places)) w'
+    pub to_next : WatchedRun t heard net' mid (delivery (pair_at datagram x) now ∷ []) w' → WatchedRun t heard net w (to_places datagram now (take (i + 1) places)) w'
     to_next then =
-        delivered_next s net net' (to_places datagram now (take i places)) (delivery (pair_at datagram x) now ∷ []) (to_places datagram now (take (i + 1) places)) w mid w' same first then next_place
+        delivered_next t net net' (to_places datagram now (take i places)) (delivery (pair_at datagram x) now ∷ []) (to_places datagram now (take (i + 1) places)) w mid w' same first then next_place
 
-    pub to_stop : HappenInPart net' mid (delivery (pair_at datagram x) now ∷ []) w' → HappenInPart net w (to_places datagram now places) w'
+    pub to_stop : WatchedInPart t f k net' mid (delivery (pair_at datagram x) now ∷ []) w' → WatchedInPart t f k net w (to_places datagram now places) w'
     to_stop stops =
-        part_next s net net' (to_places datagram now (take i places)) (delivery (pair_at datagram x) now ∷ []) (to_places datagram now (take (i + 1) places)) (to_places datagram now (drop (i + 1) places))
+        part_next t f k net net' (to_places datagram now (take i places)) (delivery (pair_at datagram x) now ∷ []) (to_places datagram now (take (i + 1) places)) (to_places datagram now (drop (i + 1) places))
         (to_places datagram now places) w mid w' same first stops next_place
         (ap (to_places datagram now) (sym (take-append-drop (i + 1) places)) ∙ to_both datagram now (take (i + 1) places) (drop (i + 1) places))
 
@@ -122,90 +110,90 @@ others_both net now ds es =
 enumerate_left : {X : Type 0} (first n : ℕ) (xs : List X) → enumerate_from first xs ≡ enumerate_from first (take n xs) ++ enumerate_from (first + length (take n xs)) (drop n xs)
 enumerate_left first n xs = ap (enumerate_from first) (sym (take-append-drop n xs)) ∙ enumerate_append first (take n xs) (drop n xs)
 
-module _ (s : OnSkip) (net net' : Network) (w mid w' : World) (same : net' ≡ net) where
-  module _ (now first n : ℕ) (d : Sent) (others : List (ℕ × ℕ)) (low : first ≤ n) (high : n < length w.sent) (is : d ≡ get_or w.sent n d) (others_are : others ≡ filter (is_other net d) (interfaces_of net))
-      (before : AllDelivered s net w (to_others net now (enumerate_from first (take (n - first) (drop first w.sent)))) mid) where
+module _ {V : Type 0} (t f : V → Told → V → Type 0) (k : ℕ) (net net' : Network) (w mid w' : World × V) (same : net' ≡ net) where
+  module _ (now first n : ℕ) (d : Sent) (others : List (ℕ × ℕ)) (low : first ≤ n) (high : n < length w.0.sent) (is : d ≡ get_or w.0.sent n d) (others_are : others ≡ filter (is_other net d) (interfaces_of net))
+      (before : WatchedRun t heard net w (to_others net now (enumerate_from first (take (n - first) (drop first w.0.sent)))) mid) where
     part : ℕ → List (ℕ × Sent)
-    part m = enumerate_from first (take (m - first) (drop first w.sent))
+    part m = enumerate_from first (take (m - first) (drop first w.0.sent))
 
     next_datagram : to_others net now (part (n + 1)) ≡ to_others net now (part n) ++ to_places n now others
     unfolding part
     next_datagram =
-        ap (to_others net now) (numbered_more w.sent first n d low high is)
+        ap (to_others net now) (numbered_more w.0.sent first n d low high is)
         ∙ others_both net now (part n) ((n, d) ∷ [])
         ∙ ap (λ (ps : List Pair). to_others net now (part n) ++ map (λ p. delivery p now) ps)
         (append-nil (map (pair_at n) (filter (is_other net d) (interfaces_of net))) ∙ ap (map (pair_at n)) (sym others_are))
 
-    pub each_next : AllDelivered s net' mid (to_places n now others) w' → AllDelivered s net w (to_others net now (enumerate_from first (take (n + 1 - first) (drop first w.sent)))) w'
+    pub each_next : WatchedRun t heard net' mid (to_places n now others) w' → WatchedRun t heard net w (to_others net now (enumerate_from first (take (n + 1 - first) (drop first w.0.sent)))) w'
     unfolding part
-    each_next then = delivered_next s net net' (to_others net now (part n)) (to_places n now others) (to_others net now (part (n + 1))) w mid w' same before then next_datagram
+    each_next then = delivered_next t net net' (to_others net now (part n)) (to_places n now others) (to_others net now (part (n + 1))) w mid w' same before then next_datagram
 
-    pub each_stop : HappenInPart net' mid (to_places n now others) w' → HappenInPart net w (deliveries_since net first w.sent now) w'
+    pub each_stop : WatchedInPart t f k net' mid (to_places n now others) w' → WatchedInPart t f k net w (deliveries_since net first w.0.sent now) w'
     unfolding part
     each_stop stops =
-        let left = enumerate_from (first + length (take (n + 1 - first) (drop first w.sent))) (drop (n + 1 - first) (drop first w.sent)) in
-        part_next s net net' (to_others net now (part n)) (to_places n now others) (to_others net now (part (n + 1))) (to_others net now left) (deliveries_since net first w.sent now) w mid w' same before stops
+        let left = enumerate_from (first + length (take (n + 1 - first) (drop first w.0.sent))) (drop (n + 1 - first) (drop first w.0.sent)) in
+        part_next t f k net net' (to_others net now (part n)) (to_places n now others) (to_others net now (part (n + 1))) (to_others net now left) (deliveries_since net first w.0.sent now) w mid w' same before stops
         next_datagram
-        (ap (to_others net now) (enumerate_left first (n + 1 - first) (drop first w.sent)) ∙ others_both net now (part (n + 1)) left)
+        (ap (to_others net now) (enumerate_left first (n + 1 - first) (drop first w.0.sent)) ∙ others_both net now (part (n + 1)) left)
 
 -- some datagrams are done
-pub each_part : (s : OnSkip) (net : Network) (now first n : ℕ) (w w' : World) → AllDelivered s net w (to_others net now (enumerate_from first (take (n - first) (drop first w.sent)))) w'
-    → HappenInPart net w (deliveries_since net first w.sent now) w'
-each_part s net now first n w w' before =
-    let done = enumerate_from first (take (n - first) (drop first w.sent)) in
-    let left = enumerate_from (first + length (take (n - first) (drop first w.sent))) (drop (n - first) (drop first w.sent)) in
+pub each_part : {V : Type 0} (t f : V → Told → V → Type 0) (net : Network) (now first n : ℕ) (w w' : World × V) → WatchedRun t heard net w (to_others net now (enumerate_from first (take (n - first) (drop first w.0.sent)))) w'
+    → WatchedInPart t f 0 net w (deliveries_since net first w.0.sent now) w'
+each_part t f net now first n w w' before =
+    let done = enumerate_from first (take (n - first) (drop first w.0.sent)) in
+    let left = enumerate_from (first + length (take (n - first) (drop first w.0.sent))) (drop (n - first) (drop first w.0.sent)) in
     record {
-      done = to_others net now done;
+      part = to_others net now done;
       left = to_others net now left;
-      events_are = ap (to_others net now) (enumerate_left first (n - first) (drop first w.sent)) ∙ others_both net now done left;
-      run = delivered_run s net (to_others net now done) w w' before;
+      events_are = ap (to_others net now) (enumerate_left first (n - first) (drop first w.0.sent)) ∙ others_both net now done left;
+      run = until_all t f net (to_others net now done) w w' (watched_any t heard net (to_others net now done) w w' before);
     }
 
 -- ---- picks
 
-module _ (net net' : Network) (w mid w' : World) (same : net' ≡ net) (pairs : List Pair) where
+module _ {V : Type 0} (t f : V → Told → V → Type 0) (k : ℕ) (net net' : Network) (w mid w' : World × V) (same : net' ≡ net) (pairs : List Pair) where
   module _ (picks : List (ℕ × ℕ)) (i : ℕ) (x : ℕ × ℕ) (p : Pair) (here : i < length picks) (is : x ≡ get_or picks i x) (found : slice_get pairs (x.0 % length pairs) ≡ Some p)
-      (before : AllDelivered Stop net w (picked_deliveries pairs (take i picks)) mid) where
-    pub picked_next : AllDelivered Stop net' mid (delivery p x.1 ∷ []) w' → AllDelivered Stop net w (picked_deliveries pairs (take (i + 1) picks)) w'
+      (before : WatchedRun t heard net w (picked_deliveries pairs (take i picks)) mid) where
+    pub picked_next : WatchedRun t heard net' mid (delivery p x.1 ∷ []) w' → WatchedRun t heard net w (picked_deliveries pairs (take (i + 1) picks)) w'
     picked_next then =
-        delivered_next Stop net net' (picked_deliveries pairs (take i picks)) (delivery p x.1 ∷ []) (picked_deliveries pairs (take (i + 1) picks)) w mid w' same before then
+        delivered_next t net net' (picked_deliveries pairs (take i picks)) (delivery p x.1 ∷ []) (picked_deliveries pairs (take (i + 1) picks)) w mid w' same before then
         (picked_more pairs picks i x p here is found)
 
-    pub picked_stop : HappenInPart net' mid (delivery p x.1 ∷ []) w' → HappenInPart net w (picked_deliveries pairs picks) w'
+    pub picked_stop : WatchedInPart t f k net' mid (delivery p x.1 ∷ []) w' → WatchedInPart t f k net w (picked_deliveries pairs picks) w'
     picked_stop stops =
         let h : ℕ × ℕ → Option Event = λ q. option_map (λ pair. delivery pair q.1) (slice_get pairs (q.0 % length pairs)) in
-        part_next Stop net net' (picked_deliveries pairs (take i picks)) (delivery p x.1 ∷ []) (picked_deliveries pairs (take (i + 1) picks)) (picked_deliveries pairs (drop (i + 1) picks))
+        part_next t f k net net' (picked_deliveries pairs (take i picks)) (delivery p x.1 ∷ []) (picked_deliveries pairs (take (i + 1) picks)) (picked_deliveries pairs (drop (i + 1) picks))
         (picked_deliveries pairs picks) w mid w' same before stops (picked_more pairs picks i x p here is found)
         (ap (filter_map h) (sym (take-append-drop (i + 1) picks)) ∙ filter_map-append h (take (i + 1) picks) (drop (i + 1) picks))
 
   -- ---- the pairs that are left
 
-  module _ (picked : ℕ → Bool) (rest i : ℕ) (x : Pair) (here : i < length pairs) (is : x ≡ get_or pairs i x) (before : AllDelivered Stop net w (other_deliveries picked (take i pairs) rest) mid) where
+  module _ (picked : ℕ → Bool) (rest i : ℕ) (x : Pair) (here : i < length pairs) (is : x ≡ get_or pairs i x) (before : WatchedRun t heard net w (other_deliveries picked (take i pairs) rest) mid) where
     left_more : picked i ≡ false → other_deliveries picked (take (i + 1) pairs) rest ≡ other_deliveries picked (take i pairs) rest ++ delivery x rest ∷ []
     left_more is_left =
         others_more picked pairs rest i x here is
         ∙ ap (λ (b : Bool). other_deliveries picked (take i pairs) rest ++ cond (not b) (delivery x rest ∷ []) []) is_left
 
-    pub others_next : picked i ≡ false → AllDelivered Stop net' mid (delivery x rest ∷ []) w' → AllDelivered Stop net w (other_deliveries picked (take (i + 1) pairs) rest) w'
+    pub others_next : picked i ≡ false → WatchedRun t heard net' mid (delivery x rest ∷ []) w' → WatchedRun t heard net w (other_deliveries picked (take (i + 1) pairs) rest) w'
     others_next is_left then =
-        delivered_next Stop net net' (other_deliveries picked (take i pairs) rest) (delivery x rest ∷ []) (other_deliveries picked (take (i + 1) pairs) rest) w mid w' same before then (left_more is_left)
+        delivered_next t net net' (other_deliveries picked (take i pairs) rest) (delivery x rest ∷ []) (other_deliveries picked (take (i + 1) pairs) rest) w mid w' same before then (left_more is_left)
 
-    pub others_stop : picked i ≡ false → HappenInPart net' mid (delivery x rest ∷ []) w' → HappenInPart net w (other_deliveries picked pairs rest) w'
+    pub others_stop : picked i ≡ false → WatchedInPart t f k net' mid (delivery x rest ∷ []) w' → WatchedInPart t f k net w (other_deliveries picked pairs rest) w'
     others_stop is_left stops =
-        let f : ℕ × Pair → Event = λ p. delivery p.1 rest in
+        let at_rest : ℕ × Pair → Event = λ p. delivery p.1 rest in
         let test : ℕ × Pair → Bool = λ p. not (picked p.0) in
         let front = enumerate_from 0 (take (i + 1) pairs) in
         let back = enumerate_from (0 + length (take (i + 1) pairs)) (drop (i + 1) pairs) in
-        part_next Stop net net' (other_deliveries picked (take i pairs) rest) (delivery x rest ∷ []) (other_deliveries picked (take (i + 1) pairs) rest) (map f (filter test back)) (other_deliveries picked pairs rest)
+        part_next t f k net net' (other_deliveries picked (take i pairs) rest) (delivery x rest ∷ []) (other_deliveries picked (take (i + 1) pairs) rest) (map at_rest (filter test back)) (other_deliveries picked pairs rest)
         w mid w' same before stops (left_more is_left)
-        (ap (λ (ns : List (ℕ × Pair)). map f (filter test ns)) (enumerate_left 0 (i + 1) pairs)
-        ∙ ap (map f) (filter-append test front back)
-        ∙ map-append f (filter test front) (filter test back))
+        (ap (λ (ns : List (ℕ × Pair)). map at_rest (filter test ns)) (enumerate_left 0 (i + 1) pairs)
+        ∙ ap (map at_rest) (filter-append test front back)
+        ∙ map-append at_rest (filter test front) (filter test back))
 
     -- a pair that was picked
-    pub others_skip : picked i ≡ true → AllDelivered Stop net w (other_deliveries picked (take (i + 1) pairs) rest) mid
+    pub others_skip : picked i ≡ true → WatchedRun t heard net w (other_deliveries picked (take (i + 1) pairs) rest) mid
     others_skip is_picked =
-        subst (λ (es : List Event). AllDelivered Stop net w es mid)
+        subst (λ (es : List Event). WatchedRun t heard net w es mid)
         (sym (others_more picked pairs rest i x here is
         ∙ ap (λ (b : Bool). other_deliveries picked (take i pairs) rest ++ cond (not b) (delivery x rest ∷ []) []) is_picked
         ∙ append-nil (other_deliveries picked (take i pairs) rest)))
@@ -221,30 +209,22 @@ pub none_asked : (pairs : List Pair) (rest : ℕ) → deliveries_of pairs [] res
 none_asked pairs rest = unpicked 0 pairs rest
 
 -- the picks, and then all others
-module _ (net net' : Network) (w mid w' : World) (same : net' ≡ net) (pairs : List Pair) (picks : List (ℕ × ℕ)) (rest : ℕ) (flags : List Bool) where
-  module _ (flags_are : (k : ℕ) → k < length pairs → get_or flags k false ≡ is_picked (length pairs) picks k) (first : AllDelivered Stop net w (picked_deliveries pairs picks) mid) where
+module _ {V : Type 0} (t f : V → Told → V → Type 0) (k : ℕ) (net net' : Network) (w mid w' : World × V) (same : net' ≡ net) (pairs : List Pair) (picks : List (ℕ × ℕ)) (rest : ℕ) (flags : List Bool) where
+  module _ (flags_are : (k : ℕ) → k < length pairs → get_or flags k false ≡ is_picked (length pairs) picks k) (first : WatchedRun t heard net w (picked_deliveries pairs picks) mid) where
     all_is : deliveries_of pairs picks rest ≡ picked_deliveries pairs picks ++ other_deliveries (λ k. get_or flags k false) pairs rest
     all_is =
         ap (λ (es : List Event). picked_deliveries pairs picks ++ es)
         (sym (others_same (λ k. get_or flags k false) (is_picked (length pairs) picks) pairs rest flags_are))
 
-    pub asked_all : AllDelivered Stop net' mid (other_deliveries (λ k. get_or flags k false) pairs rest) w' → AllDelivered Stop net w (deliveries_of pairs picks rest) w'
+    pub asked_all : WatchedRun t heard net' mid (other_deliveries (λ k. get_or flags k false) pairs rest) w' → WatchedRun t heard net w (deliveries_of pairs picks rest) w'
     asked_all then =
-        delivered_next Stop net net' (picked_deliveries pairs picks) (other_deliveries (λ k. get_or flags k false) pairs rest) (deliveries_of pairs picks rest) w mid w' same first then all_is
+        delivered_next t net net' (picked_deliveries pairs picks) (other_deliveries (λ k. get_or flags k false) pairs rest) (deliveries_of pairs picks rest) w mid w' same first then all_is
 
-    pub asked_stop : HappenInPart net' mid (other_deliveries (λ k. get_or flags k false) pairs rest) w' → HappenInPart net w (deliveries_of pairs picks rest) w'
+    pub asked_stop : WatchedInPart t f k net' mid (other_deliveries (λ k. get_or flags k false) pairs rest) w' → WatchedInPart t f k net w (deliveries_of pairs picks rest) w'
     asked_stop stops =
-        part_next Stop net net' (picked_deliveries pairs picks) (other_deliveries (λ k. get_or flags k false) pairs rest) (deliveries_of pairs picks rest) [] (deliveries_of pairs picks rest) w mid w' same first
+        part_next t f k net net' (picked_deliveries pairs picks) (other_deliveries (λ k. get_or flags k false) pairs rest) (deliveries_of pairs picks rest) [] (deliveries_of pairs picks rest) w mid w' same first
         stops all_is (sym (append-nil (deliveries_of pairs picks rest)))
 
-pub part_more : (net : Network) (es fs : List Event) (w w' : World) → HappenInPart net w es w' → HappenInPart net w (es ++ fs) w'
-part_more net es fs w w' p =
-    record { done = p.done; left = p.left ++ fs; events_are = ap (λ (xs : List Event). xs ++ fs) p.events_are ∙ append_assoc p.done p.left fs; run = p.run }
-
-pub on_err : {X E : Type 0} (r : Result X E) (P Q : Type 0) → (P → Q) → OnErr r P → OnErr r Q
-on_err (Ok x) P Q f h = tt
-on_err (Err e) P Q f h = f h
-
-pub to_err : {X E : Type 0} (r : Result X E) (Q : Type 0) → Q → OnErr r Q
-to_err (Ok x) Q h = tt
-to_err (Err e) Q h = h
+pub part_more : {V : Type 0} (t f : V → Told → V → Type 0) (k : ℕ) (net : Network) (es fs : List Event) (w w' : World × V) → WatchedInPart t f k net w es w' → WatchedInPart t f k net w (es ++ fs) w'
+part_more t f k net es fs w w' p =
+    record { part = p.part; left = p.left ++ fs; events_are = ap (λ (xs : List Event). xs ++ fs) p.events_are ∙ append_assoc p.part p.left fs; run = p.run }

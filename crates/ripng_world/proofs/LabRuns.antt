@@ -1,19 +1,17 @@
 -- What holds of a network that has run since a cold start, and how runs and cold starts go on.
 use Rattle.std.proofs.Common.{◌≡◌, ℕ, zero, suc, ◌+◌, ◌<◌, ◌≤◌, List, [], ◌∷◌, ◌++◌, map, take, drop, length, get_or, refl, ap, ap₂, sym, subst, ◌∙◌, arith, append_assoc}
-use Rattle.std.proofs.lemmas.List.{append-nil, map_more, take-map, map-append, length-map, length-append, take_more, take_all}
+use Rattle.std.proofs.lemmas.List.{append-nil, map-append, length-map, length-append, take_more, take_all}
 use Rattle.router_core.specs.Machine.{State, Starts}
 use Rattle.router_core.specs.declared.answer.Answer.{Answer}
 use Rattle.ripng_world.specs.Network.{Network, Node, config_of}
 use Rattle.router_core.specs.declared.reconfiguring.Change.{Change}
 use Rattle.ripng_world.specs.World.{World, Event, Happens, WorldRun, IsCold, StartsFrom, changes_in, past_of, sent_by}
-use Rattle.ripng_world.specs.Events.{event_of}
 use Rattle.ripng_world.specs.Rounds.{router_of}
 use Rattle.ripng_world.specs.Stations.{StationValue, MoveStations, network_of, world_of}
 use Rattle.ripng_world.specs.Labs.{HasRun, AreRoutesBacked, AreRoutesBackedSince, HaveNoneBelowLeast, HaveNoneBelowLeastSince, AreDatagramsSoundSince, HoldsFixed}
 use Rattle.ripng_world.specs.Truth.{IsSoundDatagram}
 use Rattle.ripng_world.specs.TruthSince.{IsSoundDatagramSince}
 use Rattle.ripng_world.specs.declared.sent.Sent.{Sent}
-use Rattle.ripng_world.specs.declared.event.Event as coded
 use Rattle.ripng_world.proofs.Each.{each_weaker}
 use Rattle.ripng_world.proofs.Growing.{backed_first}
 use Rattle.ripng_world.proofs.Running.{IsGood, run_from_cold}
@@ -80,16 +78,6 @@ module _ (old new : List StationValue) (sent sent' : List Sent) (changes changes
       subst (λ (net : Network). HasRun net (world_of new sent' changes')) (sym moves.network)
       (went_on (network_of old) (world_of old sent changes) has_run (e ∷ []) (world_of new sent' changes')
       (one_event (network_of old) (world_of old sent changes) (world_of new sent' changes') e answer stepped))
-
--- one more event of a list has happened
-pub run_more : (net : Network) (w mid w' : World) (events : List coded.Event) (n : ℕ) (d : coded.Event) (answer : Answer) → n < length events → d ≡ get_or events n d
-    → WorldRun net w (take n (map event_of events)) mid → Happens net mid (event_of d) answer w' → WorldRun net w (take (n + 1) (map event_of events)) w'
-run_more net w mid w' events n d answer here is run happens =
-    let next : take (n + 1) (map event_of events) ≡ take n (map event_of events) ++ event_of d ∷ [] =
-    take-map event_of (n + 1) events ∙ map_more event_of events n d here
-    ∙ ap₂ (λ (xs : List Event) (x : coded.Event). xs ++ event_of x ∷ []) (sym (take-map event_of n events)) (sym is) in
-    subst (λ (es : List Event). WorldRun net w es w') (sym next)
-    (run_on net (take n (map event_of events)) (event_of d ∷ []) w mid w' run (one_event net mid w' (event_of d) answer happens))
 
 -- one more router has started
 pub starts_next : (n : ℕ) (nodes : List Node) (moments : List ℕ) (states : List State) (sent : List Sent) (node : Node) (now : ℕ) (answer : Answer) (s : State)

@@ -8,6 +8,7 @@ ghost use Rattle.ripng_world.specs.Labs.{AreRoutesBackedSince, HaveNoneBelowLeas
 ghost use Rattle.ripng_world.specs.Past.{IsTableBackedSince};
 ghost use Rattle.ripng_world.specs.Stations.{network_of, world_of};
 ghost use Rattle.ripng_world.specs.Walks.{IsTableBacked};
+ghost use Rattle.ripng_world.specs.Watching.{IfRefused, WatchedInPart, WatchedUntil, any, failures, failures_in};
 ghost use Rattle.ripng_world.specs.World.{IsCold, WorldRun, changes_in, past_of};
 
 mod delivering;
@@ -19,6 +20,7 @@ use crate::network::{NetConfig, NetRouter};
 use crate::refusing::{check, link_at};
 use crate::sent::Sent;
 use crate::station::Station;
+use crate::watch::{Stopped, Unwatched, Watch};
 use fib::RouteChange;
 use route_table::{Moment, RouteStore};
 use router_core::{Answer, Change, Fault, Listed, Note, Router};
@@ -185,6 +187,40 @@ impl<S: RouteStore> Lab<S> {
         Ok(handed_out(self.alloc, answer.fault, answer.changes, answer.notes))
     }
 
+    /// An event happens as `step` makes it, and a watcher is told of it with its answer.
+    ///
+    /// # Errors
+    /// As `step`, and then nobody is told; or the watcher's, and then the event is done.
+    pub fn step_watched<V: Watch<S>>(
+        &mut self,
+        event: &Event<'_>,
+        watch: &mut V,
+    ) -> Result<Answer, Stopped<LabError, V::Fault>>
+        ensures told { IfOk result (λ answer. V.takes watch.old (record { lab = self.new; event = event_of event.entry.now; answer = answer; first = length self.old.world.sent }) watch.new) }
+        ensures stopped { IfErr result (λ why. WatchedInPart V.takes V.fails (failures why) self.old.network (self.old.world, watch.old) (event_of event.entry.now ∷ []) (self.new.world, watch.new)) }
+        ensures happens { IfOk result (λ answer. HappensGiving self.old (event_of event.entry.now) answer self.new.world) }
+        ensures network { self.new.network ≡ self.old.network }
+        ensures changes { OnOk result (self.new.world.changes ≡ self.old.world.changes ++ changes_in (event_of event.entry.now ∷ [])) }
+        ensures passes { OnOk result (step_fault self.old (event_of event.entry.now) ≡ None) }
+        ensures refused { IfErr result (λ why. IfRefused why (IsRefusal self.old (event_of event.entry.now))) }
+        ensures err { IfErr result (λ why. IfRefused why (λ _. self.new ≡ self.old)) }
+        ensures untold { IfErr result (λ why. IfRefused why (λ _. watch.new ≡ watch.old)) }
+        ensures backed { AreRoutesBackedSince self.new.network self.new.world }
+        ensures least { HaveNoneBelowLeastSince self.new.network self.new.world }
+        ensures truth { AreDatagramsSoundSince self.new.network self.new.world }
+        ensures fixed { HoldsFixed self.new.network self.new.world }
+    {
+        let first = self.sent().len();
+        let answer = match self.step(event) {
+            Ok(answer) => answer,
+            Err(why) => return Err(Stopped::Refused(why)),
+        };
+        match watch.happened(self, event, &answer, first) {
+            Ok(()) => Ok(answer),
+            Err(fault) => Err(Stopped::Failed(fault)),
+        }
+    }
+
     /// Events happen one after another, until one is refused. Says how many were done, and why the next was refused.
     ///
     /// # Errors
@@ -200,11 +236,38 @@ impl<S: RouteStore> Lab<S> {
         ensures truth { AreDatagramsSoundSince self.new.network self.new.world }
         ensures fixed { HoldsFixed self.new.network self.new.world }
     {
+        let (done, outcome) = self.run_watched(events, &mut Unwatched);
+        match outcome {
+            Ok(()) => (done, Ok(())),
+            Err(stopped) => (done, Err(stopped.refusal())),
+        }
+    }
+
+    /// Events happen as `run` makes them, and a watcher is told of each. Says how many were done.
+    ///
+    /// # Errors
+    /// As `run`; or the watcher's, and then the last of the events that were done is the one that it failed at.
+    pub fn run_watched<V: Watch<S>>(
+        &mut self,
+        events: &[Event<'_>],
+        watch: &mut V,
+    ) -> (usize, Result<(), Stopped<LabError, V::Fault>>)
+        ensures told { WatchedUntil V.takes V.fails (failures_in result.1) self.old.network (self.old.world, watch.old) (take result.0 (map event_of events.entry.now)) (self.new.world, watch.new) }
+        ensures done { WorldRun self.old.network self.old.world (take result.0 (map event_of events.entry.now)) self.new.world }
+        ensures network { self.new.network ≡ self.old.network }
+        ensures changes { self.new.world.changes ≡ self.old.world.changes ++ changes_in (take result.0 (map event_of events.entry.now)) }
+        ensures all { OnOk result.1 (result.0 ≡ length events.entry.now) }
+        ensures refused { IfErr result.1 (λ why. IfRefused why (IsRefusedNext self.new (map event_of events.entry.now) result.0)) }
+        ensures backed { AreRoutesBackedSince self.new.network self.new.world }
+        ensures least { HaveNoneBelowLeastSince self.new.network self.new.world }
+        ensures truth { AreDatagramsSoundSince self.new.network self.new.world }
+        ensures fixed { HoldsFixed self.new.network self.new.world }
+    {
         // The lab is opened, so that what holds of it is known before the first event.
         let _ = &self.sent;
         for (done, event) in events.iter().enumerate() {
-            if let Err(refusal) = self.step(event) {
-                return (done, Err(refusal));
+            if let Err(stopped) = self.step_watched(event, watch) {
+                return (done + stopped.failures(), Err(stopped));
             }
         }
         (events.len(), Ok(()))

@@ -11,6 +11,7 @@ mod refusing;
 mod rounds;
 mod sent;
 mod station;
+mod watch;
 
 pub use event::{Event, LabError};
 pub use lab::Lab;
@@ -22,3 +23,4 @@ pub use laws::{
 pub use network::{NetConfig, NetInterface, NetRefused, Node, ROUTER_LIMIT};
 pub use rounds::{Round, RoundsRefused};
 pub use sent::Sent;
+pub use watch::{Stopped, Unwatched, Watch};

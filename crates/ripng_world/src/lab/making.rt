@@ -1,18 +1,17 @@
 //! Rounds of a lab: every router tells all that it has, and all of it arrives.
 
-ghost use Rattle.std.specs.Prelude.{◌≡◌, ◌<◌, ◌≤◌, ◌↔◌, max, IsTrue, All, List, IfErr, OnErr, OnOk, Some, length, slice_get};
+ghost use Rattle.std.specs.Prelude.{◌≡◌, ℕ, ◌<◌, ◌≤◌, ◌↔◌, max, IsTrue, All, IfErr, OnOk, Some, length, slice_get};
 ghost use Rattle.router_core.specs.Machine.{State};
-ghost use Rattle.ripng_world.specs.AskedRounds.{AreAllMade, AreMade, Converges, HaveStopped, IsMade, StopsFor, deliveries_of, pairs_since, round_in, ticks_of};
-ghost use Rattle.ripng_world.specs.Delivering.{AllDelivered, HappenInPart};
+ghost use Rattle.ripng_world.specs.AskedRounds.{AreAllMade, Converges, HaveStopped, StopsFor, deliveries_of, pairs_since, round_in, ticks_of};
 ghost use Rattle.ripng_world.specs.Healing.{Heals};
 ghost use Rattle.ripng_world.specs.Labs.{AreRoutesBackedSince, HaveNoneBelowLeastSince, AreDatagramsSoundSince, HoldsFixed};
-ghost use Rattle.ripng_world.specs.Rounds.{AllTick, Round as RoundEvents};
+ghost use Rattle.ripng_world.specs.Watching.{AreMadeTold, IsMadeTold, RoundToldInPart, RoundsToldInPart, WatchedInPart, WatchedRun, as_refused, due, failures, heard};
 
 use super::Lab;
-use super::delivering::OnSkip;
 use crate::event::Event;
 use crate::pairs::pairs_since;
 use crate::rounds::{Round, RoundsRefused};
+use crate::watch::{Stopped, Unwatched, Watch};
 use route_table::{Moment, RouteStore};
 use std::alloc::AllocError;
 
@@ -35,68 +34,90 @@ impl<S: RouteStore> Lab<S> {
     }
 
     /// Each router ticks, in order, each when its regular update is due.
-    fn tick_all(&mut self, number: usize, round: &Round<'_>) -> Result<(), RoundsRefused>
+    fn tick_all<V: Watch<S>>(
+        &mut self,
+        number: usize,
+        round: &Round<'_>,
+        watch: &mut V,
+    ) -> Result<(), Stopped<RoundsRefused, V::Fault>>
         requires { length round.now.ticks ≡ length self.old.network }
         ensures network { self.new.network ≡ self.old.network }
-        ensures ticked { OnOk result (AllTick self.old.network self.old.world (ticks_of round.entry.now.ticks) self.new.world) }
-        ensures number { IfErr result (λ why. round_in why ≡ number) }
-        ensures refused { IfErr result (λ why. StopsFor self.old.network self.old.world round.entry.now why self.new.world) }
+        ensures ticked { OnOk result (WatchedRun V.takes due self.old.network (self.old.world, watch.old) (ticks_of round.entry.now.ticks) (self.new.world, watch.new)) }
+        ensures told { IfErr result (λ why. WatchedInPart V.takes V.fails (failures why) self.old.network (self.old.world, watch.old) (ticks_of round.entry.now.ticks) (self.new.world, watch.new)) }
+        ensures number { IfErr result (λ why. round_in (as_refused number why) ≡ number) }
+        ensures refused { IfErr result (λ why. StopsFor self.old.network self.old.world round.entry.now (as_refused number why) self.new.world) }
     {
         for (router, tick) in round.ticks.iter().enumerate() {
             let (now, word) = *tick;
             if !self.is_due(router, now) {
-                return Err(RoundsRefused::NoRegularUpdate {
+                return Err(Stopped::Refused(RoundsRefused::NoRegularUpdate {
                     round: number,
                     router,
-                });
+                }));
             }
-            let Ok(_) = self.step(&Event::Tick { router, now, word }) else {
-                return Err(RoundsRefused::OutOfMemory { round: number });
-            };
+            if let Err(stopped) = self.step_watched(&Event::Tick { router, now, word }, watch) {
+                return Err(stopped.refused_as(RoundsRefused::OutOfMemory { round: number }));
+            }
         }
         Ok(())
     }
 
     /// The deliveries of a round, once its routers have ticked: those that are picked, and then each pair that was not.
-    fn deliver_asked(&mut self, first: usize, round: &Round<'_>) -> Result<(), AllocError>
+    fn deliver_asked<V: Watch<S>>(
+        &mut self,
+        first: usize,
+        round: &Round<'_>,
+        watch: &mut V,
+    ) -> Result<(), Stopped<AllocError, V::Fault>>
         requires { first ≤ length self.old.world.sent }
         ensures network { self.new.network ≡ self.old.network }
-        ensures delivered { OnOk result (AllDelivered OnSkip.Stop self.old.network self.old.world (deliveries_of (pairs_since self.old.network first self.old.world.sent) round.entry.now.picks round.entry.now.rest) self.new.world) }
-        ensures stopped { OnErr result (HappenInPart self.old.network self.old.world (deliveries_of (pairs_since self.old.network first self.old.world.sent) round.entry.now.picks round.entry.now.rest) self.new.world) }
+        ensures delivered { OnOk result (WatchedRun V.takes heard self.old.network (self.old.world, watch.old) (deliveries_of (pairs_since self.old.network first self.old.world.sent) round.entry.now.picks round.entry.now.rest) (self.new.world, watch.new)) }
+        ensures stopped { IfErr result (λ why. WatchedInPart V.takes V.fails (failures why) self.old.network (self.old.world, watch.old) (deliveries_of (pairs_since self.old.network first self.old.world.sent) round.entry.now.picks round.entry.now.rest) (self.new.world, watch.new)) }
     {
         if round.picks.is_empty() {
-            return self.deliver_each(first, round.rest, OnSkip::Stop);
+            return self.deliver_each(first, round.rest, watch);
         }
         let pairs = pairs_since(self.alloc, &self.stations, &self.sent, first)?;
-        let picked = self.deliver_picked(&pairs, round.picks)?;
-        self.deliver_others(&pairs, &picked, round.rest)
+        let picked = self.deliver_picked(&pairs, round.picks, watch)?;
+        self.deliver_others(&pairs, &picked, round.rest, watch)
     }
 
     /// A round is made as it is asked for.
-    fn make_round(&mut self, number: usize, round: &Round<'_>) -> Result<(), RoundsRefused>
+    fn make_round<V: Watch<S>>(
+        &mut self,
+        number: usize,
+        round: &Round<'_>,
+        watch: &mut V,
+    ) -> Result<(), Stopped<RoundsRefused, V::Fault>>
         requires { length round.now.ticks ≡ length self.old.network }
         ensures network { self.new.network ≡ self.old.network }
-        ensures made { OnOk result (IsMade self.old.network self.old.world round.entry.now self.new.world) }
-        ensures number { IfErr result (λ why. round_in why ≡ number) }
-        ensures refused { IfErr result (λ why. StopsFor self.old.network self.old.world round.entry.now why self.new.world) }
+        ensures made { OnOk result (IsMadeTold V.takes self.old.network (self.old.world, watch.old) round.entry.now (self.new.world, watch.new)) }
+        ensures told { IfErr result (λ why. RoundToldInPart V.takes V.fails (failures why) self.old.network (self.old.world, watch.old) round.entry.now (self.new.world, watch.new)) }
+        ensures number { IfErr result (λ why. round_in (as_refused number why) ≡ number) }
+        ensures refused { IfErr result (λ why. StopsFor self.old.network self.old.world round.entry.now (as_refused number why) self.new.world) }
     {
         let first = self.sent().len();
-        self.tick_all(number, round)?;
-        let Ok(()) = self.deliver_asked(first, round) else {
-            return Err(RoundsRefused::OutOfMemory { round: number });
-        };
-        Ok(())
+        self.tick_all(number, round, watch)?;
+        match self.deliver_asked(first, round, watch) {
+            Ok(()) => Ok(()),
+            Err(stopped) => Err(stopped.refused_as(RoundsRefused::OutOfMemory { round: number })),
+        }
     }
 
     /// Rounds are made one after another, until one is refused.
-    fn make_rounds(&mut self, rounds: &[Round<'_>]) -> Result<(), RoundsRefused>
+    fn make_rounds<V: Watch<S>>(
+        &mut self,
+        rounds: &[Round<'_>],
+        watch: &mut V,
+    ) -> Result<(), Stopped<RoundsRefused, V::Fault>>
         requires { All (λ r. length r.ticks ≡ length self.old.network) rounds.now }
         ensures network { self.new.network ≡ self.old.network }
-        ensures made { OnOk result ((made : List RoundEvents) × AreMade self.old.network self.old.world rounds.entry.now made self.new.world) }
-        ensures refused { IfErr result (λ why. HaveStopped self.old.network self.old.world rounds.entry.now why self.new.world) }
+        ensures made { OnOk result (AreMadeTold V.takes self.old.network (self.old.world, watch.old) rounds.entry.now (self.new.world, watch.new)) }
+        ensures told { IfErr result (λ why. RoundsToldInPart V.takes V.fails (failures why) self.old.network (self.old.world, watch.old) rounds.entry.now (self.new.world, watch.new)) }
+        ensures refused { IfErr result (λ why. (round : ℕ) × HaveStopped self.old.network self.old.world rounds.entry.now (as_refused round why) self.new.world) }
     {
         for (number, round) in rounds.iter().enumerate() {
-            self.make_round(number, round)?;
+            self.make_round(number, round, watch)?;
         }
         Ok(())
     }
@@ -121,9 +142,38 @@ impl<S: RouteStore> Lab<S> {
         ensures truth { AreDatagramsSoundSince self.new.network self.new.world }
         ensures fixed { HoldsFixed self.new.network self.new.world }
     {
+        match self.run_rounds_watched(rounds, &mut Unwatched) {
+            Ok(()) => Ok(()),
+            Err(stopped) => Err(stopped.refusal()),
+        }
+    }
+
+    /// Rounds are made as `run_rounds` makes them, and a watcher is told of each event.
+    ///
+    /// # Errors
+    /// As `run_rounds`; or the watcher's, and then the event that it failed at is the last one that was done.
+    pub fn run_rounds_watched<V: Watch<S>>(
+        &mut self,
+        rounds: &[Round<'_>],
+        watch: &mut V,
+    ) -> Result<(), Stopped<RoundsRefused, V::Fault>>
+        requires { All (λ r. length r.ticks ≡ length self.old.network) rounds.now }
+        ensures network { self.new.network ≡ self.old.network }
+        ensures changes { self.new.world.changes ≡ self.old.world.changes }
+        ensures made { OnOk result (AreAllMade self.old.network self.old.world rounds.entry.now self.new.world) }
+        ensures converges { OnOk result (Converges self.old.network self.old.world rounds.entry.now self.new.world) }
+        ensures heals { OnOk result (Heals self.old.network self.old.world rounds.entry.now self.new.world) }
+        ensures told { OnOk result (AreMadeTold V.takes self.old.network (self.old.world, watch.old) rounds.entry.now (self.new.world, watch.new)) }
+        ensures told_in_part { IfErr result (λ why. RoundsToldInPart V.takes V.fails (failures why) self.old.network (self.old.world, watch.old) rounds.entry.now (self.new.world, watch.new)) }
+        ensures refused { IfErr result (λ why. (round : ℕ) × HaveStopped self.old.network self.old.world rounds.entry.now (as_refused round why) self.new.world) }
+        ensures backed { AreRoutesBackedSince self.new.network self.new.world }
+        ensures least { HaveNoneBelowLeastSince self.new.network self.new.world }
+        ensures truth { AreDatagramsSoundSince self.new.network self.new.world }
+        ensures fixed { HoldsFixed self.new.network self.new.world }
+    {
         // The lab is opened, so that what holds of it is known before the first round.
         let _ = &self.sent;
-        let outcome = self.make_rounds(rounds);
+        let outcome = self.make_rounds(rounds, watch);
         // The lab is opened, so that what holds of it is known.
         let _ = &self.stations;
         outcome

@@ -1,13 +1,15 @@
-use Rattle.std.proofs.Common.{◌≡◌, ◌-◌, ◌<◌, ◌≤◌, ℕ, List, filter, length, drop, subst, ◌∙◌, ap, ap₂, arith}
+use Rattle.std.proofs.Common.{◌≡◌, ◌-◌, ◌<◌, ◌≤◌, ℕ, List, filter, length, drop, refl, subst, ◌∙◌, ap, ap₂, arith}
 use Rattle.std.specs.List.{enumerate_from}
 use Rattle.std.proofs.lemmas.List.{length-drop, take_all}
 use Rattle.ripng_world.specs.AskedRounds.{is_other, interfaces_of}
-use Rattle.ripng_world.specs.Delivering.{AllDelivered}
+use Rattle.ripng_world.specs.Watching.{WatchedRun, failures, heard}
 use Rattle.ripng_world.specs.Labs.{LabValue}
 use Rattle.ripng_world.specs.Network.{Network}
 use Rattle.ripng_world.specs.Stations.{StationValue, network_of}
 use Rattle.ripng_world.specs.declared.sent.Sent.{Sent}
-use Rattle.ripng_world.proofs.Delivered.{each_next, each_part, each_stop, still_at, still_within, to_err, to_others}
+use Rattle.ripng_world.specs.declared.watch.Stopped.TheVariants.{Refused}
+use Rattle.ripng_world.proofs.Delivered.{each_next, each_part, each_stop, still_at, still_within, to_others}
+use Rattle.ripng_world.proofs.Watched.{handed_on, none_yet}
 use Rattle.ripng_world.proofs.lab.Lab.deliver_each.Goals as goal
 
 pub index-requires : goal.index-requires
@@ -15,14 +17,19 @@ index-requires g c =
     let high : c.loop-datagram.datagram < length c.args.self.now.world.sent =
     omega (arith, c.loop-datagram-test.true, c.loop-datagram.auto.datagram-end, c.len-datagram-end.ensures, c.self.inside.sent.ok.0, ap (λ (l : LabValue). length l.world.sent) c.self.view_is) in
     let sent = c.self-in-loop-datagram.inside.sent in
-    let within = still_within c.args.on_skip c.args.self.now.network _ c.args.self.now.world c.loop-datagram.self.world sent.items c.loop-datagram.datagram c.loop-datagram.invariant.delivered
+    let within = still_within g.V.Watch.takes c.args.self.now.network _ (c.args.self.now.world, c.args.watch.now) (c.loop-datagram.self.world, c.loop-datagram.watch) sent.items c.loop-datagram.datagram c.loop-datagram.invariant.delivered
     (ap (λ (l : LabValue). l.world.sent) c.self-in-loop-datagram.view_is) high in
     omega (arith, within, sent.ok.0)
 
+pub returns-in_err-interfaces-clause-stopped : goal.returns-in_err-interfaces-clause-stopped
+returns-in_err-interfaces-clause-stopped g c =
+    handed_on c.from_residual.result (Refused c.in_err-interfaces.field-0.0) _ c.from_residual.ensures.1
+    (none_yet g.V.Watch.takes g.V.Watch.fails c.args.self.now.network _ (c.args.self.now.world, c.args.watch.now) (c.args.self.now.world, c.args.watch.now) refl)
+
 pub returns-in_err-others-clause-stopped : goal.returns-in_err-others-clause-stopped
 returns-in_err-others-clause-stopped g c =
-    to_err c.from_residual-in_err-others.result _
-    (each_part c.args.on_skip c.args.self.now.network c.args.now c.args.first c.loop-datagram.datagram c.args.self.now.world c.loop-datagram.self.world c.loop-datagram.invariant.delivered)
+    handed_on c.from_residual-in_err-others.result (Refused c.in_err-others.field-0.0) _ c.from_residual-in_err-others.ensures.1
+    (each_part g.V.Watch.takes g.V.Watch.fails c.args.self.now.network c.args.now c.args.first c.loop-datagram.datagram (c.args.self.now.world, c.args.watch.now) (c.loop-datagram.self.world, c.loop-datagram.watch) c.loop-datagram.invariant.delivered)
 
 pub returns-in_err-deliver_to-clause-stopped : goal.returns-in_err-deliver_to-clause-stopped
 returns-in_err-deliver_to-clause-stopped g c =
@@ -31,7 +38,7 @@ returns-in_err-deliver_to-clause-stopped g c =
     let net = c.args.self.now.network in
     let d = c.index.result.now in
     let low : c.args.first ≤ c.loop-datagram.datagram = omega (arith, c.loop-datagram.auto.datagram) in
-    let d_is = still_at c.args.on_skip net _ c.args.self.now.world c.loop-datagram.self.world c.self-in-loop-datagram.inside.sent.items c.loop-datagram.datagram c.loop-datagram.invariant.delivered
+    let d_is = still_at g.V.Watch.takes net _ (c.args.self.now.world, c.args.watch.now) (c.loop-datagram.self.world, c.loop-datagram.watch) c.self-in-loop-datagram.inside.sent.items c.loop-datagram.datagram c.loop-datagram.invariant.delivered
     (ap (λ (l : LabValue). l.world.sent) c.self-in-loop-datagram.view_is) high d c.index.ensures in
     let net_is : network_of c.self-in-loop-datagram.inside.stations.items ≡ net = ap (λ (l : LabValue). l.network) c.self-in-loop-datagram.view_is ∙ c.loop-datagram.invariant.network in
     let first_is : network_of c.self.inside.stations.items ≡ net = ap (λ (l : LabValue). l.network) c.self.view_is in
@@ -40,8 +47,8 @@ returns-in_err-deliver_to-clause-stopped g c =
     ∙ ap₂ (λ (n : Network) (ps : List (ℕ × ℕ)). filter (is_other n d) ps)
     (ap (λ (ss : List StationValue). network_of ss) c.deref-in-loop-datagram.ensures.value ∙ net_is)
     (c.deref-in-loop-datagram-2.ensures.value ∙ c.in_ok-interfaces.ensures ∙ ap (λ (ss : List StationValue). interfaces_of (network_of ss)) c.deref.ensures.value ∙ ap interfaces_of first_is) in
-    to_err c.from_residual-in_err-deliver_to.result _
-    (each_stop c.args.on_skip net c.loop-datagram.self.network c.args.self.now.world c.loop-datagram.self.world c.deliver_to.new.self.world c.loop-datagram.invariant.network c.args.now c.args.first
+    handed_on c.from_residual-in_err-deliver_to.result c.in_err-deliver_to.field-0.0 _ c.from_residual-in_err-deliver_to.ensures.1
+    (each_stop g.V.Watch.takes g.V.Watch.fails (failures c.in_err-deliver_to.field-0.0) net c.loop-datagram.self.network (c.args.self.now.world, c.args.watch.now) (c.loop-datagram.self.world, c.loop-datagram.watch) (c.deliver_to.new.self.world, c.deliver_to.new.watch) c.loop-datagram.invariant.network c.args.now c.args.first
     c.loop-datagram.datagram d c.deref-in-loop-datagram-3.result.now low high d_is others_are c.loop-datagram.invariant.delivered c.in_err-deliver_to.ensures.stopped)
 
 pub loop-datagram-preserved : goal.loop-datagram-preserved
@@ -51,7 +58,7 @@ loop-datagram-preserved g c =
     let net = c.args.self.now.network in
     let d = c.index.result.now in
     let low : c.args.first ≤ c.loop-datagram.datagram = omega (arith, c.loop-datagram.auto.datagram) in
-    let d_is = still_at c.args.on_skip net _ c.args.self.now.world c.loop-datagram.self.world c.self-in-loop-datagram.inside.sent.items c.loop-datagram.datagram c.loop-datagram.invariant.delivered
+    let d_is = still_at g.V.Watch.takes net _ (c.args.self.now.world, c.args.watch.now) (c.loop-datagram.self.world, c.loop-datagram.watch) c.self-in-loop-datagram.inside.sent.items c.loop-datagram.datagram c.loop-datagram.invariant.delivered
     (ap (λ (l : LabValue). l.world.sent) c.self-in-loop-datagram.view_is) high d c.index.ensures in
     let net_is : network_of c.self-in-loop-datagram.inside.stations.items ≡ net = ap (λ (l : LabValue). l.network) c.self-in-loop-datagram.view_is ∙ c.loop-datagram.invariant.network in
     let first_is : network_of c.self.inside.stations.items ≡ net = ap (λ (l : LabValue). l.network) c.self.view_is in
@@ -62,7 +69,7 @@ loop-datagram-preserved g c =
     (c.deref-in-loop-datagram-2.ensures.value ∙ c.in_ok-interfaces.ensures ∙ ap (λ (ss : List StationValue). interfaces_of (network_of ss)) c.deref.ensures.value ∙ ap interfaces_of first_is) in
     record {
       network = c.deliver_to.ensures.network ∙ c.loop-datagram.invariant.network;
-      delivered = each_next c.args.on_skip net c.loop-datagram.self.network c.args.self.now.world c.loop-datagram.self.world c.deliver_to.new.self.world c.loop-datagram.invariant.network c.args.now c.args.first
+      delivered = each_next g.V.Watch.takes g.V.Watch.fails 0 net c.loop-datagram.self.network (c.args.self.now.world, c.args.watch.now) (c.loop-datagram.self.world, c.loop-datagram.watch) (c.deliver_to.new.self.world, c.deliver_to.new.watch) c.loop-datagram.invariant.network c.args.now c.args.first
           c.loop-datagram.datagram d c.deref-in-loop-datagram-3.result.now low high d_is others_are c.loop-datagram.invariant.delivered c.in_ok-deliver_to.ensures.delivered;
     }
 
@@ -72,5 +79,5 @@ returns-clause-delivered g c =
     let n = c.loop-datagram.datagram in
     let long : length (drop c.args.first sent) ≤ n - c.args.first =
     omega (arith, c.loop-datagram-test.false, c.loop-datagram.auto.datagram-end, c.len-datagram-end.ensures, c.self.inside.sent.ok.0, length-drop c.args.first sent, ap (λ (l : LabValue). length l.world.sent) c.self.view_is) in
-    subst (λ (ds : List Sent). AllDelivered c.args.on_skip c.args.self.now.network c.args.self.now.world (to_others c.args.self.now.network c.args.now (enumerate_from c.args.first ds)) c.loop-datagram.self.world)
+    subst (λ (ds : List Sent). WatchedRun g.V.Watch.takes heard c.args.self.now.network (c.args.self.now.world, c.args.watch.now) (to_others c.args.self.now.network c.args.now (enumerate_from c.args.first ds)) (c.loop-datagram.self.world, c.loop-datagram.watch))
     (take_all (n - c.args.first) (drop c.args.first sent) long) c.loop-datagram.invariant.delivered

@@ -1,11 +1,11 @@
-use Rattle.std.proofs.Common.{ℕ, ◌+◌, Bool, take, get_or, false, ap, refl, ◌∙◌, sym, subst}
+use Rattle.std.proofs.Common.{ℕ, Bool, get_or, false, ap, refl, ◌∙◌}
 use Rattle.std.proofs.lemmas.List.{get_or_default}
-use Rattle.ripng_world.specs.AskedRounds.{other_deliveries}
-use Rattle.ripng_world.specs.Delivering.{AllDelivered}
+use Rattle.ripng_world.specs.Watching.{failures}
 use Rattle.ripng_world.specs.Labs.{LabValue}
-use Rattle.ripng_world.specs.declared.lab.delivering.OnSkip.TheVariants.{Stop}
+use Rattle.ripng_world.specs.World.{World}
 use Rattle.ripng_world.specs.declared.pairs.Pair.{Pair}
-use Rattle.ripng_world.proofs.Delivered.{others_next, others_skip, others_stop, to_err}
+use Rattle.ripng_world.proofs.Delivered.{others_next, others_skip, others_stop}
+use Rattle.ripng_world.proofs.Watched.{handed_on}
 use Rattle.ripng_world.proofs.lab.Lab.deliver_others.Goals.{then-not-picked-place+in_ok-deliver, else-not-picked-place}
 use Rattle.ripng_world.proofs.lab.Lab.deliver_others.Goals as goal
 
@@ -17,14 +17,14 @@ returns-in_err-deliver-clause-stopped g c =
     let pairs = c.args.pairs.now in
     let i = c.loop-place.place in
     let x = get_or pairs i nobody in
-    to_err c.from_residual.result _
-    (others_stop c.args.self.now.network c.loop-place.self.network c.args.self.now.world c.loop-place.self.world c.deliver.new.self.world c.loop-place.invariant.network pairs (λ k. get_or c.args.picked.now k false) c.args.rest i x
+    handed_on c.from_residual.result c.in_err-deliver.field-0.0 _ c.from_residual.ensures.1
+    (others_stop g.V.Watch.takes g.V.Watch.fails (failures c.in_err-deliver.field-0.0) c.args.self.now.network c.loop-place.self.network (c.args.self.now.world, c.args.watch.now) (c.loop-place.self.world, c.loop-place.watch) (c.deliver.new.self.world, c.deliver.new.watch) c.loop-place.invariant.network pairs (λ k. get_or c.args.picked.now k false) c.args.rest i x
     c.loop-place-test.true (get_or_default pairs i nobody x c.loop-place-test.true) c.loop-place.invariant.delivered c.if-not-picked-place.true c.in_err-deliver.ensures.stopped)
 
 pub loop-place-preserved : goal.loop-place-preserved
 loop-place-preserved g c =
     let net = c.args.self.now.network in
-    let w = c.args.self.now.world in
+    let w : World × _ = (c.args.self.now.world, c.args.watch.now) in
     let pairs = c.args.pairs.now in
     let flags : ℕ → Bool = λ k. get_or c.args.picked.now k false in
     let i = c.loop-place.place in
@@ -33,15 +33,15 @@ loop-place-preserved g c =
       | then-not-picked-place+in_ok-deliver b ↦
           record {
             network = ap (λ (l : LabValue). l.network) b.self-is ∙ b.deliver.ensures.network ∙ c.loop-place.invariant.network;
-            delivered = subst (λ (l : LabValue). AllDelivered Stop net w (other_deliveries flags (take (i + 1) pairs) c.args.rest) l.world) (sym b.self-is)
-                (others_next net c.loop-place.self.network w c.loop-place.self.world b.deliver.new.self.world c.loop-place.invariant.network pairs flags c.args.rest i x
+            delivered = rw (b.self-is, b.watch-is)
+                (others_next g.V.Watch.takes g.V.Watch.fails 0 net c.loop-place.self.network w (c.loop-place.self.world, c.loop-place.watch) (b.deliver.new.self.world, b.deliver.new.watch) c.loop-place.invariant.network pairs flags c.args.rest i x
                 c.loop-place-test.true (get_or_default pairs i nobody x c.loop-place-test.true) c.loop-place.invariant.delivered b.if-not-picked-place.true b.in_ok-deliver.ensures.delivered);
           }
       | else-not-picked-place b ↦
           record {
             network = ap (λ (l : LabValue). l.network) b.self-is ∙ c.loop-place.invariant.network;
-            delivered = subst (λ (l : LabValue). AllDelivered Stop net w (other_deliveries flags (take (i + 1) pairs) c.args.rest) l.world) (sym b.self-is)
-                (others_skip net net w c.loop-place.self.world w refl pairs flags c.args.rest i x
+            delivered = rw (b.self-is, b.watch-is)
+                (others_skip g.V.Watch.takes g.V.Watch.fails 0 net net w (c.loop-place.self.world, c.loop-place.watch) w refl pairs flags c.args.rest i x
                 c.loop-place-test.true (get_or_default pairs i nobody x c.loop-place-test.true) c.loop-place.invariant.delivered b.if-not-picked-place.false);
           }
     ]

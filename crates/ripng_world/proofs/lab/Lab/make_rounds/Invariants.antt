@@ -1,10 +1,9 @@
-use Rattle.std.proofs.Common.{◌≡◌, take, List}
-use Rattle.ripng_world.specs.AskedRounds.{AreMade}
-use Rattle.ripng_world.specs.Rounds.{Round}
+use Rattle.std.proofs.Common.{◌≡◌, take}
+use Rattle.ripng_world.specs.Watching.{AreMadeTold}
 use Rattle.ripng_world.proofs.lab.Lab.make_rounds.Given as goal
 
 abbrev pub invariant-loop-number : goal.invariant-loop-number
 invariant-loop-number g l = record {
   network : l.self.network ≡ l.fn.self.network;
-  made : (made : List Round) × AreMade l.fn.self.network l.fn.self.world (take l.number l.rounds) made l.self.world;
+  made : AreMadeTold g.V.Watch.takes l.fn.self.network (l.fn.self.world, l.fn.watch) (take l.number l.rounds) (l.self.world, l.watch);
 }

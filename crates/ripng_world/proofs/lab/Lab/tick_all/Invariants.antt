@@ -1,10 +1,10 @@
 use Rattle.std.proofs.Common.{◌≡◌, take}
 use Rattle.ripng_world.specs.AskedRounds.{ticks_of}
-use Rattle.ripng_world.specs.Rounds.{AllTick}
+use Rattle.ripng_world.specs.Watching.{WatchedRun, due}
 use Rattle.ripng_world.proofs.lab.Lab.tick_all.Given as goal
 
 abbrev pub invariant-loop-router : goal.invariant-loop-router
 invariant-loop-router g l = record {
   network : l.self.network ≡ l.fn.self.network;
-  ticked : AllTick l.fn.self.network l.fn.self.world (take l.router (ticks_of l.round.ticks)) l.self.world;
+  ticked : WatchedRun g.V.Watch.takes due l.fn.self.network (l.fn.self.world, l.fn.watch) (take l.router (ticks_of l.round.ticks)) (l.self.world, l.watch);
 }

@@ -1,23 +1,25 @@
-use Rattle.std.proofs.Common.{List, subst, ap}
-use Rattle.ripng_world.specs.AskedRounds.{AreAllMade, AreMade}
+use Rattle.std.proofs.Common.{subst, ap}
+use Rattle.ripng_world.specs.AskedRounds.{AreAllMade}
 use Rattle.ripng_world.specs.Labs.{LabValue, HasRun}
 use Rattle.ripng_world.specs.Network.{IsNetwork}
-use Rattle.ripng_world.specs.Rounds.{Round}
-use Rattle.ripng_world.proofs.AskedSynchronous.{all_made, converging, on_ok, to_ok, rounds_still}
+use Rattle.ripng_world.specs.Watching.{AreMadeTold}
+use Rattle.ripng_world.proofs.AskedSynchronous.{all_made, converging, on_ok, to_ok}
+use Rattle.ripng_world.proofs.WatchedRounds.{rounds_still}
 use Rattle.ripng_world.proofs.Healed.{heals_asked}
 use Rattle.ripng_world.proofs.LabRuns.{backed, least, truth, fixed}
-use Rattle.ripng_world.proofs.lab.Lab.run_rounds.Goals as goal
+use Rattle.ripng_world.proofs.lab.Lab.run_rounds_watched.Goals as goal
 
 pub returns-clause-changes : goal.returns-clause-changes
 returns-clause-changes g c =
-    rounds_still c.args.self.now.network c.args.rounds.now c.args.self.now.world c.make_rounds-outcome.new.self.world c.make_rounds-outcome.result c.make_rounds-outcome.ensures.made c.make_rounds-outcome.ensures.refused
+    rounds_still g.V.Watch.takes c.args.self.now.network c.args.rounds.now (c.args.self.now.world, c.args.watch.now) (c.make_rounds-outcome.new.self.world, c.make_rounds-outcome.new.watch) c.make_rounds-outcome.result c.make_rounds-outcome.ensures.made c.make_rounds-outcome.ensures.refused
 
 pub returns-clause-made : goal.returns-clause-made
 returns-clause-made g c =
     let net = c.args.self.now.network in
     let w = c.args.self.now.world in
     let w' = c.make_rounds-outcome.new.self.world in
-    on_ok c.make_rounds-outcome.result ((rs : List Round) × AreMade net w c.args.rounds.now rs w') (AreAllMade net w c.args.rounds.now w') (all_made net c.args.rounds.now w w' c.requires) c.make_rounds-outcome.ensures.made
+    on_ok c.make_rounds-outcome.result (AreMadeTold g.V.Watch.takes net (w, c.args.watch.now) c.args.rounds.now (w', c.make_rounds-outcome.new.watch)) (AreAllMade net w c.args.rounds.now w')
+    (λ m. all_made net c.args.rounds.now w w' c.requires (m.0, m.1)) c.make_rounds-outcome.ensures.made
 
 pub returns-clause-converges : goal.returns-clause-converges
 returns-clause-converges g c =

@@ -1,0 +1,42 @@
+use Rattle.ripng_world.specs.AskedRounds.{pairs_since}
+use Rattle.ripng_world.specs.Delivering.{deliveries_since}
+use Rattle.ripng_world.proofs.AskedSynchronous.{on_ok, since_still}
+use Rattle.ripng_world.specs.Watching.{failures, heard}
+use Rattle.ripng_world.proofs.Delivered.{told_part}
+use Rattle.ripng_world.proofs.Watched.{err_on, watched_run}
+use Rattle.ripng_world.proofs.LabRuns.{backed, least, truth, fixed}
+use Rattle.ripng_world.proofs.lab.Lab.deliver_since_watched.Goals as goal
+
+pub returns-clause-changes : goal.returns-clause-changes
+returns-clause-changes g c =
+    since_still c.args.self.now.network (pairs_since c.args.self.now.network c.args.first c.args.self.now.world.sent) c.args.now c.args.self.now.world c.deliver_each-outcome.new.self.world c.deliver_each-outcome.result
+    (on_ok c.deliver_each-outcome.result _ _
+    (watched_run g.V.Watch.takes heard c.args.self.now.network (deliveries_since c.args.self.now.network c.args.first c.args.self.now.world.sent c.args.now) (c.args.self.now.world, c.args.watch.now) (c.deliver_each-outcome.new.self.world, c.deliver_each-outcome.new.watch))
+    c.deliver_each-outcome.ensures.delivered)
+    (err_on c.deliver_each-outcome.result _ _
+    (λ why. told_part g.V.Watch.takes g.V.Watch.fails (failures why) c.args.self.now.network (deliveries_since c.args.self.now.network c.args.first c.args.self.now.world.sent c.args.now) (c.args.self.now.world, c.args.watch.now) (c.deliver_each-outcome.new.self.world, c.deliver_each-outcome.new.watch))
+    c.deliver_each-outcome.ensures.stopped)
+
+pub returns-clause-delivered : goal.returns-clause-delivered
+returns-clause-delivered g c =
+    on_ok c.deliver_each-outcome.result _ _
+    (watched_run g.V.Watch.takes heard c.args.self.now.network (deliveries_since c.args.self.now.network c.args.first c.args.self.now.world.sent c.args.now) (c.args.self.now.world, c.args.watch.now) (c.deliver_each-outcome.new.self.world, c.deliver_each-outcome.new.watch))
+    c.deliver_each-outcome.ensures.delivered
+
+pub returns-clause-stopped : goal.returns-clause-stopped
+returns-clause-stopped g c =
+    err_on c.deliver_each-outcome.result _ _
+    (λ why. told_part g.V.Watch.takes g.V.Watch.fails (failures why) c.args.self.now.network (deliveries_since c.args.self.now.network c.args.first c.args.self.now.world.sent c.args.now) (c.args.self.now.world, c.args.watch.now) (c.deliver_each-outcome.new.self.world, c.deliver_each-outcome.new.watch))
+    c.deliver_each-outcome.ensures.stopped
+
+pub returns-clause-backed : goal.returns-clause-backed
+returns-clause-backed g c = rw (← c.self.view_is) (backed _ _ c.self.invariant)
+
+pub returns-clause-least : goal.returns-clause-least
+returns-clause-least g c = rw (← c.self.view_is) (least _ _ c.self.invariant)
+
+pub returns-clause-truth : goal.returns-clause-truth
+returns-clause-truth g c = rw (← c.self.view_is) (truth _ _ c.self.invariant)
+
+pub returns-clause-fixed : goal.returns-clause-fixed
+returns-clause-fixed g c = rw (← c.self.view_is) (fixed _ _ c.self.invariant)

@@ -1,0 +1,120 @@
+-- What a watcher is told of a network that runs, event by event.
+use Rattle.std.specs.Prelude.{◌≡◌, ◌≢◌, ℕ, ⊤, ◌⊎◌, List, [], ◌∷◌, ◌++◌, take, length, All, Some, Result, Ok, Err, slice_get}
+use Rattle.router_core.specs.declared.answer.Answer.{Answer}
+use Rattle.router_core.specs.declared.answer.NoteKind.TheVariants.{NoMemory}
+use Rattle.ripng_world.specs.Asked.{Asked}
+use Rattle.ripng_world.specs.AskedRounds.{AreMade, round_of, ticks_of}
+use Rattle.ripng_world.specs.Labs.{LabValue}
+use Rattle.ripng_world.specs.Network.{Network}
+use Rattle.ripng_world.specs.Rounds.{Round, AllTick, IsDueTick, events_of}
+use Rattle.ripng_world.specs.World.{World, Event, Happens}
+use Rattle.ripng_world.specs.declared.rounds.RoundsRefused.{RoundsRefused}
+use Rattle.ripng_world.specs.declared.rounds.RoundsRefused.TheVariants.{OutOfMemory}
+use Rattle.ripng_world.specs.declared.watch.Stopped.{Stopped}
+use Rattle.ripng_world.specs.declared.watch.Stopped.TheVariants.{Refused, Failed}
+
+-- what is told of an event that was done
+pub record Told : Type 0 where
+  pub lab : LabValue  -- as the event left it
+  pub event : Event
+  pub answer : Answer  -- of the router that moved, but for its sends
+  pub first : ℕ  -- the number of the first datagram that it sent
+
+-- what there is to tell of an event that led from one world to another
+abbrev pub telling : Network → World → Event → Answer → World → Told
+telling net w e answer w' = record { lab = record { network = net; world = w' }; event = e; answer = record answer { sends = [] }; first = length w.sent }
+
+-- the events happen one after another, each with an answer that fits, and of each, once it is done, the watcher is told, who
+-- is paired with the world; `takes` says what one telling makes of him
+abbrev pub WatchedRun : {V : Type 0} → (V → Told → V → Type 0) → (World → Event → Answer → Type 0) → Network → World × V → List Event → World × V → Type 0
+WatchedRun takes fits net s [] s' = s' ≡ s
+WatchedRun {V} takes fits net s (e ∷ events) s' =
+    (mid : World × V) × (answer : Answer) × fits s.0 e answer × Happens net s.0 e answer mid.0 × takes s.1 (telling net s.0 e answer mid.0) mid.1
+    × WatchedRun takes fits net mid events s'
+
+-- each answer will do
+abbrev pub any : World → Event → Answer → Type 0
+any w e answer = ⊤
+
+-- a tick at which the router's regular update is due
+abbrev pub due : World → Event → Answer → Type 0
+due w e answer = IsDueTick w e
+
+-- no new route wants for memory
+abbrev pub heard : World → Event → Answer → Type 0
+heard w e answer = All (λ n. n.kind ≢ NoMemory) answer.notes
+
+-- so the events happen and are told, and so many tellings fail, which are the last ones
+pub record WatchedUntil {V : Type 0} (takes fails : V → Told → V → Type 0) (failures : ℕ) (net : Network) (s : World × V) (events : List Event) (s' : World × V) : Type 0 where
+  pub done : List Event
+  pub last : List Event
+  pub events_are : events ≡ done ++ last
+  pub as_many : length last ≡ failures
+  pub before : World × V
+  pub run : WatchedRun takes any net s done before
+  pub failed : WatchedRun fails any net before last s'
+
+-- some of the events happen so, from the first on, and no others
+pub record WatchedInPart {V : Type 0} (takes fails : V → Told → V → Type 0) (failures : ℕ) (net : Network) (s : World × V) (events : List Event) (s' : World × V) : Type 0 where
+  pub part : List Event
+  pub left : List Event
+  pub events_are : events ≡ part ++ left
+  pub run : WatchedUntil takes fails failures net s part s'
+
+-- how many tellings failed: one, where the watcher ended the call
+abbrev pub failures : {R F : Type 0} → Stopped R F → ℕ
+failures (Refused why) = 0
+failures (Failed fault) = 1
+
+-- the same of an outcome
+abbrev pub failures_in : {X R F : Type 0} → Result X (Stopped R F) → ℕ
+failures_in (Ok x) = 0
+failures_in (Err why) = failures why
+
+-- a fact of the refusal, if it is one
+abbrev pub IfRefused : {R F : Type 0} → Stopped R F → (R → Type 0) → Type 0
+IfRefused (Refused why) P = P why
+IfRefused (Failed fault) P = ⊤
+
+-- the stop with another refusal in place of its own, if it is one
+abbrev pub refused_as : {R Q F : Type 0} → Stopped R F → Q → Stopped Q F
+refused_as (Refused why) other = Refused other
+refused_as (Failed fault) other = Failed fault
+
+-- ---- rounds
+
+-- the refusal of rounds that stands for a stop: a watcher who fails ends a round anywhere, as want of memory does
+abbrev pub as_refused : {F : Type 0} → ℕ → Stopped RoundsRefused F → RoundsRefused
+as_refused round (Refused why) = why
+as_refused round (Failed fault) = OutOfMemory round
+
+-- a round is made as it is asked for, and told
+abbrev pub IsMadeTold : {V : Type 0} → (V → Told → V → Type 0) → Network → World × V → Asked → World × V → Type 0
+IsMadeTold {V} takes net s asked s' =
+    (after : World × V) × WatchedRun takes due net s (round_of net asked s.0 after.0).ticks after × WatchedRun takes heard net after (round_of net asked s.0 after.0).deliveries s'
+
+-- so are these, and what was told is just their events
+abbrev pub AreMadeTold : {V : Type 0} → (V → Told → V → Type 0) → Network → World × V → List Asked → World × V → Type 0
+AreMadeTold takes net s asked s' = (rounds : List Round) × AreMade net s.0 asked rounds s'.0 × WatchedRun takes any net s (events_of rounds) s'
+
+-- these events are the beginning of a round: some of its ticks, or all of them and some of the deliveries that they lead to
+abbrev pub AreFirstOf : Network → World → Asked → List Event → Type 0
+AreFirstOf net w asked events =
+    ((done : ℕ) × (events ≡ take done (ticks_of asked.ticks)))
+    ⊎ ((after_ticks : World) × AllTick net w (ticks_of asked.ticks) after_ticks
+    × (done : ℕ) × (events ≡ ticks_of asked.ticks ++ take done (round_of net asked w after_ticks).deliveries))
+
+-- some of a round happens and is told
+pub record RoundToldInPart {V : Type 0} (takes fails : V → Told → V → Type 0) (failures : ℕ) (net : Network) (s : World × V) (asked : Asked) (s' : World × V) : Type 0 where
+  pub events : List Event
+  pub first : AreFirstOf net s.0 asked events
+  pub run : WatchedUntil takes fails failures net s events s'
+
+-- some rounds are made and told, and then some of the next one
+pub record RoundsToldInPart {V : Type 0} (takes fails : V → Told → V → Type 0) (failures : ℕ) (net : Network) (s : World × V) (asked : List Asked) (s' : World × V) : Type 0 where
+  pub made : ℕ
+  pub begin : World × V
+  pub told : AreMadeTold takes net s (take made asked) begin
+  pub stopped : Asked
+  pub stopped_is : slice_get asked made ≡ Some stopped
+  pub in_part : RoundToldInPart takes fails failures net begin stopped s'
