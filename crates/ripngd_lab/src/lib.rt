@@ -7,7 +7,6 @@ mod printing;
 mod round;
 mod script;
 mod session;
-mod stepping;
 mod stop;
 mod watching;
 mod words;

@@ -1,5 +1,7 @@
 //! The witness of a script that prints what its lines ask for.
 
+ghost use Rattle.std.specs.Prelude.{⊤};
+
 use crate::printing::{print_routes, print_sent};
 use crate::stop::Refusal;
 use crate::watching::Watch;
@@ -27,18 +29,12 @@ impl<'a, W: Write> Printer<'a, W> {
     }
 }
 
-impl<'a, W: Write> Watch for Printer<'a, W> {
-    fn sees_rounds(&self) -> bool {
-        false
-    }
+impl<'a, W: Write> ripng_world::Watch<TrieRoutes> for Printer<'a, W> {
+    type Fault = io::Error;
 
-    fn at_line(&mut self, number: usize) {
-        self.line = number;
-    }
+    ghost takes = { λ _ _ _. ⊤ };
 
-    fn started(&mut self, _lab: &Lab<TrieRoutes>, _now: Moment) -> io::Result<()> {
-        Ok(())
-    }
+    ghost fails = { λ _ _ _. ⊤ };
 
     fn happened(
         &mut self,
@@ -47,6 +43,16 @@ impl<'a, W: Write> Watch for Printer<'a, W> {
         _answer: &Answer,
         _first: usize,
     ) -> io::Result<()> {
+        Ok(())
+    }
+}
+
+impl<'a, W: Write> Watch for Printer<'a, W> {
+    fn at_line(&mut self, number: usize) {
+        self.line = number;
+    }
+
+    fn started(&mut self, _lab: &Lab<TrieRoutes>, _now: Moment) -> io::Result<()> {
         Ok(())
     }
 

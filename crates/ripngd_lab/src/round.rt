@@ -2,7 +2,6 @@
 
 ghost use Rattle.std.specs.Prelude.{◌≡◌, ℕ, All, IfOk, length};
 
-use crate::stepping::{OnSkip, deliver_since, happen, step_rounds};
 use crate::stop::Stop;
 use crate::watching::Watch;
 use crate::words::BadLine;
@@ -29,10 +28,7 @@ pub fn make_round<V: Watch>(
 ) -> Result<(), Stop> {
     let first = lab.sent().len();
     tick_all(lab, now, watch)?;
-    if watch.sees_rounds() {
-        return deliver_since(lab, first, now, OnSkip::GoOn, watch);
-    }
-    lab.deliver_since(first, now)?;
+    lab.deliver_since_watched(first, now, watch)?;
     Ok(())
 }
 
@@ -43,7 +39,7 @@ fn tick_all<V: Watch>(lab: &mut Lab<TrieRoutes>, now: Moment, watch: &mut V) -> 
             now,
             word: 0,
         };
-        let _ = happen(lab, &tick, watch)?;
+        let _ = lab.step_watched(&tick, watch)?;
     }
     Ok(())
 }
@@ -79,12 +75,9 @@ pub fn make_rounds<V: Watch>(
     moments: &[Moment],
     watch: &mut V,
 ) -> Result<(), Stop> {
-    if watch.sees_rounds() {
-        return step_rounds(lab, moments, watch);
-    }
     let ticks = ticks_at(alloc, lab.routers(), moments)?;
     let rounds = rounds_of(alloc, &ticks)?;
-    lab.run_rounds(&rounds)?;
+    lab.run_rounds_watched(&rounds, watch)?;
     Ok(())
 }
 

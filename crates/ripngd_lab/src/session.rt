@@ -2,7 +2,6 @@
 
 use crate::line::Line;
 use crate::round::{make_round, make_rounds};
-use crate::stepping::happen;
 use crate::stop::Stop;
 use crate::watching::Watch;
 use crate::words::BadLine;
@@ -83,12 +82,12 @@ fn run<V: Watch>(
 ) -> Result<(), Stop> {
     match line {
         Line::Event(event) => {
-            let _ = happen(lab, &event, watch)?;
+            let _ = lab.step_watched(&event, watch)?;
             Ok(())
         }
         Line::Stranger { router, datagram } => {
             let arrival = datagram.arrival();
-            let _ = happen(lab, &Event::Stranger { router, arrival }, watch)?;
+            let _ = lab.step_watched(&Event::Stranger { router, arrival }, watch)?;
             Ok(())
         }
         Line::Round { now } => make_round(lab, now, watch),

@@ -1,7 +1,7 @@
 //! Why a script ends before its last line.
 
 use crate::words::BadLine;
-use ripng_world::{LabError, NetRefused, RoundsRefused};
+use ripng_world::{LabError, NetRefused, RoundsRefused, Stopped};
 use std::alloc::{AllocError, AllocFailed};
 use std::{fmt, io};
 
@@ -74,6 +74,33 @@ impl From<RoundsRefused> for Stop {
         match refused {
             RoundsRefused::OutOfMemory { .. } => Stop::from(AllocError),
             RoundsRefused::NoRegularUpdate { .. } => Stop::Refused(Refusal::Rounds(refused)),
+        }
+    }
+}
+
+impl From<Stopped<AllocError, io::Error>> for Stop {
+    fn from(stopped: Stopped<AllocError, io::Error>) -> Stop {
+        match stopped {
+            Stopped::Refused(why) => Stop::from(why),
+            Stopped::Failed(error) => Stop::Failed(error),
+        }
+    }
+}
+
+impl From<Stopped<LabError, io::Error>> for Stop {
+    fn from(stopped: Stopped<LabError, io::Error>) -> Stop {
+        match stopped {
+            Stopped::Refused(why) => Stop::from(why),
+            Stopped::Failed(error) => Stop::Failed(error),
+        }
+    }
+}
+
+impl From<Stopped<RoundsRefused, io::Error>> for Stop {
+    fn from(stopped: Stopped<RoundsRefused, io::Error>) -> Stop {
+        match stopped {
+            Stopped::Refused(why) => Stop::from(why),
+            Stopped::Failed(error) => Stop::Failed(error),
         }
     }
 }

@@ -1,6 +1,6 @@
 //! A script, traced.
 
-ghost use Rattle.std.specs.Prelude.{◌≡◌, IfOk, IfSome, option_map, slice_get};
+ghost use Rattle.std.specs.Prelude.{◌≡◌, ⊤, IfOk, IfSome, option_map, slice_get};
 ghost use Rattle.ripngd_trace.specs.Records.{LeadsTo, timers_in};
 
 use crate::answers::{change_records, fault_record, note_records, sent_since};
@@ -144,11 +144,25 @@ impl<'a, W: Write> Tracer<'a, W> {
     }
 }
 
-impl<'a, W: Write> Watch for Tracer<'a, W> {
-    fn sees_rounds(&self) -> bool {
-        true
-    }
+impl<'a, W: Write> ripng_world::Watch<TrieRoutes> for Tracer<'a, W> {
+    type Fault = io::Error;
 
+    ghost takes = { λ _ _ _. ⊤ };
+    ghost fails = { λ _ _ _. ⊤ };
+
+    fn happened(
+        &mut self,
+        lab: &Lab<TrieRoutes>,
+        event: &Event<'_>,
+        answer: &Answer,
+        first: usize,
+    ) -> io::Result<()> {
+        let record = self.event_record(lab, event, answer, first)?;
+        write_record(self.alloc, &record, self.out)
+    }
+}
+
+impl<'a, W: Write> Watch for Tracer<'a, W> {
     fn at_line(&mut self, number: usize) {
         self.line = number;
     }
@@ -161,17 +175,6 @@ impl<'a, W: Write> Watch for Tracer<'a, W> {
             routers: self.router_records(lab)?,
             sent: sent_since(self.alloc, lab, 0)?,
         };
-        write_record(self.alloc, &record, self.out)
-    }
-
-    fn happened(
-        &mut self,
-        lab: &Lab<TrieRoutes>,
-        event: &Event<'_>,
-        answer: &Answer,
-        first: usize,
-    ) -> io::Result<()> {
-        let record = self.event_record(lab, event, answer, first)?;
         write_record(self.alloc, &record, self.out)
     }
 
