@@ -148,6 +148,7 @@ impl<'a, W: Write> ripng_world::Watch<TrieRoutes> for Tracer<'a, W> {
     type Fault = io::Error;
 
     ghost takes = { λ _ _ _. ⊤ };
+
     ghost fails = { λ _ _ _. ⊤ };
 
     fn happened(
