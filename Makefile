@@ -8,6 +8,7 @@
 # make bench        times of a router and its forwarding table, as tables grow
 # make pictures     films and pictures of the examples, below docs (needs Chromium, a package of the system)
 # make test         the merge gate: every proof from nothing, the edits that must fail, tests and programs
+# make check CRATE= proves a crate and all above it, and runs their tests
 # make edits CRATE= tries all wrong bodies of a crate, also those that the gate does not; with EDIT= the one of that name
 # make clean        forgets what earlier runs kept
 
@@ -21,7 +22,7 @@ BINARIES = $(DESTDIR)$(PREFIX)/bin
 MANUALS = $(DESTDIR)$(PREFIX)/share/man/man8
 PAGES = $(DESTDIR)$(PREFIX)/share/doc/ripngd
 
-.PHONY: all beside lab try show page install uninstall bench pictures test edits clean
+.PHONY: all beside lab try show page install uninstall bench pictures test check edits clean
 
 # A run of rt keeps the folders of all crates below its own to itself until it ends. So what both the laboratory's chain and
 # the daemon's crates need is proved first. Where nothing of the chain is there yet, it then goes on in a copy, beside the
@@ -81,6 +82,9 @@ pictures: bin/ripngd
 
 test:
 	tests/gate.sh
+
+check:
+	tests/above.sh $(CRATE)
 
 edits:
 	tests/edits.sh $(CRATE) $(EDIT)
