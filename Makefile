@@ -73,9 +73,9 @@ uninstall:
 
 # Memory is measured by a program of its own for each size, since freed memory is used again.
 bench:
-	cd crates/ripngd_bench && rt run -- names > /dev/null
-	crates/ripngd_bench/out/ripngd_bench $(ROUTES)
-	for routes in $(ROUTES); do crates/ripngd_bench/out/ripngd_bench memory $$routes; done
+	cd crates/bench_router && rt run -- names > /dev/null
+	crates/bench_router/out/bench_router $(ROUTES)
+	for routes in $(ROUTES); do crates/bench_router/out/bench_router memory $$routes; done
 
 pictures: bin/ripngd
 	page/pictures.sh

@@ -1,5 +1,5 @@
 #!/usr/bin/env bash
-# Each growth of each call refused in turn: `rt try` refuses the 400th allocation of the program `refused_growth`, which makes
+# Each growth of each call refused in turn: `rt try` refuses the 400th allocation of the program `test_growth`, which makes
 # as many for nothing before its call as the file of a case says. A call that is refused has to leave every reader as it was,
 # and made again it has to do what it does undisturbed; docs/PROOFS.md says what else is looked at.
 #
@@ -61,7 +61,7 @@ while read -r name least greatest; do
     done
 done <<< "$calls"
 
-(cd crates/refused_growth && rt try --fail-alloc 400 --cases "$folder/cases") > "$folder/said" 2>&1
+(cd crates/test_growth && rt try --fail-alloc 400 --cases "$folder/cases") > "$folder/said" 2>&1
 
 # `outcome NAME NUMBER`: what the program said of a case, without the call's name.
 outcome() {
