@@ -22,27 +22,12 @@ BINARIES = $(DESTDIR)$(PREFIX)/bin
 MANUALS = $(DESTDIR)$(PREFIX)/share/man/man8
 PAGES = $(DESTDIR)$(PREFIX)/share/doc/ripngd
 
-.PHONY: all beside lab try show page install uninstall bench pictures test check edits clean
-
-# A run of rt keeps the folders of all crates below its own to itself until it ends. So what both the laboratory's chain and
-# the daemon's crates need is proved first. Where nothing of the chain is there yet, it then goes on in a copy, beside the
-# daemon's crates, and its work is brought back. Each run takes as many processors as there are, four at most.
-CHAIN = ripng_world ripngd_lab ripngd_trace ripngd_page
+.PHONY: all lab try show page install uninstall bench pictures test check edits clean
 
 all:
-	cd crates/router_core && rt lib
-	cd crates/ripngd_show && rt lib
-	test -d crates/ripng_world/out || $(MAKE) beside
-	cd crates/ripngd_program && rt run -- show 02010000 > /dev/null
+	tests/build.py ripngd_program
 	mkdir -p bin
 	cp crates/ripngd_program/out/ripngd_program bin/ripngd
-
-beside:
-	copy=$$(mktemp -d) && trap "rm -rf $$copy" EXIT && cp -a crates crates.txt HANDLES $$copy && \
-	{ (cd $$copy/crates/ripngd_page && exec rt lib) & chain=$$!; } && \
-	{ (cd crates/ripngd_daemon && exec rt lib) & daemon=$$!; } && \
-	{ wait $$chain; chained=$$?; wait $$daemon && test $$chained = 0; } && \
-	for crate in $(CHAIN); do rm -rf crates/$$crate/out && cp -a $$copy/crates/$$crate/out crates/$$crate/ || exit 1; done
 
 lab: all
 	bin/ripngd lab $(SCRIPT)
