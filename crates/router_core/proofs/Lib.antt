@@ -17,6 +17,7 @@ mod AgedTables
 mod DueRoutes
 mod EmptyRequests
 mod Silence
+mod Waking
 mod RouterSteps
 pub mod OwnedStay
 mod ConfigChanges

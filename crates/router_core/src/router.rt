@@ -5,7 +5,6 @@ ghost use Rattle.std.specs.FinMap as map_of;
 ghost use Rattle.fib.specs.Forwarding.{Replays};
 ghost use Rattle.ripng_wire.specs.Layout.{Spells};
 ghost use Rattle.ripng_wire.specs.declared.rte.Command.TheVariants.{Request, Response};
-ghost use Rattle.route_table.specs.Due.{next_due};
 ghost use Rattle.route_table.specs.Route.{infinity};
 ghost use Rattle.router_core.specs.Changes.{forwards, changes_of_ageing, changes_of_start};
 ghost use Rattle.router_core.specs.Config.{cost_at};
@@ -15,6 +14,7 @@ ghost use Rattle.router_core.specs.Output.{AreSpelled, start_messages};
 ghost use Rattle.router_core.specs.Updates.{update_due, update_of, regular_after, hold_after, entries_in};
 
 mod changing;
+mod waking;
 
 use crate::adopt::Gateway;
 use crate::answer::{Answer, Note, Outgoing};
@@ -30,7 +30,6 @@ use crate::tell::{Told, updates};
 use crate::ticking::{changes_of_ageing, settle_all};
 use crate::timers::{HOLD_LEAST_MS, HOLD_SPREAD_MS, REGULAR_LEAST_MS, REGULAR_SPREAD_MS};
 use fib::RouteChange;
-use prefix6::Prefix;
 use ripng_wire::{Command, Datagram};
 use route_table::{Deadline, Moment, RouteStore};
 use std::alloc::{AllocError, Global};
@@ -191,14 +190,6 @@ impl<S: RouteStore> Router<S> {
         ensures { result ≡ fault self.now.config arrival.entry.now }
     {
         fault_of(&self.config, arrival)
-    }
-
-    /// When the next route is due to be lost or deleted, and the first prefix whose route is due then. Before that a tick
-    /// ages nothing.
-    pub fn next_due(&self) -> Option<(Deadline, Prefix)>
-        ensures { result ≡ next_due self.now.table }
-    {
-        self.store.next_due()
     }
 
     /// A moment before the last one counts as that.

@@ -11,7 +11,7 @@
 //! | `cost IFACE NOW COST`, `gain NOW PREFIX TAG`, `drop NOW PREFIX` | the router's configuration is changed; where that is refused, the refusal is written |
 //! | `count COMMAND` | does the command, and writes numbers in place of a long answer |
 //! | `tally COMMAND` | does the command, and writes how many datagrams each interface sends, and the size of the last |
-//! | `show`, `route PREFIX`, `size`, `timers`, `due` | writes all that the router holds, one route, how many there are, its moments, when a route is due next and which |
+//! | `show`, `route PREFIX`, `size`, `timers`, `due`, `wakes` | writes all that the router holds, one route, how many there are, its moments, when a route is due next and which, when a tick next has something to do |
 
 use crate::reading::{
     arrival, config, datagram, from_neighbor, moment, response_of_sites, told_sites, words_of,
@@ -195,6 +195,7 @@ fn obey<S: RouteStore>(
         ["size"] => Ok(writeln!(out, "{}", router.routes().len())?),
         ["timers"] => Ok(write_timers(out, router)?),
         ["due"] => Ok(write_due(out, router)?),
+        ["wakes"] => Ok(writeln!(out, "{}", router.wakes_at().ms())?),
         ["fill", rest @ ..] => fill(out, alloc, router, rest),
         ["hear-beginnings", rest @ ..] => hear_beginnings(out, alloc, router, rest),
         ["cost" | "gain" | "drop", ..] => reconfigure(out, alloc, router, words),

@@ -39,6 +39,44 @@ last 300000 regular 314999 hold 181000
 }
 
 #[test]
+fn a_router_says_when_it_wakes(rt: HostRuntime) -> Result<(), Fail> {
+    play(
+        &rt,
+        rt.alloc(),
+        "\
+> router
+> wakes
+0
+> tick 0 0
+> wakes
+15000
+> hear 0 1000 fe80::2 521 255 group 02010000 20010db8 00000000 00000000 00000000 00002001
+install 2001:db8::/32 metric 2 via fe80::2 iface 0
+> wakes
+0
+> tick 1000 0
+send 0 group 02010000 20010db8 00000000 00000000 00000000 00002010
+send 1 group 02010000 20010db8 00000000 00000000 00000000 00002002
+> wakes
+15000
+> hear 0 1500 fe80::2 521 255 group 02010000 20010db8 00000000 00000000 00000000 00002002
+install 2001:db8::/32 metric 3 via fe80::2 iface 0
+> wakes
+2000
+> tick 1999 0
+> tick 2000 0
+send 0 group 02010000 20010db8 00000000 00000000 00000000 00002010
+send 1 group 02010000 20010db8 00000000 00000000 00000000 00002003
+> tick 150000 30000
+send 0 group 02010000 20010db8 00000000 00000000 00000000 00002010
+send 1 group 02010000 20010db8 00000000 00000000 00000000 00002003
+> wakes
+181500
+",
+    )
+}
+
+#[test]
 fn an_update_is_cut_by_the_mtu(rt: HostRuntime) -> Result<(), Fail> {
     play(
         &rt,
