@@ -3,8 +3,9 @@
 # make try SCRIPT=  the same on the sources as they stand, with no proof; with a folder, all of its scripts
 # make show HEX=    decodes one datagram, given as hexadecimal digits
 # make page         serves the page of the laboratory, at PORT of 127.0.0.1, until it is interrupted
-# make install      puts the program, its manual page and the examples below PREFIX (and DESTDIR before it)
+# make install      puts the program, its manual page, a unit of systemd and the examples below PREFIX (and DESTDIR before it)
 # make uninstall    takes them away again
+# make dist         the program with its pages, films and examples as they are installed, and checksums, in one file below dist
 # make bench        times of a router and its forwarding table, as tables grow
 # make pictures     films and pictures of the examples, below docs (needs Chromium, a package of the system)
 # make test         the merge gate: every proof from nothing, the edits that must fail, tests and programs
@@ -17,12 +18,22 @@ SCRIPT ?= examples/line.lab
 ROUTES ?= 1024 4096 16384 65536
 PORT ?= 8532
 
+# Where `make install` puts things, under the names that packages use. PREFIX is heard too.
 PREFIX ?= /usr/local
-BINARIES = $(DESTDIR)$(PREFIX)/bin
-MANUALS = $(DESTDIR)$(PREFIX)/share/man/man8
-PAGES = $(DESTDIR)$(PREFIX)/share/doc/ripngd
+prefix ?= $(PREFIX)
+bindir ?= $(prefix)/bin
+mandir ?= $(prefix)/share/man
+docdir ?= $(prefix)/share/doc/ripngd
+unitdir ?= $(prefix)/lib/systemd/system
+INSTALL ?= install
 
-.PHONY: all lab try show page install uninstall bench pictures test check edits clean
+# The folders with what goes beside README.md.
+folders = docs docs/films docs/pictures examples examples/lessons page
+
+VERSION = $(shell sed -n 's/^pub const VERSION: &str = "\(.*\)";/\1/p' crates/ripngd_command_line/src/command_line.rt)
+name = ripngd-$(VERSION)-x86_64-linux
+
+.PHONY: all lab try show page install uninstall dist bench pictures test check edits clean
 
 all:
 	tests/build.py ripngd_program
@@ -45,16 +56,25 @@ page: all
 bin/ripngd:
 	$(MAKE) all
 
+# Pages keep their places to one another, so that what one says of another is found.
 install: bin/ripngd
-	install -d $(BINARIES) $(MANUALS) $(PAGES)/examples
-	install -m 755 bin/ripngd $(BINARIES)/ripngd
-	install -m 644 docs/ripngd.8 $(MANUALS)/ripngd.8
-	install -m 644 README.md docs/FORMATS.md docs/PROTOCOL.md $(PAGES)
-	install -m 644 examples/* $(PAGES)/examples
+	$(INSTALL) -d $(DESTDIR)$(bindir) $(DESTDIR)$(mandir)/man8 $(DESTDIR)$(unitdir) $(addprefix $(DESTDIR)$(docdir)/,$(folders))
+	$(INSTALL) -m 755 bin/ripngd $(DESTDIR)$(bindir)/ripngd
+	$(INSTALL) -m 644 docs/ripngd.8 $(DESTDIR)$(mandir)/man8/ripngd.8
+	$(INSTALL) -m 644 README.md $(DESTDIR)$(docdir)
+	for folder in $(folders); do $(INSTALL) -m 644 $$folder/*.* $(DESTDIR)$(docdir)/$$folder || exit; done
+	sed 's|@bindir@|$(bindir)|' docs/ripngd@.service > $(DESTDIR)$(unitdir)/ripngd@.service
 
 uninstall:
-	rm -f $(BINARIES)/ripngd $(MANUALS)/ripngd.8
-	rm -rf $(PAGES)
+	rm -f $(DESTDIR)$(bindir)/ripngd $(DESTDIR)$(mandir)/man8/ripngd.8 $(DESTDIR)$(unitdir)/ripngd@.service
+	rm -rf $(DESTDIR)$(docdir)
+
+# The same program gives the same file: no time and no name of who made it is in it.
+dist:
+	rm -rf dist
+	$(MAKE) install DESTDIR=$(CURDIR)/dist/$(name) prefix=/usr/local
+	cd dist/$(name) && find . -type f -print0 | LC_ALL=C sort -z | xargs -0 sha256sum > ../SHA256SUMS && mv ../SHA256SUMS .
+	cd dist && tar --sort=name --owner=0 --group=0 --numeric-owner --mtime=@0 -czf $(name).tar.gz $(name) && sha256sum $(name).tar.gz > $(name).tar.gz.sha256
 
 # Memory is measured by a program of its own for each size, since freed memory is used again.
 bench:
@@ -75,4 +95,4 @@ edits:
 	tests/edits.sh $(CRATE) $(EDIT)
 
 clean:
-	rm -rf bin crates/*/out
+	rm -rf bin dist crates/*/out

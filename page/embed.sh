@@ -3,15 +3,20 @@
 #
 #     page/embed.sh            writes the files
 #     page/embed.sh --check    says whether they are what would be written, by its exit status
+#     page/embed.sh --page     prints the page without a script, one file
 #
-# The page is cut where scripts and a trace are put in, and at two remarks of its script. Needs bash, sed and awk. The gate
-# calls it first.
+# The page is put together of page/src: into frame.html go style.css and the modules, of whose script its policy has the hash. The
+# modules stand in one script, so their imports, the word `export` and lines that are a remark alone are left out. Needs bash, sed,
+# awk, sha256sum and base64. The gate calls it first.
 set -euo pipefail
 
 root=$(realpath "$(dirname "$0")/..")
+source=$root/page/src
 target=$root/crates/ripngd_page/src/template
-layout='// ---- The layout ----'
-panes='// ---- Script and events ----'
+# The modules in order, in the three constants of the script: no file of the program is long.
+reading=(trace datagrams walks building layout texts)
+drawing=(markup drawing panes showing)
+panes=(editor page)
 folder=$(mktemp -d)
 trap 'rm -rf "$folder"' EXIT
 
@@ -32,16 +37,24 @@ constant() {
     '
 }
 
-# `between FROM TO`: the lines of the template from one mark, or its start, to before another, or its end. A mark that is a
-# place to fill is left out. Fails where there is no such mark.
+# `modules NAME..`: what they put into the page's script.
+modules() {
+    local name
+    for name in "$@"; do
+        sed -e '/^import /d' -e 's/^export //' -e '/^ *\/\/ /d' -e '/^$/d' "$source/$name.js"
+    done
+}
+
+# `between FROM TO`: the lines of the frame from behind one mark, or its start, to before another, or its end. Fails where there
+# is no such mark.
 between() {
     awk -v from="$1" -v to="$2" '
         BEGIN { on = from == "" }
         to != "" && $0 == to { ended = 1; exit }
+        on { print }
         $0 == from { on = 1 }
-        on && $0 != "<!-- scripts -->" && $0 != "<!-- trace -->" { print }
         END { exit !on || (to != "" && !ended) }
-    ' "$root/page/template.html"
+    ' "$source/frame.html"
 }
 
 examples() {
@@ -53,26 +66,53 @@ examples() {
     done
 }
 
+# The script of the page, from behind its tag to before the tag that ends it.
+start() { between '<!-- trace -->' '<!-- script -->'; }
+script() {
+    start | sed '1,/^<script>$/d'
+    modules "${reading[@]}" "${drawing[@]}" "${panes[@]}"
+}
+
+# The hash of the script, as a policy names it: in base64, of the bytes behind the tag, a line feed the first of them.
+hash() {
+    local digits
+    digits=$({ echo; script; } | sha256sum | cut -d ' ' -f 1)
+    printf '%b' "$(sed 's/../\\x&/g' <<< "$digits")" | base64
+}
+
+head_part() {
+    between '' '<!-- style -->' | sed "s|HASH|$(hash)|"
+    cat "$source/style.css"
+    between '<!-- style -->' '<!-- scripts -->'
+}
+middle_part() { between '<!-- scripts -->' '<!-- trace -->'; }
+reading_part() { start && modules "${reading[@]}"; }
+panes_part() { modules "${panes[@]}" && between '<!-- script -->' ''; }
+
 # `file NAME WHAT`: standard input, constants, as the file of that name, which holds this.
 file() {
     {
         echo "//! $2."
-        echo '//! Written by page/embed.sh: change page/template.html or examples/, and run it.'
+        echo '//! Written by page/embed.sh: change page/src or examples/, and run it.'
         cat
     } > "$folder/$1.rt"
 }
 
+if [ "${1:-}" = --page ]; then
+    head_part && examples && middle_part && reading_part && modules "${drawing[@]}" && panes_part
+    exit
+fi
 {
-    between '' '<!-- scripts -->' | constant HEAD 'What stands before the scripts.'
-    between '<!-- scripts -->' '<!-- trace -->' | constant MIDDLE 'What stands between the scripts and the trace.'
+    head_part | constant HEAD 'What stands before the scripts.'
+    middle_part | constant MIDDLE 'What stands between the scripts and the trace.'
 } | file markup 'The style of the page, and its elements'
 examples | constant EXAMPLES 'Each script as an element with its name.' | file examples 'The scripts to choose from'
-between '<!-- trace -->' "$layout" | constant READING 'From behind the trace to the layout.' |
-    file reading 'The start of the script of the page: how a trace is read'
-between "$layout" "$panes" | constant DRAWING 'From the layout to the other panes.' |
-    file drawing 'The script of the page: layout and drawing'
-between "$panes" '' | constant PANES 'From the other panes to the end of the page.' |
-    file panes 'The end of the script of the page: the other panes, and what a click or a key does'
+reading_part | constant READING 'From behind the trace to what draws.' |
+    file reading 'The start of the script of the page: traces, walks, scripts, layout and words'
+modules "${drawing[@]}" | constant DRAWING 'What draws.' |
+    file drawing 'The script of the page: the drawing and the other panes, as markup, and how they are shown'
+panes_part | constant PANES 'From the editor to the end of the page.' |
+    file panes 'The end of the script of the page: the editor, and what a click or a key does'
 
 if [ "${1:-}" = --check ]; then
     diff -r "$folder" "$target"

@@ -13,7 +13,7 @@ browser=$(command -v chromium || command -v chromium-browser || command -v googl
 picture() {
     local film=$root/docs/films/$1.html
     "$root/bin/ripngd" page --film "$root/examples/$1.lab" > "$film"
-    "$browser" --headless --no-sandbox --disable-gpu --hide-scrollbars --window-size=600,730 --virtual-time-budget=2000 \
+    "$browser" --headless --no-sandbox --disable-gpu --hide-scrollbars --window-size=600,760 --virtual-time-budget=2000 \
         --screenshot="$root/docs/pictures/$1.png" "file://$film#step=$2&router=$3&prefix=2001:db8::/32" 2> /dev/null
 }
 

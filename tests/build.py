@@ -92,7 +92,9 @@ def prove(crate, libraries, is_program, jobs, scratch):
 def main(program):
     libraries = libraries_of_all()
     crates = [*below(program, libraries), program]
-    above = {crate: [one for one in crates if crate in below(one, libraries)] for crate in crates}
+    ways = {}
+    for crate in reversed(crates):
+        ways[crate] = 1 + max((ways[one] for one in crates if crate in libraries[one]), default=0)
     sums, done = {}, set()
     for crate in crates:
         sums[crate] = sum_of(crate, libraries, sums)
@@ -104,13 +106,12 @@ def main(program):
         while len(done) < len(crates):
             waiting = [one for one in crates if one not in done and all(one != at for at, _ in running.values())]
             ready = [one for one in waiting if all(library in done for library in libraries[one])]
-            # Those come first on which most others wait.
-            ready.sort(key=lambda one: -len(above[one]))
-            for place, crate in enumerate(ready):
-                free = cores - sum(jobs for _, jobs in running.values())
-                if free:
-                    jobs = max(1, free // (len(ready) - place))
-                    running[pool.submit(prove, crate, libraries, crate == program, jobs, scratch)] = (crate, jobs)
+            # The crate with the longest way to the program has as many jobs as there are processors, all others one each: the
+            # system shares, and the longest way decides when all is done.
+            for crate in sorted(ready, key=lambda one: -ways[one])[: cores - len(running)]:
+                is_longest = all(ways[at] < ways[crate] for at, _ in running.values())
+                jobs = cores if is_longest else 1
+                running[pool.submit(prove, crate, libraries, crate == program, jobs, scratch)] = (crate, jobs)
             for ended in futures.wait(running, return_when=futures.FIRST_COMPLETED).done:
                 crate, _ = running.pop(ended)
                 is_proved, said, seconds = ended.result()

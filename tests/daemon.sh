@@ -4,7 +4,7 @@
 #     tests/daemon.sh [PROGRAM]        the program is bin/ripngd if none is named
 #
 # A line for each case, `ok NAME` or `FAILED NAME: why`, and last `N passed, M failed`. The exit status is 0 exactly where M
-# is 0. Needs bash and the usual commands (sleep, seq, mktemp, timeout, kill), and takes below a minute. `ROUTES=N` tells how
+# is 0. Needs bash and the usual commands (sleep, seq, mktemp, timeout, kill), and takes some two minutes. `ROUTES=N` tells how
 # many routes large tables have, 65,000 at the most and 20,000 if it is not set.
 set -u
 
@@ -86,6 +86,11 @@ run() {
     status=$?
 }
 
+# `said FILE..`: what standard error got, but for the line that a router runs.
+said() {
+    sed '/^ripngd: running, [0-9]* interfaces$/d' "$@"
+}
+
 # Starts the program in the background, writing to NAME.out and NAME.err, and gives its id in `$pid`.
 start() {
     local name=$1
@@ -147,7 +152,7 @@ two_daemons_learn_from_each_other() {
 2001:db8:f::/48 metric 1 direct" &&
         same "east's log" "$(cat "$folder/east.log")" "add 2001:db8:e::/48 metric 1 direct
 add 2001:db8:f::/48 metric 2 via fe80::f iface 0" &&
-        same "standard error" "$(cat "$folder/east.err" "$folder/west.err")" ""
+        same "standard error" "$(said "$folder/east.err" "$folder/west.err")" ""
 }
 
 # `shows_table NAME TABLE`: whether `table` makes these lines of a daemon's log.
@@ -194,7 +199,7 @@ what_a_daemon_refuses_is_said_and_counted() {
     exec {far}>&- {near}>&-
     same status "$status" 0 &&
         same "the table" "$(cat "$folder/debugged.out")" "2001:eb8::/32 metric 2 via fe80::b iface 1" &&
-        same "standard error" "$(sed 's/^[0-9]* iface/T iface/; s/sends [0-9]*/sends S/' "$folder/debugged.err")" \
+        same "standard error" "$(said "$folder/debugged.err" | sed 's/^[0-9]* iface/T iface/; s/sends [0-9]*/sends S/')" \
             "T iface 0 from fe80::a port 521 refused 10 HopLimit
 T iface 1 from fe80::b port 521 entry 0 noted 22 BadMetric
 arrivals 2 sends S failed 0
@@ -217,7 +222,7 @@ a_daemon_goes_on_after_it_was_stopped() {
     until_true grep -q 2001:db8:f:: "$folder/east.log" || because "it learned nothing after" || return
     finish "$west"
     finish "$east"
-    same status "$status" 0 && same "standard error" "$(cat "$folder/east.err")" ""
+    same status "$status" 0 && same "standard error" "$(said "$folder/east.err")" ""
 }
 
 a_log_on_a_full_device_ends_alone() {
@@ -225,14 +230,14 @@ a_log_on_a_full_device_ends_alone() {
     run run --turns 2 -R /dev/full "$folder/full.toml"
     same status "$status" 0 &&
         same output "$(cat "$folder/out")" "2001:db8::/32 metric 1 direct" &&
-        same "standard error" "$(cat "$folder/err")" "ripngd: lost sends 0, lost steps 0, log failed"
+        same "standard error" "$(said "$folder/err")" "ripngd: lost sends 0, lost steps 0, log failed"
 }
 
 # `fills WORD..`: what the program says where its standard output is full.
 fills() {
     timeout 30 "$program" "$@" > /dev/full 2> "$folder/err"
     same "the status of '$*'" "$?" 3 &&
-        same "standard error of '$*'" "$(cat "$folder/err")" "ripngd: cannot write stdout"
+        same "standard error of '$*'" "$(said "$folder/err")" "ripngd: cannot write stdout"
 }
 
 a_full_standard_output_is_told() {
@@ -253,6 +258,75 @@ a_port_in_use_is_named() {
     same status "$status" 3 &&
         same output "$(cat "$folder/out")" "" &&
         same "standard error" "$(cat "$folder/err")" "ripngd: cannot bind ${used##* }"
+}
+
+# A second start beside a router that runs: on its log, and on another beside its port.
+a_second_start_leaves_the_logs() {
+    alone twice.toml
+    start holder run --turns 200 -R "$folder/twice.log" "$folder/twice.toml" && local holder=$pid
+    until_true grep -q add "$folder/twice.log" || because "the first did not come up" || return
+    run run --turns 1 -R "$folder/twice.log" "$folder/twice.toml"
+    same status "$status" 3 && same output "$(cat "$folder/out")" "" &&
+        same "standard error" "$(cat "$folder/err")" "ripngd: cannot write $folder/twice.log" || return
+    echo kept > "$folder/other.log"
+    run run --turns 1 -R "$folder/other.log" "$folder/twice.toml"
+    same status "$status" 3 && same "the other log" "$(cat "$folder/other.log")" kept || return
+    shows_table twice "2001:db8::/32 metric 1 direct" || return
+    end "$holder"
+    run run --turns 1 -R "$folder/other.log" "$folder/twice.toml"
+    same "the status when the first has ended" "$status" 0 &&
+        same "the log that is emptied" "$(cat "$folder/other.log")" "add 2001:db8::/32 metric 1 direct"
+}
+
+# Another program copies a log and empties it, as `copytruncate` of logrotate(8) does.
+a_log_that_is_emptied_goes_on_at_its_end() {
+    neighbors
+    start east run -R "$folder/rotated.log" "$folder/east.toml" && local east=$pid
+    until_true grep -qx 'add 2001:db8:e::/48 metric 1 direct' "$folder/rotated.log" || because "it did not come up" || return
+    : > "$folder/rotated.log"
+    start west run "$folder/west.toml" && local west=$pid
+    until_true shows_table rotated "2001:db8:f::/48 metric 2 via fe80::f iface 0" || because "$why"
+    local shown=$?
+    end "$east"
+    end "$west"
+    [ $shown = 0 ] && same "the log" "$(cat "$folder/rotated.log")" "add 2001:db8:f::/48 metric 2 via fe80::f iface 0"
+}
+
+# Lines of the log on standard output, as they come.
+a_log_goes_to_standard_output() {
+    neighbors
+    start east run -R - --turns 80 "$folder/east.toml" && local east=$pid
+    until_true grep -q 'add 2001:db8:e::/48' "$folder/east.out" || because "no line came" || return
+    kill -0 "$east" 2> /dev/null || because "it came at the end" || return
+    finish "$east"
+    same status "$status" 0 && same "standard output" "$(cat "$folder/east.out")" "add 2001:db8:e::/48 metric 1 direct
+2001:db8:e::/48 metric 1 direct"
+}
+
+# Behind the line that it runs its ports are bound; before it, an interface that hears itself is named.
+a_router_says_that_it_runs() {
+    next_port
+    { interface 1 "$port" 2 "$port" && prefix 2001:db8::/32; } > "$folder/ready.toml"
+    start ready run "$folder/ready.toml" && local ready=$pid
+    until_true grep -q '^ripngd: running' "$folder/ready.err" && is_taken "$port" || because "it does not come up"
+    local came=$?
+    end "$ready"
+    [ $came = 0 ] && same "standard error" "$(cat "$folder/ready.err")" "ripngd: interface 0 is its own peer
+ripngd: running, 1 interfaces"
+}
+
+# A log that is the configuration: by its name, by another name, and by a link.
+a_log_that_is_the_configuration_is_refused() {
+    alone self.toml
+    cp "$folder/self.toml" "$folder/self.kept"
+    ln -s self.toml "$folder/self.log"
+    local name
+    for name in "$folder/self.toml" "$folder/./self.toml" "$folder/self.log"; do
+        run run --turns 1 -R "$name" "$folder/self.toml"
+        same status "$status" 3 && same output "$(cat "$folder/out")" "" &&
+            same "standard error" "$(cat "$folder/err")" "ripngd: cannot write $name" || return
+    done
+    cmp -s "$folder/self.toml" "$folder/self.kept" || because "it was written"
 }
 
 a_refused_configuration_leaves_the_log() {
@@ -435,7 +509,7 @@ what_the_last_turn_tells_is_sent() {
     start hub run -R "$folder/hub.log" "$folder/hub.toml" && local hub=$pid
     until_true is_taken "$hub_port" || because "the hub did not come up" || return
     run run --turns 1 "$folder/leaf.toml"
-    same status "$status" 0 && same "standard error" "$(cat "$folder/err")" "" && told_all hub 1024 2
+    same status "$status" 0 && same "standard error" "$(said "$folder/err")" "" && told_all hub 1024 2
     local learned=$?
     end "$hub"
     return $learned
@@ -504,6 +578,11 @@ try a_daemon_goes_on_after_it_was_stopped
 try a_log_on_a_full_device_ends_alone
 try a_full_standard_output_is_told
 try a_port_in_use_is_named
+try a_second_start_leaves_the_logs
+try a_log_that_is_emptied_goes_on_at_its_end
+try a_log_that_is_the_configuration_is_refused
+try a_log_goes_to_standard_output
+try a_router_says_that_it_runs
 try a_refused_configuration_leaves_the_log
 try a_file_that_is_not_there_is_named
 try a_fault_of_the_command_line_is_told

@@ -79,6 +79,7 @@ judge() {
         *) echo "a refusal may come before those that were tried" ;;
     esac
     grep -qE "^$1 (refused|an entry skipped|one (step|datagram|arrival) lost)" "$folder/said" || echo "no growth of it was refused"
+    [ "$1" != engine.turns ] || grep -q "^$1 .*the engine has ended" "$folder/said" || echo "no engine has ended"
 }
 
 passed=0

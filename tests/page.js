@@ -4,10 +4,23 @@
 {
   const report = [];
   const all = (selector, within = document) => [...within.querySelectorAll(selector)];
+  const one = selector => document.querySelector(selector);
   const click = element => element.dispatchEvent(new MouseEvent('click', { bubbles: true }));
   const press = id => document.getElementById(id).click();
-  const textOf = selector => document.querySelector(selector)?.textContent.trim().replace(/\s+/g, ' ') ?? 'nothing';
-  const settled = () => new Promise(resolve => { setTimeout(resolve, 100); });
+  const textOf = selector => one(selector)?.textContent.trim().replace(/\s+/g, ' ') ?? 'nothing';
+  const after = pause => new Promise(resolve => { setTimeout(resolve, pause); });
+  const settled = () => after(400);
+  const key = (name, more = {}) => document.activeElement.dispatchEvent(new KeyboardEvent('keydown', { key: name, bubbles: true, cancelable: true, ...more }));
+  const buttonOf = text => all('#detail button, #acts button').find(button => button.textContent === text);
+  const set = (selector, value) => { one(selector).value = value; one(selector).dispatchEvent(new Event('input', { bubbles: true })); };
+  const lastLine = () => script.value.trimEnd().split('\n').at(-1);
+  const tell = (...facts) => report.push(facts.join(' | '));
+
+  async function type(text) {
+    script.focus();
+    set('#script', text);
+    await settled();
+  }
 
   // The rows of the tables, as `print` writes routes.
   const shownRoutes = () => all('#tables tbody tr:not(.gone)').map(row => {
@@ -18,19 +31,21 @@
   // Clicks each usable route that is no own one, and counts those whose walk sums up to the metric in the row.
   function countWalks() {
     const keys = all('#tables tbody tr:not(.gone, .dying)').filter(row => row.cells[3].title !== 'own').map(row => ({ ...row.dataset }));
-    return keys.filter(({ router, prefix }) => {
-      const row = document.querySelector(`#tables tr[data-router="${router}"][data-prefix="${prefix}"]`), metric = row.cells[1].textContent;
-      click(row);
-      const hops = all('#walk tbody tr'), costs = hops.map(hop => Number(hop.cells[2].textContent));
+    const sums = keys.filter(({ router, prefix }) => {
+      const rowOf = () => one(`#tables tr[data-router="${router}"][data-prefix="${prefix}"]`);
+      click(rowOf());
+      const hops = all('#walk tbody tr'), costs = hops.map(hop => Number(hop.cells[2].textContent)), metric = rowOf().cells[1].textContent;
       const isSum = costs.reduce((sum, cost) => sum + cost, 1) === Number(metric) && all('path.hop').length === hops.length;
       if (!isSum) report.push(`wrong R${router} ${prefix} ${metric}: ${textOf('#sum')}`);
       return isSum;
-    }).length;
+    });
+    if (keys.length > 0) click(one('#drawing svg'));
+    return sums.length;
   }
 
   // Steps a film to its end and back.
   function playFilm() {
-    const steps = all('#events li').length;
+    const steps = view.trace.steps.length;
     let walks = 0;
     for (let step = 1; step <= steps; step++) {
       if (!textOf('#where').startsWith(`step ${step} of ${steps},`)) report.push(`wrong ${textOf('#where')}`);
@@ -45,28 +60,199 @@
   // Every datagram as the page decodes it, and the sums behind a step, which the address names.
   const decodeAll = () => report.push(...view.trace.datagrams.flatMap(({ bytes }) => decode(bytes).split('\n')).map(line => `show ${line}`));
   const showAsked = () => report.push(textOf('#sum'), textOf('#walk tbody').replace(/line \d+/g, ''));
-
+  const showWhere = () => { press('step'); tell(textOf('#where'), one('.pressed') ? 'chosen' : 'nothing chosen'); };
   const showRefusals = () => report.push(...all('#events .bad').map(text => text.textContent));
 
   // Clicks a router and lets it tick, then writes a line that is refused.
   async function edit() {
-    click(document.querySelector('.router[data-router="0"]'));
-    click(all('[data-append]').find(button => button.textContent === 'tick'));
+    click(one('.router[data-router="0"]'));
+    click(buttonOf('tick'));
     await settled();
-    report.push(`appended ${script.value.trimEnd().split('\n').at(-1)}`, `last ${textOf('#events li:last-child')}`, textOf('#where'), `marks ${all('.pile').length > 0}`);
-    script.value += 'tick 9 400 0\n';
-    script.dispatchEvent(new Event('input'));
-    await settled();
+    report.push(`appended ${lastLine()}`, `last ${textOf('#events li:last-child')}`, textOf('#where'), `marks ${all('.pile').length > 0}`);
+    await type(`${script.value}tick 9 400 0\n`);
     report.push(`refused line ${textOf('#gutter .refused')}`, `last ${textOf('#events li:last-child')}`);
-    script.value += 'x';
-    script.dispatchEvent(new Event('input'));
-    await settled();
+    await type(`${script.value}x`);
     report.push(textOf('#editing'));
   }
 
+  // What is typed stays while the server is gone, whatever is stepped; and is run when it is there again.
+  async function keepDraft() {
+    const first = script.value;
+    SERVER.isGone = true;
+    await type(`${first}tick 0 400 0\n`);
+    tell(textOf('#editing'));
+    press('back');
+    press('last');
+    tell(lastLine(), textOf('#where'));
+    SERVER.isGone = false;
+    click(one('[data-act=again]'));
+    await settled();
+    press('last');
+    tell(textOf('#events li:last-child'), localStorage.getItem('ripngd draft').includes('tick 0 400 0'));
+    await type('x\n'.repeat(140000));
+    tell(textOf('#editing'), script.value.length);
+  }
+
+  // A click whose line is refused leaves no line; one with a blank field makes none; behind a refused line nothing is put.
+  async function refuseClicks() {
+    const asked = () => SERVER.asked.length;
+    click(one('.router[data-router="0"]'));
+    set('#detail [name=prefix]', 'ff00::/8');
+    click(buttonOf('own it'));
+    await settled();
+    tell(lastLine(), textOf('#editing'));
+    const before = asked();
+    set('#detail [name=now]', '');
+    click(buttonOf('tick'));
+    click(one('#drawing svg'));
+    click(one('.cost'));
+    set('#detail [name=cost]', '99');
+    click(buttonOf('set it'));
+    await settled();
+    tell(lastLine(), asked() - before);
+    set('#detail [name=now]', '400');
+    set('#detail [name=cost]', '7');
+    click(buttonOf('set it'));
+    await settled();
+    tell(lastLine(), textOf('#events li:last-child'));
+    await type(`${script.value}tick 9 400 0\n`);
+    click(buttonOf('round'));
+    await settled();
+    tell(lastLine(), textOf('#editing'));
+  }
+
+  // Typing, a click and another example are undone, one after another, and done again.
+  async function undoAll() {
+    const examples = one('#examples'), texts = [script.value];
+    await type(`${script.value}tick 0 400 0\n`);
+    texts.push(script.value);
+    await after(1100);
+    click(one('.router[data-router="0"]'));
+    click(buttonOf('tick'));
+    await settled();
+    texts.push(script.value);
+    tell(one('#name').value, examples.value === '' ? 'no example' : examples.value);
+    examples.value = 'line.lab';
+    examples.dispatchEvent(new Event('change'));
+    await settled();
+    tell(script.value === texts[0], one('#name').value);
+    script.focus();
+    for (const wanted of [texts[2], texts[1], texts[0]]) { key('z', { ctrlKey: true }); tell(script.value === wanted); }
+    await settled();
+    for (const wanted of [texts[1], texts[2]]) { key('y', { ctrlKey: true }); tell(script.value === wanted); }
+  }
+
+  // Without a mouse: what Tab reaches, the arrows, Enter and Escape; and where the focus is then.
+  async function useKeys() {
+    const stopsOf = pane => all('[tabindex="0"]', one(pane)).length, where = () => textOf('#where').split(' ')[1];
+    tell('#drawing #tables #events'.split(' ').map(stopsOf), one('[data-act=load]').tabIndex, one('#file').hidden);
+    one('#examples').focus();
+    const examples = one('#examples').value;
+    key('ArrowRight');
+    tell(where(), one('#examples').value === examples);
+    press('last');
+    one('#tables [tabindex="0"]').focus();
+    key('ArrowDown');
+    tell(document.activeElement.dataset.choose);
+    document.activeElement.click();
+    tell(document.activeElement.dataset.choose, textOf('#detail h2'));
+    key('Escape');
+    tell(textOf('#detail h2'), document.activeElement.dataset.choose);
+    one('#drawing [tabindex="0"]').focus();
+    key('Enter');
+    tell(textOf('#detail h2'), document.activeElement.getAttribute('aria-label'));
+    buttonOf('tick').focus();
+    document.activeElement.click();
+    await settled();
+    tell(document.activeElement.textContent, lastLine());
+    click(one('#drawing svg'));
+    tell(textOf('#detail h2'));
+    const nameless = all('button, input:not([hidden]), select, textarea').filter(element => !(element.getAttribute('aria-label') || element.textContent.trim() || element.labels?.length > 0));
+    tell('nameless', nameless.map(element => element.id || element.name).join() || 'none');
+  }
+
+  // The gutter stands beside its lines at the end; the last drawing stays, with what was dragged, and nothing is dragged away.
+  async function keepDrawing() {
+    press('last');
+    script.scrollTop = 1e6;
+    script.dispatchEvent(new Event('scroll'));
+    tell(one('#gutter').scrollTop === script.scrollTop, script.scrollTop > 0);
+    const drag = (kind, x, y) => (kind === 'pointerdown' ? one('.router') : window).dispatchEvent(new PointerEvent(kind, { clientX: x, clientY: y, bubbles: true }));
+    const at = () => ['cx', 'cy'].map(name => Number(one('.router circle').getAttribute(name)));
+    drag('pointerdown', 50, 50);
+    drag('pointermove', -5000, -5000);
+    drag('pointerup', -5000, -5000);
+    await settled();
+    const place = at();
+    tell(place.every(pixels => pixels > 0));
+    const good = script.value;
+    await type(good.replace('cold', 'xcold'));
+    tell(all('#drawing .router').length, document.body.className, textOf('#editing'));
+    await type(good);
+    tell(at().join() === place.join(), document.body.className, textOf('#editing'));
+    click(buttonOf('tidy'));
+    tell(at().join() === place.join());
+  }
+
+  // A file of another system has its lines and its name, and can be loaded again; twelve keys are one run, and the next calls off one.
+  async function loadFiles() {
+    const files = new DataTransfer(), good = script.value;
+    const file = new File([good.replace(/\n/g, '\r\n')], 'mine.lab');
+    files.items.add(file);
+    one('#file').files = files.files;
+    one('#file').dispatchEvent(new Event('change'));
+    for (let times = 0; times < 3; times++) await file.text();
+    await settled();
+    tell(script.value === good, one('#name').value, one('#file').value === '', textOf('#where'), textOf('#editing'));
+    const before = SERVER.asked.length;
+    SERVER.delay = 1000;
+    for (let count = 0; count < 12; count++) set('#script', `${good}${'#'.repeat(count)}`);
+    await settled();
+    tell(SERVER.asked.length - before, textOf('#editing'));
+    await after(200);
+    tell(textOf('#editing'));
+    set('#script', good);
+    await settled();
+    tell(SERVER.asked.length - before, SERVER.calledOff);
+    await after(2000);
+    tell(textOf('#editing'));
+  }
+
+  // Rounds by a click, a lost datagram, a branch, a moment that stays as it was typed, and a datagram before it is sent.
+  async function useActs() {
+    click(buttonOf('round'));
+    await settled();
+    tell(lastLine(), textOf('#where'));
+    key('z', { ctrlKey: true });
+    await settled();
+    click(all('#events button').find(button => button.textContent.includes('hears 10')));
+    click(buttonOf('lose this datagram'));
+    await settled();
+    tell(script.value.split('\n').find(line => line.includes('is lost')), all('.pile.lost').length > 0);
+    key('z', { ctrlKey: true });
+    await settled();
+    set('#place', 'branch');
+    one('#place').dispatchEvent(new Event('change'));
+    click(all('#events button').find(button => button.textContent.includes('hears 4')));
+    click(one('.router[data-router="1"]'));
+    click(buttonOf('tick'));
+    await settled();
+    tell(lastLine(), textOf('#events li:last-child'));
+    set('#detail [name=now]', '123');
+    press('back');
+    tell(one('#detail [name=now]').value);
+    press('last');
+    click(one('.pile.fresh'));
+    press('first');
+    tell(textOf('#detail').includes('That is later than this step.'));
+    tell(await unpacked(await packed(script.value)) === script.value);
+  }
+
   const script = document.getElementById('script');
-  const plays = { film: playFilm, decode: decodeAll, asked: showAsked, refusals: showRefusals, edit };
+  const plays = { film: playFilm, decode: decodeAll, asked: showAsked, where: showWhere, refusals: showRefusals, edit, keepDraft, refuseClicks, undoAll, useKeys,
+    keepDrawing, loadFiles, useActs };
   const write = () => { document.body.innerHTML = '<pre id="report"></pre>'; document.getElementById('report').textContent = `${report.join('\n')}\n`; };
   window.onerror = message => { report.push(`wrong ${message}`); };
+  window.onunhandledrejection = ({ reason }) => { report.push(`wrong ${reason}`); };
   settled().then(() => plays[PLAY]()).catch(error => { report.push(`wrong ${error.stack}`); }).then(write);
 }

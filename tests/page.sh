@@ -6,8 +6,8 @@
 #
 # Tries PROGRAM, bin/ripngd if none is named, with the scripts, examples/*.lab if none is named. A line for each case, `ok NAME`
 # or `FAILED NAME: why`, and last `N passed, M failed`. The exit status is 0 exactly where M is 0. Needs bash, sed, awk and curl,
-# and for the films Chromium (a package of the system). Where one of them is missing a line `skipped: ..` says what was not tried.
-# Takes about a minute.
+# for the page Chromium (a package of the system), and node for its modules alone. Where one of them is missing a line `skipped: ..`
+# says what was not tried. Takes some minutes.
 set -u
 
 root=$(realpath "$(dirname "$0")/..")
@@ -19,6 +19,12 @@ trap 'rm -rf "$folder"; [ -z "$server" ] || kill "$server" 2> /dev/null' EXIT
 passed=0
 failed=0
 why=
+
+# The fields by which an answer is kept from other pages and from caches.
+guards="cache-control: no-store
+content-security-policy: frame-ancestors 'none'
+cross-origin-resource-policy: same-origin
+x-content-type-options: nosniff"
 
 browser=$(command -v chromium || command -v chromium-browser || command -v google-chrome)
 
@@ -33,11 +39,13 @@ same() {
 }
 
 # `play NAME PAGE [FRAGMENT]`: opens a page, lets tests/page.js play NAME in it, and leaves what it reports in `$folder/report`.
-# What stands in `$folder/answers` is put before the page's script, to stand for a server.
+# What stands in `$folder/answers` is put before the page's script, to stand for a server. The page's policy lets no other script
+# run, so it is left out here.
 play() {
     touch "$folder/answers"
     awk -v play="$1" -v answers="$folder/answers" -v driver="$root/tests/page.js" '
         function put(file,    line) { while ((getline line < file) > 0) print line }
+        /^<meta http-equiv="Content-Security-Policy"/ { next }
         /^<script>$/ { put(answers) }
         /^<\/body>$/ { print "<script>const PLAY = \"" play "\";"; put(driver); print "</script>" }
         { print }
@@ -146,34 +154,164 @@ answer() {
     film "$1" | awk '/^<div id="scripts"/ { on = 1; print "<section hidden>"; next } /^<script>$/ { exit } on { sub(/ id="trace"/, ""); print } END { print "</section>" }'
 }
 
-# A page that a server gives: a click appends an event, and a line that is refused is marked.
-a_click_appends_an_event() {
+# `answer SCRIPT`: a script and its trace, as a server would answer it.
+answer() {
+    film "$1" | awk '/^<div id="scripts"/ { on = 1; print "<section hidden>"; next } /^<script>$/ { exit } on { sub(/ id="trace"/, ""); print } END { print "</section>" }'
+}
+
+# `edited NAME SED-SCRIPT`: line.lab as it is changed, as a file.
+edited() {
+    sed -e "$2" "$root/examples/line.lab" > "$folder/$1.lab"
+}
+
+# `served PLAY FILE..`: the page as a server gives it, with line.lab, is played; the server answers the scripts of these files, in
+# the folder, with their traces.
+served() {
+    local played=$1 name
+    shift
     cp "$root/examples/line.lab" "$folder/line.lab"
-    { cat "$folder/line.lab" && echo 'tick 0 400 0'; } > "$folder/ticked.lab"
-    { cat "$folder/ticked.lab" && echo 'tick 9 400 0'; } > "$folder/refused.lab"
     {
-        answer "$folder/line.lab" && answer "$folder/ticked.lab" && answer "$folder/refused.lab"
-        cat << 'END'
-<script>
-const ANSWERS = new Map([...document.querySelectorAll('section')].map(section => [...section.querySelectorAll('div[data-name], div[hidden]')].map(part => part.textContent)));
-window.fetch = async (_, { body }) => ANSWERS.has(body) ? new Response(ANSWERS.get(body).trim()) : new Response('no such script', { status: 404 });
-</script>
-END
+        for name in line "$@"; do answer "$folder/$name.lab"; done
+        echo '<script>'
+        cat "$root/tests/page_double.js"
+        echo '</script>'
     } > "$folder/answers"
-    film "$folder/line.lab" | awk '/^<div id="trace"/ { print; off = 1; next } off && /^<\/div>$/ { off = 0 } !off' > "$folder/served.html" && play edit "$folder/served.html"
-    local played=$?
+    film "$folder/line.lab" | awk '/^<div id="trace"/ { print; off = 1; next } off && /^<\/div>$/ { off = 0 } !off' > "$folder/served.html" &&
+        play "$played" "$folder/served.html"
+    local status=$?
     rm "$folder/answers"
-    [ "$played" = 0 ] || return
+    return "$status"
+}
+
+# A click appends an event, and a line that is refused is marked.
+a_click_appends_an_event() {
+    edited ticked '$a tick 0 400 0'
+    edited refused '$a tick 0 400 0\ntick 9 400 0'
+    served edit ticked refused || return
     local line steps
     line=$(wc -l < "$folder/ticked.lab")
     steps=$("$program" lab --trace "$folder/ticked.lab" | wc -l)
     same "the report" "$(cat "$folder/report")" "appended tick 0 400 0
-last ${line} R0 ticks
+last ${line}R0 ticks
 step $steps of $steps, at 0.400 s
 marks true
 refused line $((line + 1))
-last $((line + 1)) refused 1 NoSuchRouter: there is no such router
-not run: no such script"
+last $((line + 1))refused 1 NoSuchRouter: there is no such router
+not run: no such script again"
+}
+
+# What was typed outlives a server that is gone, steps and a script that is too long.
+a_draft_is_kept() {
+    edited ticked '$a tick 0 400 0'
+    served keepDraft ticked || return
+    local line steps
+    line=$(wc -l < "$folder/ticked.lab")
+    steps=$("$program" lab --trace "$folder/line.lab" | wc -l)
+    same "the report" "$(cat "$folder/report")" "not run: Failed to fetch again
+tick 0 400 0 | step $steps of $steps, at 0.400 s
+${line}R0 ticks | true
+not run: the script has 280000 bytes, and at most 262144 are taken again | 280000"
+}
+
+# Nothing stays of a click whose line is refused, and nothing is put behind a line that is.
+a_refused_click_leaves_no_line() {
+    edited gained '$a gain 0 400 ff00::/8 0'
+    edited cost '$a cost 0 0 400 7'
+    edited refused '$a cost 0 0 400 7\ntick 9 400 0'
+    served refuseClicks gained cost refused || return
+    local line
+    line=$(wc -l < "$folder/line.lab")
+    same "the report" "$(cat "$folder/report")" "print | not put in: refused 7 ReconfigureRefused 32 PrefixNotAllowed: the prefix is multicast or link-local
+print | 0
+cost 0 0 400 7 | $((line + 1))R0 has cost 7 at interface 0
+tick 9 400 0 | Line $((line + 2)) is refused, so no line behind it is reached: mend it first, or undo."
+}
+
+typing_clicks_and_examples_are_undone() {
+    edited ticked '$a tick 0 400 0'
+    edited twice '$a tick 0 400 0\ntick 0 400 0'
+    served undoAll ticked twice || return
+    same "the report" "$(cat "$folder/report")" "own-line.lab | no example
+true | line.lab
+true
+true
+true
+true
+true"
+}
+
+# One thing of each pane is reached by Tab, the next by an arrow; the focus stays; a left or right arrow steps and nothing else.
+all_is_done_by_keys() {
+    edited ticked '$a tick 0 400 0'
+    served useKeys ticked || return
+    same "the report" "$(cat "$folder/report")" "1,1,1 | 0 | true
+2 | true
+route 1 2001:db8::/32
+route 1 2001:db8::/32 | Why has R1 metric 5 for 2001:db8::/32?
+nothing | route 1 2001:db8::/32
+R0 | R0, owns 2001:db8::/32 with tag 9, metric 1 for 2001:db8::/32
+tick | tick 0 400 0
+nothing
+nameless | none"
+}
+
+a_drawing_stays() {
+    edited other 's/^cold/xcold/'
+    served keepDrawing other || return
+    local line
+    line=$(grep -n '^cold' "$folder/line.lab" | sed 's/:.*//')
+    same "the report" "$(cat "$folder/report")" "true | true
+true
+3 | stale | line $line, refused BadLine: the line is malformed or out of place; no line begins so
+true |  | 
+false"
+}
+
+files_are_loaded_and_runs_called_off() {
+    edited marked '$a ###########'
+    printf %s "$(cat "$folder/marked.lab")" > "$folder/bare.lab"
+    served loadFiles bare || return
+    local steps
+    steps=$("$program" lab --trace "$folder/line.lab" | wc -l)
+    same "the report" "$(cat "$folder/report")" "true | mine.lab | true | step 1 of $steps, at 0.000 s | 
+1 | 
+running ..
+2 | 1"
+}
+
+# The next round is when all regular updates are due: the latest of them.
+a_teacher_acts() {
+    local due
+    due=$("$program" lab --trace "$root/examples/line.lab" | grep -o '"regular":[0-9]*' | sed 's/.*://' | sort -n | tail -n 1)
+    edited round "\$a round $due"
+    edited lost 's/^deliver 10 .*/# Datagram 10 to R1 is lost./'
+    edited branch '/^deliver 4 1 0 0/a tick 1 0 0'
+    sed -i '/^tick 1 0 0/q' "$folder/branch.lab"
+    served useActs round lost branch || return
+    local steps
+    steps=$("$program" lab --trace "$folder/round.lab" | wc -l)
+    same "the report" "$(cat "$folder/report" | sed 's/, at .*//')" "round $due | step $steps of $steps
+# Datagram 10 to R1 is lost. | true
+tick 1 0 0 | $(wc -l < "$folder/branch.lab")R1 ticks, 2 sent
+123
+true
+true"
+}
+
+# An address that names nothing does nothing; one with half a step neither.
+an_address_may_name_nothing() {
+    film "$root/examples/line.lab" > "$folder/film.html" || return
+    local address steps
+    steps=$("$program" lab --trace "$root/examples/line.lab" | wc -l)
+    for address in 'step=2.5&router=length&prefix=x' 'step=-1&router=0x1&prefix=2001:db8::/32' 'router=__proto__&prefix=::/0'; do
+        play where "$folder/film.html" "$address" || return
+        same "where $address leads" "$(cat "$folder/report")" "step 2 of $steps, at 0.000 s | nothing chosen" || return
+    done
+}
+
+# The modules without a browser, on random scripts.
+modules_agree_with_the_program() {
+    node "$root/tests/page.mjs" "$program" > "$folder/modules" || because "$(grep FAILED "$folder/modules" | head -n 3)"
 }
 
 # `serve N`: the server, which ends after N requests, with its address in `$address`.
@@ -204,7 +342,7 @@ status() {
 
 # The page, a trace and a datagram, as the program prints them; other hosts, other pages and other paths are refused.
 a_server_answers() {
-    serve 7 || return
+    serve 8 || return
     local script=$root/examples/line.lab
     same "the page's status" "$(status "$address")" 200 || return
     grep -q '<div data-name="line.lab">' "$folder/body" || because "the page has no examples" || return
@@ -212,6 +350,7 @@ a_server_answers() {
     same "the trace" "$(cat "$folder/body")" "$("$program" lab --trace "$script")" || return
     same "the status of a datagram" "$(status --data-binary 02010000 "${address}show")" 200 || return
     same "the datagram" "$(cat "$folder/body")" "$("$program" show 02010000)" || return
+    same "what keeps it from other pages" "$(curl --silent --max-time 10 --output /dev/null --dump-header - "$address" | tr -d '\r' | grep -F "$guards" | sort)" "$guards" || return
     same "another host" "$(status --header 'Host: example.com' "$address")" 403 || return
     same "another page" "$(status --header 'Origin: http://example.com' --data 02 "${address}show")" 403 || return
     same "another path" "$(status "${address}etc/passwd")" 404 || return
@@ -224,20 +363,30 @@ a_long_body_is_refused() {
     serve 2 || return
     head -c 262145 /dev/zero > "$folder/long"
     same "the status" "$(status --header 'Expect:' --data-binary "@$folder/long" "${address}trace")" 413 || return
+    same "the text" "$(cat "$folder/body")" "a script, or the digits of a datagram, have at most 262144 bytes here" || return
     same "the status of the next" "$(status "$address")" 200 || return
     ended
 }
 
-# Another request is answered behind a connection that says nothing, and behind one that stops within its request.
+# Another request is answered within a second beside twenty connections that say nothing and one that stops within its request, which
+# is told so when its time is up.
 silence_stops_nothing() {
-    serve 1 || return
-    local port=${address##*:}
-    exec 3<> "/dev/tcp/127.0.0.1/${port%/}" 4<> "/dev/tcp/127.0.0.1/${port%/}"
+    serve 2 || return
+    local port=${address##*:} number socket sockets=()
+    for number in $(seq 20); do
+        exec {socket}<> "/dev/tcp/127.0.0.1/${port%/}"
+        sockets+=("$socket")
+    done
+    exec 4<> "/dev/tcp/127.0.0.1/${port%/}"
     printf 'POST /trace HTTP/1.1\r\nHost: localhost\r\nContent-Length: 10\r\n\r\nrou' >&4
-    same "the status" "$(status "$address")" 200
-    local asked=$?
-    exec 3>&- 4>&-
-    [ "$asked" = 0 ] && ended
+    same "the status" "$(status --max-time 1 "$address")" 200 &&
+        same "what is told to who stops" "$(timeout 10 cat <&4 | sed -n '1p;$p' | tr -d '\r')" "HTTP/1.1 408 Request Timeout
+a request has 2 seconds to come in, whole"
+    local told=$?
+    for socket in "${sockets[@]}" 4; do
+        exec {socket}>&-
+    done
+    [ "$told" = 0 ] && ended
 }
 
 # The page that the server gives asks it to run the first of its scripts.
@@ -278,6 +427,19 @@ else
     try rounds_reach_the_least_cost
     try a_network_of_changes
     try a_click_appends_an_event
+    try a_draft_is_kept
+    try a_refused_click_leaves_no_line
+    try typing_clicks_and_examples_are_undone
+    try all_is_done_by_keys
+    try a_drawing_stays
+    try files_are_loaded_and_runs_called_off
+    try a_teacher_acts
+    try an_address_may_name_nothing
+fi
+if command -v node > /dev/null; then
+    try modules_agree_with_the_program
+else
+    echo "skipped: there is no node, so no module is run on random scripts"
 fi
 if command -v curl > /dev/null; then
     try a_server_answers

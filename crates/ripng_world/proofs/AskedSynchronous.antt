@@ -1,25 +1,29 @@
 -- Rounds that are made as they were asked for are synchronous rounds, and change no configuration.
-use Rattle.std.proofs.Common.{◌≡◌, ◌≢◌, ◌⊎◌, inl, inr, ℕ, suc, ◌+◌, ◌<◌, ◌≤◌, ◌==◌, ◌%◌, Bool, true, false, not, ◌&&◌, ◌||◌, ◌-◌, List, [], ◌∷◌, ◌++◌, All, Contains, map, take, drop, filter, length, Option, Some, None, slice_get, option_map, refl, sym, subst, ◌∙◌, ap, ap₂, arith, le_trans, Result, Ok, Err, OnErr, OnOk}
+use Rattle.std.proofs.Common.{◌≡◌, ◌≢◌, ◌⊎◌, inl, inr, ℕ, suc, ◌+◌, ◌<◌, ◌≤◌, ◌==◌, ◌%◌, Bool, true, false, not, ◌&&◌, ◌||◌, ◌-◌, List, [], ◌∷◌, ◌++◌, All, Contains, map, take, drop, filter, length, Option, Some, None, slice_get, option_map, refl, sym, subst, ◌∙◌, ap, ap₂, arith, le_trans, Result, Ok, Err, IfErr, OnOk}
 use Rattle.std.specs.List.{IsDistinct, enumerate_from, range_with_len, cons_option}
 use Rattle.std.specs.Prelude.{nat_eq}
 use Rattle.std.proofs.lemmas.Bool.{false≢true}
 use Rattle.std.proofs.lemmas.Bool.Decides.{nat_tests}
 use Rattle.std.proofs.lemmas.List.{append-nil}
+use Rattle.router_core.specs.declared.answer.Answer.{Answer}
 use Rattle.router_core.specs.declared.reconfiguring.Change.{Change}
 use Rattle.route_table.proofs.TableLaws.{Some-same, None-Some}
 use Rattle.ripng_world.specs.Asked.{Asked}
-use Rattle.ripng_world.specs.AskedRounds.{AreAllMade, AreMade, Converges, HaveStopped, StopsFor, delivery, deliveries_of, is_other, is_picked, other_deliveries, pair_at, pairs_since, picked_deliveries, interfaces_of, round_of, ticks_of}
+use Rattle.ripng_world.specs.AskedRounds.{AreAllMade, AreMade, Converges, delivery, deliveries_of, is_other, is_picked, other_deliveries, pair_at, pairs_since, picked_deliveries, interfaces_of, round_of, ticks_of}
 use Rattle.ripng_world.specs.Convergence.{IsNeverQuiet, FitsTables, AreConverged}
-use Rattle.ripng_world.specs.Delivering.{HappenInPart}
+use Rattle.ripng_world.specs.Delivering.{HappensAt, StopAt, StopForMemory, StopForWatcher}
 use Rattle.ripng_world.specs.Labs.{is_one_link, link_at}
 use Rattle.ripng_world.specs.Network.{Network, IsNetwork, Node, AreLinked, interface_at}
-use Rattle.ripng_world.specs.Rounds.{Round, AllTick, AllHeard, SynchronousRounds, IsSynchronousRound, IsDeliveryOf, AreClose, router_of}
+use Rattle.ripng_world.specs.Rounds.{Round, AllTick, AllHeard, SynchronousRounds, IsSynchronousRound, IsDeliveryOf, AreWithinTimeout, router_of}
+use Rattle.ripng_world.specs.Stopping.{HaveFailed, HaveStopped, StopsFor, StopsForWatcher}
 use Rattle.ripng_world.specs.World.{World, Event, Deliver, Tick, WorldRun, IsCold, change_in, changes_in}
 use Rattle.ripng_world.specs.declared.network.NetInterface.{NetInterface}
 use Rattle.ripng_world.specs.declared.pairs.Pair.{Pair}
 use Rattle.ripng_world.specs.declared.rounds.RoundsRefused.{RoundsRefused}
 use Rattle.ripng_world.specs.declared.rounds.RoundsRefused.TheVariants.{NoRegularUpdate, OutOfMemory}
 use Rattle.ripng_world.specs.declared.sent.Sent.{Sent}
+use Rattle.ripng_world.specs.declared.watch.Stopped.{Stopped}
+use Rattle.ripng_world.specs.declared.watch.Stopped.TheVariants.{Refused, Failed}
 use Rattle.ripng_world.proofs.Among.{contains_at, all_at, in_map, in_filter, to_filter, in_flat, in_filter_map, to_filter_map, at_take, get_drop, get_within, in_enumerated, to_enumerated, to_below, to_numbered, range_distinct}
 use Rattle.ripng_world.proofs.Members.{At, at_map, at_left, at_right, at_flat, at_from_contains, split_at}
 use Rattle.ripng_world.proofs.Converging.{converges}
@@ -257,19 +261,47 @@ made_still net (a ∷ asks) (r ∷ rs) w w' made =
     ∙ ticked_still net a.ticks w made.0 (subst (λ (q : Round). AllTick net w q.ticks made.0) made.2 made.3)
 made_still net _ _ w w' made = absurd made
 
+-- where events stop that change no configuration
+module _ (net : Network) (es : List Event) (each : (e : Event) → At es e → change_in e ≡ None) where
+  heard_still : (n : ℕ) (w w' : World) → AllHeard net w (take n es) w' → w'.changes ≡ w.changes
+  heard_still n w w' heard = ran_still net (take n es) w w' (λ e a. each e (at_take n es e a)) (heard_run net (take n es) w w' heard)
+
+  next_still : (n : ℕ) (answer : Answer) (w w' : World) → HappensAt net w es n answer w' → w'.changes ≡ w.changes
+  next_still n answer w w' next =
+      done_from net (next.event ∷ []) w w' (w', answer, next.happens, refl)
+      ∙ ap (λ (c : Option (ℕ × Change)). w.changes ++ cons_option c []) (each next.event (n, next.event_is))
+      ∙ append-nil w.changes
+
+  memory_still : (w w' : World) → StopForMemory net w es w' → w'.changes ≡ w.changes
+  memory_still w w' s =
+      elim s.last [
+        | inl same ↦ ap (λ (v : World). v.changes) same ∙ heard_still s.done w s.before s.heard
+        | inr next ↦ next_still s.done next.0 s.before w' next.1 ∙ heard_still s.done w s.before s.heard
+      ]
+
+  watcher_still : (w w' : World) → StopForWatcher net w es w' → w'.changes ≡ w.changes
+  watcher_still w w' s = next_still s.done s.answer s.before w' s.last ∙ heard_still s.done w s.before s.heard
+
 stops_still : (net : Network) (a : Asked) (why : RoundsRefused) (w w' : World) → StopsFor net w a why w' → w'.changes ≡ w.changes
 stops_still net a (NoRegularUpdate round router) w w' stops = some_ticked_still net router a.ticks w w' stops.before
 stops_still net a (OutOfMemory round) w w' stops =
     elim stops [
-      | inl t ↦ some_ticked_still net t.0 a.ticks w w' t.1
-      | inr d ↦
-          let es = (round_of net a w d.0).deliveries in
-          ran_still net (take d.2 es) d.0 w' (λ e b. delivery_still (pairs_since net (length w.sent) d.0.sent) a.picks a.rest e (at_take d.2 es e b)) d.3
-          ∙ ticked_still net a.ticks w d.0 d.1
+      | inl t ↦ some_ticked_still net t.done a.ticks w w' t.before
+      | inr d ↦ memory_still net (round_of net a w d.0).deliveries (delivery_still (pairs_since net (length w.sent) d.0.sent) a.picks a.rest) d.0 w' d.2 ∙ ticked_still net a.ticks w d.0 d.1
+    ]
+
+fails_still : (net : Network) (a : Asked) (w w' : World) → StopsForWatcher net w a w' → w'.changes ≡ w.changes
+fails_still net a w w' stops =
+    elim stops [
+      | inl t ↦ some_ticked_still net (t.before + 1) a.ticks w w' t.done
+      | inr d ↦ watcher_still net (round_of net a w d.0).deliveries (delivery_still (pairs_since net (length w.sent) d.0.sent) a.picks a.rest) d.0 w' d.2 ∙ ticked_still net a.ticks w d.0 d.1
     ]
 
 pub stopped_still : (net : Network) (asks : List Asked) (why : RoundsRefused) (w w' : World) → HaveStopped net w asks why w' → w'.changes ≡ w.changes
 stopped_still net asks why w w' s = stops_still net s.stopped why s.begin w' s.stops ∙ made_still net _ s.rounds w s.begin s.made
+
+pub failed_still : (net : Network) (asks : List Asked) (w w' : World) → HaveFailed net w asks w' → w'.changes ≡ w.changes
+failed_still net asks w w' s = fails_still net s.1.stopped s.1.begin w' s.1.stops ∙ made_still net _ s.1.rounds w s.1.begin s.1.made
 
 -- ---- all that was asked for
 
@@ -301,7 +333,7 @@ converging net asks w w' is_net all =
           });
     }
   where
-    exact : (moments : List ℕ) (rounds : List Round) → IsCold net moments w → IsNeverQuiet net → FitsTables net → AreMade net w asks rounds w' → AreClose rounds → AreConverged net (length asks) w'
+    exact : (moments : List ℕ) (rounds : List Round) → IsCold net moments w → IsNeverQuiet net → FitsTables net → AreMade net w asks rounds w' → AreWithinTimeout rounds → AreConverged net (length asks) w'
     exact moments rounds is noisy fits made close =
         subst (λ k. AreConverged net k w') (as_many net asks rounds w w' made)
         (converges net is_net.usable is_net.owns_prefixes noisy is_net.distinct fits moments rounds w w' is (made_synchronous net asks rounds w w' all made) close)
@@ -315,13 +347,15 @@ to_ok (Ok x) Q h = h
 to_ok (Err e) Q h = tt
 
 -- deliveries change no configuration, all or in part
-pub since_still : {X E : Type 0} (net : Network) (pairs : List Pair) (now : ℕ) (w w' : World) (r : Result X E) → OnOk r (WorldRun net w (map (λ p. delivery p now) pairs) w')
-    → OnErr r (HappenInPart net w (map (λ p. delivery p now) pairs) w') → w'.changes ≡ w.changes
-since_still net pairs now w w' (Ok x) run stops =
-    ran_still net (map (λ p. delivery p now) pairs) w w' (λ e a. let m = in_map (λ (p : Pair). delivery p now) pairs e a in ap change_in (sym m.2)) run
-since_still net pairs now w w' (Err why) run stops =
-    ran_still net stops.done w w'
-    (λ e a.
-    let m = in_map (λ (p : Pair). delivery p now) pairs e (subst (λ (es : List Event). At es e) (sym stops.events_are) (at_left stops.done stops.left e a)) in
-    ap change_in (sym m.2))
-    stops.run
+pub since_still : {X R F : Type 0} (net : Network) (pairs : List Pair) (now : ℕ) (w w' : World) (r : Result X (Stopped R F)) → OnOk r (WorldRun net w (map (λ p. delivery p now) pairs) w')
+    → IfErr r (λ why. StopAt net w (map (λ p. delivery p now) pairs) why w') → w'.changes ≡ w.changes
+since_still net pairs now w w' r run stops = by_end r run stops
+  where
+    each : (e : Event) → At (map (λ p. delivery p now) pairs) e → change_in e ≡ None
+    each e a = let m = in_map (λ (p : Pair). delivery p now) pairs e a in ap change_in (sym m.2)
+
+    by_end : {X R F : Type 0} (r : Result X (Stopped R F)) → OnOk r (WorldRun net w (map (λ p. delivery p now) pairs) w') → IfErr r (λ why. StopAt net w (map (λ p. delivery p now) pairs) why w')
+        → w'.changes ≡ w.changes
+    by_end (Ok x) run stops = ran_still net (map (λ p. delivery p now) pairs) w w' each run
+    by_end (Err (Refused why)) run stops = memory_still net (map (λ p. delivery p now) pairs) each w w' stops
+    by_end (Err (Failed fault)) run stops = watcher_still net (map (λ p. delivery p now) pairs) each w w' stops

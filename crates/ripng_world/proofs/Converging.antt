@@ -10,7 +10,7 @@ use Rattle.router_core.specs.Machine.{State, started, owned_table}
 use Rattle.ripng_world.specs.Network.{Network, Node, config_of, Owns, OwnsPrefixes, HasDistinctAddresses}
 use Rattle.ripng_world.specs.Walks.{Hop, Reaches}
 use Rattle.ripng_world.specs.World.{World, IsCold}
-use Rattle.ripng_world.specs.Rounds.{Round, SynchronousRounds, AreCloseAfter, AreClose, IsMomentOf}
+use Rattle.ripng_world.specs.Rounds.{Round, SynchronousRounds, AreWithinTimeoutAfter, AreWithinTimeout, IsMomentOf}
 use Rattle.ripng_world.specs.Network.{IsUsable}
 use Rattle.ripng_world.specs.Convergence.{IsNeverQuiet, FitsTables, AreConverged}
 use Rattle.ripng_world.proofs.Each.{each_mapped, each_from_places}
@@ -55,7 +55,7 @@ converged net k moments w settled router s is =
         by_size (inr large) = above r.metric metric low large
 
 module _ (net : Network) (usable : IsUsable net) (owns : OwnsPrefixes net) (noisy : IsNeverQuiet net) (distinct : HasDistinctAddresses net) (fits : FitsTables net) where
-  rounds_settle : (rounds : List Round) (k : ℕ) (previous : ℕ → ℕ → Type 0) (w w' : World) → IsSettled net k previous w → AreCloseAfter previous rounds → SynchronousRounds net w rounds w' → AreConverged net (k + length rounds) w'
+  rounds_settle : (rounds : List Round) (k : ℕ) (previous : ℕ → ℕ → Type 0) (w w' : World) → IsSettled net k previous w → AreWithinTimeoutAfter previous rounds → SynchronousRounds net w rounds w' → AreConverged net (k + length rounds) w'
   rounds_settle [] k previous w w' settled close is = subst (λ n. AreConverged net n w') (sym (add-zero k)) (subst (AreConverged net k) (sym is) (converged net k previous w settled))
   rounds_settle (round ∷ rounds) k previous w w' settled close run =
       subst (λ n. AreConverged net n w') (shifted k (length rounds))
@@ -121,7 +121,7 @@ module _ (net : Network) (usable : IsUsable net) (owns : OwnsPrefixes net) (nois
           low : (a m : ℕ) → a ≡ 1 → 1 ≡ m → a ≤ m
           low a m e f = omega arith
 
-  pub converges : (moments : List ℕ) (rounds : List Round) (cold w : World) → IsCold net moments cold → SynchronousRounds net cold rounds w → AreClose rounds → AreConverged net (length rounds) w
+  pub converges : (moments : List ℕ) (rounds : List Round) (cold w : World) → IsCold net moments cold → SynchronousRounds net cold rounds w → AreWithinTimeout rounds → AreConverged net (length rounds) w
   converges moments rounds cold w is run close =
       subst (λ n. AreConverged net n w) (zero_first (length rounds)) (rounds_settle rounds 0 (λ _ _. ⊥) cold w (cold_settled moments cold is) close run)
     where

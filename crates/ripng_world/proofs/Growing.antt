@@ -1,4 +1,5 @@
 -- What was in force stays so, and with no change it is what the network started with.
+use Rattle.std.specs.List.{AllByRecursion}
 use Rattle.std.proofs.Common.{◌≡◌, inl, inr, ℕ, ◌+◌, List, [], ◌∷◌, ◌++◌, slice_get, refl, ap, ap₂, sym, subst, ◌∙◌}
 use Rattle.prefix6.specs.Prefix.{Prefix6, cleared}
 use Rattle.ripng_wire.specs.declared.rte.Rte.{Rte}
@@ -8,11 +9,31 @@ use Rattle.route_table.proofs.TableLaws.{None-Some}
 use Rattle.router_core.specs.declared.reconfiguring.Change.{Change}
 use Rattle.router_core.specs.declared.reconfiguring.Change.TheVariants.{Cost, Own}
 use Rattle.ripng_world.specs.Network.{Network, Owns}
-use Rattle.ripng_world.specs.Walks.{Hop, IsBacked, Reaches, cost, end_of, cost_of_interface}
+use Rattle.ripng_world.specs.Walks.{Hop, IsBacked, IsBackedBy, IsEntryBackedBy, Reaches, cost, end_of, cost_of_interface}
 use Rattle.ripng_world.specs.Past.{Past, WasDone, HasCostSince, OwnsSince, CostsSince, ReachesSince, IsBackedSince}
-use Rattle.ripng_world.specs.TruthSince.{IsSoundSince, IsSoundTableSince, IsSoundEntrySince, IsSoundDatagramSince}
+use Rattle.ripng_world.specs.Truth.{IsSoundDatagramBy, IsSoundEntryBy, IsSoundTableBy}
+use Rattle.ripng_world.specs.TruthSince.{IsSoundTableSince, IsSoundDatagramSince}
 use Rattle.ripng_world.proofs.Each.{each_weaker}
 use Rattle.ripng_world.proofs.Members.{get_left}
+
+-- ---- what is backed by some walks is backed by others, if those are among them
+
+module _ (net : Network) (reach reach' : Prefix6 → ℕ → ℕ → List Hop → Type 0) (more : (p : Prefix6) (metric tag : ℕ) (walk : List Hop) → reach p metric tag walk → reach' p metric tag walk) where
+  pub backed_by : (p : Prefix6) (r : RouteValue) → IsBackedBy (reach p) net r → IsBackedBy (reach' p) net r
+  backed_by p r b = (b.0, more p r.metric r.tag b.0 b.1, b.2)
+
+  pub table_by : (table : Table) → IsSoundTableBy (λ p r. IsBackedBy (reach p) net r) table → IsSoundTableBy (λ p r. IsBackedBy (reach' p) net r) table
+  table_by table sound p r is =
+      let s = sound p r is in
+      record { is_prefix = s.is_prefix; in_range = s.in_range; backed = λ low. backed_by p r (s.backed low) }
+
+  pub entries_by : (entries : List Rte) → AllByRecursion (IsSoundEntryBy (IsEntryBackedBy reach)) entries → AllByRecursion (IsSoundEntryBy (IsEntryBackedBy reach')) entries
+  entries_by entries all =
+      each_weaker (IsSoundEntryBy (IsEntryBackedBy reach')) (IsSoundEntryBy (IsEntryBackedBy reach))
+      (λ e t. record { in_range = t.in_range; backed = λ low. let b = t.backed low in (b.0, more (cleared e.addr e.len) e.metric e.tag b.0 b.1) }) entries all
+
+  pub datagram_by : (bytes : List ℕ) → IsSoundDatagramBy (IsEntryBackedBy reach) bytes → IsSoundDatagramBy (IsEntryBackedBy reach') bytes
+  datagram_by bytes told entries read = entries_by entries (told entries read)
 
 module _ (net : Network) (changes more : List (ℕ × Change)) where
   abbrev pub before : Past
@@ -40,23 +61,11 @@ module _ (net : Network) (changes more : List (ℕ × Change)) where
   reaches_grows from p metric tag walk r =
       record { is_walk = r.is_walk; costs = costs_grow from walk metric r.costs; owner = owner_grows (end_of from walk) p tag r.owner }
 
-  sound_grows : (router : ℕ) (p : Prefix6) (r : RouteValue) → IsSoundSince before router p r → IsSoundSince after router p r
-  sound_grows router p r s =
-      record {
-        is_prefix = s.is_prefix;
-        in_range = s.in_range;
-        backed = λ low. let b = s.backed low in (b.0, reaches_grows router p r.metric r.tag b.0 b.1, b.2);
-      }
-
   pub table_grows : (router : ℕ) (table : Table) → IsSoundTableSince before router table → IsSoundTableSince after router table
-  table_grows router table sound p r is = sound_grows router p r (sound p r is)
-
-  entry_grows : (router : ℕ) (e : Rte) → IsSoundEntrySince before router e → IsSoundEntrySince after router e
-  entry_grows router e t =
-      record { in_range = t.in_range; backed = λ low. let b = t.backed low in (b.0, reaches_grows router (cleared e.addr e.len) e.metric e.tag b.0 b.1) }
+  table_grows router table = table_by net (ReachesSince before router) (ReachesSince after router) (reaches_grows router) table
 
   pub truth_grows : (router : ℕ) (bytes : List ℕ) → IsSoundDatagramSince before router bytes → IsSoundDatagramSince after router bytes
-  truth_grows router bytes told entries read = each_weaker (IsSoundEntrySince after router) (IsSoundEntrySince before router) (entry_grows router) entries (told entries read)
+  truth_grows router bytes = datagram_by net (ReachesSince before router) (ReachesSince after router) (reaches_grows router) bytes
 
 -- ---- no change
 
@@ -81,7 +90,7 @@ module _ (past : Past) (unchanged : past.changes ≡ []) where
       record { is_walk = r.is_walk; costs = costs_first from walk metric r.costs; owner = owner_first (end_of from walk) p tag r.owner }
 
   pub backed_first : (router : ℕ) (p : Prefix6) (r : RouteValue) → IsBackedSince past router p r → IsBacked past.net router p r
-  backed_first router p r b = (b.0, reaches_first router p r.metric r.tag b.0 b.1, b.2)
+  backed_first router p r b = backed_by past.net (ReachesSince past router) (Reaches past.net router) (reaches_first router) p r b
 
 -- and always what the network started with was in force
 module _ (past : Past) where

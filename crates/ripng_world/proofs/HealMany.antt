@@ -13,7 +13,7 @@ use Rattle.ripng_world.specs.declared.network.NetInterface.{NetInterface}
 use Rattle.ripng_world.specs.Network.{Network, HasDistinctAddresses, IsUsable, interface_at}
 use Rattle.ripng_world.specs.Walks.{Hop, Reaches, IsLeast, cost, cost_of_interface}
 use Rattle.ripng_world.specs.Convergence.{IsNeverQuiet}
-use Rattle.ripng_world.specs.Healing.{IsTickOf, AreCloserAfter, IsHealed, AreHealed}
+use Rattle.ripng_world.specs.Healing.{IsTickOf, AreWithinGarbageTimeAfter, IsHealed, AreHealed}
 use Rattle.ripng_world.specs.World.{World}
 use Rattle.ripng_world.specs.Rounds.{Round, IsMomentOf, IsSynchronousRound, SynchronousRounds}
 use Rattle.ripng_world.proofs.Improving.{one_route}
@@ -148,7 +148,7 @@ module _ (net : Network) (usable : IsUsable net) (noisy : IsNeverQuiet net) (dis
     pub found : AreFound net w recent (k - 11)
 
   pub rounds_on : (rounds : List Round) (k : ℕ) (recent before : ℕ → ℕ → Type 0) (w w' : World) → IsSteady net known w recent (left_after k) (bound_after k) → AreFound net w recent (k - 11) → AreSoon w recent before
-      → AreCloserAfter before rounds → SynchronousRounds net w rounds w' → IsAt (k + length rounds) w'
+      → AreWithinGarbageTimeAfter before rounds → SynchronousRounds net w rounds w' → IsAt (k + length rounds) w'
   rounds_on [] k recent before w w' steady found soon close is =
       subst (λ n. IsAt n w') (zero_more k) (subst (IsAt k) (sym is) (record { recent = recent; steady = steady; found = found }))
     where
@@ -259,7 +259,7 @@ module _ (net : Network) (usable : IsUsable net) (noisy : IsNeverQuiet net) (dis
     all_healed router s is = is_healed router s is
 
   -- from a steady network
-  pub heals : (rounds : List Round) (w w' : World) → IsSteady net known w (λ _ _. ⊥) 13 3 → AreCloserAfter (λ _ _. ⊥) rounds → SynchronousRounds net w rounds w' → 26 ≤ length rounds → AreHealed net w'
+  pub heals : (rounds : List Round) (w w' : World) → IsSteady net known w (λ _ _. ⊥) 13 3 → AreWithinGarbageTimeAfter (λ _ _. ⊥) rounds → SynchronousRounds net w rounds w' → 26 ≤ length rounds → AreHealed net w'
   heals rounds w w' steady close run many =
       all_healed (0 + length rounds) (at_least (length rounds) many) w'
       (rounds_on rounds 0 (λ _ _. ⊥) (λ _ _. ⊥) w w' steady

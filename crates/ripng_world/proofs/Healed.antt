@@ -14,7 +14,7 @@ use Rattle.router_core.specs.declared.answer.Answer.{Answer}
 use Rattle.router_core.specs.declared.reconfiguring.Change.{Change}
 use Rattle.ripng_world.specs.declared.network.NetInterface.{NetInterface}
 use Rattle.ripng_world.specs.Convergence.{IsNeverQuiet}
-use Rattle.ripng_world.specs.Healing.{AreCloser, AreHealed, FitsTablesSince, Heals, network_now}
+use Rattle.ripng_world.specs.Healing.{AreWithinGarbageTime, AreHealed, FitsTablesSince, Heals, network_now}
 use Rattle.ripng_world.specs.Asked.{Asked}
 use Rattle.ripng_world.specs.Labs.{HasRun}
 use Rattle.ripng_world.proofs.AskedSynchronous.{made_synchronous, as_many}
@@ -174,7 +174,7 @@ module _ (net : Network) (is_net : IsNetwork net) (w : World) (all : AreReached 
       there router node None is e = absurd (None-Some node.quiet e)
       there router node (Some n) is e = all.everyone router n is
 
-  pub heals_here : IsNeverQuiet net → (rounds : List Round) (end : World) → SynchronousRounds net w rounds end → AreCloser rounds → 26 ≤ length rounds → AreHealed (network_now (past_of net end)) end
+  pub heals_here : IsNeverQuiet net → (rounds : List Round) (end : World) → SynchronousRounds net w rounds end → AreWithinGarbageTime rounds → 26 ≤ length rounds → AreHealed (network_now (past_of net end)) end
   heals_here noisy rounds end run close many =
       let alike = now_alike w.changes net in
       let lawful = now_lawful w.changes net all.lawful is_net in
@@ -184,7 +184,7 @@ module _ (net : Network) (is_net : IsNetwork net) (w : World) (all : AreReached 
 
 pub heals_after : (net : Network) (moments : List ℕ) (events : List Event) (rounds : List Round) (cold w end : World)
     → IsNetwork net → IsNeverQuiet net → IsCold net moments cold → WorldRun net cold events w → FitsTablesSince (past_of net w)
-    → SynchronousRounds net w rounds end → AreCloser rounds → 26 ≤ length rounds → AreHealed (network_now (past_of net end)) end
+    → SynchronousRounds net w rounds end → AreWithinGarbageTime rounds → 26 ≤ length rounds → AreHealed (network_now (past_of net end)) end
 heals_after net moments events rounds cold w end is_net noisy is run fits then close many =
     heals_here net is_net w (reached_from_cold net is_net moments events cold w is run) fits noisy rounds end then close many
 

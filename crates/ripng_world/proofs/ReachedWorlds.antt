@@ -1,5 +1,5 @@
 -- Whatever happens, a reached world stays one.
-use Rattle.std.proofs.Common.{◌≡◌, inl, ℕ, max, ◌≤◌, Bool, true, false, cond, ◌&&◌, ◌==◌, MatchBool, MatchOption, List, [], ◌∷◌, ◌++◌, Option, Some, None, is_none, option_map, unwrap_or, slice_get, refl, ap, sym, subst, ◌∙◌, arith}
+use Rattle.std.proofs.Common.{◌≡◌, inl, ℕ, max, ◌≤◌, Bool, true, false, cond, ◌&&◌, ◌==◌, MatchBool, MatchOption, List, [], ◌∷◌, ◌++◌, Option, Some, None, is_none, option_map, unwrap_or, slice_get, refl, ap, ap₂, sym, subst, ◌∙◌, arith}
 use Rattle.std.specs.List.{AllByRecursion}
 use Rattle.std.proofs.lemmas.Bool.{eq-eqb}
 use Rattle.prefix6.specs.Prefix.{Prefix6, IsPrefix}
@@ -91,8 +91,8 @@ module _ (net : Network) (is_net : IsNetwork net) where
         (λ none response. absurd (unheard (fault m.old.config x) (is_response x.bytes) none response i.unheard)) m.moves in
         unchanging net is_net w w' router (Arrives x) answer m refl all a.0 a.1
       where
-        unheard : (o : Option Fault) (b : Bool) → o ≡ None → b ≡ true → (is_none o && b) ≡ false → ⊥
-        unheard o b none response e = clash (sym (ap (λ c. is_none c && b) none ∙ response) ∙ e)
+        unheard : (o : Option Fault) (b : Bool) → o ≡ None → b ≡ true → (b && is_none o) ≡ false → ⊥
+        unheard o b none response e = clash (sym (ap₂ (λ c d. d && is_none c) none response) ∙ e)
           where
             clash : true ≡ false → ⊥
             clash e = cc

@@ -148,7 +148,7 @@ configured_grows net changes more router config c =
     }
 
 -- another cost of an interface leaves the addresses, and is the only other cost
-set_addresses : (xs : List Interface) (iface cost : ℕ) → map (λ (i : Interface). i.addr) (with_cost xs iface cost) ≡ map (λ (i : Interface). i.addr) xs
+pub set_addresses : (xs : List Interface) (iface cost : ℕ) → map (λ (i : Interface). i.addr) (with_cost xs iface cost) ≡ map (λ (i : Interface). i.addr) xs
 set_addresses xs iface cost = by_value (slice_get xs iface) refl
   where
     same_at : (ys : List Interface) (j : ℕ) (i : Interface) → slice_get ys j ≡ Some i → map (λ (i : Interface). i.addr) (slice_set ys j (record i { cost = cost })) ≡ map (λ (i : Interface). i.addr) ys
@@ -273,7 +273,7 @@ module _ (past : Past) (router : ℕ) where
 
   -- an arrival that is not heard leaves the table
   unheard_good : (old new : State) (now : ℕ) (x : Received) (answer : Answer) → IsGoodState past router old
-      → (o : Option Fault) (b : Bool) → (is_none o && b) ≡ false
+      → (o : Option Fault) (b : Bool) → (b && is_none o) ≡ false
       → MatchOption o (MatchBool b (Hears old now x answer new) (Replies old now x answer new)) (λ why. Refuses old now why answer new)
       → IsGoodState past router new
   unheard_good old new now x answer good (Some why) b unheard refuses = waited_good old new now good refuses.state

@@ -1,9 +1,7 @@
 -- What holds of all that was in force since the cold start holds, while nothing was changed, of the network as it started.
 use Rattle.std.proofs.Common.{◌≡◌, inl, ℕ, List, [], refl}
 use Rattle.std.specs.List.{AllByRecursion}
-use Rattle.prefix6.specs.Prefix.{Prefix6, cleared}
 use Rattle.ripng_wire.specs.declared.rte.Rte.{Rte}
-use Rattle.route_table.specs.Route.{RouteValue}
 use Rattle.route_table.specs.Table.{Table}
 use Rattle.router_core.specs.Adoption.{Gateway}
 use Rattle.router_core.specs.Ageing.{aged_table}
@@ -12,50 +10,32 @@ use Rattle.router_core.specs.Machine.{State, Happening, Moves}
 use Rattle.router_core.specs.declared.answer.Answer.{Answer}
 use Rattle.router_core.specs.declared.answer.Outgoing.{Outgoing}
 use Rattle.ripng_world.specs.Network.{Network}
-use Rattle.ripng_world.specs.Past.{Past, beginning}
-use Rattle.ripng_world.specs.Truth.{IsNeighbor, IsSound, IsSoundTable, IsSoundEntry, IsSoundDatagram}
-use Rattle.ripng_world.specs.TruthSince.{IsNeighborSince, IsSoundSince, IsSoundTableSince, IsSoundEntrySince, IsSoundDatagramSince}
+use Rattle.ripng_world.specs.Past.{Past, ReachesSince, beginning}
+use Rattle.ripng_world.specs.Truth.{IsNeighbor, IsSoundTable, IsSoundEntry, IsSoundDatagram}
+use Rattle.ripng_world.specs.TruthSince.{IsNeighborSince, IsSoundTableSince, IsSoundEntrySince, IsSoundDatagramSince}
+use Rattle.ripng_world.specs.Walks.{Reaches}
 use Rattle.ripng_world.proofs.Each.{each_weaker}
-use Rattle.ripng_world.proofs.Growing.{reaches_first, reaches_still, backed_first}
+use Rattle.ripng_world.proofs.Growing.{datagram_by, entries_by, reaches_first, reaches_still, table_by}
 use Rattle.ripng_world.proofs.Telling.{aged_sound, sends_true}
 use Rattle.ripng_world.proofs.Keeping.{heard_sound}
 
 -- ---- from all that was in force to the network
 
 module _ (past : Past) (unchanged : past.changes ≡ []) (router : ℕ) where
-  sound_first : (p : Prefix6) (r : RouteValue) → IsSoundSince past router p r → IsSound past.net router p r
-  sound_first p r s = record { is_prefix = s.is_prefix; in_range = s.in_range; backed = λ low. backed_first past unchanged router p r (s.backed low) }
-
   pub table_first : (table : Table) → IsSoundTableSince past router table → IsSoundTable past.net router table
-  table_first table sound p r is = sound_first p r (sound p r is)
-
-  entry_first : (e : Rte) → IsSoundEntrySince past router e → IsSoundEntry past.net router e
-  entry_first e t =
-      record { in_range = t.in_range; backed = λ low. let b = t.backed low in (b.0, reaches_first past unchanged router (cleared e.addr e.len) e.metric e.tag b.0 b.1) }
+  table_first table = table_by past.net (ReachesSince past router) (Reaches past.net router) (reaches_first past unchanged router) table
 
   pub truth_first : (bytes : List ℕ) → IsSoundDatagramSince past router bytes → IsSoundDatagram past.net router bytes
-  truth_first bytes told entries read = each_weaker (IsSoundEntry past.net router) (IsSoundEntrySince past router) entry_first entries (told entries read)
+  truth_first bytes = datagram_by past.net (ReachesSince past router) (Reaches past.net router) (reaches_first past unchanged router) bytes
 
 -- ---- and back
 
 module _ (net : Network) (router : ℕ) where
-  sound_still : (p : Prefix6) (r : RouteValue) → IsSound net router p r → IsSoundSince (beginning net) router p r
-  sound_still p r s =
-      record {
-        is_prefix = s.is_prefix;
-        in_range = s.in_range;
-        backed = λ low. let b = s.backed low in (b.0, reaches_still (beginning net) router p r.metric r.tag b.0 b.1, b.2);
-      }
-
   table_still : (table : Table) → IsSoundTable net router table → IsSoundTableSince (beginning net) router table
-  table_still table sound p r is = sound_still p r (sound p r is)
-
-  entry_still : (e : Rte) → IsSoundEntry net router e → IsSoundEntrySince (beginning net) router e
-  entry_still e t =
-      record { in_range = t.in_range; backed = λ low. let b = t.backed low in (b.0, reaches_still (beginning net) router (cleared e.addr e.len) e.metric e.tag b.0 b.1) }
+  table_still table = table_by net (Reaches net router) (ReachesSince (beginning net) router) (reaches_still (beginning net) router) table
 
   entries_still : (entries : List Rte) → AllByRecursion (IsSoundEntry net router) entries → AllByRecursion (IsSoundEntrySince (beginning net) router) entries
-  entries_still entries all = each_weaker (IsSoundEntrySince (beginning net) router) (IsSoundEntry net router) entry_still entries all
+  entries_still entries = entries_by net (Reaches net router) (ReachesSince (beginning net) router) (reaches_still (beginning net) router) entries
 
   neighbor_still : (g : Gateway) (sender sender_iface : ℕ) → IsNeighbor net router g sender sender_iface → IsNeighborSince (beginning net) router g sender sender_iface
   neighbor_still g sender sender_iface near = record { linked = near.linked; apart = near.apart; from = near.from; cost = inl near.cost }

@@ -1,5 +1,5 @@
 -- A Response that a neighbor spelled has no fault.
-use Rattle.std.proofs.Common.{◌≡◌, ℕ, suc, ◌-◌, ◌*◌, ◌%◌, ◌≤◌, Bool, true, false, cond, not, ◌&&◌, ◌==◌, nat_lt, List, [], ◌∷◌, ◌++◌, map, flat_map, length, Some, None, refl, ap, sym, subst, ◌∙◌, arith}
+use Rattle.std.proofs.Common.{◌≡◌, ℕ, suc, ◌+◌, ◌-◌, ◌*◌, ◌%◌, ◌≤◌, Bool, true, false, cond, not, ◌&&◌, ◌==◌, nat_lt, List, [], ◌∷◌, ◌++◌, map, flat_map, length, Some, None, refl, ap, sym, subst, ◌∙◌, arith}
 use Rattle.std.specs.List.{AllByRecursion}
 use Rattle.std.proofs.lemmas.Bool.{eq-eqb}
 use Rattle.std.proofs.lemmas.Bool.Decides.{nat_tests}
@@ -23,7 +23,7 @@ all_pass (t ∷ ts) all = ap (λ b. cond b (Some t.1) (first_reason ts)) all.0 �
 long_enough : (n : ℕ) → nat_lt (suc (suc (suc (suc n)))) 4 ≡ false
 long_enough n = grind (arith, nat_tests)
 
-short_enough : (n l : ℕ) → l ≡ 20 * n → n ≤ most_entries → nat_lt 65524 (suc (suc (suc (suc l)))) ≡ false
+short_enough : (n l : ℕ) → l ≡ 20 * n → n ≤ most_entries → nat_lt (4 + 20 * most_entries) (suc (suc (suc (suc l)))) ≡ false
 short_enough n l e h = grind (arith, nat_tests)
 
 whole : (n l : ℕ) → l ≡ 20 * n → not ((suc (suc (suc (suc l))) - 4) % 20 == 0) ≡ false

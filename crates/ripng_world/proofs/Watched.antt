@@ -5,12 +5,11 @@ use Rattle.router_core.specs.declared.answer.Answer.{Answer}
 use Rattle.ripng_world.specs.Labs.{LabValue, HappensGiving, IsRefusal, IsRefusedNext}
 use Rattle.ripng_world.specs.Network.{Network}
 use Rattle.ripng_world.specs.Rounds.{AllTick}
-use Rattle.ripng_world.specs.Watching.{Told, WatchedRun, WatchedUntil, WatchedInPart, IfRefused, any, as_refused, due, failures, refused_as, telling}
+use Rattle.ripng_world.specs.Watching.{Told, WatchedRun, WatchedUntil, WatchedInPart, IfRefused, any, due, failures, refused_as, telling}
 use Rattle.ripng_world.specs.Events.{event_of}
 use Rattle.ripng_world.specs.World.{World, Event, Happens, WorldRun}
 use Rattle.ripng_world.specs.declared.event.Event as coded
 use Rattle.ripng_world.specs.declared.event.LabError.{LabError}
-use Rattle.ripng_world.specs.declared.rounds.RoundsRefused.TheVariants.{OutOfMemory}
 use Rattle.ripng_world.specs.declared.watch.Stopped.{Stopped}
 use Rattle.ripng_world.specs.declared.watch.Stopped.TheVariants.{Refused, Failed}
 use Rattle.ripng_world.proofs.RoundRuns.{run_on}
@@ -125,6 +124,15 @@ whole_one t f net e s s' p = subst (λ (es : List Event). WatchedUntil t f 1 net
         let none : length left ≡ 0 = omega (arith, long, ap length are, length-append part left) in
         are ∙ ap (λ (xs : List Event). part ++ xs) (nil_from_length left none) ∙ append-nil part
 
+pub failed_at : {V : Type 0} (t f : V → Told → V → Type 0) (net : Network) (e : Event) (s s' : World × V) → WatchedUntil t f 1 net s (e ∷ []) s' → WatchedRun f any net s (e ∷ []) s'
+failed_at {V} t f net e s s' u = all_last u.done u.last u.events_are u.as_many u.before u.run u.failed
+  where
+    all_last : (done last : List Event) → e ∷ [] ≡ done ++ last → length last ≡ 1 → (before : World × V) → WatchedRun t any net s done before → WatchedRun f any net before last s' → WatchedRun f any net s (e ∷ []) s'
+    all_last [] last are one before none failed =
+        subst (λ (es : List Event). WatchedRun f any net s es s') (sym are) (subst (λ (v : World × V). WatchedRun f any net v last s') none failed)
+    all_last (x ∷ done) last are one before run failed =
+        absurd (omega (arith, one, ap length are, length-append (x ∷ done) last))
+
 -- what the watcher was told of a step, as there is to tell
 module _ {V : Type 0} (t : V → Told → V → Type 0) (lab lab' : LabValue) (e : Event) (given : Answer) (first : ℕ) (v u : V) (happens : HappensGiving lab e given lab'.world)
     (same : lab'.network ≡ lab.network) (first_is : first ≡ length lab.world.sent) (told : t v (record { lab = lab'; event = e; answer = given; first = first }) u) where
@@ -175,7 +183,3 @@ next_refused (Failed fault) lab lab' events n e here refused same = tt
 pub as_many_failed : {R Q F : Type 0} (why : Stopped R F) (other : Q) → failures (refused_as why other) ≡ failures why
 as_many_failed (Refused why) other = refl
 as_many_failed (Failed fault) other = refl
-
-pub as_memory : {R F : Type 0} (round : ℕ) (why : Stopped R F) → as_refused round (refused_as why (OutOfMemory round)) ≡ OutOfMemory round
-as_memory round (Refused why) = refl
-as_memory round (Failed fault) = refl

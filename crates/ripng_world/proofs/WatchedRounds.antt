@@ -5,47 +5,67 @@ use Rattle.std.proofs.lemmas.List.{append-nil, take-append-drop, take_more}
 use Rattle.std.proofs.Math.Seq.{take-append_seam}
 use Rattle.router_core.specs.declared.answer.Answer.{Answer}
 use Rattle.ripng_world.specs.Asked.{Asked}
-use Rattle.ripng_world.specs.AskedRounds.{AreMade, HaveStopped, IsMade, StopsFor, round_in, round_of, ticks_of}
+use Rattle.ripng_world.specs.AskedRounds.{AreMade, IsMade, round_of, ticks_of}
+use Rattle.ripng_world.specs.Delivering.{StopAt}
 use Rattle.ripng_world.specs.Network.{Network}
 use Rattle.ripng_world.specs.Rounds.{Round, AllTick, IsDueTick, events_of}
-use Rattle.ripng_world.specs.Watching.{Told, WatchedRun, WatchedInPart, AreMadeTold, IsMadeTold, IfRefused, RoundToldInPart, any, as_refused, due, failures, heard, telling}
+use Rattle.ripng_world.specs.Stopping.{RoundStops, RoundsStop, round_in}
+use Rattle.ripng_world.specs.Watching.{Told, WatchedRun, WatchedInPart, AreMadeTold, IsMadeTold, IfRefused, RoundToldInPart, any, due, failures, heard, refused_as, telling}
 use Rattle.ripng_world.specs.World.{World, Event, Happens, WorldRun}
 use Rattle.ripng_world.specs.declared.rounds.RoundsRefused.{RoundsRefused}
+use Rattle.ripng_world.specs.declared.rounds.RoundsRefused.TheVariants.{OutOfMemory}
 use Rattle.ripng_world.specs.declared.watch.Stopped.{Stopped}
 use Rattle.ripng_world.specs.declared.watch.Stopped.TheVariants.{Refused, Failed}
 use Rattle.ripng_world.proofs.AskedRuns.{tick_on}
-use Rattle.ripng_world.proofs.AskedSynchronous.{made_still, stopped_still}
+use Rattle.ripng_world.proofs.AskedSynchronous.{failed_still, made_still, stopped_still}
 use Rattle.ripng_world.proofs.Delivered.{delivered_heard}
 use Rattle.ripng_world.proofs.Watched.{part_from, until_all, until_on, until_run, watched_any, watched_on, watched_one, watched_ticks, whole_one}
 
 -- ---- ticks
 
-module _ {V : Type 0} (t f : V → Told → V → Type 0) (net net' : Network) (ticks : List Event) (r : ℕ) (e : Event) (s mid s' : World × V) (next : take (r + 1) ticks ≡ take r ticks ++ e ∷ [])
-    (first : WatchedRun t due net s (take r ticks) mid) (same : net' ≡ net) where
+module _ {V : Type 0} (t f : V → Told → V → Type 0) (net net' : Network) (a : Asked) (r : ℕ) (e : Event) (s mid s' : World × V) (next : take (r + 1) (ticks_of a.ticks) ≡ take r (ticks_of a.ticks) ++ e ∷ [])
+    (first : WatchedRun t due net s (take r (ticks_of a.ticks)) mid) (same : net' ≡ net) where
+  ticks : List Event
+  ticks = ticks_of a.ticks
+
   -- one more
-  pub told_tick : (answer : Answer) → IsDueTick mid.0 e → Happens net' mid.0 e answer s'.0 → t mid.1 (telling net' mid.0 e answer s'.0) s'.1 → WatchedRun t due net s (take (r + 1) ticks) s'
+  pub told_tick : (answer : Answer) → IsDueTick mid.0 e → Happens net' mid.0 e answer s'.0 → t mid.1 (telling net' mid.0 e answer s'.0) s'.1 → WatchedRun t due net s (take (r + 1) (ticks_of a.ticks)) s'
+  unfolding ticks
   told_tick answer is_due happens told =
       subst (λ (es : List Event). WatchedRun t due net s es s') (sym next)
       (watched_on t due net (take r ticks) (e ∷ []) s mid s' first
       (subst (λ (m : Network). WatchedRun t due m mid (e ∷ []) s') same (watched_one t due net' e answer mid s' is_due happens told)))
 
   -- the last one
-  pub ticks_stop : (k : ℕ) → WatchedInPart t f k net' mid (e ∷ []) s' → WatchedInPart t f k net s ticks s'
+  pub ticks_stop : (k : ℕ) → WatchedInPart t f k net' mid (e ∷ []) s' → WatchedInPart t f k net s (ticks_of a.ticks) s'
+  unfolding ticks
   ticks_stop k stop =
       part_from t f k net net' (take r ticks) (e ∷ []) (take (r + 1) ticks) (drop (r + 1) ticks) ticks s mid s' same (watched_any t due net (take r ticks) s mid first) stop next
       (sym (take-append-drop (r + 1) ticks))
 
-  pub ticks_among : {R F : Type 0} (why : Stopped R F) → WatchedInPart t f (failures why) net' mid (e ∷ []) s' → IfRefused why (λ _. s' ≡ mid) → IsDueTick mid.0 e
-      → (done : ℕ) × AllTick net s.0 (take done ticks) s'.0
-  ticks_among (Refused why) stop still is_due = (r, subst (λ (v : World × V). AllTick net s.0 (take r ticks) v.0) (sym still) (watched_ticks t net (take r ticks) s mid first))
-  ticks_among (Failed fault) stop still is_due =
+  -- it is refused, or the watcher fails at it
+  pub ticks_end : {R F : Type 0} (n : ℕ) (why : Stopped R F) → slice_get (ticks_of a.ticks) r ≡ Some e → WatchedInPart t f (failures why) net' mid (e ∷ []) s'
+      → IfRefused why (λ _. s' ≡ mid) → IsDueTick mid.0 e → RoundStops net s.0 a (refused_as why (OutOfMemory n)) s'.0
+  unfolding ticks
+  ticks_end n (Refused why) here stop still is_due =
+      inl (record {
+        done = r;
+        before = subst (λ (v : World × V). AllTick net s.0 (take r ticks) v.0) (sym still) (watched_ticks t net (take r ticks) s mid first);
+        tick = e;
+        tick_is = here;
+        due = subst (λ (v : World × V). IsDueTick v.0 e) (sym still) is_due;
+      })
+  ticks_end n (Failed fault) here stop still is_due =
       let last : WorldRun net mid.0 (e ∷ []) s'.0 =
       subst (λ (m : Network). WorldRun m mid.0 (e ∷ []) s'.0) same (until_run t f 1 net' (e ∷ []) mid s' (whole_one t f net' e mid s' stop)) in
-      let happens : Happens net mid.0 e last.1 s'.0 = subst (λ (v : World). Happens net mid.0 e last.1 v) (sym last.3) last.2 in (
-        r + 1,
-        subst (λ (es : List Event). AllTick net s.0 es s'.0) (sym next)
-            (tick_on net (take r ticks) e last.1 s.0 mid.0 s'.0 (watched_ticks t net (take r ticks) s mid first) is_due happens),
-      )
+      let happens : Happens net mid.0 e last.1 s'.0 = subst (λ (v : World). Happens net mid.0 e last.1 v) (sym last.3) last.2 in
+      inl (record {
+        before = r;
+        tick = e;
+        tick_is = here;
+        done = subst (λ (es : List Event). AllTick net s.0 es s'.0) (sym next)
+            (tick_on net (take r ticks) e last.1 s.0 mid.0 s'.0 (watched_ticks t net (take r ticks) s mid first) is_due happens);
+      })
 
 pub some_ticks : {V : Type 0} (t f : V → Told → V → Type 0) (net : Network) (ticks : List Event) (r : ℕ) (s s' : World × V) → WatchedRun t due net s (take r ticks) s' → WatchedInPart t f 0 net s ticks s'
 some_ticks t f net ticks r s s' first =
@@ -113,20 +133,32 @@ told_more t net asks n a s mid s' here is before made =
           (watched_on t any net (events_of before.0) (round.ticks ++ round.deliveries) s mid s' before.2 (round_told t net a mid s' made)),
     )
 
-pub rounds_stopped : {V F : Type 0} (t : V → Told → V → Type 0) (net : Network) (asks : List Asked) (n : ℕ) (a : Asked) (s mid : World × V) (w' : World) (why : Stopped RoundsRefused F)
-    → round_in (as_refused n why) ≡ n → AreMadeTold t net s (take n asks) mid → slice_get asks n ≡ Some a → StopsFor net mid.0 a (as_refused n why) w'
-    → HaveStopped net s.0 asks (as_refused n why) w'
-rounds_stopped t net asks n a s mid w' why number made here stops =
-    record {
-      rounds = made.0;
-      begin = mid.0;
-      made = subst (λ (m : ℕ). AreMade net s.0 (take m asks) made.0 mid.0) (sym number) made.1;
-      stopped = a;
-      stopped_is = subst (λ (m : ℕ). slice_get asks m ≡ Some a) (sym number) here;
-      stops = stops;
-    }
+module _ {F : Type 0} (net : Network) where
+  pub end_in_deliveries : {R : Type 0} (a : Asked) (n : ℕ) (why : Stopped R F) (w after w' : World) → AllTick net w (ticks_of a.ticks) after → StopAt net after (round_of net a w after).deliveries why w'
+      → RoundStops net w a (refused_as why (OutOfMemory n)) w'
+  end_in_deliveries a n (Refused why) w after w' ticked stop = inr (after, ticked, stop)
+  end_in_deliveries a n (Failed fault) w after w' ticked stop = inr (after, ticked, stop)
 
-pub rounds_still : {X V F : Type 0} (t : V → Told → V → Type 0) (net : Network) (asks : List Asked) (s s' : World × V) (r : Result X (Stopped RoundsRefused F)) → OnOk r (AreMadeTold t net s asks s')
-    → IfErr r (λ why. (round : ℕ) × HaveStopped net s.0 asks (as_refused round why) s'.0) → s'.0.changes ≡ s.0.changes
-rounds_still t net asks s s' (Ok x) made stopped = made_still net asks made.0 s.0 s'.0 made.1
-rounds_still t net asks s s' (Err why) made stopped = stopped_still net asks (as_refused stopped.0 why) s.0 s'.0 stopped.1
+  pub same_round : {R : Type 0} (n : ℕ) (why : Stopped R F) → IfRefused (refused_as why (OutOfMemory n)) (λ refusal. round_in refusal ≡ n)
+  same_round n (Refused why) = refl
+  same_round n (Failed fault) = tt
+
+  pub rounds_stopped : {V : Type 0} (t : V → Told → V → Type 0) (asks : List Asked) (n : ℕ) (a : Asked) (s mid : World × V) (w' : World) (why : Stopped RoundsRefused F)
+      → IfRefused why (λ refusal. round_in refusal ≡ n) → AreMadeTold t net s (take n asks) mid → slice_get asks n ≡ Some a → RoundStops net mid.0 a why w' → RoundsStop net s.0 asks why w'
+  rounds_stopped t asks n a s mid w' (Refused why) number made here stops =
+      record {
+        rounds = made.0;
+        begin = mid.0;
+        made = subst (λ (m : ℕ). AreMade net s.0 (take m asks) made.0 mid.0) (sym number) made.1;
+        stopped = a;
+        stopped_is = subst (λ (m : ℕ). slice_get asks m ≡ Some a) (sym number) here;
+        stops = stops;
+      }
+  rounds_stopped t asks n a s mid w' (Failed fault) number made here stops =
+      (n, record { rounds = made.0; begin = mid.0; made = made.1; stopped = a; stopped_is = here; stops = stops })
+
+  pub rounds_still : {X V : Type 0} (t : V → Told → V → Type 0) (asks : List Asked) (s s' : World × V) (r : Result X (Stopped RoundsRefused F)) → OnOk r (AreMadeTold t net s asks s')
+      → IfErr r (λ why. RoundsStop net s.0 asks why s'.0) → s'.0.changes ≡ s.0.changes
+  rounds_still t asks s s' (Ok x) made stopped = made_still net asks made.0 s.0 s'.0 made.1
+  rounds_still t asks s s' (Err (Refused why)) made stopped = stopped_still net asks why s.0 s'.0 stopped
+  rounds_still t asks s s' (Err (Failed fault)) made stopped = failed_still net asks s.0 s'.0 stopped

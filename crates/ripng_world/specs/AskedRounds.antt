@@ -1,16 +1,13 @@
--- Rounds as they are asked for: which events they make, and where they stop.
-use Rattle.std.specs.Prelude.{◌≡◌, ℕ, ◌%◌, ◌==◌, ◌<◌, ◌≤◌, max, ◌⊎◌, not, Bool, ◌&&◌, List, [], ◌∷◌, ◌++◌, map, take, drop, length, filter, filter_map, flat_map, Some, option_map, slice_get, codes}
+-- Rounds as they are asked for: which events they make.
+use Rattle.std.specs.Prelude.{◌≡◌, ℕ, ◌%◌, ◌==◌, ◌≤◌, not, Bool, ◌&&◌, List, [], ◌∷◌, ◌++◌, map, drop, length, filter, filter_map, flat_map, option_map, slice_get}
 use Rattle.std.specs.List.{enumerate_from, list_any, range_with_len}
-use Rattle.router_core.specs.Machine.{State}
 use Rattle.ripng_world.specs.Asked.{Asked}
 use Rattle.ripng_world.specs.Convergence.{IsNeverQuiet, FitsTables, AreConverged, HaveSettled}
 use Rattle.ripng_world.specs.Labs.{is_one_link, link_at}
 use Rattle.ripng_world.specs.Network.{Network}
-use Rattle.ripng_world.specs.Rounds.{Round, AllTick, AllHeard, SynchronousRounds, AreClose, events_of}
+use Rattle.ripng_world.specs.Rounds.{Round, AllTick, AllHeard, SynchronousRounds, AreWithinTimeout, events_of}
 use Rattle.ripng_world.specs.World.{World, Event, Deliver, Tick, WorldRun, IsCold}
 use Rattle.ripng_world.specs.declared.pairs.Pair.{Pair}
-use Rattle.ripng_world.specs.declared.rounds.RoundsRefused.{RoundsRefused}
-use Rattle.ripng_world.specs.declared.rounds.RoundsRefused.TheVariants.{NoRegularUpdate, OutOfMemory}
 use Rattle.ripng_world.specs.declared.sent.Sent.{Sent}
 
 -- ---- the events of a round
@@ -89,56 +86,6 @@ pub record AreAllMade (net : Network) (w : World) (asked : List Asked) (w' : Wor
 -- from a cold start, where moments are close, so many rounds find all that is that near
 pub record Converges (net : Network) (w : World) (asked : List Asked) (w' : World) : Type 0 where
   pub exact : (moments : List ℕ) (rounds : List Round) → IsCold net moments w → IsNeverQuiet net → FitsTables net
-      → AreMade net w asked rounds w' → AreClose rounds → AreConverged net (length asked) w'
+      → AreMade net w asked rounds w' → AreWithinTimeout rounds → AreConverged net (length asked) w'
   pub settled : (moments : List ℕ) (rounds : List Round) → IsCold net moments w → IsNeverQuiet net → FitsTables net
-      → AreMade net w asked rounds w' → AreClose rounds → 14 ≤ length asked → HaveSettled net w'
-
--- ---- rounds that stop
-
--- the ticks before a router's are done, and its regular update is not due at its own
-pub record StopsBefore (net : Network) (w : World) (ticks : List (ℕ × ℕ)) (router : ℕ) (w' : World) : Type 0 where
-  pub before : AllTick net w (take router (ticks_of ticks)) w'
-  pub tick : ℕ × ℕ
-  pub tick_is : slice_get ticks router ≡ Some tick
-  pub state : State
-  pub state_is : slice_get w'.states router ≡ Some state
-  pub undue : max state.last tick.0 < state.regular
-
--- some of the ticks are done
-abbrev pub IsAmongTicks : Network → World → List (ℕ × ℕ) → World → Type 0
-IsAmongTicks net w ticks w' = (done : ℕ) × AllTick net w (take done (ticks_of ticks)) w'
-
--- all ticks are done, and some of the deliveries
-abbrev pub IsAmongDeliveries : Network → World → Asked → World → Type 0
-IsAmongDeliveries net w asked w' =
-    (after_ticks : World) × AllTick net w (round_of net asked w after_ticks).ticks after_ticks
-    × (done : ℕ) × WorldRun net after_ticks (take done (round_of net asked w after_ticks).deliveries) w'
-
--- a round stops for want of memory anywhere, and else exactly before a tick at which the regular update is not due
-abbrev pub StopsFor : Network → World → Asked → RoundsRefused → World → Type 0
-StopsFor net w asked (NoRegularUpdate round router) w' = StopsBefore net w asked.ticks router w'
-StopsFor net w asked (OutOfMemory round) w' = IsAmongTicks net w asked.ticks w' ⊎ IsAmongDeliveries net w asked w'
-
--- the round that stopped, from 0
-abbrev pub round_in : RoundsRefused → ℕ
-round_in (NoRegularUpdate round router) = round
-round_in (OutOfMemory round) = round
-
--- the rounds before the one that is named are made, and that one stops
-pub record HaveStopped (net : Network) (w : World) (asked : List Asked) (why : RoundsRefused) (w' : World) : Type 0 where
-  pub rounds : List Round
-  pub begin : World
-  pub made : AreMade net w (take (round_in why) asked) rounds begin
-  pub stopped : Asked
-  pub stopped_is : slice_get asked (round_in why) ≡ Some stopped
-  pub stops : StopsFor net begin stopped why w'
-
--- the number of a refusal
-abbrev pub stop_number : RoundsRefused → ℕ
-stop_number (NoRegularUpdate round router) = 41
-stop_number (OutOfMemory round) = 42
-
--- the name of a refusal
-abbrev pub stop_name : RoundsRefused → List ℕ
-stop_name (NoRegularUpdate round router) = codes "NoRegularUpdate"
-stop_name (OutOfMemory round) = codes "OutOfMemory"
+      → AreMade net w asked rounds w' → AreWithinTimeout rounds → 14 ≤ length asked → HaveSettled net w'

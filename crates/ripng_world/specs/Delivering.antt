@@ -1,17 +1,47 @@
--- Deliveries one after another, and what is delivered.
-use Rattle.std.specs.Prelude.{◌≡◌, ℕ, List, ◌++◌, map}
+-- Deliveries one after another: what is delivered, and where they stop.
+use Rattle.std.specs.Prelude.{◌≡◌, ◌⊎◌, ℕ, List, map, take, Some, slice_get}
+use Rattle.std.specs.List.{Any}
+use Rattle.router_core.specs.declared.answer.Answer.{Answer}
+use Rattle.router_core.specs.declared.answer.NoteKind.TheVariants.{NoMemory}
 use Rattle.ripng_world.specs.AskedRounds.{delivery, pairs_since}
 use Rattle.ripng_world.specs.Network.{Network}
-use Rattle.ripng_world.specs.World.{World, Event, WorldRun}
+use Rattle.ripng_world.specs.Rounds.{AllHeard}
+use Rattle.ripng_world.specs.World.{World, Event, Happens}
 use Rattle.ripng_world.specs.declared.sent.Sent.{Sent}
+use Rattle.ripng_world.specs.declared.watch.Stopped.{Stopped}
+use Rattle.ripng_world.specs.declared.watch.Stopped.TheVariants.{Refused, Failed}
 
 -- each datagram from a number on comes once to each other interface of its link, in order
 abbrev pub deliveries_since : Network → ℕ → List Sent → ℕ → List Event
 deliveries_since net first sent now = map (λ p. delivery p now) (pairs_since net first sent)
 
--- some of the events happen, from the first on
-pub record HappenInPart (net : Network) (w : World) (events : List Event) (w' : World) : Type 0 where
-  pub done : List Event
-  pub left : List Event
-  pub events_are : events ≡ done ++ left
-  pub run : WorldRun net w done w'
+-- some new route wants for memory
+abbrev pub WantsMemory : Answer → Type 0
+WantsMemory answer = Any (λ n. n.kind ≡ NoMemory) answer.notes
+
+-- the event at a place happens, with this answer
+pub record HappensAt (net : Network) (w : World) (events : List Event) (place : ℕ) (answer : Answer) (w' : World) : Type 0 where
+  pub event : Event
+  pub event_is : slice_get events place ≡ Some event
+  pub happens : Happens net w event answer w'
+
+-- deliveries stop for want of memory: none of those before a place has a new route that wants for it, and the one at that place
+-- has, or does not happen
+pub record StopForMemory (net : Network) (w : World) (events : List Event) (w' : World) : Type 0 where
+  pub done : ℕ
+  pub before : World
+  pub heard : AllHeard net w (take done events) before
+  pub last : (w' ≡ before) ⊎ ((answer : Answer) × HappensAt net before events done answer w' × WantsMemory answer)
+
+-- deliveries stop behind one, at which the watcher fails: no new route wants for memory before that one
+pub record StopForWatcher (net : Network) (w : World) (events : List Event) (w' : World) : Type 0 where
+  pub done : ℕ
+  pub before : World
+  pub heard : AllHeard net w (take done events) before
+  pub answer : Answer
+  pub last : HappensAt net before events done answer w'
+
+-- deliveries stop for want of memory, or where the watcher fails, as is answered
+abbrev pub StopAt : {R F : Type 0} → Network → World → List Event → Stopped R F → World → Type 0
+StopAt net w events (Refused why) w' = StopForMemory net w events w'
+StopAt net w events (Failed fault) w' = StopForWatcher net w events w'

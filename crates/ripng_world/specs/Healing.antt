@@ -53,16 +53,16 @@ IsTickOf round router moment = (word : ℕ) × Contains round.ticks (Tick router
 
 -- a router ticks less than a garbage time after its tick of the round before, and all that it hears in a round comes less than
 -- that after its tick of the round
-abbrev pub AreCloserAfter : (ℕ → ℕ → Type 0) → List Round → Type 0
-AreCloserAfter before [] = Unit {0}
-AreCloserAfter before (round ∷ rounds) =
+abbrev pub AreWithinGarbageTimeAfter : (ℕ → ℕ → Type 0) → List Round → Type 0
+AreWithinGarbageTimeAfter before [] = Unit {0}
+AreWithinGarbageTimeAfter before (round ∷ rounds) =
     ((router x y : ℕ) → before router x → IsTickOf round router y → y < x + garbage_time)
     × ((router x y : ℕ) → IsTickOf round router x → IsMomentOf round router y → y < x + garbage_time)
-    × AreCloserAfter (IsTickOf round) rounds
+    × AreWithinGarbageTimeAfter (IsTickOf round) rounds
 
 -- so it is in all rounds
-abbrev pub AreCloser : List Round → Type 0
-AreCloser rounds = AreCloserAfter (λ _ _. ⊥) rounds
+abbrev pub AreWithinGarbageTime : List Round → Type 0
+AreWithinGarbageTime rounds = AreWithinGarbageTimeAfter (λ _ _. ⊥) rounds
 
 -- ---- what is left
 
@@ -78,5 +78,5 @@ AreHealed net w = (router : ℕ) (state : State) → slice_get w.states router �
 -- whatever happened before, so many rounds leave each table with the least costs of now, and nothing else
 abbrev pub Heals : Network → World → List Asked → World → Type 0
 Heals net w asked w' =
-    (rounds : List Round) → IsNeverQuiet net → FitsTablesSince (past_of net w) → AreMade net w asked rounds w' → AreCloser rounds → 26 ≤ length asked
+    (rounds : List Round) → IsNeverQuiet net → FitsTablesSince (past_of net w) → AreMade net w asked rounds w' → AreWithinGarbageTime rounds → 26 ≤ length asked
     → AreHealed (network_now (past_of net w')) w'

@@ -45,18 +45,26 @@ pub record HasRun (net : Network) (w : World) : Type 0 where
 
 -- ---- what holds of every network that has run
 
+-- it holds of every router
+abbrev pub InEachRouter : (ℕ → State → Type 0) → World → Type 0
+InEachRouter holds w = (router : ℕ) (state : State) → slice_get w.states router ≡ Some state → holds router state
+
+-- no route below infinity is below such a least cost
+abbrev pub HasNoneBelow : (Prefix6 → ℕ → Type 0) → State → Type 0
+HasNoneBelow least state =
+    (p : Prefix6) (r : RouteValue) (metric : ℕ) → map_of.get state.table p ≡ Some r → r.metric < infinity → least p metric → metric ≤ r.metric
+
 -- every route below infinity of every router is backed by a walk at costs in force since the cold start
 abbrev pub AreRoutesBackedSince : Network → World → Type 0
-AreRoutesBackedSince net w = (router : ℕ) (state : State) → slice_get w.states router ≡ Some state → IsTableBackedSince (past_of net w) router state.table
+AreRoutesBackedSince net w = InEachRouter (λ router state. IsTableBackedSince (past_of net w) router state.table) w
 
 -- no such route is below the least such cost
 abbrev pub HasNoneBelowLeastSince : Network → World → ℕ → State → Type 0
-HasNoneBelowLeastSince net w router state =
-    (p : Prefix6) (r : RouteValue) (metric : ℕ) → map_of.get state.table p ≡ Some r → r.metric < infinity → IsLeastSince (past_of net w) router p metric → metric ≤ r.metric
+HasNoneBelowLeastSince net w router state = HasNoneBelow (λ p metric. IsLeastSince (past_of net w) router p metric) state
 
 -- so it is in every router
 abbrev pub HaveNoneBelowLeastSince : Network → World → Type 0
-HaveNoneBelowLeastSince net w = (router : ℕ) (state : State) → slice_get w.states router ≡ Some state → HasNoneBelowLeastSince net w router state
+HaveNoneBelowLeastSince net w = InEachRouter (HasNoneBelowLeastSince net w) w
 
 -- every entry below infinity of every Response ever sent tells such a walk from its sender
 abbrev pub AreDatagramsSoundSince : Network → World → Type 0
@@ -66,16 +74,15 @@ AreDatagramsSoundSince net w = AllByRecursion (λ d. IsSoundDatagramSince (past_
 
 -- every route below infinity of every router is backed by a walk
 abbrev pub AreRoutesBacked : Network → World → Type 0
-AreRoutesBacked net w = (router : ℕ) (state : State) → slice_get w.states router ≡ Some state → IsTableBacked net router state.table
+AreRoutesBacked net w = InEachRouter (λ router state. IsTableBacked net router state.table) w
 
 -- no such route is below the least cost
 abbrev pub HasNoneBelowLeast : Network → ℕ → State → Type 0
-HasNoneBelowLeast net router state =
-    (p : Prefix6) (r : RouteValue) (metric : ℕ) → map_of.get state.table p ≡ Some r → r.metric < infinity → IsLeast net router p metric → metric ≤ r.metric
+HasNoneBelowLeast net router state = HasNoneBelow (λ p metric. IsLeast net router p metric) state
 
 -- so it is in every router
 abbrev pub HaveNoneBelowLeast : Network → World → Type 0
-HaveNoneBelowLeast net w = (router : ℕ) (state : State) → slice_get w.states router ≡ Some state → HasNoneBelowLeast net router state
+HaveNoneBelowLeast net w = InEachRouter (HasNoneBelowLeast net) w
 
 -- every entry below infinity of every Response ever sent tells a walk from its sender
 abbrev pub AreDatagramsSound : Network → List Sent → Type 0

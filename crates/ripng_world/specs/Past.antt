@@ -1,14 +1,13 @@
 -- All that was in force in a network since its cold start: costs, owners, and the walks at such costs to such owners.
-use Rattle.std.specs.Prelude.{◌≡◌, ◌⊎◌, ℕ, ◌+◌, ◌<◌, ◌≤◌, List, [], ◌∷◌, Some, slice_get}
-use Rattle.std.specs.FinMap as map_of
-use Rattle.prefix6.specs.Prefix.{Prefix6, cleared}
+use Rattle.std.specs.Prelude.{◌≡◌, ◌⊎◌, ℕ, ◌+◌, List, [], ◌∷◌, Some, slice_get}
+use Rattle.prefix6.specs.Prefix.{Prefix6}
 use Rattle.ripng_wire.specs.declared.rte.Rte.{Rte}
-use Rattle.route_table.specs.Route.{RouteValue, infinity}
+use Rattle.route_table.specs.Route.{RouteValue}
 use Rattle.route_table.specs.Table.{Table}
 use Rattle.router_core.specs.declared.reconfiguring.Change.{Change}
 use Rattle.router_core.specs.declared.reconfiguring.Change.TheVariants.{Cost, Own}
 use Rattle.ripng_world.specs.Network.{Network, Owns}
-use Rattle.ripng_world.specs.Walks.{Hop, IsWalk, BeginsAs, end_of, cost_of_interface}
+use Rattle.ripng_world.specs.Walks.{Hop, IsWalk, IsBackedBy, IsEntryBackedBy, IsLeastBy, IsTableBackedBy, end_of, cost_of_interface}
 
 -- a network as it started, and the changes that its routers have done since, each with its router
 pub record Past : Type 0 where
@@ -43,21 +42,20 @@ pub record ReachesSince (past : Past) (from : ℕ) (p : Prefix6) (metric tag : �
   pub costs : CostsSince past from walk metric
   pub owner : OwnsSince past (end_of from walk) p tag
 
--- a walk has the route's cost, owner, tag and first hop
+-- ---- what `Walks` says of walks, of these
+
+-- a route
 abbrev pub IsBackedSince : Past → ℕ → Prefix6 → RouteValue → Type 0
-IsBackedSince past router p r = (walk : List Hop) × ReachesSince past router p r.metric r.tag walk × BeginsAs past.net r.origin walk
+IsBackedSince past router p r = IsBackedBy (λ metric tag walk. ReachesSince past router p metric tag walk) past.net r
 
--- every route that is not unreachable is backed
+-- a table
 abbrev pub IsTableBackedSince : Past → ℕ → Table → Type 0
-IsTableBackedSince past router table =
-    (p : Prefix6) (r : RouteValue) → map_of.get table p ≡ Some r → r.metric < infinity → IsBackedSince past router p r
+IsTableBackedSince past router table = IsTableBackedBy (IsBackedSince past router) table
 
--- an entry that is not unreachable tells the cost and tag of a walk from the router
+-- an entry that the router tells
 abbrev pub IsEntryBackedSince : Past → ℕ → Rte → Type 0
-IsEntryBackedSince past router e =
-    e.metric < infinity → (walk : List Hop) × ReachesSince past router (cleared e.addr e.len) e.metric e.tag walk
+IsEntryBackedSince past router e = IsEntryBackedBy (λ p metric tag walk. ReachesSince past router p metric tag walk) e
 
--- some walk to an owner has this cost, and none a lower one
-pub record IsLeastSince (past : Past) (from : ℕ) (p : Prefix6) (metric : ℕ) : Type 0 where
-  pub reached : (tag : ℕ) × (walk : List Hop) × ReachesSince past from p metric tag walk
-  pub least : (metric' tag : ℕ) (walk : List Hop) → ReachesSince past from p metric' tag walk → metric ≤ metric'
+-- the least cost
+abbrev pub IsLeastSince : Past → ℕ → Prefix6 → ℕ → Type 0
+IsLeastSince past from p metric = IsLeastBy (λ metric' tag walk. ReachesSince past from p metric' tag walk) metric

@@ -84,12 +84,12 @@ pub record IsMomentOf (round : Round) (router moment : ℕ) : Type 0 where
   pub moment_is : moment_of event ≡ moment
 
 -- moments of a router in one round, or in it and the round before, are less than a timeout apart
-abbrev pub AreCloseAfter : (ℕ → ℕ → Type 0) → List Round → Type 0
-AreCloseAfter before [] = Unit {0}
-AreCloseAfter before (round ∷ rounds) =
+abbrev pub AreWithinTimeoutAfter : (ℕ → ℕ → Type 0) → List Round → Type 0
+AreWithinTimeoutAfter before [] = Unit {0}
+AreWithinTimeoutAfter before (round ∷ rounds) =
     ((router x y : ℕ) → before router x ⊎ IsMomentOf round router x → IsMomentOf round router y → (x < y + timeout) × (y < x + timeout))
-    × AreCloseAfter (IsMomentOf round) rounds
+    × AreWithinTimeoutAfter (IsMomentOf round) rounds
 
 -- so it is from the first round on
-abbrev pub AreClose : List Round → Type 0
-AreClose rounds = AreCloseAfter (λ _ _. ⊥) rounds
+abbrev pub AreWithinTimeout : List Round → Type 0
+AreWithinTimeout rounds = AreWithinTimeoutAfter (λ _ _. ⊥) rounds

@@ -54,26 +54,44 @@ BeginsAs net (Learned iface from next_hop) (h ∷ walk) =
 BeginsAs net Own (h ∷ walk) = ⊥
 BeginsAs net (Learned iface from next_hop) [] = ⊥
 
+-- ---- said once for all walks that reach an owner: those of a network, and those of all that was in force (`Past`)
+
 -- a walk has the route's cost, owner, tag and first hop
-abbrev pub IsBacked : Network → ℕ → Prefix6 → RouteValue → Type 0
-IsBacked net router p r = (walk : List Hop) × Reaches net router p r.metric r.tag walk × BeginsAs net r.origin walk
+abbrev pub IsBackedBy : (ℕ → ℕ → List Hop → Type 0) → Network → RouteValue → Type 0
+IsBackedBy reach net r = (walk : List Hop) × reach r.metric r.tag walk × BeginsAs net r.origin walk
 
 -- every route that is not unreachable is backed
+abbrev pub IsTableBackedBy : (Prefix6 → RouteValue → Type 0) → Table → Type 0
+IsTableBackedBy backed table = (p : Prefix6) (r : RouteValue) → map_of.get table p ≡ Some r → r.metric < infinity → backed p r
+
+-- an entry that is not unreachable tells the cost and tag of a walk
+abbrev pub IsEntryBackedBy : (Prefix6 → ℕ → ℕ → List Hop → Type 0) → Rte → Type 0
+IsEntryBackedBy reach e = e.metric < infinity → (walk : List Hop) × reach (cleared e.addr e.len) e.metric e.tag walk
+
+-- some walk has this cost, and none a lower one
+pub record IsLeastBy (reach : ℕ → ℕ → List Hop → Type 0) (metric : ℕ) : Type 0 where
+  pub reached : (tag : ℕ) × (walk : List Hop) × reach metric tag walk
+  pub least : (metric' tag : ℕ) (walk : List Hop) → reach metric' tag walk → metric ≤ metric'
+
+-- ---- the same of the walks of a network
+
+-- a route
+abbrev pub IsBacked : Network → ℕ → Prefix6 → RouteValue → Type 0
+IsBacked net router p r = IsBackedBy (λ metric tag walk. Reaches net router p metric tag walk) net r
+
+-- a table
 abbrev pub IsTableBacked : Network → ℕ → Table → Type 0
-IsTableBacked net router table =
-    (p : Prefix6) (r : RouteValue) → map_of.get table p ≡ Some r → r.metric < infinity → IsBacked net router p r
+IsTableBacked net router table = IsTableBackedBy (IsBacked net router) table
 
--- an entry that is not unreachable tells the cost and tag of a walk from the router
+-- an entry that the router tells
 abbrev pub IsEntryBacked : Network → ℕ → Rte → Type 0
-IsEntryBacked net router e =
-    e.metric < infinity → (walk : List Hop) × Reaches net router (cleared e.addr e.len) e.metric e.tag walk
+IsEntryBacked net router e = IsEntryBackedBy (λ p metric tag walk. Reaches net router p metric tag walk) e
 
--- some walk to an owner has this cost, and none a lower one
-pub record IsLeast (net : Network) (from : ℕ) (p : Prefix6) (metric : ℕ) : Type 0 where
-  pub reached : (tag : ℕ) × (walk : List Hop) × Reaches net from p metric tag walk
-  pub least : (metric' tag : ℕ) (walk : List Hop) → Reaches net from p metric' tag walk → metric ≤ metric'
+-- the least cost
+abbrev pub IsLeast : Network → ℕ → Prefix6 → ℕ → Type 0
+IsLeast net from p metric = IsLeastBy (λ metric' tag walk. Reaches net from p metric' tag walk) metric
 
--- the same of walks of at most k hops, and only up to 15
+-- the least cost of walks of at most k hops, and only up to 15
 pub record IsWithin (net : Network) (k from : ℕ) (p : Prefix6) (metric : ℕ) : Type 0 where
   pub reached : (tag : ℕ) × (walk : List Hop) × (length walk ≤ k) × Reaches net from p metric tag walk
   pub least : (metric' tag : ℕ) (walk : List Hop) → length walk ≤ k → Reaches net from p metric' tag walk → metric ≤ metric'

@@ -1,15 +1,14 @@
 -- What a watcher is told of a network that runs, event by event.
-use Rattle.std.specs.Prelude.{◌≡◌, ◌≢◌, ℕ, ⊤, ◌⊎◌, List, [], ◌∷◌, ◌++◌, take, length, All, Some, Result, Ok, Err, slice_get}
+use Rattle.std.specs.Prelude.{◌≡◌, ◌≢◌, ℕ, ◌≤◌, ⊤, ◌⊎◌, List, [], ◌∷◌, ◌++◌, take, length, All, Some, Result, Ok, Err, slice_get}
 use Rattle.router_core.specs.declared.answer.Answer.{Answer}
 use Rattle.router_core.specs.declared.answer.NoteKind.TheVariants.{NoMemory}
 use Rattle.ripng_world.specs.Asked.{Asked}
 use Rattle.ripng_world.specs.AskedRounds.{AreMade, round_of, ticks_of}
+use Rattle.ripng_world.specs.Delivering.{WantsMemory}
 use Rattle.ripng_world.specs.Labs.{LabValue}
 use Rattle.ripng_world.specs.Network.{Network}
 use Rattle.ripng_world.specs.Rounds.{Round, AllTick, IsDueTick, events_of}
 use Rattle.ripng_world.specs.World.{World, Event, Happens}
-use Rattle.ripng_world.specs.declared.rounds.RoundsRefused.{RoundsRefused}
-use Rattle.ripng_world.specs.declared.rounds.RoundsRefused.TheVariants.{OutOfMemory}
 use Rattle.ripng_world.specs.declared.watch.Stopped.{Stopped}
 use Rattle.ripng_world.specs.declared.watch.Stopped.TheVariants.{Refused, Failed}
 
@@ -43,6 +42,10 @@ due w e answer = IsDueTick w e
 -- no new route wants for memory
 abbrev pub heard : World → Event → Answer → Type 0
 heard w e answer = All (λ n. n.kind ≢ NoMemory) answer.notes
+
+-- some new route wants for memory
+abbrev pub wanting : World → Event → Answer → Type 0
+wanting w e answer = WantsMemory answer
 
 -- so the events happen and are told, and so many tellings fail, which are the last ones
 pub record WatchedUntil {V : Type 0} (takes fails : V → Told → V → Type 0) (failures : ℕ) (net : Network) (s : World × V) (events : List Event) (s' : World × V) : Type 0 where
@@ -81,12 +84,26 @@ abbrev pub refused_as : {R Q F : Type 0} → Stopped R F → Q → Stopped Q F
 refused_as (Refused why) other = Refused other
 refused_as (Failed fault) other = Failed fault
 
--- ---- rounds
+-- ---- deliveries
 
--- the refusal of rounds that stands for a stop: a watcher who fails ends a round anywhere, as want of memory does
-abbrev pub as_refused : {F : Type 0} → ℕ → Stopped RoundsRefused F → RoundsRefused
-as_refused round (Refused why) = why
-as_refused round (Failed fault) = OutOfMemory round
+-- the last delivery, if there is one: where the call is refused, a new route wants for memory at it; where the watcher failed,
+-- there is one, and he failed at it
+abbrev pub EndsAt : {V R F : Type 0} → (V → Told → V → Type 0) → (V → Told → V → Type 0) → Network → World × V → List Event → Stopped R F → World × V → Type 0
+EndsAt takes fails net s last (Refused why) s' = (length last ≤ 1) × WatchedRun takes wanting net s last s'
+EndsAt takes fails net s last (Failed fault) s' = (length last ≡ 1) × WatchedRun fails any net s last s'
+
+-- some of the deliveries happen and are told, from the first on, and no others. At none but the last of them does a new route
+-- want for memory, or the watcher fail
+pub record HeardInPart {V R F : Type 0} (takes fails : V → Told → V → Type 0) (why : Stopped R F) (net : Network) (s : World × V) (events : List Event) (s' : World × V) : Type 0 where
+  pub part : List Event
+  pub last : List Event
+  pub left : List Event
+  pub events_are : events ≡ part ++ (last ++ left)
+  pub before : World × V
+  pub run : WatchedRun takes heard net s part before
+  pub ends : EndsAt takes fails net before last why s'
+
+-- ---- rounds
 
 -- a round is made as it is asked for, and told
 abbrev pub IsMadeTold : {V : Type 0} → (V → Told → V → Type 0) → Network → World × V → Asked → World × V → Type 0

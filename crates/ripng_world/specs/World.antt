@@ -81,7 +81,7 @@ pub record Delivers (net : Network) (w : World) (datagram router iface now : ℕ
 
 -- a Response that a router takes to be of its link
 abbrev pub is_heard : State → Received → Bool
-is_heard s x = is_none (fault s.config x) && is_response x.bytes
+is_heard s x = is_response x.bytes && is_none (fault s.config x)
 
 -- any arrival but such a Response
 pub record Intrudes (w : World) (router : ℕ) (x : Received) (answer : Answer) (w' : World) : Type 0 where

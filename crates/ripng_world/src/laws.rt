@@ -17,8 +17,8 @@ ghost use Rattle.ripng_world.specs.Network.{Network, IsNetwork};
 ghost use Rattle.ripng_world.specs.Walks.{Hop, IsWalk, Reaches, cost, IsTableBacked, IsLeast};
 ghost use Rattle.ripng_world.specs.Past.{Past, ReachesSince, IsTableBackedSince, IsLeastSince};
 ghost use Rattle.ripng_world.specs.Convergence.{IsNeverQuiet, FitsTables, AreConverged};
-ghost use Rattle.ripng_world.specs.Rounds.{Round, SynchronousRounds, AreClose, events_of};
-ghost use Rattle.ripng_world.specs.Healing.{AreCloser, AreHealed, FitsTablesSince, network_now};
+ghost use Rattle.ripng_world.specs.Rounds.{Round, SynchronousRounds, AreWithinTimeout, events_of};
+ghost use Rattle.ripng_world.specs.Healing.{AreWithinGarbageTime, AreHealed, FitsTablesSince, network_now};
 ghost use Rattle.ripng_world.specs.Truth.{IsNeighbor, IsSoundTable, IsSoundEntry, IsSoundDatagram};
 ghost use Rattle.ripng_world.specs.TruthSince.{IsNeighborSince, IsSoundTableSince, IsSoundEntrySince, IsSoundDatagramSince};
 ghost use Rattle.ripng_world.specs.World.{World, Event, IsCold, WorldRun, past_of, changes_in};
@@ -102,13 +102,13 @@ pub fn generalises_walks()
 pub fn converges_in_rounds()
     ensures exact { (net : Network) (moments : List ℕ) (rounds : List Round) (cold w : World)
         → IsNetwork net → IsNeverQuiet net → FitsTables net
-        → IsCold net moments cold → SynchronousRounds net cold rounds w → AreClose rounds
+        → IsCold net moments cold → SynchronousRounds net cold rounds w → AreWithinTimeout rounds
         → AreConverged net (length rounds) w }
     ensures fourteen { (net : Network) (at : ℕ) (walk : List Hop) → IsNetwork net → IsWalk net at walk
         → cost net at walk < infinity → length walk ≤ 14 }
     ensures settled { (net : Network) (moments : List ℕ) (rounds : List Round) (cold w : World)
         → IsNetwork net → IsNeverQuiet net → FitsTables net
-        → IsCold net moments cold → SynchronousRounds net cold rounds w → AreClose rounds → 14 ≤ length rounds
+        → IsCold net moments cold → SynchronousRounds net cold rounds w → AreWithinTimeout rounds → 14 ≤ length rounds
         → (router : ℕ) (state : State) (p : Prefix6) (metric : ℕ) → slice_get w.states router ≡ Some state
         → IsLeast net router p metric → metric < infinity
         → (r : RouteValue) × (map_of.get state.table p ≡ Some r) × (r.metric ≡ metric) }
@@ -120,7 +120,7 @@ pub fn converges_in_rounds()
 pub fn heals_in_rounds()
     ensures { (net : Network) (moments : List ℕ) (events : List Event) (rounds : List Round) (cold w end : World)
         → IsNetwork net → IsNeverQuiet net → IsCold net moments cold → WorldRun net cold events w → FitsTablesSince (past_of net w)
-        → SynchronousRounds net w rounds end → AreCloser rounds → 26 ≤ length rounds
+        → SynchronousRounds net w rounds end → AreWithinGarbageTime rounds → 26 ≤ length rounds
         → AreHealed (network_now (past_of net end)) end }
 {}
 

@@ -86,15 +86,13 @@ fn check_delivery<S: RouteStore>(
     }
 }
 
-/// Whether the router takes the arrival for a Response of its link.
+/// Whether the router takes the arrival for a Response of its link. Nothing but a Response is decoded for that.
 fn is_heard<S: RouteStore>(router: &Router<S>, arrival: &Arrival<'_>) -> bool
     ensures { result ≡ is_heard router.now arrival.entry.now }
 {
-    router.fault_of(arrival).is_none()
-        && arrival
-            .bytes
-            .first()
-            .is_some_and(|&command| command == Command::Response as u8)
+    let command = arrival.bytes.first();
+    command.is_some_and(|&command| command == Command::Response as u8)
+        && router.fault_of(arrival).is_none()
 }
 
 /// Whether the arrival may be a stranger's.

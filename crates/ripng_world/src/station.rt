@@ -144,6 +144,7 @@ impl<S: RouteStore> Station<S> {
     {
         self.router.restart(now)
     }
+
     /// The configuration of the router is changed.
     ///
     /// # Errors

@@ -15,6 +15,7 @@ use ripngd_daemon::{
     write_losses,
 };
 use ripngd_engine::Report;
+use std::fs::File;
 use std::io::Write;
 use std::net::Net;
 use std::random::RandomSource;
@@ -46,12 +47,11 @@ pub(crate) enum Status {
 /// steps M`, with `, log failed` behind it where a write of the log failed.
 ///
 /// What was written to `out` is flushed before a status of 0 or 1 is answered. A failure of `err` changes no status.
-pub fn program<R: AllocGlobal + Files + Clock + Net + RandomSource, O: Write, E: Write>(
-    rt: &R,
-    words: &[&str],
-    out: &mut O,
-    err: &mut E,
-) -> u8
+pub fn program<
+    R: AllocGlobal + Files<File = File> + Print + Clock + Net + RandomSource,
+    O: Write,
+    E: Write,
+>(rt: &R, words: &[&str], out: &mut O, err: &mut E) -> u8
     ensures done { result ≡ 0 → AnswersWords holds_any (map (λ w. w.now) words.now) true (O.contents out.old) (O.contents out.new)
         ⊎ AsksForHelp (map (λ w. w.now) words.now) }
     ensures refused { result ≡ 1
@@ -72,7 +72,7 @@ pub fn program<R: AllocGlobal + Files + Clock + Net + RandomSource, O: Write, E:
 /// Does what the words ask for.
 fn outcome<
     'a,
-    R: AllocGlobal + Files + Clock + Net + RandomSource,
+    R: AllocGlobal + Files<File = File> + Print + Clock + Net + RandomSource,
     F: FileSource,
     O: Write,
     E: Write,
@@ -101,7 +101,7 @@ fn outcome<
 /// Does what is asked, and answers whether what was given is accepted.
 fn accepts<
     'a,
-    R: AllocGlobal + Files + Clock + Net + RandomSource,
+    R: AllocGlobal + Files<File = File> + Print + Clock + Net + RandomSource,
     F: FileSource,
     O: Write,
     E: Write,
@@ -132,7 +132,7 @@ fn accepts<
 /// Does what is asked.
 fn answer<
     'a,
-    R: AllocGlobal + Files + Clock + Net + RandomSource,
+    R: AllocGlobal + Files<File = File> + Print + Clock + Net + RandomSource,
     F: FileSource,
     O: Write,
     E: Write,

@@ -2,16 +2,17 @@
 use Rattle.std.proofs.Common.{◌≡◌, ℕ, List, Option, Result, Ok, Err, refl}
 use Rattle.std.specs.Prelude.{None, OnOk}
 use Rattle.std.specs.Io.KnownBytes.{Appends}
-use Rattle.ripngd_config.specs.declared.configuration.Config.{Config}
+use Rattle.rand_pcg.specs.Lcg.{Lcg}
+use Rattle.router_core.specs.Config.{Config as RouterValue}
 use Rattle.ripngd_engine.specs.Seen.{Ran, Seen, Started, fresh}
 use Rattle.ripngd_daemon.specs.declared.failure.Failure.{Failure}
-use Rattle.ripngd_daemon.specs.Ran.{ShowsTurns, words_of}
+use Rattle.ripngd_daemon.specs.Ran.{ShowsBound, words_of}
 use Rattle.ripngd_daemon.specs.Tabled.{table_text}
 
 -- by whatever the turns answered
-pub shows_turns : (config : Config) (turns : ℕ) (log : Option (List ℕ)) (begun done : Seen) (old new : Option (List ℕ))
-    (r : Result (Unit {0}) Failure) → Started config.router (words_of config.rng) (fresh None None log) begun
-    → OnOk r (Ran turns begun done) → OnOk r (Appends old new (table_text done.machine.fib)) → OnOk r (ShowsTurns config turns old new)
-shows_turns config turns log begun done old new (Ok u) started ran shown =
+pub shows_turns : (router : RouterValue) (rng : Lcg) (turns : ℕ) (log : Option (List ℕ)) (begun done : Seen) (old new : Option (List ℕ))
+    (r : Result (Unit {0}) Failure) → Started router (words_of rng) (fresh None None log) begun
+    → OnOk r (Ran turns begun done) → OnOk r (Appends old new (table_text done.machine.fib)) → OnOk r (ShowsBound router rng turns old new)
+shows_turns router rng turns log begun done old new (Ok u) started ran shown =
     (done.machine.fib, record { log = log; begun = begun; done = done; started = started; ran = ran; table_is = refl }, shown)
-shows_turns config turns log begun done old new (Err e) started ran shown = tt
+shows_turns router rng turns log begun done old new (Err e) started ran shown = tt

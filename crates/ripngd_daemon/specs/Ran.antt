@@ -6,6 +6,7 @@ use Rattle.rand_core.specs.Stream.{Stream}
 use Rattle.rand_pcg.specs.Lcg.{Lcg}
 use Rattle.rand_pcg.specs.Pcg.{pcg32}
 use Rattle.fib.specs.Forwarding.{Forwarding}
+use Rattle.router_core.specs.Config.{Config as RouterValue}
 use Rattle.ripngd_config.specs.Configuration.{IsConfigured, Refuses}
 use Rattle.ripngd_config.specs.declared.configuration.Config.{Config}
 use Rattle.ripngd_config.specs.declared.fault.ConfigFault.{ConfigFault}
@@ -18,19 +19,24 @@ use Rattle.ripngd_daemon.specs.Tabled.{table_text}
 abbrev pub words_of : Lcg → Stream
 words_of = stream_of (steps_u32 pcg32)
 
--- a router of this configuration started, over a link and a clock that tell nothing, and made so many turns; this is its
--- forwarding table then
-pub record MakesTurns (config : Config) (turns : ℕ) (table : Forwarding) : Type 0 where
+-- a router of this configuration started with these random words, over a link and a clock that tell nothing, and made so many
+-- turns; this is its forwarding table then
+pub record MakesTurns (router : RouterValue) (words : Stream) (turns : ℕ) (table : Forwarding) : Type 0 where
   pub log : Option (List ℕ)  -- what stood in its log
   pub begun : Seen
   pub done : Seen
-  pub started : Started config.router (words_of config.rng) (fresh None None log) begun
+  pub started : Started router words (fresh None None log) begun
   pub ran : Ran turns begun done
   pub table_is : table ≡ done.machine.fib
 
--- the writer gained the forwarding table of such a router
+-- the writer gained the forwarding table of such a router, with a random source
+abbrev pub ShowsBound : RouterValue → Lcg → ℕ → Option (List ℕ) → Option (List ℕ) → Type 0
+ShowsBound router rng turns old new =
+    (table : Forwarding) × MakesTurns router (words_of rng) turns table × Appends old new (table_text table)
+
+-- the same of a configuration with its random source
 abbrev pub ShowsTurns : Config → ℕ → Option (List ℕ) → Option (List ℕ) → Type 0
-ShowsTurns config turns old new = (table : Forwarding) × MakesTurns config turns table × Appends old new (table_text table)
+ShowsTurns config turns old new = ShowsBound config.router config.rng turns old new
 
 -- a run of a configuration's text as it is ordered: all turns were made, and the table was written; or the text is refused
 abbrev pub IsRan : Order → List ℕ → Bool → Option (List ℕ) → Option (List ℕ) → Type 0

@@ -8,8 +8,11 @@ mod forwarding;
 mod losses;
 mod plan;
 mod reading;
+mod router;
+mod run_log;
 mod running;
 mod subcommands;
+mod warnings;
 
 pub use checking::check;
 pub use failure::{Failure, write_failure};

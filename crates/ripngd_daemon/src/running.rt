@@ -1,41 +1,55 @@
 //! `run`: one router over UDP sockets of loopback.
 
-ghost use Rattle.std.specs.Prelude.{◌≡◌, IfErr, IfOk, List, OnOk, false, option_map, ℕ};
+ghost use Rattle.std.specs.Prelude.{◌≡◌, ◌≢◌, Err, IfErr, IfOk, List, OnOk, Some, false, length, option_map, vec_len, ℕ};
 ghost use Rattle.std.specs.Io.KnownBytes.{Appends};
 ghost use Rattle.ripngd_config.specs.Configuration.{HasOneEach};
 ghost use Rattle.ripngd_engine.specs.Seen.{Ran, seen};
 ghost use Rattle.ripngd_command_line.specs.declared.asked.Ask.TheVariants as asks;
 ghost use Rattle.ripngd_daemon.specs.Failing.{FailsLogged, FailsTurns, MayFail};
-ghost use Rattle.ripngd_daemon.specs.Ran.{IsRan, ShowsTurns, words_of};
+ghost use Rattle.ripngd_daemon.specs.Ran.{IsRan, ShowsBound, ShowsTurns, words_of};
 ghost use Rattle.ripngd_daemon.specs.Tabled.{table_text};
+ghost use Rattle.ripngd_daemon.specs.declared.failure.Failure.TheVariants as failures;
+ghost use Rattle.ripngd_udp.specs.Udp.{fresh};
 
 use crate::checking::write_refusal;
-use crate::failure::{Failure, failed};
+use crate::failure::Failure;
 use crate::forwarding::write_table;
 use crate::losses::with_link;
 use crate::plan::{Plan, plan_of};
 use crate::reading::FileSource;
+use crate::router::Running;
+use crate::run_log::{Log, Output, empty_log, open_log, refuse_own_config};
+use crate::warnings::write_echoes;
 use rand_pcg::Pcg32;
 use ripngd_command_line::Order;
-use ripngd_config::Config;
+use ripngd_config::{Config, Peer};
 use ripngd_engine::{Engine, Report, Unwatched, Watch};
 use ripngd_udp::{Udp, Uptime};
 use ripngd_watch::DebugLines;
-use route_table::TrieRoutes;
-use std::fs;
+use router_core::RouterConfig;
+use std::fs::File;
 use std::io::{self, Write};
 use std::net::Net;
 use std::rt::{Clock, Files};
 
 /// Runs the router of a configuration for some turns, and then writes its forwarding table, a line for each entry. Each
-/// change of a route is a line of the log, if a file is named for it, whose old contents are lost. A configuration that
-/// is refused is written as `refused ..`, before that file is touched, and the answer is then false. What the router lost
-/// is left in `lost`, also where it ended early. Where it is to be debugged, `err` gets a line for each arrival and entry
-/// that is refused, and counts of all at its end, early or not; a failure of `err` changes nothing else.
+/// change of a route is a line of the log, if a file is named for it, whose old contents are lost once all ports are bound.
+/// A configuration that is refused is written as `refused ..`, before that file is touched, and the answer is then false.
+/// What the router lost is left in `lost`, also where it ended early. `err` gets the line `ripngd: running, N interfaces` once
+/// all ports are bound and the log is emptied, and before it one for each interface that is its own peer. Where the router is
+/// to be debugged, it also gets a line for each arrival and entry that is refused, and counts of all at its end, early or
+/// not; a failure of `err` changes nothing else.
 ///
 /// # Errors
-/// The first thing that failed: to read the configuration, to make the log, to bind a port, the link, memory, or `out`.
-pub fn run<'a, R: Files + Clock + Net + AllocGlobal, F: FileSource, O: Write, E: Write>(
+/// The first thing that failed: a log that is the configuration, to read the configuration, to open the log or to lock it,
+/// to bind a port, to empty the log, the link, memory, or `out`.
+pub fn run<
+    'a,
+    R: Files<File = File> + Print + Clock + Net + AllocGlobal,
+    F: FileSource,
+    O: Write,
+    E: Write,
+>(
     rt: &R,
     files: &F,
     order: Order<'a>,
@@ -45,24 +59,22 @@ pub fn run<'a, R: Files + Clock + Net + AllocGlobal, F: FileSource, O: Write, E:
 ) -> Result<bool, Failure<'a>>
     ensures ran { IfOk result (λ accepted. (config : List ℕ) × F.holds files.now order.entry.config.now config
         × IsRan order.entry config accepted (O.contents out.old) (O.contents out.new)) }
+    ensures own_config { IfOk result (λ _. option_map (λ s. s.now) order.entry.log ≢ Some order.entry.config.now) }
     ensures failed { IfErr result (MayFail (asks.Run order.entry)) }
 {
+    refuse_own_config(rt, order)?;
     let text = files.read(order.config)?;
     match plan_of(rt.alloc(), order, text.as_slice()) {
         Ok(plan) => {
-            if plan.debug {
-                run_debugged(rt, plan, out, err, lost)?;
-            } else {
-                run_plan(rt, plan, &mut Unwatched, out, lost)?;
-            }
+            run_plan(rt, plan, out, err, lost)?;
             Ok(true)
         }
         Err(fault) => Ok(write_refusal(&fault, out)?),
     }
 }
 
-/// Runs with lines and counts on `err`.
-fn run_debugged<'a, R: Files + Clock + Net + AllocGlobal, O: Write, E: Write>(
+/// Opens the log, and runs.
+fn run_plan<'a, R: Files<File = File> + Print + Clock + Net + AllocGlobal, O: Write, E: Write>(
     rt: &R,
     plan: Plan<'a>,
     out: &mut O,
@@ -73,19 +85,45 @@ fn run_debugged<'a, R: Files + Clock + Net + AllocGlobal, O: Write, E: Write>(
     ensures shown { OnOk result (ShowsTurns plan.entry.config plan.entry.turns (O.contents out.old) (O.contents out.new)) }
     ensures failed { IfErr result (FailsLogged plan.entry.turns (option_map (λ s. s.now) plan.entry.log)) }
 {
-    let mut lines = DebugLines::new(&mut *err);
-    let outcome = run_plan(rt, plan, &mut lines, out, lost);
-    let counts = lines.counts();
-    let _ = writeln!(err, "{counts}");
-    outcome
+    match plan.log {
+        Some("-") => run_logged(rt, plan, &mut Output(rt), out, err, lost),
+        Some(file) => {
+            let mut lines = open_log(rt, file)?;
+            run_logged(rt, plan, &mut lines, out, err, lost)
+        }
+        None => run_logged(rt, plan, &mut io::sink(), out, err, lost),
+    }
 }
 
-/// Makes the log, and runs.
-fn run_plan<'a, R: Files + Clock + Net + AllocGlobal, V: Watch, O: Write>(
+/// Binds the ports, and empties the log when all of them are bound.
+///
+/// # Errors
+/// `Bind` with a port that cannot be bound, and the log is then as it was; `Log` with its name, where it cannot be
+/// emptied; `OutOfMemory`.
+fn bind_and_empty<'r, 'a, R: Clock + Net + AllocGlobal, L: Log>(
+    rt: &'r R,
+    ports: &[u16],
+    peers: Vec<Vec<Peer>>,
+    name: Option<&'a str>,
+    log: &mut L,
+) -> Result<Udp<'r, R>, Failure<'a>>
+    requires { length ports.now ≡ vec_len peers }
+    ensures bound { IfOk result (λ link. link ≡ fresh (length ports.now)) }
+    ensures kept { (port : ℕ) → result ≡ Err (failures.Bind port) → log.new ≡ log.old }
+    ensures failed { IfErr result (λ f. (turns : ℕ) → FailsLogged turns (option_map (λ s. s.now) name.entry) f) }
+{
+    let link = Udp::bind(rt, rt.alloc(), ports, peers)?;
+    empty_log(name, log)?;
+    Ok(link)
+}
+
+/// Binds the ports, says that the router runs, and runs it with a log that has a name if there is one.
+fn run_logged<'a, R: Clock + Net + AllocGlobal, L: Log, O: Write, E: Write>(
     rt: &R,
     plan: Plan<'a>,
-    watch: &mut V,
+    log: &mut L,
     out: &mut O,
+    err: &mut E,
     lost: &mut Report,
 ) -> Result<(), Failure<'a>>
     requires { HasOneEach plan.config }
@@ -95,51 +133,46 @@ fn run_plan<'a, R: Files + Clock + Net + AllocGlobal, V: Watch, O: Write>(
     let Plan {
         config,
         turns,
-        log,
-        ..
+        debug,
+        log: name,
     } = plan;
-    match log {
-        Some(file) => {
-            let mut lines = fs::create(rt, file).map_err(|error| failed(
-                Failure::Log(file),
-                &error,
-            ))?;
-            run_logged(rt, config, turns, &mut lines, watch, out, lost)
-        }
-        None => run_logged(rt, config, turns, &mut io::sink(), watch, out, lost),
-    }
-}
-
-/// Binds the ports, and runs.
-fn run_logged<'a, R: Clock + Net + AllocGlobal, W: Write, V: Watch, O: Write>(
-    rt: &R,
-    config: Config,
-    turns: u32,
-    log: &mut W,
-    watch: &mut V,
-    out: &mut O,
-    lost: &mut Report,
-) -> Result<(), Failure<'a>>
-    requires { HasOneEach config }
-    ensures shown { OnOk result (ShowsTurns config turns (O.contents out.old) (O.contents out.new)) }
-    ensures failed { IfErr result (FailsTurns turns) }
-{
+    let _ = write_echoes(&config, err);
     let Config {
         router,
         ports,
         peers,
         rng,
     } = config;
-    let link = Udp::bind(rt, rt.alloc(), ports.as_slice(), peers)?;
+    let link = bind_and_empty(rt, ports.as_slice(), peers, name, log)?;
+    let _ = writeln!(err, "ripngd: running, {} interfaces", ports.len());
+    if !debug {
+        return run_bound(rt, router, link, rng, turns, log, &mut Unwatched, out, lost);
+    }
+    let mut lines = DebugLines::new(&mut *err);
+    let outcome = run_bound(rt, router, link, rng, turns, log, &mut lines, out, lost);
+    let counts = lines.counts();
+    let _ = writeln!(err, "{counts}");
+    outcome
+}
+
+/// Starts a router over ports that are bound, runs it, and sends what it still has to send.
+fn run_bound<'r, 'a, R: Clock + Net + AllocGlobal, W: Write, V: Watch, O: Write>(
+    rt: &'r R,
+    router: RouterConfig,
+    link: Udp<'r, R>,
+    rng: Pcg32,
+    turns: u32,
+    log: &mut W,
+    watch: &mut V,
+    out: &mut O,
+    lost: &mut Report,
+) -> Result<(), Failure<'a>>
+    requires { link.interfaces ≡ length router.interfaces }
+    ensures shown { OnOk result (ShowsBound router rng turns (O.contents out.old) (O.contents out.new)) }
+    ensures failed { IfErr result (FailsTurns turns) }
+{
     let clock = Uptime::new(rt);
-    let mut engine: Engine<TrieRoutes, Udp<'_, R>, Uptime<'_, R>, Pcg32> = Engine::start(
-        rt.alloc(),
-        router,
-        link,
-        clock,
-        rng,
-        log,
-    )?;
+    let mut engine: Running<'r, R> = Engine::start(rt.alloc(), router, link, clock, rng, log)?;
     let outcome = show_turns(&mut engine, turns, log, watch, out);
     let report = engine.report();
     let mut link = engine.into_link();
@@ -149,8 +182,8 @@ fn run_logged<'a, R: Clock + Net + AllocGlobal, W: Write, V: Watch, O: Write>(
 }
 
 /// Makes the turns, and then writes the forwarding table.
-fn show_turns<'a, 'b, R: Clock, W: Write, V: Watch, O: Write>(
-    engine: &mut Engine<TrieRoutes, Udp<'b, R>, Uptime<'b, R>, Pcg32>,
+fn show_turns<'a, R: Clock, W: Write, V: Watch, O: Write>(
+    engine: &mut Running<'_, R>,
     turns: u32,
     log: &mut W,
     watch: &mut V,

@@ -1,2 +1,3 @@
 mod Tells
-mod Steps
+pub mod Steps
+mod Changes

@@ -5,6 +5,7 @@ pub mod Log
 pub mod Run
 pub mod Outlet
 pub mod Seen
+pub mod Changing
 pub mod Running
 pub mod Memory
 pub mod Report

@@ -2,17 +2,19 @@
 
 ghost use Rattle.std.specs.Prelude.{◌≡◌, true, false, Err, IfOk, OnErr, is_err, length};
 ghost use Rattle.router_core.specs.Changes.{forwards};
+ghost use Rattle.router_core.specs.Reconfiguring.{NamesInterface};
+ghost use Rattle.ripngd_engine.specs.Changing.{ChangeAnswer};
 
 use crate::clock::TimeSource;
 use crate::link::Link;
 use crate::outlet::Outlet;
-use crate::report::{EngineFault, Report};
+use crate::report::{ChangeFault, EngineFault, Report};
 use crate::running::{Running, TurnFault};
 use crate::watch::{Unwatched, Watch};
 use fib::Fib;
 use rand_core::Rng;
 use route_table::RouteStore;
-use router_core::{Router, RouterConfig};
+use router_core::{Change, Router, RouterConfig};
 use std::alloc::{AllocError, Global};
 use std::io::Write;
 use std::marker::Model;
@@ -171,6 +173,26 @@ impl<S: RouteStore, L: Link, C: TimeSource, R: Rng + Drop> Engine<S, L, C, R> {
             }
         }
         Ok(())
+    }
+
+    /// Changes the configuration of the router, between two turns, at the moment that the clock gives. What changes of its
+    /// routes is followed and logged at once, and told by the next tick. Nothing is sent.
+    ///
+    /// # Errors
+    /// `Refused` with the router's reason; only a moment of the clock was used then. `Ended` where there was no memory for
+    /// the forwarding table: the change was made and logged, the table is as before it, and every later call answers the
+    /// same and does nothing.
+    pub fn reconfigure<W: Write>(&mut self, change: Change, log: &mut W) -> Result<(), ChangeFault>
+        requires { NamesInterface self.old.router.config change }
+        ensures changes { self.old.ended ≡ false → ChangeAnswer change (seen R.stream W.contents self.old log.old) result
+            (seen R.stream W.contents self.new log.new) }
+        ensures ended { self.old.ended ≡ true
+            → (result ≡ Err ChangeFault.Ended) × (self.new ≡ self.old) × (log.new ≡ log.old) }
+    {
+        match self.running.outlet.ended {
+            false => self.running.reconfigure(change, log),
+            true => Err(ChangeFault::Ended),
+        }
     }
 
     /// What was lost since the start.

@@ -22,5 +22,5 @@ pub use clock::TimeSource;
 pub use engine::Engine;
 pub use laws::turns_go_on;
 pub use link::{Link, LinkFault, Received};
-pub use report::{EngineFault, Report};
+pub use report::{ChangeFault, EngineFault, Report};
 pub use watch::{Arrived, Unwatched, Watch};

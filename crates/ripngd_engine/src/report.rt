@@ -4,6 +4,7 @@ ghost use Rattle.std.specs.Prelude.{◌≡◌};
 ghost use Rattle.ripngd_engine.specs.Report.{fault_number};
 ghost use Rattle.ripngd_engine.specs.declared.report.EngineFault.TheVariants as fault;
 
+use router_core::ReconfigureRefused;
 use std::alloc::AllocError;
 use thiserror::Error;
 
@@ -37,6 +38,15 @@ impl From<AllocError> for EngineFault {
     fn from(_: AllocError) -> EngineFault {
         EngineFault::OutOfMemory
     }
+}
+
+/// Why a change of the configuration was not made whole.
+#[derive(Clone, Copy, Debug, PartialEq, Eq)]
+pub enum ChangeFault {
+    /// The router refused it, and is as it was.
+    Refused(ReconfigureRefused),
+    /// There was no memory for the forwarding table, then or before. The engine makes no more turns.
+    Ended,
 }
 
 /// What was lost since an engine started. The counts stay at the greatest `u64`.

@@ -8,15 +8,18 @@ ghost use Rattle.ripngd_engine.specs.Run.{Takes, TicksOnce};
 ghost use Rattle.std.specs.Coded.{Coded-set, →_prop};
 ghost use Rattle.fib.specs.contracts.fib.Fib as forwarding;
 ghost use Rattle.router_core.specs.Changes.{forwards};
+ghost use Rattle.router_core.specs.Reconfiguring.{NamesInterface};
+ghost use Rattle.ripngd_engine.specs.Changing.{ChangeAnswer};
 ghost use Rattle.ripngd_engine.specs.declared.running.TurnFault.TheVariants.{NoLink, NoMemory};
 
 use crate::clock::TimeSource;
 use crate::link::{Link, LinkFault, Received};
 use crate::outlet::{Outlet, one_more};
-use crate::watch::{Arrived, Watch};
+use crate::report::ChangeFault;
+use crate::watch::{Arrived, Unwatched, Watch};
 use rand_core::Rng;
 use route_table::{Moment, RouteStore};
-use router_core::{Arrival, Router};
+use router_core::{Arrival, Change, Router};
 use std::alloc::AllocError;
 use std::io::Write;
 
@@ -174,5 +177,27 @@ impl<S: RouteStore, L: Link, C: TimeSource, R: Rng + Drop> Running<S, L, C, R> {
         self.take_in(received, buffer.as_slice(), log, watch)?;
         self.tick(log, watch)?;
         Ok(())
+    }
+
+    /// A change of the configuration, at the moment that the clock gives. It sends nothing, so nobody is told of it.
+    pub(crate) fn reconfigure<W: Write>(
+        &mut self,
+        change: Change,
+        log: &mut W,
+    ) -> Result<(), ChangeFault>
+        requires ended { self.old.outlet.ended ≡ false }
+        requires named { NamesInterface self.old.router.config change }
+        ensures { ChangeAnswer change (running_seen L.calls C.moments R.stream W.contents self.old log.old) result
+            (running_seen L.calls C.moments R.stream W.contents self.new log.new) }
+    {
+        let now = self.clock.now();
+        let mut watch = Unwatched;
+        match self.router.reconfigure(now, change) {
+            Ok(answer) => match self.outlet.carry_out(answer, log, &mut watch) {
+                Ok(()) => Ok(()),
+                Err(AllocError) => Err(ChangeFault::Ended),
+            },
+            Err(why) => Err(ChangeFault::Refused(why)),
+        }
     }
 }

@@ -1,17 +1,27 @@
 //! Scripts of a laboratory: whole networks of routers, and what happens in them, as lines of text.
 #![tactic(auto)]
 
+mod context;
+mod course;
+mod expecting;
+mod foreign;
 mod line;
+mod names;
+mod outages;
 mod printer;
 mod printing;
+mod refusal_name;
 mod round;
 mod script;
 mod session;
 mod stop;
+mod telling;
 mod watching;
 mod words;
 
-pub use printing::{print_routes, print_sent};
+pub use expecting::{Expected, Missed, meet};
+pub use printing::{Choice, print_routes, print_sent};
+pub use refusal_name::RefusalName;
 pub use script::{lab, watched};
-pub use stop::Refusal;
+pub use stop::{Refusal, Unmet};
 pub use watching::Watch;

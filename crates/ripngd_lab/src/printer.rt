@@ -2,8 +2,8 @@
 
 ghost use Rattle.std.specs.Prelude.{⊤};
 
-use crate::printing::{print_routes, print_sent};
-use crate::stop::Refusal;
+use crate::printing::{Choice, print_routes, print_sent};
+use crate::stop::{Refusal, Unmet};
 use crate::watching::Watch;
 use ripng_world::{Event, Lab};
 use route_table::{Moment, TrieRoutes};
@@ -11,7 +11,7 @@ use router_core::Answer;
 use std::alloc::Global;
 use std::io::{self, Write};
 
-/// Prints the routes and the datagrams that lines ask for, and the line that is refused. Of events it says nothing.
+/// Prints the routes and the datagrams that lines ask for, and the line that is refused or expects what is not so. Of events it says nothing.
 #[derive(Drop)]
 pub struct Printer<'a, W: Write> {
     alloc: Global,
@@ -56,15 +56,23 @@ impl<'a, W: Write> Watch for Printer<'a, W> {
         Ok(())
     }
 
-    fn routes_asked(&mut self, lab: &Lab<TrieRoutes>) -> io::Result<()> {
-        print_routes(lab, self.out)
+    fn routes_asked(&mut self, lab: &Lab<TrieRoutes>, choice: &Choice) -> io::Result<()> {
+        print_routes(lab, choice, self.out)
     }
 
-    fn datagrams_asked(&mut self, lab: &Lab<TrieRoutes>) -> io::Result<()> {
-        print_sent(self.alloc, lab, self.out)
+    fn datagrams_asked(&mut self, lab: &Lab<TrieRoutes>, asked: Option<usize>) -> io::Result<()> {
+        print_sent(self.alloc, lab, asked, self.out)
+    }
+
+    fn said(&mut self, text: &str) -> io::Result<()> {
+        writeln!(self.out, "{text}")
     }
 
     fn refused(&mut self, why: &Refusal) -> io::Result<()> {
         writeln!(self.out, "line {} refused {why}", self.line)
+    }
+
+    fn unmet(&mut self, unmet: &Unmet) -> io::Result<()> {
+        writeln!(self.out, "line {} {unmet}", self.line)
     }
 }

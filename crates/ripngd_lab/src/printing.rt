@@ -7,23 +7,55 @@ use router_core::{Destination, Router};
 use std::alloc::Global;
 use std::io::{self, Write};
 
-/// Writes the routes of each router, in the order of address, then length.
+/// Which routes are asked for.
+#[derive(Clone, Copy, Debug, PartialEq, Eq)]
+pub struct Choice {
+    /// Those of this router alone, or of all.
+    pub router: Option<usize>,
+    /// Those to this prefix alone, or to all.
+    pub prefix: Option<Prefix>,
+}
+
+impl Choice {
+    fn has_router(&self, number: usize) -> bool {
+        match self.router {
+            Some(router) => router == number,
+            None => true,
+        }
+    }
+
+    fn has_prefix(&self, other: Prefix) -> bool {
+        match self.prefix {
+            Some(prefix) => prefix == other,
+            None => true,
+        }
+    }
+}
+
+/// Writes the routes that are asked for, router by router, in the order of address, then length.
 ///
 /// # Errors
 /// Of the writer.
-pub fn print_routes<S: RouteStore, W: Write>(lab: &Lab<S>, out: &mut W) -> io::Result<()> {
+pub fn print_routes<S: RouteStore, W: Write>(
+    lab: &Lab<S>,
+    choice: &Choice,
+    out: &mut W,
+) -> io::Result<()> {
     for number in 0..lab.routers() {
-        if let Some(router) = lab.router(number) {
-            print_table(number, router, out)?;
+        if choice.has_router(number)
+            && let Some(router) = lab.router(number)
+        {
+            print_table(number, router, choice, out)?;
         }
     }
     Ok(())
 }
 
-/// Writes the routes of one router.
+/// Writes the routes of one router that are asked for.
 fn print_table<S: RouteStore, W: Write>(
     number: usize,
     router: &Router<S>,
+    choice: &Choice,
     out: &mut W,
 ) -> io::Result<()> {
     let routes = router.routes();
@@ -32,7 +64,9 @@ fn print_table<S: RouteStore, W: Write>(
         let Some(entry) = routes.walk(last) else {
             break;
         };
-        print_route(number, entry.0, entry.1, out)?;
+        if choice.has_prefix(entry.0) {
+            print_route(number, entry.0, entry.1, out)?;
+        }
         last = Some(entry.0);
     }
     Ok(())
@@ -60,17 +94,20 @@ fn print_route<W: Write>(
     }
 }
 
-/// Writes all datagrams ever sent, in order.
+/// Writes the datagram of that number, or all that were ever sent, in order.
 ///
 /// # Errors
 /// Of the writer, or want of memory.
 pub fn print_sent<S: RouteStore, W: Write>(
     alloc: Global,
     lab: &Lab<S>,
+    asked: Option<usize>,
     out: &mut W,
 ) -> io::Result<()> {
     for (number, sent) in lab.sent().iter().enumerate() {
-        print_datagram(alloc, number, sent, out)?;
+        if asked.is_none_or(|asked| asked == number) {
+            print_datagram(alloc, number, sent, out)?;
+        }
     }
     Ok(())
 }

@@ -2,10 +2,12 @@
 
 ghost use Rattle.std.specs.Prelude.{◌≡◌, ℕ, All, IfOk, length};
 
+use crate::outages::Outages;
 use crate::stop::Stop;
+use crate::telling::{Hearing, hear};
 use crate::watching::Watch;
 use crate::words::BadLine;
-use ripng_world::{Event, Lab, Round};
+use ripng_world::{Event, Lab, Round, RoundsRefused};
 use route_table::{Moment, TrieRoutes};
 use std::alloc::{AllocError, Global};
 
@@ -17,30 +19,71 @@ type Ticks = (Moment, Vec<(Moment, u32)>);
 
 /// Every router ticks in order, with the word 0, whether its regular update is due or not. Then each datagram that these
 /// ticks sent comes once to each other interface of its link, in the order of datagrams, routers and interfaces. All is at
-/// one moment.
+/// one moment. Silent routers do not tick, and nothing comes from or to them, or by a link that is cut.
 ///
 /// # Errors
 /// Want of memory, or of the witness. What was done before it stays done.
 pub fn make_round<V: Watch>(
+    alloc: Global,
     lab: &mut Lab<TrieRoutes>,
     now: Moment,
+    outages: &Outages,
     watch: &mut V,
 ) -> Result<(), Stop> {
     let first = lab.sent().len();
-    tick_all(lab, now, watch)?;
-    lab.deliver_since_watched(first, now, watch)?;
+    tick_all(lab, now, outages, watch)?;
+    hear_since(alloc, lab, first, now, outages, watch)
+}
+
+/// All that was sent from a number on comes everywhere, but for outages.
+fn hear_since<V: Watch>(
+    alloc: Global,
+    lab: &mut Lab<TrieRoutes>,
+    first: usize,
+    now: Moment,
+    outages: &Outages,
+    watch: &mut V,
+) -> Result<(), Stop> {
+    if outages.are_none() {
+        lab.deliver_since_watched(first, now, watch)?;
+        return Ok(());
+    }
+    let hearing = Hearing {
+        first,
+        now,
+        lost: &[],
+        outages,
+    };
+    hear(alloc, lab, &hearing, watch)
+}
+
+fn tick_all<V: Watch>(
+    lab: &mut Lab<TrieRoutes>,
+    now: Moment,
+    outages: &Outages,
+    watch: &mut V,
+) -> Result<(), Stop> {
+    for router in 0..lab.routers() {
+        if !outages.is_silent(router) {
+            tick(lab, router, now, watch)?;
+        }
+    }
     Ok(())
 }
 
-fn tick_all<V: Watch>(lab: &mut Lab<TrieRoutes>, now: Moment, watch: &mut V) -> Result<(), Stop> {
-    for router in 0..lab.routers() {
-        let tick = Event::Tick {
-            router,
-            now,
-            word: 0,
-        };
-        let _ = lab.step_watched(&tick, watch)?;
-    }
+/// A router ticks, with the word 0.
+fn tick<V: Watch>(
+    lab: &mut Lab<TrieRoutes>,
+    router: usize,
+    now: Moment,
+    watch: &mut V,
+) -> Result<(), Stop> {
+    let tick = Event::Tick {
+        router,
+        now,
+        word: 0,
+    };
+    let _ = lab.step_watched(&tick, watch)?;
     Ok(())
 }
 
@@ -60,7 +103,7 @@ pub fn moments_from(alloc: Global, count: u64, now: Moment, gap: u64) -> Result<
 }
 
 /// The moment so many gaps later, if there is one.
-fn moment_after(now: Moment, gap: u64, gaps: u64) -> Option<Moment> {
+pub fn moment_after(now: Moment, gap: u64, gaps: u64) -> Option<Moment> {
     Moment::new(gap.checked_mul(gaps)?.checked_add(now.ms())?)
 }
 
@@ -79,6 +122,54 @@ pub fn make_rounds<V: Watch>(
     let rounds = rounds_of(alloc, &ticks)?;
     lab.run_rounds_watched(&rounds, watch)?;
     Ok(())
+}
+
+/// The rounds of these moments with outages: as [`make_rounds`], but silent routers do not tick, and nothing comes from or to
+/// them, or by a link that is cut.
+///
+/// # Errors
+/// As of [`make_rounds`].
+pub fn make_partial_rounds<V: Watch>(
+    alloc: Global,
+    lab: &mut Lab<TrieRoutes>,
+    moments: &[Moment],
+    outages: &Outages,
+    watch: &mut V,
+) -> Result<(), Stop> {
+    for (round, now) in moments.iter().enumerate() {
+        let first = lab.sent().len();
+        tick_due(lab, round, *now, outages, watch)?;
+        hear_since(alloc, lab, first, *now, outages, watch)?;
+    }
+    Ok(())
+}
+
+/// Each router that is not silent ticks when its regular update is due.
+fn tick_due<V: Watch>(
+    lab: &mut Lab<TrieRoutes>,
+    round: usize,
+    now: Moment,
+    outages: &Outages,
+    watch: &mut V,
+) -> Result<(), Stop> {
+    for router in 0..lab.routers() {
+        if outages.is_silent(router) {
+            continue;
+        }
+        if !is_due(lab, router, now) {
+            return Err(Stop::from(RoundsRefused::NoRegularUpdate { round, router }));
+        }
+        tick(lab, router, now, watch)?;
+    }
+    Ok(())
+}
+
+/// Whether the regular update of a router is due, at a moment or at the last one that it was told.
+fn is_due(lab: &Lab<TrieRoutes>, router: usize, now: Moment) -> bool {
+    match lab.router(router) {
+        Some(router) => router.regular().reached(now.max(router.last())),
+        None => false,
+    }
 }
 
 /// A tick of each router at each moment.

@@ -2,8 +2,9 @@
 
 use crate::line::read_line;
 use crate::printer::Printer;
+use crate::refusal_name::RefusalName;
 use crate::session::Session;
-use crate::stop::Stop;
+use crate::stop::{Stop, Unmet};
 use crate::watching::Watch;
 use crate::words::BadLine;
 use std::alloc::Global;
@@ -11,7 +12,8 @@ use std::io::{self, Write};
 use std::str;
 
 /// Runs a script, line by line, and answers whether every line was done. What its lines print is written to `out`; the
-/// first line that is refused is named by `line L refused ..`, counted from 1, and ends the script.
+/// first line that is refused is named by `line L refused ..`, counted from 1, and ends the script; so is the first
+/// expectation that is not met, by `line L expected .. found ..`.
 ///
 /// # Errors
 /// `OutOfMemory` where memory was refused, else the fault of `out`. What earlier lines printed may have been written.
@@ -20,7 +22,7 @@ pub fn lab<W: Write>(alloc: Global, script: &[u8], out: &mut W) -> io::Result<bo
 }
 
 /// Runs a script, line by line, and answers whether every line was done. The witness is told of all that happens. The
-/// first line that is refused ends the script.
+/// first line that is refused, or expects what is not so, ends the script.
 ///
 /// # Errors
 /// `OutOfMemory` where memory was refused, else the fault of the witness. What was told before stays told.
@@ -34,6 +36,10 @@ pub fn watched<V: Watch>(alloc: Global, script: &[u8], watch: &mut V) -> io::Res
                 watch.refused(&refusal)?;
                 return Ok(false);
             }
+            Err(Stop::Unmet(unmet)) => {
+                watch.unmet(&unmet)?;
+                return Ok(false);
+            }
             Err(Stop::Failed(error)) => return Err(error),
         }
     }
@@ -43,6 +49,17 @@ pub fn watched<V: Watch>(alloc: Global, script: &[u8], watch: &mut V) -> io::Res
 /// An empty line, or a remark.
 fn is_skipped(line: &[u8]) -> bool {
     line.is_empty() || line.starts_with(b"#")
+}
+
+/// A line without the remark behind its words, and without the spaces before that.
+fn words_of(text: &str) -> &str {
+    if text.starts_with("say ") {
+        return text;
+    }
+    match text.split_once(" #") {
+        Some((words, _)) => words.trim_end_matches(' '),
+        None => text,
+    }
 }
 
 fn run_line<V: Watch>(
@@ -55,5 +72,39 @@ fn run_line<V: Watch>(
         return Ok(());
     }
     let text = str::from_utf8(line).map_err(|_| BadLine)?;
-    session.obey(alloc, read_line(alloc, text)?, watch)
+    let words = words_of(text);
+    if words.is_empty() {
+        return Ok(());
+    }
+    let awaited = session.awaited();
+    let outcome = run_words(alloc, session, words, watch);
+    match awaited {
+        Some(name) => await_refusal(name, outcome),
+        None => outcome,
+    }
+}
+
+fn run_words<V: Watch>(
+    alloc: Global,
+    session: &mut Session,
+    words: &str,
+    watch: &mut V,
+) -> Result<(), Stop> {
+    let line = read_line(alloc, words, session.context())?;
+    session.obey(alloc, line, watch)
+}
+
+/// What becomes of a line that is to be refused by a name: it is as it should be where it is.
+fn await_refusal(name: RefusalName, outcome: Result<(), Stop>) -> Result<(), Stop> {
+    match outcome {
+        Ok(()) => Err(Stop::Unmet(Unmet::Refusal { name, found: None })),
+        Err(Stop::Refused(found)) => {
+            if found.is_named(name.word()) {
+                return Ok(());
+            }
+            let found = Some(found);
+            Err(Stop::Unmet(Unmet::Refusal { name, found }))
+        }
+        Err(stop) => Err(stop),
+    }
 }

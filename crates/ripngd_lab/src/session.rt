@@ -1,28 +1,57 @@
 //! A script that runs: its routers are listed until they start, and then live in a network.
 
+use crate::context::Context;
+use crate::course::{Course, run};
 use crate::line::Line;
-use crate::round::{make_round, make_rounds};
+use crate::refusal_name::RefusalName;
 use crate::stop::Stop;
 use crate::watching::Watch;
-use crate::words::BadLine;
-use ripng_world::{Event, Lab, NetConfig, Node};
+use crate::words::{BadLine, next_prefix};
+use prefix6::Prefix;
+use ripng_world::{Lab, NetConfig, Node};
 use route_table::{Moment, TrieRoutes};
 use std::alloc::Global;
 use std::mem;
 
 /// How far a script has come.
 #[derive(Drop)]
-pub enum Session {
+enum Stage {
     /// Its routers are listed, and none has started.
     Listing(Vec<Node>),
     /// Its routers have started.
     Running(Lab<TrieRoutes>),
 }
 
+/// A script that runs.
+#[derive(Drop)]
+pub struct Session {
+    stage: Stage,
+    /// What words may stand for.
+    context: Context,
+    course: Course,
+}
+
 impl Session {
     /// Nothing is listed yet.
     pub fn new(alloc: Global) -> Session {
-        Session::Listing(Vec::new(alloc))
+        Session {
+            stage: Stage::Listing(Vec::new(alloc)),
+            context: Context::new(alloc),
+            course: Course::new(alloc),
+        }
+    }
+
+    /// What the words of the next line may stand for.
+    pub fn context(&mut self) -> &mut Context {
+        if let Stage::Running(lab) = &self.stage {
+            self.context.sent = lab.sent().len();
+        }
+        &mut self.context
+    }
+
+    /// The name that the next line is to be refused by, if the line before has said so. It counts once.
+    pub fn awaited(&mut self) -> Option<RefusalName> {
+        self.course.awaited.take()
     }
 
     /// Does what a line says.
@@ -30,33 +59,65 @@ impl Session {
     /// # Errors
     /// Why the script ends here. What was done before it stays done.
     pub fn obey<V: Watch>(&mut self, alloc: Global, line: Line, watch: &mut V) -> Result<(), Stop> {
-        match self {
-            Session::Running(lab) => run(alloc, lab, line, watch),
-            Session::Listing(nodes) => match line {
+        match &mut self.stage {
+            Stage::Running(lab) => run(alloc, lab, &mut self.course, line, watch),
+            Stage::Listing(nodes) => match line {
                 Line::Cold { now } => {
                     let nodes = mem::replace(nodes, Vec::new(alloc));
                     let lab = start(alloc, nodes, now)?;
                     watch.started(&lab, now)?;
-                    *self = Session::Running(lab);
+                    self.stage = Stage::Running(lab);
                     Ok(())
                 }
-                line => list(alloc, nodes, line),
+                line => list(alloc, nodes, &mut self.context, line),
             },
         }
     }
 }
 
 /// A line that lists a router, or what one has.
-fn list(alloc: Global, nodes: &mut Vec<Node>, line: Line) -> Result<(), Stop> {
+fn list(
+    alloc: Global,
+    nodes: &mut Vec<Node>,
+    context: &mut Context,
+    line: Line,
+) -> Result<(), Stop> {
     match line {
-        Line::Router { quiet } => nodes.push(Node {
-            interfaces: Vec::new(alloc),
-            prefixes: Vec::new(alloc),
-            quiet,
-        })?,
-        Line::Iface(interface) => newest(nodes)?.interfaces.push(interface)?,
-        Line::Own { prefix, tag } => newest(nodes)?.prefixes.push((prefix, tag))?,
-        _ => return Err(Stop::from(BadLine)),
+        Line::Router { quiet, name } => {
+            give_name(context, name, nodes.len())?;
+            begin(alloc, nodes, quiet)
+        }
+        Line::Iface(interface) => Ok(newest(nodes)?.interfaces.push(interface)?),
+        Line::Own { prefix, tag, times } => own(newest(nodes)?, prefix, tag, times),
+        _ => Err(Stop::from(BadLine)),
+    }
+}
+
+/// The next router begins.
+fn begin(alloc: Global, nodes: &mut Vec<Node>, quiet: bool) -> Result<(), Stop> {
+    nodes.push(Node {
+        interfaces: Vec::new(alloc),
+        prefixes: Vec::new(alloc),
+        quiet,
+    })?;
+    Ok(())
+}
+
+/// A router gets its name, if it has one.
+fn give_name(context: &mut Context, name: Option<String>, router: usize) -> Result<(), Stop> {
+    match name {
+        Some(name) => context.names.add(name, router),
+        None => Ok(()),
+    }
+}
+
+/// A router owns a row of so many prefixes.
+fn own(node: &mut Node, first: Prefix, tag: u16, times: usize) -> Result<(), Stop> {
+    let mut next = Some(first);
+    for _ in 0..times {
+        let prefix = next.ok_or(BadLine)?;
+        node.prefixes.push((prefix, tag))?;
+        next = next_prefix(prefix);
     }
     Ok(())
 }
@@ -71,29 +132,4 @@ fn start(alloc: Global, nodes: Vec<Node>, now: Moment) -> Result<Lab<TrieRoutes>
     let moments = vec![in alloc; now; nodes.len()]?;
     let network = NetConfig::check(alloc, nodes)?;
     Ok(Lab::cold(alloc, network, moments.as_slice())?)
-}
-
-/// A line about routers that run. What a router answers is for the witness alone.
-fn run<V: Watch>(
-    alloc: Global,
-    lab: &mut Lab<TrieRoutes>,
-    line: Line,
-    watch: &mut V,
-) -> Result<(), Stop> {
-    match line {
-        Line::Event(event) => {
-            let _ = lab.step_watched(&event, watch)?;
-            Ok(())
-        }
-        Line::Stranger { router, datagram } => {
-            let arrival = datagram.arrival();
-            let _ = lab.step_watched(&Event::Stranger { router, arrival }, watch)?;
-            Ok(())
-        }
-        Line::Round { now } => make_round(lab, now, watch),
-        Line::Rounds { moments } => make_rounds(alloc, lab, &moments, watch),
-        Line::Print => Ok(watch.routes_asked(lab)?),
-        Line::Sent => Ok(watch.datagrams_asked(lab)?),
-        _ => Err(Stop::from(BadLine)),
-    }
 }

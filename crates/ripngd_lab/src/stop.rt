@@ -1,5 +1,7 @@
 //! Why a script ends before its last line.
 
+use crate::expecting::Expected;
+use crate::refusal_name::RefusalName;
 use crate::words::BadLine;
 use ripng_world::{LabError, NetRefused, RoundsRefused, Stopped};
 use std::alloc::{AllocError, AllocFailed};
@@ -10,6 +12,10 @@ use std::{fmt, io};
 pub enum Refusal {
     /// The line is malformed, or out of place.
     BadLine,
+    /// Two routers get one name.
+    NameTwice,
+    /// No interface is on the link.
+    NoSuchLink,
     /// The routers make no network.
     Network(NetRefused),
     /// The event cannot happen.
@@ -18,13 +24,93 @@ pub enum Refusal {
     Rounds(RoundsRefused),
 }
 
+/// What is not as a line expects. Its text is what is printed after `line L `.
+#[derive(Clone, Copy, Debug, PartialEq, Eq)]
+pub enum Unmet {
+    /// A router's table has another metric, or no route.
+    Metric {
+        expected: Expected,
+        found: Option<u8>,
+    },
+    /// The line was to be refused by this name, and is done, or refused for another reason.
+    Refusal {
+        name: RefusalName,
+        found: Option<Refusal>,
+    },
+}
+
+impl fmt::Display for Unmet {
+    fn fmt<W: fmt::Write>(&self, f: &mut fmt::Formatter<W>) -> fmt::Result {
+        match self {
+            Unmet::Metric { expected, found } => write_unmet_metric(expected, *found, f),
+            Unmet::Refusal { name, found } => write_unmet_refusal(*name, *found, f),
+        }
+    }
+}
+
+fn write_unmet_refusal<W: fmt::Write>(
+    name: RefusalName,
+    found: Option<Refusal>,
+    f: &mut fmt::Formatter<W>,
+) -> fmt::Result {
+    write!(f, "expected refused {} found ", name.word())?;
+    match found {
+        Some(found) => write!(f, "refused {found}"),
+        None => write!(f, "done"),
+    }
+}
+
+fn write_unmet_metric<W: fmt::Write>(
+    expected: &Expected,
+    found: Option<u8>,
+    f: &mut fmt::Formatter<W>,
+) -> fmt::Result {
+    let Expected { router, prefix, .. } = expected;
+    write!(f, "expected {router} {prefix} ")?;
+    write_metric(expected.metric, f)?;
+    write!(f, " found ")?;
+    write_metric(found, f)
+}
+
+/// A metric, or `none`.
+fn write_metric<W: fmt::Write>(metric: Option<u8>, f: &mut fmt::Formatter<W>) -> fmt::Result {
+    match metric {
+        Some(metric) => write!(f, "{metric}"),
+        None => write!(f, "none"),
+    }
+}
+
 /// Why a script ends before its last line.
 #[derive(Debug, Drop)]
 pub enum Stop {
     /// A line is refused.
     Refused(Refusal),
+    /// What a line expects is not so.
+    Unmet(Unmet),
     /// Memory or the writer failed.
     Failed(io::Error),
+}
+
+impl Refusal {
+    /// Whether this is the name of the refusal, or of a router's reason for it.
+    pub fn is_named(&self, name: &str) -> bool {
+        match self {
+            Refusal::BadLine => name == "BadLine",
+            Refusal::NameTwice => name == "NameTwice",
+            Refusal::NoSuchLink => name == "NoSuchLink",
+            Refusal::Network(refused) => refused.name() == name,
+            Refusal::Event(error) => error.name() == name || is_reason(*error, name),
+            Refusal::Rounds(refused) => refused.name() == name,
+        }
+    }
+}
+
+/// Whether this is the name of a router's reason to refuse a change.
+fn is_reason(error: LabError, name: &str) -> bool {
+    match error {
+        LabError::ReconfigureRefused(why) => why.name() == name,
+        _ => false,
+    }
 }
 
 impl From<BadLine> for Stop {
@@ -109,6 +195,8 @@ impl fmt::Display for Refusal {
     fn fmt<W: fmt::Write>(&self, f: &mut fmt::Formatter<W>) -> fmt::Result {
         match self {
             Refusal::BadLine => write!(f, "BadLine"),
+            Refusal::NameTwice => write!(f, "NameTwice"),
+            Refusal::NoSuchLink => write!(f, "NoSuchLink"),
             Refusal::Network(refused) => write_network(*refused, f),
             Refusal::Event(error) => write_event(*error, f),
             Refusal::Rounds(refused) => write_rounds(*refused, f),

@@ -1,6 +1,7 @@
 //! Who is told what happens in a script.
 
-use crate::stop::Refusal;
+use crate::printing::Choice;
+use crate::stop::{Refusal, Unmet};
 use ripng_world::Lab;
 use route_table::{Moment, TrieRoutes};
 use std::io;
@@ -16,12 +17,18 @@ pub trait Watch: ripng_world::Watch<TrieRoutes, Fault = io::Error> {
     /// Of what the witness writes to, or want of memory; so are those below.
     fn started(&mut self, lab: &Lab<TrieRoutes>, now: Moment) -> io::Result<()>;
 
-    /// The line `print`.
-    fn routes_asked(&mut self, lab: &Lab<TrieRoutes>) -> io::Result<()>;
+    /// The line `print`: which routes it asks for.
+    fn routes_asked(&mut self, lab: &Lab<TrieRoutes>, choice: &Choice) -> io::Result<()>;
 
-    /// The line `sent`.
-    fn datagrams_asked(&mut self, lab: &Lab<TrieRoutes>) -> io::Result<()>;
+    /// The line `sent`: the number of the datagram that it asks for, if not for all.
+    fn datagrams_asked(&mut self, lab: &Lab<TrieRoutes>, asked: Option<usize>) -> io::Result<()>;
+
+    /// The line `say`: its text.
+    fn said(&mut self, text: &str) -> io::Result<()>;
 
     /// The line is refused, and ends the script.
     fn refused(&mut self, why: &Refusal) -> io::Result<()>;
+
+    /// The line expects what is not so, and ends the script.
+    fn unmet(&mut self, unmet: &Unmet) -> io::Result<()>;
 }

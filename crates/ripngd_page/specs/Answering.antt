@@ -1,5 +1,5 @@
 -- What is asked of the page's server, and what it answers.
-use Rattle.std.specs.Prelude.{◌≡◌, ◌≢◌, ◌⊎◌, ◌≤◌, ◌<◌, ℕ, Bool, List, [], ◌∷◌, codes, length, IsUtf8}
+use Rattle.std.specs.Prelude.{◌≡◌, ◌≢◌, ◌⊎◌, ◌≤◌, ◌<◌, ℕ, Bool, List, [], ◌∷◌, ◌++◌, codes, length, IsUtf8}
 use Rattle.http.specs.declared.request.Parts.{Parts}
 use Rattle.http.specs.declared.request.Request.{Request}
 use Rattle.http.specs.Request.{head_of, body_of}
@@ -24,12 +24,24 @@ IsAskedAt path method asks.OtherPath = (path ≢ codes "/") × (path ≢ codes "
 
 -- what the head of a request asks at a port: nothing, where it is not welcome
 abbrev pub IsAsked : ℕ → Parts → Asked → Type 0
-IsAsked port head asks.Stranger = ¬ (IsWelcome port head.headers)
-IsAsked port head asked = IsWelcome port head.headers × IsAskedAt (uri_path head.uri) head.method asked
+IsAsked port head asks.Stranger = ¬ (IsWelcome port head)
+IsAsked port head asked = IsWelcome port head × IsAskedAt (uri_path head.uri) head.method asked
 
--- the fields of each answer: what its body is, and that no other request follows on the connection
+-- an answer is kept in no cache, and shown in no frame
+unfoldable pub unkept : List (List ℕ × List ℕ)
+unkept = (codes "cache-control", codes "no-store") ∷ (codes "content-security-policy", codes "frame-ancestors 'none'") ∷ []
+
+-- it is read by no other page, and taken for no other kind
+unfoldable pub unread : List (List ℕ × List ℕ)
+unread = (codes "cross-origin-resource-policy", codes "same-origin") ∷ (codes "x-content-type-options", codes "nosniff") ∷ []
+
+-- what keeps an answer from other pages and from caches
+abbrev pub guards : List (List ℕ × List ℕ)
+guards = unkept ++ unread
+
+-- the fields of each answer: that no other request follows on the connection, what the body is, and what keeps it from others
 abbrev pub fields_with : List ℕ → List (List ℕ × List ℕ)
-fields_with kind = (codes "connection", codes "close") ∷ (codes "content-type", kind) ∷ []
+fields_with kind = (codes "connection", codes "close") ∷ (codes "content-type", kind) ∷ guards
 
 -- a text is answered
 abbrev pub IsTextAnswer : ℕ → List ℕ → Response → Type 0

@@ -1,4 +1,4 @@
--- The parts of the page, of page/template.html. They are closed: no proof has to read them.
+-- The parts of the page, of page/src. They are closed: no proof has to read them.
 use Rattle.std.specs.Prelude.{ℕ, List, ◌++◌}
 use Rattle.ripngd_page.specs.declared.template.drawing.TheConstants.{DRAWING}
 use Rattle.ripngd_page.specs.declared.template.examples.TheConstants.{EXAMPLES}

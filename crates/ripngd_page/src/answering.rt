@@ -1,8 +1,10 @@
 //! Answers as they are filled in.
 
-ghost use Rattle.std.specs.Prelude.{◌≡◌, ◌⊎◌, ◌++◌, OnOk};
+ghost use Rattle.std.specs.Prelude.{◌≡◌, ◌⊎◌, ◌++◌, ◌∷◌, [], IsTrue, OnOk};
+ghost use Rattle.http_header.specs.FieldValue.{is_visible_text};
+ghost use Rattle.http_header.specs.FieldName.{is_header_name};
 ghost use Rattle.http_server.specs.Response.{IsBlank, fields_of};
-ghost use Rattle.ripngd_page.specs.Answering.{IsAnswer, IsLinesAnswer, IsMethodAnswer, IsPageAnswer, IsPrinted, IsTextAnswer, IsTooLong, IsWithoutMemory, fields_with};
+ghost use Rattle.ripngd_page.specs.Answering.{IsAnswer, IsLinesAnswer, IsMethodAnswer, IsPageAnswer, IsPrinted, IsTextAnswer, IsTooLong, IsWithoutMemory, fields_with, guards, unkept, unread};
 ghost use Rattle.ripngd_page.specs.Texts.{tail_text};
 
 use crate::asked::Asked;
@@ -12,7 +14,7 @@ use crate::page::ANSWER_LIMIT;
 use crate::texts::{drawing, examples, head, middle, panes, reading};
 use bytes::BufMut;
 use http::StatusCode;
-use http::header::{ALLOW, CONNECTION, CONTENT_TYPE, HeaderValue};
+use http::header::{ALLOW, CONNECTION, CONTENT_TYPE, HeaderName, HeaderValue};
 use http_server::{Response, Rope};
 use ripngd_show::{PrintFault, show};
 use std::alloc::{AllocError, Global};
@@ -43,14 +45,76 @@ pub(crate) fn answer(
     }
 }
 
-/// Says what the body is, and that no other request follows on the connection, which might keep all others waiting.
+/// Says what the body is, that no other request follows on the connection, which might keep all others waiting, and who may read it.
 fn declare(kind: HeaderValue, response: &mut Response) -> Result<(), AllocError>
     ensures fields { OnOk result (fields_of response.new ≡ fields_of response.old ++ fields_with kind.bytes) }
     ensures status { response.new.status ≡ response.old.status }
     ensures body { response.new.body ≡ response.old.body }
 {
     response.add_header(CONNECTION, HeaderValue::from_static("close"))?;
-    response.add_header(CONTENT_TYPE, kind)
+    response.add_header(CONTENT_TYPE, kind)?;
+    guard(response)
+}
+
+/// Keeps what is answered from other pages and from caches.
+fn guard(response: &mut Response) -> Result<(), AllocError>
+    ensures fields { OnOk result (fields_of response.new ≡ fields_of response.old ++ guards) }
+    ensures status { response.new.status ≡ response.old.status }
+    ensures body { response.new.body ≡ response.old.body }
+{
+    keep_nowhere(response)?;
+    hide(response)
+}
+
+/// Lets nobody keep or frame it.
+#[tactic(auto, unfolding(crate::specs::Answering::unkept))]
+fn keep_nowhere(response: &mut Response) -> Result<(), AllocError>
+    ensures fields { OnOk result (fields_of response.new ≡ fields_of response.old ++ unkept) }
+    ensures status { response.new.status ≡ response.old.status }
+    ensures body { response.new.body ≡ response.old.body }
+{
+    put_both(
+        ("cache-control", "no-store"),
+        ("content-security-policy", "frame-ancestors 'none'"),
+        response,
+    )
+}
+
+/// Lets no other page read it or take it for another kind.
+#[tactic(auto, unfolding(crate::specs::Answering::unread))]
+fn hide(response: &mut Response) -> Result<(), AllocError>
+    ensures fields { OnOk result (fields_of response.new ≡ fields_of response.old ++ unread) }
+    ensures status { response.new.status ≡ response.old.status }
+    ensures body { response.new.body ≡ response.old.body }
+{
+    put_both(
+        ("cross-origin-resource-policy", "same-origin"),
+        ("x-content-type-options", "nosniff"),
+        response,
+    )
+}
+
+/// Adds two fields.
+fn put_both(
+    first: (&'static str, &'static str),
+    second: (&'static str, &'static str),
+    response: &mut Response,
+) -> Result<(), AllocError>
+    requires names { IsTrue (is_header_name first.0.now) × IsTrue (is_header_name second.0.now) }
+    requires values { IsTrue (is_visible_text first.1.now) × IsTrue (is_visible_text second.1.now) }
+    ensures fields { OnOk result (fields_of response.new
+        ≡ fields_of response.old ++ (first.entry.0.now, first.entry.1.now) ∷ (second.entry.0.now, second.entry.1.now) ∷ []) }
+    ensures status { response.new.status ≡ response.old.status }
+    ensures body { response.new.body ≡ response.old.body }
+{
+    response.add_header(
+        HeaderName::from_static(first.0),
+        HeaderValue::from_static(first.1),
+    )?;
+    response.add_header(
+        HeaderName::from_static(second.0),
+        HeaderValue::from_static(second.1),
+    )
 }
 
 /// Answers with a text.

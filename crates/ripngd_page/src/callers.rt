@@ -1,13 +1,14 @@
 //! Who may ask: a page of the web must not reach the laboratory.
 
-ghost use Rattle.std.specs.Prelude.{◌≡◌, ◌↔◌, ◌++◌, ◌⊎◌, codes, decimal, IfOk, IfSome, IsTrue};
+ghost use Rattle.std.specs.Prelude.{◌≡◌, ◌↔◌, ◌++◌, ◌⊎◌, All, codes, decimal, IfOk, IsTrue};
 ghost use Rattle.std.specs.String.{string_bytes};
 ghost use Rattle.http.specs.Request.{head_of};
-ghost use Rattle.ripngd_page.specs.Welcome.{IsOwnHost, IsOwnOrigin, IsWelcome};
+ghost use Rattle.http_uri.specs.Uri.{uri_authority};
+ghost use Rattle.ripngd_page.specs.Welcome.{IsOwnHost, IsOwnOrigin, IsOwnTarget, IsWelcome};
 
 use bytes::Bytes;
-use http::Request;
-use http::header::{HOST, HeaderValue, ORIGIN};
+use http::header::{GetAll, HOST, HeaderValue, ORIGIN};
+use http::{Request, Uri};
 use std::alloc::{AllocError, Global};
 
 /// The hosts at which the page is served.
@@ -44,15 +45,17 @@ impl Callers {
         self.port
     }
 
-    /// Whether a request names this machine's loopback as its host, by address or by name, and comes from no other page:
-    /// it has no origin, or that of the page itself.
+    /// Whether a request names this machine's loopback as its host, by address or by name, asks for something of that host, and
+    /// comes from no other page: each origin that it names is that of the page itself.
     pub fn is_welcome(&self, request: &Request<Bytes>) -> bool
-        ensures { IsTrue result ↔ IsWelcome self.now.port (head_of request.now).headers }
+        ensures { IsTrue result ↔ IsWelcome self.now.port (head_of request.now) }
     {
         match request.headers().get(HOST) {
             Some(host) => {
                 let host = host.as_bytes();
-                self.is_own(host) && is_own_origin(host, request.headers().get(ORIGIN))
+                self.is_own(host)
+                    && is_own_target(host, request.uri())
+                    && are_own_origins(host, request.headers().get_all(ORIGIN))
             }
             None => false,
         }
@@ -66,15 +69,29 @@ impl Callers {
     }
 }
 
-/// Whether there is no origin, or it is the page of that host.
-fn is_own_origin(host: &[u8], origin: Option<&HeaderValue>) -> bool
-    ensures { IsTrue result ↔ IfSome origin.entry (λ o. o.now.bytes ≡ codes "http://" ++ host.now) }
+/// Whether the target of a request names no host, or that one.
+fn is_own_target(host: &[u8], target: &Uri) -> bool
+    ensures { IsTrue result ↔ IsOwnTarget host.now (uri_authority target.now) }
 {
-    match origin {
+    match target.authority() {
         None => true,
-        Some(origin) => match origin.as_bytes().strip_prefix(b"http://") {
-            Some(from) => from == host,
-            None => false,
-        },
+        Some(authority) => authority.as_str().as_bytes() == host,
+    }
+}
+
+/// Whether each origin is the page of that host.
+fn are_own_origins(host: &[u8], origins: GetAll<'_, HeaderValue>) -> bool
+    ensures { IsTrue result ↔ All (IsOwnOrigin host.now) origins.entry }
+{
+    origins.iter().all(|origin| is_own_origin(host, origin))
+}
+
+/// Whether an origin is the page of that host.
+fn is_own_origin(host: &[u8], origin: &HeaderValue) -> bool
+    ensures { IsTrue result ↔ IsOwnOrigin host.now origin.now }
+{
+    match origin.as_bytes().strip_prefix(b"http://") {
+        Some(from) => from == host,
+        None => false,
     }
 }

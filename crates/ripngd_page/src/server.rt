@@ -1,4 +1,4 @@
-//! The socket at which the page is served: one connection after another, with a request each.
+//! The socket at which the page is served: many connections in turn, with a request each.
 
 ghost use Rattle.std.specs.Prelude.{◌≡◌, ◌≢◌, ◌⊎◌, ℕ, Err, IfErr, OnOk};
 ghost use Rattle.std.specs.Io.KnownBytes.{Appends};
@@ -7,14 +7,16 @@ ghost use Rattle.std.specs.declared.io.ErrorKind.TheVariants as kinds;
 ghost use Rattle.ripngd_page.specs.Serving.{address_line};
 
 use crate::fault::ServeFault;
-use crate::page::{BODY_LIMIT, Page};
-use crate::patience::attend;
-use http_server::{Config, Connection};
-use std::hash::RandomState;
+use crate::guest::{Guest, Turn};
+use crate::page::Page;
+use std::collections::VecDeque;
 use std::io::{self, ErrorKind, Write};
 use std::net::{IpAddr, Ipv4Addr, Net, OpenListener, SocketAddr, TcpListener};
 use std::random::RandomSource;
 use std::rt::Clock;
+
+/// How many connections are served in turn, at most; others wait to be accepted.
+const GUESTS: usize = 64;
 
 /// The page, at a port of 127.0.0.1.
 #[derive(Drop)]
@@ -22,6 +24,8 @@ pub struct Server<'a, R: Net> {
     rt: &'a R,
     listener: R::Listener,
     page: Page,
+    /// The connections, the one first whose turn is next.
+    guests: VecDeque<Guest<R::Stream>>,
 }
 
 /// What an error of a socket is: want of memory, or else this.
@@ -45,7 +49,12 @@ impl<'a, R: AllocGlobal + Clock + Net + RandomSource> Server<'a, R> {
     {
         let bound = bind_loopback(rt, port);
         match bound {
-            Ok((listener, page)) => Ok(Server { rt, listener, page }),
+            Ok((listener, page)) => Ok(Server {
+                rt,
+                listener,
+                page,
+                guests: VecDeque::new(rt.alloc()),
+            }),
             Err(error) => Err(fault_of(&error, ServeFault::Bind(port))),
         }
     }
@@ -57,9 +66,9 @@ impl<'a, R: AllocGlobal + Clock + Net + RandomSource> Server<'a, R> {
         self.page.port()
     }
 
-    /// Answers so many requests, or without a number as many as come. What goes wrong on a connection ends that one alone:
-    /// a request that is not whole in 2 seconds, an answer that is not taken in 30. A connection without a request is not
-    /// counted.
+    /// Answers so many requests, or without a number as many as come. Up to 64 connections are served in turn, so none that is
+    /// silent holds up another. What goes wrong on one ends that one alone: a request that is not whole in 2 seconds, an answer that
+    /// is not taken in 30. A connection without a request is not counted.
     ///
     /// # Errors
     /// `Accept` where the socket gives no more connections; `OutOfMemory`.
@@ -71,33 +80,57 @@ impl<'a, R: AllocGlobal + Clock + Net + RandomSource> Server<'a, R> {
             if rest == 0 {
                 return Ok(());
             }
-            if self.serve_next()? {
+            self.welcome()?;
+            if self.turn() {
                 rest -= 1;
             }
         }
         Ok(())
     }
 
-    /// Waits for a connection, and answers whether anything was answered on it.
-    fn serve_next(&mut self) -> Result<bool, ServeFault>
+    /// Takes in a connection, if one waits and there is room; waits for one where nobody is there.
+    fn welcome(&mut self) -> Result<(), ServeFault>
         ensures { IfErr result (λ e. (e ≡ ServeFault.OutOfMemory) ⊎ (e ≡ ServeFault.Accept)) }
     {
-        match self.listener.accept() {
-            Ok((mut stream, _)) => Ok(self.attend_to(&mut stream).unwrap_or(false)),
-            Err(error) if is_passing(&error) => Ok(false),
+        if self.guests.len() >= GUESTS {
+            return Ok(());
+        }
+        match self.accept() {
+            Ok(stream) => {
+                self.take_in(stream);
+                Ok(())
+            }
+            Err(error) if is_passing(&error) => Ok(()),
             Err(error) => Err(fault_of(&error, ServeFault::Accept)),
         }
     }
 
-    /// Serves a connection to its end.
-    fn attend_to(&mut self, stream: &mut R::Stream) -> io::Result<bool> {
-        let config = Config {
-            max_body_len: BODY_LIMIT,
-            ..Config::default()
+    /// The connection that waits; where nobody is there, the one that comes next.
+    fn accept(&self) -> io::Result<R::Stream> {
+        self.listener.set_nonblocking(!self.guests.is_empty())?;
+        let (stream, _) = self.listener.accept()?;
+        Ok(stream)
+    }
+
+    /// Puts a connection behind the others, or lets it go where it cannot be served.
+    fn take_in(&mut self, stream: R::Stream) {
+        if let Ok(guest) = Guest::new(self.rt, stream) {
+            let _ = self.guests.push_back(guest);
+        }
+    }
+
+    /// Gives the first connection its turn, and answers whether it ended with something that was answered.
+    fn turn(&mut self) -> bool {
+        let Some(mut guest) = self.guests.pop_front() else {
+            return false;
         };
-        let keys = RandomState::new(self.rt)?;
-        let mut connection = Connection::new(self.rt.alloc(), keys, config);
-        attend(self.rt, &mut connection, &mut self.page, stream)
+        match guest.turn(self.rt, &mut self.page) {
+            Turn::Open => {
+                let _ = self.guests.push_back(guest);
+                false
+            }
+            Turn::Ended { answered } => answered,
+        }
     }
 }
 
@@ -108,11 +141,14 @@ fn bind_loopback<R: AllocGlobal + Net>(rt: &R, port: u16) -> io::Result<(R::List
     Ok((listener, Page::new(rt.alloc(), given)?))
 }
 
-/// Whether an error of `accept` is of one connection alone, or of a signal.
+/// Whether an error of `accept` is of one connection alone, of a signal, or says that nobody waits.
 fn is_passing(error: &io::Error) -> bool {
     matches!(
         error.kind(),
-        ErrorKind::ConnectionAborted | ErrorKind::ConnectionReset | ErrorKind::Interrupted
+        ErrorKind::WouldBlock
+            | ErrorKind::ConnectionAborted
+            | ErrorKind::ConnectionReset
+            | ErrorKind::Interrupted
     )
 }
 
@@ -134,6 +170,20 @@ pub fn serve_page<R: AllocGlobal + Clock + Net + RandomSource, O: Write>(
     ensures bind { IfErr result (λ e. (p : ℕ) → e ≡ ServeFault.Bind p → (p ≡ port) × (out.new ≡ out.old)) }
 {
     let mut server = Server::bind(rt, port)?;
+    announce(&mut server, requests, out)
+}
+
+/// Writes the address at which the page is served, and answers so many requests.
+fn announce<R: AllocGlobal + Clock + Net + RandomSource, O: Write>(
+    server: &mut Server<'_, R>,
+    requests: Option<u64>,
+    out: &mut O,
+) -> Result<(), ServeFault>
+    ensures address { OnOk result ((given : ℕ) × Appends (O.contents out.old) (O.contents out.new) (address_line given)) }
+    ensures accept { result ≡ Err ServeFault.Accept
+        → (given : ℕ) × Appends (O.contents out.old) (O.contents out.new) (address_line given) }
+    ensures bound { IfErr result (λ e. (p : ℕ) → e ≢ ServeFault.Bind p) }
+{
     write_address(server.port(), out).map_err(|_| ServeFault::Write)?;
     server.serve(requests)
 }

@@ -1,4 +1,4 @@
-//! The page of page/template.html in its parts, and the scripts of the examples, as page/embed.sh writes them.
+//! The page of page/src in its parts, and the scripts of the examples, as page/embed.sh writes them.
 
 pub mod drawing;
 pub mod examples;

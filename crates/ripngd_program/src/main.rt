@@ -2,6 +2,7 @@
 #![tactic(auto)]
 
 use std::env;
+use std::fs::File;
 use std::io::{self, BufWriter, ErrorKind, Write};
 use std::net::Net;
 use std::process::ExitCode;
@@ -12,11 +13,11 @@ use std::rt::{Clock, Env, Files};
 ///
 /// # Errors
 /// `OutOfMemory`, or `InvalidData` where an argument is not UTF-8.
-fn run<R: AllocGlobal + Env + Files + Clock + Net + RandomSource, O: Write + Drop, E: Write>(
-    rt: &R,
-    out: O,
-    err: &mut E,
-) -> io::Result<u8> {
+fn run<
+    R: AllocGlobal + Env + Files<File = File> + Print + Clock + Net + RandomSource,
+    O: Write + Drop,
+    E: Write,
+>(rt: &R, out: O, err: &mut E) -> io::Result<u8> {
     let arguments: Vec<String> = env::args(rt)?.collect(rt.alloc())?;
     let words: Vec<&str> = arguments
         .iter()

@@ -1,1 +1,5 @@
+pub mod Lines
+pub mod Listing
+pub mod Reading
+pub mod Starting
 pub mod Telling

@@ -10,7 +10,8 @@ use Rattle.prefix6.proofs.PrefixLaws.{prefixes_total, exact_prefixes}
 use Rattle.route_table.specs.Route.{RouteValue}
 use Rattle.route_table.specs.Table.{Table}
 use Rattle.route_table.proofs.TableLaws.{all_entries, None-Some}
-use Rattle.ripngd_trace.specs.Records.{with_routes, without}
+use Rattle.ripngd_trace.specs.Records.{LeadsTo, with_routes, without}
+use Rattle.ripngd_trace.specs.declared.records.RouteRecord.{RouteRecord}
 
 -- ---- one after another
 
@@ -46,6 +47,14 @@ gone_on t k k' p r es before here fewer q none left = by_tie (eq_by_cmp prefix_c
         let same = tells_apart exact_prefixes q p tie in
         subst (λ (x : Prefix6). map_of.get k' x ≡ None) (sym same) (here (subst (λ (x : Prefix6). map_of.get t x ≡ None) same none))
     by_tie false tie = fewer q (before q none (ap (λ b. cond b (Some r) (find prefix_cmp q es)) tie ∙ left))
+
+-- out of nothing, nothing is taken
+nothing_taken : (p q : Prefix6) → map_of.get (map_of.remove (map_of.empty {X = RouteValue} {R = prefix_cmp}) p) q ≡ map_of.get (map_of.empty {X = RouteValue} {R = prefix_cmp}) q
+nothing_taken p q = removed_elsewhere map_of.empty p q (map_of.get-empty prefix_cmp q) ∙ sym (map_of.get-empty prefix_cmp q)
+
+pub without_nothing : (ps : List Prefix6) → without map_of.empty ps ≡ map_of.empty
+without_nothing [] = refl
+without_nothing (p ∷ ps) = ap (λ t. without t ps) (map_of.same_map prefixes_total exact_prefixes _ _ (nothing_taken p)) ∙ without_nothing ps
 
 -- ---- what is put in
 
@@ -97,3 +106,7 @@ pub told_news : (t k k' : Table) (es es' : List (Prefix6 × RouteValue)) (p : Pr
     → k' ≡ map_of.insert k p r → es' ≡ es ++ (p, r) ∷ [] → k ≡ with_routes t es → k' ≡ with_routes t es'
 told_news t k k' es es' p r put pushed before =
     put ∙ ap (λ m. map_of.insert m p r) before ∙ sym (with_routes-push t es p r) ∙ ap (with_routes t) (sym pushed)
+
+-- who knows nothing is told of nothing that is gone
+pub leads_from_nothing : (records : List RouteRecord) (gone : List Prefix6) (t : Table) → LeadsTo map_of.empty records gone t → LeadsTo map_of.empty records [] t
+leads_from_nothing records gone t leads = (leads.0, leads.1, ap (λ m. with_routes m leads.0) (sym (without_nothing gone)) ∙ leads.2)

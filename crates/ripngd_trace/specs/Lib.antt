@@ -1,1 +1,5 @@
+pub mod Events
+pub mod Lines
+pub mod Reading
 pub mod Records
+pub mod Starting

@@ -1,5 +1,10 @@
 //! Records of what happened.
 
+ghost use Rattle.std.specs.Prelude.{◌≡◌, IfOk};
+ghost use Rattle.ripng_world.specs.Events.{event_of};
+ghost use Rattle.ripng_world.specs.Rounds.{moment_of, router_of};
+ghost use Rattle.ripngd_trace.specs.Events.{Says, SaysArrival, change_told, sender_of};
+
 use crate::network::addr_of;
 use crate::records::{Happened, SenderRecord};
 use crate::shown::Shown;
@@ -9,7 +14,9 @@ use router_core::{Arrival, Change};
 use std::alloc::{AllocError, Global};
 
 /// The router that moves at an event.
-pub fn router_of(event: &Event<'_>) -> usize {
+pub fn router_of(event: &Event<'_>) -> usize
+    ensures { result ≡ router_of (event_of event.entry.now) }
+{
     match event {
         Event::Deliver { router, .. }
         | Event::Stranger { router, .. }
@@ -20,7 +27,9 @@ pub fn router_of(event: &Event<'_>) -> usize {
 }
 
 /// The moment of an event.
-pub fn moment_of(event: &Event<'_>) -> Moment {
+pub fn moment_of(event: &Event<'_>) -> Moment
+    ensures { result ≡ moment_of (event_of event.entry.now) }
+{
     match event {
         Event::Stranger { arrival, .. } => arrival.now,
         Event::Deliver { now, .. }
@@ -31,7 +40,9 @@ pub fn moment_of(event: &Event<'_>) -> Moment {
 }
 
 /// The router that sent a datagram, if it was sent.
-fn sender_of<S: RouteStore>(lab: &Lab<S>, datagram: usize) -> Option<SenderRecord> {
+fn sender_of<S: RouteStore>(lab: &Lab<S>, datagram: usize) -> Option<SenderRecord>
+    ensures { result ≡ sender_of lab.now datagram }
+{
     match lab.sent().get(datagram) {
         Some(sent) => Some(SenderRecord {
             router: sent.router,
@@ -43,7 +54,9 @@ fn sender_of<S: RouteStore>(lab: &Lab<S>, datagram: usize) -> Option<SenderRecor
 }
 
 /// A datagram of no router.
-fn stranger(alloc: Global, arrival: &Arrival<'_>) -> Result<Happened, AllocError> {
+fn stranger(alloc: Global, arrival: &Arrival<'_>) -> Result<Happened, AllocError>
+    ensures { IfOk result (SaysArrival arrival.entry.now) }
+{
     Ok(Happened::Stranger {
         iface: arrival.iface,
         source: arrival.source,
@@ -55,7 +68,9 @@ fn stranger(alloc: Global, arrival: &Arrival<'_>) -> Result<Happened, AllocError
 }
 
 /// A change of a router's configuration.
-fn changed(change: &Change) -> Happened {
+fn change_told(change: &Change) -> Happened
+    ensures { result ≡ change_told change.now }
+{
     match *change {
         Change::Cost { iface, cost } => Happened::Cost { iface, cost },
         Change::Own { prefix, tag } => Happened::Gain { prefix, tag },
@@ -71,7 +86,9 @@ pub fn happened<S: RouteStore>(
     alloc: Global,
     lab: &Lab<S>,
     event: &Event<'_>,
-) -> Result<Happened, AllocError> {
+) -> Result<Happened, AllocError>
+    ensures { IfOk result (Says lab.now (event_of event.entry.now)) }
+{
     match event {
         Event::Deliver {
             datagram,
@@ -85,6 +102,6 @@ pub fn happened<S: RouteStore>(
         Event::Stranger { arrival, .. } => stranger(alloc, arrival),
         Event::Tick { word, .. } => Ok(Happened::Tick { word: *word }),
         Event::Restart { .. } => Ok(Happened::Restart),
-        Event::Reconfigure { change, .. } => Ok(changed(change)),
+        Event::Reconfigure { change, .. } => Ok(change_told(change)),
     }
 }

@@ -3,10 +3,12 @@
 
 mod answers;
 mod events;
+mod laws;
 mod network;
 mod records;
 mod shown;
 mod tables;
 mod tracer;
 
+pub use laws::readers_know_each_table;
 pub use tracer::trace;

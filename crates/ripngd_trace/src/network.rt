@@ -1,5 +1,10 @@
 //! Records of a network: its routers as they were asked to be.
 
+ghost use Rattle.std.specs.Prelude.{◌≡◌, IfOk, map};
+ghost use Rattle.std.specs.List.{enumerate_from};
+ghost use Rattle.ripngd_trace.specs.Events.{addr_at};
+ghost use Rattle.ripngd_trace.specs.Starting.{interface_record, owned_record};
+
 use crate::records::{InterfaceRecord, OwnedRecord};
 use prefix6::Addr6;
 use ripng_world::Lab;
@@ -8,7 +13,9 @@ use router_core::RouterConfig;
 use std::alloc::{AllocError, Global};
 
 /// The address of an interface, if the network has it.
-pub fn addr_of<S: RouteStore>(lab: &Lab<S>, router: usize, iface: usize) -> Option<Addr6> {
+pub fn addr_of<S: RouteStore>(lab: &Lab<S>, router: usize, iface: usize) -> Option<Addr6>
+    ensures { result ≡ addr_at lab.now router iface }
+{
     match lab.router(router)?.config().interfaces().get(iface) {
         Some(interface) => Some(interface.addr),
         None => None,
@@ -24,7 +31,9 @@ pub fn interface_records<S: RouteStore>(
     lab: &Lab<S>,
     router: usize,
     config: &RouterConfig,
-) -> Result<Vec<InterfaceRecord>, AllocError> {
+) -> Result<Vec<InterfaceRecord>, AllocError>
+    ensures { IfOk result (λ records. records.items ≡ map (interface_record lab.now router) (enumerate_from 0 config.now.interfaces)) }
+{
     let mut records = Vec::new(alloc);
     for (number, interface) in config.interfaces().iter().enumerate() {
         records.push(InterfaceRecord {
@@ -41,7 +50,9 @@ pub fn interface_records<S: RouteStore>(
 ///
 /// # Errors
 /// Want of memory.
-pub fn owned_records(alloc: Global, config: &RouterConfig) -> Result<Vec<OwnedRecord>, AllocError> {
+pub fn owned_records(alloc: Global, config: &RouterConfig) -> Result<Vec<OwnedRecord>, AllocError>
+    ensures { IfOk result (λ records. records.items ≡ map owned_record config.now.prefixes) }
+{
     let mut records = Vec::new(alloc);
     for (prefix, tag) in config.prefixes() {
         records.push(OwnedRecord {

@@ -243,11 +243,11 @@ pub struct PrintRecord<'a> {
     pub prints: Vec<&'a str>,
 }
 
-/// A line was refused, and ended the script.
+/// A line was refused, or expected what is not so, and ended the script.
 #[derive(Drop, Serialize)]
 pub struct RefusedRecord<'a> {
     pub line: usize,
     pub record: &'static str,
-    /// What stands behind `line L refused ` where the script is run.
+    /// What stands behind `line L refused ` where the script is run, or behind `line L ` of what is not as expected.
     pub why: &'a str,
 }

@@ -1,7 +1,12 @@
 //! A script, traced.
 
-ghost use Rattle.std.specs.Prelude.{◌≡◌, ⊤, IfOk, IfSome, option_map, slice_get};
-ghost use Rattle.ripngd_trace.specs.Records.{LeadsTo, timers_in};
+ghost use Rattle.std.specs.Prelude.{◌≡◌, [], ◌∷◌, ◌++◌, ⊤, IfOk, IfSome, OnOk, Some, slice_get, slice_set};
+ghost use Rattle.ripng_world.specs.Events.{event_of};
+ghost use Rattle.ripngd_trace.specs.Events.{Tells};
+ghost use Rattle.ripngd_trace.specs.Lines.{WritesLine};
+ghost use Rattle.ripngd_trace.specs.Reading.{SaysEvent, tables_of};
+ghost use Rattle.ripngd_trace.specs.Records.{LeadsTo};
+ghost use Rattle.ripngd_trace.specs.Starting.{AreTold, TellsRouter, TellsStart};
 
 use crate::answers::{change_records, fault_record, note_records, sent_since};
 use crate::events::{happened, moment_of, router_of};
@@ -9,7 +14,7 @@ use crate::network::{interface_records, owned_records};
 use crate::records::{EventRecord, PrintRecord, RefusedRecord, RouterRecord, StartRecord};
 use crate::tables::{News, news_of, timers_of};
 use ripng_world::{Event, Lab};
-use ripngd_lab::{Refusal, Watch, print_routes, print_sent, watched};
+use ripngd_lab::{Choice, Refusal, Unmet, Watch, print_routes, print_sent, watched};
 use route_table::{Moment, RouteStore, TrieRoutes};
 use router_core::{Answer, Router};
 use serde::Serialize;
@@ -44,24 +49,26 @@ struct Tracer<'a, W: Write> {
     out: &'a mut W,
 }
 
-/// What a reader has to be told of the table of a router.
-fn news_at<S: RouteStore>(
+/// What a reader has to be told of one of the tables that are known. Then it is known, and all others are as they were.
+fn news_in(
     alloc: Global,
-    known: &mut [S],
-    lab: &Lab<S>,
+    known: &mut [TrieRoutes],
     router: usize,
+    table: &TrieRoutes,
 ) -> Result<News, AllocError>
-    ensures { IfOk result (λ news. IfSome (slice_get known.old router) (λ table. IfSome (slice_get lab.now.world.states router) (λ state.
-        LeadsTo (S.table table) news.routes.items news.gone.items state.table))) }
+    ensures listed { IfOk result (λ news. IfSome (slice_get known.old router) (λ before. LeadsTo before news.routes.items news.gone.items table.now)) }
+    ensures known { OnOk result (known.new ≡ slice_set known.old router table.now) }
 {
-    match (known.get_mut(router), lab.router(router)) {
-        (Some(known), Some(router)) => news_of(alloc, known, router.routes()),
-        _ => Ok(News::none(alloc)),
+    if router >= known.len() {
+        return Ok(News::none(alloc));
     }
+    news_of(alloc, &mut known[router], table)
 }
 
 /// Writes a record as one line.
-fn write_record<T: Serialize, W: Write>(alloc: Global, record: &T, out: &mut W) -> io::Result<()> {
+fn write_record<T: Serialize, W: Write>(alloc: Global, record: &T, out: &mut W) -> io::Result<()>
+    ensures { OnOk result (WritesLine (W.contents out.old) (W.contents out.new)) }
+{
     let Ok(mut text) = serde_json::to_vec(alloc, record) else {
         return Err(io::Error::from(AllocError));
     };
@@ -70,36 +77,74 @@ fn write_record<T: Serialize, W: Write>(alloc: Global, record: &T, out: &mut W) 
 }
 
 impl<'a, W: Write> Tracer<'a, W> {
-    /// A router that has started. Its routes are known from now on.
+    /// A router that has started. Its table is known from now on.
     fn router_record(
         &mut self,
         lab: &Lab<TrieRoutes>,
         number: usize,
         router: &Router<TrieRoutes>,
     ) -> Result<RouterRecord, AllocError>
-        ensures { IfOk result (λ r. r.timers ≡ option_map timers_in (slice_get lab.now.world.states number)) }
+        ensures tells { IfOk result (λ r. slice_get lab.now.world.states number ≡ Some router.now → TellsRouter lab.now number r) }
+        ensures known { OnOk result (self.new.known.items ≡ self.old.known.items ++ router.now.table ∷ []) }
     {
         let mut known = TrieRoutes::empty(self.alloc);
         let news = news_of(self.alloc, &mut known, router.routes())?;
         self.known.push(known)?;
         let config = router.config();
+        let interfaces = interface_records(self.alloc, lab, number, config)?;
+        let prefixes = owned_records(self.alloc, config)?;
         Ok(RouterRecord {
             quiet: config.is_quiet(),
-            interfaces: interface_records(self.alloc, lab, number, config)?,
-            prefixes: owned_records(self.alloc, config)?,
+            interfaces,
+            prefixes,
             timers: timers_of(lab, number),
             routes: news.routes,
         })
     }
 
-    fn router_records(&mut self, lab: &Lab<TrieRoutes>) -> Result<Vec<RouterRecord>, AllocError> {
+    /// All routers that have started. Their tables are known from now on.
+    fn router_records(&mut self, lab: &Lab<TrieRoutes>) -> Result<Vec<RouterRecord>, AllocError>
+        ensures tells { IfOk result (λ records. AreTold lab.now records.items) }
+        ensures known { OnOk result (self.new.known.items ≡ self.old.known.items ++ tables_of lab.now.world) }
+    {
         let mut records = Vec::new(self.alloc);
-        for number in 0..lab.routers() {
-            if let Some(router) = lab.router(number) {
-                records.push(self.router_record(lab, number, router)?)?;
-            }
+        while let Some(router) = lab.router(records.len()) {
+            let record = self.router_record(lab, records.len(), router)?;
+            records.push(record)?;
         }
         Ok(records)
+    }
+
+    /// The start of the routers.
+    fn start_record(
+        &mut self,
+        lab: &Lab<TrieRoutes>,
+        now: Moment,
+    ) -> Result<StartRecord, AllocError>
+        ensures tells { IfOk result (TellsStart self.old.line lab.now now) }
+        ensures known { OnOk result (self.new.known.items ≡ self.old.known.items ++ tables_of lab.now.world) }
+    {
+        Ok(StartRecord {
+            line: self.line,
+            record: "start",
+            now: now.ms(),
+            routers: self.router_records(lab)?,
+            sent: sent_since(self.alloc, lab, 0)?,
+        })
+    }
+
+    /// What a reader has to be told of the table of a router. Then it is known.
+    fn news_at(&mut self, lab: &Lab<TrieRoutes>, router: usize) -> Result<News, AllocError>
+        ensures listed { IfOk result (λ news. IfSome (slice_get self.old.known.items router) (λ before. IfSome (slice_get lab.now.world.states router) (λ state.
+            LeadsTo before news.routes.items news.gone.items state.table))) }
+        ensures known { OnOk result (IfSome (slice_get lab.now.world.states router) (λ state. self.new.known.items ≡ slice_set self.old.known.items router state.table)) }
+        ensures line { self.new.line ≡ self.old.line }
+        ensures unwritten { W.contents self.new.out.now ≡ W.contents self.old.out.now }
+    {
+        match lab.router(router) {
+            Some(moved) => news_in(self.alloc, &mut self.known, router, moved.routes()),
+            None => Ok(News::none(self.alloc)),
+        }
     }
 
     /// An event that was done.
@@ -110,12 +155,15 @@ impl<'a, W: Write> Tracer<'a, W> {
         answer: &Answer,
         first: usize,
     ) -> Result<EventRecord, AllocError>
-        ensures timers { IfOk result (λ r. r.timers ≡ option_map timers_in (slice_get lab.now.world.states r.router)) }
-        ensures listed { IfOk result (λ r. IfSome (slice_get self.old.known.items r.router) (λ table. IfSome (slice_get lab.now.world.states r.router) (λ state.
-            LeadsTo table r.routes.items r.gone.items state.table))) }
+        ensures tells { IfOk result (Tells self.old.line (record { lab = lab.now; event = event_of event.entry.now; answer = answer.now; first = first })) }
+        ensures listed { IfOk result (λ r. IfSome (slice_get self.old.known.items r.router) (λ before. IfSome (slice_get lab.now.world.states r.router) (λ state.
+            LeadsTo before r.routes.items r.gone.items state.table))) }
+        ensures known { IfOk result (λ r. IfSome (slice_get lab.now.world.states r.router) (λ state. self.new.known.items ≡ slice_set self.old.known.items r.router state.table)) }
+        ensures line { self.new.line ≡ self.old.line }
+        ensures unwritten { W.contents self.new.out.now ≡ W.contents self.old.out.now }
     {
         let router = router_of(event);
-        let news = news_at(self.alloc, &mut self.known, lab, router)?;
+        let news = self.news_at(lab, router)?;
         Ok(EventRecord {
             line: self.line,
             record: "event",
@@ -142,12 +190,23 @@ impl<'a, W: Write> Tracer<'a, W> {
         };
         write_record(self.alloc, &record, self.out)
     }
+
+    /// A line that ends the script, and why.
+    fn write_refused(&mut self, why: &str) -> io::Result<()> {
+        let record = RefusedRecord {
+            line: self.line,
+            record: "refused",
+            why,
+        };
+        write_record(self.alloc, &record, self.out)
+    }
 }
 
 impl<'a, W: Write> ripng_world::Watch<TrieRoutes> for Tracer<'a, W> {
     type Fault = io::Error;
 
-    ghost takes = { λ _ _ _. ⊤ };
+    ghost takes = { λ old what new. SaysEvent (record { line = old.line; known = old.known.items }) what (record { line = new.line; known = new.known.items })
+        × WritesLine (W.contents old.out.now) (W.contents new.out.now) };
 
     ghost fails = { λ _ _ _. ⊤ };
 
@@ -169,35 +228,33 @@ impl<'a, W: Write> Watch for Tracer<'a, W> {
     }
 
     fn started(&mut self, lab: &Lab<TrieRoutes>, now: Moment) -> io::Result<()> {
-        let record = StartRecord {
-            line: self.line,
-            record: "start",
-            now: now.ms(),
-            routers: self.router_records(lab)?,
-            sent: sent_since(self.alloc, lab, 0)?,
-        };
+        let record = self.start_record(lab, now)?;
         write_record(self.alloc, &record, self.out)
     }
 
-    fn routes_asked(&mut self, lab: &Lab<TrieRoutes>) -> io::Result<()> {
+    fn routes_asked(&mut self, lab: &Lab<TrieRoutes>, choice: &Choice) -> io::Result<()> {
         let mut prints = Vec::new(self.alloc);
-        print_routes(lab, &mut prints)?;
+        print_routes(lab, choice, &mut prints)?;
         self.write_prints("print", &prints)
     }
 
-    fn datagrams_asked(&mut self, lab: &Lab<TrieRoutes>) -> io::Result<()> {
+    fn datagrams_asked(&mut self, lab: &Lab<TrieRoutes>, asked: Option<usize>) -> io::Result<()> {
         let mut prints = Vec::new(self.alloc);
-        print_sent(self.alloc, lab, &mut prints)?;
+        print_sent(self.alloc, lab, asked, &mut prints)?;
         self.write_prints("sent", &prints)
+    }
+
+    fn said(&mut self, text: &str) -> io::Result<()> {
+        self.write_prints("say", text.as_bytes())
     }
 
     fn refused(&mut self, why: &Refusal) -> io::Result<()> {
         let why = format!(in self.alloc; "{why}")?;
-        let record = RefusedRecord {
-            line: self.line,
-            record: "refused",
-            why: why.as_str(),
-        };
-        write_record(self.alloc, &record, self.out)
+        self.write_refused(&why)
+    }
+
+    fn unmet(&mut self, unmet: &Unmet) -> io::Result<()> {
+        let why = format!(in self.alloc; "{unmet}")?;
+        self.write_refused(&why)
     }
 }

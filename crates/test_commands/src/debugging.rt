@@ -46,6 +46,7 @@ fn a_run_that_is_not_debugged_says_nothing_of_what_it_refuses(rt: HostRuntime) -
     std::fs::write(&rt, "unsaid.toml", text.as_str())?;
     let words = ["ripngd", "run", "--turns", "1", "unsaid.toml"];
     let (status, _, err) = outcome(&rt, &words)?;
-    assert!(rt; status == 0 && err.is_empty());
+    let said = b"ripngd: interface 0 is its own peer\nripngd: running, 1 interfaces\n".as_slice();
+    assert!(rt; status == 0 && err.as_slice() == said);
     Ok(())
 }

@@ -126,7 +126,7 @@ fn a_run_prints_its_table_and_keeps_a_log(rt: HostRuntime) -> Result<(), Fail> {
         "logged.toml",
     ];
     let (status, out, err) = outcome(&rt, &words)?;
-    assert!(rt; status == 0 && err.is_empty());
+    assert!(rt; status == 0 && err.as_slice() == b"ripngd: running, 1 interfaces\n".as_slice());
     assert!(rt; out.as_slice() == b"2001:db8::/32 metric 1 direct\n".as_slice());
     let log = std::fs::read(&rt, "logged.txt")?;
     assert!(rt; log.as_slice() == b"add 2001:db8::/32 metric 1 direct\n".as_slice());
@@ -150,7 +150,8 @@ fn a_full_device_ends_the_log_alone(rt: HostRuntime) -> Result<(), Fail> {
     let (status, out, err) = outcome(&rt, &words)?;
     assert!(rt; status == 0);
     assert!(rt; out.as_slice() == b"2001:db8::/32 metric 1 direct\n".as_slice());
-    assert!(rt; err.as_slice() == b"ripngd: lost sends 0, lost steps 0, log failed\n".as_slice());
+    let said = b"ripngd: running, 1 interfaces\nripngd: lost sends 0, lost steps 0, log failed\n";
+    assert!(rt; err.as_slice() == said.as_slice());
     Ok(())
 }
 

@@ -1,9 +1,11 @@
 //! Whole scripts with what they print.
 
 mod changing;
+mod expecting;
 mod random_rounds;
 mod reading;
 mod rounds;
+mod telling;
 mod walks;
 mod words;
 

@@ -1,11 +1,12 @@
 //! Deliveries of a lab: what its routers sent comes to the other interfaces of its links.
 
-ghost use Rattle.std.specs.Prelude.{◌≡◌, ◌≢◌, ℕ, ◌<◌, ◌∷◌, [], IsFalse, All, IfErr, IfOk, OnErr, OnOk, false, length, map, slice_index_or, vec_len};
+ghost use Rattle.std.specs.Prelude.{◌≡◌, ◌≢◌, ℕ, ◌<◌, ◌∷◌, [], IsFalse, IsTrue, All, IfErr, IfOk, OnErr, OnOk, false, length, map, slice_index_or, vec_len};
+ghost use Rattle.std.specs.List.{Any};
 ghost use Rattle.router_core.specs.declared.answer.NoteKind.TheVariants.{NoMemory};
 ghost use Rattle.ripng_world.specs.AskedRounds.{delivery, is_picked, other_deliveries, pair_at, picked_deliveries};
-ghost use Rattle.ripng_world.specs.Delivering.{HappenInPart, deliveries_since};
+ghost use Rattle.ripng_world.specs.Delivering.{StopAt, StopForMemory, deliveries_since};
 ghost use Rattle.ripng_world.specs.Labs.{AreRoutesBackedSince, HaveNoneBelowLeastSince, AreDatagramsSoundSince, HoldsFixed};
-ghost use Rattle.ripng_world.specs.Watching.{WatchedInPart, WatchedRun, failures, heard};
+ghost use Rattle.ripng_world.specs.Watching.{HeardInPart, WatchedInPart, WatchedRun, failures, heard};
 ghost use Rattle.ripng_world.specs.World.{WorldRun};
 
 use super::Lab;
@@ -17,7 +18,8 @@ use std::alloc::AllocError;
 
 /// Whether a new route wants for memory.
 fn wants_memory(notes: &[Note]) -> bool
-    ensures { IsFalse result → All (λ n. n.kind ≢ NoMemory) notes.now }
+    ensures absent { IsFalse result → All (λ n. n.kind ≢ NoMemory) notes.now }
+    ensures found { IsTrue result → Any (λ n. n.kind ≡ NoMemory) notes.now }
 {
     notes.iter().any(|note| note.kind == NoteKind::NoMemory)
 }
@@ -32,7 +34,7 @@ impl<S: RouteStore> Lab<S> {
     ) -> Result<(), Stopped<AllocError, V::Fault>>
         ensures network { self.new.network ≡ self.old.network }
         ensures delivered { OnOk result (WatchedRun V.takes heard self.old.network (self.old.world, watch.old) (delivery pair.now now ∷ []) (self.new.world, watch.new)) }
-        ensures stopped { IfErr result (λ why. WatchedInPart V.takes V.fails (failures why) self.old.network (self.old.world, watch.old) (delivery pair.now now ∷ []) (self.new.world, watch.new)) }
+        ensures stopped { IfErr result (λ why. HeardInPart V.takes V.fails why self.old.network (self.old.world, watch.old) (delivery pair.now now ∷ []) (self.new.world, watch.new)) }
     {
         let answer = match self.step_watched(&pair.delivery(now), watch) {
             Ok(answer) => answer,
@@ -55,7 +57,7 @@ impl<S: RouteStore> Lab<S> {
     ) -> Result<(), Stopped<AllocError, V::Fault>>
         ensures network { self.new.network ≡ self.old.network }
         ensures delivered { OnOk result (WatchedRun V.takes heard self.old.network (self.old.world, watch.old) (map (λ p. delivery p now) (map (pair_at datagram) interfaces.now)) (self.new.world, watch.new)) }
-        ensures stopped { IfErr result (λ why. WatchedInPart V.takes V.fails (failures why) self.old.network (self.old.world, watch.old) (map (λ p. delivery p now) (map (pair_at datagram) interfaces.now)) (self.new.world, watch.new)) }
+        ensures stopped { IfErr result (λ why. HeardInPart V.takes V.fails why self.old.network (self.old.world, watch.old) (map (λ p. delivery p now) (map (pair_at datagram) interfaces.now)) (self.new.world, watch.new)) }
     {
         for &(router, iface) in interfaces {
             let pair = Pair {
@@ -77,7 +79,7 @@ impl<S: RouteStore> Lab<S> {
     ) -> Result<(), Stopped<AllocError, V::Fault>>
         ensures network { self.new.network ≡ self.old.network }
         ensures delivered { OnOk result (WatchedRun V.takes heard self.old.network (self.old.world, watch.old) (deliveries_since self.old.network first self.old.world.sent now) (self.new.world, watch.new)) }
-        ensures stopped { IfErr result (λ why. WatchedInPart V.takes V.fails (failures why) self.old.network (self.old.world, watch.old) (deliveries_since self.old.network first self.old.world.sent now) (self.new.world, watch.new)) }
+        ensures stopped { IfErr result (λ why. HeardInPart V.takes V.fails why self.old.network (self.old.world, watch.old) (deliveries_since self.old.network first self.old.world.sent now) (self.new.world, watch.new)) }
     {
         let interfaces = interfaces(self.alloc, &self.stations)?;
         for datagram in first..self.sent.len() {
@@ -103,7 +105,7 @@ impl<S: RouteStore> Lab<S> {
         ensures delivered { OnOk result (WatchedRun V.takes heard self.old.network (self.old.world, watch.old) (picked_deliveries pairs.now picks.now) (self.new.world, watch.new)) }
         ensures flags { IfOk result (λ flags. vec_len flags ≡ length pairs.now) }
         ensures picked { IfOk result (λ flags. (k : ℕ) → k < length pairs.now → slice_index_or flags.items k false ≡ is_picked (length pairs.now) picks.now k) }
-        ensures stopped { IfErr result (λ why. WatchedInPart V.takes V.fails (failures why) self.old.network (self.old.world, watch.old) (picked_deliveries pairs.now picks.now) (self.new.world, watch.new)) }
+        ensures stopped { IfErr result (λ why. HeardInPart V.takes V.fails why self.old.network (self.old.world, watch.old) (picked_deliveries pairs.now picks.now) (self.new.world, watch.new)) }
     {
         let mut picked = vec![in self.alloc; false; pairs.len()]?;
         if pairs.is_empty() {
@@ -128,7 +130,7 @@ impl<S: RouteStore> Lab<S> {
         requires { length picked.now ≡ length pairs.now }
         ensures network { self.new.network ≡ self.old.network }
         ensures delivered { OnOk result (WatchedRun V.takes heard self.old.network (self.old.world, watch.old) (other_deliveries (λ k. slice_index_or picked.now k false) pairs.now rest) (self.new.world, watch.new)) }
-        ensures stopped { IfErr result (λ why. WatchedInPart V.takes V.fails (failures why) self.old.network (self.old.world, watch.old) (other_deliveries (λ k. slice_index_or picked.now k false) pairs.now rest) (self.new.world, watch.new)) }
+        ensures stopped { IfErr result (λ why. HeardInPart V.takes V.fails why self.old.network (self.old.world, watch.old) (other_deliveries (λ k. slice_index_or picked.now k false) pairs.now rest) (self.new.world, watch.new)) }
     {
         for (place, pair) in pairs.iter().enumerate() {
             if !picked[place] {
@@ -148,7 +150,7 @@ impl<S: RouteStore> Lab<S> {
         ensures network { self.new.network ≡ self.old.network }
         ensures changes { self.new.world.changes ≡ self.old.world.changes }
         ensures delivered { OnOk result (WorldRun self.old.network self.old.world (deliveries_since self.old.network first self.old.world.sent now) self.new.world) }
-        ensures stopped { OnErr result (HappenInPart self.old.network self.old.world (deliveries_since self.old.network first self.old.world.sent now) self.new.world) }
+        ensures stopped { OnErr result (StopForMemory self.old.network self.old.world (deliveries_since self.old.network first self.old.world.sent now) self.new.world) }
         ensures backed { AreRoutesBackedSince self.new.network self.new.world }
         ensures least { HaveNoneBelowLeastSince self.new.network self.new.world }
         ensures truth { AreDatagramsSoundSince self.new.network self.new.world }
@@ -175,7 +177,7 @@ impl<S: RouteStore> Lab<S> {
         ensures network { self.new.network ≡ self.old.network }
         ensures changes { self.new.world.changes ≡ self.old.world.changes }
         ensures delivered { OnOk result (WorldRun self.old.network self.old.world (deliveries_since self.old.network first self.old.world.sent now) self.new.world) }
-        ensures stopped { OnErr result (HappenInPart self.old.network self.old.world (deliveries_since self.old.network first self.old.world.sent now) self.new.world) }
+        ensures stopped { IfErr result (λ why. StopAt self.old.network self.old.world (deliveries_since self.old.network first self.old.world.sent now) why self.new.world) }
         ensures backed { AreRoutesBackedSince self.new.network self.new.world }
         ensures least { HaveNoneBelowLeastSince self.new.network self.new.world }
         ensures truth { AreDatagramsSoundSince self.new.network self.new.world }

@@ -1,11 +1,12 @@
 //! Rounds of a lab: every router tells all that it has, and all of it arrives.
 
-ghost use Rattle.std.specs.Prelude.{◌≡◌, ℕ, ◌<◌, ◌≤◌, ◌↔◌, max, IsTrue, All, IfErr, OnOk, Some, length, slice_get};
+ghost use Rattle.std.specs.Prelude.{◌≡◌, ◌<◌, ◌≤◌, ◌↔◌, max, IsTrue, All, IfErr, OnOk, Some, length, slice_get};
 ghost use Rattle.router_core.specs.Machine.{State};
-ghost use Rattle.ripng_world.specs.AskedRounds.{AreAllMade, Converges, HaveStopped, StopsFor, deliveries_of, pairs_since, round_in, ticks_of};
+ghost use Rattle.ripng_world.specs.AskedRounds.{AreAllMade, Converges, deliveries_of, pairs_since, ticks_of};
 ghost use Rattle.ripng_world.specs.Healing.{Heals};
 ghost use Rattle.ripng_world.specs.Labs.{AreRoutesBackedSince, HaveNoneBelowLeastSince, AreDatagramsSoundSince, HoldsFixed};
-ghost use Rattle.ripng_world.specs.Watching.{AreMadeTold, IsMadeTold, RoundToldInPart, RoundsToldInPart, WatchedInPart, WatchedRun, as_refused, due, failures, heard};
+ghost use Rattle.ripng_world.specs.Stopping.{HaveStopped, RoundStops, RoundsStop, round_in};
+ghost use Rattle.ripng_world.specs.Watching.{AreMadeTold, HeardInPart, IfRefused, IsMadeTold, RoundToldInPart, RoundsToldInPart, WatchedInPart, WatchedRun, due, failures, heard};
 
 use super::Lab;
 use crate::event::Event;
@@ -44,8 +45,8 @@ impl<S: RouteStore> Lab<S> {
         ensures network { self.new.network ≡ self.old.network }
         ensures ticked { OnOk result (WatchedRun V.takes due self.old.network (self.old.world, watch.old) (ticks_of round.entry.now.ticks) (self.new.world, watch.new)) }
         ensures told { IfErr result (λ why. WatchedInPart V.takes V.fails (failures why) self.old.network (self.old.world, watch.old) (ticks_of round.entry.now.ticks) (self.new.world, watch.new)) }
-        ensures number { IfErr result (λ why. round_in (as_refused number why) ≡ number) }
-        ensures refused { IfErr result (λ why. StopsFor self.old.network self.old.world round.entry.now (as_refused number why) self.new.world) }
+        ensures number { IfErr result (λ why. IfRefused why (λ refusal. round_in refusal ≡ number)) }
+        ensures refused { IfErr result (λ why. RoundStops self.old.network self.old.world round.entry.now why self.new.world) }
     {
         for (router, tick) in round.ticks.iter().enumerate() {
             let (now, word) = *tick;
@@ -72,7 +73,7 @@ impl<S: RouteStore> Lab<S> {
         requires { first ≤ length self.old.world.sent }
         ensures network { self.new.network ≡ self.old.network }
         ensures delivered { OnOk result (WatchedRun V.takes heard self.old.network (self.old.world, watch.old) (deliveries_of (pairs_since self.old.network first self.old.world.sent) round.entry.now.picks round.entry.now.rest) (self.new.world, watch.new)) }
-        ensures stopped { IfErr result (λ why. WatchedInPart V.takes V.fails (failures why) self.old.network (self.old.world, watch.old) (deliveries_of (pairs_since self.old.network first self.old.world.sent) round.entry.now.picks round.entry.now.rest) (self.new.world, watch.new)) }
+        ensures stopped { IfErr result (λ why. HeardInPart V.takes V.fails why self.old.network (self.old.world, watch.old) (deliveries_of (pairs_since self.old.network first self.old.world.sent) round.entry.now.picks round.entry.now.rest) (self.new.world, watch.new)) }
     {
         if round.picks.is_empty() {
             return self.deliver_each(first, round.rest, watch);
@@ -93,8 +94,8 @@ impl<S: RouteStore> Lab<S> {
         ensures network { self.new.network ≡ self.old.network }
         ensures made { OnOk result (IsMadeTold V.takes self.old.network (self.old.world, watch.old) round.entry.now (self.new.world, watch.new)) }
         ensures told { IfErr result (λ why. RoundToldInPart V.takes V.fails (failures why) self.old.network (self.old.world, watch.old) round.entry.now (self.new.world, watch.new)) }
-        ensures number { IfErr result (λ why. round_in (as_refused number why) ≡ number) }
-        ensures refused { IfErr result (λ why. StopsFor self.old.network self.old.world round.entry.now (as_refused number why) self.new.world) }
+        ensures number { IfErr result (λ why. IfRefused why (λ refusal. round_in refusal ≡ number)) }
+        ensures refused { IfErr result (λ why. RoundStops self.old.network self.old.world round.entry.now why self.new.world) }
     {
         let first = self.sent().len();
         self.tick_all(number, round, watch)?;
@@ -114,7 +115,7 @@ impl<S: RouteStore> Lab<S> {
         ensures network { self.new.network ≡ self.old.network }
         ensures made { OnOk result (AreMadeTold V.takes self.old.network (self.old.world, watch.old) rounds.entry.now (self.new.world, watch.new)) }
         ensures told { IfErr result (λ why. RoundsToldInPart V.takes V.fails (failures why) self.old.network (self.old.world, watch.old) rounds.entry.now (self.new.world, watch.new)) }
-        ensures refused { IfErr result (λ why. (round : ℕ) × HaveStopped self.old.network self.old.world rounds.entry.now (as_refused round why) self.new.world) }
+        ensures refused { IfErr result (λ why. RoundsStop self.old.network self.old.world rounds.entry.now why self.new.world) }
     {
         for (number, round) in rounds.iter().enumerate() {
             self.make_round(number, round, watch)?;
@@ -165,7 +166,7 @@ impl<S: RouteStore> Lab<S> {
         ensures heals { OnOk result (Heals self.old.network self.old.world rounds.entry.now self.new.world) }
         ensures told { OnOk result (AreMadeTold V.takes self.old.network (self.old.world, watch.old) rounds.entry.now (self.new.world, watch.new)) }
         ensures told_in_part { IfErr result (λ why. RoundsToldInPart V.takes V.fails (failures why) self.old.network (self.old.world, watch.old) rounds.entry.now (self.new.world, watch.new)) }
-        ensures refused { IfErr result (λ why. (round : ℕ) × HaveStopped self.old.network self.old.world rounds.entry.now (as_refused round why) self.new.world) }
+        ensures refused { IfErr result (λ why. RoundsStop self.old.network self.old.world rounds.entry.now why self.new.world) }
         ensures backed { AreRoutesBackedSince self.new.network self.new.world }
         ensures least { HaveNoneBelowLeastSince self.new.network self.new.world }
         ensures truth { AreDatagramsSoundSince self.new.network self.new.world }

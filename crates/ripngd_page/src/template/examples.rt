@@ -1,5 +1,5 @@
 //! The scripts to choose from.
-//! Written by page/embed.sh: change page/template.html or examples/, and run it.
+//! Written by page/embed.sh: change page/src or examples/, and run it.
 
 /// Each script as an element with its name.
 pub const EXAMPLES: &str =

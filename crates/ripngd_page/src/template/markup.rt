@@ -1,5 +1,5 @@
 //! The style of the page, and its elements.
-//! Written by page/embed.sh: change page/template.html or examples/, and run it.
+//! Written by page/embed.sh: change page/src or examples/, and run it.
 
 /// What stands before the scripts.
 pub const HEAD: &str = r##"<!doctype html>
@@ -7,75 +7,88 @@ pub const HEAD: &str = r##"<!doctype html>
 <head>
 <meta charset="utf-8">
 <meta name="viewport" content="width=device-width, initial-scale=1">
+<meta http-equiv="Content-Security-Policy" content="default-src 'none'; script-src 'sha256-lotyzJpjVuMDgnXJdhDVFixnBUtT0LYFG/lD7HuxvoE='; style-src 'unsafe-inline'; img-src data:; connect-src 'self'; base-uri 'none'; form-action 'none'">
+<meta name="referrer" content="no-referrer">
+<link rel="icon" href="data:image/svg+xml,%3Csvg xmlns='http://www.w3.org/2000/svg' viewBox='0 0 16 16'%3E%3Cpath d='M4 12L8 4l4 8z' fill='none' stroke='%232f6db3' stroke-width='2'/%3E%3C/svg%3E">
 <title>ripngd laboratory</title>
 <style>
 :root {
   color-scheme: light dark;
-  --page: light-dark(#fbfbf9, #16181c);
-  --pane: light-dark(#ffffff, #1e2127);
-  --ink: light-dark(#1c2430, #e6e8ec);
-  --faint: light-dark(#6a7280, #939bab);
-  --rule: light-dark(#d9dce1, #363b45);
+  --page: light-dark(#fbfbf9, #16181c); --pane: light-dark(#ffffff, #1e2127);
+  --ink: light-dark(#1c2430, #e6e8ec); --faint: light-dark(#566070, #b4bac6);
+  --rule: light-dark(#d9dce1, #363b45); --field: light-dark(#7d8694, #7b8494);
   --bar: light-dark(#1d3557, #0f2238);
-  --now: light-dark(#ffe9a8, #5a4a12);
-  --new: light-dark(#d5f0dc, #1d4a30);
-  --bad: light-dark(#b3102a, #ff8090);
-  --bad-ground: light-dark(#fbdde1, #55202a);
-  --node: light-dark(#dcebf3, #2b4052);
-  --edge: light-dark(#8b95a3, #6d7786);
-  --post: light-dark(#2f6db3, #5f9fe6);
-  --walk: light-dark(#c2560a, #ffab5e);
-  --on-mark: light-dark(#ffffff, #10141a);
+  --now: light-dark(#ffe9a8, #4d3f0f); --new: light-dark(#d5f0dc, #1a4229);
+  --bad: light-dark(#a50d25, #ff9fab); --bad-ground: light-dark(#fbdde1, #55202a);
+  --node: light-dark(#dcebf3, #2b4052); --edge: light-dark(#64707f, #8e99aa);
+  --post: light-dark(#2563a8, #7ab1f0); --walk: light-dark(#b04d06, #ffab5e); --on-mark: light-dark(#ffffff, #10141a);
 }
 * { box-sizing: border-box; }
 [hidden] { display: none !important; }
-body { margin: 0; height: 100vh; display: grid; grid-template: auto minmax(0, 1fr) / 22rem minmax(0, 1fr) 29rem; background: var(--page); color: var(--ink); font: 14px/1.4 system-ui, sans-serif; }
-header { grid-column: 1 / -1; display: flex; flex-wrap: wrap; align-items: center; gap: .35rem .5rem; padding: .45rem .8rem; background: var(--bar); color: #fff; }
-h1 { font-size: 1.05rem; margin: 0 .6rem 0 0; }
+body { margin: 0; height: 100vh; display: grid; grid-template: auto minmax(0, 1fr) / 23rem minmax(0, 1fr) 29rem; background: var(--page); color: var(--ink); font: 14px/1.4 system-ui, sans-serif; }
+header { grid-column: 1 / -1; display: flex; flex-wrap: wrap; align-items: center; gap: .35rem .6rem; padding: .4rem .8rem; background: var(--bar); color: #fff; }
+h1 { font-size: 1.05rem; margin: 0 .3rem 0 0; }
 h2 { font-size: .95rem; margin: .1rem 0 .3rem; }
 p { margin: .25rem 0; }
-header output { margin-left: auto; opacity: .9; font-variant-numeric: tabular-nums; }
-button, select, input, #save, #load { font: inherit; text-decoration: none; padding: .1rem .55rem; border-radius: .3rem; border: 1px solid var(--rule); background: var(--pane); color: var(--ink); }
-button, #load { cursor: pointer; }
-input { width: 7rem; } input[name=prefix] { width: 12rem; } input[name=cost], input[name=tag] { width: 5rem; }
+.group { display: inline-flex; flex-wrap: wrap; gap: .25rem; }
+header select { max-width: 7rem; }
+#acts select { max-width: 14rem; }
+header output { font-variant-numeric: tabular-nums; }
+button, select, input { font: inherit; min-height: 26px; padding: .05rem .5rem; border-radius: .3rem; border: 1px solid var(--field); background: var(--pane); color: var(--ink); }
+button { cursor: pointer; }
+button:disabled { color: var(--faint); border-style: dashed; cursor: default; }
+button[aria-pressed=true] { background: var(--now); color: var(--ink); }
+:focus-visible { outline: 3px solid var(--post); outline-offset: 1px; }
+header :focus-visible { outline-color: #ffd866; }
+input[type=number] { width: 6rem; }
+input[name=now] { width: 7.5rem; }
+#slider { flex: 1 1 8rem; min-width: 6rem; padding: 0; }
 main, aside { min-height: 0; min-width: 0; display: flex; flex-direction: column; }
 #left { border-right: 1px solid var(--rule); }
 #right { border-left: 1px solid var(--rule); overflow: auto; padding: .5rem .7rem; }
-#editor { --line: 17px; flex: 1 1 50%; min-height: 0; display: flex; border-bottom: 1px solid var(--rule); background: var(--pane); font: 12px/var(--line) ui-monospace, monospace; }
-#gutter { overflow: hidden; padding: 4px 0 40px; text-align: right; color: var(--faint); user-select: none; }
+#acts label { white-space: nowrap; }
+#files, #build, #acts { display: flex; flex-wrap: wrap; align-items: center; gap: .3rem; padding: .3rem .5rem; border-bottom: 1px solid var(--rule); }
+#name { flex: 1 1 7rem; min-width: 6rem; }
+#build input { width: 4rem; }
+#editing { padding: 0 .5rem; }
+#editor { --line: 20px; flex: 1 1 50%; min-height: 0; display: flex; border-bottom: 1px solid var(--rule); background: var(--pane); font: 12.5px/var(--line) ui-monospace, monospace; }
+#gutter { overflow: hidden; padding: 4px 0 60px; text-align: right; color: var(--faint); user-select: none; }
 #gutter div { padding: 0 .4rem; cursor: pointer; }
-#gutter div, #events li { scroll-margin: 4rem 0; }
 #gutter .now { background: var(--now); color: var(--ink); }
 #gutter .refused { background: var(--bad-ground); color: var(--bad); font-weight: 700; }
-#script { flex: 1; border: 0; border-left: 1px solid var(--rule); outline: 0; resize: none; padding: 4px .4rem; font: inherit; color: inherit; white-space: pre; overflow: auto;
+#script { flex: 1; min-width: 0; border: 0; border-left: 1px solid var(--rule); resize: none; padding: 4px .4rem; font: inherit; color: inherit; white-space: pre; overflow: auto;
   --band: calc(4px + (var(--now-line, -99) - 1) * var(--line)); --refused-band: calc(4px + (var(--refused-line, -99) - 1) * var(--line));
   background: linear-gradient(var(--bad-ground), var(--bad-ground)) 0 var(--refused-band) / 100% var(--line) no-repeat local, linear-gradient(var(--now), var(--now)) 0 var(--band) / 100% var(--line) no-repeat local, var(--pane); }
-#files { align-items: center; display: flex; gap: .4rem; padding: .35rem .5rem; border-bottom: 1px solid var(--rule); }
+#script:focus-visible { outline-offset: -3px; }
 #events { flex: 1 1 50%; min-height: 0; overflow: auto; margin: 0; padding: .2rem 0; list-style: none; font: 12px/1.5 ui-monospace, monospace; }
-#events li { display: grid; grid-template-columns: 2.4rem 1fr; gap: .4rem; padding: 0 .4rem; cursor: pointer; }
-#events li > :first-child { color: var(--faint); text-align: right; }
+#events button { display: grid; grid-template-columns: 2.4rem 1fr; gap: .4rem; width: 100%; border: 0; border-radius: 0; background: none; padding: .1rem .4rem; text-align: left; font: inherit; align-items: center; }
+#events button > :first-child { color: var(--faint); text-align: right; }
+#events button:focus-visible { outline-offset: -3px; }
 #events .now { background: var(--now); }
 .bad { color: var(--bad); }
-#drawing { flex: 1 1 66%; min-height: 0; overflow: auto; background: var(--pane); border-bottom: 1px solid var(--rule); }
+#caption { flex: none; margin: 0; padding: .4rem .8rem; font-size: 1.1rem; max-height: 7.5rem; overflow: auto; background: var(--pane); border-bottom: 1px solid var(--rule); }
+#caption:empty { display: none; }
+#drawing { flex: 1 1 60%; min-height: 12rem; overflow: auto; background: var(--pane); border-bottom: 1px solid var(--rule); }
 #drawing > p { padding: 1rem; }
-#detail { flex: 1 1 34%; min-height: 0; overflow: auto; padding: .5rem .8rem; }
+.stale #drawing, .stale #right, .stale #detail { filter: grayscale(1); opacity: .6; }
+#detail { flex: 1 1 40%; min-height: 0; overflow: auto; padding: .5rem .8rem; }
 #detail pre, #detail table { font: 12px/1.5 ui-monospace, monospace; margin: .3rem 0; }
+#detail table { table-layout: auto; }
+#detail :is(th, td) { width: auto; text-align: left; }
 #detail pre { white-space: pre-wrap; overflow-wrap: anywhere; }
-main .hint { margin: 0; padding: .3rem .8rem; border-top: 1px solid var(--rule); }
 .choices { display: flex; flex-wrap: wrap; gap: .35rem; align-items: center; margin: .3rem 0; }
-.link { border: 0; background: none; padding: 0; color: var(--post); text-decoration: underline; }
+.link { border: 0; background: none; padding: 0 .15rem; min-width: 24px; min-height: 24px; color: var(--post); text-decoration: underline; }
 table { border-collapse: collapse; width: 100%; table-layout: fixed; margin-bottom: .7rem; font-size: 12.5px; font-variant-numeric: tabular-nums; }
-caption { text-align: left; font-weight: 600; padding: .1rem .3rem; }
-caption.now { background: var(--now); }
-caption { scroll-margin-bottom: 10rem; }
-th { font-weight: 500; color: var(--faint); }
-td, th { text-align: left; padding: .1rem .3rem; border-bottom: 1px solid var(--rule); }
+caption { text-align: left; font-weight: 600; padding: .1rem .3rem; scroll-margin-bottom: 10rem; }
+caption.now, .empty.now { background: var(--now); }
+th { font-weight: 500; color: var(--faint); width: 3.1rem; }
+td, th { text-align: left; padding: 0 .3rem; height: 24px; border-bottom: 1px solid var(--rule); }
 td.number, th.number { text-align: right; }
 #tables tbody tr { cursor: pointer; }
 #tables td { overflow: hidden; text-overflow: ellipsis; white-space: nowrap; }
-th { width: 3rem; } th.prefix { width: auto; } th.via { width: 4.6rem; } th.tag { width: 2.5rem; } th.left { width: 6.1rem; }
-#walk { table-layout: auto; } #walk th { width: auto; }
-.empty { margin: 0 0 .45rem; padding: 0 .3rem; } .empty.now { background: var(--now); }
+#tables .link { color: inherit; overflow: hidden; text-overflow: ellipsis; max-width: 100%; text-align: left; }
+th.prefix { width: auto; } th.via { width: 4.8rem; } th.tag { width: 2.5rem; } th.until { width: 6.1rem; }
+.empty { margin: 0 0 .45rem; padding: 0 .3rem; }
 tr.new td { background: var(--new); }
 tr.dying td, tr.gone td { color: var(--bad); }
 tr.gone td { text-decoration: line-through; }
@@ -83,111 +96,146 @@ tr.chosen td { box-shadow: inset 0 2px var(--walk), inset 0 -2px var(--walk); }
 .faint { color: var(--faint); }
 svg { display: block; user-select: none; font-family: system-ui, sans-serif; }
 svg text { fill: var(--ink); text-anchor: middle; dominant-baseline: central; }
+svg [role=button] { cursor: pointer; }
+svg [role=button]:focus { outline: none; }
+svg [role=button]:focus-visible :is(circle, rect):first-child { stroke: var(--post); stroke-width: 4; }
 .wire { stroke: var(--edge); }
 .roomy .wire { stroke-width: 2; }
 .hub { fill: var(--edge); }
+.target { fill: transparent; stroke: none; }
 .router { cursor: grab; touch-action: none; }
 .router circle { fill: var(--node); stroke: var(--edge); stroke-width: 1.5; }
 .router.quiet circle { stroke-dasharray: 3 2; }
 .router .owner { fill: none; stroke: var(--ink); stroke-width: 1.5; }
-.router.moved circle { fill: var(--now); stroke: var(--ink); }
-.router.walked circle { stroke: var(--walk); stroke-width: 3; }
-.router.chosen circle { stroke: var(--post); stroke-width: 3; }
-.router .metric { fill: var(--pane); stroke: var(--edge); stroke-width: 1; }
+.router.moved > circle { fill: var(--now); stroke: var(--ink); stroke-width: 3; }
+.router.walked > circle { stroke: var(--walk); stroke-width: 3; }
+.router.chosen > circle:first-child { stroke: var(--post); stroke-width: 4; }
+.router .metric circle { fill: var(--pane); stroke: var(--edge); stroke-width: 1; stroke-dasharray: none; }
 .router .unreachable { fill: var(--bad); font-weight: 700; }
-svg .prefix { fill: var(--faint); font-size: 11px; paint-order: stroke; stroke: var(--pane); stroke-width: 4px; }
-svg .cost { fill: var(--faint); cursor: pointer; paint-order: stroke; stroke: var(--pane); stroke-width: 3px; }
-svg .cost.chosen { fill: var(--post); font-weight: 700; }
-.pile { cursor: pointer; opacity: .55; }
-.pile rect { fill: var(--post); }
-.pile text { fill: var(--on-mark); font-size: 10px; }
-.pile.fresh, .pile.chosen { opacity: 1; }
-.walking .pile:not(.fresh, .chosen) { display: none; }
-.pile.chosen rect { stroke: var(--ink); stroke-width: 2; }
-.pile.refused rect { fill: var(--bad); }
+svg .prefix { fill: var(--faint); font-size: 11px; paint-order: stroke; stroke: var(--pane); stroke-width: 4px; pointer-events: none; }
+.cost text { fill: var(--faint); paint-order: stroke; stroke: var(--pane); stroke-width: 3px; }
+.cost.chosen text { fill: var(--post); font-weight: 700; }
+.pile rect { fill: var(--pane); stroke: var(--post); stroke-width: 1.5; }
+.pile rect.target { fill: transparent; stroke: none; }
+.pile text { font-size: 10px; }
+.pile.fresh rect:not(.target) { fill: var(--post); }
+.pile.fresh text { fill: var(--on-mark); }
+.pile.lost rect:not(.target) { stroke: var(--bad); stroke-dasharray: 3 2; fill: var(--pane); }
+.pile.lost text { fill: var(--bad); }
+.pile.old rect:not(.target) { fill: none; stroke: none; }
+.pile.old text { fill: var(--faint); paint-order: stroke; stroke: var(--pane); stroke-width: 3px; }
+.pile.refused rect:not(.target) { fill: var(--bad); stroke: var(--bad); }
+.pile.chosen rect:not(.target) { stroke: var(--walk); stroke-width: 3; stroke-dasharray: none; }
+.flying { animation: fly .5s ease-in-out; }
+@keyframes fly { 0% { transform: translate(var(--from)); } 50% { transform: translate(var(--by)); } }
 .hop { fill: none; stroke: var(--walk); stroke-width: 3; }
 marker path { fill: var(--walk); }
 svg .hop-name { fill: var(--walk); font-size: 11px; font-weight: 700; paint-order: stroke; stroke: var(--pane); stroke-width: 4px; }
+figure { margin: .3rem 0; }
+figcaption { color: var(--faint); font-size: 12px; }
+#plot { width: min(100%, 420px); }
+#plot text { font-size: 10px; fill: var(--faint); }
+#plot path { fill: none; stroke: var(--rule); }
+#plot .held { stroke: var(--post); stroke-width: 2; }
+#plot .least { stroke: var(--walk); stroke-width: 1.5; stroke-dasharray: 4 3; }
+#plot .here { stroke: var(--ink); }
+dialog { max-width: 52rem; color: var(--ink); background: var(--pane); border: 1px solid var(--field); border-radius: .4rem; }
+dialog > button { float: right; }
+dl { display: grid; grid-template-columns: max-content 1fr; gap: .15rem .8rem; margin: .4rem 0; align-items: center; }
+dd { margin: 0; }
+.quiz .metric, .quiz #detail, .quiz #plot { visibility: hidden; }
+.large { font-size: 20px; grid-template: auto minmax(0, 1fr) / minmax(0, 1fr); }
+.large aside, .large #acts, .large #detail { display: none; }
+@media (prefers-reduced-motion: reduce) { .flying { animation: none; } }
 @media (max-width: 1180px) {
-  body { grid-template: auto minmax(0, 1fr) 15rem / minmax(0, 1fr) 28rem; }
-  #left { grid-area: 3 / 1 / 4 / -1; display: grid; grid-template: auto minmax(0, 1fr) / 1fr 1fr; border: 0; border-top: 1px solid var(--rule); }
-  #files { grid-column: 1 / -1; }
+  body:not(.large) { grid-template: auto minmax(0, 1fr) 17rem / minmax(0, 1fr) 28rem; }
+  #left { grid-area: 3 / 1 / 4 / -1; display: grid; grid-template: auto auto minmax(0, 1fr) / 1fr 1fr; border: 0; border-top: 1px solid var(--rule); }
+  #editing { grid-column: 1 / -1; }
 }
-@media (max-width: 900px) {
-  body { height: auto; grid-template: auto / minmax(0, 1fr); }
+@media (max-width: 900px), (max-width: 1180px) and (max-height: 700px) {
+  body:not(.large) { height: auto; grid-template: auto / minmax(0, 1fr); }
+  header { position: sticky; top: 0; z-index: 1; }
+  h1, header .group:last-child, header label { font-size: .8rem; }
   main { order: 1; } #right { order: 2; border: 0; } #left { order: 3; grid-area: auto; display: flex; }
-  #drawing { flex: none; height: min(60vh, 100vw); } #detail { overflow: visible; }
+  #drawing { flex: none; height: min(60vh, 100vw); } #detail { overflow: auto visible; }
   #editor { flex: none; height: 18rem; } #events { flex: none; max-height: 20rem; }
+}
+@media (max-width: 480px) { header select { max-width: 5.6rem; } header [data-act=large] { display: none; }
+  #tables :is(th, td):nth-child(5), header h1 { display: none; } th { width: 2.9rem; } th.via { width: 4rem; } th.until { width: 4rem; }
+}
+@media (min-width: 1181px) and (max-height: 620px) { main { overflow: auto; } #drawing, #detail { flex: none; } #drawing { height: 16rem; } }
+@media print {
+  body, body:not(.large) { display: block; height: auto; color-scheme: light; background: none; }
+  header > :not(h1, output), #left, #acts, dialog, .choices { display: none !important; }
+  header { background: none; color: inherit; }
+  main, #drawing, #detail, #right { display: block; overflow: visible; border: 0; height: auto; }
+  table, figure, svg { break-inside: avoid; max-width: 100%; }
 }
 </style>
 </head>
 <body>
 <header>
   <h1>ripngd laboratory</h1>
-  <select id="examples" aria-label="example"></select>
-  <button id="first" title="first (Home)">|◀</button>
+  <label class="served">example <select id="examples"></select></label>
+  <span class="group"><button id="first" aria-label="first" title="first (Home)">|◀</button>
   <button id="back" title="back (left arrow)">◀ back</button>
   <button id="step" title="step (right arrow)">step ▶</button>
   <button id="run" title="run (space)">run</button>
-  <button id="last" title="last (End)">▶|</button>
+  <button id="last" aria-label="last" title="last (End)">▶|</button></span>
+  <label>by <select id="by"><option value="event">event</option><option value="line">line</option><option value="change">change of a route</option><option value="remark">remark</option></select></label>
+  <label>run at <select id="speed"><option value="1">1 a second</option><option value="2" selected>2 a second</option><option value="8">8 a second</option><option value="0">all in a minute</option></select></label>
+  <input id="slider" type="range" min="0" max="0" value="0" aria-label="step">
   <output id="where"></output>
+  <span class="group"><button data-act="large" aria-pressed="false" title="the drawing alone, for a projector">large</button>
+  <button data-act="quiz" aria-pressed="false" title="the metrics are hidden: let them be guessed">hide metrics</button>
+  <button data-act="help">help</button></span>
 </header>
-<aside id="left">
-  <div id="files"><a id="save" download>save</a><label id="load" hidden>load<input id="file" type="file" hidden></label><span id="editing" class="bad"></span></div>
-  <div id="editor"><div id="gutter"></div><textarea id="script" spellcheck="false" wrap="off" readonly aria-label="script"></textarea></div>
-  <ol id="events"></ol>
+<aside id="left" aria-label="script and events">
+  <div id="files">
+    <input id="name" aria-label="name of the script" size="12"><button data-act="save">save</button>
+    <span class="served"><button data-act="load">load</button><input id="file" type="file" accept=".lab,text/plain" hidden>
+    <button id="undo" data-act="undo" title="Ctrl+Z">undo</button> <button id="redo" data-act="redo" title="Ctrl+Y">redo</button>
+    <button data-act="film" title="one file with this script, to send">film</button> <button data-act="share" title="an address with this script">link</button></span>
+  </div>
+  <div id="build" class="served"><label>new network: <select name="shape"><option>ring</option><option>line</option><option>star</option><option>one link</option><option>all to all</option></select></label>
+    <label>of <input name="many" type="number" min="2" max="16" value="5" required></label> <button type="button" data-act="make">make</button></div>
+  <p id="editing" role="status" aria-live="polite"></p>
+  <div id="editor"><div id="gutter" aria-hidden="true"></div><textarea id="script" spellcheck="false" wrap="off" readonly aria-label="script"></textarea></div>
+  <ol id="events" aria-label="events"></ol>
 </aside>
 <main>
-  <div id="drawing"></div>
-  <div id="detail"></div>
-  <p class="hint faint">Click a route: why this metric? Click a datagram, a router or a cost for more.</p>
+  <p id="caption" aria-live="polite"></p>
+  <div id="drawing" role="region" aria-label="network"></div>
+  <div id="acts">
+    <span class="served"><button data-act="round" title="every router ticks, and all arrives">round</button> <button data-act="rounds">five rounds</button>
+    <button data-act="ticks">tick all</button>
+    <label>new lines go <select id="place"><option value="end">to the end</option><option value="here">behind this step</option><option value="branch">behind this step, without the rest</option></select></label></span>
+    <button data-act="tidy" title="routers go back to their places">tidy</button> <button data-act="svg">drawing as SVG</button>
+  </div>
+  <div id="detail" role="region" aria-label="detail"></div>
 </main>
-<aside id="right">
+<aside id="right" aria-label="routes">
   <p id="tally"></p>
   <div id="tables"></div>
 </aside>
-<!-- What a refusal means, by its name. -->
-<dl id="reasons" hidden>
-  <dt>Short</dt><dd>it has fewer than 4 bytes</dd>
-  <dt>TooLong</dt><dd>it has more than 65,524 bytes</dd>
-  <dt>Ragged</dt><dd>it holds no whole number of entries</dd>
-  <dt>BadCommand</dt><dd>its command is neither 1 nor 2</dd>
-  <dt>BadVersion</dt><dd>its version is not 1</dd>
-  <dt>NotZero</dt><dd>its third or fourth byte is not 0</dd>
-  <dt>NotRipngPort</dt><dd>a Response has to come from port 521</dd>
-  <dt>NotLinkLocal</dt><dd>its source is not link-local</dd>
-  <dt>OwnAddress</dt><dd>its source is one of this router's addresses</dd>
-  <dt>HopLimit</dt><dd>sent to the group, it has to come with hop limit 255</dd>
-  <dt>EmptyRequest</dt><dd>a Request has to have an entry</dd>
-  <dt>BadSource</dt><dd>its source address or port cannot be answered</dd>
-  <dt>BadLength</dt><dd>its prefix length is above 128</dd>
-  <dt>BadPrefix</dt><dd>its prefix is multicast or link-local</dd>
-  <dt>BadMetric</dt><dd>its metric is not 1 to 16</dd>
-  <dt>TableFull</dt><dd>the table holds as many routes as it may</dd>
-  <dt>NoMemory</dt><dd>memory was refused</dd>
-  <dt>OutOfMemory</dt><dd>memory was refused</dd>
-  <dt>BadLine</dt><dd>the line is malformed or out of place</dd>
-  <dt>TooManyRouters</dt><dd>a network has at most 64 routers</dd>
-  <dt>AddressSharedInNetwork</dt><dd>two interfaces have one address</dd>
-  <dt>NoSuchRouter</dt><dd>there is no such router</dd>
-  <dt>NoSuchInterface</dt><dd>the router has no such interface</dd>
-  <dt>NoSuchDatagram</dt><dd>no such datagram was sent</dd>
-  <dt>OtherLink</dt><dd>the datagram was sent on another link</dd>
-  <dt>NotAStranger</dt><dd>this could only come from a router of the link</dd>
-  <dt>BadCost</dt><dd>a cost is 1 to 15</dd>
-  <dt>PrefixNotAllowed</dt><dd>the prefix is multicast or link-local</dd>
-  <dt>AlreadyOwned</dt><dd>the router owns it</dd>
-  <dt>OwnedFull</dt><dd>a router owns at most 1,024 prefixes</dd>
-  <dt>NotOwned</dt><dd>the router does not own it</dd>
-  <dt>NoInterface</dt><dd>a router has an interface</dd>
-  <dt>TooManyInterfaces</dt><dd>a router has at most 16 interfaces</dd>
-  <dt>AddressNotLinkLocal</dt><dd>an interface's address is link-local</dd>
-  <dt>AddressTwice</dt><dd>two interfaces of the router have one address</dd>
-  <dt>BadMtu</dt><dd>an MTU is 1,280 to 65,535</dd>
-  <dt>TooManyPrefixes</dt><dd>a router owns at most 1,024 prefixes</dd>
-  <dt>PrefixTwice</dt><dd>the prefix is owned twice</dd>
-  <dt>NoRegularUpdate</dt><dd>the router's regular update is not due</dd>
-</dl>
+<dialog id="help" aria-label="help">
+  <button data-act="close">close</button>
+  <h2>What is seen</h2>
+  <dl class="legend">
+    <dt><svg width="48" height="40"><g class="router"><circle cx="20" cy="22" r="15"/><circle class="owner" cx="20" cy="22" r="12"/><text x="20" y="22" font-size="12">R0</text><g class="metric"><circle cx="34" cy="11" r="8"/><text x="34" y="11" font-size="11">2</text></g></g></svg></dt>
+    <dd>A router; a second ring: it owns a prefix. The small number is its metric, the cost that it believes in (16: unreachable), for the route that was clicked, else for the first prefix.</dd>
+    <dt><svg width="48" height="40"><g class="router moved"><circle cx="20" cy="20" r="15"/></g></svg></dt><dd>Yellow, with a thick rim: it moves at this step. A dashed rim: it is quiet.</dd>
+    <dt><svg width="48" height="30"><path class="wire" d="M0 20H48"/><g class="cost"><text x="12" y="11" font-size="12">4</text></g></svg></dt><dd>A link; the number is what it costs the router at that end to hear by it.</dd>
+    <dt><svg width="48" height="24"><g class="pile"><rect x="8" y="5" width="30" height="13" rx="3"/><text x="23" y="12">12 +2</text></g></svg></dt><dd>Datagram 12 and two before it are under way. Filled: just sent, or coming in now; red: refused.</dd>
+    <dt><svg width="48" height="24"><g class="pile lost"><rect x="8" y="5" width="30" height="13" rx="3"/><text x="23" y="12">✗12</text></g></svg></dt><dd>Nobody hears it any more in this script: it is lost.</dd>
+  </dl>
+  <p><b>Click a route</b> in a table: why this metric? <b>Click</b> a router, a number at a link or a datagram for what can be done there; each such act is a line of the script. A step is one event, a line may have many, and datagrams are numbered as they are sent.</p>
+  <p><i>least</i>: the least cost of all walks, as the network is now. <i>if 1</i>: the router's interface 1. <i>tag</i>: a number that its owner gave the route. <i>until</i>: when it is lost, if nothing more is heard.</p>
+  <p>Keys: ← → step, Home, End, space runs; Tab goes from pane to pane, ↑ ↓ within one, Enter chooses, Escape lets go, Ctrl+Z undoes.</p>
+  <h2>The lines of a script</h2>
+  <p>Routers R, the interfaces I of each, and datagrams N are numbered from 0; moments are milliseconds. A line that begins with # is a remark.</p>
+  <dl id="card"></dl>
+</dialog>
 <!-- What is put in: scripts, each an element with its name, and in a film the trace of its one script. -->
 <div id="scripts" hidden>
 "##;

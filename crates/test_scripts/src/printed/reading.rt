@@ -113,7 +113,7 @@ const SCRIPTS: [(&[u8], &[u8]); 22] = [
     (b"\r\n", b"line 1 refused BadLine\n"),
     (b" \n", b"line 1 refused BadLine\n"),
     (b"\xff", b"line 1 refused BadLine\n"),
-    (b"router loud\n", b"line 1 refused BadLine\n"),
+    (b"router quiet quiet\n", b"line 1 refused BadLine\n"),
     (b"iface fe80::1 1 1280 0\n", b"line 1 refused BadLine\n"),
     (b"own ::/0 0\n", b"line 1 refused BadLine\n"),
     (b"print\n", b"line 1 refused BadLine\n"),

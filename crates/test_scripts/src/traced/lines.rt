@@ -4,7 +4,7 @@ use super::{TWO, traced};
 use std::test::Fail;
 
 /// Lines behind the six that start two routers, with what the last of them writes.
-const LINES: [(&str, &str); 23] = [
+const LINES: [(&str, &str); 25] = [
     // The word sets the regular update: 10 + 15,000 + 30,007 mod 30,001.
     (
         "tick 0 10 30007",
@@ -183,6 +183,15 @@ deliver 1 1 0 31",
     (
         "rounds 2 10 14999",
         "{\"line\":7,\"record\":\"refused\",\"why\":\"41 NoRegularUpdate 1 0\"}",
+    ),
+    (
+        "expect 1 2001:db8::/32 5",
+        "{\"line\":7,\"record\":\"refused\",\"why\":\"expected 1 2001:db8::/32 5 found none\"}",
+    ),
+    // What is met writes nothing.
+    (
+        "print\nexpect 0 2001:db8::/32 1",
+        "{\"line\":7,\"record\":\"print\",\"prints\":[\"0 2001:db8::/32 metric 1 tag 9 own\"]}",
     ),
     (
         "a \"line\"\\",

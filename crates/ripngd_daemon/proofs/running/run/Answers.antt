@@ -1,18 +1,11 @@
-use Rattle.ripngd_daemon.specs.Ran.{ShowsTurns}
 use Rattle.ripngd_daemon.proofs.running.run.Goals as goal
-use Rattle.ripngd_daemon.proofs.running.run.Goals.{then-plan+in_ok-run_debugged-in-Ok, else-plan+in_ok-run_plan-in-Ok}
 
 pub returns-in-Ok-clause-ran : goal.returns-in-Ok-clause-ran
-returns-in-Ok-clause-ran g c =
-    let shown : ShowsTurns c.in-Ok.plan.config c.in-Ok.plan.turns (g.O.Write.contents c.args.out.now) (g.O.Write.contents c.if-plan.out) =
-    elim c.if-plan.branch [
-      | then-plan+in_ok-run_debugged-in-Ok w ↦ rw w.out-is w.in_ok-run_debugged-in-Ok.ensures.shown
-      | else-plan+in_ok-run_plan-in-Ok w ↦ rw w.out-is w.in_ok-run_plan-in-Ok.ensures.shown
-    ] in (
-      c.in_ok-text.text.items,
-      c.in_ok-text.ensures.text,
-      (c.in-Ok.plan.config, rw c.as_slice.ensures.value at c.in-Ok.ensures.configured, rw c.in-Ok.ensures.turns at shown),
-    )
+returns-in-Ok-clause-ran g c = (
+  c.in_ok-text.text.items,
+  c.in_ok-text.ensures.text,
+  (c.in-Ok.plan.config, rw c.as_slice.ensures.value at c.in-Ok.ensures.configured, rw c.in-Ok.ensures.turns at c.in_ok-run_plan-in-Ok.ensures.shown),
+)
 
 pub returns-clause-ran : goal.returns-clause-ran
 returns-clause-ran g c =

@@ -2,14 +2,14 @@ use Rattle.std.proofs.Common.{◌≡◌, ◌-◌, ◌<◌, ◌≤◌, ℕ, List,
 use Rattle.std.specs.List.{enumerate_from}
 use Rattle.std.proofs.lemmas.List.{length-drop, take_all}
 use Rattle.ripng_world.specs.AskedRounds.{is_other, interfaces_of}
-use Rattle.ripng_world.specs.Watching.{WatchedRun, failures, heard}
+use Rattle.ripng_world.specs.Watching.{WatchedRun, heard}
 use Rattle.ripng_world.specs.Labs.{LabValue}
 use Rattle.ripng_world.specs.Network.{Network}
 use Rattle.ripng_world.specs.Stations.{StationValue, network_of}
 use Rattle.ripng_world.specs.declared.sent.Sent.{Sent}
 use Rattle.ripng_world.specs.declared.watch.Stopped.TheVariants.{Refused}
-use Rattle.ripng_world.proofs.Delivered.{each_next, each_part, each_stop, still_at, still_within, to_others}
-use Rattle.ripng_world.proofs.Watched.{handed_on, none_yet}
+use Rattle.ripng_world.proofs.Delivered.{each_next, each_part, each_stop, none_heard, still_at, still_within, to_others}
+use Rattle.ripng_world.proofs.Watched.{handed_on}
 use Rattle.ripng_world.proofs.lab.Lab.deliver_each.Goals as goal
 
 pub index-requires : goal.index-requires
@@ -24,12 +24,12 @@ index-requires g c =
 pub returns-in_err-interfaces-clause-stopped : goal.returns-in_err-interfaces-clause-stopped
 returns-in_err-interfaces-clause-stopped g c =
     handed_on c.from_residual.result (Refused c.in_err-interfaces.field-0.0) _ c.from_residual.ensures.1
-    (none_yet g.V.Watch.takes g.V.Watch.fails c.args.self.now.network _ (c.args.self.now.world, c.args.watch.now) (c.args.self.now.world, c.args.watch.now) refl)
+    (none_heard g.V.Watch.takes g.V.Watch.fails c.in_err-interfaces.field-0.0 c.args.self.now.network _ (c.args.self.now.world, c.args.watch.now) (c.args.self.now.world, c.args.watch.now) refl)
 
 pub returns-in_err-others-clause-stopped : goal.returns-in_err-others-clause-stopped
 returns-in_err-others-clause-stopped g c =
     handed_on c.from_residual-in_err-others.result (Refused c.in_err-others.field-0.0) _ c.from_residual-in_err-others.ensures.1
-    (each_part g.V.Watch.takes g.V.Watch.fails c.args.self.now.network c.args.now c.args.first c.loop-datagram.datagram (c.args.self.now.world, c.args.watch.now) (c.loop-datagram.self.world, c.loop-datagram.watch) c.loop-datagram.invariant.delivered)
+    (each_part g.V.Watch.takes g.V.Watch.fails c.in_err-others.field-0.0 c.args.self.now.network c.args.now c.args.first c.loop-datagram.datagram (c.args.self.now.world, c.args.watch.now) (c.loop-datagram.self.world, c.loop-datagram.watch) c.loop-datagram.invariant.delivered)
 
 pub returns-in_err-deliver_to-clause-stopped : goal.returns-in_err-deliver_to-clause-stopped
 returns-in_err-deliver_to-clause-stopped g c =
@@ -48,8 +48,8 @@ returns-in_err-deliver_to-clause-stopped g c =
     (ap (λ (ss : List StationValue). network_of ss) c.deref-in-loop-datagram.ensures.value ∙ net_is)
     (c.deref-in-loop-datagram-2.ensures.value ∙ c.in_ok-interfaces.ensures ∙ ap (λ (ss : List StationValue). interfaces_of (network_of ss)) c.deref.ensures.value ∙ ap interfaces_of first_is) in
     handed_on c.from_residual-in_err-deliver_to.result c.in_err-deliver_to.field-0.0 _ c.from_residual-in_err-deliver_to.ensures.1
-    (each_stop g.V.Watch.takes g.V.Watch.fails (failures c.in_err-deliver_to.field-0.0) net c.loop-datagram.self.network (c.args.self.now.world, c.args.watch.now) (c.loop-datagram.self.world, c.loop-datagram.watch) (c.deliver_to.new.self.world, c.deliver_to.new.watch) c.loop-datagram.invariant.network c.args.now c.args.first
-    c.loop-datagram.datagram d c.deref-in-loop-datagram-3.result.now low high d_is others_are c.loop-datagram.invariant.delivered c.in_err-deliver_to.ensures.stopped)
+    (each_stop g.V.Watch.takes net c.loop-datagram.self.network (c.args.self.now.world, c.args.watch.now) (c.loop-datagram.self.world, c.loop-datagram.watch) (c.deliver_to.new.self.world, c.deliver_to.new.watch) c.loop-datagram.invariant.network c.args.now c.args.first
+    c.loop-datagram.datagram d c.deref-in-loop-datagram-3.result.now low high d_is others_are c.loop-datagram.invariant.delivered g.V.Watch.fails c.in_err-deliver_to.field-0.0 c.in_err-deliver_to.ensures.stopped)
 
 pub loop-datagram-preserved : goal.loop-datagram-preserved
 loop-datagram-preserved g c =
@@ -69,7 +69,7 @@ loop-datagram-preserved g c =
     (c.deref-in-loop-datagram-2.ensures.value ∙ c.in_ok-interfaces.ensures ∙ ap (λ (ss : List StationValue). interfaces_of (network_of ss)) c.deref.ensures.value ∙ ap interfaces_of first_is) in
     record {
       network = c.deliver_to.ensures.network ∙ c.loop-datagram.invariant.network;
-      delivered = each_next g.V.Watch.takes g.V.Watch.fails 0 net c.loop-datagram.self.network (c.args.self.now.world, c.args.watch.now) (c.loop-datagram.self.world, c.loop-datagram.watch) (c.deliver_to.new.self.world, c.deliver_to.new.watch) c.loop-datagram.invariant.network c.args.now c.args.first
+      delivered = each_next g.V.Watch.takes net c.loop-datagram.self.network (c.args.self.now.world, c.args.watch.now) (c.loop-datagram.self.world, c.loop-datagram.watch) (c.deliver_to.new.self.world, c.deliver_to.new.watch) c.loop-datagram.invariant.network c.args.now c.args.first
           c.loop-datagram.datagram d c.deref-in-loop-datagram-3.result.now low high d_is others_are c.loop-datagram.invariant.delivered c.in_ok-deliver_to.ensures.delivered;
     }
 

@@ -3,12 +3,12 @@ use Rattle.std.proofs.lemmas.Bool.{eqb-true}
 use Rattle.std.proofs.lemmas.Bool.Decides.{nat_tests}
 use Rattle.std.proofs.lemmas.Nat.{mod_below}
 use Rattle.std.proofs.lemmas.Option.{slice_get-get_or}
-use Rattle.ripng_world.specs.Watching.{WatchedRun, failures, heard}
+use Rattle.ripng_world.specs.Watching.{WatchedRun, heard}
 use Rattle.ripng_world.specs.World.{Event}
 use Rattle.ripng_world.specs.declared.pairs.Pair.{Pair}
 use Rattle.ripng_world.specs.declared.watch.Stopped.TheVariants.{Refused}
-use Rattle.ripng_world.proofs.Delivered.{picked_next, picked_stop}
-use Rattle.ripng_world.proofs.Watched.{handed_on, none_yet}
+use Rattle.ripng_world.proofs.Delivered.{none_heard, picked_next, picked_stop}
+use Rattle.ripng_world.proofs.Watched.{handed_on}
 use Rattle.ripng_world.proofs.Picking.{none_picked, flag_more}
 use Rattle.ripng_world.proofs.lab.Lab.deliver_picked.Goals as goal
 
@@ -23,7 +23,7 @@ not_none n e = grind (arith, nat_tests)
 pub returns-in_err-picked-clause-stopped : goal.returns-in_err-picked-clause-stopped
 returns-in_err-picked-clause-stopped g c =
     handed_on c.from_residual.result (Refused c.in_err-picked.field-0.0) _ c.from_residual.ensures.1
-    (none_yet g.V.Watch.takes g.V.Watch.fails c.args.self.now.network _ (c.args.self.now.world, c.args.watch.now) (c.args.self.now.world, c.args.watch.now) refl)
+    (none_heard g.V.Watch.takes g.V.Watch.fails c.in_err-picked.field-0.0 c.args.self.now.network _ (c.args.self.now.world, c.args.watch.now) (c.args.self.now.world, c.args.watch.now) refl)
 
 abbrev nobody : Pair
 nobody = record { datagram = 0; router = 0; iface = 0 }
@@ -36,8 +36,8 @@ returns-in_err-deliver-clause-stopped g c =
     let x = c.loop-word-item.result in
     let place : x.0 % length pairs < length pairs = mod_below x.0 (length pairs) (not_none (length pairs) (sym c.is_empty.ensures ∙ c.if-is_empty.false)) in
     handed_on c.from_residual-in_err-deliver.result c.in_err-deliver.field-0.0 _ c.from_residual-in_err-deliver.ensures.1
-    (picked_stop g.V.Watch.takes g.V.Watch.fails (failures c.in_err-deliver.field-0.0) c.args.self.now.network c.loop-word.self.network (c.args.self.now.world, c.args.watch.now) (c.loop-word.self.world, c.loop-word.watch) (c.deliver.new.self.world, c.deliver.new.watch) c.loop-word.invariant.network pairs picks i x
-    (get_or pairs (x.0 % length pairs) nobody) c.loop-word-test.true c.loop-word-item.is (slice_get-get_or pairs (x.0 % length pairs) nobody place) c.loop-word.invariant.delivered c.in_err-deliver.ensures.stopped)
+    (picked_stop g.V.Watch.takes c.args.self.now.network c.loop-word.self.network (c.args.self.now.world, c.args.watch.now) (c.loop-word.self.world, c.loop-word.watch) (c.deliver.new.self.world, c.deliver.new.watch) c.loop-word.invariant.network pairs picks i x
+    (get_or pairs (x.0 % length pairs) nobody) c.loop-word-test.true c.loop-word-item.is (slice_get-get_or pairs (x.0 % length pairs) nobody place) c.loop-word.invariant.delivered g.V.Watch.fails c.in_err-deliver.field-0.0 c.in_err-deliver.ensures.stopped)
 
 pub loop-word-preserved : goal.loop-word-preserved
 loop-word-preserved g c =
@@ -49,7 +49,7 @@ loop-word-preserved g c =
     let within : x.0 % length pairs < length c.loop-word.picked.items = omega (arith, place, c.loop-word.invariant.flags, c.loop-word.picked.ok.0) in
     record {
       network = c.deliver.ensures.network ∙ c.loop-word.invariant.network;
-      delivered = picked_next g.V.Watch.takes g.V.Watch.fails 0 c.args.self.now.network c.loop-word.self.network (c.args.self.now.world, c.args.watch.now) (c.loop-word.self.world, c.loop-word.watch) (c.deliver.new.self.world, c.deliver.new.watch) c.loop-word.invariant.network pairs picks i x
+      delivered = picked_next g.V.Watch.takes c.args.self.now.network c.loop-word.self.network (c.args.self.now.world, c.args.watch.now) (c.loop-word.self.world, c.loop-word.watch) (c.deliver.new.self.world, c.deliver.new.watch) c.loop-word.invariant.network pairs picks i x
           (get_or pairs (x.0 % length pairs) nobody) c.loop-word-test.true c.loop-word-item.is (slice_get-get_or pairs (x.0 % length pairs) nobody place) c.loop-word.invariant.delivered c.in_ok-deliver.ensures.delivered;
       flags = c.loop-word.invariant.flags;
       picked = λ k h. flag_more c.loop-word.picked.items (length pairs) picks i x k c.loop-word-test.true c.loop-word-item.is within (c.loop-word.invariant.picked k h);

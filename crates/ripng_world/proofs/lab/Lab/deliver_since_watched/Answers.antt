@@ -1,21 +1,17 @@
 use Rattle.ripng_world.specs.AskedRounds.{pairs_since}
 use Rattle.ripng_world.specs.Delivering.{deliveries_since}
+use Rattle.ripng_world.specs.Watching.{heard}
 use Rattle.ripng_world.proofs.AskedSynchronous.{on_ok, since_still}
-use Rattle.ripng_world.specs.Watching.{failures, heard}
-use Rattle.ripng_world.proofs.Delivered.{told_part}
-use Rattle.ripng_world.proofs.Watched.{err_on, watched_run}
+use Rattle.ripng_world.proofs.Delivered.{heard_part, stop_at}
+use Rattle.ripng_world.proofs.Watched.{map_err, watched_run}
 use Rattle.ripng_world.proofs.LabRuns.{backed, least, truth, fixed}
 use Rattle.ripng_world.proofs.lab.Lab.deliver_since_watched.Goals as goal
 
-pub returns-clause-changes : goal.returns-clause-changes
-returns-clause-changes g c =
-    since_still c.args.self.now.network (pairs_since c.args.self.now.network c.args.first c.args.self.now.world.sent) c.args.now c.args.self.now.world c.deliver_each-outcome.new.self.world c.deliver_each-outcome.result
-    (on_ok c.deliver_each-outcome.result _ _
-    (watched_run g.V.Watch.takes heard c.args.self.now.network (deliveries_since c.args.self.now.network c.args.first c.args.self.now.world.sent c.args.now) (c.args.self.now.world, c.args.watch.now) (c.deliver_each-outcome.new.self.world, c.deliver_each-outcome.new.watch))
-    c.deliver_each-outcome.ensures.delivered)
-    (err_on c.deliver_each-outcome.result _ _
-    (λ why. told_part g.V.Watch.takes g.V.Watch.fails (failures why) c.args.self.now.network (deliveries_since c.args.self.now.network c.args.first c.args.self.now.world.sent c.args.now) (c.args.self.now.world, c.args.watch.now) (c.deliver_each-outcome.new.self.world, c.deliver_each-outcome.new.watch))
-    c.deliver_each-outcome.ensures.stopped)
+pub returns-clause-told_in_part : goal.returns-clause-told_in_part
+returns-clause-told_in_part g c =
+    map_err c.deliver_each-outcome.result _ _
+    (λ why. heard_part g.V.Watch.takes g.V.Watch.fails why c.args.self.now.network (deliveries_since c.args.self.now.network c.args.first c.args.self.now.world.sent c.args.now) (c.args.self.now.world, c.args.watch.now) (c.deliver_each-outcome.new.self.world, c.deliver_each-outcome.new.watch))
+    c.deliver_each-outcome.ensures.stopped
 
 pub returns-clause-delivered : goal.returns-clause-delivered
 returns-clause-delivered g c =
@@ -25,9 +21,15 @@ returns-clause-delivered g c =
 
 pub returns-clause-stopped : goal.returns-clause-stopped
 returns-clause-stopped g c =
-    err_on c.deliver_each-outcome.result _ _
-    (λ why. told_part g.V.Watch.takes g.V.Watch.fails (failures why) c.args.self.now.network (deliveries_since c.args.self.now.network c.args.first c.args.self.now.world.sent c.args.now) (c.args.self.now.world, c.args.watch.now) (c.deliver_each-outcome.new.self.world, c.deliver_each-outcome.new.watch))
+    map_err c.deliver_each-outcome.result _ _
+    (λ why. stop_at g.V.Watch.takes g.V.Watch.fails why c.args.self.now.network (deliveries_since c.args.self.now.network c.args.first c.args.self.now.world.sent c.args.now) (c.args.self.now.world, c.args.watch.now) (c.deliver_each-outcome.new.self.world, c.deliver_each-outcome.new.watch))
     c.deliver_each-outcome.ensures.stopped
+
+pub returns-clause-changes : goal.returns-clause-changes
+returns-clause-changes g c =
+    let net = c.args.self.now.network in
+    since_still net (pairs_since net c.args.first c.args.self.now.world.sent) c.args.now c.args.self.now.world c.deliver_each-outcome.new.self.world c.deliver_each-outcome.result
+    (returns-clause-delivered g c) (returns-clause-stopped g c)
 
 pub returns-clause-backed : goal.returns-clause-backed
 returns-clause-backed g c = rw (← c.self.view_is) (backed _ _ c.self.invariant)

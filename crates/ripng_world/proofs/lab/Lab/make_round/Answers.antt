@@ -1,16 +1,16 @@
-use Rattle.std.proofs.Common.{◌≡◌, ℕ, List, inr, length, subst, sym, ap, arith, refl, ◌∙◌}
+use Rattle.std.proofs.Common.{◌≡◌, List, length, subst, ap, arith}
 use Rattle.ripng_world.specs.Asked.{Asked}
-use Rattle.ripng_world.specs.AskedRounds.{StopsFor, deliveries_of, pairs_since, ticks_of}
+use Rattle.ripng_world.specs.AskedRounds.{deliveries_of, pairs_since, ticks_of}
 use Rattle.ripng_world.specs.Network.{Network}
-use Rattle.ripng_world.specs.Watching.{Told, WatchedInPart, WatchedRun, as_refused, failures, heard}
+use Rattle.ripng_world.specs.Watching.{HeardInPart, Told, WatchedRun, failures, heard}
 use Rattle.ripng_world.specs.World.{World}
-use Rattle.ripng_world.specs.declared.rounds.RoundsRefused.{RoundsRefused}
 use Rattle.ripng_world.specs.declared.rounds.RoundsRefused.TheVariants.{OutOfMemory}
 use Rattle.ripng_world.specs.declared.sent.Sent.{Sent}
+use Rattle.ripng_world.specs.declared.watch.Stopped.{Stopped}
 use Rattle.ripng_world.proofs.AskedRuns.{ticks_grow}
-use Rattle.ripng_world.proofs.Delivered.{in_part, told_part}
-use Rattle.ripng_world.proofs.Watched.{as_many_failed, as_memory, handed_on, watched_ticks}
-use Rattle.ripng_world.proofs.WatchedRounds.{stop_in_deliveries, stop_in_ticks}
+use Rattle.ripng_world.proofs.Delivered.{heard_part, stop_at}
+use Rattle.ripng_world.proofs.Watched.{as_many_failed, handed_on, watched_ticks}
+use Rattle.ripng_world.proofs.WatchedRounds.{end_in_deliveries, same_round, stop_in_deliveries, stop_in_ticks}
 use Rattle.ripng_world.proofs.lab.Lab.make_round.Goals as goal
 
 pub deliver_asked-requires : goal.deliver_asked-requires
@@ -26,31 +26,37 @@ returns-in_err-tick_all-clause-told g c =
     c.in_err-tick_all.ensures.told)
 
 -- the deliveries stop, in the network as it is called at the start
-part : {V : Type 0} (t f : V → Told → V → Type 0) (k : ℕ) (net net' : Network) (sent sent' : List Sent) (round : Asked) (after end : World × V) → net' ≡ net → sent' ≡ sent
-    → WatchedInPart t f k net' after (deliveries_of (pairs_since net' (length sent') after.0.sent) round.picks round.rest) end
-    → WatchedInPart t f k net after (deliveries_of (pairs_since net (length sent) after.0.sent) round.picks round.rest) end
-part t f k net net' sent sent' round after end same first stop =
-    subst (λ (n : Network). WatchedInPart t f k n after (deliveries_of (pairs_since n (length sent) after.0.sent) round.picks round.rest) end) same
-    (subst (λ (ds : List Sent). WatchedInPart t f k net' after (deliveries_of (pairs_since net' (length ds) after.0.sent) round.picks round.rest) end) first stop)
+part : {V R F : Type 0} (t f : V → Told → V → Type 0) (why : Stopped R F) (net net' : Network) (sent sent' : List Sent) (round : Asked) (after end : World × V) → net' ≡ net → sent' ≡ sent
+    → HeardInPart t f why net' after (deliveries_of (pairs_since net' (length sent') after.0.sent) round.picks round.rest) end
+    → HeardInPart t f why net after (deliveries_of (pairs_since net (length sent) after.0.sent) round.picks round.rest) end
+part t f why net net' sent sent' round after end same first stop =
+    subst (λ (n : Network). HeardInPart t f why n after (deliveries_of (pairs_since n (length sent) after.0.sent) round.picks round.rest) end) same
+    (subst (λ (ds : List Sent). HeardInPart t f why net' after (deliveries_of (pairs_since net' (length ds) after.0.sent) round.picks round.rest) end) first stop)
 
 pub returns-in-Err-clause-told : goal.returns-in-Err-clause-told
 returns-in-Err-clause-told g c =
-    let told = stop_in_deliveries g.V.Watch.takes g.V.Watch.fails (failures c.in-Err.stopped) c.args.self.now.network c.args.round.now (c.args.self.now.world, c.args.watch.now)
-    (c.deliver_asked.new.self.world, c.deliver_asked.new.watch) (c.tick_all.new.self.world, c.tick_all.new.watch) c.in_ok-tick_all.ensures.ticked (part g.V.Watch.takes g.V.Watch.fails (failures c.in-Err.stopped) c.args.self.now.network c.tick_all.new.self.network c.args.self.now.world.sent c.sent-first.result.now c.args.round.now (c.tick_all.new.self.world, c.tick_all.new.watch) (c.deliver_asked.new.self.world, c.deliver_asked.new.watch) c.tick_all.ensures.network c.sent-first.ensures.value c.in-Err.ensures.stopped) in
-    rw (c.refused_as.ensures, as_many_failed c.in-Err.stopped (OutOfMemory c.args.number)) told
+    let why = c.in-Err.stopped in
+    let net = c.args.self.now.network in
+    let after : World × _ = (c.tick_all.new.self.world, c.tick_all.new.watch) in
+    let end : World × _ = (c.deliver_asked.new.self.world, c.deliver_asked.new.watch) in
+    let stop = part g.V.Watch.takes g.V.Watch.fails why net c.tick_all.new.self.network c.args.self.now.world.sent c.sent-first.result.now c.args.round.now after end c.tick_all.ensures.network c.sent-first.ensures.value c.in-Err.ensures.stopped in
+    let told = stop_in_deliveries g.V.Watch.takes g.V.Watch.fails (failures why) net c.args.round.now (c.args.self.now.world, c.args.watch.now) end after c.in_ok-tick_all.ensures.ticked
+    (heard_part g.V.Watch.takes g.V.Watch.fails why net _ after end stop) in
+    rw (c.refused_as.ensures, as_many_failed why (OutOfMemory c.args.number)) told
 
 pub returns-in-Err-clause-number : goal.returns-in-Err-clause-number
-returns-in-Err-clause-number g c = rw (c.refused_as.ensures, as_memory c.args.number c.in-Err.stopped) refl
+returns-in-Err-clause-number g c = rw (c.refused_as.ensures) (same_round c.args.self.now.network c.args.number c.in-Err.stopped)
 
 pub returns-in-Err-clause-refused : goal.returns-in-Err-clause-refused
 returns-in-Err-clause-refused g c =
+    let why = c.in-Err.stopped in
     let net = c.args.self.now.network in
     let after : World × _ = (c.tick_all.new.self.world, c.tick_all.new.watch) in
     let end : World × _ = (c.deliver_asked.new.self.world, c.deliver_asked.new.watch) in
     let ticked = watched_ticks g.V.Watch.takes net (ticks_of c.args.round.now.ticks) (c.args.self.now.world, c.args.watch.now) after c.in_ok-tick_all.ensures.ticked in
-    let done = in_part net _ after.0 end.0 (told_part g.V.Watch.takes g.V.Watch.fails (failures c.in-Err.stopped) net _ after end (part g.V.Watch.takes g.V.Watch.fails (failures c.in-Err.stopped) c.args.self.now.network c.tick_all.new.self.network c.args.self.now.world.sent c.sent-first.result.now c.args.round.now (c.tick_all.new.self.world, c.tick_all.new.watch) (c.deliver_asked.new.self.world, c.deliver_asked.new.watch) c.tick_all.ensures.network c.sent-first.ensures.value c.in-Err.ensures.stopped)) in
-    subst (λ (why : RoundsRefused). StopsFor net c.args.self.now.world c.args.round.now why end.0)
-    (sym (ap (as_refused c.args.number) c.refused_as.ensures ∙ as_memory c.args.number c.in-Err.stopped)) (inr (after.0, ticked, done.0, done.1))
+    let stop = part g.V.Watch.takes g.V.Watch.fails why net c.tick_all.new.self.network c.args.self.now.world.sent c.sent-first.result.now c.args.round.now after end c.tick_all.ensures.network c.sent-first.ensures.value c.in-Err.ensures.stopped in
+    rw (c.refused_as.ensures)
+    (end_in_deliveries net c.args.round.now c.args.number why c.args.self.now.world after.0 end.0 ticked (stop_at g.V.Watch.takes g.V.Watch.fails why net _ after end stop))
 
 pub returns-in-Ok-clause-made : goal.returns-in-Ok-clause-made
 returns-in-Ok-clause-made g c =

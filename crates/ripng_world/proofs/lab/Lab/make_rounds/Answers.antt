@@ -1,8 +1,8 @@
 use Rattle.std.proofs.Common.{◌∙◌, subst, refl, [], ap, Some, sym}
 use Rattle.std.proofs.lemmas.Option.{slice_get-get_or}
-use Rattle.ripng_world.specs.AskedRounds.{StopsFor}
 use Rattle.ripng_world.specs.Network.{Network}
-use Rattle.ripng_world.specs.Watching.{IsMadeTold, RoundToldInPart, as_refused, failures}
+use Rattle.ripng_world.specs.Stopping.{RoundStops}
+use Rattle.ripng_world.specs.Watching.{IsMadeTold, RoundToldInPart, failures}
 use Rattle.ripng_world.proofs.Watched.{handed_on}
 use Rattle.ripng_world.proofs.WatchedRounds.{rounds_stopped, told_more}
 use Rattle.ripng_world.proofs.lab.Lab.make_rounds.Goals as goal
@@ -40,10 +40,8 @@ returns-in_err-make_round-clause-refused g c =
     let a = c.index-rounds-number.result in
     let n = c.loop-number.number in
     let why = c.in_err-make_round.field-0.0 in
-    handed_on c.from_residual.result c.in_err-make_round.field-0.0 _ c.from_residual.ensures.1 (
-      n,
-      rounds_stopped g.V.Watch.takes c.args.self.now.network c.args.rounds.now n a (c.args.self.now.world, c.args.watch.now) (c.loop-number.self.world, c.loop-number.watch) c.make_round.new.self.world why
-          c.in_err-make_round.ensures.number c.loop-number.invariant.made
-          (slice_get-get_or c.args.rounds.now n a c.loop-number-test.true ∙ ap Some (sym c.index-rounds-number.is))
-          (subst (λ (net : Network). StopsFor net c.loop-number.self.world a (as_refused n why) c.make_round.new.self.world) c.loop-number.invariant.network c.in_err-make_round.ensures.refused),
-    )
+    handed_on c.from_residual.result c.in_err-make_round.field-0.0 _ c.from_residual.ensures.1
+    (rounds_stopped c.args.self.now.network g.V.Watch.takes c.args.rounds.now n a (c.args.self.now.world, c.args.watch.now) (c.loop-number.self.world, c.loop-number.watch) c.make_round.new.self.world why
+    c.in_err-make_round.ensures.number c.loop-number.invariant.made
+    (slice_get-get_or c.args.rounds.now n a c.loop-number-test.true ∙ ap Some (sym c.index-rounds-number.is))
+    (subst (λ (net : Network). RoundStops net c.loop-number.self.world a why c.make_round.new.self.world) c.loop-number.invariant.network c.in_err-make_round.ensures.refused))

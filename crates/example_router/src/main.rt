@@ -1,0 +1,78 @@
+//! One router over a link of its own, a queue in memory: how another program uses the core. A neighbor is heard once, and then no more;
+//! the program prints what changes in the forwarding table, when, and at its end how many datagrams the queue holds.
+#![tactic(auto)]
+
+use fib::RouteChange;
+use prefix6::parse_addr;
+use route_table::{Moment, TrieRoutes};
+use router_core::{Answer, Arrival, Interface, Outgoing, Router, RouterConfig};
+use std::alloc::Global;
+use std::collections::VecDeque;
+use std::io::{self, Error, ErrorKind, Write};
+use std::process::ExitCode;
+
+/// The Response of a neighbor that tells `2001:db8::/48` with metric 1.
+const TOLD: [u8; 24] = [
+    2, 1, 0, 0, 0x20, 0x01, 0x0d, 0xb8, 0, 0, 0, 0, 0, 0, 0, 0, 0, 0, 0, 0, 0, 0, 48, 1,
+];
+
+/// Does what an answer asks for: its changes are printed, and its datagrams wait for the link.
+fn carry_out<W: Write>(
+    out: &mut W,
+    link: &mut VecDeque<Outgoing>,
+    now: Moment,
+    answer: Answer,
+) -> io::Result<()> {
+    for change in answer.changes.as_slice() {
+        let ms = now.ms();
+        match change {
+            RouteChange::Install { prefix, metric, .. } => writeln!(
+                out,
+                "{ms} ms: {prefix} metric {metric}"
+            )?,
+            RouteChange::Withdraw { prefix } => writeln!(out, "{ms} ms: {prefix} is gone")?,
+        }
+    }
+    for datagram in answer.sends.into_vec() {
+        link.push_back(datagram)?;
+    }
+    Ok(())
+}
+
+fn run<W: Write>(alloc: Global, out: &mut W) -> io::Result<()> {
+    let unlawful = || Error::from(ErrorKind::InvalidInput);
+    let mut now = Moment::new(0).ok_or_else(unlawful)?;
+    let mut link = VecDeque::new(alloc);
+    let addr = parse_addr("fe80::1").map_err(|_| unlawful())?;
+    let interfaces = vec![in alloc;
+        Interface {
+            addr,
+            cost: 1,
+            mtu: 1500
+        },
+    ]?;
+    let config = RouterConfig::check(interfaces, Vec::new(alloc), false).map_err(|_| unlawful())?;
+    let (mut router, answer) = Router::<TrieRoutes>::start(alloc, config, now)?;
+    carry_out(out, &mut link, now, answer)?;
+    if !router.config().interfaces().is_empty() {
+        let heard = Arrival {
+            now,
+            iface: 0,
+            source: parse_addr("fe80::2").map_err(|_| unlawful())?,
+            source_port: 521,
+            hop_limit: 255,
+            to_group: true,
+            bytes: &TOLD,
+        };
+        carry_out(out, &mut link, now, router.arrive(heard)?)?;
+    }
+    for _ in 0..20 {
+        carry_out(out, &mut link, now, router.tick(now, 0)?)?;
+        now = Moment::new(router.wakes_at().ms()).ok_or_else(unlawful)?;
+    }
+    writeln!(out, "{} datagrams", link.len())
+}
+
+fn main(rt: HostRuntime) -> ExitCode {
+    ExitCode::from(u8::from(run(rt.alloc(), &mut rt.stdout()).is_err()))
+}

@@ -1,0 +1,41 @@
+//! The last line of an answer.
+
+ghost use Rattle.std.specs.Prelude.{Some};
+ghost use Rattle.ripngd_control.specs.Answers.{reply_text};
+
+use router_core::ReconfigureRefused;
+use std::fmt::{self, Display};
+
+/// How a command ended. Its line is `ok` or `refused NR NAME`, with the number and the name of the router's refusal, or 51
+/// to 53.
+#[derive(Clone, Copy, Debug, PartialEq, Eq)]
+pub enum Reply {
+    /// It was done.
+    Done,
+    /// The router refused it.
+    Refused(ReconfigureRefused),
+    /// 51: the router has no interface of that number.
+    NoSuchInterface,
+    /// 52: the line is that of no command.
+    NoSuchCommand,
+    /// 53: memory for the forwarding table was refused. The change was made, and the router ends.
+    Ended,
+}
+
+impl Display for Reply {
+    ghost output = { λ r. Some (reply_text r) };
+
+    fn fmt<W: fmt::Write>(&self, f: &mut fmt::Formatter<W>) -> fmt::Result {
+        match *self {
+            Reply::Done => write!(f, "ok"),
+            Reply::Refused(why) => {
+                let number = why.number();
+                let name = why.name();
+                write!(f, "refused {number} {name}")
+            }
+            Reply::NoSuchInterface => write!(f, "refused 51 NoSuchInterface"),
+            Reply::NoSuchCommand => write!(f, "refused 52 NoSuchCommand"),
+            Reply::Ended => write!(f, "refused 53 Ended"),
+        }
+    }
+}

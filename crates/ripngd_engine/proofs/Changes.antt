@@ -1,0 +1,47 @@
+-- A change that was carried out, or refused, is what the outside gained.
+use Rattle.std.proofs.Common.{◌≡◌, ℕ, List, [], ◌∷◌, refl, arith, Option}
+use Rattle.std.proofs.KnownBytes.{Appends-nil}
+use Rattle.rand_core.specs.Stream.{Stream}
+use Rattle.router_core.specs.Machine.{State, Moves, Reconfigures}
+use Rattle.router_core.specs.declared.answer.Answer.{Answer}
+use Rattle.router_core.specs.declared.reconfiguring.Change.{Change}
+use Rattle.ripngd_engine.specs.Telling.{Gains}
+use Rattle.ripngd_engine.specs.Watch.{Told}
+use Rattle.ripngd_engine.specs.Run.{one_moment}
+use Rattle.ripngd_engine.specs.Outlet.{OutletSeen, CarriesOut}
+use Rattle.ripngd_engine.specs.Seen.{Acts}
+use Rattle.ripngd_engine.specs.Changing.{ChangesOnce, ChangesNothing}
+use Rattle.ripngd_engine.proofs.Tells.{Gains-nil}
+use Rattle.ripngd_engine.proofs.Steps.{around, carried, Carries-out, Shows-carried}
+
+module _ (o : OutletSeen) (router new_router : State) (lost : ℕ) (stream : Stream) (before after : Option (List ℕ)) (now : ℕ) (told : Gains before after (now ∷ [])) where
+  pub Acts-changed : {V : Type 0} (takes : V → Told → V → Type 0) (v w : V) (p : OutletSeen) (answer : Answer) (c : Change)
+      → Moves router (Reconfigures now c) answer new_router → CarriesOut takes v w o answer p
+      → Acts (ChangesOnce c) (around o router lost stream before) (around p new_router lost stream after)
+  Acts-changed takes v w p answer c moves out = record {
+    trace = carried [] now answer out.hands.sends;
+    does = (
+      now,
+      record {
+        answer = answer;
+        moves = moves;
+        carries = Carries-out takes v w o p answer out [] now _ refl refl;
+        lost_memory = refl;
+        stream = refl;
+      },
+    );
+    shows = Shows-carried takes v w o p answer out [] lost lost router new_router stream stream before after now told;
+  }
+
+  pub Acts-unchanged : new_router ≡ router → Acts ChangesNothing (around o router lost stream before) (around o new_router lost stream after)
+  Acts-unchanged same = record {
+    trace = one_moment now;
+    does = (now, refl, λ i. record { router = same i; fib = o.fib; ended = o.ended; lost_memory = lost; stream = stream });
+    shows = record {
+      calls = Gains-nil o.calls;
+      moments = told;
+      lost_sends = omega arith;
+      log_ends = λ h. (h, refl);
+      log_gains = λ h. Appends-nil o.text;
+    };
+  }

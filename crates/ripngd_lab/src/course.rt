@@ -1,0 +1,216 @@
+//! Lines about routers that run.
+
+use crate::expecting::{Expected, Missed, meet};
+use crate::line::Line;
+use crate::outages::Outages;
+use crate::printing::Choice;
+use crate::refusal_name::RefusalName;
+use crate::round::{make_partial_rounds, make_round, make_rounds};
+use crate::stop::{Refusal, Stop, Unmet};
+use crate::telling::{Hearing, hear};
+use crate::watching::Watch;
+use crate::words::BadLine;
+use ripng_world::{Event, Lab, LabError};
+use route_table::{Moment, TrieRoutes};
+use std::alloc::Global;
+
+/// What a script keeps of its lines, beside the network.
+#[derive(Drop)]
+pub struct Course {
+    /// The number of the first datagram that the next line `hear` delivers.
+    unheard: usize,
+    outages: Outages,
+    /// The name that the next line is to be refused by.
+    pub awaited: Option<RefusalName>,
+}
+
+impl Course {
+    /// As it is at the start.
+    pub fn new(alloc: Global) -> Course {
+        Course {
+            unheard: 0,
+            outages: Outages::new(alloc),
+            awaited: None,
+        }
+    }
+}
+
+/// A line about routers that run. What a router answers is for the witness alone.
+pub fn run<V: Watch>(
+    alloc: Global,
+    lab: &mut Lab<TrieRoutes>,
+    course: &mut Course,
+    line: Line,
+    watch: &mut V,
+) -> Result<(), Stop> {
+    match line {
+        Line::Event(event) => {
+            let _ = lab.step_watched(&event, watch)?;
+            Ok(())
+        }
+        Line::Stranger { router, datagram } => {
+            let arrival = datagram.arrival();
+            let _ = lab.step_watched(&Event::Stranger { router, arrival }, watch)?;
+            Ok(())
+        }
+        Line::Print(choice) => show_routes(lab, &choice, watch),
+        Line::Sent { asked } => show_sent(lab, asked, watch),
+        Line::Say(text) => Ok(watch.said(&text)?),
+        Line::Expect(expected) => expect(lab, expected),
+        line => steer(alloc, lab, course, line, watch),
+    }
+}
+
+/// A line about many routers or datagrams at once.
+fn steer<V: Watch>(
+    alloc: Global,
+    lab: &mut Lab<TrieRoutes>,
+    course: &mut Course,
+    line: Line,
+    watch: &mut V,
+) -> Result<(), Stop> {
+    match line {
+        Line::Round { now } => {
+            make_round(alloc, lab, now, &course.outages, watch)?;
+            course.unheard = lab.sent().len();
+            Ok(())
+        }
+        Line::Rounds { moments } => {
+            go_round(alloc, lab, &moments, &course.outages, watch)?;
+            course.unheard = lab.sent().len();
+            Ok(())
+        }
+        Line::Hear { now, lost } => {
+            let first = course.unheard;
+            course.unheard = lab.sent().len();
+            hear_but(alloc, lab, (first, now), &lost, &course.outages, watch)
+        }
+        Line::Tell {
+            router,
+            now,
+            word,
+            lost,
+        } => {
+            let tick = Event::Tick { router, now, word };
+            let first = lab.sent().len();
+            let _ = lab.step_watched(&tick, watch)?;
+            course.unheard = lab.sent().len();
+            hear_but(alloc, lab, (first, now), &lost, &course.outages, watch)
+        }
+        line => settle(lab, course, line),
+    }
+}
+
+/// Rounds, with or without outages.
+fn go_round<V: Watch>(
+    alloc: Global,
+    lab: &mut Lab<TrieRoutes>,
+    moments: &[Moment],
+    outages: &Outages,
+    watch: &mut V,
+) -> Result<(), Stop> {
+    if outages.are_none() {
+        make_rounds(alloc, lab, moments, watch)
+    } else {
+        make_partial_rounds(alloc, lab, moments, outages, watch)
+    }
+}
+
+/// What was sent from a number on is heard at a moment, but for what is lost.
+fn hear_but<V: Watch>(
+    alloc: Global,
+    lab: &mut Lab<TrieRoutes>,
+    from: (usize, Moment),
+    lost: &[usize],
+    outages: &Outages,
+    watch: &mut V,
+) -> Result<(), Stop> {
+    let hearing = Hearing {
+        first: from.0,
+        now: from.1,
+        lost,
+        outages,
+    };
+    hear(alloc, lab, &hearing, watch)
+}
+
+/// A line that nobody moves at.
+fn settle(lab: &Lab<TrieRoutes>, course: &mut Course, line: Line) -> Result<(), Stop> {
+    match line {
+        Line::Silence { router, silent } => {
+            check_router(lab, Some(router))?;
+            Ok(course.outages.set_silent(router, silent)?)
+        }
+        Line::Cut { link, cut } => {
+            check_link(lab, link)?;
+            Ok(course.outages.set_cut(link, cut)?)
+        }
+        Line::Refused { name } => {
+            course.awaited = Some(name);
+            Ok(())
+        }
+        _ => Err(Stop::from(BadLine)),
+    }
+}
+
+/// A line that expects something of a table.
+fn expect(lab: &Lab<TrieRoutes>, expected: Expected) -> Result<(), Stop> {
+    match meet(lab, &expected) {
+        Ok(()) => Ok(()),
+        Err(Missed::NoSuchRouter) => Err(Stop::from(LabError::NoSuchRouter)),
+        Err(Missed::Found(found)) => Err(Stop::Unmet(Unmet::Metric { expected, found })),
+    }
+}
+
+/// A line that prints routes.
+fn show_routes<V: Watch>(
+    lab: &Lab<TrieRoutes>,
+    choice: &Choice,
+    watch: &mut V,
+) -> Result<(), Stop> {
+    check_router(lab, choice.router)?;
+    Ok(watch.routes_asked(lab, choice)?)
+}
+
+/// A line that prints datagrams.
+fn show_sent<V: Watch>(
+    lab: &Lab<TrieRoutes>,
+    asked: Option<usize>,
+    watch: &mut V,
+) -> Result<(), Stop> {
+    if let Some(datagram) = asked
+        && datagram >= lab.sent().len()
+    {
+        return Err(Stop::from(LabError::NoSuchDatagram));
+    }
+    Ok(watch.datagrams_asked(lab, asked)?)
+}
+
+/// There is such a router, if one is named.
+fn check_router(lab: &Lab<TrieRoutes>, router: Option<usize>) -> Result<(), Stop> {
+    match router {
+        Some(router) if router >= lab.routers() => Err(Stop::from(LabError::NoSuchRouter)),
+        _ => Ok(()),
+    }
+}
+
+/// An interface is on the link.
+fn check_link(lab: &Lab<TrieRoutes>, link: u16) -> Result<(), Stop> {
+    for router in 0..lab.routers() {
+        if has_link(lab, router, link) {
+            return Ok(());
+        }
+    }
+    Err(Stop::Refused(Refusal::NoSuchLink))
+}
+
+/// Whether an interface of a router is on a link.
+fn has_link(lab: &Lab<TrieRoutes>, number: usize, link: u16) -> bool {
+    match lab.router(number) {
+        Some(router) => {
+            let interfaces = router.config().interfaces().len();
+            (0..interfaces).any(|iface| lab.link(number, iface) == Some(link))
+        }
+        None => false,
+    }
+}

@@ -1,0 +1,77 @@
+//! Names of refusals, as a line `refused NAME` has them.
+
+/// The name of a refusal that a line behind `cold` may meet, or of a router's reason to refuse a change.
+#[derive(Clone, Copy, Debug, PartialEq, Eq)]
+pub enum RefusalName {
+    BadLine,
+    NoSuchLink,
+    NoSuchRouter,
+    NoSuchInterface,
+    NoSuchDatagram,
+    OtherLink,
+    NotAStranger,
+    ReconfigureRefused,
+    NoRegularUpdate,
+    BadCost,
+    PrefixNotAllowed,
+    AlreadyOwned,
+    OwnedFull,
+    NotOwned,
+    TableFull,
+}
+
+/// All of them.
+const NAMES: [RefusalName; 15] = [
+    RefusalName::BadLine,
+    RefusalName::NoSuchLink,
+    RefusalName::NoSuchRouter,
+    RefusalName::NoSuchInterface,
+    RefusalName::NoSuchDatagram,
+    RefusalName::OtherLink,
+    RefusalName::NotAStranger,
+    RefusalName::ReconfigureRefused,
+    RefusalName::NoRegularUpdate,
+    RefusalName::BadCost,
+    RefusalName::PrefixNotAllowed,
+    RefusalName::AlreadyOwned,
+    RefusalName::OwnedFull,
+    RefusalName::NotOwned,
+    RefusalName::TableFull,
+];
+
+impl RefusalName {
+    /// The name, one word.
+    pub fn word(self) -> &'static str {
+        match self {
+            RefusalName::BadLine => "BadLine",
+            RefusalName::NoSuchLink => "NoSuchLink",
+            RefusalName::NoSuchRouter => "NoSuchRouter",
+            RefusalName::NoSuchInterface => "NoSuchInterface",
+            RefusalName::NoSuchDatagram => "NoSuchDatagram",
+            RefusalName::OtherLink => "OtherLink",
+            RefusalName::NotAStranger => "NotAStranger",
+            RefusalName::ReconfigureRefused => "ReconfigureRefused",
+            RefusalName::NoRegularUpdate => "NoRegularUpdate",
+            RefusalName::BadCost => "BadCost",
+            RefusalName::PrefixNotAllowed => "PrefixNotAllowed",
+            RefusalName::AlreadyOwned => "AlreadyOwned",
+            RefusalName::OwnedFull => "OwnedFull",
+            RefusalName::NotOwned => "NotOwned",
+            RefusalName::TableFull => "TableFull",
+        }
+    }
+}
+
+/// The name that a word is, if it is one.
+pub fn refusal_name(word: &str) -> Option<RefusalName> {
+    name_among(&NAMES, word)
+}
+
+fn name_among(names: &[RefusalName], word: &str) -> Option<RefusalName> {
+    for name in names {
+        if name.word() == word {
+            return Some(*name);
+        }
+    }
+    None
+}

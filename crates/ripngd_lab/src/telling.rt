@@ -1,0 +1,132 @@
+//! What is sent comes to every other interface of its link, but for what is lost.
+
+use crate::outages::Outages;
+use crate::stop::Stop;
+use crate::watching::Watch;
+use prefix6::Addr6;
+use ripng_world::{Event, Lab, LabError, Sent};
+use route_table::{Moment, TrieRoutes};
+use router_core::Destination;
+use std::alloc::{AllocError, Global};
+
+/// Which datagrams come where, and when.
+#[derive(Clone, Copy)]
+pub struct Hearing<'a> {
+    /// The number of the first datagram.
+    pub first: usize,
+    pub now: Moment,
+    /// Those that are lost, counted from the first.
+    pub lost: &'a [usize],
+    pub outages: &'a Outages,
+}
+
+/// Each datagram from the first on, of those that are sent already, comes once to each other interface of its link, in the
+/// order of datagrams, routers and interfaces: one to an asker to the interface of that address alone. What is lost does not
+/// come, nor does anything from or to a silent router, or by a link that is cut.
+///
+/// # Errors
+/// `NoSuchDatagram` where one is to be lost that is not among them; want of memory, or of the witness. What was done before it
+/// stays done.
+pub fn hear<V: Watch>(
+    alloc: Global,
+    lab: &mut Lab<TrieRoutes>,
+    hearing: &Hearing<'_>,
+    watch: &mut V,
+) -> Result<(), Stop> {
+    let end = lab.sent().len();
+    if !are_below(hearing.lost, end.saturating_sub(hearing.first)) {
+        return Err(Stop::from(LabError::NoSuchDatagram));
+    }
+    for (place, datagram) in (hearing.first..end).enumerate() {
+        if !hearing.lost.contains(&place) {
+            deliver(alloc, lab, datagram, hearing, watch)?;
+        }
+    }
+    Ok(())
+}
+
+fn are_below(places: &[usize], end: usize) -> bool {
+    places.iter().all(|place| *place < end)
+}
+
+/// A datagram comes to all whom it reaches.
+fn deliver<V: Watch>(
+    alloc: Global,
+    lab: &mut Lab<TrieRoutes>,
+    datagram: usize,
+    hearing: &Hearing<'_>,
+    watch: &mut V,
+) -> Result<(), Stop> {
+    for (router, iface) in reached(alloc, lab, datagram, hearing.outages)? {
+        let event = Event::Deliver {
+            datagram,
+            router,
+            iface,
+            now: hearing.now,
+        };
+        let _ = lab.step_watched(&event, watch)?;
+    }
+    Ok(())
+}
+
+/// The interfaces that a datagram reaches, each behind its router, in order.
+fn reached(
+    alloc: Global,
+    lab: &Lab<TrieRoutes>,
+    datagram: usize,
+    outages: &Outages,
+) -> Result<Vec<(usize, usize)>, AllocError> {
+    let mut reached = Vec::new(alloc);
+    let Some((sent, link)) = on_its_way(lab, datagram, outages) else {
+        return Ok(reached);
+    };
+    for router in 0..lab.routers() {
+        if !outages.is_silent(router) {
+            reach(&mut reached, lab, sent, link, router)?;
+        }
+    }
+    Ok(reached)
+}
+
+/// A datagram with the number of its link, unless its sender is silent or the link is cut.
+fn on_its_way<'a>(
+    lab: &'a Lab<TrieRoutes>,
+    datagram: usize,
+    outages: &Outages,
+) -> Option<(&'a Sent, u16)> {
+    let sent = lab.sent().get(datagram)?;
+    let link = lab.link(sent.router, sent.iface)?;
+    if outages.is_silent(sent.router) || outages.is_cut(link) {
+        return None;
+    }
+    Some((sent, link))
+}
+
+/// Adds the interfaces of a router that a datagram reaches.
+fn reach(
+    reached: &mut Vec<(usize, usize)>,
+    lab: &Lab<TrieRoutes>,
+    sent: &Sent,
+    link: u16,
+    number: usize,
+) -> Result<(), AllocError> {
+    let Some(router) = lab.router(number) else {
+        return Ok(());
+    };
+    for (iface, interface) in router.config().interfaces().iter().enumerate() {
+        let is_sender = number == sent.router && iface == sent.iface;
+        let is_on_link = lab.link(number, iface) == Some(link);
+        if is_on_link && !is_sender && is_meant(sent.to, interface.addr) {
+            reached.push((number, iface))?;
+        }
+    }
+    Ok(())
+}
+
+/// Whether a datagram is for the interface of an address.
+fn is_meant(to: Destination, addr: Addr6) -> bool {
+    match to {
+        Destination::Group => true,
+        Destination::Peer { addr: asker, .. } => asker == addr,
+    }
+}

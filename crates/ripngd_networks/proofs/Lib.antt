@@ -1,0 +1,6 @@
+mod Addresses
+mod Lives
+mod Following
+mod ColdWorlds
+mod Running
+mod Truth

@@ -1,0 +1,17 @@
+use Rattle.std.proofs.Common.{refl}
+use Rattle.ripngd_networks.specs.Daemons.{Start}
+use Rattle.ripngd_networks.proofs.Lives.{answer_lives, change_lives, lives_on}
+use Rattle.ripngd_networks.proofs.laws.engines_live.Goals as goal
+
+pub returns-clause-start : goal.returns-clause-start
+returns-clause-start c = λ config stream a b before started.
+    (record { act = Start; trace = started.trace }, refl, (b.machine, (stream, started.comes_up), refl), started.shows)
+
+pub returns-clause-turns : goal.returns-clause-turns
+returns-clause-turns c = answer_lives
+
+pub returns-clause-changes : goal.returns-clause-changes
+returns-clause-changes c = change_lives
+
+pub returns-clause-on : goal.returns-clause-on
+returns-clause-on c = lives_on

@@ -1,0 +1,79 @@
+-- What a daemon does from its first start on: one act after another, each as the engine's own definitions say.
+use Rattle.std.specs.Prelude.{◌≡◌, ℕ, ◌==◌, if◌then◌else◌, List, [], ◌∷◌, map, filter_map, option_map, Option, None, Some, false}
+use Rattle.rand_core.specs.Stream.{Stream}
+use Rattle.router_core.specs.Config.{Config}
+use Rattle.router_core.specs.declared.reconfiguring.Change.{Change}
+use Rattle.ripngd_engine.specs.Changing.{ChangesOnce, ChangesNothing}
+use Rattle.ripngd_engine.specs.Link.{Call, RecvFailed}
+use Rattle.ripngd_engine.specs.Run.{Machine, Trace, ComesUp, TakesIn, TicksOnce, joined, one_call}
+
+-- a daemon comes up; it asks its link once, and takes in what that gave; it ticks; its configuration is changed, or the change
+-- is refused
+pub data Act : Type 0 where
+  Start : Act
+  Listen : Call → Act
+  Tick : Act
+  Reconfigure : Change → Act
+  Refuse : Change → Act
+
+-- the change that an act does, if it does one
+abbrev pub change_of : Act → Option Change
+change_of (Reconfigure c) = Some c
+change_of _ = None
+
+-- an act, with what it did on the outside
+pub record Deed : Type 0 where
+  pub act : Act
+  pub trace : Trace
+
+-- what each of them did
+abbrev pub traces_of : List Deed → List Trace
+traces_of deeds = map (λ d. d.trace) deeds
+
+-- after this call of `recv` it takes in what was given; after one that failed, nothing
+abbrev pub Hears : Call → Machine → Trace → Machine → Type 0
+Hears RecvFailed m t n = (t ≡ one_call RecvFailed) × (n ≡ m)
+Hears call m t n = (taken : Trace) × TakesIn call m taken n × (t ≡ joined (one_call call) taken)
+
+-- a daemon that runs does so. One that wanted memory for its forwarding table has ended
+abbrev pub Goes : Act → Machine → Trace → Machine → Type 0
+Goes Start m t n = ⊥
+Goes (Listen call) m t n = (m.ended ≡ false) × Hears call m t n
+Goes Tick m t n = (m.ended ≡ false) × TicksOnce m t n
+Goes (Reconfigure c) m t n = (m.ended ≡ false) × ChangesOnce c m t n
+Goes (Refuse c) m t n = (m.ended ≡ false) × ChangesNothing m t n
+
+-- the configuration in force: that of the first start, or that of the daemon, as it was changed
+abbrev pub in_force : Config → Option Machine → Config
+in_force config None = config
+in_force config (Some m) = m.router.config
+
+-- a daemon does so: it comes up, with the configuration in force, whatever it was before, if anything; or it was up, and goes on
+abbrev pub Does : Config → Option Machine → Act → Trace → Machine → Type 0
+Does config before Start t n = (stream : Stream) × ComesUp (in_force config before) stream t n
+Does config (Some m) act t n = Goes act m t n
+Does config None act t n = ⊥
+
+-- the deeds lead from what a daemon was, or from none, to what it is
+abbrev pub Lives : Config → Option Machine → List Deed → Option Machine → Type 0
+Lives config before [] after = after ≡ before
+Lives config before (d ∷ deeds) after = (n : Machine) × Does config before d.act d.trace n × Lives config (Some n) deeds after
+
+-- ---- many daemons
+
+-- a deed of one of them
+pub record Happened : Type 0 where
+  pub router : ℕ
+  pub deed : Deed
+
+-- the change that was done, if the deed is one
+abbrev pub change_by : Happened → Option (ℕ × Change)
+change_by h = option_map (λ c. (h.router, c)) (change_of h.deed.act)
+
+-- all changes that were done, each with its router, in order
+abbrev pub changes_by : List Happened → List (ℕ × Change)
+changes_by order = filter_map change_by order
+
+-- the deeds of one router, in their order
+abbrev pub own_deeds : ℕ → List Happened → List Deed
+own_deeds router order = filter_map (λ h. if h.router == router then Some h.deed else None) order

@@ -1,0 +1,79 @@
+-- Networks of daemons, and all that is known of the links between them.
+use Rattle.std.specs.Prelude.{◌≡◌, ℕ, ◌<◌, ◌&&◌, ◌⊎◌, ⊤, List, [], ◌∷◌, ◌++◌, length, map, filter_map, flat_map, Contains, Option, None, Some, is_none, slice_get, IsFalse}
+use Rattle.std.specs.List.{AllByRecursion}
+use Rattle.ripng_wire.specs.Wire.{is_response}
+use Rattle.router_core.specs.Config.{Config}
+use Rattle.router_core.specs.Faults.{fault}
+use Rattle.router_core.specs.declared.answer.Outgoing.{Outgoing}
+use Rattle.ripng_world.specs.Network.{Network, Node, AreLinked, config_of}
+use Rattle.ripng_world.specs.Past.{Past}
+use Rattle.ripng_world.specs.World.{World, Event, IsCold, WorldRun, address_at, is_to_group, sent_by}
+use Rattle.ripng_world.specs.declared.sent.Sent.{Sent}
+use Rattle.ripngd_engine.specs.Link.{Call, Datagram, Gave, Handed}
+use Rattle.ripngd_engine.specs.Run.{Machine, arrival}
+use Rattle.ripngd_networks.specs.Daemons.{Act, Listen, Happened, Lives, changes_by, own_deeds}
+
+-- the datagram that a call handed to a link, if it is such a call
+abbrev pub handed_in : Call → Option Outgoing
+handed_in (Handed o went) = Some o
+handed_in _ = None
+
+-- the datagrams that a deed handed to its router's link, whether they went out or not
+abbrev pub handed_by : Happened → List Sent
+handed_by h = map (sent_by h.router) (filter_map handed_in h.deed.trace.calls)
+
+-- the datagram was handed over before on that link, and comes as it is: with the address of the interface that sent it, from
+-- the port of RIPng (RFC 2080, 2.1), with hop limit 255, and to the group exactly if it was sent to it (RFC 2080, 2.5)
+pub record IsOfTheLink (net : Network) (handed : List Sent) (router : ℕ) (d : Datagram) : Type 0 where
+  pub sent : Sent
+  pub before : Contains handed sent
+  pub linked : AreLinked net sent.router sent.iface router d.iface
+  pub source : d.source ≡ address_at net sent.router sent.iface
+  pub port : d.source_port ≡ 521
+  pub hops : d.hop_limit ≡ 255
+  pub to : d.to_group ≡ is_to_group sent.to
+  pub bytes : d.bytes ≡ sent.bytes
+
+-- or it is a stranger's: no Response, or one that the router refuses (RFC 2080, 2.4.2), at an interface that it has
+pub record IsOfAStranger (config : Config) (d : Datagram) : Type 0 where
+  pub known : d.iface < length config.interfaces
+  pub unheard : (now : ℕ) → IsFalse (is_response d.bytes && is_none (fault config (arrival now d)))
+
+-- all that is known of what a link gives: nothing of what comes, when, how often or in which order
+abbrev pub IsGiven : Network → List Sent → ℕ → Config → Act → Type 0
+IsGiven net handed router config (Listen (Gave d)) = IsOfTheLink net handed router d ⊎ IsOfAStranger config d
+IsGiven net handed router config _ = ⊤
+
+-- the same of each deed, where this was handed over before the first
+abbrev pub AreGiven : Network → List Sent → List Happened → Type 0
+AreGiven net handed [] = ⊤
+AreGiven net handed (h ∷ order) =
+    ((node : Node) → slice_get net h.router ≡ Some node → IsGiven net handed h.router (config_of node) h.deed.act) × AreGiven net (handed ++ handed_by h) order
+
+-- a network of daemons ran: all their deeds in an order in which they happened, of which each daemon's own are its life, from
+-- no daemon at all on, over such links
+pub record HaveRun (net : Network) (order : List Happened) (daemons : ℕ → Option Machine) : Type 0 where
+  pub known : AllByRecursion (λ h. h.router < length net) order
+  pub lives : (router : ℕ) (node : Node) → slice_get net router ≡ Some node → Lives (config_of node) None (own_deeds router order) (daemons router)
+  pub given : AreGiven net [] order
+
+-- all that the deeds handed over, in order
+abbrev pub all_handed : List Happened → List Sent
+all_handed order = flat_map handed_by order
+
+-- all that was in force in the network since the first starts
+abbrev pub past_of_daemons : Network → List Happened → Past
+past_of_daemons net order = record { net = net; changes = changes_by order }
+
+-- a run of the network from a cold start, in which just these changes were done, that sends all that was handed over and leaves
+-- each router as its daemon is
+pub record IsRunOf (net : Network) (order : List Happened) (daemons : ℕ → Option Machine) : Type 0 where
+  pub moments : List ℕ
+  pub cold : World
+  pub is_cold : IsCold net moments cold
+  pub events : List Event
+  pub after : World
+  pub run : WorldRun net cold events after
+  pub changes : after.changes ≡ changes_by order
+  pub sent : (d : Sent) → Contains (all_handed order) d → (number : ℕ) × (slice_get after.sent number ≡ Some d)
+  pub states : (router : ℕ) (m : Machine) → router < length net → daemons router ≡ Some m → slice_get after.states router ≡ Some m.router

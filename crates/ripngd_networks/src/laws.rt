@@ -1,0 +1,68 @@
+//! Laws of networks of daemons, each the contract of a function with nothing to do: what follows from the definitions alone.
+
+ghost use Rattle.std.specs.Prelude.{◌≡◌, ℕ, ◌<◌, ◌≤◌, List, [], ◌∷◌, ◌++◌, length, Contains, Option, Some, Result, false};
+ghost use Rattle.std.specs.FinMap as map_of;
+ghost use Rattle.rand_core.specs.Stream.{Stream};
+ghost use Rattle.fib.specs.Forwarding.{Forward};
+ghost use Rattle.prefix6.specs.Prefix.{Prefix6};
+ghost use Rattle.route_table.specs.Route.{RouteValue, infinity};
+ghost use Rattle.router_core.specs.Changes.{forward, forwards};
+ghost use Rattle.router_core.specs.Config.{Config};
+ghost use Rattle.ripng_world.specs.Network.{Network, IsNetwork};
+ghost use Rattle.ripng_world.specs.Walks.{IsBacked, IsLeast};
+ghost use Rattle.ripng_world.specs.Past.{IsBackedSince, IsLeastSince};
+ghost use Rattle.ripng_world.specs.TruthSince.{IsSoundDatagramSince};
+ghost use Rattle.ripng_world.specs.declared.sent.Sent.{Sent};
+ghost use Rattle.router_core.specs.declared.reconfiguring.Change.{Change};
+ghost use Rattle.ripngd_engine.specs.Changing.{ChangeAnswer};
+ghost use Rattle.ripngd_engine.specs.Run.{Machine, all_joined};
+ghost use Rattle.ripngd_engine.specs.Seen.{Seen, Outside, Shows, Started, TurnsAnswer};
+ghost use Rattle.ripngd_engine.specs.declared.report.EngineFault.{EngineFault};
+ghost use Rattle.ripngd_engine.specs.declared.report.ChangeFault.{ChangeFault};
+ghost use Rattle.ripngd_networks.specs.Daemons.{Deed, Start, Happened, Lives, changes_by, in_force, traces_of};
+ghost use Rattle.ripngd_networks.specs.Links.{HaveRun, IsRunOf, all_handed, past_of_daemons};
+
+/// What the contracts of an engine say is a daemon's life: its start, whatever was before, its turns, those before a link
+/// that failed or a want of memory among them, and changes of its configuration, those that are refused among them. The outside gained just what the deeds of that life did.
+pub fn engines_live()
+    ensures start { (config : Config) (stream : Stream) (a : Outside) (b : Seen) (before : Option Machine) → Started (in_force config before) stream a b
+        → (deed : Deed) × (deed.act ≡ Start) × Lives config before (deed ∷ []) (Some b.machine) × Shows a deed.trace b.outside }
+    ensures turns { (config : Config) (count : ℕ) (a : Seen) (result : Result (Unit {0}) EngineFault) (b : Seen) → TurnsAnswer count a result b
+        → (deeds : List Deed) × Lives config (Some a.machine) deeds (Some b.machine) × Shows a.outside (all_joined (traces_of deeds)) b.outside }
+    ensures changes { (config : Config) (c : Change) (a : Seen) (result : Result (Unit {0}) ChangeFault) (b : Seen) → a.machine.ended ≡ false → ChangeAnswer c a result b
+        → (deeds : List Deed) × Lives config (Some a.machine) deeds (Some b.machine) × Shows a.outside (all_joined (traces_of deeds)) b.outside }
+    ensures on { (config : Config) (a b c : Option Machine) (deeds later : List Deed)
+        → Lives config a deeds b → Lives config b later c → Lives config a (deeds ++ later) c }
+{}
+
+/// A network of daemons runs as a network of the model does: what its daemons did is a run of events from a cold start, at
+/// whose end each router is as its daemon is.
+pub fn daemons_run_as_networks()
+    ensures { (net : Network) (order : List Happened) (daemons : ℕ → Option Machine) → HaveRun net order daemons → IsRunOf net order daemons }
+{}
+
+/// So daemons invent no distance: each route of each daemon below 16 is backed by a walk at costs in force since the first starts, and
+/// none is below the least such cost; with no change done, the walk is one of the network as it is configured. The forwarding table of a
+/// daemon that has not ended is that of its routes; and each entry that a daemon ever told is true.
+pub fn daemons_invent_no_distance()
+    ensures backed { (net : Network) (order : List Happened) (daemons : ℕ → Option Machine) → IsNetwork net → HaveRun net order daemons
+        → (router : ℕ) (m : Machine) (p : Prefix6) (r : RouteValue) → router < length net → daemons router ≡ Some m
+        → map_of.get m.router.table p ≡ Some r → r.metric < infinity → IsBackedSince (past_of_daemons net order) router p r }
+    ensures least { (net : Network) (order : List Happened) (daemons : ℕ → Option Machine) → IsNetwork net → HaveRun net order daemons
+        → (router : ℕ) (m : Machine) (p : Prefix6) (r : RouteValue) (metric : ℕ) → router < length net → daemons router ≡ Some m
+        → map_of.get m.router.table p ≡ Some r → r.metric < infinity → IsLeastSince (past_of_daemons net order) router p metric → metric ≤ r.metric }
+    ensures backed_fixed { (net : Network) (order : List Happened) (daemons : ℕ → Option Machine) → IsNetwork net → HaveRun net order daemons → changes_by order ≡ []
+        → (router : ℕ) (m : Machine) (p : Prefix6) (r : RouteValue) → router < length net → daemons router ≡ Some m
+        → map_of.get m.router.table p ≡ Some r → r.metric < infinity → IsBacked net router p r }
+    ensures least_fixed { (net : Network) (order : List Happened) (daemons : ℕ → Option Machine) → IsNetwork net → HaveRun net order daemons → changes_by order ≡ []
+        → (router : ℕ) (m : Machine) (p : Prefix6) (r : RouteValue) (metric : ℕ) → router < length net → daemons router ≡ Some m
+        → map_of.get m.router.table p ≡ Some r → r.metric < infinity → IsLeast net router p metric → metric ≤ r.metric }
+    ensures forwards { (net : Network) (order : List Happened) (daemons : ℕ → Option Machine) → HaveRun net order daemons
+        → (router : ℕ) (m : Machine) → router < length net → daemons router ≡ Some m → m.ended ≡ false → m.fib ≡ forwards m.router.table }
+    ensures entries { (net : Network) (order : List Happened) (daemons : ℕ → Option Machine) → IsNetwork net → HaveRun net order daemons
+        → (router : ℕ) (m : Machine) (p : Prefix6) (f : Forward) → router < length net → daemons router ≡ Some m → m.ended ≡ false
+        → map_of.get m.fib p ≡ Some f
+        → (r : RouteValue) × (map_of.get m.router.table p ≡ Some r) × (forward r ≡ Some f) × IsBackedSince (past_of_daemons net order) router p r }
+    ensures told { (net : Network) (order : List Happened) (daemons : ℕ → Option Machine) → IsNetwork net → HaveRun net order daemons
+        → (d : Sent) → Contains (all_handed order) d → IsSoundDatagramSince (past_of_daemons net order) d.router d.bytes }
+{}

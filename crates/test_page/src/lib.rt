@@ -1,0 +1,10 @@
+//! Tests of the page (`ripngd_page`), through what it hands out: films, requests as bytes with what is answered, and the server over
+//! real sockets.
+#![tactic(auto)]
+
+#[cfg(test)]
+mod films;
+#[cfg(test)]
+mod requests;
+#[cfg(test)]
+mod sockets;

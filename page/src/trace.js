@@ -1,0 +1,95 @@
+// The trace of a script, read: what the network was after each step.
+
+export const UNREACHABLE = 16;
+
+// A step is a record of the trace with the network as it was after it: the routers, their latest moment, and `least`, where least
+// costs are kept until a cost or an owner changes. An end is an interface on its link, with what it sent.
+export function readTrace(text) {
+  const trace = { steps: [], datagrams: [], links: new Map(), ends: [], routerAt: new Map() };
+  for (const line of text.split('\n')) if (line) addRecord(trace, JSON.parse(line));
+  return trace;
+}
+
+function addRecord(trace, record) {
+  const step = trace.steps.length, before = trace.steps.at(-1) ?? { routers: [], least: new Map() };
+  if (record.record === 'start') addEnds(trace, record.routers);
+  for (const sent of record.sent ?? []) addDatagram(trace, sent, step);
+  if (record.event?.kind === 'deliver') addArrival(trace, record, step);
+  const routers = routersAfter(before.routers, record, step), changed = ['cost', 'gain', 'drop'].includes(record.event?.kind);
+  trace.steps.push({ record, routers, now: clockOf(routers), least: changed ? new Map() : before.least });
+}
+
+function addEnds(trace, routers) {
+  trace.ends = routers.map(({ interfaces }, router) => interfaces.map(({ addr, link }, iface) => ({ router, iface, addr, link, sent: [] })));
+  for (const end of trace.ends.flat()) {
+    trace.links.set(end.link, [...trace.links.get(end.link) ?? [], end]);
+    trace.routerAt.set(end.addr, end.router);
+  }
+}
+
+// A datagram has its arrivals; `doneAt` is the step at which it has come to all others of its link.
+function addDatagram(trace, sent, step) {
+  const end = trace.ends[sent.router][sent.iface];
+  trace.datagrams.push({ ...sent, end, sentAt: step, arrivals: [], doneAt: Infinity });
+  end.sent.push(trace.datagrams.at(-1));
+}
+
+function addArrival(trace, { router, event }, step) {
+  const datagram = trace.datagrams[event.datagram], { arrivals, end } = datagram;
+  arrivals.push({ end: trace.ends[router][event.iface], step });
+  if (datagram.doneAt === Infinity && otherEnds(trace, end).every(other => hasCome(datagram, other, step))) datagram.doneAt = step;
+}
+
+function routersAfter(routers, record, step) {
+  if (record.record === 'start') {
+    return record.routers.map(router => ({ ...router, table: tableAfter(new Map(), { ...router, gone: [] }, step) }));
+  }
+  if (record.record !== 'event') return routers;
+  const { router, timers, event: { kind, iface, cost, prefix, tag } } = record;
+  let { quiet, interfaces, prefixes, table } = routers[router];
+  if (kind === 'cost') interfaces = interfaces.with(iface, { ...interfaces[iface], cost });
+  if (kind === 'gain') prefixes = [...prefixes, { prefix, tag }];
+  if (kind === 'drop') prefixes = prefixes.filter(own => own.prefix !== prefix);
+  return routers.with(router, { quiet, interfaces, prefixes, timers, table: tableAfter(table, record, step) });
+}
+
+// An entry of a table is a route and its cause: the step that gave it its metric.
+function tableAfter(table, { routes, gone, event }, step) {
+  if (routes.length === 0 && gone.length === 0) return table;
+  const after = new Map(table);
+  for (const prefix of gone) after.delete(prefix);
+  for (const route of routes) {
+    const before = table.get(route.prefix), kept = before?.route.metric === route.metric && event?.kind !== 'deliver';
+    after.set(route.prefix, { route, cause: kept ? before.cause : step });
+  }
+  return after;
+}
+
+export const otherEnds = (trace, end) => trace.links.get(end.link).filter(other => other !== end);
+export const hasCome = ({ arrivals }, end, step) => arrivals.some(arrival => arrival.step <= step && arrival.end === end);
+// What was sent at an end and has not come to all others of its link, the newest first.
+export const onTheirWay = (end, step) => end.sent.filter(({ sentAt, doneAt }) => sentAt <= step && step < doneAt).reverse();
+// Whether nobody hears a datagram after a step, though some of its link have not heard it: it is lost, as far as the script goes.
+export const isLost = ({ arrivals, doneAt }, step) => doneAt > step && !arrivals.some(arrival => arrival.step > step);
+const clockOf = routers => Math.max(0, ...routers.map(router => router.timers.last));
+
+// What a text names: `router R`, `iface R I`, `datagram N` or `route R PREFIX`; null where there is no such thing.
+export function named(text, trace) {
+  const [kind, ...words] = (text ?? '').split(' '), [first, second] = words.map(word => /^(0|[1-9]\d{0,8})$/.test(word) ? Number(word) : -1);
+  if (kind === 'datagram') return trace.datagrams[first] ? { kind, number: first } : null;
+  if (!trace.ends[first]) return null;
+  if (kind === 'router') return { kind, router: first };
+  if (kind === 'iface') return trace.ends[first][second] ? { kind, router: first, iface: second } : null;
+  return kind === 'route' && /^[0-9a-f:]+\/\d+$/.test(words[1]) ? { kind, router: first, prefix: words[1] } : null;
+}
+
+// The step to go to from another, forth (1) or back (-1), event by event, line by line, from change to change of a route, or from
+// remark to remark, where `captions` are those of lines; the last or the first where there is none.
+export function nextStop({ steps }, captions, from, by, direction) {
+  const lineOf = step => steps[step]?.record.line;
+  const isStop = { line: step => lineOf(step) !== lineOf(step + 1), change: step => steps[step].record.changes?.length > 0,
+    remark: step => captions[lineOf(step)] !== captions[lineOf(step - 1)] }[by] ?? (() => true);
+  let step = from + direction;
+  while (steps[step] && !isStop(step)) step += direction;
+  return Math.max(0, Math.min(steps.length - 1, step));
+}
