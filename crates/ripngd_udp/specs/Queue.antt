@@ -1,5 +1,5 @@
 -- How datagrams wait to be sent on an interface, and go out.
-use Rattle.std.specs.Prelude.{ℕ, ◌≡◌, ◌++◌, ◌+◌, ◌&&◌, ◌⊎◌, Bool, true, if◌then◌else◌, List, [], ◌∷◌, Option}
+use Rattle.std.specs.Prelude.{ℕ, ◌≡◌, ◌++◌, ◌+◌, ◌<◌, ◌==◌, ◌&&◌, ◌||◌, Bool, MatchBool, true, if◌then◌else◌, List, [], ◌∷◌, Option, length, nat_le, nat_lt}
 use Rattle.ripngd_config.specs.declared.peer.Peer.{Peer}
 use Rattle.router_core.specs.declared.answer.Outgoing.{Outgoing}
 use Rattle.ripngd_engine.specs.Run.{counted}
@@ -28,12 +28,22 @@ pub record SentAtOnce (peers : List Peer) (before after : Option (List Try)) (wa
   pub sends : SendsEach before after (ports_meant d.to peers) d.bytes went
   pub answer : ok ≡ (went && is_known peers d.to)
 
--- a datagram to somebody waits behind the others, if that is the answer, or else is lost alone
+-- a datagram to somebody waits behind the others, fewer than 4,096, if that is the answer, or else is lost alone
 pub record Kept (peers : List Peer) (before after : Option (List Try)) (waited left : List Outgoing) (d : Outgoing) (ok : Bool) : Type 0 where
   pub no_try : after ≡ before
   pub known : ok ≡ true → is_known peers d.to ≡ true
+  pub room : ok ≡ true → length waited < 4096
   pub waits : left ≡ (if ok then waited ++ d ∷ [] else waited)
 
--- the datagram was sent at once, or waits or is lost without a try
-abbrev pub SentOrKept : List Peer → Option (List Try) → Option (List Try) → List Outgoing → List Outgoing → Outgoing → Bool → Type 0
-SentOrKept peers before after waited left d ok = SentAtOnce peers before after waited left d ok ⊎ Kept peers before after waited left d ok
+-- one datagram may go at a moment: four milliseconds have passed since datagrams were counted anew, or some are left of that count
+abbrev pub may_go : ℕ → ℕ → ℕ → Bool
+may_go since left now = nat_le (since + 4) now || nat_lt 0 left
+
+-- none waits, and one may go
+abbrev pub goes_at_once : List Outgoing → ℕ → ℕ → ℕ → Bool
+goes_at_once waited since left now = length waited == 0 && may_go since left now
+
+-- the datagram was sent at once where none waits and one may go, and else it waits, or is lost, without a try
+abbrev pub SentOrKept : Bool → List Peer → Option (List Try) → Option (List Try) → List Outgoing → List Outgoing → Outgoing → Bool → Type 0
+SentOrKept at_once peers before after waited left d ok =
+    MatchBool at_once (SentAtOnce peers before after waited left d ok) (Kept peers before after waited left d ok)

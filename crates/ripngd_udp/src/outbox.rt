@@ -1,8 +1,8 @@
 //! What is sent on an interface: datagrams go out in order, at the pace of its peers, and wait as long as that takes.
 
-ghost use Rattle.std.specs.Prelude.{◌≡◌, ◌==◌, ◌+◌, ◌<◌, ◌≤◌, ◌-◌, ◌++◌, ◌∷◌, [], IfOk, is_ok, if◌then◌else◌, length};
+ghost use Rattle.std.specs.Prelude.{◌≡◌, ◌==◌, ◌+◌, ◌<◌, ◌≤◌, ◌-◌, ◌++◌, ◌∷◌, [], true, IfOk, is_ok, if◌then◌else◌, length};
 ghost use Rattle.ripngd_engine.specs.Run.{counted};
-ghost use Rattle.ripngd_udp.specs.Queue.{Goes, SentOrKept};
+ghost use Rattle.ripngd_udp.specs.Queue.{Goes, SentOrKept, goes_at_once};
 
 use crate::pace::Pace;
 use crate::sending::{Carrier, is_known, send, send_each};
@@ -23,6 +23,7 @@ pub(crate) struct Outbox {
     /// How many could not be sent when they had waited.
     failed: u64,
     alloc: Global,
+    ghost few: { length waiting.items ≤ 4096 },
 }
 
 /// A datagram once more.
@@ -46,7 +47,8 @@ fn count_failed(count: u64, went: bool) -> u64
 impl Outbox {
     /// Where nothing waits.
     pub(crate) fn new(alloc: Global) -> Outbox
-        ensures { (result.waiting.items ≡ []) × (result.failed ≡ 0) }
+        ensures none { (result.waiting.items ≡ []) × (result.failed ≡ 0) }
+        ensures pace { (result.pace.since ≡ 0) × (result.pace.left ≡ 16) }
     {
         Outbox {
             waiting: VecDeque::new(alloc),
@@ -73,10 +75,11 @@ impl Outbox {
     /// Keeps a datagram behind the others.
     ///
     /// # Errors
-    /// Where there is no room or no memory for it.
+    /// Where 4,096 wait, or there is no memory for it.
     fn keep(&mut self, outgoing: &Outgoing) -> Result<(), LinkFault>
         ensures waits { self.new.waiting.items ≡ (if is_ok result then self.old.waiting.items ++ outgoing.now ∷ [] else self.old.waiting.items) }
-        ensures same { self.new.failed ≡ self.old.failed }
+        ensures room { is_ok result ≡ true → length self.old.waiting.items < 4096 }
+        ensures same { (self.new.failed ≡ self.old.failed) × (self.new.pace ≡ self.old.pace) }
     {
         if self.waiting.len() >= ROOM {
             return Err(LinkFault);
@@ -91,7 +94,7 @@ impl Outbox {
     /// behind the others.
     ///
     /// # Errors
-    /// Where nobody is at the destination, where it was sent at once and could not be, and where there is no room or no
+    /// Where nobody is at the destination, where it was sent at once and could not be, and where 4,096 wait or there is no
     /// memory to keep it. It is then lost alone.
     pub(crate) fn send<C: Carrier>(
         &mut self,
@@ -100,7 +103,15 @@ impl Outbox {
         outgoing: &Outgoing,
         now: u64,
     ) -> Result<(), LinkFault>
-        ensures sent { SentOrKept peers.now (C.tries carrier.old) (C.tries carrier.new) self.old.waiting.items self.new.waiting.items outgoing.now (is_ok result) }
+        ensures sent { SentOrKept (goes_at_once self.old.waiting.items self.old.pace.since self.old.pace.left now)
+            peers.now (C.tries carrier.old) (C.tries carrier.new) self.old.waiting.items self.new.waiting.items outgoing.now (is_ok result) }
+        ensures room { length self.new.waiting.items ≤ 4096 }
+        ensures queued { 0 < length self.old.waiting.items
+            → (self.new.pace.left ≡ self.old.pace.left) × (self.new.pace.since ≡ self.old.pace.since) }
+        ensures anew { length self.old.waiting.items ≡ 0 → self.old.pace.since + 4 ≤ now
+            → (self.new.pace.left ≡ 15) × (self.new.pace.since ≡ now) }
+        ensures paused { length self.old.waiting.items ≡ 0 → now < self.old.pace.since + 4
+            → (self.new.pace.left ≡ self.old.pace.left - 1) × (self.new.pace.since ≡ self.old.pace.since) }
         ensures same { self.new.failed ≡ self.old.failed }
     {
         if self.waiting.is_empty() && self.pace.take(1, now) == 1 {
