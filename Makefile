@@ -7,6 +7,7 @@
 # make uninstall    takes them away again
 # make dist         the program with its pages, films and examples as they are installed, and checksums, in one file below dist
 # make bench        times of a router and its forwarding table, as tables grow
+# make beside       what a route costs here and in BIRD, one after the other (needs root and BIRD, a package of the system)
 # make pictures     films and pictures of the examples, below docs (needs Chromium, a package of the system)
 # make test         the merge gate: every proof from nothing, the edits that must fail, tests and programs
 # make check CRATE= proves a crate and all above it, and runs their tests
@@ -33,7 +34,7 @@ folders = docs docs/films docs/pictures examples examples/lessons page
 VERSION = $(shell sed -n 's/^pub const VERSION: &str = "\(.*\)";/\1/p' crates/ripngd_command_line/src/command_line.rt)
 name = ripngd-$(VERSION)-x86_64-linux
 
-.PHONY: all lab try show page install uninstall dist bench pictures test check edits clean
+.PHONY: all lab try show page install uninstall dist bench beside pictures test check edits clean
 
 all:
 	tests/build.py ripngd_program
@@ -81,6 +82,9 @@ bench:
 	cd crates/bench_router && rt run -- names > /dev/null
 	crates/bench_router/out/bench_router $(ROUTES)
 	for routes in $(ROUTES); do crates/bench_router/out/bench_router memory $$routes; done
+
+beside: bin/ripngd
+	tests/beside.py bin/ripngd
 
 pictures: bin/ripngd
 	page/pictures.sh
