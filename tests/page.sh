@@ -154,11 +154,6 @@ answer() {
     film "$1" | awk '/^<div id="scripts"/ { on = 1; print "<section hidden>"; next } /^<script>$/ { exit } on { sub(/ id="trace"/, ""); print } END { print "</section>" }'
 }
 
-# `answer SCRIPT`: a script and its trace, as a server would answer it.
-answer() {
-    film "$1" | awk '/^<div id="scripts"/ { on = 1; print "<section hidden>"; next } /^<script>$/ { exit } on { sub(/ id="trace"/, ""); print } END { print "</section>" }'
-}
-
 # `edited NAME SED-SCRIPT`: line.lab as it is changed, as a file.
 edited() {
     sed -e "$2" "$root/examples/line.lab" > "$folder/$1.lab"
