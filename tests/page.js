@@ -60,7 +60,7 @@
   // Every datagram as the page decodes it, and the sums behind a step, which the address names.
   const decodeAll = () => report.push(...view.trace.datagrams.flatMap(({ bytes }) => decode(bytes).split('\n')).map(line => `show ${line}`));
   const showAsked = () => report.push(textOf('#sum'), textOf('#walk tbody').replace(/line \d+/g, ''));
-  const showWhere = () => { press('step'); tell(textOf('#where'), one('.pressed') ? 'chosen' : 'nothing chosen'); };
+  const showWhere = () => { press('step'); tell(textOf('#where'), one('[data-choose][aria-pressed=true], tr.chosen') ? 'chosen' : 'nothing chosen'); };
   const showRefusals = () => report.push(...all('#events .bad').map(text => text.textContent));
 
   // Clicks a router and lets it tick, then writes a line that is refused.

@@ -294,7 +294,7 @@ true"
 }
 
 # An address that names nothing does nothing; one with half a step neither.
-an_address_may_name_nothing() {
+an_address_names_a_route_or_nothing() {
     film "$root/examples/line.lab" > "$folder/film.html" || return
     local address steps
     steps=$("$program" lab --trace "$root/examples/line.lab" | wc -l)
@@ -302,6 +302,8 @@ an_address_may_name_nothing() {
         play where "$folder/film.html" "$address" || return
         same "where $address leads" "$(cat "$folder/report")" "step 2 of $steps, at 0.000 s | nothing chosen" || return
     done
+    play where "$folder/film.html" 'step=1&router=0&prefix=2001:db8::/32' || return
+    same "where a route's address leads" "$(cat "$folder/report")" "step 2 of $steps, at 0.000 s | chosen"
 }
 
 # The modules without a browser, on random scripts.
@@ -429,7 +431,7 @@ else
     try a_drawing_stays
     try files_are_loaded_and_runs_called_off
     try a_teacher_acts
-    try an_address_may_name_nothing
+    try an_address_names_a_route_or_nothing
 fi
 if command -v node > /dev/null; then
     try modules_agree_with_the_program
