@@ -1,0 +1,13 @@
+pub mod Runs
+pub mod Later
+pub mod Moving
+pub mod Rows
+pub mod Alike
+pub mod Settled
+pub mod Telling
+pub mod Stepping
+pub mod Sending
+pub mod Resting
+pub mod Holding
+pub mod Bounding
+pub mod Saying
