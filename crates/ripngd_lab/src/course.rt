@@ -1,5 +1,9 @@
 //! Lines about routers that run.
 
+ghost use Rattle.std.specs.Prelude.{Some};
+ghost use Rattle.ripngd_lab.specs.Witnessing.{HasTold};
+
+use crate::doing::step;
 use crate::expecting::{Expected, Missed, meet};
 use crate::line::Line;
 use crate::outages::Outages;
@@ -42,16 +46,14 @@ pub fn run<V: Watch>(
     course: &mut Course,
     line: Line,
     watch: &mut V,
-) -> Result<(), Stop> {
+) -> Result<(), Stop>
+    ensures { HasTold result V.starts V.takes V.fails V.notes (Some lab.old, watch.old) (Some lab.new, watch.new) }
+{
     match line {
-        Line::Event(event) => {
-            let _ = lab.step_watched(&event, watch)?;
-            Ok(())
-        }
+        Line::Event(event) => step(lab, &event, watch),
         Line::Stranger { router, datagram } => {
             let arrival = datagram.arrival();
-            let _ = lab.step_watched(&Event::Stranger { router, arrival }, watch)?;
-            Ok(())
+            step(lab, &Event::Stranger { router, arrival }, watch)
         }
         Line::Print(choice) => show_routes(lab, &choice, watch),
         Line::Sent { asked } => show_sent(lab, asked, watch),
@@ -68,7 +70,9 @@ fn steer<V: Watch>(
     course: &mut Course,
     line: Line,
     watch: &mut V,
-) -> Result<(), Stop> {
+) -> Result<(), Stop>
+    ensures { HasTold result V.starts V.takes V.fails V.notes (Some lab.old, watch.old) (Some lab.new, watch.new) }
+{
     match line {
         Line::Round { now } => {
             make_round(alloc, lab, now, &course.outages, watch)?;
@@ -93,7 +97,7 @@ fn steer<V: Watch>(
         } => {
             let tick = Event::Tick { router, now, word };
             let first = lab.sent().len();
-            let _ = lab.step_watched(&tick, watch)?;
+            step(lab, &tick, watch)?;
             course.unheard = lab.sent().len();
             hear_but(alloc, lab, (first, now), &lost, &course.outages, watch)
         }
@@ -108,7 +112,9 @@ fn go_round<V: Watch>(
     moments: &[Moment],
     outages: &Outages,
     watch: &mut V,
-) -> Result<(), Stop> {
+) -> Result<(), Stop>
+    ensures { HasTold result V.starts V.takes V.fails V.notes (Some lab.old, watch.old) (Some lab.new, watch.new) }
+{
     if outages.are_none() {
         make_rounds(alloc, lab, moments, watch)
     } else {
@@ -124,7 +130,9 @@ fn hear_but<V: Watch>(
     lost: &[usize],
     outages: &Outages,
     watch: &mut V,
-) -> Result<(), Stop> {
+) -> Result<(), Stop>
+    ensures { HasTold result V.starts V.takes V.fails V.notes (Some lab.old, watch.old) (Some lab.new, watch.new) }
+{
     let hearing = Hearing {
         first: from.0,
         now: from.1,
@@ -163,11 +171,9 @@ fn expect(lab: &Lab<TrieRoutes>, expected: Expected) -> Result<(), Stop> {
 }
 
 /// A line that prints routes.
-fn show_routes<V: Watch>(
-    lab: &Lab<TrieRoutes>,
-    choice: &Choice,
-    watch: &mut V,
-) -> Result<(), Stop> {
+fn show_routes<V: Watch>(lab: &Lab<TrieRoutes>, choice: &Choice, watch: &mut V) -> Result<(), Stop>
+    ensures { HasTold result V.starts V.takes V.fails V.notes (Some lab.now, watch.old) (Some lab.now, watch.new) }
+{
     check_router(lab, choice.router)?;
     Ok(watch.routes_asked(lab, choice)?)
 }
@@ -177,7 +183,9 @@ fn show_sent<V: Watch>(
     lab: &Lab<TrieRoutes>,
     asked: Option<usize>,
     watch: &mut V,
-) -> Result<(), Stop> {
+) -> Result<(), Stop>
+    ensures { HasTold result V.starts V.takes V.fails V.notes (Some lab.now, watch.old) (Some lab.now, watch.new) }
+{
     if let Some(datagram) = asked
         && datagram >= lab.sent().len()
     {

@@ -3,6 +3,7 @@
 
 mod context;
 mod course;
+mod doing;
 mod expecting;
 mod foreign;
 mod line;

@@ -48,6 +48,10 @@ impl<'a, W: Write> ripng_world::Watch<TrieRoutes> for Printer<'a, W> {
 }
 
 impl<'a, W: Write> Watch for Printer<'a, W> {
+    ghost starts = { λ _ _ _ _. ⊤ };
+
+    ghost notes = { λ _ _. ⊤ };
+
     fn at_line(&mut self, number: usize) {
         self.line = number;
     }

@@ -1,7 +1,9 @@
 //! Rounds: every router ticks, and what is sent then comes everywhere.
 
-ghost use Rattle.std.specs.Prelude.{◌≡◌, ℕ, All, IfOk, length};
+ghost use Rattle.std.specs.Prelude.{◌≡◌, ℕ, All, IfOk, Some, length};
+ghost use Rattle.ripngd_lab.specs.Witnessing.{HasTold};
 
+use crate::doing::{deliver_since, run_rounds, step};
 use crate::outages::Outages;
 use crate::stop::Stop;
 use crate::telling::{Hearing, hear};
@@ -29,7 +31,9 @@ pub fn make_round<V: Watch>(
     now: Moment,
     outages: &Outages,
     watch: &mut V,
-) -> Result<(), Stop> {
+) -> Result<(), Stop>
+    ensures { HasTold result V.starts V.takes V.fails V.notes (Some lab.old, watch.old) (Some lab.new, watch.new) }
+{
     let first = lab.sent().len();
     tick_all(lab, now, outages, watch)?;
     hear_since(alloc, lab, first, now, outages, watch)
@@ -43,10 +47,11 @@ fn hear_since<V: Watch>(
     now: Moment,
     outages: &Outages,
     watch: &mut V,
-) -> Result<(), Stop> {
+) -> Result<(), Stop>
+    ensures { HasTold result V.starts V.takes V.fails V.notes (Some lab.old, watch.old) (Some lab.new, watch.new) }
+{
     if outages.are_none() {
-        lab.deliver_since_watched(first, now, watch)?;
-        return Ok(());
+        return deliver_since(lab, first, now, watch);
     }
     let hearing = Hearing {
         first,
@@ -62,11 +67,14 @@ fn tick_all<V: Watch>(
     now: Moment,
     outages: &Outages,
     watch: &mut V,
-) -> Result<(), Stop> {
+) -> Result<(), Stop>
+    ensures { HasTold result V.starts V.takes V.fails V.notes (Some lab.old, watch.old) (Some lab.new, watch.new) }
+{
     for router in 0..lab.routers() {
-        if !outages.is_silent(router) {
-            tick(lab, router, now, watch)?;
+        if outages.is_silent(router) {
+            continue;
         }
+        tick(lab, router, now, watch)?;
     }
     Ok(())
 }
@@ -77,14 +85,15 @@ fn tick<V: Watch>(
     router: usize,
     now: Moment,
     watch: &mut V,
-) -> Result<(), Stop> {
+) -> Result<(), Stop>
+    ensures { HasTold result V.starts V.takes V.fails V.notes (Some lab.old, watch.old) (Some lab.new, watch.new) }
+{
     let tick = Event::Tick {
         router,
         now,
         word: 0,
     };
-    let _ = lab.step_watched(&tick, watch)?;
-    Ok(())
+    step(lab, &tick, watch)
 }
 
 /// The moments of so many rounds, the first at `now`, and each `gap` milliseconds after the one before.
@@ -117,11 +126,12 @@ pub fn make_rounds<V: Watch>(
     lab: &mut Lab<TrieRoutes>,
     moments: &[Moment],
     watch: &mut V,
-) -> Result<(), Stop> {
+) -> Result<(), Stop>
+    ensures { HasTold result V.starts V.takes V.fails V.notes (Some lab.old, watch.old) (Some lab.new, watch.new) }
+{
     let ticks = ticks_at(alloc, lab.routers(), moments)?;
     let rounds = rounds_of(alloc, &ticks)?;
-    lab.run_rounds_watched(&rounds, watch)?;
-    Ok(())
+    run_rounds(lab, &rounds, watch)
 }
 
 /// The rounds of these moments with outages: as [`make_rounds`], but silent routers do not tick, and nothing comes from or to
@@ -135,7 +145,9 @@ pub fn make_partial_rounds<V: Watch>(
     moments: &[Moment],
     outages: &Outages,
     watch: &mut V,
-) -> Result<(), Stop> {
+) -> Result<(), Stop>
+    ensures { HasTold result V.starts V.takes V.fails V.notes (Some lab.old, watch.old) (Some lab.new, watch.new) }
+{
     for (round, now) in moments.iter().enumerate() {
         let first = lab.sent().len();
         tick_due(lab, round, *now, outages, watch)?;
@@ -151,7 +163,9 @@ fn tick_due<V: Watch>(
     now: Moment,
     outages: &Outages,
     watch: &mut V,
-) -> Result<(), Stop> {
+) -> Result<(), Stop>
+    ensures { HasTold result V.starts V.takes V.fails V.notes (Some lab.old, watch.old) (Some lab.new, watch.new) }
+{
     for router in 0..lab.routers() {
         if outages.is_silent(router) {
             continue;

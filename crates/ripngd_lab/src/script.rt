@@ -1,6 +1,9 @@
 //! A script, line by line.
 
-use crate::line::read_line;
+ghost use Rattle.std.specs.Prelude.{◌<◌, ◌≡◌, IfSome, None, OnErr, OnOk, Option, length};
+ghost use Rattle.ripng_world.specs.Labs.{LabValue};
+ghost use Rattle.ripngd_lab.specs.Witnessing.{HasTold, IsTold, IsToldUntil, has_failed, lab_in};
+
 use crate::printer::Printer;
 use crate::refusal_name::RefusalName;
 use crate::session::Session;
@@ -26,10 +29,18 @@ pub fn lab<W: Write>(alloc: Global, script: &[u8], out: &mut W) -> io::Result<bo
 ///
 /// # Errors
 /// `OutOfMemory` where memory was refused, else the fault of the witness. What was told before stays told.
-pub fn watched<V: Watch>(alloc: Global, script: &[u8], watch: &mut V) -> io::Result<bool> {
+pub fn watched<V: Watch>(alloc: Global, script: &[u8], watch: &mut V) -> io::Result<bool>
+    ensures told { OnOk result ((end : Option LabValue) × IsTold V.starts V.takes V.notes (None, watch.old) (end, watch.new)) }
+    ensures told_until { OnErr result ((end : Option LabValue) × IsToldUntil V.starts V.takes V.fails V.notes (None, watch.old) (end, watch.new)) }
+{
     let mut session = Session::new(alloc);
-    for (place, line) in script.split(|byte| *byte == b'\n').enumerate() {
-        watch.at_line(place.saturating_add(1));
+    let mut number = 0_usize;
+    let mut rest = Some(script);
+    while let Some(text) = rest {
+        let (line, after) = first_line(text);
+        rest = after;
+        number = number.saturating_add(1);
+        watch.at_line(number);
         match run_line(alloc, &mut session, line, watch) {
             Ok(()) => {}
             Err(Stop::Refused(refusal)) => {
@@ -44,6 +55,16 @@ pub fn watched<V: Watch>(alloc: Global, script: &[u8], watch: &mut V) -> io::Res
         }
     }
     Ok(true)
+}
+
+/// The first line of a text, without its line feed, and what comes after that, if it has one.
+fn first_line(text: &[u8]) -> (&[u8], Option<&[u8]>)
+    ensures { IfSome result.1 (λ after. length after.now < length text.now) }
+{
+    match text.iter().position(|byte| *byte == b'\n') {
+        Some(end) => (&text[..end], Some(&text[end + 1..])),
+        None => (text, None),
+    }
 }
 
 /// An empty line, or a remark.
@@ -67,7 +88,9 @@ fn run_line<V: Watch>(
     session: &mut Session,
     line: &[u8],
     watch: &mut V,
-) -> Result<(), Stop> {
+) -> Result<(), Stop>
+    ensures { HasTold result V.starts V.takes V.fails V.notes (lab_in session.old.stage, watch.old) (lab_in session.new.stage, watch.new) }
+{
     if is_skipped(line) {
         return Ok(());
     }
@@ -89,13 +112,17 @@ fn run_words<V: Watch>(
     session: &mut Session,
     words: &str,
     watch: &mut V,
-) -> Result<(), Stop> {
-    let line = read_line(alloc, words, session.context())?;
+) -> Result<(), Stop>
+    ensures { HasTold result V.starts V.takes V.fails V.notes (lab_in session.old.stage, watch.old) (lab_in session.new.stage, watch.new) }
+{
+    let line = session.read(alloc, words)?;
     session.obey(alloc, line, watch)
 }
 
 /// What becomes of a line that is to be refused by a name: it is as it should be where it is.
-fn await_refusal(name: RefusalName, outcome: Result<(), Stop>) -> Result<(), Stop> {
+fn await_refusal(name: RefusalName, outcome: Result<(), Stop>) -> Result<(), Stop>
+    ensures { has_failed result ≡ has_failed outcome }
+{
     match outcome {
         Ok(()) => Err(Stop::Unmet(Unmet::Refusal { name, found: None })),
         Err(Stop::Refused(found)) => {

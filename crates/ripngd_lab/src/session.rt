@@ -1,8 +1,11 @@
 //! A script that runs: its routers are listed until they start, and then live in a network.
 
+ghost use Rattle.std.specs.Prelude.{◌≡◌, ◌⊎◌, IfOk, None, OnErr, true};
+ghost use Rattle.ripngd_lab.specs.Witnessing.{HasTold, StartsAt, has_failed, lab_in};
+
 use crate::context::Context;
 use crate::course::{Course, run};
-use crate::line::Line;
+use crate::line::{Line, read_line};
 use crate::refusal_name::RefusalName;
 use crate::stop::Stop;
 use crate::watching::Watch;
@@ -33,7 +36,9 @@ pub struct Session {
 
 impl Session {
     /// Nothing is listed yet.
-    pub fn new(alloc: Global) -> Session {
+    pub fn new(alloc: Global) -> Session
+        ensures { lab_in result.stage ≡ None }
+    {
         Session {
             stage: Stage::Listing(Vec::new(alloc)),
             context: Context::new(alloc),
@@ -41,16 +46,23 @@ impl Session {
         }
     }
 
-    /// What the words of the next line may stand for.
-    pub fn context(&mut self) -> &mut Context {
+    /// Reads the words of the next line.
+    ///
+    /// # Errors
+    /// What the words are refused for; want of memory.
+    pub fn read(&mut self, alloc: Global, words: &str) -> Result<Line, Stop>
+        ensures { self.new.stage ≡ self.old.stage }
+    {
         if let Stage::Running(lab) = &self.stage {
             self.context.sent = lab.sent().len();
         }
-        &mut self.context
+        read_line(alloc, words, &mut self.context)
     }
 
     /// The name that the next line is to be refused by, if the line before has said so. It counts once.
-    pub fn awaited(&mut self) -> Option<RefusalName> {
+    pub fn awaited(&mut self) -> Option<RefusalName>
+        ensures { self.new.stage ≡ self.old.stage }
+    {
         self.course.awaited.take()
     }
 
@@ -58,21 +70,36 @@ impl Session {
     ///
     /// # Errors
     /// Why the script ends here. What was done before it stays done.
-    pub fn obey<V: Watch>(&mut self, alloc: Global, line: Line, watch: &mut V) -> Result<(), Stop> {
+    pub fn obey<V: Watch>(&mut self, alloc: Global, line: Line, watch: &mut V) -> Result<(), Stop>
+        ensures { HasTold result V.starts V.takes V.fails V.notes (lab_in self.old.stage, watch.old) (lab_in self.new.stage, watch.new) }
+    {
         match &mut self.stage {
             Stage::Running(lab) => run(alloc, lab, &mut self.course, line, watch),
             Stage::Listing(nodes) => match line {
                 Line::Cold { now } => {
                     let nodes = mem::replace(nodes, Vec::new(alloc));
-                    let lab = start(alloc, nodes, now)?;
-                    watch.started(&lab, now)?;
-                    self.stage = Stage::Running(lab);
+                    self.stage = Stage::Running(begin_lab(alloc, nodes, now, watch)?);
                     Ok(())
                 }
                 line => list(alloc, nodes, &mut self.context, line),
             },
         }
     }
+}
+
+/// The routers of a network start at one moment, and the witness is told.
+fn begin_lab<V: Watch>(
+    alloc: Global,
+    nodes: Vec<Node>,
+    now: Moment,
+    watch: &mut V,
+) -> Result<Lab<TrieRoutes>, Stop>
+    ensures started { IfOk result (λ lab. StartsAt lab now × V.starts watch.old lab now watch.new) }
+    ensures untold { OnErr result (has_failed result ≡ true ⊎ watch.new ≡ watch.old) }
+{
+    let lab = start(alloc, nodes, now)?;
+    watch.started(&lab, now)?;
+    Ok(lab)
 }
 
 /// A line that lists a router, or what one has.
@@ -128,7 +155,9 @@ fn newest(nodes: &mut [Node]) -> Result<&mut Node, BadLine> {
 }
 
 /// Checks the network and starts its routers at one moment.
-fn start(alloc: Global, nodes: Vec<Node>, now: Moment) -> Result<Lab<TrieRoutes>, Stop> {
+fn start(alloc: Global, nodes: Vec<Node>, now: Moment) -> Result<Lab<TrieRoutes>, Stop>
+    ensures { IfOk result (λ lab. StartsAt lab now) }
+{
     let moments = vec![in alloc; now; nodes.len()]?;
     let network = NetConfig::check(alloc, nodes)?;
     Ok(Lab::cold(alloc, network, moments.as_slice())?)

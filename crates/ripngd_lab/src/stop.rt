@@ -3,7 +3,7 @@
 use crate::expecting::Expected;
 use crate::refusal_name::RefusalName;
 use crate::words::BadLine;
-use ripng_world::{LabError, NetRefused, RoundsRefused, Stopped};
+use ripng_world::{LabError, NetRefused, RoundsRefused};
 use std::alloc::{AllocError, AllocFailed};
 use std::{fmt, io};
 
@@ -132,6 +132,11 @@ impl<T: Drop> From<AllocFailed<T>> for Stop {
 }
 
 impl From<io::Error> for Stop {
+    ghost use Rattle.std.specs.Prelude.{◌≡◌};
+    ghost use Rattle.ripngd_lab.specs.declared.stop.Stop.TheVariants.{Failed};
+
+    ghost from_gives = { λ error stop. stop ≡ Failed error };
+
     fn from(error: io::Error) -> Stop {
         Stop::Failed(error)
     }
@@ -160,33 +165,6 @@ impl From<RoundsRefused> for Stop {
         match refused {
             RoundsRefused::OutOfMemory { .. } => Stop::from(AllocError),
             RoundsRefused::NoRegularUpdate { .. } => Stop::Refused(Refusal::Rounds(refused)),
-        }
-    }
-}
-
-impl From<Stopped<AllocError, io::Error>> for Stop {
-    fn from(stopped: Stopped<AllocError, io::Error>) -> Stop {
-        match stopped {
-            Stopped::Refused(why) => Stop::from(why),
-            Stopped::Failed(error) => Stop::Failed(error),
-        }
-    }
-}
-
-impl From<Stopped<LabError, io::Error>> for Stop {
-    fn from(stopped: Stopped<LabError, io::Error>) -> Stop {
-        match stopped {
-            Stopped::Refused(why) => Stop::from(why),
-            Stopped::Failed(error) => Stop::Failed(error),
-        }
-    }
-}
-
-impl From<Stopped<RoundsRefused, io::Error>> for Stop {
-    fn from(stopped: Stopped<RoundsRefused, io::Error>) -> Stop {
-        match stopped {
-            Stopped::Refused(why) => Stop::from(why),
-            Stopped::Failed(error) => Stop::Failed(error),
         }
     }
 }

@@ -1,5 +1,9 @@
 //! What is sent comes to every other interface of its link, but for what is lost.
 
+ghost use Rattle.std.specs.Prelude.{Some};
+ghost use Rattle.ripngd_lab.specs.Witnessing.{HasTold};
+
+use crate::doing::step;
 use crate::outages::Outages;
 use crate::stop::Stop;
 use crate::watching::Watch;
@@ -32,15 +36,18 @@ pub fn hear<V: Watch>(
     lab: &mut Lab<TrieRoutes>,
     hearing: &Hearing<'_>,
     watch: &mut V,
-) -> Result<(), Stop> {
+) -> Result<(), Stop>
+    ensures { HasTold result V.starts V.takes V.fails V.notes (Some lab.old, watch.old) (Some lab.new, watch.new) }
+{
     let end = lab.sent().len();
     if !are_below(hearing.lost, end.saturating_sub(hearing.first)) {
         return Err(Stop::from(LabError::NoSuchDatagram));
     }
     for (place, datagram) in (hearing.first..end).enumerate() {
-        if !hearing.lost.contains(&place) {
-            deliver(alloc, lab, datagram, hearing, watch)?;
+        if hearing.lost.contains(&place) {
+            continue;
         }
+        deliver(alloc, lab, datagram, hearing, watch)?;
     }
     Ok(())
 }
@@ -56,7 +63,9 @@ fn deliver<V: Watch>(
     datagram: usize,
     hearing: &Hearing<'_>,
     watch: &mut V,
-) -> Result<(), Stop> {
+) -> Result<(), Stop>
+    ensures { HasTold result V.starts V.takes V.fails V.notes (Some lab.old, watch.old) (Some lab.new, watch.new) }
+{
     for (router, iface) in reached(alloc, lab, datagram, hearing.outages)? {
         let event = Event::Deliver {
             datagram,
@@ -64,7 +73,7 @@ fn deliver<V: Watch>(
             iface,
             now: hearing.now,
         };
-        let _ = lab.step_watched(&event, watch)?;
+        step(lab, &event, watch)?;
     }
     Ok(())
 }

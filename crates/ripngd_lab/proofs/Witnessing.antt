@@ -1,0 +1,227 @@
+-- What a witness is told, one thing after another.
+use Rattle.std.specs.Prelude.{⊤}
+use Rattle.std.proofs.Common.{◌≡◌, ◌⊎◌, inl, inr, ℕ, List, [], ◌∷◌, ◌++◌, arith, length, Bool, true, false, Option, Some, None, Result, Ok, Err, IsErrAnd, OnErr, refl, ap, sym, subst}
+use Rattle.std.proofs.lemmas.Bool.{false≢true}
+use Rattle.router_core.specs.declared.answer.Answer.{Answer}
+use Rattle.ripng_world.specs.Asked.{Asked}
+use Rattle.ripng_world.specs.Labs.{LabValue, HappensGiving}
+use Rattle.ripng_world.specs.Network.{Network}
+use Rattle.ripng_world.specs.Rounds.{events_of}
+use Rattle.ripng_world.specs.Watching.{Told, WatchedRun, WatchedUntil, WatchedInPart, AreMadeTold, RoundsToldInPart, any, telling}
+use Rattle.ripng_world.specs.World.{World, Event, Happens}
+use Rattle.ripng_world.proofs.Watched.{given_told}
+use Rattle.ripngd_lab.specs.Witnessing.{Telling, Starts, Does, Notes, StartsAt, TellsAll, IsTold, FailsAtEvent, IsToldUntil, IsToldUnless, HasTold, is_failure, has_failed}
+use Rattle.ripngd_lab.specs.declared.stop.Stop.{Stop}
+use Rattle.ripngd_lab.specs.declared.stop.Stop.TheVariants.{Refused, Unmet, Failed}
+use Rattle.std.specs.declared.io.Error.{Error}
+
+module _ {V : Type 0} (st : V → LabValue → ℕ → V → Type 0) (t f : V → Told → V → Type 0) (n : V → V → Type 0) where
+  pub all_on : (ts us : List Telling) (s mid s' : Option LabValue × V) → TellsAll st t n s ts mid → TellsAll st t n mid us s' → TellsAll st t n s (ts ++ us) s'
+  all_on [] us s mid s' first rest = subst (λ (v : Option LabValue × V). TellsAll st t n v us s') first rest
+  all_on (x ∷ ts) us s mid s' first rest = (first.0, first.1, all_on ts us first.0 mid s' first.2 rest)
+
+  -- nothing is told
+  pub untold : (s : Option LabValue × V) → IsTold st t n s s
+  untold s = ([], refl)
+
+  -- one telling after another
+  pub told_on : (s mid s' : Option LabValue × V) → IsTold st t n s mid → IsTold st t n mid s' → IsTold st t n s s'
+  told_on s mid s' first rest = (first.0 ++ rest.0, all_on first.0 rest.0 s mid s' first.1 rest.1)
+
+  pub until_on : (s mid s' : Option LabValue × V) → IsTold st t n s mid → IsToldUntil st t f n mid s' → IsToldUntil st t f n s s'
+  until_on s mid s' first rest = (rest.0, told_on s mid rest.0 first rest.1, rest.2)
+
+  -- what told all has told all until then
+  pub told_until : (s s' : Option LabValue × V) → IsTold st t n s s' → IsToldUntil st t f n s s'
+  told_until s s' told = (s', told, inl refl)
+
+  -- the witness failed, and nothing happened
+  pub failed_still : (lab : Option LabValue) (v v' : V) → IsToldUntil st t f n (lab, v) (lab, v')
+  failed_still lab v v' = ((lab, v), untold (lab, v), inl refl)
+
+  pub unless : (b : Bool) (s s' : Option LabValue × V) → IsTold st t n s s' → IsToldUnless b st t f n s s'
+  unless false s s' told = told
+  unless true s s' told = told_until s s' told
+
+  pub unless_on : (b : Bool) (s mid s' : Option LabValue × V) → IsTold st t n s mid → IsToldUnless b st t f n mid s' → IsToldUnless b st t f n s s'
+  unless_on false s mid s' first rest = told_on s mid s' first rest
+  unless_on true s mid s' first rest = until_on s mid s' first rest
+
+  -- whatever the outcome is
+  pub has_told : (r : Result ⊤ Stop) (s s' : Option LabValue × V) → IsTold st t n s s' → HasTold r st t f n s s'
+  has_told r s s' told = unless (has_failed r) s s' told
+
+  pub has_told_on : (r : Result ⊤ Stop) (s mid s' : Option LabValue × V) → IsTold st t n s mid → HasTold r st t f n mid s' → HasTold r st t f n s s'
+  has_told_on r s mid s' first rest = unless_on (has_failed r) s mid s' first rest
+
+  -- another outcome that fails where the first does
+  pub has_told_as : (r : Result ⊤ Stop) (q : Result ⊤ Stop) (s s' : Option LabValue × V) → has_failed q ≡ has_failed r → HasTold r st t f n s s' → HasTold q st t f n s s'
+  has_told_as r q s s' same told = subst (λ (b : Bool). IsToldUnless b st t f n s s') (sym same) told
+
+  -- a line ends a script: it has told all, unless it failed
+  pub line_ends : (b : Bool) (k : Stop) (s mid s' : Option LabValue × V) → is_failure k ≡ b → IsTold st t n s mid → HasTold {X = ⊤} (Err k) st t f n mid s' → IsToldUnless b st t f n s s'
+  line_ends b k s mid s' is first told = subst (λ (a : Bool). IsToldUnless a st t f n s s') is (unless_on (is_failure k) s mid s' first told)
+
+  -- the witness fails after all that was told
+  pub on_fault : {X : Type 0} (r : Result X Error) (s : Option LabValue × V) (lab : Option LabValue) (v v' : V) → IsTold st t n s (lab, v)
+      → OnErr r ((end : Option LabValue) × IsToldUntil st t f n s (end, v'))
+  on_fault (Ok x) s lab v v' told = tt
+  on_fault (Err e) s lab v v' told = (lab, until_on s (lab, v) (lab, v') told (failed_still lab v v'))
+
+  -- an error that is handed on
+  pub handed : (r : Result ⊤ Stop) (from : Stop) (s s' : Option LabValue × V) → IsErrAnd r (λ e. e ≡ from) → HasTold {X = ⊤} (Err from) st t f n s s' → HasTold r st t f n s s'
+  handed (Ok x) from s s' is told = absurd is
+  handed (Err e) from s s' is told = subst (λ (b : Bool). IsToldUnless b st t f n s s') (sym (ap is_failure is)) told
+
+  pub handed_on : (r : Result ⊤ Stop) (from : Stop) (s mid s' : Option LabValue × V) → IsErrAnd r (λ e. e ≡ from) → IsTold st t n s mid → HasTold {X = ⊤} (Err from) st t f n mid s'
+      → HasTold r st t f n s s'
+  handed_on r from s mid s' is first told = handed r from s s' is (has_told_on (Err from) s mid s' first told)
+
+  -- the witness fails where nothing happens
+  pub fault_told : (r : Result ⊤ Stop) (error : Error) (lab : Option LabValue) (v v' : V) → IsErrAnd r (λ e. e ≡ Failed error) → HasTold r st t f n (lab, v) (lab, v')
+  fault_told (Ok x) error lab v v' is = absurd is
+  fault_told (Err e) error lab v v' is = subst (λ (b : Bool). IsToldUnless b st t f n (lab, v) (lab, v')) (sym (ap is_failure is)) (failed_still lab v v')
+
+  -- a lab did not start: the witness failed at that, or was told nothing
+  pub not_begun : (r : Result ⊤ Stop) (from : Stop) (lab : Option LabValue) (v v' : V) → IsErrAnd r (λ e. e ≡ from) → (is_failure from ≡ true) ⊎ (v' ≡ v)
+      → HasTold r st t f n (lab, v) (lab, v')
+  not_begun r from lab v v' is why = handed r from (lab, v) (lab, v') is (by from why)
+    where
+      still : (q : Result ⊤ Stop) → v' ≡ v → HasTold q st t f n (lab, v) (lab, v')
+      still q same = subst (λ (u : V). HasTold q st t f n (lab, v) (lab, u)) (sym same) (has_told q (lab, v) (lab, v) (untold (lab, v)))
+
+      by : (k : Stop) → (is_failure k ≡ true) ⊎ (v' ≡ v) → HasTold {X = ⊤} (Err k) st t f n (lab, v) (lab, v')
+      by (Refused refusal) (inl fails) = absurd (false≢true fails)
+      by (Refused refusal) (inr same) = still (Err (Refused refusal)) same
+      by (Unmet unmet) (inl fails) = absurd (false≢true fails)
+      by (Unmet unmet) (inr same) = still (Err (Unmet unmet)) same
+      by (Failed error) why = failed_still lab v v'
+
+  -- from another name of the lab
+  pub told_from : (r : Result ⊤ Stop) (from lab : Option LabValue) (v : V) (s' : Option LabValue × V) → from ≡ lab → HasTold r st t f n (lab, v) s' → HasTold r st t f n (from, v) s'
+  told_from r from lab v s' same told = subst (λ (l : Option LabValue). HasTold r st t f n (l, v) s') (sym same) told
+
+  pub told_to : (r : Result ⊤ Stop) (s : Option LabValue × V) (to lab : Option LabValue) (v : V) → to ≡ lab → HasTold r st t f n s (lab, v) → HasTold r st t f n s (to, v)
+  told_to r s to lab v same told = subst (λ (l : Option LabValue). HasTold r st t f n s (l, v)) (sym same) told
+
+  -- nothing happened, and the lab has another name
+  pub untold_as : (r : Result ⊤ Stop) (lab lab' : Option LabValue) (v : V) → lab' ≡ lab → HasTold r st t f n (lab, v) (lab', v)
+  untold_as r lab lab' v same = told_to r (lab, v) lab' lab v same (has_told r (lab, v) (lab, v) (untold (lab, v)))
+
+  -- ---- one telling
+
+  pub noted : (lab : Option LabValue) (v v' : V) → n v v' → IsTold st t n (lab, v) (lab, v')
+  noted lab v v' note = (Notes ∷ [], ((lab, v'), (refl, note), refl))
+
+  pub noted_on : (s : Option LabValue × V) (lab : Option LabValue) (v v' : V) → IsTold st t n s (lab, v) → n v v' → IsTold st t n s (lab, v')
+  noted_on s lab v v' told note = told_on s (lab, v) (lab, v') told (noted lab v v' note)
+
+  pub started : (lab : LabValue) (now : ℕ) (v v' : V) → StartsAt lab now → st v lab now v' → IsTold st t n (None, v) (Some lab, v')
+  started lab now v v' starts told = (Starts now ∷ [], ((Some lab, v'), (refl, lab, refl, starts, told), refl))
+
+  -- ---- what a lab does
+
+  pub run_told : (net : Network) (es : List Event) (w w' : World) (v v' : V) (fits : World → Event → Answer → Type 0) → WatchedRun t fits net (w, v) es (w', v')
+      → IsTold st t n (Some (record { network = net; world = w }), v) (Some (record { network = net; world = w' }), v')
+  run_told net [] w w' v v' fits is = ([], ap (λ (s : World × V). (Some (record { network = net; world = s.0 }), s.1)) is)
+  run_told net (e ∷ es) w w' v v' fits is =
+      let mid = is.0 in
+      let rest = run_told net es mid.0 w' mid.1 v' fits is.5 in (
+        Does e is.1 ∷ rest.0,
+        (
+          (Some (record { network = net; world = mid.0 }), mid.1),
+          (record { network = net; world = w }, refl, record { network = net; world = mid.0 }, refl, refl, is.3, is.4),
+          rest.1,
+        ),
+      )
+
+  -- of a lab that keeps its network
+  pub lab_told : (lab lab' : LabValue) (es : List Event) (v v' : V) (fits : World → Event → Answer → Type 0) → lab'.network ≡ lab.network
+      → WatchedRun t fits lab.network (lab.world, v) es (lab'.world, v') → IsTold st t n (Some lab, v) (Some lab', v')
+  lab_told lab lab' es v v' fits same run =
+      subst (λ (net : Network). IsTold st t n (Some lab, v) (Some (record { network = net; world = lab'.world }), v')) (sym same) (run_told lab.network es lab.world lab'.world v v' fits run)
+
+  -- so many tellings fail: none, or one
+  pub until_none : (net : Network) (es : List Event) (w w' : World) (v v' : V) → WatchedUntil t f 0 net (w, v) es (w', v')
+      → IsTold st t n (Some (record { network = net; world = w }), v) (Some (record { network = net; world = w' }), v')
+  until_none net es w w' v v' u = by_last u.last u.as_many u.failed
+    where
+      by_last : (last : List Event) → length last ≡ 0 → WatchedRun f any net u.before last (w', v')
+          → IsTold st t n (Some (record { network = net; world = w }), v) (Some (record { network = net; world = w' }), v')
+      by_last [] none same = run_told net u.done w w' v v' any (subst (λ (s : World × V). WatchedRun t any net (w, v) u.done s) (sym same) u.run)
+      by_last (e ∷ last) none failed = absurd (omega (arith, none))
+
+  pub until_one : (net : Network) (es : List Event) (w w' : World) (v v' : V) → WatchedUntil t f 1 net (w, v) es (w', v')
+      → IsToldUntil st t f n (Some (record { network = net; world = w }), v) (Some (record { network = net; world = w' }), v')
+  until_one net es w w' v v' u = (
+    (Some (record { network = net; world = u.before.0 }), u.before.1),
+    run_told net u.done w u.before.0 v u.before.1 any u.run,
+    inr (by_last u.last u.as_many u.failed),
+  )
+    where
+      by_last : (last : List Event) → length last ≡ 1 → WatchedRun f any net u.before last (w', v')
+          → FailsAtEvent f (Some (record { network = net; world = u.before.0 }), u.before.1) (Some (record { network = net; world = w' }), v')
+      by_last [] none failed = absurd (omega (arith, none))
+      by_last (e ∷ []) one failed =
+          let ends = failed.5 in (
+            record { network = net; world = u.before.0 },
+            refl,
+            record { network = net; world = w' },
+            refl,
+            refl,
+            e,
+            failed.1,
+            subst (λ (s : World × V). Happens net u.before.0 e failed.1 s.0) (sym ends) failed.3,
+            subst (λ (s : World × V). f u.before.1 (telling net u.before.0 e failed.1 s.0) s.1) (sym ends) failed.4,
+          )
+      by_last (e ∷ d ∷ last) more failed = absurd (omega (arith, more))
+
+  -- one step
+  pub step_told : (lab lab' : LabValue) (e : Event) (given : Answer) (first : ℕ) (v v' : V) (happens : HappensGiving lab e given lab'.world) → lab'.network ≡ lab.network
+      → first ≡ length lab.world.sent → t v (record { lab = lab'; event = e; answer = given; first = first }) v' → IsTold st t n (Some lab, v) (Some lab', v')
+  step_told lab lab' e given first v v' happens same first_is told = (
+    Does e happens.0 ∷ [],
+    (
+      (Some lab', v'),
+      (lab, refl, lab', refl, same, happens.1, given_told t lab lab' e given first v v' happens same first_is told),
+      refl,
+    ),
+  )
+
+  -- some of a run
+  pub part_none : (lab lab' : LabValue) (es : List Event) (v v' : V) (k : ℕ) → k ≡ 0 → lab'.network ≡ lab.network → WatchedInPart t f k lab.network (lab.world, v) es (lab'.world, v')
+      → IsTold st t n (Some lab, v) (Some lab', v')
+  part_none lab lab' es v v' k few same stops =
+      let p = subst (λ (m : ℕ). WatchedInPart t f m lab.network (lab.world, v) es (lab'.world, v')) few stops in
+      subst (λ (net : Network). IsTold st t n (Some lab, v) (Some (record { network = net; world = lab'.world }), v')) (sym same)
+      (until_none lab.network p.part lab.world lab'.world v v' p.run)
+
+  pub part_one : (lab lab' : LabValue) (es : List Event) (v v' : V) (k : ℕ) → k ≡ 1 → lab'.network ≡ lab.network → WatchedInPart t f k lab.network (lab.world, v) es (lab'.world, v')
+      → IsToldUntil st t f n (Some lab, v) (Some lab', v')
+  part_one lab lab' es v v' k few same stops =
+      let p = subst (λ (m : ℕ). WatchedInPart t f m lab.network (lab.world, v) es (lab'.world, v')) few stops in
+      subst (λ (net : Network). IsToldUntil st t f n (Some lab, v) (Some (record { network = net; world = lab'.world }), v')) (sym same)
+      (until_one lab.network p.part lab.world lab'.world v v' p.run)
+
+  -- rounds
+  pub rounds_told : (lab lab' : LabValue) (asked : List Asked) (v v' : V) → lab'.network ≡ lab.network → AreMadeTold t lab.network (lab.world, v) asked (lab'.world, v')
+      → IsTold st t n (Some lab, v) (Some lab', v')
+  rounds_told lab lab' asked v v' same made = lab_told lab lab' (events_of made.0) v v' any same made.2
+
+  pub rounds_none : (lab lab' : LabValue) (asked : List Asked) (v v' : V) (k : ℕ) → k ≡ 0 → lab'.network ≡ lab.network → RoundsToldInPart t f k lab.network (lab.world, v) asked (lab'.world, v')
+      → IsTold st t n (Some lab, v) (Some lab', v')
+  rounds_none lab lab' asked v v' k few same stops =
+      let p = subst (λ (m : ℕ). RoundsToldInPart t f m lab.network (lab.world, v) asked (lab'.world, v')) few stops in
+      subst (λ (net : Network). IsTold st t n (Some lab, v) (Some (record { network = net; world = lab'.world }), v')) (sym same)
+      (told_on (Some lab, v) (Some (record { network = lab.network; world = p.begin.0 }), p.begin.1) (Some (record { network = lab.network; world = lab'.world }), v')
+      (run_told lab.network (events_of p.told.0) lab.world p.begin.0 v p.begin.1 any p.told.2)
+      (until_none lab.network p.in_part.events p.begin.0 lab'.world p.begin.1 v' p.in_part.run))
+
+  pub rounds_one : (lab lab' : LabValue) (asked : List Asked) (v v' : V) (k : ℕ) → k ≡ 1 → lab'.network ≡ lab.network → RoundsToldInPart t f k lab.network (lab.world, v) asked (lab'.world, v')
+      → IsToldUntil st t f n (Some lab, v) (Some lab', v')
+  rounds_one lab lab' asked v v' k few same stops =
+      let p = subst (λ (m : ℕ). RoundsToldInPart t f m lab.network (lab.world, v) asked (lab'.world, v')) few stops in
+      subst (λ (net : Network). IsToldUntil st t f n (Some lab, v) (Some (record { network = net; world = lab'.world }), v')) (sym same)
+      (until_on (Some lab, v) (Some (record { network = lab.network; world = p.begin.0 }), p.begin.1) (Some (record { network = lab.network; world = lab'.world }), v')
+      (run_told lab.network (events_of p.told.0) lab.world p.begin.0 v p.begin.1 any p.told.2)
+      (until_one lab.network p.in_part.events p.begin.0 lab'.world p.begin.1 v' p.in_part.run))
