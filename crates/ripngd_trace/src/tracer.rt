@@ -4,7 +4,7 @@ ghost use Rattle.std.specs.Prelude.{◌≡◌, [], ◌∷◌, ◌++◌, ⊤, IfO
 ghost use Rattle.ripng_world.specs.Events.{event_of};
 ghost use Rattle.ripngd_trace.specs.Events.{Tells};
 ghost use Rattle.ripngd_trace.specs.Lines.{WritesLine};
-ghost use Rattle.ripngd_trace.specs.Reading.{SaysEvent, tables_of};
+ghost use Rattle.ripngd_trace.specs.Reading.{SaysEvent, SaysStart, tables_of};
 ghost use Rattle.ripngd_trace.specs.Records.{LeadsTo};
 ghost use Rattle.ripngd_trace.specs.Starting.{AreTold, TellsRouter, TellsStart};
 
@@ -86,6 +86,8 @@ impl<'a, W: Write> Tracer<'a, W> {
     ) -> Result<RouterRecord, AllocError>
         ensures tells { IfOk result (λ r. slice_get lab.now.world.states number ≡ Some router.now → TellsRouter lab.now number r) }
         ensures known { OnOk result (self.new.known.items ≡ self.old.known.items ++ router.now.table ∷ []) }
+        ensures line { self.new.line ≡ self.old.line }
+        ensures unwritten { W.contents self.new.out.now ≡ W.contents self.old.out.now }
     {
         let mut known = TrieRoutes::empty(self.alloc);
         let news = news_of(self.alloc, &mut known, router.routes())?;
@@ -106,6 +108,8 @@ impl<'a, W: Write> Tracer<'a, W> {
     fn router_records(&mut self, lab: &Lab<TrieRoutes>) -> Result<Vec<RouterRecord>, AllocError>
         ensures tells { IfOk result (λ records. AreTold lab.now records.items) }
         ensures known { OnOk result (self.new.known.items ≡ self.old.known.items ++ tables_of lab.now.world) }
+        ensures line { self.new.line ≡ self.old.line }
+        ensures unwritten { W.contents self.new.out.now ≡ W.contents self.old.out.now }
     {
         let mut records = Vec::new(self.alloc);
         while let Some(router) = lab.router(records.len()) {
@@ -123,6 +127,8 @@ impl<'a, W: Write> Tracer<'a, W> {
     ) -> Result<StartRecord, AllocError>
         ensures tells { IfOk result (TellsStart self.old.line lab.now now) }
         ensures known { OnOk result (self.new.known.items ≡ self.old.known.items ++ tables_of lab.now.world) }
+        ensures line { self.new.line ≡ self.old.line }
+        ensures unwritten { W.contents self.new.out.now ≡ W.contents self.old.out.now }
     {
         Ok(StartRecord {
             line: self.line,
@@ -181,7 +187,9 @@ impl<'a, W: Write> Tracer<'a, W> {
     }
 
     /// What a line prints.
-    fn write_prints(&mut self, record: &'static str, prints: &[u8]) -> io::Result<()> {
+    fn write_prints(&mut self, record: &'static str, prints: &[u8]) -> io::Result<()>
+        ensures { self.new.known.items ≡ self.old.known.items }
+    {
         let text = str::from_utf8(prints).unwrap_or("");
         let record = PrintRecord {
             line: self.line,
@@ -192,7 +200,9 @@ impl<'a, W: Write> Tracer<'a, W> {
     }
 
     /// A line that ends the script, and why.
-    fn write_refused(&mut self, why: &str) -> io::Result<()> {
+    fn write_refused(&mut self, why: &str) -> io::Result<()>
+        ensures { self.new.known.items ≡ self.old.known.items }
+    {
         let record = RefusedRecord {
             line: self.line,
             record: "refused",
@@ -223,9 +233,10 @@ impl<'a, W: Write> ripng_world::Watch<TrieRoutes> for Tracer<'a, W> {
 }
 
 impl<'a, W: Write> Watch for Tracer<'a, W> {
-    ghost starts = { λ _ _ _ _. ⊤ };
+    ghost starts = { λ old lab now new. SaysStart (record { line = old.line; known = old.known.items }) lab now (record { line = new.line; known = new.known.items })
+        × WritesLine (W.contents old.out.now) (W.contents new.out.now) };
 
-    ghost notes = { λ _ _. ⊤ };
+    ghost notes = { λ old new. new.known.items ≡ old.known.items };
 
     fn at_line(&mut self, number: usize) {
         self.line = number;

@@ -7,6 +7,8 @@ use Rattle.ripngd_trace.proofs.tracer.Tracer.router_records.Given as goal
 abbrev pub invariant-loop-router : goal.invariant-loop-router
 invariant-loop-router g l = record {
   known : l.self.known.items ≡ l.fn.self.known.items ++ take (length l.records.items) (tables_of l.lab.world);
+  line : l.self.line ≡ l.fn.self.line;
+  unwritten : g.W.Write.contents l.self.out.now ≡ g.W.Write.contents l.fn.self.out.now;
   few : length l.records.items ≤ length l.lab.world.states;
   each : (k : ℕ) (r : RouterRecord) → slice_get l.records.items k ≡ Some r → TellsRouter l.lab k r;
 }
