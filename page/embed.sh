@@ -6,17 +6,17 @@
 #     page/embed.sh --page     prints the page without a script, one file
 #
 # The page is put together of page/src: into frame.html go style.css and the modules, of whose script its policy has the hash. The
-# modules stand in one script, so their imports, the word `export` and lines that are a remark alone are left out. Needs bash, sed,
-# awk, sha256sum and base64. The gate calls it first.
+# modules stand in one script, so their imports, the word `export` and lines that are a remark alone are left out, and what only closes
+# stands behind the line before it. Needs bash, sed, awk, sha256sum and base64. The gate calls it first.
 set -euo pipefail
 
 root=$(realpath "$(dirname "$0")/..")
 source=$root/page/src
 target=$root/crates/ripngd_page/src/template
 # The modules in order, in the three constants of the script: no file of the program is long.
-reading=(trace datagrams walks building layout texts)
-drawing=(markup drawing panes showing)
-panes=(editor page)
+reading=(trace datagrams walks building layout)
+drawing=(texts markup drawing panes)
+panes=(showing editor page)
 folder=$(mktemp -d)
 trap 'rm -rf "$folder"' EXIT
 
@@ -42,7 +42,7 @@ modules() {
     local name
     for name in "$@"; do
         sed -e '/^import /d' -e 's/^export //' -e '/^ *\/\/ /d' -e '/^$/d' "$source/$name.js"
-    done
+    done | awk '/^ *[])}]+[;,]?$/ { sub(/^ */, ""); line = line $0; next } NR > 1 { print line } { line = $0 } END { print line }'
 }
 
 # `between FROM TO`: the lines of the frame from behind one mark, or its start, to before another, or its end. Fails where there
@@ -108,11 +108,11 @@ fi
 } | file markup 'The style of the page, and its elements'
 examples | constant EXAMPLES 'Each script as an element with its name.' | file examples 'The scripts to choose from'
 reading_part | constant READING 'From behind the trace to what draws.' |
-    file reading 'The start of the script of the page: traces, walks, scripts, layout and words'
+    file reading 'The start of the script of the page: traces, walks, scripts and layout'
 modules "${drawing[@]}" | constant DRAWING 'What draws.' |
-    file drawing 'The script of the page: the drawing and the other panes, as markup, and how they are shown'
-panes_part | constant PANES 'From the editor to the end of the page.' |
-    file panes 'The end of the script of the page: the editor, and what a click or a key does'
+    file drawing 'The script of the page: words, and the drawing and the other panes as markup'
+panes_part | constant PANES 'From what is shown to the end of the page.' |
+    file panes 'The end of the script of the page: what is shown, the editor, and what a click or a key does'
 
 if [ "${1:-}" = --check ]; then
     diff -r "$folder" "$target"

@@ -4,8 +4,8 @@
 #     tests/daemon.sh [PROGRAM]        the program is bin/ripngd if none is named
 #
 # A line for each case, `ok NAME` or `FAILED NAME: why`, and last `N passed, M failed`. The exit status is 0 exactly where M
-# is 0. Needs bash and the usual commands (sleep, seq, mktemp, timeout, kill), and takes some two minutes. `ROUTES=N` tells how
-# many routes large tables have, 65,000 at the most and 20,000 if it is not set.
+# is 0. Needs bash, the usual commands (sleep, seq, mktemp, timeout, kill) and python3, and takes some three minutes. `ROUTES=N`
+# tells how many routes large tables have, 65,000 at the most and 20,000 if it is not set.
 set -u
 
 program=$(realpath "${1:-bin/ripngd}")
@@ -559,6 +559,188 @@ a_daemon_under_fire_keeps_its_routes() {
     return $learned
 }
 
+# `listening NAME WORD..`: starts the router of NAME.toml with these words, and waits until it runs and listens at NAME.sock; its
+# id is in `$pid`.
+listening() {
+    local name=$1
+    shift
+    start "$name" run --control "$folder/$name.sock" "$@" "$folder/$name.toml"
+    until_true grep -q '^ripngd: running' "$folder/$name.err" || because "$name did not come up: $(cat "$folder/$name.err")"
+}
+
+# `ctl NAME WORD..`: asks that router.
+ctl() {
+    local name=$1
+    shift
+    run ctl "$folder/$name.sock" "$@"
+}
+
+# `answers NAME STATUS LINES WORD..`: whether it answers so, and nothing is said on standard error. Times are left out.
+answers() {
+    local name=$1 wanted=$2 lines=$3
+    shift 3
+    ctl "$name" "$@"
+    same "the status of '$*'" "$status" "$wanted" && same "standard error of '$*'" "$(cat "$folder/err")" "" &&
+        same "the answer to '$*'" "$(sed 's/ live [0-9]*/ live T/; s/^arrivals [0-9]* sends [0-9]*/arrivals A sends S/' "$folder/out")" "$lines"
+}
+
+# `speak NAME CODE`: what a client of that router gets that does so: `s` is its socket, and `got()` all that comes.
+speak() {
+    timeout 30 python3 - "$folder/$1.sock" << END
+import socket, sys, time
+s = socket.socket(socket.AF_UNIX)
+s.settimeout(20)
+s.connect(sys.argv[1])
+def got():
+    text = b""
+    try:
+        while part := s.recv(65536):
+            text += part
+    except ConnectionResetError:
+        pass
+    return text.decode()
+$2
+END
+}
+
+a_running_router_is_asked() {
+    neighbors
+    listening east && local east=$pid && listening west && local west=$pid || return
+    until_true answers east 0 "2001:db8:e::/48 metric 1 tag 9 own fixed
+2001:db8:f::/48 metric 2 tag 9 via fe80::f iface 0 from fe80::f live T" routes || because "$why" || return
+    answers east 0 "2001:db8:e::/48 metric 1 direct
+2001:db8:f::/48 metric 2 via fe80::f iface 0" table &&
+        answers west 0 "2001:db8:e::/48 metric 2 via fe80::e iface 0
+2001:db8:f::/48 metric 1 direct" table &&
+        answers west 0 "arrivals A sends S failed 0
+lost sends 0 steps 0" counts
+    local asked=$?
+    end "$east"
+    end "$west"
+    return $asked
+}
+
+# What east is told is seen in its log and at west; that its interface costs more, in what it learns of west then.
+a_running_router_is_told() {
+    neighbors
+    listening east -R "$folder/east.log" && local east=$pid && listening west -R "$folder/west.log" && local west=$pid || return
+    told_all east 1 2 && told_all west 1 2 || return
+    answers east 0 "" gain 2001:DB8:1::/48 7 &&
+        same "the log's last line" "$(tail -n 1 "$folder/east.log")" "add 2001:db8:1::/48 metric 1 direct" || return
+    until_true grep -qx 'add 2001:db8:1::/48 metric 2 via fe80::e iface 0' "$folder/west.log" || because "west does not learn it" || return
+    answers east 1 "refused 33 AlreadyOwned" gain 2001:db8:1::/48 7 && answers east 0 "" drop 2001:db8:1::/48 || return
+    until_true grep -qx 'del 2001:db8:1::/48' "$folder/west.log" || because "west keeps it" || return
+    answers east 1 "refused 35 NotOwned" drop 2001:db8:1::/48 && answers east 1 "refused 31 BadCost" cost 0 16 &&
+        answers east 1 "refused 51 NoSuchInterface" cost 1 5 && answers east 1 "refused 52 NoSuchCommand" cost 0 &&
+        answers east 0 "" cost 0 5 && answers west 0 "" gain 2001:db8:2::/48 7 || return
+    until_true grep -qx 'add 2001:db8:2::/48 metric 6 via fe80::f iface 0' "$folder/east.log" || because "the cost is not 5"
+    local learned=$?
+    end "$east"
+    end "$west"
+    return $learned
+}
+
+a_running_router_is_stopped() {
+    alone stopped.toml
+    listening stopped -d && local stopped=$pid || return
+    answers stopped 0 "" stop || return
+    finish "$stopped"
+    same status "$status" 0 &&
+        same "the table" "$(cat "$folder/stopped.out")" "2001:db8::/32 metric 1 direct" &&
+        same "standard error" "$(said "$folder/stopped.err" | sed 's/sends [0-9]*/sends S/')" "arrivals 0 sends S failed 0" || return
+    [ ! -e "$folder/stopped.sock" ] || because "its socket is still there" || return
+    ctl stopped routes
+    same "the status where nobody listens" "$status" 3 && same output "$(cat "$folder/out")" "" &&
+        same "standard error" "$(cat "$folder/err")" "ripngd: nobody listens at $folder/stopped.sock"
+}
+
+# A socket that a killed router has left; and one at which a router answers, which is not disturbed by a second start.
+a_socket_of_a_router_that_is_gone_is_replaced() {
+    alone gone.toml
+    listening gone && end "$pid" || return
+    [ -S "$folder/gone.sock" ] || because "no socket is left" || return
+    listening gone && local gone=$pid && answers gone 0 "2001:db8::/32 metric 1 direct" table || return
+    alone second.toml
+    echo kept > "$folder/second.log"
+    run run --control "$folder/gone.sock" --turns 1 -R "$folder/second.log" "$folder/second.toml"
+    same status "$status" 3 && same output "$(cat "$folder/out")" "" &&
+        same "standard error" "$(cat "$folder/err")" "ripngd: cannot listen at $folder/gone.sock: somebody answers there" &&
+        same "its log" "$(cat "$folder/second.log")" kept && answers gone 0 "2001:db8::/32 metric 1 direct" table
+    local left=$?
+    end "$gone"
+    return $left
+}
+
+a_socket_that_others_may_write_to_is_refused() {
+    alone open.toml
+    (umask 0 && exec timeout 30 "$program" run --control "$folder/open.sock" --turns 1 "$folder/open.toml") > "$folder/out" 2> "$folder/err"
+    same status $? 3 && same output "$(cat "$folder/out")" "" &&
+        same "standard error" "$(cat "$folder/err")" \
+            "ripngd: cannot listen at $folder/open.sock: others may write to it; start under umask 077" || return
+    [ ! -e "$folder/open.sock" ] || because "it is still there" || return
+    echo kept > "$folder/open.sock"
+    run run --control "$folder/open.sock" --turns 1 "$folder/open.toml"
+    same status "$status" 3 && same "standard error" "$(cat "$folder/err")" "ripngd: cannot listen at $folder/open.sock" &&
+        same "the file" "$(cat "$folder/open.sock")" kept
+}
+
+a_router_that_is_not_told_to_listens_nowhere() {
+    alone closed.toml
+    start closed run "$folder/closed.toml" && local closed=$pid
+    until_true grep -q '^ripngd: running' "$folder/closed.err" || because "it did not come up" || return
+    local sockets
+    sockets=$(find "/proc/$closed/fd" -lname 'socket:*' | wc -l)
+    end "$closed"
+    same "the number of its sockets" "$sockets" 1
+}
+
+# Commands in pieces, too long, or none; two in one connection, of which the first is done.
+what_is_no_command_is_refused() {
+    alone spoken.toml
+    listening spoken && local spoken=$pid || return
+    same "the answer to pieces" "$(speak spoken 's.send(b"ta"); time.sleep(.3); s.send(b"ble\n"); print(got(), end="")')" \
+        "2001:db8::/32 metric 1 direct
+ok" &&
+        same "the answer to a long line" "$(speak spoken 's.send(b"a" * 5000); print(got(), end="")')" "refused 52 NoSuchCommand" &&
+        same "the answer to bytes" "$(speak spoken 's.send(bytes(range(256))); print(got(), end="")')" "refused 52 NoSuchCommand" &&
+        same "the answer to two" "$(speak spoken 's.send(b"counts\nstop\n"); print(got()[-3:], end="")')" "ok" &&
+        answers spoken 0 "2001:db8::/32 metric 1 direct" table
+    local refused=$?
+    end "$spoken"
+    return $refused
+}
+
+# A table is fed to a router while one client says nothing, the next reads nothing of a long answer, and one goes away. Nothing of
+# the table is lost, and the next client gets its answer whole.
+clients_that_say_or_read_nothing_are_let_go() {
+    next_port
+    local at=$port
+    open_feed "$at" && local from=$feed || return
+    interface 1 "$at" 2 "$feed_port" > "$folder/busy.toml"
+    listening busy -R "$folder/busy.log" && local busy=$pid || return
+    feed "$from" 0e "$((routes / 2))" && told_all busy "$((routes / 2))" 2 || return
+    speak busy 'print(len(got()))' > "$folder/mute" &
+    local mute=$!
+    sleep 0.3
+    speak busy 's.send(b"routes\n"); time.sleep(6); print(got()[-3:] == "ok\n")' > "$folder/slow" &
+    local slow=$!
+    speak busy 's.send(b"routes\n"); s.close()'
+    feed "$from" 0f "$((routes / 2))" && told_all busy "$((routes / 2 * 2))" 2 || return
+    wait "$mute" "$slow"
+    same "what the mute one got" "$(cat "$folder/mute")" 0 && same "whether the slow one got all" "$(cat "$folder/slow")" False || return
+    ctl busy table
+    same status "$status" 0 || return
+    cp "$folder/out" "$folder/table"
+    run table "$folder/busy.log"
+    cmp -s "$folder/out" "$folder/table" || because "the table has $(wc -l < "$folder/table") of $((routes / 2 * 2)) lines" || return
+    ctl busy routes
+    same "the number of routes" "$(grep -c ' metric 2 .* from fe80::2 live [0-9]*$' "$folder/out")" "$((routes / 2 * 2))"
+    local served=$?
+    end "$busy"
+    exec {from}>&-
+    return $served
+}
+
 try() {
     why=
     if "$1"; then
@@ -592,6 +774,14 @@ try what_the_last_turn_tells_is_sent
 try a_daemon_under_fire_keeps_its_routes
 try two_daemons_learn_a_large_table_from_each_other
 try three_neighbors_learn_a_large_table_at_once
+try a_running_router_is_asked
+try a_running_router_is_told
+try a_running_router_is_stopped
+try a_socket_of_a_router_that_is_gone_is_replaced
+try a_socket_that_others_may_write_to_is_refused
+try a_router_that_is_not_told_to_listens_nowhere
+try what_is_no_command_is_refused
+try clients_that_say_or_read_nothing_are_let_go
 
 echo "$passed passed, $failed failed"
 [ "$failed" = 0 ]

@@ -30,6 +30,14 @@ needs_26_rounds() {
     same "15 16 15 " "${found: -9}"
 }
 
+# By hand: the least cost of router 3 is 15. It has it after phase 25, by Y in phase 26, and then by P, which tells the loss; so it has
+# no route after 27 phases, and its own again in the next.
+needs_28_phases() {
+    local found
+    found=$(metrics 3 needs_28_phases)
+    same "15 15 15 16 15 " "${found: -15}"
+}
+
 # By hand: nobody owns the prefix, and its route is told no longer. Router 5 still holds its 6 after rounds 12, 13, 24, 25, 26 and
 # 36, since each of two neighbors waited for 120 seconds and so never told the loss; in round 37 it is lost.
 needs_120_seconds() {
@@ -42,9 +50,10 @@ random_networks_heal() {
 }
 
 "$tests/worst_cases.py" "$program" "$folder"
+"$tests/needs_28_phases.py" "$folder/needs_28_phases.lab"
 passed=0
 failed=0
-for name in needs_26_rounds needs_120_seconds random_networks_heal; do
+for name in needs_26_rounds needs_120_seconds needs_28_phases random_networks_heal; do
     if why=$("$name" 2>&1); then
         echo "ok $name"
         passed=$((passed + 1))

@@ -68,7 +68,7 @@
     click(one('.router[data-router="0"]'));
     click(buttonOf('tick'));
     await settled();
-    report.push(`appended ${lastLine()}`, `last ${textOf('#events li:last-child')}`, textOf('#where'), `marks ${all('.pile').length > 0}`);
+    report.push(`appended ${lastLine()}`, `last ${textOf('#events li:last-child')}`, textOf('#where'), `marks ${all('#drawing .pile').length > 0}`);
     await type(`${script.value}tick 9 400 0\n`);
     report.push(`refused line ${textOf('#gutter .refused')}`, `last ${textOf('#events li:last-child')}`);
     await type(`${script.value}x`);
@@ -93,7 +93,8 @@
     tell(textOf('#editing'), script.value.length);
   }
 
-  // A click whose line is refused leaves no line; one with a blank field makes none; behind a refused line nothing is put.
+  // A click whose line is refused leaves no line; one with a blank field, or a link past the next router, makes none; behind a refused
+  // line nothing is put.
   async function refuseClicks() {
     const asked = () => SERVER.asked.length;
     click(one('.router[data-router="0"]'));
@@ -115,6 +116,12 @@
     click(buttonOf('set it'));
     await settled();
     tell(lastLine(), textOf('#events li:last-child'));
+    const count = asked();
+    click(one('.router[data-router="0"]'));
+    set('#detail [name=other]', '40');
+    click(buttonOf('link them'));
+    await settled();
+    tell(asked() - count, one('#detail [name=other]').validity.valid);
     await type(`${script.value}tick 9 400 0\n`);
     click(buttonOf('round'));
     await settled();
@@ -228,7 +235,7 @@
     click(all('#events button').find(button => button.textContent.includes('hears 10')));
     click(buttonOf('lose this datagram'));
     await settled();
-    tell(script.value.split('\n').find(line => line.includes('is lost')), all('.pile.lost').length > 0);
+    tell(script.value.split('\n').find(line => line.includes('is lost')), all('#drawing .pile.lost').length > 0);
     key('z', { ctrlKey: true });
     await settled();
     set('#place', 'branch');
@@ -246,6 +253,8 @@
     press('first');
     tell(textOf('#detail').includes('That is later than this step.'));
     tell(await unpacked(await packed(script.value)) === script.value);
+    const alone = new DOMParser().parseFromString(drawingAlone(), 'image/svg+xml');
+    tell(alone.querySelectorAll('.router').length, alone.querySelector('.wire').getAttribute('stroke').startsWith('rgb'));
   }
 
   const script = document.getElementById('script');

@@ -16,8 +16,8 @@ import { decode, oneResponse, wholeRequest } from '../page/src/datagrams.js';
 import { SHAPES, captionsOf, inserted, joined, namesOf, networkScript, withName } from '../page/src/building.js';
 import { fitted, layOut, wiringOf } from '../page/src/layout.js';
 import { drawingOf } from '../page/src/drawing.js';
-import { detailOf, tablesOf } from '../page/src/panes.js';
-import { hintOf } from '../page/src/texts.js';
+import { detailOf, eventOf, printed, tablesOf } from '../page/src/panes.js';
+import { LINES, hintOf } from '../page/src/texts.js';
 
 const [program, scripts = '30', seed = '1'] = process.argv.slice(2), folder = mkdtempSync(join(tmpdir(), 'page-'));
 const sources = fileURLToPath(new URL('../page/src', import.meta.url));
@@ -132,7 +132,10 @@ const textOf = (router, { prefix, metric, tag, gateway }) => `${router} ${prefix
 function checkTables(script, trace) {
   const shown = trace.steps.filter(({ record }) => record.record === 'print').flatMap(({ routers }) => routers.flatMap(({ table }, router) =>
     [...table.values()].map(({ route }) => route).sort((a, b) => keyBytes(a.prefix) < keyBytes(b.prefix) ? -1 : 1).map(route => textOf(router, route))));
-  same('the tables', shown, ran(script).split('\n').filter(line => line && !line.startsWith('line ')));
+  const wanted = ran(script).split('\n').filter(line => line && !line.startsWith('line '));
+  same('the tables', shown, wanted);
+  const texts = trace.steps.filter(({ record }) => record.record === 'print').map(printed);
+  same('the routes as text', texts.join(''), wanted.map(line => `${line}\n`).join(''));
 }
 const keyBytes = prefix => keyOf(prefix).split(',').map(byte => byte.padStart(3, '0')).join('');
 
@@ -179,8 +182,14 @@ function checkPanes(script, trace) {
       const plain = trace.datagrams.filter(({ end: from, sentAt, arrivals }) => from === end && sentAt <= step && !(others.length > 0 && others.every(other => arrivals.some(({ end: to, step: at }) => to === other && at <= step))));
       same('what is under way', onTheirWay(end, step).map(({ datagram }) => datagram), plain.map(({ datagram }) => datagram).reverse());
     }
-    const state = { trace, wiring, spots, pane, step, shifts: [], typed: {}, names: namesOf(script), captions: captionsOf(script), place: 'end', served: true, chosen: pick(chosen) };
-    for (const markup of [drawingOf(state), detailOf(state), ...tablesOf(state)]) if (/undefined|NaN|\[object/.test(markup.text)) throw new Error(`step ${step}, ${state.chosen}: ${markup.text.match(/.{60}(undefined|NaN|\[object).{20}/s)?.[0]}`);
+    const state = { trace, wiring, spots, pane, step, shifts: [], typed: {}, names: new Map(trace.ends.map((_, router) => [router, 'A-long-name-of-a-router'])), captions: captionsOf(script), place: 'end', served: true, chosen: pick(chosen) };
+    const pilesOf = ({ parts }) => parts.filter(({ text }) => text.includes('class="pile')).length;
+    same('the datagrams, whatever is chosen', pilesOf(drawingOf(state)), pilesOf(drawingOf({ ...state, chosen: null })));
+    for (const [, x, y, text] of drawingOf(state).parts.flatMap(part => [...part.text.matchAll(/class="prefix" x="(.*?)" y="(.*?)">(.*?)</g)])) {
+      const half = 3.2 * text.length, rims = [x - half, 500 - half - x, y - 8, 392 - y];
+      if (Math.min(...rims) < -0.1) throw new Error(`${text} stands at ${x} ${y}`);
+    }
+    for (const markup of [...drawingOf(state).parts, detailOf(state), ...tablesOf(state)]) if (/undefined|NaN|\[object/.test(markup.text)) throw new Error(`step ${step}, ${state.chosen}: ${markup.text.match(/.{60}(undefined|NaN|\[object).{20}/s)?.[0]}`);
   });
 }
 
@@ -199,30 +208,70 @@ const CASES = {
     same('router 0', named('router 0', trace), { kind: 'router', router: 0 });
   },
   'captions and names': () => {
-    same('captions', captionsOf('# a\n# b\nrouter\ncold 0\n\n# c\nround 0'), ['', '', '', 'a b', 'a b', 'a b', 'a b', 'c']);
-    same('names', [...namesOf(withName('# R1 is Bonn\nrouter\n', 1, 'Berlin'))], [[1, 'Berlin']]);
+    same('captions', captionsOf('# a\n# b\nrouter\ncold 0\n\n# c\nround 0'), ['', '', '', 'a b', 'a b', 'a b', 'a b', 'c', 'c']);
+    same('the last', captionsOf('# a\nrouter\n# b').at(-1), 'b');
+    const named = withName('router Bonn\nrouter quiet\nown ::/0 1', 1, 'Berlin');
+    same('names', [...namesOf(named)], [[0, 'Bonn'], [1, 'Berlin']]);
+    same('a name less', withName(named, 0, ''), 'router\nrouter quiet Berlin\nown ::/0 1');
   },
   'new networks run': () => {
     for (const shape of Object.keys(SHAPES)) for (const count of [2, 5, 16]) {
       const trace = readTrace(ran(networkScript(shape, count), '--trace'));
       same(`${shape} of ${count}`, [trace.ends.length, trace.steps.at(-1).record.record], [count, 'start']);
     }
-    const ring = networkScript('ring', 3), wider = joined(joined(ring, 2, 7, 4), 0, 3, 5), trace = readTrace(ran(wider, '--trace'));
+    const ring = networkScript('ring', 3), wider = joined(joined(ring, 2, 3, 4), 0, 3, 5), trace = readTrace(ran(wider, '--trace'));
     same('the joined network', trace.ends.map(ends => ends.map(({ link }) => link)), [[0, 2, 4], [0, 1], [1, 2, 3], [3, 4]]);
-    same('a link to itself', [joined(ring, 1, 1, 1), joined(ring, 9, 1, 1)], [null, null]);
+    same('a link to itself, from nowhere, past the next', [joined(ring, 1, 1, 1), joined(ring, 9, 1, 1), joined(ring, 1, 40, 1)], [null, null, null]);
   },
   'where a refusal belongs': () => {
     const network = 'router\niface fe80::1 1 1280 0\nrouter\niface fe80::1 1 1280 0\ncold 0\n';
     same('a shared address', hintOf(network, 5, '4 AddressSharedInNetwork'), '; see lines 2 and 4');
     same('a router', hintOf(network, 5, '3 BadRouter 1 3 AddressNotLinkLocal'), '; router 1 begins at line 3');
-    same('a blank', hintOf('router \n', 1, 'BadLine'), '; its form is router [quiet]; a space or a tab is too many');
-    same('a line out of place', hintOf(`${network}router\n`, 6, 'BadLine'), '; its form is router [quiet]; it belongs before cold');
+    same('a blank', hintOf('router \n', 1, 'BadLine'), '; its form is router [quiet] [NAME]; a space or a tab is too many');
+    same('a line out of place', hintOf(`${network}router\n`, 6, 'BadLine'), '; its form is router [quiet] [NAME]; it belongs before cold');
     same('another word', hintOf('constructor\n', 1, 'BadLine'), '; no line begins so');
   },
   'an interface alone on its link is drawn, and what it sent is lost': () => {
     const trace = readTrace(ran('router\niface fe80::1 3 1280 0\nown 2001:db8::/32 1\ncold 0\ntick 0 0 0\n', '--trace')), wiring = wiringOf(trace);
-    const state = { trace, wiring, spots: layOut(wiring), pane: { width: 500, height: 400 }, step: 1, shifts: [], names: new Map(), served: false, chosen: null };
-    for (const text of ['data-choose="iface 0 0"', 'data-choose="datagram 1"', 'class="pile fresh lost"']) same(text, drawingOf(state).text.includes(text), true);
+    const state = { trace, wiring, spots: layOut(wiring), pane: { width: 500, height: 400 }, step: 1, place: 'end', shifts: [], names: new Map(), served: false, chosen: null };
+    for (const text of ['data-choose="iface 0 0"', 'data-choose="datagram 1"', 'class="pile fresh lost"']) same(text, drawingOf(state).parts.some(part => part.text.includes(text)), true);
+  },
+  // A line of three, by hand: the far one's least cost is 3, and none while the link or the router between is out.
+  'links that are cut, and routers that are silent': () => {
+    const script = 'router\niface fe80::1 1 1280 0\nown ::/0 0\nrouter Mid\niface fe80::2 1 1280 0\niface fe80::3 1 1280 1\n'
+      + 'router\niface fe80::4 1 1280 1\ncold 0\ncut 1\nround 0\nmend 1\nsilent Mid\nround 15000\nspeaks 1\nround 30000\n';
+    const trace = readTrace(ran(script, '--trace'), script), at = line => trace.steps.findLast(({ record }) => record.line === line);
+    same('what is out', [9, 11, 14, 16].map(line => [...at(line).out]), [['link 1'], ['router 1'], [], []]);
+    same('least costs', [9, 11, 16].map(line => leastCosts(trace, at(line), '::/0')), [[1, 2, 16], [1, 16, 16], [1, 2, 3]]);
+    same('what is said', [at(9), at(11)].map(({ said }) => said),
+      [['line 10: link 1 is cut'], ['line 12: link 1 is mended', 'line 13: router Mid falls silent']]);
+    for (const text of at(11).said) same(text, eventOf(at(11), 0).text.includes(text), true);
+    const wiring = wiringOf(trace), state = { trace, wiring, spots: layOut(wiring), pane: { width: 500, height: 400 }, step: 0, shifts: [],
+      names: namesOf(script), served: false, chosen: null };
+    same('the wire', drawingOf(state).parts.map(({ text }) => text.includes('class="wire cut"')), drawingOf(state).parts.map((_, part) => part === 1));
+  },
+  // The card has each line of docs/FORMATS.md, by its first word, and no other.
+  'the card of lines': () => {
+    const formats = readFileSync(fileURLToPath(new URL('../docs/FORMATS.md', import.meta.url)), 'utf8').split('\n');
+    const rows = formats.slice(formats.indexOf('| Line | Meaning |') + 2).join('\n').split('\n\n')[0].split('\n');
+    const words = rows.flatMap(row => [...row.split(' | ')[0].matchAll(/`(\w+)/g)].map(([, word]) => word));
+    const mine = LINES.map(([form]) => form.split(' ')[0]);
+    same('them', [...new Set(words)].filter(word => !['all', 'PREFIX', 'but'].includes(word)).sort(), mine.toSorted());
+  },
+  // Of 4.5 for text and 3 for shapes (WCAG 2.1, 1.4.3 and 1.4.11), in light and in dark.
+  contrast: () => {
+    const css = readFileSync(join(sources, 'style.css'), 'utf8');
+    const colors = new Map([...css.matchAll(/--([\w-]+): light-dark\((#\w{6}), (#\w{6})\)/g)].map(([, name, ...both]) => [name, both]));
+    const light = hex => [1, 3, 5].map(at => parseInt(hex.slice(at, at + 2), 16) / 255).map(part => part <= 0.04045 ? part / 12.92 : ((part + 0.055) / 1.055) ** 2.4)
+      .reduce((sum, part, index) => sum + part * [0.2126, 0.7152, 0.0722][index], 0);
+    const ratio = (one, other) => { const [low, high] = [light(one), light(other)].sort((a, b) => a - b); return (high + 0.05) / (low + 0.05); };
+    const texts = ['ink', 'faint', 'bad'].flatMap(text => ['page', 'pane', 'now', 'new'].map(ground => [text, ground, 4.5]));
+    const others = [['bad', 'bad-ground', 4.5], ['post', 'page', 4.5], ['walk', 'pane', 4.5], ['on-mark', 'post', 4.5], ['ink', 'node', 4.5], ['bad', 'node', 4.5]];
+    const shapes = [['edge', 'node', 3], ['edge', 'pane', 3], ['post', 'pane', 3], ['ink', 'now', 3], ['field', 'pane', 3], ['bad', 'pane', 3]];
+    for (const [one, other, least] of [...texts, ...others, ...shapes]) for (const mode of [0, 1]) {
+      const found = ratio(colors.get(one)[mode], colors.get(other)[mode]);
+      if (found < least) throw new Error(`${one} on ${other} is ${found.toFixed(2)} in ${['light', 'dark'][mode]}`);
+    }
   },
   'lines put in': () => {
     same('at the end', inserted('a\nb\n', ['c'], 'end', 1), { script: 'a\nb\nc\n', first: 3 });
@@ -249,6 +298,20 @@ function attempt(name, check) {
   }
 }
 for (const [name, check] of Object.entries(CASES)) attempt(name, check);
+// Each example and lesson: every pane at every step, and each metric is the cost of a walk.
+attempt('examples and lessons', () => {
+  const folders = ['../examples/', '../examples/lessons/'].map(path => fileURLToPath(new URL(path, import.meta.url)));
+  const files = folders.flatMap(path => readdirSync(path).filter(file => file.endsWith('.lab')).map(file => path + file));
+  for (const file of files) {
+    const script = readFileSync(file, 'utf8'), trace = readTrace(ran(script, '--trace'), script);
+    checkPanes(script, trace);
+    for (const state of trace.steps) {
+      const { held, backed } = tallyAll(trace, state);
+      same(`the tally of ${file}`, backed, held);
+    }
+  }
+  return `: ${files.length} of them`;
+});
 attempt('random scripts', () => {
   let hops = 0, steps = 0;
   for (let number = 0; number < Number(scripts); number++) {

@@ -6,8 +6,8 @@
 #
 # Tries PROGRAM, bin/ripngd if none is named, with the scripts, examples/*.lab if none is named. A line for each case, `ok NAME`
 # or `FAILED NAME: why`, and last `N passed, M failed`. The exit status is 0 exactly where M is 0. Needs bash, sed, awk and curl,
-# for the page Chromium (a package of the system), and node for its modules alone. Where one of them is missing a line `skipped: ..`
-# says what was not tried. Takes some minutes.
+# for the page Chromium and Firefox (packages of the system; python3 drives them), and node for its modules alone. Where one of them
+# is missing a line `skipped: ..` says what was not tried. Takes some minutes.
 set -u
 
 root=$(realpath "$(dirname "$0")/..")
@@ -27,6 +27,8 @@ cross-origin-resource-policy: same-origin
 x-content-type-options: nosniff"
 
 browser=$(command -v chromium || command -v chromium-browser || command -v google-chrome)
+firefox=$(command -v python3 > /dev/null && { command -v firefox-esr || command -v firefox; })
+plays=0
 
 because() {
     why=$1
@@ -40,18 +42,25 @@ same() {
 
 # `play NAME PAGE [FRAGMENT]`: opens a page, lets tests/page.js play NAME in it, and leaves what it reports in `$folder/report`.
 # What stands in `$folder/answers` is put before the page's script, to stand for a server. The page's policy lets no other script
-# run, so it is left out here.
+# run, so it is left out here. What was played, and reported, is kept for Firefox.
 play() {
+    local played
     touch "$folder/answers"
     awk -v play="$1" -v answers="$folder/answers" -v driver="$root/tests/page.js" '
         function put(file,    line) { while ((getline line < file) > 0) print line }
-        /^<meta http-equiv="Content-Security-Policy"/ { next }
+        /^<meta http-equiv="Content-Security-Policy"/, />$/ { next }
         /^<script>$/ { put(answers) }
         /^<\/body>$/ { print "<script>const PLAY = \"" play "\";"; put(driver); print "</script>" }
         { print }
     ' "$2" > "$folder/played.html"
     "$browser" --headless --no-sandbox --disable-gpu --virtual-time-budget=600000 --dump-dom "file://$folder/played.html#${3:-}" \
-        2> /dev/null | sed -n '/<pre id="report">/,/<\/pre>/p' | sed -e 's/.*<pre id="report">//' -e 's/<\/pre>.*//' -e 's/&gt;/>/g' > "$folder/report"
+        2> /dev/null | sed -n '/<pre id="report">/,/<\/pre>/p' |
+        sed -e 's/.*<pre id="report">//' -e 's/<\/pre>.*//' -e 's/&gt;/>/g' -e 's/&lt;/</g' -e 's/&amp;/\&/g' > "$folder/report"
+    plays=$((plays + 1))
+    played=$plays-$1
+    cp "$folder/played.html" "$folder/$played.html"
+    cp "$folder/report" "$folder/$played.chromium"
+    echo "$played file://$folder/$played.html#${3:-}" >> "$folder/plays"
     [ -s "$folder/report" ] || because "the page reports nothing" || return
     ! grep -q '^wrong' "$folder/report" || because "$(grep -m 1 '^wrong' "$folder/report")"
 }
@@ -151,7 +160,7 @@ refused 7 ReconfigureRefused 35 NotOwned: the router does not own it"
 
 # `answer SCRIPT`: a script and its trace, as a server would answer it.
 answer() {
-    film "$1" | awk '/^<div id="scripts"/ { on = 1; print "<section hidden>"; next } /^<script>$/ { exit } on { sub(/ id="trace"/, ""); print } END { print "</section>" }'
+    film "$1" | awk '/^<div id="scripts"/ { on = 1; print "<section hidden>"; next } /^<script>$/ { on = 0 } on { sub(/ id="trace"/, ""); print } END { print "</section>" }'
 }
 
 # `edited NAME SED-SCRIPT`: line.lab as it is changed, as a file.
@@ -187,11 +196,11 @@ a_click_appends_an_event() {
     line=$(wc -l < "$folder/ticked.lab")
     steps=$("$program" lab --trace "$folder/ticked.lab" | wc -l)
     same "the report" "$(cat "$folder/report")" "appended tick 0 400 0
-last ${line}R0 ticks
+last ${line} R0 ticks
 step $steps of $steps, at 0.400 s
 marks true
 refused line $((line + 1))
-last $((line + 1))refused 1 NoSuchRouter: there is no such router
+last $((line + 1)) refused 1 NoSuchRouter: there is no such router
 not run: no such script again"
 }
 
@@ -204,7 +213,7 @@ a_draft_is_kept() {
     steps=$("$program" lab --trace "$folder/line.lab" | wc -l)
     same "the report" "$(cat "$folder/report")" "not run: Failed to fetch again
 tick 0 400 0 | step $steps of $steps, at 0.400 s
-${line}R0 ticks | true
+${line} R0 ticks | true
 not run: the script has 280000 bytes, and at most 262144 are taken again | 280000"
 }
 
@@ -218,7 +227,8 @@ a_refused_click_leaves_no_line() {
     line=$(wc -l < "$folder/line.lab")
     same "the report" "$(cat "$folder/report")" "print | not put in: refused 7 ReconfigureRefused 32 PrefixNotAllowed: the prefix is multicast or link-local
 print | 0
-cost 0 0 400 7 | $((line + 1))R0 has cost 7 at interface 0
+cost 0 0 400 7 | $((line + 1)) R0 has cost 7 at interface 0
+0 | false
 tick 9 400 0 | Line $((line + 2)) is refused, so no line behind it is reached: mend it first, or undo."
 }
 
@@ -287,10 +297,11 @@ a_teacher_acts() {
     steps=$("$program" lab --trace "$folder/round.lab" | wc -l)
     same "the report" "$(cat "$folder/report" | sed 's/, at .*//')" "round $due | step $steps of $steps
 # Datagram 10 to R1 is lost. | true
-tick 1 0 0 | $(wc -l < "$folder/branch.lab")R1 ticks, 2 sent
+tick 1 0 0 | $(wc -l < "$folder/branch.lab") R1 ticks, 2 sent
 123
 true
-true"
+true
+3 | true"
 }
 
 # An address that names nothing does nothing; one with half a step neither.
@@ -298,12 +309,46 @@ an_address_names_a_route_or_nothing() {
     film "$root/examples/line.lab" > "$folder/film.html" || return
     local address steps
     steps=$("$program" lab --trace "$root/examples/line.lab" | wc -l)
-    for address in 'step=2.5&router=length&prefix=x' 'step=-1&router=0x1&prefix=2001:db8::/32' 'router=__proto__&prefix=::/0'; do
+    for address in 'step=2.5&router=length&prefix=x' 'step=-1&router=0x0&prefix=2001:db8::/32' 'router=__proto__&prefix=::/0'; do
         play where "$folder/film.html" "$address" || return
         same "where $address leads" "$(cat "$folder/report")" "step 2 of $steps, at 0.000 s | nothing chosen" || return
     done
     play where "$folder/film.html" 'step=1&router=0&prefix=2001:db8::/32' || return
     same "where a route's address leads" "$(cat "$folder/report")" "step 2 of $steps, at 0.000 s | chosen"
+}
+
+# Firefox plays all that Chromium played, one page after another, and reports are left in `$folder/PLAY.firefox`.
+play_in_firefox() {
+    mkdir "$folder/firefox"
+    python3 "$root/tests/browser.py" firefox reports "$folder/firefox" < "$folder/plays" > /dev/null 2> "$folder/errors"
+}
+
+# `firefox_reports PLAY`: the same as Chromium.
+firefox_reports() {
+    [ -s "$folder/firefox/$1" ] || because "the page reports nothing: $(tail -n 1 "$folder/errors")" || return
+    same "the report" "$(cat "$folder/firefox/$1")" "$(cat "$folder/$1.chromium")"
+}
+
+# `a_newcomer BROWSER` and its like: a visit by real clicks and keys, to the page as the server gives it.
+a_newcomer() { visit "$1" newcomer; }
+keys_alone() { visit "$1" keyboard; }
+all_sizes() { visit "$1" sizes; }
+visit() {
+    serve 100000 || return
+    local said
+    said=$(python3 "$root/tests/visits.py" "$1" "$2" "$address" 2>&1) || because "$(tail -n 1 <<< "$said")"
+    local status=$?
+    kill "$server"
+    server=
+    return "$status"
+}
+
+# The least times of a step in networks of many routers, routes and events, as `page_times.py` has them; the median is what a reader
+# meets, but rests on what else the machine does.
+steps_are_quick() {
+    python3 "$root/tests/page_times.py" "$program" chromium > "$folder/times" || because "no times" || return
+    awk -F 'a step ' '{ split($2, took, ","); most = /10,000/ ? 50 : 100; if (took[1] >= most) { print; failed = 1 } } END { exit failed || NR != 3 }' \
+        "$folder/times" > "$folder/slow" || because "$(head -n 1 "$folder/slow")"
 }
 
 # The modules without a browser, on random scripts.
@@ -316,7 +361,7 @@ serve() {
     "$program" page --port 0 --requests "$1" > "$folder/address" 2> "$folder/errors" &
     server=$!
     local tries
-    for tries in $(seq 50); do
+    for tries in $(seq 300); do
         [ ! -s "$folder/address" ] || break
         sleep 0.1
     done
@@ -386,7 +431,7 @@ a request has 2 seconds to come in, whole"
     [ "$told" = 0 ] && ended
 }
 
-# The page that the server gives asks it to run the first of its scripts.
+# The page that the server gives asks it to run the first of its scripts, and has its icon in itself, for which a browser would ask.
 a_served_page_runs_its_scripts() {
     serve 100 || return
     "$browser" --headless --no-sandbox --disable-gpu --virtual-time-budget=5000 --dump-dom "$address" 2> /dev/null > "$folder/dom"
@@ -397,7 +442,8 @@ a_served_page_runs_its_scripts() {
     local shown=$?
     kill "$server"
     server=
-    return "$shown"
+    [ "$shown" = 0 ] || return
+    grep -q '<link rel="icon" href="data:' "$folder/dom" || because "the page has no icon"
 }
 
 try() {
@@ -432,6 +478,23 @@ else
     try files_are_loaded_and_runs_called_off
     try a_teacher_acts
     try an_address_names_a_route_or_nothing
+fi
+if [ -n "$browser" ] && command -v python3 > /dev/null; then
+    try a_newcomer chromium
+    try keys_alone chromium
+    try all_sizes chromium
+    try steps_are_quick
+else
+    echo "skipped: there is no Chromium, or no python3, so nobody visits the page by real clicks and keys"
+fi
+if [ -n "$browser" ] && [ -n "$firefox" ]; then
+    try a_newcomer firefox
+    try keys_alone firefox
+    try all_sizes firefox
+    play_in_firefox
+    while read -r played _; do try firefox_reports "$played"; done < "$folder/plays"
+else
+    echo "skipped: there is no Firefox, or no python3 or Chromium beside it, so nothing is opened in Firefox"
 fi
 if command -v node > /dev/null; then
     try modules_agree_with_the_program

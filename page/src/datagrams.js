@@ -4,8 +4,9 @@
 export function entriesOf(hex) {
   const entries = [];
   for (let at = 8; at < hex.length; at += 40) {
-    const byte = index => parseInt(hex.substr(at + 2 * index, 2), 16), address = addressText(hex.substr(at, 32));
-    entries.push({ address, prefix: `${address}/${byte(18)}`, tag: 256 * byte(16) + byte(17), metric: byte(19) });
+    const number = (index, bytes) => parseInt(hex.substr(at + 2 * index, 2 * bytes), 16);
+    const address = addressText(hex.substr(at, 32)), prefix = `${address}/${number(18, 1)}`;
+    entries.push({ address, prefix, tag: number(16, 2), metric: number(19, 1) });
   }
   return entries;
 }
@@ -20,18 +21,23 @@ export function decode(hex) {
 function addressText(digits) {
   const text = digits.match(/..../g).map(group => parseInt(group, 16).toString(16)).join(':');
   const [longest] = [...text.matchAll(/\b0(:0)+\b/g)].sort((a, b) => b[0].length - a[0].length);
-  return !longest ? text : `${text.slice(0, longest.index).replace(/:$/, '')}::${text.slice(longest.index + longest[0].length).replace(/^:/, '')}`;
+  if (!longest) return text;
+  const before = text.slice(0, longest.index), after = text.slice(longest.index + longest[0].length);
+  return `${before.replace(/:$/, '')}::${after.replace(/^:/, '')}`;
 }
 
 // What prefixes are ordered by: all digits of the address, then the length.
 export function prefixKey(prefix) {
-  const [address, length] = prefix.split('/'), [before, after = []] = address.split('::').map(part => part.split(':').filter(Boolean));
-  const groups = [...before, ...Array(Math.max(0, 8 - before.length - after.length)).fill(''), ...after];
-  return [...groups.map(group => group.padStart(4, '0')), length.padStart(3, '0')].join('');
+  const [address, length] = prefix.split('/');
+  const [before, after = []] = address.split('::').map(part => part.split(':').filter(Boolean));
+  const zeros = Array(Math.max(0, 8 - before.length - after.length)).fill('');
+  return [...[...before, ...zeros, ...after].map(group => group.padStart(4, '0')), length.padStart(3, '0')].join('');
 }
 
 const digits = (number, bytes) => Number(number).toString(16).padStart(2 * bytes, '0');
 // A Request for all routes, and a Response with one entry.
 export const wholeRequest = () => `01010000${'0'.repeat(38)}10`;
-export const oneResponse = (prefix, tag, metric) =>
-  `02010000${prefixKey(prefix).slice(0, 32)}${digits(tag, 2)}${digits(prefix.split('/')[1] ?? 0, 1)}${digits(metric, 1)}`;
+export function oneResponse(prefix, tag, metric) {
+  const length = digits(prefix.split('/')[1] ?? 0, 1);
+  return `02010000${prefixKey(prefix).slice(0, 32)}${digits(tag, 2)}${length}${digits(metric, 1)}`;
+}

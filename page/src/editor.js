@@ -1,11 +1,11 @@
-// The script as it is edited. The draft is what the text field holds; nothing but the functions below writes it. Each state that it
-// was in can be gone back to. What was run is kept beside it (`showing.js`).
+// The script as it is edited. The draft is what the text field holds; nothing but the functions below writes it. Each
+// state that it was in can be gone back to. What was run is kept beside it (`showing.js`).
 import { describe, hintOf } from './texts.js';
 import { html } from './markup.js';
 
-// The bytes of a script, at most; the pause after the last key, before it is run; and that between two states to go back to.
+// The bytes of a script, at most; the pause after the last key before it is run, and that between two states.
 const SCRIPT_LIMIT = 262144, PAUSE = 250, ONE_EDIT = 1000, KEPT = 'ripngd draft';
-const editor = { text: '', name: '', past: [], future: [], typedAt: 0, timer: null, running: null, failed: false };
+const editor = { text: '', name: '', past: [], future: [], typedAt: 0, timer: null, running: null };
 const isSaid = () => byId('editing').textContent;
 
 function say(text, isBad = false, buttons = '') {
@@ -23,9 +23,9 @@ function setDraft(text, name = editor.name) {
   showDraft({ text, name });
 }
 
-// A script that is no example any more has a name of its own. The draft outlives the page.
+// A script that is no example any more has a name of its own. The draft outlives the page, if the browser keeps it.
 function showDraft({ text, name }) {
-  const area = byId('script'), before = area.value, example = SCRIPTS.get(name) === text;
+  const area = byId('script'), before = area.value, example = SCRIPTS.get(name) === text, lines = text.split('\n');
   Object.assign(editor, { text, name: !example && SCRIPTS.has(name) ? `own-${name}` : name });
   if (before !== text) {
     const at = [...text].findIndex((sign, index) => sign !== before[index]);
@@ -34,19 +34,17 @@ function showDraft({ text, name }) {
   }
   byId('name').value = editor.name;
   byId('examples').value = example ? name : '';
-  for (const [id, states] of [['undo', editor.past], ['redo', editor.future]]) byId(id).disabled = states.length === 0;
-  const lines = text.split('\n');
+  byId('undo').disabled = editor.past.length === 0;
+  byId('redo').disabled = editor.future.length === 0;
   if (byId('gutter').children.length !== lines.length) {
-    fill('gutter', html`${lines.map((_, index) => html`<div data-choose="line ${index + 1}">${index + 1}</div>`)}`);
+    fill('gutter', html`${lines.map((_, at) => html`<div data-choose="line ${at + 1}">${at + 1}</div>`)}`);
   }
-  try {
-    if (view.served) localStorage.setItem(KEPT, JSON.stringify(snapshot()));
-  } catch { /* A browser may keep nothing. */ }
+  if (view.served) kept(() => localStorage.setItem(KEPT, JSON.stringify(snapshot())));
 }
 
-function keptDraft() {
+function kept(access) {
   try {
-    return JSON.parse(localStorage.getItem(KEPT));
+    return access();
   } catch {
     return null;
   }
@@ -73,7 +71,7 @@ const redo = () => travel(editor.future, editor.past);
 // Another script takes the place of the draft, which can be gone back to.
 function openScript(text, name) {
   setDraft(text.replace(/\r\n?/g, '\n'), name);
-  return runDraft(0);
+  return runDraft(() => 0);
 }
 
 // ---- Running it ----
@@ -83,76 +81,82 @@ async function ask(path, body, signal) {
   return text;
 }
 
-// The trace of a script, an error, or null where a later script was to be run meanwhile.
-async function traced(script) {
+// Runs a script and hands its trace on, unless a later one was to be run meanwhile. What keeps it from running is said.
+async function runScript(script, then) {
   clearTimeout(editor.timer);
-  editor.timer = null;
   editor.running?.abort();
-  const { length } = new TextEncoder().encode(script), running = editor.running = new AbortController();
-  if (length > SCRIPT_LIMIT) return new Error(`the script has ${length} bytes, and at most ${SCRIPT_LIMIT} are taken`);
+  const running = editor.running = new AbortController(), { length } = new TextEncoder().encode(script);
   const notice = setTimeout(() => say('running ..'), PAUSE);
-  const answer = await ask('/trace', script, running.signal).catch(error => error);
-  clearTimeout(notice);
-  return running.signal.aborted ? null : answer;
+  try {
+    if (length > SCRIPT_LIMIT) throw new Error(`the script has ${length} bytes, and at most ${SCRIPT_LIMIT} are taken`);
+    const answer = await ask('/trace', script, running.signal);
+    if (!running.signal.aborted) await then(answer);
+  } catch (error) {
+    if (!running.signal.aborted) say(`not run: ${error.message} `, true, html`<button data-act="again">again</button>`);
+  } finally {
+    clearTimeout(notice);
+  }
 }
 
-const notRun = error => say(`not run: ${error.message} `, true, html`<button data-act="again">again</button>`);
-
-async function runDraft(step) {
-  const { text } = editor, answer = await traced(text);
-  if (answer instanceof Error) notRun(answer);
-  else if (answer !== null) showRun(text, answer, step);
+function runDraft(stepOf) {
+  const { text } = editor;
+  return runScript(text, answer => showRun(text, answer, stepOf));
 }
 
-// A script that a click made becomes the draft, unless a line is refused before number `limit`; then it goes to the last step of
-// line `goTo`.
-async function change(script, limit, goTo) {
-  const { text } = editor, answer = await traced(script);
-  if (answer === null) return;
-  if (answer instanceof Error) return notRun(answer);
-  const refused = refusalIn(answer);
-  if (editor.text !== text) return say('The script was changed meanwhile: nothing was put in.', true);
-  if (refused?.line < limit) return say(`not put in: ${describe(refused)}${hintOf(script, refused.line, refused.why)}`, true);
-  setDraft(script);
-  showRun(script, answer, goTo === undefined ? undefined : trace => trace.steps.findLastIndex(({ record }) => record.line <= goTo));
-}
-
-function refusalIn(answer) {
-  const last = answer.trimEnd().split('\n').at(-1), record = last ? JSON.parse(last) : {};
-  return record.record === 'refused' ? record : null;
+// A script that a click made becomes the draft, unless a line is refused before number `limit`; then the page goes to
+// the last step of line `goTo`.
+function change(script, limit, goTo) {
+  const { text } = editor;
+  return runScript(script, answer => {
+    const last = JSON.parse(answer.trimEnd().split('\n').at(-1) || '{}'), isRefused = last.record === 'refused';
+    if (editor.text !== text) return say('The script was changed meanwhile: nothing was put in.', true);
+    if (isRefused && last.line < limit) {
+      return say(`not put in: ${describe(last)}${hintOf(script, last.line, last.why)}`, true);
+    }
+    setDraft(script);
+    return showRun(script, answer, goTo && (({ steps }) => steps.findLastIndex(({ record }) => record.line <= goTo)));
+  });
 }
 
 // ---- Files and links ----
-function download(name, text, type) {
-  const link = document.createElement('a');
+function download(ending, text, type) {
+  const link = document.createElement('a'), name = editor.name.replace(/(\.lab)?$/, ending);
   Object.assign(link, { href: URL.createObjectURL(new Blob([text], { type })), download: name });
   link.click();
   setTimeout(() => URL.revokeObjectURL(link.href), 1000);
 }
 
 // The page as the server gave it, with this script and its trace alone.
-async function saveFilm() {
+const saveFilm = () => runScript(editor.text, async answer => {
   const page = await (await fetch('/')).text(), mark = '</div>\n<div id="trace" hidden>\n';
   const inner = text => text.replace(/&/g, '&amp;').replace(/</g, '&lt;').replace(/"/g, '&quot;');
-  const [scripts, trace] = [page.indexOf('<div data-name='), page.indexOf(mark)], answer = await ask('/trace', editor.text);
+  const scripts = page.indexOf('<div data-name='), trace = page.indexOf(mark) + mark.length;
   const script = `<div data-name="${inner(editor.name)}">${inner(editor.text)}</div>\n`;
-  const film = `${page.slice(0, scripts)}${script}${mark}${inner(answer)}${page.slice(trace + mark.length)}`;
-  download(editor.name.replace(/(\.lab)?$/, '.html'), film, 'text/html');
-}
+  download('.html', `${page.slice(0, scripts)}${script}${mark}${inner(answer)}${page.slice(trace)}`, 'text/html');
+  say('');
+});
 
-const through = async (bytes, stream) => new Uint8Array(await new Response(new Blob([bytes]).stream().pipeThrough(stream)).arrayBuffer());
+async function through(bytes, stream) {
+  return new Uint8Array(await new Response(new Blob([bytes]).stream().pipeThrough(stream)).arrayBuffer());
+}
 async function packed(text) {
   const bytes = await through(text, new CompressionStream('deflate-raw'));
-  return btoa(Array.from(bytes, byte => String.fromCharCode(byte)).join('')).replace(/\+/g, '-').replace(/\//g, '_').replace(/=+$/, '');
+  const code = btoa(Array.from(bytes, byte => String.fromCharCode(byte)).join(''));
+  return code.replace(/\+/g, '-').replace(/\//g, '_').replace(/=+$/, '');
 }
 async function unpacked(code) {
   const bytes = Uint8Array.from(atob(code.replace(/-/g, '+').replace(/_/g, '/')), sign => sign.charCodeAt(0));
   return new TextDecoder().decode(await through(bytes, new DecompressionStream('deflate-raw')));
 }
 
+// To the clipboard, if the browser lets the page.
+async function copy(text, said) {
+  const isCopied = await navigator.clipboard?.writeText(text).then(() => true, () => false);
+  say(isCopied ? `${said}: copied.` : `${said}: the browser copies nothing.`, !isCopied);
+}
+
 async function share() {
   const words = new URLSearchParams({ name: editor.name, step: view.step + 1, script: await packed(editor.text) });
   history.replaceState(null, '', `#${words}`);
-  await navigator.clipboard?.writeText(location.href).catch(() => {});
-  say('The address of this page now holds the script, and is copied: open it wherever `ripngd page` runs.');
+  await copy(location.href, 'The address of this page holds the script now, and opens wherever `ripngd page` runs');
 }

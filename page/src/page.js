@@ -3,7 +3,7 @@ import { named, nextStop } from './trace.js';
 import { oneResponse, wholeRequest } from './datagrams.js';
 import { inserted, joined, networkScript, withName, withoutDelivery } from './building.js';
 import { html } from './markup.js';
-import { cardOf } from './panes.js';
+import { cardOf, printed, stepOfNew } from './panes.js';
 
 // ---- Stepping ----
 function go(step) {
@@ -14,99 +14,99 @@ function go(step) {
 const move = direction => go(nextStop(view.trace, view.captions, view.step, byId('by').value, direction));
 
 // So many steps a second; or, at most twenty times a second, so many steps at once that all are shown within a minute.
-function run(on) {
-  const speed = Number(byId('speed').value) || 20, many = Number(byId('speed').value) ? 1 : Math.ceil(view.trace.steps.length / 1200);
+function play(on) {
+  const chosen = Number(byId('speed').value), many = chosen ? 1 : Math.ceil(view.trace.steps.length / 1200);
   const isLast = () => view.step >= view.trace.steps.length - 1, next = () => many > 1 ? go(view.step + many) : move(1);
   clearInterval(view.timer);
   if (on && isLast()) go(0);
-  view.timer = on ? setInterval(() => isLast() ? run(false) : next(), 1000 / speed) : null;
+  view.timer = on ? setInterval(() => isLast() ? play(false) : next(), 1000 / (chosen || 20)) : null;
   byId('run').textContent = on ? 'stop' : 'run';
 }
 
 // The buttons by their ids, each with its key.
 const MOVES = {
   first: ['Home', () => go(0)], back: ['ArrowLeft', () => move(-1)], step: ['ArrowRight', () => move(1)],
-  last: ['End', () => go(Infinity)], run: [' ', () => run(!view.timer)],
+  last: ['End', () => go(Infinity)], run: [' ', () => play(!view.timer)],
 };
 
 // ---- Clicks ----
 function choose(text) {
-  Object.assign(view, { chosen: text && text !== view.chosen && named(text, view.trace) ? text : null, typed: {} });
+  Object.assign(view, { chosen: text !== view.chosen && named(text, view.trace) ? text : null, typed: {} });
   render();
 }
 
-// The fields beside a button by name, the moment of the detail among them, if all of them hold what they may; else null, and the
-// browser says which does not.
+// The fields beside a button by name, the moment of the detail among them, if all of them hold what they may; else
+// null, and the browser says which does not.
 function fields(button) {
-  const inputs = [...byId('detail').querySelectorAll('[name=now]'), ...button.closest('.choices, #build').querySelectorAll('input, select')];
+  const beside = button.closest('.choices, #build').querySelectorAll('input, select');
+  const inputs = [...byId('detail').querySelectorAll('[name=now]'), ...beside];
   if (!inputs.every(input => input.reportValidity())) return null;
-  const values = Object.fromEntries(inputs.map(input => [input.name, input.value.trim().toLowerCase()]));
-  return { ...values, ask: wholeRequest(), lie: values.metric && oneResponse(values.prefix, values.tag ?? 0, values.metric) };
+  const values = Object.fromEntries(inputs.map(input => [input.name, input.value.trim()]));
+  const { prefix = '', metric, tag = 0 } = values;
+  return { ...values, ask: wholeRequest(), lie: metric && oneResponse(prefix.toLowerCase(), tag, metric) };
 }
 
 // Lines are put in where the list says: at the end, or behind the line of this step.
 async function putIn(lines, values) {
   if (view.ran !== editor.text) await runDraft();
   if (view.ran !== editor.text || !view.wiring) return;
-  if (view.refused) return say(`Line ${view.refused.line} is refused, so no line behind it is reached: mend it first, or undo.`, true);
+  if (view.refused) {
+    say(`Line ${view.refused.line} is refused, so no line behind it is reached: mend it first, or undo.`, true);
+    return;
+  }
   const added = lines.replace(/\{(\w+)\}/g, (_, name) => values[name]).split('\n');
-  const { script, first } = inserted(editor.text, added, view.place, current()?.record.line ?? 0), last = first + added.length - 1;
-  await change(script, last + 1, last);
+  const { script, first } = inserted(editor.text, added, view.place, current()?.record.line ?? 0);
+  await change(script, first + added.length, first + added.length - 1);
   view.typed = {};
 }
 
 // When the next round is: all regular updates are due then.
-function nextRound() {
-  const { routers } = (view.place === 'end' ? view.trace.steps.at(-1) : current()) ?? { routers: [] };
-  return Math.max(0, ...routers.flatMap(({ timers }) => [timers.last, timers.regular]));
-}
+const nextRound = () =>
+  Math.max(0, ...(stepOfNew(view)?.routers ?? []).flatMap(({ timers }) => [timers.last, timers.regular]));
+const chosenRouter = () => named(view.chosen, view.trace).router;
 
 const toggle = (button, name) => button.setAttribute('aria-pressed', document.body.classList.toggle(name));
-const fileName = ending => editor.name.replace(/(\.lab)?$/, ending);
 const ACTS = {
   undo, redo, share, again: () => runDraft(), film: saveFilm,
-  save: () => download(editor.name, editor.text, 'text/plain'),
+  save: () => download('.lab', editor.text, 'text/plain'),
   load: () => byId('file').click(),
-  svg: () => view.wiring && download(fileName('.svg'), drawingAlone(), 'image/svg+xml'),
+  svg: () => view.wiring && download('.svg', drawingAlone(), 'image/svg+xml'),
+  copy: () => copy(printed(current()), `The routes at step ${view.step + 1}`),
   round: () => putIn(`round ${nextRound()}`),
-  rounds: () => putIn(`rounds 5 ${nextRound()} 15000`),
+  rounds: () => putIn(`rounds 5 ${nextRound()} 30000`),
   ticks: () => putIn(view.trace.ends.map((_, router) => `tick ${router} ${nextRound()} 0`).join('\n')),
   help: () => byId('help').showModal(),
   close: () => byId('help').close(),
   large(button) { toggle(button, 'large'); render(); },
   quiz: button => toggle(button, 'quiz'),
   tidy() { view.shifts = []; render(); },
-  make(button) {
-    const { shape, many } = fields(button) ?? {};
-    return shape && openScript(networkScript(shape, Number(many)), `${shape.replace(/ /g, '-')}-${many}.lab`);
-  },
-  join(button) {
-    const { other, cost } = fields(button) ?? {}, { router } = named(view.chosen, view.trace);
-    const script = other && joined(editor.text, router, Number(other), Number(cost));
-    return script && change(script, Infinity);
-  },
-  name(button) {
-    const name = button.closest('.choices').querySelector('input').value.trim();
-    change(withName(editor.text, named(view.chosen, view.trace).router, name), 0);
-  },
-  lose() {
-    const { line, router, event } = current().record;
-    loseAt(line, `Datagram ${event.datagram} to R${router} is lost.`);
+  lose,
+};
+// Those that read the fields beside them.
+const MAKES = {
+  make: ({ shape, many }) => openScript(networkScript(shape, Number(many)), `${shape}-${many}.lab`.replace(/ /g, '-')),
+  name: ({ name }) => change(withName(editor.text, chosenRouter(), name), Infinity),
+  join({ other, cost }) {
+    const script = joined(editor.text, chosenRouter(), Number(other), Number(cost));
+    return script ? change(script, Infinity) : say('A router is linked to another one.', true);
   },
 };
 
-function loseAt(line, remark) {
-  if (!/^deliver /.test(view.script.split('\n')[line - 1])) {
-    return say('It comes by a round, in which nothing is lost: tick all instead, and deliver one by one.', true);
+// The line that delivers the datagram of this step is struck out.
+function lose() {
+  const { line, router, event } = current().record, remark = `Datagram ${event.datagram} to R${router} is lost.`;
+  if (/^deliver /.test(view.script.split('\n')[line - 1])) {
+    return change(withoutDelivery(view.script, line, remark), line + 1, line);
   }
-  return change(withoutDelivery(view.script, line, remark), line + 1, line);
+  return say('It comes by a round, in which nothing is lost: tick all instead, and deliver one by one.', true);
 }
 
 // The drawing as a file: each element with its colors, as there is no style sheet in it.
-const STYLES = ['fill', 'stroke', 'stroke-width', 'stroke-dasharray', 'font-size', 'font-weight', 'font-family', 'text-anchor',
-  'dominant-baseline', 'paint-order', 'visibility'];
+const STYLES = ['fill', 'stroke', 'stroke-width', 'stroke-dasharray', 'font-size', 'font-weight', 'font-family',
+  'text-anchor', 'dominant-baseline', 'paint-order', 'visibility'];
 function drawingAlone() {
-  const drawing = byId('drawing').querySelector('svg'), alone = drawing.cloneNode(true), styled = alone.querySelectorAll('*');
+  const drawing = byId('drawing').querySelector('svg'), alone = drawing.cloneNode(true);
+  const styled = alone.querySelectorAll('*');
   drawing.querySelectorAll('*').forEach((element, index) => {
     const style = getComputedStyle(element);
     for (const name of STYLES) styled[index].setAttribute(name, style.getPropertyValue(name));
@@ -115,11 +115,12 @@ function drawingAlone() {
 }
 
 function onClick({ target }) {
-  const clicked = target.closest('[data-choose], [data-lines], [data-act]'), { choose: text, lines, act } = clicked?.dataset ?? {};
-  const [kind, number] = (text ?? '').split(' '), values = lines && fields(clicked);
-  if (view.dragged) return;
-  if (act) ACTS[act](clicked);
-  else if (values) putIn(lines, values);
+  const clicked = target.closest('[data-choose], [data-lines], [data-act]');
+  const { choose: text = '', lines, act } = clicked?.dataset ?? {}, [kind, number] = text.split(' ');
+  const values = lines || MAKES[act] ? fields(clicked) : {};
+  if (view.dragged || !values) return;
+  if (act) (MAKES[act] ?? ACTS[act])(MAKES[act] ? values : clicked);
+  else if (lines) putIn(lines, values);
   else if (kind === 'step') go(Number(number));
   else if (kind === 'line') go(view.trace.steps.findIndex(({ record }) => record.line >= Number(number)));
   else if (text || target.closest('#drawing')) choose(text);
@@ -129,17 +130,18 @@ function onClick({ target }) {
 const isField = target => target.matches('input:not([type=range]), textarea:not([readonly])');
 function onKey(event) {
   const { key, target } = event, [, act] = Object.values(MOVES).find(([moves]) => moves === key) ?? [];
-  if ((event.ctrlKey || event.metaKey) && /^[zy]$/i.test(key) && view.served && (target.id === 'script' || !isField(target))) {
+  const isCommand = event.ctrlKey || event.metaKey, isOther = isField(target) && target.id !== 'script';
+  if (isCommand && /^[zy]$/i.test(key) && view.served && !isOther) {
     event.preventDefault();
     return key.toLowerCase() === 'y' || event.shiftKey ? redo() : undo();
   }
-  if (event.altKey || event.ctrlKey || event.metaKey || byId('help').open) return;
+  if (event.altKey || isCommand || byId('help').open) return;
   if (key === 'Escape') return choose(null);
   const presses = ['Enter', ' '].includes(key), thing = target.closest('g[data-choose]');
   if (isField(target) || presses && target.matches('button, select, summary, a')) return;
-  const pane = target.closest('#drawing, #tables, #events'), items = pane ? itemsOf(pane) : [], way = { ArrowDown: 1, ArrowUp: -1 }[key];
-  const next = way && items[items.indexOf(target) + way], chooses = thing && presses && (() => choose(thing.dataset.choose));
-  const does = chooses || (next ? () => next.focus() : act);
+  const pane = target.closest('#drawing, #tables, #events'), items = pane ? itemsOf(pane) : [];
+  const way = { ArrowDown: 1, ArrowUp: -1 }[key], next = way && items[items.indexOf(target) + way];
+  const does = thing && presses ? () => choose(thing.dataset.choose) : next ? () => next.focus() : act;
   if (!does) return;
   event.preventDefault();
   does();
@@ -147,17 +149,20 @@ function onKey(event) {
 
 // Moves a router of the drawing while the pointer is down.
 function onPointerDown({ target, clientX, clientY }) {
-  const router = target.closest('.router')?.dataset.router, drag = new AbortController(), { x, y } = view.shifts[router] ?? { x: 0, y: 0 };
+  const router = target.closest('.router')?.dataset.router, drag = new AbortController();
   if (router === undefined) return;
-  window.addEventListener('pointermove', event => {
-    if (!view.dragged && Math.hypot(event.clientX - clientX, event.clientY - clientY) < 4) return;
-    Object.assign(view, { dragged: true }).shifts[router] = { x: x + event.clientX - clientX, y: y + event.clientY - clientY };
+  const { x, y } = view.shifts[router] ?? { x: 0, y: 0 };
+  const shift = event => {
+    const [across, down] = [event.clientX - clientX, event.clientY - clientY];
+    if (!view.dragged && Math.hypot(across, down) < 4) return;
+    Object.assign(view, { dragged: true }).shifts[router] = { x: x + across, y: y + down };
     keepFocus(() => renderDrawing(false));
-  }, drag);
+  };
   const drop = () => {
     drag.abort();
     setTimeout(() => { view.dragged = false; });
   };
+  window.addEventListener('pointermove', shift, drag);
   for (const ends of ['pointerup', 'pointercancel']) window.addEventListener(ends, drop, drag);
 }
 
@@ -174,9 +179,11 @@ function listen() {
   };
   byId('slider').oninput = ({ target }) => go(Number(target.value));
   byId('place').onchange = ({ target }) => { view.place = target.value; render(); };
-  byId('speed').onchange = () => view.timer && run(true);
+  byId('speed').onchange = () => view.timer && play(true);
   byId('detail').oninput = ({ target }) => { view.typed[target.name] = target.value; };
-  for (const id of PANES) byId(id).addEventListener('focusin', ({ target }) => { stops[id] = target.dataset.choose ?? stops[id]; });
+  for (const id of PANES) {
+    byId(id).addEventListener('focusin', ({ target }) => { stops[id].text = target.dataset.choose ?? stops[id].text; });
+  }
   byId('drawing').onpointerdown = onPointerDown;
   Object.assign(document, { onclick: onClick, onkeydown: onKey });
   Object.assign(window, { onresize: () => keepFocus(() => renderDrawing(false)), onhashchange: followAddress });
@@ -185,33 +192,42 @@ function listen() {
 // ---- The page comes up ----
 // `#step=12&router=1&prefix=2001:db8::/32` shows that step, and why that router's metric is what it is.
 async function followAddress() {
-  const asked = new URLSearchParams(location.hash.slice(1)), step = asked.get('step') ?? '';
-  const text = `route ${asked.get('router')} ${asked.get('prefix')}`, script = view.served && asked.get('script');
-  if (script) await unpacked(script).then(read => openScript(read, asked.get('name') ?? 'shared.lab'), () => say('The address holds no script.', true));
+  const asked = new URLSearchParams(location.hash.slice(1)), script = view.served && asked.get('script');
+  const text = `route ${asked.get('router')} ${asked.get('prefix')}`, step = asked.get('step') ?? '';
+  try {
+    if (script) await openScript(await unpacked(script), asked.get('name') ?? 'shared.lab');
+  } catch {
+    say('The address holds no script.', true);
+  }
   if (named(text, view.trace)) view.chosen = text;
   go(/^\d{1,9}$/.test(step) ? Number(step) - 1 : 0);
 }
 
 // The address follows the step, if it may.
 function writeAddress() {
-  const { kind, router, prefix } = named(view.chosen, view.trace) ?? {}, route = kind === 'route' ? `&router=${router}&prefix=${prefix}` : '';
+  const { kind, router, prefix } = named(view.chosen, view.trace) ?? {};
+  const route = kind === 'route' ? `&router=${router}&prefix=${prefix}` : '';
   clearTimeout(view.address);
-  view.address = view.isUp && setTimeout(() => history.replaceState(null, '', `#step=${view.step + 1}${route}`), 300);
+  const write = () => history.replaceState(null, '', `#step=${view.step + 1}${route}`);
+  if (view.isUp) view.address = setTimeout(write, 300);
 }
 
 // A page with a trace is a film; any other asks the server that it came from to run its scripts.
 async function comeUp() {
-  const film = byId('trace').textContent.trim(), [[name, first]] = SCRIPTS, kept = film ? null : keptDraft();
+  const film = byId('trace').textContent.trim(), [[name, first]] = SCRIPTS;
+  const draft = film ? null : kept(() => JSON.parse(localStorage.getItem(KEPT)));
   view.served = !film;
-  fill('examples', html`<option value="" disabled>own script</option>${[...SCRIPTS.keys()].map(example => html`<option>${example}</option>`)}`);
+  const options = [...SCRIPTS.keys()].map(example => html`<option>${example}</option>`);
+  fill('examples', html`<option value="" disabled>own script</option>${options}`);
   fill('card', html`${cardOf()}`);
   listen();
-  for (const element of all('.served')) element.hidden = !view.served;
+  for (const element of document.querySelectorAll('.served')) element.hidden = !view.served;
   byId('script').readOnly = byId('name').readOnly = byId('examples').disabled = !view.served;
-  showDraft(kept?.text ? kept : { text: first, name });
-  await (film ? showRun(first, film, 0) : runDraft(0));
+  showDraft(draft?.text ? draft : { text: first, name });
+  await (film ? showRun(first, film) : runDraft());
   await followAddress();
-  if (kept?.text && !SCRIPTS.has(kept.name) && !isSaid()) say('This is your script of before. Each example is in the list above.');
+  const isOwn = draft?.text && !SCRIPTS.has(draft.name);
+  if (isOwn && !isSaid()) say('This is your script of before. Each example is in the list above.');
   view.isUp = true;
 }
 

@@ -3,39 +3,38 @@ import { named, readTrace } from './trace.js';
 import { layOut, wiringOf } from './layout.js';
 import { captionsOf, namesOf } from './building.js';
 import { describe, hintOf, seconds } from './texts.js';
-import { classes, html } from './markup.js';
+import { html } from './markup.js';
 import { drawingOf } from './drawing.js';
 import { detailOf, eventOf, tablesOf, tallyOf } from './panes.js';
 
 const byId = id => document.getElementById(id);
 const fill = (id, markup) => { byId(id).innerHTML = markup.text; };
-const all = selector => [...document.querySelectorAll(selector)];
 const SCRIPTS = new Map([...byId('scripts').children].map(script => [script.dataset.name, script.textContent]));
 
-// What is shown: a script that was run with its trace, a step of it, what was chosen, and what was typed into the fields beside.
-const view = { script: '', trace: readTrace(''), step: 0, chosen: null, typed: {}, refused: null, stale: false, wiring: null, spots: [],
-  shifts: [], names: new Map(), captions: [], events: null, place: 'end', served: false, timer: null, dragged: false, ran: null, address: null };
+// What is shown: a script that was run with its trace, a step of it, what was chosen, and what was typed into fields.
+// The script that was run last, `ran`, may have no network; then `stale` is true, and the last network shows.
+const view = {
+  script: '', trace: readTrace(''), step: 0, chosen: null, typed: {}, ran: null, refused: null, stale: false,
+  wiring: null, spots: [], shifts: [], names: new Map(), captions: [''], eventsFrom: null, place: 'end', served: false,
+};
 const current = () => view.trace.steps[view.step];
-// Scrolls to it where the panes stand side by side; on a narrow window the page itself would jump.
-const SIDE_BY_SIDE = '(min-width: 1181px), (min-width: 901px) and (min-height: 701px)';
-const follow = element => matchMedia(SIDE_BY_SIDE).matches && element?.scrollIntoView({ block: 'nearest', inline: 'nearest' });
 
 // ---- What was run is shown ----
-// A script without a network leaves the last one in view. Routers stay where they are while the network has the same links.
 function showRun(script, text, stepOf = () => view.step) {
-  const trace = readTrace(text), last = trace.steps.at(-1)?.record, hasNetwork = trace.ends.length > 0;
-  Object.assign(view, { ran: script, refused: last?.record === 'refused' ? last : null, stale: !hasNetwork && view.wiring !== null });
-  const { refused } = view, why = refused ? `line ${refused.line}, ${describe(refused)}${hintOf(script, refused.line, refused.why)}` : '';
-  say(why || (hasNetwork ? '' : 'no network yet: the script has no line "cold NOW"'), Boolean(why));
+  const trace = readTrace(text, script), last = trace.steps.at(-1)?.record, hasNetwork = trace.ends.length > 0;
+  const refused = last?.record === 'refused' ? last : null;
+  Object.assign(view, { ran: script, refused, stale: !hasNetwork && view.wiring !== null });
+  if (refused) say(`line ${refused.line}, ${describe(refused)}${hintOf(script, refused.line, refused.why)}`, true);
+  else say(hasNetwork ? '' : 'no network yet: the script has no line "cold NOW"');
   if (!view.stale) showTrace(script, trace);
-  go(typeof stepOf === 'number' ? stepOf : stepOf(view.trace));
+  go(stepOf(view.trace));
 }
 
+// Routers stay where they are while the network has the same links.
 function showTrace(script, trace) {
-  const ofEnds = ([link, ends]) => [link, ends.map(({ router, iface }) => [router, iface])];
-  const linksOf = ({ ends, links }) => JSON.stringify([ends.length, [...links].map(ofEnds)]);
+  const linksOf = ({ ends }) => JSON.stringify(ends.map(own => own.map(({ link }) => link)));
   const isSame = linksOf(trace) === linksOf(view.trace);
-  Object.assign(view, { script, trace, names: namesOf(script), captions: captionsOf(script), events: null });
+  Object.assign(view, { script, trace, names: namesOf(script), captions: captionsOf(script), eventsFrom: null });
   view.wiring = trace.ends.length > 0 ? wiringOf(trace) : null;
   if (!isSame) Object.assign(view, { spots: view.wiring ? layOut(view.wiring) : [], shifts: [] });
   if (!named(view.chosen, trace)) view.chosen = null;
@@ -46,27 +45,42 @@ function showTrace(script, trace) {
 const PANES = ['drawing', 'tables', 'events'], stops = {};
 const itemsOf = pane => [...pane.querySelectorAll('button, input, [tabindex]')];
 function keepFocus(draw) {
-  const had = document.activeElement, pane = had?.closest('#drawing, #tables, #events, #detail'), at = pane ? itemsOf(pane).indexOf(had) : -1;
+  const had = document.activeElement, pane = had?.closest('#drawing, #tables, #events, #detail');
+  const at = pane ? itemsOf(pane).indexOf(had) : -1;
   draw();
   for (const id of PANES) {
-    const wanted = [`[tabindex][data-choose="${CSS.escape(stops[id] ?? '')}"]`, '.now [tabindex]', '[tabindex]'];
-    const stop = wanted.map(words => byId(id).querySelector(words)).find(Boolean);
-    for (const other of byId(id).querySelectorAll('[tabindex="0"]')) other.tabIndex = -1;
-    if (stop) stop.setAttribute('tabindex', 0);
+    const find = words => byId(id).querySelector(words), { text, stop } = stops[id] ?? {};
+    const chosen = text && find(`[tabindex][data-choose="${CSS.escape(text)}"]`);
+    const next = chosen || find('li.now [tabindex]') || find('[tabindex]');
+    stop?.setAttribute('tabindex', -1);
+    next?.setAttribute('tabindex', 0);
+    stops[id] = { text, stop: next };
   }
   if (!pane || had.isConnected) return;
-  const items = itemsOf(pane);
-  const again = had.dataset.choose && items.find(item => item.dataset.choose === had.dataset.choose);
+  const items = itemsOf(pane), { choose } = had.dataset;
+  const again = choose && items.find(item => item.dataset.choose === choose);
   (again || items[at] || items.at(-1))?.focus({ preventScroll: true });
 }
 
+// Scrolls to it where the panes stand side by side; on a narrow window the page itself would jump.
+const SIDE_BY_SIDE = '(min-width: 1181px), (min-width: 901px) and (min-height: 701px)';
+function follow(element) {
+  if (matchMedia(SIDE_BY_SIDE).matches) element?.scrollIntoView({ block: 'nearest', inline: 'nearest' });
+}
+
+function mark(list, name, index) {
+  for (const other of list.querySelectorAll(`.${name}`)) other.classList.remove(name);
+  list.children[index]?.classList.add(name);
+}
+
 function render(flying = false) {
-  const { steps } = view.trace, { record, now } = current() ?? {};
+  const { steps } = view.trace, { record, now } = current() ?? {}, isLast = view.step === steps.length - 1;
   document.body.classList.toggle('stale', view.stale);
   byId('where').textContent = record ? `step ${view.step + 1} of ${steps.length}, at ${seconds(now)}` : '';
   Object.assign(byId('slider'), { max: Math.max(0, steps.length - 1), value: view.step });
   if (record) byId('slider').setAttribute('aria-valuetext', `line ${record.line}, ${describe(record)}`);
-  byId('caption').textContent = view.captions[record?.line] ?? '';
+  const captions = [view.captions[record?.line], isLast && view.captions.at(-1)].filter(Boolean);
+  byId('caption').textContent = [...new Set(captions)].join(' ');
   keepFocus(() => {
     renderScript();
     renderEvents();
@@ -79,45 +93,57 @@ function render(flying = false) {
   writeAddress();
 }
 
-function renderDrawing(flying) {
-  const { clientWidth: width, clientHeight: height } = byId('drawing');
-  fill('drawing', view.wiring ? drawingOf({ ...view, flying, pane: { width, height } }) : html`<p class="faint">There is no network yet.</p>`);
-}
-
-// Only the tables that are other than before are put in anew.
-function renderTables() {
-  const tables = view.wiring ? tablesOf(view) : [], pane = byId('tables');
-  fill('tally', view.wiring ? tallyOf(view) : html``);
-  while (pane.children.length > tables.length) pane.lastChild.remove();
-  tables.forEach((table, router) => {
-    if (pane.children[router]?.shown === table) return;
-    const box = Object.assign(document.createElement('div'), { innerHTML: table.text, shown: table });
-    if (pane.children[router]) pane.children[router].replaceWith(box);
-    else pane.append(box);
+// Only the parts of a pane that are other than before are put in anew; of a table as long as before only such rows.
+function patch(pane, kind, parts) {
+  while (pane.children.length > parts.length) pane.lastChild.remove();
+  parts.forEach(({ text }, at) => {
+    const old = pane.children[at] ?? pane.appendChild(document.createElementNS(pane.namespaceURI, kind));
+    if (old.shown !== text) replace(old, text);
+    old.shown = text;
   });
 }
 
-// Of a long list the events near the step are there, so many before and behind it.
+function replace(old, text) {
+  const [before, after] = [old.shown ?? '', text].map(markup => markup.split(/(?=<(?:caption|thead|tr)\b)/));
+  const rows = [...old.querySelectorAll('caption, thead, tr')], isSame = (piece, at) => piece === before[at];
+  if (after.length !== before.length || after.length !== rows.length + 1 || !isSame(after[0], 0)) old.innerHTML = text;
+  else after.forEach((piece, at) => { if (!isSame(piece, at)) rows[at - 1].outerHTML = piece; });
+}
+
+function renderDrawing(flying) {
+  const { clientWidth, clientHeight } = byId('drawing'), svg = byId('network');
+  const pane = { width: clientWidth, height: clientHeight }, isThere = view.wiring !== null;
+  const { width, height, roomy, parts } = isThere ? drawingOf({ ...view, flying, pane }) : { ...pane, parts: [] };
+  const attributes = { width, height, viewBox: `0 0 ${width} ${height}`, class: roomy ? 'roomy' : '' };
+  for (const [name, value] of Object.entries(attributes)) svg.setAttribute(name, value);
+  byId('nothing').hidden = isThere;
+  patch(byId('parts'), 'g', parts);
+}
+
+function renderTables() {
+  fill('tally', view.wiring ? tallyOf(view) : html``);
+  patch(byId('tables'), 'div', view.wiring ? tablesOf(view) : []);
+}
+
+// Of a long list the events near the step are there.
 const NEAR = 300;
 function renderEvents() {
-  const { steps } = view.trace, list = byId('events'), { from, to } = view.events ?? { from: 0, to: -1 };
-  if (!view.events || view.step < from || view.step >= to || steps.length > 2 * NEAR && Math.abs(view.step - (from + to) / 2) > NEAR / 2) {
-    const isShort = steps.length <= 2 * NEAR;
-    view.events = isShort ? { from: 0, to: steps.length } : { from: Math.max(0, view.step - NEAR), to: Math.min(steps.length, view.step + NEAR) };
-    list.start = view.events.from + 1;
-    fill('events', html`${steps.slice(view.events.from, view.events.to).map((state, index) => eventOf(state, view.events.from + index))}`);
+  const { steps } = view.trace, list = byId('events');
+  const from = steps.length > 2 * NEAR ? Math.max(0, Math.floor(view.step / NEAR) * NEAR - NEAR / 2) : 0;
+  if (from !== view.eventsFrom) {
+    fill('events', html`${steps.slice(from, from + 2 * NEAR).map((state, index) => eventOf(state, from + index))}`);
+    view.eventsFrom = from;
   }
-  [...list.children].forEach((item, index) => item.classList.toggle('now', index + view.events.from === view.step));
-  follow(list.children[view.step - view.events.from]);
+  mark(list, 'now', view.step - from);
+  follow(list.children[view.step - from]);
 }
 
 // The lines of now and of a refusal are marked. The text field leads, and the numbers beside it follow.
 const LINE_HEIGHT = 20;
 function renderScript() {
   const area = byId('script'), now = view.stale ? undefined : current()?.record.line, refused = view.refused?.line;
-  [...byId('gutter').children].forEach((number, index) => {
-    number.className = classes(index + 1 === now && 'now', index + 1 === refused && 'refused');
-  });
+  mark(byId('gutter'), 'now', now - 1);
+  mark(byId('gutter'), 'refused', refused - 1);
   area.style = `--now-line: ${now ?? -99}; --refused-line: ${refused ?? -99}`;
   if (document.activeElement === area && !area.readOnly || now === undefined) return;
   const top = 4 + (now - 1) * LINE_HEIGHT, least = top + 3 * LINE_HEIGHT - area.clientHeight;

@@ -4,73 +4,98 @@ export const seconds = milliseconds => `${(milliseconds / 1000).toFixed(3)} s`;
 export const plural = (count, noun) => `${count} ${noun}${count === 1 ? '' : 's'}`;
 
 // What a refusal means, by its name.
-const REASONS = {
-  Short: 'it has fewer than 4 bytes', TooLong: 'it has more than 65,524 bytes', Ragged: 'it holds no whole number of entries',
-  BadCommand: 'its command is neither 1 nor 2', BadVersion: 'its version is not 1', NotZero: 'its third or fourth byte is not 0',
+const REASONS = new Map(Object.entries({
+  Short: 'it has fewer than 4 bytes', TooLong: 'it has more than 65,524 bytes',
+  Ragged: 'it holds no whole number of entries', BadCommand: 'its command is neither 1 nor 2',
+  BadVersion: 'its version is not 1', NotZero: 'its third or fourth byte is not 0',
   NotRipngPort: 'a Response has to come from port 521', NotLinkLocal: 'its source is not link-local',
-  OwnAddress: "its source is one of this router's addresses", HopLimit: 'sent to the group, it has to come with hop limit 255',
-  EmptyRequest: 'a Request has to have an entry', BadSource: 'its source address or port cannot be answered',
-  BadLength: 'its prefix length is above 128', BadPrefix: 'its prefix is multicast or link-local', BadMetric: 'its metric is not 1 to 16',
-  TableFull: 'the table holds as many routes as it may', NoMemory: 'memory was refused', OutOfMemory: 'memory was refused',
-  BadLine: 'the line is malformed or out of place', TooManyRouters: 'a network has at most 64 routers',
-  AddressSharedInNetwork: 'two interfaces have one address', NoSuchRouter: 'there is no such router',
-  NoSuchInterface: 'the router has no such interface', NoSuchDatagram: 'no such datagram was sent',
-  OtherLink: 'the datagram was sent on another link', NotAStranger: 'this could only come from a router of the link',
-  BadCost: 'a cost is 1 to 15', PrefixNotAllowed: 'the prefix is multicast or link-local', AlreadyOwned: 'the router owns it',
-  OwnedFull: 'a router owns at most 1,024 prefixes', NotOwned: 'the router does not own it', NoInterface: 'a router has an interface',
+  OwnAddress: "its source is one of this router's addresses",
+  HopLimit: 'sent to the group, it has to come with hop limit 255', EmptyRequest: 'a Request has to have an entry',
+  BadSource: 'its source address or port cannot be answered', BadLength: 'its prefix length is above 128',
+  BadPrefix: 'its prefix is multicast or link-local', BadMetric: 'its metric is not 1 to 16',
+  TableFull: 'the table holds as many routes as it may', NoMemory: 'memory was refused',
+  OutOfMemory: 'memory was refused', BadLine: 'the line is malformed or out of place',
+  TooManyRouters: 'a network has at most 64 routers', AddressSharedInNetwork: 'two interfaces have one address',
+  NoSuchRouter: 'there is no such router', NoSuchInterface: 'the router has no such interface',
+  NoSuchDatagram: 'no such datagram was sent', NoSuchLink: 'there is no such link',
+  NameTwice: 'two routers have one name', NotAStranger: 'this could only come from a router of the link',
+  OtherLink: 'the datagram was sent on another link',
+  BadCost: 'a cost is 1 to 15', PrefixNotAllowed: 'the prefix is multicast or link-local',
+  AlreadyOwned: 'the router owns it', OwnedFull: 'a router owns at most 1,024 prefixes',
+  NotOwned: 'the router does not own it', NoInterface: 'a router has an interface',
   TooManyInterfaces: 'a router has at most 16 interfaces', AddressNotLinkLocal: "an interface's address is link-local",
   AddressTwice: 'two interfaces of the router have one address', BadMtu: 'an MTU is 1,280 to 65,535',
   TooManyPrefixes: 'a router owns at most 1,024 prefixes', PrefixTwice: 'the prefix is owned twice',
   NoRegularUpdate: "the router's regular update is not due",
-};
-const reasonOf = name => Object.hasOwn(REASONS, name ?? '') ? `: ${REASONS[name]}` : '';
+}));
+const reasonOf = name => REASONS.has(name) ? `: ${REASONS.get(name)}` : '';
 
-// The lines of a script, by their first words.
-export const LINES = {
-  router: ['router [quiet]', 'the next router begins; a quiet one sends nothing of its own accord'],
-  iface: ['iface ADDR COST MTU LINK', 'it has an interface (fe80::..), which costs 1 to 15, on the link of that number'],
-  own: ['own PREFIX TAG', 'it owns a prefix'],
-  cold: ['cold NOW', 'all routers start; NOW is in milliseconds, here and below'],
-  tick: ['tick R NOW WORD', 'time passes at router R, with a random word: it sends what is due'],
-  deliver: ['deliver N R I NOW', 'datagram N comes to interface I of router R'],
-  round: ['round NOW', 'every router ticks, then all that was sent comes'],
-  rounds: ['rounds K NOW GAP', 'K rounds, at NOW and each GAP later'],
-  cost: ['cost R I NOW COST', 'interface I of router R costs that from now on'],
-  gain: ['gain R NOW PREFIX TAG', 'router R owns a prefix from now on'],
-  drop: ['drop R NOW PREFIX', 'router R owns it no longer'],
-  restart: ['restart R NOW', 'router R comes up again'],
-  stranger: ['stranger R I NOW SOURCE PORT HOP group HEX', 'a datagram of no router comes, to the group or (peer) to that router'],
-  print: ['print', 'all routes are printed'],
-  sent: ['sent', 'all datagrams since the start are printed'],
-};
+// The lines of a script. What stands in brackets may be left out.
+export const LINES = [
+  ['router [quiet] [NAME]', 'the next router begins; a quiet one sends nothing of its own accord'],
+  ['iface ADDR COST MTU LINK', 'it has an interface (fe80::..), which costs 1 to 15, on the link of that number'],
+  ['own PREFIX TAG [times K]', 'it owns a prefix, or K of that length in a row'],
+  ['cold NOW', 'all routers start'],
+  ['tick R NOW WORD', 'time passes at router R, with a random word: it sends what is due'],
+  ['deliver N R I NOW', 'datagram N comes to interface I of router R'],
+  ['tell R NOW WORD [but K ..]', 'router R ticks, and all that it sent comes, but for the datagrams K of it'],
+  ['hear [but K ..]', 'all that was sent and did not come yet comes, but for the datagrams K of it'],
+  ['lose N', 'datagram N is lost: it comes to nobody from now on'],
+  ['round NOW', 'every router ticks, then all that was sent comes'],
+  ['rounds K NOW GAP', 'K rounds, at NOW and each GAP later'],
+  ['cut LINK', 'nothing crosses the link in tell, hear and rounds'],
+  ['mend LINK', 'all crosses it again'],
+  ['silent R', 'router R takes no part in them'],
+  ['speaks R', 'it takes part again'],
+  ['cost R I NOW COST', 'interface I of router R costs that from now on'],
+  ['gain R NOW PREFIX TAG', 'router R owns a prefix from now on'],
+  ['drop R NOW PREFIX', 'router R owns it no longer'],
+  ['restart R NOW', 'router R comes up again'],
+  ['stranger R I NOW SOURCE PORT HOP group HEX', 'a datagram of no router comes, to the group or (peer) to R alone'],
+  ['ask R I NOW SOURCE PORT PREFIX', 'a stranger asks for that prefix, or for all'],
+  ['print [R [PREFIX]]', 'routes are printed'],
+  ['sent [N]', 'datagrams are printed'],
+  ['say TEXT', 'the text is printed'],
+  ['expect R PREFIX METRIC', 'the script goes on only if router R has that metric, or none'],
+  ['refused NAME', 'the next line is to be refused so'],
+];
 
 // What is wrong with a line that was refused, as far as its text shows it, and which lines a refused network speaks of.
 export function hintOf(script, line, why) {
-  const lines = script.split('\n'), text = lines[line - 1] ?? '', linesOf = test => lines.flatMap((one, at) => test(one) ? [at + 1] : []);
+  const lines = script.split('\n'), numbers = test => lines.flatMap((text, at) => test(text) ? [at + 1] : []);
+  const text = lines[line - 1] ?? '', starts = word => other => other.split(' ')[0] === word;
   if (why.startsWith('BadLine')) {
-    const [first] = text.trim().split(/\s/), form = Object.hasOwn(LINES, first) ? `; its form is ${LINES[first][0]}` : '; no line begins so';
+    const form = LINES.find(([words]) => words.split(' ')[0] === text.trim().split(/\s/)[0])?.[0];
     const space = /^\s|\s$|\s\s|\t/.test(text) ? '; a space or a tab is too many' : '';
-    const late = /^(router|iface|own)\b/.test(text) && linesOf(one => one.startsWith('cold')).some(cold => cold < line);
-    return `${form}${space}${late ? '; it belongs before cold' : ''}`;
+    const isLate = /^(router|iface|own)\b/.test(text) && numbers(starts('cold')).some(cold => cold < line);
+    const late = isLate ? '; it belongs before cold' : '';
+    return `${form ? `; its form is ${form}` : '; no line begins so'}${space}${late}`;
   }
-  const router = /BadRouter (\d+)/.exec(why)?.[1], words = linesOf(one => one.startsWith('iface ')).map(at => [lines[at - 1].split(' ')[1], at]);
-  if (router) return `; router ${router} begins at line ${linesOf(one => /^router\b/.test(one))[router]}`;
-  const twice = words.filter(([address]) => words.filter(([other]) => other === address).length > 1).map(([, at]) => at);
+  const router = /BadRouter (\d+)/.exec(why)?.[1];
+  if (router) return `; router ${router} begins at line ${numbers(starts('router'))[router]}`;
+  const addressAt = at => lines[at - 1].split(' ')[1], all = numbers(starts('iface'));
+  const twice = all.filter(at => all.some(other => other !== at && addressAt(other) === addressAt(at)));
   return why.includes('AddressShared') && twice.length > 0 ? `; see lines ${twice.join(' and ')}` : '';
 }
 
 const HAPPENED = {
   deliver: event => `hears ${event.datagram} of R${event.sender.router}`,
   stranger: event => `hears a stranger, ${event.source} port ${event.port}`,
-  tick: () => 'ticks', restart: () => 'restarts', cost: event => `has cost ${event.cost} at interface ${event.iface}`,
-  gain: event => `owns ${event.prefix} with tag ${event.tag}`, drop: event => `gives up ${event.prefix}`,
+  tick: () => 'ticks',
+  restart: () => 'restarts',
+  cost: event => `has cost ${event.cost} at interface ${event.iface}`,
+  gain: event => `owns ${event.prefix} with tag ${event.tag}`,
+  drop: event => `gives up ${event.prefix}`,
 };
 
-export function describe({ record, why, routers, router, event, sent, changes, prints }) {
+export function describe({ record, why, routers, router, event, sent, changes, prints, datagram }) {
   if (record === 'start') return `cold start of ${plural(routers.length, 'router')}, ${sent.length} sent`;
-  if (record === 'refused') return `refused ${why}${reasonOf(why.split(' ').findLast(word => reasonOf(word)))}`;
+  if (record === 'refused' && why.startsWith('expected')) return why;
+  if (record === 'refused') return `refused ${why}${reasonOf(why.split(' ').findLast(word => REASONS.has(word)))}`;
+  if (record === 'lost') return `datagram ${datagram} is lost`;
   if (record !== 'event') return `${record}: ${plural(prints.length, 'line')}`;
-  const one = changes.map(({ change, prefix, metric }) => `, ${prefix} ${change === 'add' ? `at ${metric}` : 'withdrawn'}`);
+  const becomes = ({ change, metric }) => change === 'add' ? `at ${metric}` : 'withdrawn';
+  const one = changes.map(change => `, ${change.prefix} ${becomes(change)}`);
   const sends = sent.length > 0 ? `, ${sent.length} sent` : '';
   return `R${router} ${HAPPENED[event.kind](event)}${sends}${one.length > 1 ? `, ${one.length} changes` : one}`;
 }

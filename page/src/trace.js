@@ -1,26 +1,30 @@
 // The trace of a script, read: what the network was after each step.
+import { namesOf } from './building.js';
 
 export const UNREACHABLE = 16;
 
-// A step is a record of the trace with the network as it was after it: the routers, their latest moment, and `least`, where least
-// costs are kept until a cost or an owner changes. An end is an interface on its link, with what it sent.
-export function readTrace(text) {
+// A step is a record of the trace with the network as it was after it: the routers, their latest moment, what is out
+// (`link N` that is cut, `router R` that is silent), what the script says of that, and `least`, kept least costs.
+export function readTrace(text, script = '') {
   const trace = { steps: [], datagrams: [], links: new Map(), ends: [], routerAt: new Map() };
   for (const line of text.split('\n')) if (line) addRecord(trace, JSON.parse(line));
+  addOutages(trace.steps, script);
   return trace;
 }
 
 function addRecord(trace, record) {
-  const step = trace.steps.length, before = trace.steps.at(-1) ?? { routers: [], least: new Map() };
+  const step = trace.steps.length;
   if (record.record === 'start') addEnds(trace, record.routers);
   for (const sent of record.sent ?? []) addDatagram(trace, sent, step);
   if (record.event?.kind === 'deliver') addArrival(trace, record, step);
-  const routers = routersAfter(before.routers, record, step), changed = ['cost', 'gain', 'drop'].includes(record.event?.kind);
-  trace.steps.push({ record, routers, now: clockOf(routers), least: changed ? new Map() : before.least });
+  const routers = routersAfter(trace.steps.at(-1)?.routers ?? [], record, step);
+  trace.steps.push({ record, routers, now: Math.max(0, ...routers.map(router => router.timers.last)) });
 }
 
+// An end is an interface on its link, with what it sent.
 function addEnds(trace, routers) {
-  trace.ends = routers.map(({ interfaces }, router) => interfaces.map(({ addr, link }, iface) => ({ router, iface, addr, link, sent: [] })));
+  trace.ends = routers.map(({ interfaces }, router) =>
+    interfaces.map(({ addr, link }, iface) => ({ router, iface, addr, link, sent: [] })));
   for (const end of trace.ends.flat()) {
     trace.links.set(end.link, [...trace.links.get(end.link) ?? [], end]);
     trace.routerAt.set(end.addr, end.router);
@@ -37,7 +41,8 @@ function addDatagram(trace, sent, step) {
 function addArrival(trace, { router, event }, step) {
   const datagram = trace.datagrams[event.datagram], { arrivals, end } = datagram;
   arrivals.push({ end: trace.ends[router][event.iface], step });
-  if (datagram.doneAt === Infinity && otherEnds(trace, end).every(other => hasCome(datagram, other, step))) datagram.doneAt = step;
+  const isDone = otherEnds(trace, end).every(other => hasCome(datagram, other, step));
+  if (isDone) datagram.doneAt = Math.min(datagram.doneAt, step);
 }
 
 function routersAfter(routers, record, step) {
@@ -65,30 +70,57 @@ function tableAfter(table, { routes, gone, event }, step) {
   return after;
 }
 
+// Lines that cut links and silence routers have no record: each belongs to the step before it.
+const OUTAGES = new Map([['cut', ['link', 'is cut']], ['mend', ['link', 'is mended']],
+  ['silent', ['router', 'falls silent']], ['speaks', ['router', 'speaks again']]]);
+function addOutages(steps, script) {
+  const lines = script.split('\n'), numbers = new Map([...namesOf(script)].map(([router, name]) => [name, router]));
+  let out = new Set(), least = new Map(), at = 0;
+  steps.forEach((step, number) => {
+    const { record } = step, isRefused = record.record === 'refused', said = [];
+    const next = steps[number + 1]?.record.line ?? (isRefused ? 0 : lines.length + 1);
+    for (; at < Math.min(next - 1, lines.length); at++) {
+      const [word, what] = lines[at].split(' '), [kind, does] = OUTAGES.get(word) ?? [];
+      const thing = `${kind} ${kind === 'router' ? numbers.get(what) ?? what : what}`;
+      if (!kind) continue;
+      said.push(`line ${at + 1}: ${kind} ${what} ${does}`);
+      out = new Set([...out].filter(other => other !== thing));
+      if (/^(cut|silent)$/.test(word)) out.add(thing);
+    }
+    if (said.length > 0 || ['cost', 'gain', 'drop'].includes(record.event?.kind)) least = new Map();
+    Object.assign(step, { out, said, least });
+  });
+}
+
+export const routeAt = ({ routers }, router, prefix) => routers[router].table.get(prefix)?.route;
 export const otherEnds = (trace, end) => trace.links.get(end.link).filter(other => other !== end);
-export const hasCome = ({ arrivals }, end, step) => arrivals.some(arrival => arrival.step <= step && arrival.end === end);
+export const hasCome = ({ arrivals }, end, by) => arrivals.some(({ end: to, step }) => step <= by && to === end);
 // What was sent at an end and has not come to all others of its link, the newest first.
-export const onTheirWay = (end, step) => end.sent.filter(({ sentAt, doneAt }) => sentAt <= step && step < doneAt).reverse();
-// Whether nobody hears a datagram after a step, though some of its link have not heard it: it is lost, as far as the script goes.
+export const onTheirWay = ({ sent }, step) =>
+  sent.filter(({ sentAt, doneAt }) => sentAt <= step && step < doneAt).reverse();
+// Whether nobody hears a datagram after a step, though some of its link have not heard it: lost, as the script goes.
 export const isLost = ({ arrivals, doneAt }, step) => doneAt > step && !arrivals.some(arrival => arrival.step > step);
-const clockOf = routers => Math.max(0, ...routers.map(router => router.timers.last));
 
 // What a text names: `router R`, `iface R I`, `datagram N` or `route R PREFIX`; null where there is no such thing.
-export function named(text, trace) {
-  const [kind, ...words] = (text ?? '').split(' '), [first, second] = words.map(word => /^(0|[1-9]\d{0,8})$/.test(word) ? Number(word) : -1);
-  if (kind === 'datagram') return trace.datagrams[first] ? { kind, number: first } : null;
-  if (!trace.ends[first]) return null;
+export function named(text, { ends, datagrams }) {
+  const [kind, ...words] = (text ?? '').split(' ');
+  const [first, second] = words.map(word => /^(0|[1-9]\d{0,8})$/.test(word) ? Number(word) : -1);
+  if (kind === 'datagram') return datagrams[first] ? { kind, number: first } : null;
+  if (!ends[first]) return null;
   if (kind === 'router') return { kind, router: first };
-  if (kind === 'iface') return trace.ends[first][second] ? { kind, router: first, iface: second } : null;
+  if (kind === 'iface') return ends[first][second] ? { kind, router: first, iface: second } : null;
   return kind === 'route' && /^[0-9a-f:]+\/\d+$/.test(words[1]) ? { kind, router: first, prefix: words[1] } : null;
 }
 
-// The step to go to from another, forth (1) or back (-1), event by event, line by line, from change to change of a route, or from
-// remark to remark, where `captions` are those of lines; the last or the first where there is none.
+// The step to go to from another, forth (1) or back (-1): by events, lines, changes of a route, or remarks, where
+// `captions` are those of lines. It is the last or the first where there is none.
 export function nextStop({ steps }, captions, from, by, direction) {
   const lineOf = step => steps[step]?.record.line;
-  const isStop = { line: step => lineOf(step) !== lineOf(step + 1), change: step => steps[step].record.changes?.length > 0,
-    remark: step => captions[lineOf(step)] !== captions[lineOf(step - 1)] }[by] ?? (() => true);
+  const isStop = {
+    line: step => lineOf(step) !== lineOf(step + 1),
+    change: step => steps[step].record.changes?.length > 0,
+    remark: step => captions[lineOf(step)] !== captions[lineOf(step - 1)],
+  }[by] ?? (() => true);
   let step = from + direction;
   while (steps[step] && !isStop(step)) step += direction;
   return Math.max(0, Math.min(steps.length - 1, step));

@@ -39,7 +39,7 @@ pub record IsRestingOn (net : Network) (w : World) (first router : ℕ) (p : Pre
   pub origin : r.origin ≡ Learned iface (address_at net sent.router sent.iface) next_hop
 
 -- a route that is taken rests on the datagram that is heard
-pub taken_rests : (net : Network) (w : World) (e : Event) (answer : Answer) (router : ℕ) (s t : State) (node : Node) → slice_get net router ≡ Some node → s.config ≡ config_of node
+unfoldable pub taken_rests : (net : Network) (w : World) (e : Event) (answer : Answer) (router : ℕ) (s t : State) (node : Node) → slice_get net router ≡ Some node → s.config ≡ config_of node
     → (here : HearsHere net w e answer router s t) (p : Prefix6) (r : RouteValue) (until : ℕ)
     → IsTaken (gateway_of s (max s.last here.now) (arrival_of net here.sent here.iface here.now)) here.hears.entries p r until
     → (first : ℕ) → first ≤ here.datagram → IsRestingOn net w first router p r

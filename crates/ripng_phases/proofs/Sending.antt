@@ -1,10 +1,13 @@
 -- All that an ordinary event sends tells, below 16, what its sender then holds.
-use Rattle.std.proofs.Common.{◌≡◌, ℕ, ◌+◌, ◌%◌, max, ◌≤◌, Bool, true, false, cond, MatchBool, MatchOption, List, [], ◌∷◌, ◌++◌, map, Option, Some, None, slice_get, refl, ap, sym, subst, ◌∙◌, arith}
+use Rattle.std.proofs.Common.{◌≡◌, ℕ, ◌+◌, ◌%◌, max, Bool, true, false, cond, MatchBool, MatchOption, List, [], ◌∷◌, ◌++◌, map, Option, Some, None, option_and_then, slice_get, refl, ap, sym, subst, ◌∙◌}
 use Rattle.std.specs.List.{AllByRecursion}
 use Rattle.ripng_wire.specs.Wire.{is_response}
+use Rattle.std.specs.FinMap as map_of
+use Rattle.prefix6.specs.Prefix.{Prefix6, IsPrefix}
+use Rattle.route_table.specs.Route.{RouteValue}
 use Rattle.route_table.specs.Table.{Table}
-use Rattle.router_core.specs.Ageing.{aged_table, unmarked}
-use Rattle.router_core.specs.Config.{Config}
+use Rattle.route_table.proofs.TableLaws.{None-Some, get-map_values}
+use Rattle.router_core.specs.Ageing.{aged, aged_table, unmarked}
 use Rattle.router_core.specs.Faults.{fault}
 use Rattle.router_core.specs.Machine.{State, Happening, Arrives, Ticks, Hears, Replies, Refuses, is_regular_due, is_triggered_due}
 use Rattle.router_core.specs.Output.{AreSpelled}
@@ -12,35 +15,33 @@ use Rattle.router_core.specs.Received.{Received}
 use Rattle.router_core.specs.declared.answer.Answer.{Answer}
 use Rattle.router_core.specs.declared.answer.Outgoing.{Outgoing}
 use Rattle.router_core.specs.declared.arrival.Fault.{Fault}
-use Rattle.router_core.specs.declared.reconfiguring.Change.{Change}
-use Rattle.ripng_world.specs.Network.{Network, IsNetwork}
+use Rattle.ripng_world.specs.Network.{Network}
 use Rattle.ripng_world.specs.World.{World, Event, Deliver, Stranger, Tick, Restart, Reconfigure, RouterMoves, Happens, arrival_of, sent_by}
 use Rattle.ripng_world.specs.declared.sent.Sent.{Sent}
 use Rattle.ripng_world.proofs.Each.{each_mapped, each_weaker}
 use Rattle.ripng_world.proofs.HealHearing.{AreFew}
-use Rattle.ripng_world.proofs.Reached.{IsKnown, AreRows, aged_rows}
 use Rattle.ripng_world.proofs.RoundNeighbors.{set_here}
 use Rattle.ripng_phases.specs.Phases.{IsOrdinary}
-use Rattle.ripng_phases.proofs.Settled.{IsSettled, state_at}
+use Rattle.ripng_phases.proofs.Orderly.{IsOrderly}
 use Rattle.ripng_phases.proofs.Telling.{IsClean, IsTrueDatagram, replies_sound, tick_sound, unmarked_true}
 
 -- the datagram tells what its sender holds
 abbrev pub IsToldTruly : World → Sent → Type 0
-IsToldTruly w d = (s : State) × (slice_get w.states d.router ≡ Some s) × IsTrueDatagram s.table d.bytes
+IsToldTruly w d = (s : State) × (slice_get w.states d.router ≡ Some s) × IsTrueDatagram s.table d.iface d.bytes
 
 -- what is sent on the way from one world to the next tells what its senders then hold
 abbrev pub TellsTruly : World → World → Type 0
 TellsTruly w w' = (new : List Sent) × (w'.sent ≡ w.sent ++ new) × AllByRecursion (IsToldTruly w') new
 
 abbrev AreTrue : Table → List Outgoing → Type 0
-AreTrue table sends = AllByRecursion (λ o. IsTrueDatagram table o.bytes) sends
+AreTrue table sends = AllByRecursion (λ o. IsTrueDatagram table o.iface o.bytes) sends
 
 mover_tells : (w w' : World) (mover : ℕ) (what : Happening) (answer : Answer) (m : RouterMoves w mover what answer w') → AreTrue m.new.table answer.sends → TellsTruly w w'
 mover_tells w w' mover what answer m all = (
   map (sent_by mover) answer.sends,
   m.sent,
   each_mapped (IsToldTruly w') (sent_by mover) answer.sends
-      (each_weaker (λ o. IsToldTruly w' (sent_by mover o)) (λ o. IsTrueDatagram m.new.table o.bytes)
+      (each_weaker (λ o. IsToldTruly w' (sent_by mover o)) (λ o. IsTrueDatagram m.new.table o.iface o.bytes)
       (λ o t. (m.new, ap (λ (xs : List State). slice_get xs mover) m.states ∙ set_here w.states mover m.old m.new m.old_is, t)) answer.sends all),
 )
 
@@ -49,8 +50,8 @@ ticked_true : (old : State) (n word : ℕ) (sends : List Outgoing) → AreTrue (
     → let new = cond b (record old { table = unmarked (aged_table n old.table); last = n; regular = n + 15_000 + word % 30_001 })
     (cond c (record old { table = unmarked (aged_table n old.table); last = n; hold = n + 1_000 + word % 4_001 }) (record old { table = aged_table n old.table; last = n })) in
     AreTrue new.table sends
-ticked_true old n word sends all true c = each_weaker (λ o. IsTrueDatagram (unmarked (aged_table n old.table)) o.bytes) (λ o. IsTrueDatagram (aged_table n old.table) o.bytes) (λ o t. unmarked_true (aged_table n old.table) o.bytes t) sends all
-ticked_true old n word sends all false true = each_weaker (λ o. IsTrueDatagram (unmarked (aged_table n old.table)) o.bytes) (λ o. IsTrueDatagram (aged_table n old.table) o.bytes) (λ o t. unmarked_true (aged_table n old.table) o.bytes t) sends all
+ticked_true old n word sends all true c = each_weaker (λ o. IsTrueDatagram (unmarked (aged_table n old.table)) o.iface o.bytes) (λ o. IsTrueDatagram (aged_table n old.table) o.iface o.bytes) (λ o t. unmarked_true (aged_table n old.table) o.iface o.bytes t) sends all
+ticked_true old n word sends all false true = each_weaker (λ o. IsTrueDatagram (unmarked (aged_table n old.table)) o.iface o.bytes) (λ o. IsTrueDatagram (aged_table n old.table) o.iface o.bytes) (λ o t. unmarked_true (aged_table n old.table) o.iface o.bytes t) sends all
 ticked_true old n word sends all false false = all
 
 -- an arrival
@@ -66,30 +67,30 @@ arrived_true old new x answer clean None true hears = by answer.sends hears.answ
 arrived_true old new x answer clean None false replies =
     subst (λ (t : Table). AreTrue t answer.sends) (sym (ap (λ (s : State). s.table) replies.state)) (replies_sound old.table clean old (max old.last x.now) x answer new refl replies)
 
-module _ (net : Network) (is_net : IsNetwork net) (changes : List (ℕ × Change)) (fits : AreFew (IsKnown (record { net = net; changes = changes }))) where
-  clean_rows : (config : Config) (last : ℕ) (table : Table) → AreRows (record { net = net; changes = changes }) config last table → IsClean table
-  clean_rows config last table rows p r at = (fits.prefixes p (rows p r at).plain.is_known).clear
+module _ (net : Network) (known : Prefix6 → Type 0) (fits : AreFew known) where
+  clean_state : (w : World) → IsOrderly net known w → (router : ℕ) (s : State) → slice_get w.states router ≡ Some s → IsClean s.table
+  clean_state w orderly router s is p r at = fits.prefixes p ((orderly.states router s is).plain p r at).is_known
 
-  pub event_tells : (w w' : World) → IsSettled net is_net changes w → (e : Event) (answer : Answer) → IsOrdinary e → Happens net w e answer w' → TellsTruly w w'
-  event_tells w w' settled (Deliver datagram to iface now) answer plain d =
-      let rows = (state_at net is_net changes w settled to d.moves.old d.moves.old_is).reached.rows in
+  aged_clean : (n : ℕ) (table : Table) → IsClean table → IsClean (aged_table n table)
+  aged_clean n table clean p q at = by_value (map_of.get table p) refl (sym (get-map_values (aged n) table p) ∙ at)
+    where
+      by_value : (o : Option RouteValue) → map_of.get table p ≡ o → option_and_then (aged n) o ≡ Some q → IsPrefix p
+      by_value None is e = absurd (None-Some q e)
+      by_value (Some r) is e = clean p r is
+
+  pub event_tells : (w w' : World) → IsOrderly net known w → (e : Event) (answer : Answer) → IsOrdinary e → Happens net w e answer w' → TellsTruly w w'
+  event_tells w w' orderly (Deliver datagram to iface now) answer plain d =
       mover_tells w w' to (Arrives (arrival_of net d.sent iface now)) answer d.moves
-      (arrived_true d.moves.old d.moves.new (arrival_of net d.sent iface now) answer (clean_rows d.moves.old.config d.moves.old.last d.moves.old.table rows)
+      (arrived_true d.moves.old d.moves.new (arrival_of net d.sent iface now) answer (clean_state w orderly to d.moves.old d.moves.old_is)
       (fault d.moves.old.config (arrival_of net d.sent iface now)) (is_response d.sent.bytes) d.moves.moves)
-  event_tells w w' settled (Stranger to x) answer plain i =
-      let rows = (state_at net is_net changes w settled to i.moves.old i.moves.old_is).reached.rows in
+  event_tells w w' orderly (Stranger to x) answer plain i =
       mover_tells w w' to (Arrives x) answer i.moves
-      (arrived_true i.moves.old i.moves.new x answer (clean_rows i.moves.old.config i.moves.old.last i.moves.old.table rows) (fault i.moves.old.config x) (is_response x.bytes) i.moves.moves)
-  event_tells w w' settled (Tick to now word) answer plain m =
+      (arrived_true i.moves.old i.moves.new x answer (clean_state w orderly to i.moves.old i.moves.old_is) (fault i.moves.old.config x) (is_response x.bytes) i.moves.moves)
+  event_tells w w' orderly (Tick to now word) answer plain m =
       let n : ℕ = max m.old.last now in
-      let rows = (state_at net is_net changes w settled to m.old m.old_is).reached.rows in
-      let clean = clean_rows m.old.config n (aged_table n m.old.table)
-      (aged_rows (record { net = net; changes = changes }) m.old.config m.old.last n m.old.table (later m.old.last now) rows) in
+      let clean = aged_clean n m.old.table (clean_state w orderly to m.old m.old_is) in
       mover_tells w w' to (Ticks now word) answer m
       (subst (λ (s : State). AreTrue s.table answer.sends) (sym m.moves.state)
       (ticked_true m.old n word answer.sends (tick_sound (aged_table n m.old.table) clean m.old n answer.sends refl m.moves.answer_is.sends) (is_regular_due m.old n) (is_triggered_due m.old n)))
-    where
-      later : (l m : ℕ) → l ≤ max l m
-      later l m = omega arith
-  event_tells w w' settled (Restart to now) answer plain m = absurd plain
-  event_tells w w' settled (Reconfigure to now c) answer plain m = absurd plain
+  event_tells w w' orderly (Restart to now) answer plain m = absurd plain
+  event_tells w w' orderly (Reconfigure to now c) answer plain m = absurd plain

@@ -1,15 +1,16 @@
--- What a router sends of a prefix below 16 is what its table holds.
-use Rattle.std.proofs.Common.{◌≡◌, ℕ, ◌+◌, ◌*◌, ◌-◌, ◌/◌, ◌<◌, Bool, true, false, cond, ◌&&◌, ◌==◌, nat_le, List, [], ◌∷◌, map, drop, length, flat_map, slice_range, Option, Some, None, option_and_then, refl, ap, sym, subst, ◌∙◌, arith}
+-- What a router sends of a prefix is what its table holds, but where it was learned on the interface: there it may be told as lost.
+use Rattle.std.proofs.Common.{◌≡◌, ◌⊎◌, inl, inr, ℕ, ◌+◌, ◌*◌, ◌-◌, ◌/◌, ◌<◌, ◌≤◌, Bool, true, false, cond, ◌&&◌, ◌==◌, nat_le, List, [], ◌∷◌, map, drop, length, flat_map, slice_range, Option, Some, None, option_and_then, refl, ap, sym, subst, ◌∙◌, arith}
 use Rattle.std.specs.List.{AllByRecursion, enumerate_from}
 use Rattle.std.specs.FinMap as map_of
-use Rattle.prefix6.specs.Prefix.{Prefix6, cleared}
+use Rattle.std.proofs.lemmas.Bool.Decides.{nat_tests}
+use Rattle.prefix6.specs.Prefix.{Prefix6, IsPrefix, cleared}
 use Rattle.ripng_wire.specs.declared.rte.Rte.{Rte}
 use Rattle.ripng_wire.specs.declared.rte.Command.TheVariants.{Response}
 use Rattle.ripng_wire.specs.Layout.{Spells, entries_for_mtu}
 use Rattle.ripng_wire.proofs.OneReading.{one_reading}
 use Rattle.route_table.specs.Route.{RouteValue, infinity}
 use Rattle.route_table.specs.Table.{Table}
-use Rattle.route_table.proofs.TableLaws.{all_entries, get-map_values, None-Some}
+use Rattle.route_table.proofs.TableLaws.{all_entries, get-map_values, None-Some, Some-same}
 use Rattle.router_core.specs.Config.{Config, mtu_at}
 use Rattle.router_core.specs.Received.{Received}
 use Rattle.router_core.specs.Faults.{ripng_port}
@@ -23,75 +24,83 @@ use Rattle.router_core.specs.declared.answer.Destination.TheVariants.{Group, Pee
 use Rattle.router_core.specs.Offers.{prefix_named}
 use Rattle.ripng_world.proofs.Each.{each_filter, each_take, each_drop, each_mapped, each_image, each_flat, each_weaker}
 
--- prefixes are cleared
+-- prefixes are prefixes
 abbrev pub IsClean : Table → Type 0
-IsClean table = (p : Prefix6) (r : RouteValue) → map_of.get table p ≡ Some r → cleared p.addr p.len ≡ p
+IsClean table = (p : Prefix6) (r : RouteValue) → map_of.get table p ≡ Some r → IsPrefix p
 
--- the entry, below 16, tells what the table holds
-abbrev pub IsTrueOf : Table → Rte → Type 0
-IsTrueOf table e = e.metric < infinity → (r : RouteValue) × (map_of.get table (prefix_named e) ≡ Some r) × (r.metric ≡ e.metric)
+-- the entry, sent on the interface, tells what the table holds, if it is below 16; and what the table holds is told, or was learned there
+pub record IsTrueOf (table : Table) (iface : ℕ) (e : Rte) : Type 0 where
+  pub low : e.metric < infinity → (r : RouteValue) × (map_of.get table (prefix_named e) ≡ Some r) × (r.metric ≡ e.metric)
+  pub full : (r : RouteValue) → map_of.get table (prefix_named e) ≡ Some r → (e.metric ≡ r.metric) ⊎ (is_learned_on iface r.origin ≡ true)
 
 -- so do all entries of a Response
-abbrev pub IsTrueDatagram : Table → List ℕ → Type 0
-IsTrueDatagram table bytes = (entries : List Rte) → Spells Response entries bytes → AllByRecursion (IsTrueOf table) entries
+abbrev pub IsTrueDatagram : Table → ℕ → List ℕ → Type 0
+IsTrueDatagram table iface bytes = (entries : List Rte) → Spells Response entries bytes → AllByRecursion (IsTrueOf table iface) entries
+
+not_low : (m : ℕ) → m ≡ 16 → m < 16 → ⊥
+not_low m a b = omega arith
 
 module _ (table : Table) (clean : IsClean table) where
-  poison : (e : Rte) → e.metric ≡ infinity → IsTrueOf table e
-  poison e is low = absurd (no e.metric is low)
+  abbrev AllTrue : ℕ → List Rte → Type 0
+  AllTrue iface entries = AllByRecursion (IsTrueOf table iface) entries
+
+  told_true : (iface : ℕ) (p : Prefix6) (r : RouteValue) → map_of.get table p ≡ Some r → IsTrueOf table iface (told_entry iface (p, r))
+  told_true iface p r at = by (is_learned_on iface r.origin) refl
     where
-      no : (m : ℕ) → m ≡ 16 → m < 16 → ⊥
-      no m a b = omega arith
+      named : map_of.get table (cleared p.addr p.len) ≡ Some r
+      named = ap (map_of.get table) (clean p r at).clear ∙ at
 
-  abbrev AllTrue : List Rte → Type 0
-  AllTrue entries = AllByRecursion (IsTrueOf table) entries
+      by : (b : Bool) → is_learned_on iface r.origin ≡ b → IsTrueOf table iface (record { addr = p.addr; tag = r.tag; len = p.len; metric = cond b infinity r.metric })
+      by true learned =
+          record {
+            low = λ low. absurd (not_low infinity refl low);
+            full = λ q here. inr (subst (λ (x : RouteValue). is_learned_on iface x.origin ≡ true) (Some-same r q (sym named ∙ here)) learned);
+          }
+      by false learned = record { low = λ low. (r, named, refl); full = λ q here. inl (ap (λ (x : RouteValue). x.metric) (Some-same r q (sym named ∙ here))) }
 
-  told_true : (iface : ℕ) (p : Prefix6) (r : RouteValue) → map_of.get table p ≡ Some r → IsTrueOf table (told_entry iface (p, r))
-  told_true iface p r at =
-      elim (is_learned_on iface r.origin) as (λ b. IsTrueOf table (record { addr = p.addr; tag = r.tag; len = p.len; metric = cond b infinity r.metric })) [
-        | true ↦ poison (record { addr = p.addr; tag = r.tag; len = p.len; metric = infinity }) refl
-        | false ↦ λ low. (r, ap (map_of.get table) (clean p r at) ∙ at, refl)
-      ]
-
-  all_told : (iface : ℕ) (which : RouteValue → Bool) → AllTrue (told iface which table)
+  all_told : (iface : ℕ) (which : RouteValue → Bool) → AllTrue iface (told iface which table)
   all_told iface which =
-      each_mapped (IsTrueOf table) (told_entry iface) _
-      (each_filter (λ (t : Prefix6 × RouteValue). IsTrueOf table (told_entry iface t)) (λ t. which t.1) (map_of.entries table)
-      (all_entries (λ t. IsTrueOf table (told_entry iface t)) table (λ p r here. told_true iface p r here)))
+      each_mapped (IsTrueOf table iface) (told_entry iface) _
+      (each_filter (λ (t : Prefix6 × RouteValue). IsTrueOf table iface (told_entry iface t)) (λ t. which t.1) (map_of.entries table)
+      (all_entries (λ t. IsTrueOf table iface (told_entry iface t)) table (λ p r here. told_true iface p r here)))
 
-  filled_true : (e : Rte) (o : Option RouteValue) → ((r : RouteValue) → o ≡ Some r → map_of.get table (cleared e.addr e.len) ≡ Some r) → IsTrueOf table (filled e o)
-  filled_true e None at = poison (record e { metric = infinity }) refl
-  filled_true e (Some r) at = λ low. (r, at r refl, refl)
-
-  reply_true : (e : Rte) → IsTrueOf table (reply_entry table e)
-  reply_true e = by_length (nat_le e.len 128)
+  reply_true : (iface : ℕ) (e : Rte) → IsTrueOf table iface (reply_entry table e)
+  reply_true iface e = by_length (nat_le e.len 128) refl
     where
-      by_length : (b : Bool) → IsTrueOf table (filled e (cond b (map_of.get table (cleared e.addr e.len)) None))
-      by_length true = filled_true e _ (λ r is. is)
-      by_length false = filled_true e None (λ r is. absurd (None-Some r is))
+      by_value : (o : Option RouteValue) → map_of.get table (cleared e.addr e.len) ≡ o → IsTrueOf table iface (filled e o)
+      by_value None is = record { low = λ low. absurd (not_low infinity refl low); full = λ q here. absurd (None-Some q (sym is ∙ here)) }
+      by_value (Some r) is = record { low = λ low. (r, is, refl); full = λ q here. inl (ap (λ (x : RouteValue). x.metric) (Some-same r q (sym is ∙ here))) }
 
-  all_replied : (iface : ℕ) (asked : List Rte) → AllTrue (reply iface table asked)
+      too_long : (n : ℕ) → nat_le n 128 ≡ false → n ≤ 128 → ⊥
+      too_long n a b = grind (arith, nat_tests, a, b)
+
+      by_length : (b : Bool) → nat_le e.len 128 ≡ b → IsTrueOf table iface (filled e (cond b (map_of.get table (cleared e.addr e.len)) None))
+      by_length true short = by_value (map_of.get table (cleared e.addr e.len)) refl
+      by_length false long = record { low = λ low. absurd (not_low infinity refl low); full = λ q here. absurd (too_long e.len long (clean (cleared e.addr e.len) q here).short) }
+
+  all_replied : (iface : ℕ) (asked : List Rte) → AllTrue iface (reply iface table asked)
   all_replied iface asked =
-      elim (asks_for_all asked) as (λ b. AllTrue (cond b (told iface every_route table) (map (reply_entry table) asked))) [
+      elim (asks_for_all asked) as (λ b. AllTrue iface (cond b (told iface every_route table) (map (reply_entry table) asked))) [
         | true ↦ all_told iface every_route
-        | false ↦ each_image (IsTrueOf table) (reply_entry table) reply_true asked
+        | false ↦ each_image (IsTrueOf table iface) (reply_entry table) (reply_true iface) asked
       ]
 
   abbrev IsTrueMessage : Message → Type 0
-  IsTrueMessage m = m.command ≡ Response → AllTrue m.entries
+  IsTrueMessage m = m.command ≡ Response → AllTrue m.iface m.entries
 
   abbrev AllTrueMessages : List Message → Type 0
   AllTrueMessages ms = AllByRecursion IsTrueMessage ms
 
-  pieces_true : (n : ℕ) (entries : List Rte) → AllTrue entries → AllByRecursion AllTrue (pieces n entries)
-  pieces_true n entries all =
-      each_image AllTrue (λ k. slice_range entries (n * k) (n * k + n))
-      (λ k. each_take (IsTrueOf table) ((n * k + n) - n * k) (drop (n * k) entries) (each_drop (IsTrueOf table) (n * k) entries all))
+  pieces_true : (iface n : ℕ) (entries : List Rte) → AllTrue iface entries → AllByRecursion (AllTrue iface) (pieces n entries)
+  pieces_true iface n entries all =
+      each_image (AllTrue iface) (λ k. slice_range entries (n * k) (n * k + n))
+      (λ k. each_take (IsTrueOf table iface) ((n * k + n) - n * k) (drop (n * k) entries) (each_drop (IsTrueOf table iface) (n * k) entries all))
       (numbers_below ((length entries + (n - 1)) / n))
 
-  responses_true : (config : Config) (iface : ℕ) (to : Destination) (entries : List Rte) → AllTrue entries → AllTrueMessages (responses config iface to entries)
+  responses_true : (config : Config) (iface : ℕ) (to : Destination) (entries : List Rte) → AllTrue iface entries → AllTrueMessages (responses config iface to entries)
   responses_true config iface to entries all =
       each_mapped IsTrueMessage (λ piece. record { iface = iface; to = to; command = Response; entries = piece }) (pieces (entries_for_mtu (mtu_at config iface)) entries)
-      (each_weaker (λ piece. Response ≡ Response → AllTrue piece) AllTrue (λ piece t _. t) _ (pieces_true (entries_for_mtu (mtu_at config iface)) entries all))
+      (each_weaker (λ piece. Response ≡ Response → AllTrue iface piece) (AllTrue iface) (λ piece t _. t) _ (pieces_true iface (entries_for_mtu (mtu_at config iface)) entries all))
 
   updates_true : (config : Config) (which : RouteValue → Bool) → AllTrueMessages (update_messages config which table)
   updates_true config which =
@@ -109,7 +118,7 @@ module _ (table : Table) (clean : IsClean table) where
       ]
 
   abbrev AllSound : List Outgoing → Type 0
-  AllSound sends = AllByRecursion (λ o. IsTrueDatagram table o.bytes) sends
+  AllSound sends = AllByRecursion (λ o. IsTrueDatagram table o.iface o.bytes) sends
 
   spelled_true : (ms : List Message) (sends : List Outgoing) → AllTrueMessages ms → AreSpelled ms sends → AllSound sends
   spelled_true [] [] all spelled = tt
@@ -118,7 +127,7 @@ module _ (table : Table) (clean : IsClean table) where
   spelled_true (m ∷ ms) (o ∷ os) all spelled = (
     λ entries read.
         let one : (m.command ≡ Response) × (m.entries ≡ entries) = one_reading m.command Response m.entries entries o.bytes spelled.0.bytes read in
-        subst AllTrue one.1 (all.0 one.0),
+        subst (λ i. AllTrue i entries) (sym spelled.0.iface) (subst (AllTrue m.iface) one.1 (all.0 one.0)),
     spelled_true ms os all.1 spelled.1,
   )
 
@@ -147,8 +156,17 @@ module _ (table : Table) (clean : IsClean table) where
           ]
 
 -- what is true of a table is true of it without its marks
-pub unmarked_true : (table : Table) (bytes : List ℕ) → IsTrueDatagram table bytes → IsTrueDatagram (unmarked table) bytes
-unmarked_true table bytes all entries spelled =
-    each_weaker (IsTrueOf (unmarked table)) (IsTrueOf table)
-    (λ e true_of low. let r = true_of low in (record r.0 { changed = false }, get-map_values without_mark table (prefix_named e) ∙ ap (option_and_then without_mark) r.1, r.2))
+pub unmarked_true : (table : Table) (iface : ℕ) (bytes : List ℕ) → IsTrueDatagram table iface bytes → IsTrueDatagram (unmarked table) iface bytes
+unmarked_true table iface bytes all entries spelled =
+    each_weaker (IsTrueOf (unmarked table) iface) (IsTrueOf table iface)
+    (λ e true_of. record {
+      low = λ low. let r = true_of.low low in (record r.0 { changed = false }, get-map_values without_mark table (prefix_named e) ∙ ap (option_and_then without_mark) r.1, r.2);
+      full = λ q here. by_value e true_of q (map_of.get table (prefix_named e)) refl (sym (get-map_values without_mark table (prefix_named e)) ∙ here);
+    })
     entries (all entries spelled)
+  where
+    by_value : (e : Rte) → IsTrueOf table iface e → (q : RouteValue) (o : Option RouteValue) → map_of.get table (prefix_named e) ≡ o → option_and_then without_mark o ≡ Some q
+        → (e.metric ≡ q.metric) ⊎ (is_learned_on iface q.origin ≡ true)
+    by_value e true_of q None is f = absurd (None-Some q f)
+    by_value e true_of q (Some r) is f =
+        subst (λ (x : RouteValue). (e.metric ≡ x.metric) ⊎ (is_learned_on iface x.origin ≡ true)) (Some-same (record r { changed = false }) q f) (true_of.full r is)

@@ -5,7 +5,7 @@ use Rattle.router_core.specs.declared.answer.Answer.{Answer}
 use Rattle.router_core.specs.declared.answer.NoteKind.TheVariants.{NoMemory}
 use Rattle.ripng_world.specs.Network.{Network, AreLinked}
 use Rattle.ripng_world.specs.World.{World, Event, Deliver, Tick, Restart, Reconfigure, Happens}
-use Rattle.ripng_world.specs.Rounds.{IsDueTick, moment_of, router_of}
+use Rattle.ripng_world.specs.Rounds.{Round, IsDueTick, IsMomentOf, moment_of, router_of}
 use Rattle.ripng_world.specs.declared.sent.Sent.{Sent}
 
 -- ---- what happens in a phase
@@ -103,14 +103,18 @@ pub record Before : Type 1 where
   pub counts : ℕ → Type 0
   pub moments : ℕ → ℕ → Type 0
 
+-- two moments of a router in the steps, or in them and before, are less than the garbage time apart
+abbrev pub AreNear : Before → List Step → Type 0
+AreNear past steps = (router x y : ℕ) → past.moments router x ⊎ IsMomentIn steps router x → IsMomentIn steps router y
+    → (x < y + garbage_time) × (y < x + garbage_time)
+
 -- one phase, by its four rules
 pub record IsPhase (net : Network) (past : Before) (w : World) (steps : List Step) (w' : World) : Type 0 where
   pub takes : Takes net w steps w'
   pub told : (router : ℕ) → router < length net → IsHeardUpdate net w steps router
   pub recent : (datagram router iface now : ℕ) → Contains (events_of steps) (Deliver datagram router iface now) → past.first ≤ datagram
   pub in_order : IsOvertaken (λ count. past.counts count ⊎ IsCount w steps count) w steps → ⊥
-  pub close : (router x y : ℕ) → past.moments router x ⊎ IsMomentIn steps router x → IsMomentIn steps router y
-      → (x < y + garbage_time) × (y < x + garbage_time)
+  pub close : AreNear past steps
 
 -- what the next phase has before it
 abbrev pub before_next : World → List Step → Before
@@ -125,6 +129,45 @@ PhasesAfter net past w (steps ∷ phases) w' = (mid : World) × IsPhase net past
 abbrev pub Phases : Network → World → List (List Step) → World → Type 0
 Phases net w phases w' = PhasesAfter net (record { first = 0; counts = λ _. ⊥; moments = λ _ _. ⊥ }) w phases w'
 
+-- what has happened since the last phase was over: no update needs to come yet, and nothing needs to come in order
+pub record IsBegun (net : Network) (past : Before) (w : World) (steps : List Step) (w' : World) : Type 0 where
+  pub takes : Takes net w steps w'
+  pub recent : (datagram router iface now : ℕ) → Contains (events_of steps) (Deliver datagram router iface now) → past.first ≤ datagram
+  pub close : AreNear past steps
+
+-- phases one after another, and what has happened since
+abbrev pub BegunAfter : Network → Before → World → List (List Step) → List Step → World → Type 0
+BegunAfter net past w [] since w' = IsBegun net past w since w'
+BegunAfter net past w (steps ∷ phases) since w' = (mid : World) × IsPhase net past w steps mid × BegunAfter net (before_next w steps) mid phases since w'
+
+-- so it is from the first on, at any moment
+abbrev pub Begun : Network → World → List (List Step) → List Step → World → Type 0
+Begun net w phases since w' = BegunAfter net (record { first = 0; counts = λ _. ⊥; moments = λ _ _. ⊥ }) w phases since w'
+
 -- all steps of phases, in order
 abbrev pub steps_of : List (List Step) → List Step
 steps_of phases = flat_map (λ steps. steps) phases
+
+-- ---- rounds, as phases
+
+-- two moments of a router in one round, or in it and the round before, are less than a garbage time apart
+abbrev pub AreCloseAfter : (ℕ → ℕ → Type 0) → List Round → Type 0
+AreCloseAfter before [] = Unit {0}
+AreCloseAfter before (round ∷ rounds) =
+    ((router x y : ℕ) → before router x ⊎ IsMomentOf round router x → IsMomentOf round router y → (x < y + garbage_time) × (y < x + garbage_time))
+    × AreCloseAfter (IsMomentOf round) rounds
+
+-- so it is from the first round on
+abbrev pub AreClose : List Round → Type 0
+AreClose rounds = AreCloseAfter (λ _ _. ⊥) rounds
+
+-- all that happens in rounds, in order
+abbrev pub events_in : List Round → List Event
+events_in rounds = flat_map (λ r. r.ticks ++ r.deliveries) rounds
+
+-- phases that are just these rounds
+pub record ArePhases (net : Network) (w : World) (rounds : List Round) (w' : World) : Type 0 where
+  pub phases : List (List Step)
+  pub are : Phases net w phases w'
+  pub as_many : length phases ≡ length rounds
+  pub same_events : events_of (steps_of phases) ≡ events_in rounds

@@ -1,13 +1,17 @@
 //! Laws of phases, each the contract of a function with nothing to do: what follows from the definitions alone.
 
-ghost use Rattle.std.specs.Prelude.{◌≡◌, ℕ, ◌+◌, ◌*◌, ◌<◌, ◌≤◌, List, ◌++◌, length, Some, slice_get};
+ghost use Rattle.std.specs.Prelude.{◌≡◌, ℕ, ◌+◌, ◌*◌, ◌<◌, ◌≤◌, List, ◌++◌, length, All, Some, slice_get};
 ghost use Rattle.std.specs.List.{AllByRecursion};
 ghost use Rattle.router_core.specs.Machine.{State};
+ghost use Rattle.ripng_world.specs.Convergence.{IsNeverQuiet};
+ghost use Rattle.ripng_world.specs.Healing.{network_now, FitsTablesSince, AreHealed};
 ghost use Rattle.ripng_world.specs.Network.{Network, IsNetwork};
 ghost use Rattle.ripng_world.specs.Past.{IsTableBackedSince};
+ghost use Rattle.ripng_world.specs.Rounds.{Round, SynchronousRounds};
 ghost use Rattle.ripng_world.specs.TruthSince.{IsSoundDatagramSince};
 ghost use Rattle.ripng_world.specs.World.{World, Event, IsCold, WorldRun, past_of};
-ghost use Rattle.ripng_phases.specs.Phases.{Step, Phases, steps_of, events_of, reached};
+ghost use Rattle.ripng_phases.specs.Minutes.{Timed, AreFrom, IsTimely, untimed};
+ghost use Rattle.ripng_phases.specs.Phases.{Step, Begun, Phases, AreClose, ArePhases, steps_of, events_of, reached};
 
 /// Phases are a run of just their events.
 pub fn phases_are_run()
@@ -40,4 +44,42 @@ pub fn phases_take_time()
         → Phases net w phases end → router < length net
         → slice_get w.states router ≡ Some first → slice_get end.states router ≡ Some last
         → first.regular + 15_000 * length phases ≤ last.regular }
+{}
+
+/// A network heals by itself: whatever happened before, 28 phases leave each table with exactly the least costs of now and nothing
+/// else below infinity. So it is at every moment of all further phases, and while the next is not over yet.
+pub fn heals_in_phases()
+    ensures healed { (net : Network) (moments : List ℕ) (events : List Event) (phases : List (List Step)) (cold w end : World)
+        → IsNetwork net → IsNeverQuiet net → IsCold net moments cold → WorldRun net cold events w → FitsTablesSince (past_of net w)
+        → Phases net w phases end → 28 ≤ length phases
+        → AreHealed (network_now (past_of net end)) end }
+    ensures stays { (net : Network) (moments : List ℕ) (events : List Event) (phases later : List (List Step)) (before after : List Step) (cold w end : World)
+        → IsNetwork net → IsNeverQuiet net → IsCold net moments cold → WorldRun net cold events w → FitsTablesSince (past_of net w)
+        → Phases net w (phases ++ later) end → 28 ≤ length phases → steps_of later ≡ before ++ after
+        → let now = reached w (steps_of phases ++ before) in AreHealed (network_now (past_of net now)) now }
+    ensures goes_on { (net : Network) (moments : List ℕ) (events : List Event) (phases : List (List Step)) (since : List Step) (cold w end : World)
+        → IsNetwork net → IsNeverQuiet net → IsCold net moments cold → WorldRun net cold events w → FitsTablesSince (past_of net w)
+        → Begun net w phases since end → 28 ≤ length phases
+        → AreHealed (network_now (past_of net end)) end }
+{}
+
+/// By one true clock: where links keep order, lose no regular update and take less than 15 seconds, so that each minute is a phase,
+/// each table has exactly the least costs of now 28 minutes after the last change, and from then on.
+pub fn heals_in_minutes()
+    ensures healed { (net : Network) (moments : List ℕ) (events : List Event) (history : List Timed) (start stop : ℕ) (cold w end : World)
+        → IsNetwork net → IsNeverQuiet net → IsCold net moments cold → WorldRun net cold events w → FitsTablesSince (past_of net w)
+        → IsTimely net w history start stop end → start + 28 * 60_000 ≤ stop
+        → AreHealed (network_now (past_of net end)) end }
+    ensures stays { (net : Network) (moments : List ℕ) (events : List Event) (history before after : List Timed) (start until stop : ℕ) (cold w end : World)
+        → IsNetwork net → IsNeverQuiet net → IsCold net moments cold → WorldRun net cold events w → FitsTablesSince (past_of net w)
+        → IsTimely net w history start stop end → start + 28 * 60_000 ≤ until → until ≤ stop
+        → history ≡ before ++ after → All (λ t. t.at < until) before → AreFrom until after
+        → let now = reached w (untimed before) in AreHealed (network_now (past_of net now)) now }
+{}
+
+/// Synchronous rounds are phases, where a router's moments in a round and the next lie less than 120 seconds apart: so what is said
+/// of phases is said of such rounds.
+pub fn rounds_are_phases()
+    ensures { (net : Network) (rounds : List Round) (w end : World) → SynchronousRounds net w rounds end → AreClose rounds
+        → ArePhases net w rounds end }
 {}

@@ -12,6 +12,19 @@ pub fn lab<W: Write>(alloc: Global, script: &[u8], out: &mut W) -> Result<bool, 
     Ok(ripngd_lab::lab(alloc, script, out)?)
 }
 
+/// Runs a script as [`lab`] does; `err` is told what a refused line should have been, as [`ripngd_hints::lab_hinted`] tells it.
+///
+/// # Errors
+/// Those of [`lab`].
+pub(crate) fn lab_hinted<W: Write, E: Write>(
+    alloc: Global,
+    script: &[u8],
+    out: &mut W,
+    err: &mut E,
+) -> Result<bool, PrintFault> {
+    Ok(ripngd_hints::lab_hinted(alloc, script, out, err)?)
+}
+
 /// Runs a script, as [`ripngd_trace::trace`] does, and answers whether every line was done.
 ///
 /// # Errors

@@ -11,8 +11,8 @@ use crate::subcommands::{film_file, lab_file, show_digits, trace_file};
 use clap::error::ErrorKind;
 use ripngd_command_line::{Ask, ask};
 use ripngd_daemon::{
-    Failure, FileSource, NOTHING_LOST, SystemFiles, check_file, run, table_file, write_failure,
-    write_losses,
+    Failure, FileSource, NOTHING_LOST, SystemFiles, check_file, ctl, run, table_file,
+    write_failure, write_losses,
 };
 use ripngd_engine::Report;
 use std::fs::File;
@@ -37,7 +37,8 @@ pub(crate) enum Status {
 /// Does what the words of a command line ask for, the first of them the program's name, and answers the exit status:
 ///
 /// - 0 where it is done; help or the version, if that was asked for, is written to `out`;
-/// - 1 where the datagram, the configuration, or a line of the script or of the log is refused, as a line on `out` says;
+/// - 1 where the datagram, the configuration, or a line of the script or of the log is refused, as a line on `out` says; of a
+///   script that `lab` runs, a line on `err` may say what the line should have been;
 /// - 2 at a fault of the command line, whose text is written to `err`;
 /// - 3 where something else failed, as a line on `err` says: `ripngd: cannot read FILE`, `ripngd: cannot write FILE` (with
 ///   `stdout` for `out`), `ripngd: cannot bind PORT`, `ripngd: cannot accept a connection`, `ripngd: link fault after N
@@ -120,9 +121,10 @@ fn accepts<
     match asked {
         Ask::Show(hex) => show_digits(rt.alloc(), hex, out),
         Ask::Check(file) => check_file(rt.alloc(), files, file, out),
-        Ask::Lab(file) => lab_file(rt.alloc(), files, file, out),
+        Ask::Lab(file) => lab_file(rt.alloc(), files, file, out, err),
         Ask::Trace(file) => trace_file(rt.alloc(), files, file, out),
         Ask::Run(order) => run(rt, files, order, out, err, lost),
+        Ask::Ctl(question) => ctl(rt, question, out),
         Ask::Table(file) => table_file(rt.alloc(), files, file, out),
         Ask::Page(order) => serve(rt, order, out),
         Ask::Film(file) => film_file(rt.alloc(), files, file, out),

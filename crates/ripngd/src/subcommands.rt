@@ -9,7 +9,7 @@ ghost use Rattle.ripngd_page.specs.Film.{film_text, name_of};
 ghost use Rattle.ripngd_show.specs.Shown.{IsShown};
 
 use crate::browser::film;
-use crate::laboratory::{lab, trace};
+use crate::laboratory::{lab_hinted, trace};
 use ripngd_daemon::{Failure, FileSource};
 use ripngd_show::show;
 use std::alloc::Global;
@@ -28,17 +28,18 @@ pub(crate) fn show_digits<'a, O: Write>(
     Ok(show(alloc, hex, out)?)
 }
 
-/// `lab SCRIPT`: whether every line of the file was done.
-pub(crate) fn lab_file<'a, F: FileSource, O: Write>(
+/// `lab SCRIPT`: whether every line of the file was done. What a refused line should have been is told on `err`.
+pub(crate) fn lab_file<'a, F: FileSource, O: Write, E: Write>(
     alloc: Global,
     files: &F,
     file: &'a str,
     out: &mut O,
+    err: &mut E,
 ) -> Result<bool, Failure<'a>>
     ensures answered { IfOk result (λ accepted. (script : List ℕ) × F.holds files.now file.entry.now script) }
     ensures failed { IfErr result (MayFail (asks.Lab file.entry)) }
 {
-    Ok(lab(alloc, files.read(file)?.as_slice(), out)?)
+    Ok(lab_hinted(alloc, files.read(file)?.as_slice(), out, err)?)
 }
 
 /// `lab --trace SCRIPT`: whether every line of the file was done.

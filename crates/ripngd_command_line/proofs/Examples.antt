@@ -55,3 +55,23 @@ turns_are_some = refl
 tag_has_two_bytes : fault_of ripngd (codes "ripngd" ∷ codes "run" ∷ codes "-t" ∷ codes "65536" ∷ codes "c" ∷ []) ≡ ValueValidation ∷ []
 unfolding clap_on_literals
 tag_has_two_bytes = refl
+
+-- `ctl east.sock cost 0 16`: up to three words behind the path
+cost_is_taken : takes ripngd (codes "ripngd" ∷ codes "ctl" ∷ codes "east.sock" ∷ codes "cost" ∷ codes "0" ∷ codes "16" ∷ []) ≡ true
+unfolding clap_on_literals
+cost_is_taken = refl
+
+-- `ctl east.sock routes`
+routes_are_taken : takes ripngd (codes "ripngd" ∷ codes "ctl" ∷ codes "east.sock" ∷ codes "routes" ∷ []) ≡ true
+unfolding clap_on_literals
+routes_are_taken = refl
+
+-- `ctl east.sock`
+command_is_missing : fault_of ripngd (codes "ripngd" ∷ codes "ctl" ∷ codes "east.sock" ∷ []) ≡ MissingRequiredArgument ∷ []
+unfolding clap_on_literals
+command_is_missing = refl
+
+-- `run --control east.sock c`
+control_is_taken : takes ripngd (codes "ripngd" ∷ codes "run" ∷ codes "--control" ∷ codes "east.sock" ∷ codes "c" ∷ []) ≡ true
+unfolding clap_on_literals
+control_is_taken = refl

@@ -5,6 +5,7 @@ use Rattle.clap.specs.Walk.{Row, Text, first_of, one_of}
 use Rattle.clap.specs.Simple.{subcommand_of}
 use Rattle.ripngd_command_line.specs.declared.asked.Ask.{Ask}
 use Rattle.ripngd_command_line.specs.declared.asked.Order.{Order}
+use Rattle.ripngd_command_line.specs.declared.asked.Question.{Question}
 use Rattle.ripngd_command_line.specs.declared.asked.Serve.{Serve}
 use Rattle.ripngd_command_line.specs.declared.asked.Ask.TheVariants as asks
 use Rattle.ripngd_command_line.specs.CommandLine.{ripngd}
@@ -29,7 +30,15 @@ pub record IsOrdered (order : Order) (rows : List Row) : Type 0 where
   pub log : option_map (λ s. s.now) order.log ≡ first_of (codes "log") rows
   pub turns : IsNumber rows (codes "turns") order.turns
   pub some : 1 ≤ order.turns
+  pub control : option_map (λ s. s.now) order.control ≡ first_of (codes "control") rows
   pub config : first_of (codes "CONFIG") rows ≡ Some order.config.now
+
+-- the rows of `ctl` ask this
+pub record IsQuestion (question : Question) (rows : List Row) : Type 0 where
+  pub socket : first_of (codes "PATH") rows ≡ Some question.socket.now
+  pub command : first_of (codes "COMMAND") rows ≡ Some question.command.now
+  pub what : option_map (λ s. s.now) question.what ≡ first_of (codes "WHAT") rows
+  pub value : option_map (λ s. s.now) question.value ≡ first_of (codes "VALUE") rows
 
 -- the rows of `page` order this, without a film
 pub record IsServed (serve : Serve) (rows : List Row) : Type 0 where
@@ -49,6 +58,7 @@ IsAsked (asks.Lab file) name rows =
 IsAsked (asks.Trace file) name rows =
     (name ≡ codes "lab") × (first_of (codes "SCRIPT") rows ≡ Some file.now) × IsSet rows (codes "trace")
 IsAsked (asks.Run order) name rows = (name ≡ codes "run") × IsOrdered order rows
+IsAsked (asks.Ctl question) name rows = (name ≡ codes "ctl") × IsQuestion question rows
 IsAsked (asks.Table file) name rows =
     (name ≡ codes "table") × (first_of (codes "LOG") rows ≡ Some file.now)
 IsAsked (asks.Page serve) name rows = (name ≡ codes "page") × IsServed serve rows

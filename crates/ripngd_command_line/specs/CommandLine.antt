@@ -22,6 +22,10 @@ pub record IsCommand (command : Command) (app : App) : Type 0 where
 abbrev pub positional : Text → Rule
 positional id = record (new_rule id) { required = true }
 
+-- an argument that may be given, by its place
+abbrev pub optional_rule : Text → Rule
+optional_rule id = new_rule id
+
 -- `-q`
 abbrev pub quiet_option : Rule
 quiet_option = record (new_rule (codes "quiet")) { short = Some 113; action = Some SetTrue }
@@ -51,6 +55,10 @@ turns_option = record (new_rule (codes "turns")) {
   parser = Some (parsers.Signed (pos 1) (pos 4294967295));
   defaults = codes "4294967295" ∷ [];
 }
+
+-- `--control PATH`
+abbrev pub control_option : Rule
+control_option = record (new_rule (codes "control")) { long = Some (codes "control"); value_names = 1 }
 
 -- `--trace`
 abbrev pub trace_option : Rule
@@ -94,23 +102,30 @@ versioned a = on_top (λ s. record s { has_version = true }) a
 abbrev pub lab_command : App
 lab_command = with_rule (with_rule (new_app (codes "lab")) trace_option) (positional (codes "SCRIPT"))
 
--- `run [-q] [-d] [-t TAG] [-R FILE] [--turns N] CONFIG`
+-- `run [-q] [-d] [-t TAG] [-R FILE] [--turns N] [--control PATH] CONFIG`
 abbrev pub run_command : App
 run_command =
-    with_rule (with_rule (with_rule (with_rule (with_rule (with_rule (new_app (codes "run"))
-    quiet_option) debug_option) tag_option) log_option) turns_option) (positional (codes "CONFIG"))
+    with_rule (with_rule (with_rule (with_rule (with_rule (with_rule (with_rule (new_app (codes "run"))
+    quiet_option) debug_option) tag_option) log_option) turns_option) control_option) (positional (codes "CONFIG"))
+
+-- `ctl PATH COMMAND [WHAT] [VALUE]`
+abbrev pub ctl_command : App
+ctl_command =
+    with_rule (with_rule (with_rule (with_rule (new_app (codes "ctl"))
+    (positional (codes "PATH"))) (positional (codes "COMMAND"))) (optional_rule (codes "WHAT"))) (optional_rule (codes "VALUE"))
 
 -- `page [--port N] [--requests N] [--film SCRIPT]`
 abbrev pub page_command : App
 page_command = with_rule (with_rule (with_rule (new_app (codes "page")) port_option) requests_option) film_option
 
--- `ripngd`, which tells its version, with `show HEX`, `check CONFIG`, `lab`, `run`, `table LOG` or `page`
+-- `ripngd`, which tells its version, with `show HEX`, `check CONFIG`, `lab`, `run`, `table LOG`, `page` or `ctl`
 abbrev pub ripngd : App
-ripngd = with_subcommand (with_subcommand (with_subcommand (with_subcommand (with_subcommand (with_subcommand
+ripngd = with_subcommand (with_subcommand (with_subcommand (with_subcommand (with_subcommand (with_subcommand (with_subcommand
     (subcommand_required (versioned (new_app (codes "ripngd"))))
     (one_argument (codes "show") (codes "HEX")).top)
     (one_argument (codes "check") (codes "CONFIG")).top)
     lab_command.top)
     run_command.top)
     (one_argument (codes "table") (codes "LOG")).top)
-    page_command.top
+    page_command.top)
+    ctl_command.top

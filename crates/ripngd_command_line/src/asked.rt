@@ -11,8 +11,10 @@ pub enum Ask<'a> {
     Lab(&'a str),
     /// `lab --trace SCRIPT`: all that happens as a file's script is run.
     Trace(&'a str),
-    /// `run [-q] [-d] [-t TAG] [-R FILE] [--turns N] CONFIG`: one router that runs.
+    /// `run [-q] [-d] [-t TAG] [-R FILE] [--turns N] [--control PATH] CONFIG`: one router that runs.
     Run(Order<'a>),
+    /// `ctl PATH COMMAND [WHAT] [VALUE]`: a router that runs is asked or told something.
+    Ctl(Question<'a>),
     /// `table LOG`: the forwarding table that a file's log makes.
     Table(&'a str),
     /// `page [--port N] [--requests N]`: the page of a laboratory, to browsers of this machine.
@@ -43,6 +45,21 @@ pub struct Order<'a> {
     pub log: Option<&'a str>,
     /// How many turns it makes, at least 1.
     pub turns: u32,
+    /// The path of the socket at which it is asked and told, if it is to be.
+    pub control: Option<&'a str>,
     /// The file of its configuration.
     pub config: &'a str,
+}
+
+/// What a router that runs is asked or told, in up to three words.
+#[derive(Clone, Copy, Debug, PartialEq, Eq)]
+pub struct Question<'a> {
+    /// The path of its socket.
+    pub socket: &'a str,
+    /// The name of the command.
+    pub command: &'a str,
+    /// The interface or the prefix that it is about.
+    pub what: Option<&'a str>,
+    /// The cost or the tag.
+    pub value: Option<&'a str>,
 }

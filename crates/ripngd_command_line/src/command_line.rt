@@ -8,9 +8,9 @@ ghost use Rattle.clap.specs.Takes.{takes};
 ghost use Rattle.clap.specs.Walk.{Row, Text, first_of, rows_of};
 ghost use Rattle.clap.specs.Words.{found_of, kind_of, subcommand_rows_of};
 ghost use Rattle.ripngd_command_line.specs.Asked.{Asks, IsAsked, IsNumber, IsSet};
-ghost use Rattle.ripngd_command_line.specs.CommandLine.{IsArg, IsCommand, debug_option, film_option, lab_command, log_option, one_argument, page_command, port_option, positional, quiet_option, requests_option, ripngd, run_command, tag_option, trace_option, turns_option};
+ghost use Rattle.ripngd_command_line.specs.CommandLine.{IsArg, IsCommand, control_option, ctl_command, debug_option, film_option, lab_command, log_option, one_argument, optional_rule, page_command, port_option, positional, quiet_option, requests_option, ripngd, run_command, tag_option, trace_option, turns_option};
 
-use crate::asked::{Ask, Order, Serve};
+use crate::asked::{Ask, Order, Question, Serve};
 use crate::help;
 use clap::error::ErrorKind;
 use clap::{Arg, ArgAction, ArgMatches, Command, Error, value_parser};
@@ -24,6 +24,13 @@ fn required<'a>(alloc: Global, id: &'a str, help: &'a str) -> Arg<'a>
     ensures { IsArg result (positional id.entry.now) }
 {
     Arg::new(alloc, id).required(true).help(help)
+}
+
+/// An argument that may be given, by its place.
+fn optional<'a>(alloc: Global, id: &'a str, help: &'a str) -> Arg<'a>
+    ensures { IsArg result (optional_rule id.entry.now) }
+{
+    Arg::new(alloc, id).help(help)
 }
 
 /// `-q`: the router sends nothing of its own accord.
@@ -79,6 +86,16 @@ fn turns<'a>(alloc: Global) -> Arg<'a>
         .help("End after N turns, each with one datagram at most, and print the forwarding table")
 }
 
+/// `--control PATH`.
+fn control<'a>(alloc: Global) -> Arg<'a>
+    ensures { IsArg result control_option }
+{
+    Arg::new(alloc, "control")
+        .long("control")
+        .value_name("PATH")
+        .help("Listen at a Unix socket, which is made at PATH, for what `ctl` asks and tells")
+}
+
 /// A subcommand with one argument.
 fn with_one<'a>(
     alloc: Global,
@@ -117,7 +134,7 @@ fn lab<'a>(alloc: Global) -> Result<Command<'a>, AllocError>
         .arg(required(alloc, "SCRIPT", "The file that holds it"))
 }
 
-/// `run [-q] [-d] [-t TAG] [-R FILE] [--turns N] CONFIG`.
+/// `run [-q] [-d] [-t TAG] [-R FILE] [--turns N] [--control PATH] CONFIG`.
 fn run<'a>(alloc: Global) -> Result<Command<'a>, AllocError>
     ensures { IfOk result (λ c. IsCommand c run_command) }
 {
@@ -129,7 +146,25 @@ fn run<'a>(alloc: Global) -> Result<Command<'a>, AllocError>
         .arg(tag(alloc))?
         .arg(log(alloc))?
         .arg(turns(alloc))?
+        .arg(control(alloc))?
         .arg(required(alloc, "CONFIG", "The file of its configuration"))
+}
+
+/// `ctl PATH COMMAND [WHAT] [VALUE]`.
+fn ctl<'a>(alloc: Global) -> Result<Command<'a>, AllocError>
+    ensures { IfOk result (λ c. IsCommand c ctl_command) }
+{
+    Command::new(alloc, "ctl")
+        .about("Ask a router that runs, or tell it something")
+        .after_help(help::CTL)
+        .arg(required(alloc, "PATH", "The socket that `run --control` listens at"))?
+        .arg(required(alloc, "COMMAND", "The command, as `routes` or `cost`"))?
+        .arg(optional(
+            alloc,
+            "WHAT",
+            "The interface or the prefix that it is about",
+        ))?
+        .arg(optional(alloc, "VALUE", "The cost or the tag"))
 }
 
 /// `--port N`, from 0 to 65,535.
@@ -215,7 +250,8 @@ fn command<'a>(alloc: Global) -> Result<Command<'a>, AllocError>
             "LOG",
             "The file that `run -R` writes it to",
         )?)?
-        .subcommand(page(alloc)?)
+        .subcommand(page(alloc)?)?
+        .subcommand(ctl(alloc)?)
 }
 
 /// Reads a command line, whose first word is the program's name.
@@ -267,6 +303,7 @@ fn asked_of<'a>(name: &'a str, matches: &ArgMatches<'a>) -> Option<Ask<'a>>
         "run" => run_asked(matches),
         "table" => Some(Ask::Table(text(matches, "LOG")?)),
         "page" => page_asked(matches),
+        "ctl" => ctl_asked(matches),
         _ => None,
     }
 }
@@ -306,7 +343,20 @@ fn run_asked<'a>(matches: &ArgMatches<'a>) -> Option<Ask<'a>>
         tag: tag_given(matches)?,
         log: text(matches, "log"),
         turns: turns_given(matches)?,
+        control: text(matches, "control"),
         config: text(matches, "CONFIG")?,
+    }))
+}
+
+/// A question to a router that runs, in its words.
+fn ctl_asked<'a>(matches: &ArgMatches<'a>) -> Option<Ask<'a>>
+    ensures { IfSome result (λ a. IsAsked a (codes "ctl") (rows_of (found_of matches.now))) }
+{
+    Some(Ask::Ctl(Question {
+        socket: text(matches, "PATH")?,
+        command: text(matches, "COMMAND")?,
+        what: text(matches, "WHAT"),
+        value: text(matches, "VALUE"),
     }))
 }
 

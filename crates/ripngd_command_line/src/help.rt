@@ -46,10 +46,27 @@ own, until it has made its turns or a signal ends it. In a turn it takes in one
 datagram at the most, and then does what time has made due. After the last turn
 it prints its forwarding table. What it lost is said on standard error, and with
 `-d` each datagram and entry that it refuses, with counts of all at the end.
+With `--control` it can be asked, told and ended while it runs (`help ctl`).
 
 Example, of two routers that learn from each other:
   ripngd run --turns 400 -R east.log examples/east.toml &
   ripngd run --turns 400 examples/west.toml";
+
+/// Of `ctl`.
+pub(crate) const CTL: &str = "\
+What the router answers is printed. The commands are
+  routes                 its routes, with their gateways and what is left of them
+  table                  its forwarding table
+  counts                 what came, was sent, refused and lost
+  cost INTERFACE COST    the cost of an interface is another from now on
+  gain PREFIX TAG        it owns a prefix more
+  drop PREFIX            it owns that prefix no more
+  stop                   it ends, as after its last turn
+Where the router refuses, it says `refused NR NAME`, and the exit status is 1;
+where nobody listens at PATH, it is 3.
+
+Example, of a router that was started with `run --control east.sock`:
+  ripngd ctl east.sock routes";
 
 /// Of `table`.
 pub(crate) const TABLE: &str = "\

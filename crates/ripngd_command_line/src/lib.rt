@@ -5,5 +5,5 @@ mod asked;
 mod command_line;
 mod help;
 
-pub use asked::{Ask, Order, Serve};
+pub use asked::{Ask, Order, Question, Serve};
 pub use command_line::{VERSION, ask};

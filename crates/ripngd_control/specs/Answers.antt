@@ -1,10 +1,12 @@
 -- What a router answers to commands (the format is this project's choice).
-use Rattle.std.specs.Prelude.{ℕ, ◌≡◌, ◌-◌, Bool, true, false, List, [], ◌∷◌, ◌++◌, Contains, Option, codes, decimal, flat_map}
+use Rattle.std.specs.Prelude.{ℕ, ◌≡◌, ◌-◌, Bool, true, false, List, [], ◌∷◌, ◌++◌, Contains, Option, None, codes, decimal, drop, flat_map, take}
 use Rattle.std.specs.List.{All}
 use Rattle.std.specs.FinMap as map_of
 use Rattle.std.specs.Io.KnownBytes.{Appends}
 use Rattle.prefix6.specs.Prefix.{Prefix6}
 use Rattle.prefix6.specs.Written.{written_addr, written_prefix}
+use Rattle.fib.specs.Entries.{listed}
+use Rattle.fib.specs.Forwarding.{Forwarding}
 use Rattle.fib.specs.declared.change.Hop.{Hop}
 use Rattle.route_table.specs.Route.{RouteValue}
 use Rattle.route_table.specs.Table.{Table}
@@ -58,6 +60,13 @@ pub record ShowsHeld (table : Table) (now : ℕ) (old new : Option (List ℕ)) :
 -- a line for each of these entries of a forwarding table
 abbrev pub entry_lines : List (Prefix6 × Hop × ℕ) → List ℕ
 entry_lines es = flat_map (λ e. route_text e.0 e.1 e.2 ++ 10 ∷ []) es
+
+-- the writer gained a line for each of the next entries of a table, 256 at the most, with none between them left out: from the
+-- first on, where they are behind no prefix
+pub record ShowsEntries (table : Forwarding) (after : Option Prefix6) (old new : Option (List ℕ)) : Type 0 where
+  pub begin : ℕ
+  pub first : after ≡ None → begin ≡ 0
+  pub lines : Appends old new (entry_lines (take 256 (drop begin (listed table))))
 
 -- ---- the last line of an answer
 -- the numbers of refusals: those of the router, and two of their own

@@ -9,9 +9,6 @@ use std::alloc::{AllocError, Global};
 use std::fmt::{self, Display};
 use std::str;
 
-/// The most bytes of a line, its line feed among them.
-pub const LINE_LIMIT: usize = 1_024;
-
 /// What a router is told or asked.
 #[derive(Clone, Copy, Debug, PartialEq, Eq)]
 pub enum Command {

@@ -13,6 +13,7 @@ file_of (asks.Check file) = Some file.now
 file_of (asks.Lab file) = Some file.now
 file_of (asks.Trace file) = Some file.now
 file_of (asks.Run order) = Some order.config.now
+file_of (asks.Ctl question) = None
 file_of (asks.Table file) = Some file.now
 file_of (asks.Page serve) = None
 file_of (asks.Film file) = Some file.now
@@ -21,6 +22,16 @@ file_of (asks.Film file) = Some file.now
 abbrev pub log_file_of : Ask → Option (List ℕ)
 log_file_of (asks.Run order) = option_map (λ s. s.now) order.log
 log_file_of _ = None
+
+-- the path at which it listens
+abbrev pub door_of : Ask → Option (List ℕ)
+door_of (asks.Run order) = option_map (λ s. s.now) order.control
+door_of _ = None
+
+-- the path at which it asks
+abbrev pub asks_at : Ask → Option (List ℕ)
+asks_at (asks.Ctl question) = Some question.socket.now
+asks_at _ = None
 
 -- how many turns it makes
 abbrev pub turns_of : Ask → ℕ
@@ -37,12 +48,15 @@ abbrev pub has_sockets : Ask → Bool
 has_sockets (asks.Run order) = true
 has_sockets ask = serves ask
 
--- what may fail where this is asked: no file but those that it names, and no link after its turns
+-- what may fail where this is asked: no file and no path but those that it names, and no link after its turns
 abbrev pub MayFail : Ask → Failure → Type 0
 MayFail ask (failures.Read file) = file_of ask ≡ Some file.now
 MayFail ask (failures.Log file) = log_file_of ask ≡ Some file.now
 MayFail ask failures.Output = ⊤
 MayFail ask (failures.Bind port) = IsTrue (has_sockets ask)
+MayFail ask (failures.Listen path why) = door_of ask ≡ Some path.now
+MayFail ask (failures.Ask path) = asks_at ask ≡ Some path.now
+MayFail ask (failures.Answer path) = asks_at ask ≡ Some path.now
 MayFail ask failures.Accept = IsTrue (serves ask)
 MayFail ask (failures.Link done) = done < turns_of ask
 MayFail ask failures.OutOfMemory = ⊤
@@ -55,3 +69,9 @@ FailsTurns turns failure = (order : Order) → order.turns ≡ turns → MayFail
 abbrev pub FailsLogged : ℕ → Option (List ℕ) → Failure → Type 0
 FailsLogged turns log failure =
     (order : Order) → order.turns ≡ turns → option_map (λ s. s.now) order.log ≡ log → MayFail (asks.Run order) failure
+
+-- what may fail a run of so many turns with this log and this path, whatever else is ordered
+abbrev pub FailsPlanned : ℕ → Option (List ℕ) → Option (List ℕ) → Failure → Type 0
+FailsPlanned turns log control failure =
+    (order : Order) → order.turns ≡ turns → option_map (λ s. s.now) order.log ≡ log
+    → option_map (λ s. s.now) order.control ≡ control → MayFail (asks.Run order) failure

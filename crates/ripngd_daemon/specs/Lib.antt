@@ -4,4 +4,6 @@ pub mod Said
 pub mod Losses
 pub mod Checked
 pub mod Tabled
+pub mod Controlled
 pub mod Ran
+pub mod Asking

@@ -1,5 +1,5 @@
 -- What `run` writes, and of which run.
-use Rattle.std.specs.Prelude.{◌≡◌, ◌≢◌, ℕ, Bool, true, false, List, Option, None}
+use Rattle.std.specs.Prelude.{◌≡◌, ◌≢◌, ℕ, Bool, true, false, List, Option, None, Some}
 use Rattle.std.specs.Io.KnownBytes.{Appends}
 use Rattle.rand_core.specs.Steps.{steps_u32, stream_of}
 use Rattle.rand_core.specs.Stream.{Stream}
@@ -13,6 +13,7 @@ use Rattle.ripngd_config.specs.declared.fault.ConfigFault.{ConfigFault}
 use Rattle.ripngd_config.specs.declared.fault.ConfigFault.TheVariants as config_faults
 use Rattle.ripngd_engine.specs.Seen.{Ran, Seen, Started, fresh}
 use Rattle.ripngd_command_line.specs.declared.asked.Order.{Order}
+use Rattle.ripngd_daemon.specs.Controlled.{IsControlled}
 use Rattle.ripngd_daemon.specs.Tabled.{table_text}
 
 -- the words that a random source has left
@@ -38,9 +39,19 @@ ShowsBound router rng turns old new =
 abbrev pub ShowsTurns : Config → ℕ → Option (List ℕ) → Option (List ℕ) → Type 0
 ShowsTurns config turns old new = ShowsBound config.router config.rng turns old new
 
--- a run of a configuration's text as it is ordered: all turns were made, and the table was written; or the text is refused
+-- the writer gained the forwarding table of a router that was told while it ran, with a random source
+abbrev pub ShowsControlled : RouterValue → Lcg → ℕ → Option (List ℕ) → Option (List ℕ) → Type 0
+ShowsControlled router rng turns old new =
+    (table : Forwarding) × IsControlled router (words_of rng) turns table × Appends old new (table_text table)
+
+-- the same of a configuration, where a path is named at which its router is told; else it makes all its turns
+abbrev pub ShowsOrdered : {A : Type 0} → Option A → Config → ℕ → Option (List ℕ) → Option (List ℕ) → Type 0
+ShowsOrdered None config turns old new = ShowsTurns config turns old new
+ShowsOrdered (Some path) config turns old new = ShowsControlled config.router config.rng turns old new
+
+-- a run of a configuration's text as it is ordered: its turns were made, and the table was written; or the text is refused
 abbrev pub IsRan : Order → List ℕ → Bool → Option (List ℕ) → Option (List ℕ) → Type 0
 IsRan order text true old new =
-    (config : Config) × IsConfigured text order.tag order.quiet config × ShowsTurns config order.turns old new
+    (config : Config) × IsConfigured text order.tag order.quiet config × ShowsOrdered order.control config order.turns old new
 IsRan order text false old new =
     (fault : ConfigFault) × (fault ≢ config_faults.OutOfMemory) × Refuses text order.tag order.quiet fault

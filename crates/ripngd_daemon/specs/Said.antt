@@ -1,15 +1,26 @@
 -- What standard error says of a failure (the format is this project's choice).
-use Rattle.std.specs.Prelude.{ℕ, List, ◌++◌, codes, decimal}
+use Rattle.std.specs.Prelude.{ℕ, List, [], ◌++◌, codes, decimal}
 use Rattle.ripngd_daemon.specs.declared.failure.Failure.{Failure}
 use Rattle.ripngd_daemon.specs.declared.failure.Failure.TheVariants as failures
+use Rattle.ripngd_door.specs.declared.door.DoorFault.{DoorFault}
+use Rattle.ripngd_door.specs.declared.door.DoorFault.TheVariants as doors
 use Rattle.ripngd_show.specs.Shown.{newline}
 
--- what failed, with its file, its port or its turns
+-- why a router cannot listen, behind where
+abbrev pub why_text : DoorFault → List ℕ
+why_text doors.Taken = codes ": somebody answers there"
+why_text doors.Shared = codes ": others may write to it; start under umask 077"
+why_text doors.Failed = []
+
+-- what failed, with its file, its path, its port or its turns
 abbrev pub failure_text : Failure → List ℕ
 failure_text (failures.Read file) = codes "cannot read " ++ file.now
 failure_text (failures.Log file) = codes "cannot write " ++ file.now
 failure_text failures.Output = codes "cannot write stdout"
 failure_text (failures.Bind port) = codes "cannot bind " ++ decimal port
+failure_text (failures.Listen path why) = codes "cannot listen at " ++ (path.now ++ why_text why)
+failure_text (failures.Ask path) = codes "nobody listens at " ++ path.now
+failure_text (failures.Answer path) = codes "no whole answer from " ++ path.now
 failure_text failures.Accept = codes "cannot accept a connection"
 failure_text (failures.Link done) = codes "link fault after " ++ (decimal done ++ codes " turns")
 failure_text failures.OutOfMemory = codes "out of memory"

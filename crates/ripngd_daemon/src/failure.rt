@@ -4,16 +4,17 @@ ghost use Rattle.std.specs.Prelude.{◌≡◌, ◌≢◌, OnOk, Some};
 ghost use Rattle.std.specs.Io.KnownBytes.{Appends};
 ghost use Rattle.std.specs.IoError.{error_kind};
 ghost use Rattle.ripngd_daemon.specs.Faults.{failure_of, failure_of_engine, failure_of_link};
-ghost use Rattle.ripngd_daemon.specs.Said.{failure_line, failure_text};
+ghost use Rattle.ripngd_daemon.specs.Said.{failure_line, failure_text, why_text};
 ghost use Rattle.ripngd_daemon.specs.declared.failure.Failure.TheVariants as failures;
 
+use ripngd_door::DoorFault;
 use ripngd_engine::EngineFault;
 use ripngd_show::PrintFault;
 use ripngd_udp::UdpError;
 use std::fmt::{self, Display};
 use std::io::{self, ErrorKind, Write};
 
-/// What failed outside the program, with the file, the port or the turns that it failed at.
+/// What failed outside the program, with the file, the path, the port or the turns that it failed at.
 #[derive(Clone, Copy, Debug, PartialEq, Eq)]
 pub enum Failure<'a> {
     /// A file cannot be read.
@@ -24,12 +25,29 @@ pub enum Failure<'a> {
     Output,
     /// A port of 127.0.0.1 cannot be bound.
     Bind(u16),
+    /// A router cannot listen at a path.
+    Listen(&'a str, DoorFault),
+    /// Nobody listens at a path.
+    Ask(&'a str),
+    /// Who listens at a path gives no whole answer.
+    Answer(&'a str),
     /// No browser's connection can be taken.
     Accept,
     /// A socket failed, after so many turns.
     Link(u32),
     /// Memory was refused.
     OutOfMemory,
+}
+
+/// Why a router cannot listen, behind where.
+fn why_text(why: DoorFault) -> &'static str
+    ensures { result.now ≡ why_text why }
+{
+    match why {
+        DoorFault::Taken => ": somebody answers there",
+        DoorFault::Shared => ": others may write to it; start under umask 077",
+        DoorFault::Failed => "",
+    }
 }
 
 impl Display for Failure<'_> {
@@ -41,6 +59,9 @@ impl Display for Failure<'_> {
             Failure::Log(file) => write!(f, "cannot write {file}"),
             Failure::Output => write!(f, "cannot write stdout"),
             Failure::Bind(port) => write!(f, "cannot bind {port}"),
+            Failure::Listen(path, why) => write!(f, "cannot listen at {path}{}", why_text(why)),
+            Failure::Ask(path) => write!(f, "nobody listens at {path}"),
+            Failure::Answer(path) => write!(f, "no whole answer from {path}"),
             Failure::Accept => write!(f, "cannot accept a connection"),
             Failure::Link(done) => write!(f, "link fault after {done} turns"),
             Failure::OutOfMemory => write!(f, "out of memory"),

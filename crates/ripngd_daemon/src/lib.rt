@@ -1,8 +1,11 @@
-//! One router and its files, as the program's command line orders: `run`, `check` and `table`, what they print, and what
-//! fails outside the program.
+//! One router and its files, as the program's command line orders: `run`, `ctl`, `check` and `table`, what they print, and
+//! what fails outside the program.
 #![tactic(auto)]
 
+mod asking;
 mod checking;
+mod controlled;
+mod desk;
 mod failure;
 mod forwarding;
 mod losses;
@@ -12,8 +15,10 @@ mod router;
 mod run_log;
 mod running;
 mod subcommands;
+mod visit;
 mod warnings;
 
+pub use asking::ctl;
 pub use checking::check;
 pub use failure::{Failure, write_failure};
 pub use forwarding::table;

@@ -18,6 +18,8 @@ pub(crate) struct Plan<'a> {
     pub(crate) debug: bool,
     /// The file that gets its log.
     pub(crate) log: Option<&'a str>,
+    /// The path of the socket at which it is asked and told.
+    pub(crate) control: Option<&'a str>,
 }
 
 /// Reads the text of the configuration of a run that is ordered.
@@ -33,6 +35,7 @@ pub(crate) fn plan_of<'a>(
     ensures turns { IfOk result (λ plan. plan.turns ≡ order.entry.turns) }
     ensures debug { IfOk result (λ plan. plan.debug ≡ order.entry.debug) }
     ensures log { IfOk result (λ plan. plan.log ≡ order.entry.log) }
+    ensures control { IfOk result (λ plan. plan.control ≡ order.entry.control) }
     ensures one_each { IfOk result (λ plan. HasOneEach plan.config) }
     ensures refused { IfErr result (Refuses text.now order.entry.tag order.entry.quiet) }
 {
@@ -42,5 +45,6 @@ pub(crate) fn plan_of<'a>(
         turns: order.turns,
         debug: order.debug,
         log: order.log,
+        control: order.control,
     })
 }

@@ -5,13 +5,16 @@ ghost use Rattle.std.specs.Io.KnownBytes.{Appends};
 ghost use Rattle.ripngd_config.specs.Configuration.{HasOneEach};
 ghost use Rattle.ripngd_engine.specs.Seen.{Ran, seen};
 ghost use Rattle.ripngd_command_line.specs.declared.asked.Ask.TheVariants as asks;
-ghost use Rattle.ripngd_daemon.specs.Failing.{FailsLogged, FailsTurns, MayFail};
-ghost use Rattle.ripngd_daemon.specs.Ran.{IsRan, ShowsBound, ShowsTurns, words_of};
+ghost use Rattle.ripngd_daemon.specs.Failing.{FailsLogged, FailsPlanned, FailsTurns, MayFail};
+ghost use Rattle.ripngd_daemon.specs.Ran.{IsRan, ShowsBound, ShowsControlled, ShowsOrdered, ShowsTurns, words_of};
 ghost use Rattle.ripngd_daemon.specs.Tabled.{table_text};
 ghost use Rattle.ripngd_daemon.specs.declared.failure.Failure.TheVariants as failures;
+ghost use Rattle.ripngd_door.specs.declared.door.DoorFault.{DoorFault};
 ghost use Rattle.ripngd_udp.specs.Udp.{fresh};
 
 use crate::checking::write_refusal;
+use crate::controlled::run_controlled;
+use crate::desk::Desk;
 use crate::failure::Failure;
 use crate::forwarding::write_table;
 use crate::losses::with_link;
@@ -23,9 +26,10 @@ use crate::warnings::write_echoes;
 use rand_pcg::Pcg32;
 use ripngd_command_line::Order;
 use ripngd_config::{Config, Peer};
+use ripngd_door::Door;
 use ripngd_engine::{Engine, Report, Unwatched, Watch};
 use ripngd_udp::{Udp, Uptime};
-use ripngd_watch::DebugLines;
+use ripngd_watch::{Counts, DebugLines};
 use router_core::RouterConfig;
 use std::fs::File;
 use std::io::{self, Write};
@@ -40,9 +44,12 @@ use std::rt::{Clock, Files};
 /// to be debugged, it also gets a line for each arrival and entry that is refused, and counts of all at its end, early or
 /// not; a failure of `err` changes nothing else.
 ///
+/// Where a path is named for it, it listens there once all ports are bound, and looks at what comes between its turns; it may
+/// then be told a change, or to stop, which it does as after its last turn.
+///
 /// # Errors
 /// The first thing that failed: a log that is the configuration, to read the configuration, to open the log or to lock it,
-/// to bind a port, to empty the log, the link, memory, or `out`.
+/// to bind a port, to listen, to empty the log, the link, memory, or `out`.
 pub fn run<
     'a,
     R: Files<File = File> + Print + Clock + Net + AllocGlobal,
@@ -82,8 +89,10 @@ fn run_plan<'a, R: Files<File = File> + Print + Clock + Net + AllocGlobal, O: Wr
     lost: &mut Report,
 ) -> Result<(), Failure<'a>>
     requires { HasOneEach plan.config }
-    ensures shown { OnOk result (ShowsTurns plan.entry.config plan.entry.turns (O.contents out.old) (O.contents out.new)) }
-    ensures failed { IfErr result (FailsLogged plan.entry.turns (option_map (λ s. s.now) plan.entry.log)) }
+    ensures shown { OnOk result (ShowsOrdered plan.entry.control plan.entry.config plan.entry.turns
+        (O.contents out.old) (O.contents out.new)) }
+    ensures failed { IfErr result (FailsPlanned plan.entry.turns (option_map (λ s. s.now) plan.entry.log)
+        (option_map (λ s. s.now) plan.entry.control)) }
 {
     match plan.log {
         Some("-") => run_logged(rt, plan, &mut Output(rt), out, err, lost),
@@ -117,8 +126,8 @@ fn bind_and_empty<'r, 'a, R: Clock + Net + AllocGlobal, L: Log>(
     Ok(link)
 }
 
-/// Binds the ports, says that the router runs, and runs it with a log that has a name if there is one.
-fn run_logged<'a, R: Clock + Net + AllocGlobal, L: Log, O: Write, E: Write>(
+/// Runs a router with a log that has a name if there is one, at a path if one is named.
+fn run_logged<'a, R: Files + Clock + Net + AllocGlobal, L: Log, O: Write, E: Write>(
     rt: &R,
     plan: Plan<'a>,
     log: &mut L,
@@ -127,16 +136,132 @@ fn run_logged<'a, R: Clock + Net + AllocGlobal, L: Log, O: Write, E: Write>(
     lost: &mut Report,
 ) -> Result<(), Failure<'a>>
     requires { HasOneEach plan.config }
-    ensures shown { OnOk result (ShowsTurns plan.entry.config plan.entry.turns (O.contents out.old) (O.contents out.new)) }
-    ensures failed { IfErr result (FailsLogged plan.entry.turns (option_map (λ s. s.now) plan.entry.log)) }
+    ensures shown { OnOk result (ShowsOrdered plan.entry.control plan.entry.config plan.entry.turns
+        (O.contents out.old) (O.contents out.new)) }
+    ensures failed { IfErr result (FailsPlanned plan.entry.turns (option_map (λ s. s.now) plan.entry.log)
+        (option_map (λ s. s.now) plan.entry.control)) }
 {
     let Plan {
         config,
         turns,
         debug,
         log: name,
+        control,
     } = plan;
     let _ = write_echoes(&config, err);
+    match control {
+        None => run_alone(rt, config, turns, debug, name, log, out, err, lost),
+        Some(path) => run_at(rt, path, config, turns, debug, name, log, out, err, lost),
+    }
+}
+
+/// Opens the door at a path.
+fn open_desk<'a, R: Files + Net>(rt: &R, path: &'a str) -> Result<Desk, Failure<'a>>
+    ensures { IfErr result (λ f. (why : DoorFault) × (f ≡ failures.Listen path.entry why)) }
+{
+    match Door::open(rt, path) {
+        Ok(door) => Ok(Desk::new(door)),
+        Err(why) => Err(Failure::Listen(path, why)),
+    }
+}
+
+/// Binds the ports, opens the door at a path, and runs the router while clients ask and tell it.
+fn run_at<'a, R: Files + Clock + Net + AllocGlobal, L: Log, O: Write, E: Write>(
+    rt: &R,
+    path: &'a str,
+    config: Config,
+    turns: u32,
+    debug: bool,
+    name: Option<&'a str>,
+    log: &mut L,
+    out: &mut O,
+    err: &mut E,
+    lost: &mut Report,
+) -> Result<(), Failure<'a>>
+    requires { HasOneEach config }
+    ensures shown { OnOk result (ShowsControlled config.router config.rng turns (O.contents out.old) (O.contents out.new)) }
+    ensures failed { IfErr result (FailsPlanned turns (option_map (λ s. s.now) name.entry) (Some path.entry.now)) }
+{
+    let Config {
+        router,
+        ports,
+        peers,
+        rng,
+    } = config;
+    let link = Udp::bind(rt, rt.alloc(), ports.as_slice(), peers)?;
+    let mut desk = open_desk(rt, path)?;
+    let outcome = run_at_desk(
+        rt, router, link, rng, &mut desk, turns, debug, name, log, out, err, lost,
+    );
+    desk.close(rt, path);
+    outcome
+}
+
+/// Empties the log, says that the router runs, and runs it at a desk.
+fn run_at_desk<'r, 'a, R: Clock + Net + AllocGlobal, L: Log, O: Write, E: Write>(
+    rt: &'r R,
+    router: RouterConfig,
+    link: Udp<'r, R>,
+    rng: Pcg32,
+    desk: &mut Desk,
+    turns: u32,
+    debug: bool,
+    name: Option<&'a str>,
+    log: &mut L,
+    out: &mut O,
+    err: &mut E,
+    lost: &mut Report,
+) -> Result<(), Failure<'a>>
+    requires { link.interfaces ≡ length router.interfaces }
+    ensures shown { OnOk result (ShowsControlled router rng turns (O.contents out.old) (O.contents out.new)) }
+    ensures failed { IfErr result (FailsLogged turns (option_map (λ s. s.now) name.entry)) }
+{
+    empty_log(name, log)?;
+    let _ = writeln!(
+        err,
+        "ripngd: running, {} interfaces",
+        router.interfaces().len()
+    );
+    if !debug {
+        let mut counts = Counts::new();
+        return run_controlled(
+            rt,
+            router,
+            link,
+            rng,
+            desk,
+            turns,
+            log,
+            &mut counts,
+            out,
+            lost,
+        );
+    }
+    let mut lines = DebugLines::new(&mut *err);
+    let outcome = run_controlled(
+        rt, router, link, rng, desk, turns, log, &mut lines, out, lost,
+    );
+    let counts = lines.counts();
+    let _ = writeln!(err, "{counts}");
+    outcome
+}
+
+/// Binds the ports, says that the router runs, and runs it.
+fn run_alone<'a, R: Clock + Net + AllocGlobal, L: Log, O: Write, E: Write>(
+    rt: &R,
+    config: Config,
+    turns: u32,
+    debug: bool,
+    name: Option<&'a str>,
+    log: &mut L,
+    out: &mut O,
+    err: &mut E,
+    lost: &mut Report,
+) -> Result<(), Failure<'a>>
+    requires { HasOneEach config }
+    ensures shown { OnOk result (ShowsTurns config turns (O.contents out.old) (O.contents out.new)) }
+    ensures failed { IfErr result (FailsLogged turns (option_map (λ s. s.now) name.entry)) }
+{
     let Config {
         router,
         ports,

@@ -1,7 +1,6 @@
 -- What a witness is told, one thing after another.
 use Rattle.std.specs.Prelude.{⊤}
 use Rattle.std.proofs.Common.{◌≡◌, ◌⊎◌, inl, inr, ℕ, List, [], ◌∷◌, ◌++◌, arith, length, Bool, true, false, Option, Some, None, Result, Ok, Err, IsErrAnd, OnErr, refl, ap, sym, subst}
-use Rattle.std.proofs.lemmas.Bool.{false≢true}
 use Rattle.router_core.specs.declared.answer.Answer.{Answer}
 use Rattle.ripng_world.specs.Asked.{Asked}
 use Rattle.ripng_world.specs.Labs.{LabValue, HappensGiving}
@@ -10,12 +9,13 @@ use Rattle.ripng_world.specs.Rounds.{events_of}
 use Rattle.ripng_world.specs.Watching.{Told, WatchedRun, WatchedUntil, WatchedInPart, AreMadeTold, RoundsToldInPart, any, telling}
 use Rattle.ripng_world.specs.World.{World, Event, Happens}
 use Rattle.ripng_world.proofs.Watched.{given_told}
-use Rattle.ripngd_lab.specs.Witnessing.{Telling, Starts, Does, Notes, StartsAt, TellsAll, IsTold, FailsAtEvent, IsToldUntil, IsToldUnless, HasTold, is_failure, has_failed}
+use Rattle.ripngd_lab.specs.Asides.{Aside, NextLine, Prints, Broken}
+use Rattle.ripngd_lab.specs.Witnessing.{Telling, Starts, Does, Turns, Notes, StartsAt, TellsAll, IsTold, FailsAtEvent, IsToldUntil, IsToldUnless, HasTold, is_failure, has_failed}
 use Rattle.ripngd_lab.specs.declared.stop.Stop.{Stop}
 use Rattle.ripngd_lab.specs.declared.stop.Stop.TheVariants.{Refused, Unmet, Failed}
 use Rattle.std.specs.declared.io.Error.{Error}
 
-module _ {V : Type 0} (st : V → LabValue → ℕ → V → Type 0) (t f : V → Told → V → Type 0) (n : V → V → Type 0) where
+module _ {V : Type 0} (st : V → LabValue → ℕ → V → Type 0) (t f : V → Told → V → Type 0) (n : V → Aside → V → Type 0) where
   pub all_on : (ts us : List Telling) (s mid s' : Option LabValue × V) → TellsAll st t n s ts mid → TellsAll st t n mid us s' → TellsAll st t n s (ts ++ us) s'
   all_on [] us s mid s' first rest = subst (λ (v : Option LabValue × V). TellsAll st t n v us s') first rest
   all_on (x ∷ ts) us s mid s' first rest = (first.0, first.1, all_on ts us first.0 mid s' first.2 rest)
@@ -33,11 +33,11 @@ module _ {V : Type 0} (st : V → LabValue → ℕ → V → Type 0) (t f : V �
 
   -- what told all has told all until then
   pub told_until : (s s' : Option LabValue × V) → IsTold st t n s s' → IsToldUntil st t f n s s'
-  told_until s s' told = (s', told, inl refl)
+  told_until s s' told = (s', told, inl (refl, inl refl))
 
-  -- the witness failed, and nothing happened
-  pub failed_still : (lab : Option LabValue) (v v' : V) → IsToldUntil st t f n (lab, v) (lab, v')
-  failed_still lab v v' = ((lab, v), untold (lab, v), inl refl)
+  -- memory or the witness failed, and nothing happened
+  pub failed_still : (lab : Option LabValue) (v v' : V) → (v' ≡ v) ⊎ n v Broken v' → IsToldUntil st t f n (lab, v) (lab, v')
+  failed_still lab v v' why = ((lab, v), untold (lab, v), inl (refl, why))
 
   pub unless : (b : Bool) (s s' : Option LabValue × V) → IsTold st t n s s' → IsToldUnless b st t f n s s'
   unless false s s' told = told
@@ -63,10 +63,10 @@ module _ {V : Type 0} (st : V → LabValue → ℕ → V → Type 0) (t f : V �
   line_ends b k s mid s' is first told = subst (λ (a : Bool). IsToldUnless a st t f n s s') is (unless_on (is_failure k) s mid s' first told)
 
   -- the witness fails after all that was told
-  pub on_fault : {X : Type 0} (r : Result X Error) (s : Option LabValue × V) (lab : Option LabValue) (v v' : V) → IsTold st t n s (lab, v)
+  pub on_fault : {X : Type 0} (r : Result X Error) (s : Option LabValue × V) (lab : Option LabValue) (v v' : V) → IsTold st t n s (lab, v) → n v Broken v'
       → OnErr r ((end : Option LabValue) × IsToldUntil st t f n s (end, v'))
-  on_fault (Ok x) s lab v v' told = tt
-  on_fault (Err e) s lab v v' told = (lab, until_on s (lab, v) (lab, v') told (failed_still lab v v'))
+  on_fault (Ok x) s lab v v' told broken = tt
+  on_fault (Err e) s lab v v' told broken = (lab, until_on s (lab, v) (lab, v') told (failed_still lab v v' (inr broken)))
 
   -- an error that is handed on
   pub handed : (r : Result ⊤ Stop) (from : Stop) (s s' : Option LabValue × V) → IsErrAnd r (λ e. e ≡ from) → HasTold {X = ⊤} (Err from) st t f n s s' → HasTold r st t f n s s'
@@ -78,24 +78,18 @@ module _ {V : Type 0} (st : V → LabValue → ℕ → V → Type 0) (t f : V �
   handed_on r from s mid s' is first told = handed r from s s' is (has_told_on (Err from) s mid s' first told)
 
   -- the witness fails where nothing happens
-  pub fault_told : (r : Result ⊤ Stop) (error : Error) (lab : Option LabValue) (v v' : V) → IsErrAnd r (λ e. e ≡ Failed error) → HasTold r st t f n (lab, v) (lab, v')
-  fault_told (Ok x) error lab v v' is = absurd is
-  fault_told (Err e) error lab v v' is = subst (λ (b : Bool). IsToldUnless b st t f n (lab, v) (lab, v')) (sym (ap is_failure is)) (failed_still lab v v')
+  pub fault_told : (r : Result ⊤ Stop) (error : Error) (lab : Option LabValue) (v v' : V) → IsErrAnd r (λ e. e ≡ Failed error) → n v Broken v' → HasTold r st t f n (lab, v) (lab, v')
+  fault_told (Ok x) error lab v v' is broken = absurd is
+  fault_told (Err e) error lab v v' is broken = subst (λ (b : Bool). IsToldUnless b st t f n (lab, v) (lab, v')) (sym (ap is_failure is)) (failed_still lab v v' (inr broken))
 
-  -- a lab did not start: the witness failed at that, or was told nothing
-  pub not_begun : (r : Result ⊤ Stop) (from : Stop) (lab : Option LabValue) (v v' : V) → IsErrAnd r (λ e. e ≡ from) → (is_failure from ≡ true) ⊎ (v' ≡ v)
+  -- a lab did not start: the witness was told nothing, or failed at that
+  pub not_begun : (r : Result ⊤ Stop) (from : Stop) (lab : Option LabValue) (v v' : V) → IsErrAnd r (λ e. e ≡ from) → (v' ≡ v) ⊎ ((is_failure from ≡ true) × n v Broken v')
       → HasTold r st t f n (lab, v) (lab, v')
-  not_begun r from lab v v' is why = handed r from (lab, v) (lab, v') is (by from why)
+  not_begun r from lab v v' is why = handed r from (lab, v) (lab, v') is (by why)
     where
-      still : (q : Result ⊤ Stop) → v' ≡ v → HasTold q st t f n (lab, v) (lab, v')
-      still q same = subst (λ (u : V). HasTold q st t f n (lab, v) (lab, u)) (sym same) (has_told q (lab, v) (lab, v) (untold (lab, v)))
-
-      by : (k : Stop) → (is_failure k ≡ true) ⊎ (v' ≡ v) → HasTold {X = ⊤} (Err k) st t f n (lab, v) (lab, v')
-      by (Refused refusal) (inl fails) = absurd (false≢true fails)
-      by (Refused refusal) (inr same) = still (Err (Refused refusal)) same
-      by (Unmet unmet) (inl fails) = absurd (false≢true fails)
-      by (Unmet unmet) (inr same) = still (Err (Unmet unmet)) same
-      by (Failed error) why = failed_still lab v v'
+      by : (v' ≡ v) ⊎ ((is_failure from ≡ true) × n v Broken v') → HasTold {X = ⊤} (Err from) st t f n (lab, v) (lab, v')
+      by (inl same) = subst (λ (u : V). HasTold {X = ⊤} (Err from) st t f n (lab, v) (lab, u)) (sym same) (has_told (Err from) (lab, v) (lab, v) (untold (lab, v)))
+      by (inr broken) = subst (λ (b : Bool). IsToldUnless b st t f n (lab, v) (lab, v')) (sym broken.0) (failed_still lab v v' (inr broken.1))
 
   -- from another name of the lab
   pub told_from : (r : Result ⊤ Stop) (from lab : Option LabValue) (v : V) (s' : Option LabValue × V) → from ≡ lab → HasTold r st t f n (lab, v) s' → HasTold r st t f n (from, v) s'
@@ -110,11 +104,14 @@ module _ {V : Type 0} (st : V → LabValue → ℕ → V → Type 0) (t f : V �
 
   -- ---- one telling
 
-  pub noted : (lab : Option LabValue) (v v' : V) → n v v' → IsTold st t n (lab, v) (lab, v')
+  pub noted : (lab : Option LabValue) (v v' : V) → n v Prints v' → IsTold st t n (lab, v) (lab, v')
   noted lab v v' note = (Notes ∷ [], ((lab, v'), (refl, note), refl))
 
-  pub noted_on : (s : Option LabValue × V) (lab : Option LabValue) (v v' : V) → IsTold st t n s (lab, v) → n v v' → IsTold st t n s (lab, v')
+  pub noted_on : (s : Option LabValue × V) (lab : Option LabValue) (v v' : V) → IsTold st t n s (lab, v) → n v Prints v' → IsTold st t n s (lab, v')
   noted_on s lab v v' told note = told_on s (lab, v) (lab, v') told (noted lab v v' note)
+
+  pub turned_on : (s : Option LabValue × V) (lab : Option LabValue) (v v' : V) (number : ℕ) → IsTold st t n s (lab, v) → n v (NextLine number) v' → IsTold st t n s (lab, v')
+  turned_on s lab v v' number told note = told_on s (lab, v) (lab, v') told (Turns number ∷ [], ((lab, v'), (refl, note), refl))
 
   pub started : (lab : LabValue) (now : ℕ) (v v' : V) → StartsAt lab now → st v lab now v' → IsTold st t n (None, v) (Some lab, v')
   started lab now v v' starts told = (Starts now ∷ [], ((Some lab, v'), (refl, lab, refl, starts, told), refl))

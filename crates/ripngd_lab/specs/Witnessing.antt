@@ -5,16 +5,18 @@ use Rattle.router_core.specs.declared.answer.Answer.{Answer}
 use Rattle.ripng_world.specs.Labs.{LabValue}
 use Rattle.ripng_world.specs.Watching.{Told, telling}
 use Rattle.ripng_world.specs.World.{Event, Happens, IsCold}
+use Rattle.ripngd_lab.specs.Asides.{Aside, NextLine, Prints, Broken}
 use Rattle.ripngd_lab.specs.declared.session.Stage.{Stage}
 use Rattle.ripngd_lab.specs.declared.session.Stage.TheVariants.{Listing, Running}
 use Rattle.ripngd_lab.specs.declared.stop.Stop.{Stop}
 use Rattle.ripngd_lab.specs.declared.stop.Stop.TheVariants.{Refused, Unmet, Failed}
 
--- what a witness is told: that all routers have started, at one moment; that an event was done, with its answer; or
--- something else of the script: its next line, what it prints, why it ends
+-- what a witness is told: that all routers have started, at one moment; that an event was done, with its answer; the number of
+-- the script's next line; or what a line prints, or why it ends the script
 pub data Telling : Type 0 where
   Starts : (now : ℕ) → Telling
   Does : Event → Answer → Telling
+  Turns : (number : ℕ) → Telling
   Notes : Telling
 
 -- all routers of a network have started at one moment
@@ -23,21 +25,26 @@ StartsAt lab now = (moments : List ℕ) × AllByRecursion (λ m. m ≡ now) mome
 
 -- one telling, and what it is of: a lab that starts, where there was none; an event that happens in the lab, with the
 -- router's answer; or nothing that happens in it
-abbrev pub Tells : {V : Type 0} → (V → LabValue → ℕ → V → Type 0) → (V → Told → V → Type 0) → (V → V → Type 0) → Telling → Option LabValue × V → Option LabValue × V → Type 0
+abbrev pub Tells : {V : Type 0} → (V → LabValue → ℕ → V → Type 0) → (V → Told → V → Type 0) → (V → Aside → V → Type 0) → Telling → Option LabValue × V → Option LabValue × V → Type 0
 Tells starts takes notes (Starts now) s s' = (s.0 ≡ None) × (lab : LabValue) × (s'.0 ≡ Some lab) × StartsAt lab now × starts s.1 lab now s'.1
 Tells starts takes notes (Does e answer) s s' =
     (lab : LabValue) × (s.0 ≡ Some lab) × (lab' : LabValue) × (s'.0 ≡ Some lab') × (lab'.network ≡ lab.network) × Happens lab.network lab.world e answer lab'.world
     × takes s.1 (telling lab.network lab.world e answer lab'.world) s'.1
-Tells starts takes notes Notes s s' = (s'.0 ≡ s.0) × notes s.1 s'.1
+Tells starts takes notes (Turns number) s s' = (s'.0 ≡ s.0) × notes s.1 (NextLine number) s'.1
+Tells starts takes notes Notes s s' = (s'.0 ≡ s.0) × notes s.1 Prints s'.1
 
 -- one after another, and nothing else happens in the lab
-abbrev pub TellsAll : {V : Type 0} → (V → LabValue → ℕ → V → Type 0) → (V → Told → V → Type 0) → (V → V → Type 0) → Option LabValue × V → List Telling → Option LabValue × V → Type 0
+abbrev pub TellsAll : {V : Type 0} → (V → LabValue → ℕ → V → Type 0) → (V → Told → V → Type 0) → (V → Aside → V → Type 0) → Option LabValue × V → List Telling → Option LabValue × V → Type 0
 TellsAll starts takes notes s [] s' = s' ≡ s
 TellsAll {V} starts takes notes s (t ∷ ts) s' = (mid : Option LabValue × V) × Tells starts takes notes t s mid × TellsAll starts takes notes mid ts s'
 
 -- of all that happens in the lab the witness is told, and of nothing else
-abbrev pub IsTold : {V : Type 0} → (V → LabValue → ℕ → V → Type 0) → (V → Told → V → Type 0) → (V → V → Type 0) → Option LabValue × V → Option LabValue × V → Type 0
+abbrev pub IsTold : {V : Type 0} → (V → LabValue → ℕ → V → Type 0) → (V → Told → V → Type 0) → (V → Aside → V → Type 0) → Option LabValue × V → Option LabValue × V → Type 0
 IsTold starts takes notes s s' = (ts : List Telling) × TellsAll starts takes notes s ts s'
+
+-- memory is refused, and nobody is told; or a telling fails that is of no event
+abbrev pub FailsAtRest : {V : Type 0} → (V → Aside → V → Type 0) → Option LabValue × V → Option LabValue × V → Type 0
+FailsAtRest notes s s' = (s'.0 ≡ s.0) × ((s'.1 ≡ s.1) ⊎ notes s.1 Broken s'.1)
 
 -- an event happens, and the telling of it fails
 abbrev pub FailsAtEvent : {V : Type 0} → (V → Told → V → Type 0) → Option LabValue × V → Option LabValue × V → Type 0
@@ -45,10 +52,10 @@ FailsAtEvent fails s s' =
     (lab : LabValue) × (s.0 ≡ Some lab) × (lab' : LabValue) × (s'.0 ≡ Some lab') × (lab'.network ≡ lab.network)
     × (e : Event) × (answer : Answer) × Happens lab.network lab.world e answer lab'.world × fails s.1 (telling lab.network lab.world e answer lab'.world) s'.1
 
--- the same up to where memory or the witness failed: at an event, which stays done, or where nothing happened
-abbrev pub IsToldUntil : {V : Type 0} → (V → LabValue → ℕ → V → Type 0) → (V → Told → V → Type 0) → (V → Told → V → Type 0) → (V → V → Type 0) → Option LabValue × V → Option LabValue × V → Type 0
+-- the same up to where memory or the witness failed: where nothing happened, or at an event, which stays done
+abbrev pub IsToldUntil : {V : Type 0} → (V → LabValue → ℕ → V → Type 0) → (V → Told → V → Type 0) → (V → Told → V → Type 0) → (V → Aside → V → Type 0) → Option LabValue × V → Option LabValue × V → Type 0
 IsToldUntil {V} starts takes fails notes s s' =
-    (before : Option LabValue × V) × IsTold starts takes notes s before × ((s'.0 ≡ before.0) ⊎ FailsAtEvent fails before s')
+    (before : Option LabValue × V) × IsTold starts takes notes s before × (FailsAtRest notes before s' ⊎ FailsAtEvent fails before s')
 
 -- whether a script ends because memory or the witness failed
 abbrev pub is_failure : Stop → Bool
@@ -60,12 +67,12 @@ abbrev pub has_failed : {X : Type 0} → Result X Stop → Bool
 has_failed (Ok x) = false
 has_failed (Err stop) = is_failure stop
 
-abbrev pub IsToldUnless : {V : Type 0} → Bool → (V → LabValue → ℕ → V → Type 0) → (V → Told → V → Type 0) → (V → Told → V → Type 0) → (V → V → Type 0) → Option LabValue × V → Option LabValue × V → Type 0
+abbrev pub IsToldUnless : {V : Type 0} → Bool → (V → LabValue → ℕ → V → Type 0) → (V → Told → V → Type 0) → (V → Told → V → Type 0) → (V → Aside → V → Type 0) → Option LabValue × V → Option LabValue × V → Type 0
 IsToldUnless false starts takes fails notes s s' = IsTold starts takes notes s s'
 IsToldUnless true starts takes fails notes s s' = IsToldUntil starts takes fails notes s s'
 
 -- the same of an outcome: a line that is refused, or expects what is not so, has told all
-abbrev pub HasTold : {X V : Type 0} → Result X Stop → (V → LabValue → ℕ → V → Type 0) → (V → Told → V → Type 0) → (V → Told → V → Type 0) → (V → V → Type 0) → Option LabValue × V → Option LabValue × V → Type 0
+abbrev pub HasTold : {X V : Type 0} → Result X Stop → (V → LabValue → ℕ → V → Type 0) → (V → Told → V → Type 0) → (V → Told → V → Type 0) → (V → Aside → V → Type 0) → Option LabValue × V → Option LabValue × V → Type 0
 HasTold outcome starts takes fails notes s s' = IsToldUnless (has_failed outcome) starts takes fails notes s s'
 
 -- the lab of a script, once it runs

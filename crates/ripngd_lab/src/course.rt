@@ -50,7 +50,7 @@ pub fn run<V: Watch>(
     ensures { HasTold result V.starts V.takes V.fails V.notes (Some lab.old, watch.old) (Some lab.new, watch.new) }
 {
     match line {
-        Line::Event(event) => step(lab, &event, watch),
+        Line::Event(event) => happen(lab, course, &event, watch),
         Line::Stranger { router, datagram } => {
             let arrival = datagram.arrival();
             step(lab, &Event::Stranger { router, arrival }, watch)
@@ -101,8 +101,39 @@ fn steer<V: Watch>(
             course.unheard = lab.sent().len();
             hear_but(alloc, lab, (first, now), &lost, &course.outages, watch)
         }
+        Line::Lose { datagram } => lose(lab, course, datagram, watch),
         line => settle(lab, course, line),
     }
+}
+
+/// An event happens, if it does not bring what is lost.
+fn happen<V: Watch>(
+    lab: &mut Lab<TrieRoutes>,
+    course: &Course,
+    event: &Event<'_>,
+    watch: &mut V,
+) -> Result<(), Stop>
+    ensures { HasTold result V.starts V.takes V.fails V.notes (Some lab.old, watch.old) (Some lab.new, watch.new) }
+{
+    course.outages.check_event(event)?;
+    step(lab, event, watch)
+}
+
+/// A datagram is lost, unless it is already.
+fn lose<V: Watch>(
+    lab: &Lab<TrieRoutes>,
+    course: &mut Course,
+    datagram: usize,
+    watch: &mut V,
+) -> Result<(), Stop>
+    ensures { HasTold result V.starts V.takes V.fails V.notes (Some lab.now, watch.old) (Some lab.now, watch.new) }
+{
+    check_datagram(lab, Some(datagram))?;
+    if course.outages.is_lost(datagram) {
+        return Err(Stop::Refused(Refusal::DatagramLost));
+    }
+    course.outages.lose(datagram)?;
+    Ok(watch.lost(datagram)?)
 }
 
 /// Rounds, with or without outages.
@@ -186,11 +217,7 @@ fn show_sent<V: Watch>(
 ) -> Result<(), Stop>
     ensures { HasTold result V.starts V.takes V.fails V.notes (Some lab.now, watch.old) (Some lab.now, watch.new) }
 {
-    if let Some(datagram) = asked
-        && datagram >= lab.sent().len()
-    {
-        return Err(Stop::from(LabError::NoSuchDatagram));
-    }
+    check_datagram(lab, asked)?;
     Ok(watch.datagrams_asked(lab, asked)?)
 }
 
@@ -198,6 +225,16 @@ fn show_sent<V: Watch>(
 fn check_router(lab: &Lab<TrieRoutes>, router: Option<usize>) -> Result<(), Stop> {
     match router {
         Some(router) if router >= lab.routers() => Err(Stop::from(LabError::NoSuchRouter)),
+        _ => Ok(()),
+    }
+}
+
+/// Such a datagram was sent, if one is named.
+fn check_datagram(lab: &Lab<TrieRoutes>, datagram: Option<usize>) -> Result<(), Stop> {
+    match datagram {
+        Some(datagram) if datagram >= lab.sent().len() => {
+            Err(Stop::from(LabError::NoSuchDatagram))
+        }
         _ => Ok(()),
     }
 }

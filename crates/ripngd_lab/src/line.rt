@@ -78,6 +78,10 @@ pub enum Line {
         link: u16,
         cut: bool,
     },
+    /// `lose N`: a datagram is lost.
+    Lose {
+        datagram: usize,
+    },
     /// `print`, `print R`, `print R PREFIX`: routes are printed.
     Print(Choice),
     /// `sent`, `sent N`: all datagrams are printed, or this one.
@@ -223,9 +227,12 @@ fn plain_line(words: &[&str], context: &mut Context) -> Result<Line, BadLine> {
     }
 }
 
-/// A line about what takes part, or an event.
+/// A line about what takes part or is lost, or an event.
 fn read_outage(words: &[&str], context: &mut Context) -> Result<Line, BadLine> {
     match words {
+        ["lose", datagram] => Ok(Line::Lose {
+            datagram: context.datagram(datagram)?,
+        }),
         ["silent", router] => Ok(Line::Silence {
             router: context.router(router)?,
             silent: true,

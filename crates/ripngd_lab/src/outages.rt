@@ -1,6 +1,13 @@
-//! Outages: routers that are silent, and links that are cut. They hold back what `round`, `rounds`, `tell` and `hear` would do,
-//! and nothing that a line says of one datagram or of one router.
+//! Outages: routers that are silent, links that are cut, and datagrams that are lost. The first two hold back what `round`,
+//! `rounds`, `tell` and `hear` would do, and nothing that a line says of one datagram or of one router; what is lost comes to
+//! nobody.
 
+ghost use Rattle.std.specs.Prelude.{◌≡◌, ◌++◌, ◌∷◌, [], false, true, OnErr, OnOk};
+ghost use Rattle.ripng_world.specs.Events.{event_of};
+ghost use Rattle.ripngd_lab.specs.Losing.{brings_lost, is_lost};
+
+use crate::stop::Refusal;
+use ripng_world::Event;
 use std::alloc::{AllocError, Global};
 
 /// What takes no part.
@@ -10,6 +17,8 @@ pub struct Outages {
     silent: Vec<usize>,
     /// Links, by number.
     cut: Vec<u16>,
+    /// Datagrams, by number.
+    lost: Vec<usize>,
 }
 
 impl Outages {
@@ -18,10 +27,11 @@ impl Outages {
         Outages {
             silent: Vec::new(alloc),
             cut: Vec::new(alloc),
+            lost: Vec::new(alloc),
         }
     }
 
-    /// Whether all takes part.
+    /// Whether all routers and links take part.
     pub fn are_none(&self) -> bool {
         self.silent.is_empty() && self.cut.is_empty()
     }
@@ -58,5 +68,39 @@ impl Outages {
             self.cut.push(link)?;
         }
         Ok(())
+    }
+
+    /// Whether a datagram is lost.
+    pub fn is_lost(&self, datagram: usize) -> bool
+        ensures { result ≡ is_lost self.now.lost.items datagram }
+    {
+        self.lost.iter().any(|lost| *lost == datagram)
+    }
+
+    /// A datagram is lost from now on.
+    ///
+    /// # Errors
+    /// Want of memory.
+    pub fn lose(&mut self, datagram: usize) -> Result<(), AllocError>
+        ensures { OnOk result (self.new.lost.items ≡ self.old.lost.items ++ datagram ∷ []) }
+    {
+        self.lost.push(datagram)?;
+        Ok(())
+    }
+
+    /// An event brings no datagram that is lost.
+    ///
+    /// # Errors
+    /// `DatagramLost` where it does.
+    pub fn check_event(&self, event: &Event<'_>) -> Result<(), Refusal>
+        ensures passed { OnOk result (brings_lost self.now.lost.items (event_of event.now) ≡ false) }
+        ensures refused { OnErr result (brings_lost self.now.lost.items (event_of event.now) ≡ true) }
+    {
+        match event {
+            Event::Deliver { datagram, .. } if self.is_lost(*datagram) => Err(
+                Refusal::DatagramLost,
+            ),
+            _ => Ok(()),
+        }
     }
 }

@@ -11,21 +11,54 @@ use router_core::Answer;
 use std::alloc::Global;
 use std::io::{self, Write};
 
-/// Prints the routes and the datagrams that lines ask for, and the line that is refused or expects what is not so. Of events it says nothing.
+/// Prints the routes and the datagrams that lines ask for, and the line that is refused or expects what is not so. Of events it
+/// says nothing; it counts the datagrams that they send.
 #[derive(Drop)]
 pub struct Printer<'a, W: Write> {
     alloc: Global,
     line: usize,
+    refused: Option<Refusal>,
+    /// How many datagrams were sent, once the routers have started.
+    sent: Option<usize>,
+    /// How many were sent before the line.
+    sent_before: usize,
     out: &'a mut W,
 }
 
+/// What is known of a script that a refused line has ended.
+#[derive(Clone, Copy, Debug, PartialEq, Eq)]
+pub struct Ending {
+    /// The number of the line, from 1.
+    pub line: usize,
+    /// Why it is refused.
+    pub refusal: Refusal,
+    /// How many datagrams were sent, if the routers have started.
+    pub sent: Option<usize>,
+    /// How many of them the line has sent.
+    pub sent_by_line: usize,
+}
+
 impl<'a, W: Write> Printer<'a, W> {
+    /// Nothing has happened yet.
     pub fn new(alloc: Global, out: &'a mut W) -> Printer<'a, W> {
         Printer {
             alloc,
             line: 0,
+            refused: None,
+            sent: None,
+            sent_before: 0,
             out,
         }
+    }
+
+    /// How a refused line has ended the script, if one has.
+    pub fn ending(&self) -> Option<Ending> {
+        Some(Ending {
+            line: self.line,
+            refusal: self.refused?,
+            sent: self.sent,
+            sent_by_line: self.sent.unwrap_or(0).saturating_sub(self.sent_before),
+        })
     }
 }
 
@@ -38,11 +71,12 @@ impl<'a, W: Write> ripng_world::Watch<TrieRoutes> for Printer<'a, W> {
 
     fn happened(
         &mut self,
-        _lab: &Lab<TrieRoutes>,
+        lab: &Lab<TrieRoutes>,
         _event: &Event<'_>,
         _answer: &Answer,
         _first: usize,
     ) -> io::Result<()> {
+        self.sent = Some(lab.sent().len());
         Ok(())
     }
 }
@@ -50,13 +84,15 @@ impl<'a, W: Write> ripng_world::Watch<TrieRoutes> for Printer<'a, W> {
 impl<'a, W: Write> Watch for Printer<'a, W> {
     ghost starts = { λ _ _ _ _. ⊤ };
 
-    ghost notes = { λ _ _. ⊤ };
+    ghost notes = { λ _ _ _. ⊤ };
 
     fn at_line(&mut self, number: usize) {
         self.line = number;
+        self.sent_before = self.sent.unwrap_or(0);
     }
 
-    fn started(&mut self, _lab: &Lab<TrieRoutes>, _now: Moment) -> io::Result<()> {
+    fn started(&mut self, lab: &Lab<TrieRoutes>, _now: Moment) -> io::Result<()> {
+        self.sent = Some(lab.sent().len());
         Ok(())
     }
 
@@ -72,7 +108,12 @@ impl<'a, W: Write> Watch for Printer<'a, W> {
         writeln!(self.out, "{text}")
     }
 
+    fn lost(&mut self, _datagram: usize) -> io::Result<()> {
+        Ok(())
+    }
+
     fn refused(&mut self, why: &Refusal) -> io::Result<()> {
+        self.refused = Some(*why);
         writeln!(self.out, "line {} refused {why}", self.line)
     }
 

@@ -5,6 +5,7 @@
 pub enum RefusalName {
     BadLine,
     NoSuchLink,
+    DatagramLost,
     NoSuchRouter,
     NoSuchInterface,
     NoSuchDatagram,
@@ -21,9 +22,10 @@ pub enum RefusalName {
 }
 
 /// All of them.
-const NAMES: [RefusalName; 15] = [
+const NAMES: [RefusalName; 16] = [
     RefusalName::BadLine,
     RefusalName::NoSuchLink,
+    RefusalName::DatagramLost,
     RefusalName::NoSuchRouter,
     RefusalName::NoSuchInterface,
     RefusalName::NoSuchDatagram,
@@ -45,6 +47,7 @@ impl RefusalName {
         match self {
             RefusalName::BadLine => "BadLine",
             RefusalName::NoSuchLink => "NoSuchLink",
+            RefusalName::DatagramLost => "DatagramLost",
             RefusalName::NoSuchRouter => "NoSuchRouter",
             RefusalName::NoSuchInterface => "NoSuchInterface",
             RefusalName::NoSuchDatagram => "NoSuchDatagram",

@@ -14,7 +14,7 @@ use route_table::{Moment, TrieRoutes};
 use std::alloc::{AllocError, Global};
 
 /// The most rounds of one line.
-const ROUNDS_LIMIT: u64 = 1000;
+pub const ROUNDS_LIMIT: u64 = 1000;
 
 /// The moment of a round, and the moment and the word of each router's tick, in order.
 type Ticks = (Moment, Vec<(Moment, u32)>);

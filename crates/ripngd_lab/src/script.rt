@@ -73,7 +73,7 @@ fn is_skipped(line: &[u8]) -> bool {
 }
 
 /// A line without the remark behind its words, and without the spaces before that.
-fn words_of(text: &str) -> &str {
+pub fn words_of(text: &str) -> &str {
     if text.starts_with("say ") {
         return text;
     }

@@ -1,6 +1,7 @@
 //! A script that runs: its routers are listed until they start, and then live in a network.
 
 ghost use Rattle.std.specs.Prelude.{◌≡◌, ◌⊎◌, IfOk, None, OnErr, true};
+ghost use Rattle.ripngd_lab.specs.Asides.{Broken};
 ghost use Rattle.ripngd_lab.specs.Witnessing.{HasTold, StartsAt, has_failed, lab_in};
 
 use crate::context::Context;
@@ -95,7 +96,7 @@ fn begin_lab<V: Watch>(
     watch: &mut V,
 ) -> Result<Lab<TrieRoutes>, Stop>
     ensures started { IfOk result (λ lab. StartsAt lab now × V.starts watch.old lab now watch.new) }
-    ensures untold { OnErr result (has_failed result ≡ true ⊎ watch.new ≡ watch.old) }
+    ensures untold { OnErr result (watch.new ≡ watch.old ⊎ has_failed result ≡ true × V.notes watch.old Broken watch.new) }
 {
     let lab = start(alloc, nodes, now)?;
     watch.started(&lab, now)?;

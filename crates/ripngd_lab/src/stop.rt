@@ -16,6 +16,8 @@ pub enum Refusal {
     NameTwice,
     /// No interface is on the link.
     NoSuchLink,
+    /// The datagram is lost.
+    DatagramLost,
     /// The routers make no network.
     Network(NetRefused),
     /// The event cannot happen.
@@ -98,6 +100,7 @@ impl Refusal {
             Refusal::BadLine => name == "BadLine",
             Refusal::NameTwice => name == "NameTwice",
             Refusal::NoSuchLink => name == "NoSuchLink",
+            Refusal::DatagramLost => name == "DatagramLost",
             Refusal::Network(refused) => refused.name() == name,
             Refusal::Event(error) => error.name() == name || is_reason(*error, name),
             Refusal::Rounds(refused) => refused.name() == name,
@@ -116,6 +119,12 @@ fn is_reason(error: LabError, name: &str) -> bool {
 impl From<BadLine> for Stop {
     fn from(_: BadLine) -> Stop {
         Stop::Refused(Refusal::BadLine)
+    }
+}
+
+impl From<Refusal> for Stop {
+    fn from(refusal: Refusal) -> Stop {
+        Stop::Refused(refusal)
     }
 }
 
@@ -175,6 +184,7 @@ impl fmt::Display for Refusal {
             Refusal::BadLine => write!(f, "BadLine"),
             Refusal::NameTwice => write!(f, "NameTwice"),
             Refusal::NoSuchLink => write!(f, "NoSuchLink"),
+            Refusal::DatagramLost => write!(f, "DatagramLost"),
             Refusal::Network(refused) => write_network(*refused, f),
             Refusal::Event(error) => write_event(*error, f),
             Refusal::Rounds(refused) => write_rounds(*refused, f),

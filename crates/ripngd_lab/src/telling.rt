@@ -25,8 +25,8 @@ pub struct Hearing<'a> {
 }
 
 /// Each datagram from the first on, of those that are sent already, comes once to each other interface of its link, in the
-/// order of datagrams, routers and interfaces: one to an asker to the interface of that address alone. What is lost does not
-/// come, nor does anything from or to a silent router, or by a link that is cut.
+/// order of datagrams, routers and interfaces: one to an asker to the interface of that address alone. What is lost, by this line or
+/// before, does not come, nor does anything from or to a silent router, or by a link that is cut.
 ///
 /// # Errors
 /// `NoSuchDatagram` where one is to be lost that is not among them; want of memory, or of the witness. What was done before it
@@ -97,7 +97,7 @@ fn reached(
     Ok(reached)
 }
 
-/// A datagram with the number of its link, unless its sender is silent or the link is cut.
+/// A datagram with the number of its link, unless it is lost, its sender is silent or the link is cut.
 fn on_its_way<'a>(
     lab: &'a Lab<TrieRoutes>,
     datagram: usize,
@@ -105,7 +105,7 @@ fn on_its_way<'a>(
 ) -> Option<(&'a Sent, u16)> {
     let sent = lab.sent().get(datagram)?;
     let link = lab.link(sent.router, sent.iface)?;
-    if outages.is_silent(sent.router) || outages.is_cut(link) {
+    if outages.is_lost(datagram) || outages.is_silent(sent.router) || outages.is_cut(link) {
         return None;
     }
     Some((sent, link))

@@ -1,7 +1,8 @@
 //! Who is told what happens in a script.
 
-ghost use Rattle.std.specs.Prelude.{ℕ, OnOk};
+ghost use Rattle.std.specs.Prelude.{ℕ, OnErr, OnOk};
 ghost use Rattle.ripng_world.specs.Labs.{LabValue};
+ghost use Rattle.ripngd_lab.specs.Asides.{Aside, Broken, NextLine, Prints};
 
 use crate::printing::Choice;
 use crate::stop::{Refusal, Unmet};
@@ -13,37 +14,49 @@ use std::io;
 pub trait Watch: ripng_world::Watch<TrieRoutes, Fault = io::Error> {
     // What the start of a lab makes of it: how it was, the lab, the moment, and how it is then.
     ghost starts: { Self → LabValue → ℕ → Self → Type 0 };
-    // What a telling makes of it that is of nothing that happens in the lab.
-    ghost notes: { Self → Self → Type 0 };
+    // What a telling makes of it that is of nothing that happens in the lab: how it was, what it is told, and how it is then;
+    // and what becomes of it where such a telling, or that of a start, fails.
+    ghost notes: { Self → Aside → Self → Type 0 };
 
     /// The line of this number, from 1, is next; what is told from now on is of that line.
     fn at_line(&mut self, number: usize)
-        ensures { notes self.old self.new };
+        ensures { notes self.old (NextLine number) self.new };
 
     /// The line `cold`: all routers have started at this moment.
     ///
     /// # Errors
     /// Of what the witness writes to, or want of memory; so are those below.
     fn started(&mut self, lab: &Lab<TrieRoutes>, now: Moment) -> io::Result<()>
-        ensures { OnOk result (starts self.old lab.now now self.new) };
+        ensures starts { OnOk result (starts self.old lab.now now self.new) }
+        ensures broken { OnErr result (notes self.old Broken self.new) };
 
     /// The line `print`: which routes it asks for.
     fn routes_asked(&mut self, lab: &Lab<TrieRoutes>, choice: &Choice) -> io::Result<()>
-        ensures { OnOk result (notes self.old self.new) };
+        ensures notes { OnOk result (notes self.old Prints self.new) }
+        ensures broken { OnErr result (notes self.old Broken self.new) };
 
     /// The line `sent`: the number of the datagram that it asks for, if not for all.
     fn datagrams_asked(&mut self, lab: &Lab<TrieRoutes>, asked: Option<usize>) -> io::Result<()>
-        ensures { OnOk result (notes self.old self.new) };
+        ensures notes { OnOk result (notes self.old Prints self.new) }
+        ensures broken { OnErr result (notes self.old Broken self.new) };
 
     /// The line `say`: its text.
     fn said(&mut self, text: &str) -> io::Result<()>
-        ensures { OnOk result (notes self.old self.new) };
+        ensures notes { OnOk result (notes self.old Prints self.new) }
+        ensures broken { OnErr result (notes self.old Broken self.new) };
+
+    /// The line `lose`: the datagram of this number is lost.
+    fn lost(&mut self, datagram: usize) -> io::Result<()>
+        ensures notes { OnOk result (notes self.old Prints self.new) }
+        ensures broken { OnErr result (notes self.old Broken self.new) };
 
     /// The line is refused, and ends the script.
     fn refused(&mut self, why: &Refusal) -> io::Result<()>
-        ensures { OnOk result (notes self.old self.new) };
+        ensures notes { OnOk result (notes self.old Prints self.new) }
+        ensures broken { OnErr result (notes self.old Broken self.new) };
 
     /// The line expects what is not so, and ends the script.
     fn unmet(&mut self, unmet: &Unmet) -> io::Result<()>
-        ensures { OnOk result (notes self.old self.new) };
+        ensures notes { OnOk result (notes self.old Prints self.new) }
+        ensures broken { OnErr result (notes self.old Broken self.new) };
 }

@@ -1,12 +1,50 @@
 -- Lines that are written.
-use Rattle.std.proofs.Common.{◌≡◌, ℕ, List, [], ◌∷◌, ◌++◌, OnOk, Option, Result, Ok, Err, subst}
+use Rattle.std.proofs.Common.{◌≡◌, ◌≢◌, ◌<◌, ◌≤◌, ◌+◌, ◌-◌, ◌∙◌, ℕ, drop, sym, List, [], ◌∷◌, ◌++◌, OnErr, OnOk, Option, Result, Ok, Err, ap, arith, inr, length, subst, take}
 use Rattle.std.specs.Io.KnownBytes.{Appends}
+use Rattle.std.proofs.KnownBytes.{Appends-trans}
+use Rattle.std.proofs.Math.Arith.{lt_of_le-ne}
+use Rattle.std.proofs.Math.Seq.{take-add}
+use Rattle.std.proofs.lemmas.List.{length-drop, take-append-le, take_rest}
 use Rattle.serde.specs.Event.{Log}
 use Rattle.serde_json.specs.Sent.{IsTextOf}
-use Rattle.ripngd_trace.specs.Lines.{WritesLine}
+use Rattle.ripngd_trace.specs.Lines.{WritesLess, WritesRecord}
+use Rattle.ripngd_trace.proofs.Starting.{length_push}
 
--- a text and a line feed were written
-pub line_written : {X E : Type 0} (r : Result X E) (text bytes : List ℕ) (old new : Option (List ℕ)) (log : Log) → IsTextOf log text → bytes ≡ text ++ 10 ∷ [] → OnOk r (Appends old new bytes)
-    → OnOk r (WritesLine old new)
-line_written (Ok x) text bytes old new log spelled is h = (text, log, spelled, subst (Appends old new) is h)
-line_written (Err e) text bytes old new log spelled is h = tt
+module _ {X E : Type 0} (result : Result X E) (text bytes : List ℕ) (old new : Option (List ℕ)) (log : Log) (spells : IsTextOf log text) (is : bytes ≡ text ++ 10 ∷ []) where
+  -- a text and a line feed were written
+  pub record_written : {R : Type 0} (r : R) → OnOk result (Appends old new bytes) → OnOk result (WritesRecord r old new)
+  record_written r = by result
+    where
+      by : (q : Result X E) → OnOk q (Appends old new bytes) → OnOk q (WritesRecord r old new)
+      by (Ok x) h = record { text = text; log = log; spells = spells; appends = subst (Appends old new) is h }
+      by (Err e) h = tt
+
+  -- less of them was
+  pub record_broken : OnErr result ((count : ℕ) × (count < length bytes) × Appends old new (take count bytes)) → OnErr result (WritesLess old new)
+  record_broken = by result
+    where
+      by : (q : Result X E) → OnErr q ((count : ℕ) × (count < length bytes) × Appends old new (take count bytes)) → OnErr q (WritesLess old new)
+      by (Ok x) h = tt
+      by (Err e) h =
+          let few = subst (λ (bs : List ℕ). h.0 < length bs) is h.1 in
+          let begins = ap (take h.0) is ∙ take-append-le h.0 text (10 ∷ []) (omega (arith, few, length_push text 10)) in
+          inr (text, log, spells, h.0, subst (Appends old new) begins h.2)
+
+-- more bytes are written, from a place on
+module _ (bytes : List ℕ) (at count next : ℕ) (before : at < length bytes) (is : next ≡ at + count) where
+  pub few_more : count ≤ length (take (length bytes - at) (drop at bytes)) → next ≢ length bytes → next < length bytes
+  few_more few other =
+      let left = ap length (take_rest bytes at) ∙ length-drop at bytes in
+      lt_of_le-ne (omega (arith, before, is, few, left)) other
+
+  pub more_written : (old mid new : Option (List ℕ)) → Appends old mid (take at bytes) → Appends mid new (take count (take (length bytes - at) (drop at bytes))) → Appends old new (take next bytes)
+  more_written old mid new first rest =
+      subst (λ (n : ℕ). Appends old new (take n bytes)) (sym is)
+      (subst (Appends old new) (ap (λ (bs : List ℕ). take at bytes ++ take count bs) (take_rest bytes at) ∙ sym (take-add at count bytes))
+      (Appends-trans old mid new (take at bytes) (take count (take (length bytes - at) (drop at bytes))) first rest))
+
+-- of a record with this word
+pub under_word : {X E R : Type 0} (result : Result X E) (word_of : R → List ℕ) (word : List ℕ) (r : R) (old new : Option (List ℕ)) → word_of r ≡ word
+    → OnOk result (WritesRecord r old new) → OnOk result ((x : R) × (word_of x ≡ word) × WritesRecord x old new)
+under_word (Ok x) word_of word r old new is writes = (r, is, writes)
+under_word (Err e) word_of word r old new is writes = tt

@@ -1,5 +1,6 @@
--- Who reads the records of a run that was watched knows each router's table after each.
-use Rattle.std.proofs.Common.{◌≡◌, ℕ, zero, suc, refl, ap, sym, subst, ◌∙◌, List, [], ◌∷◌, map, Option, Some, IfSome, OnOk, Result, Ok, Err, option_map, slice_get, slice_set}
+-- Who reads the lines of a trace has each router's table after each.
+use Rattle.std.proofs.Common.{◌≡◌, ◌⊎◌, inl, inr, ℕ, zero, suc, refl, ap, sym, subst, ◌∙◌, List, [], ◌∷◌, ◌++◌, map, Option, None, Some, IfSome, OnErr, OnOk, Result, Ok, Err, option_map, slice_get, slice_set}
+use Rattle.std.specs.List.{AllZip}
 use Rattle.std.proofs.lemmas.List.{map-set}
 use Rattle.route_table.specs.Table.{Table}
 use Rattle.route_table.proofs.TableLaws.{None-Some}
@@ -7,11 +8,20 @@ use Rattle.router_core.specs.Machine.{State, Happening, Arrives, Ticks, Restarts
 use Rattle.router_core.specs.declared.answer.Answer.{Answer}
 use Rattle.ripng_world.specs.Network.{Network}
 use Rattle.ripng_world.specs.Rounds.{router_of}
-use Rattle.ripng_world.specs.Watching.{WatchedRun, any, telling}
+use Rattle.ripng_world.specs.Labs.{LabValue}
+use Rattle.ripng_world.specs.Watching.{Told, telling}
 use Rattle.ripng_world.specs.World.{World, Event, Deliver, Stranger, Tick, Restart, Reconfigure, Happens, RouterMoves, arrival_of}
 use Rattle.ripng_world.proofs.Running.{get_map}
-use Rattle.ripngd_trace.specs.Reading.{Reads, Said, SaysEvent, TellsRun, tables_of}
+use Rattle.ripngd_lab.specs.Asides.{Aside, NextLine, Prints, Broken}
+use Rattle.ripngd_lab.specs.Witnessing.{Telling, Starts, Does, Turns, Notes, TellsAll, FailsAtRest, FailsAtEvent, IsToldUntil, StartsAt}
+use Rattle.ripngd_trace.specs.Events.{Tells}
+use Rattle.ripngd_trace.specs.Reading.{AreWritten, IsTracedUntil, IsWritten, Line, StartLine, EventLine, PrintLine, RefusedLine, LostLine, Shown, Shows, TellsOf, TellsScript, read_line, tables_in, tables_of}
+use Rattle.ripngd_trace.specs.Records.{LeadsTo}
+use Rattle.ripngd_trace.specs.Saying.{BreaksOff, Said, SaysAside, SaysEvent, SaysLost, SaysPrint, SaysRefused, SaysStart}
+use Rattle.ripngd_trace.specs.Starting.{TellsStart}
 use Rattle.ripngd_trace.specs.declared.records.EventRecord.{EventRecord}
+use Rattle.ripngd_trace.specs.declared.records.StartRecord.{StartRecord}
+use Rattle.ripngd_trace.proofs.Showing.{shows_set, shows_started}
 
 -- ---- one event
 
@@ -31,9 +41,13 @@ get_here (y ∷ ys) (suc i) old x is = get_here ys i old x is
 of_some : {X : Type 0} (o : Option X) (x : X) (P : X → Type 0) → o ≡ Some x → IfSome o P → P x
 of_some {X} o x P is h = subst (λ (p : Option X). IfSome p P) is h
 
-pub on_ok_with : {X E : Type 0} (r : Result X E) (P Q : Type 0) → P → OnOk r Q → OnOk r (P × Q)
-on_ok_with (Ok x) P Q p q = (p, q)
-on_ok_with (Err e) P Q p q = tt
+pub on_ok : {X E P Q : Type 0} (r : Result X E) → OnOk r P → (P → Q) → OnOk r Q
+on_ok (Ok x) p leads = leads p
+on_ok (Err e) p leads = tt
+
+pub on_err : {X E P Q : Type 0} (r : Result X E) → OnErr r P → (P → Q) → OnErr r Q
+on_err (Ok x) p leads = tt
+on_err (Err e) p leads = leads p
 
 module _ (net : Network) (w : World) (e : Event) (answer : Answer) (mid : World) (happens : Happens net w e answer mid) (said said' : Said) (is : said.known ≡ tables_of w)
     (takes : SaysEvent said (telling net w e answer mid) said') where
@@ -57,35 +71,143 @@ module _ (net : Network) (w : World) (e : Event) (answer : Answer) (mid : World)
       ∙ ap (λ (i : ℕ). slice_set said.known i move.1.new.table) takes.tells.router_is ∙ ap (λ (ts : List Table). slice_set ts (router_of e) move.1.new.table) is
       ∙ sym (map-set (λ (s : State). s.table) w.states (router_of e) move.1.new) ∙ ap (map (λ (s : State). s.table)) (sym move.1.states)
 
-  pub reads_one : Reads (tables_of w) takes.r.router takes.r.routes.items takes.r.gone.items (tables_of mid)
-  reads_one = record {
-    before = move.1.old.table;
-    before_is = ap (λ (ts : List Table). slice_get ts takes.r.router) (sym is) ∙ was;
-    after = move.1.new.table;
-    leads = of_some (slice_get mid.states takes.r.router) move.1.new _ is_now (of_some (slice_get said.known takes.r.router) move.1.old.table _ was takes.listed);
-    known_is = sym known_after
-        ∙ of_some (slice_get mid.states takes.r.router) move.1.new (λ (s : State). said'.known ≡ slice_set said.known takes.r.router s.table) is_now takes.known_is
-        ∙ ap (λ (ts : List Table). slice_set ts takes.r.router move.1.new.table) is;
-  }
+  leads : LeadsTo move.1.old.table takes.r.routes.items takes.r.gone.items move.1.new.table
+  leads = of_some (slice_get mid.states takes.r.router) move.1.new _ is_now (of_some (slice_get said.known takes.r.router) move.1.old.table _ was takes.listed)
 
--- ---- a run
+  led : tables_of mid ≡ slice_set (tables_of w) takes.r.router move.1.new.table
+  led =
+      sym known_after ∙ of_some (slice_get mid.states takes.r.router) move.1.new (λ (s : State). said'.known ≡ slice_set said.known takes.r.router s.table) is_now takes.known_is
+      ∙ ap (λ (ts : List Table). slice_set ts takes.r.router move.1.new.table) is
 
-pub run_told : (net : Network) (events : List Event) (w w' : World) (said said' : Said) → said.known ≡ tables_of w → WatchedRun SaysEvent any net (w, said) events (w', said')
-    → (records : List EventRecord) × TellsRun said.line net w events records w' × (said'.known ≡ tables_of w')
-run_told net [] w w' said said' is run =
-    ([], ap (λ (v : World × Said). v.0) run, ap (λ (v : World × Said). v.1.known) run ∙ is ∙ ap (λ (v : World × Said). tables_of v.0) (sym run))
-run_told net (e ∷ events) w w' said said' is run =
-    let mid = run.0.0 in
-    let says : SaysEvent said (telling net w e run.1 mid) run.0.1 = run.4 in
-    let rest = run_told net events mid w' run.0.1 said' (known_after net w e run.1 mid run.3 said run.0.1 is says) run.5 in (
-      says.r ∷ rest.0,
-      (
-        mid,
-        run.1,
-        run.3,
-        says.tells,
-        reads_one net w e run.1 mid run.3 said run.0.1 is says,
-        subst (λ (line : ℕ). TellsRun line net mid events rest.0 w') says.line_is rest.1,
-      ),
-      rest.2,
-    )
+  -- and shown
+  pub shown_after : (shown : List Shown) → AllZip Shows shown (tables_of w) → AllZip Shows (read_line shown (EventLine takes.r)) (tables_of mid)
+  shown_after shown shows =
+      subst (AllZip Shows (read_line shown (EventLine takes.r))) (sym led)
+      (shows_set shown (tables_of w) takes.r.router move.1.old.table move.1.new.table takes.r.routes.items takes.r.gone.items shows
+      (ap (λ (ts : List Table). slice_get ts takes.r.router) (sym is) ∙ was) leads)
+
+-- ---- one line
+
+-- a record that tells of a line tells of its own
+told_itself : (line : ℕ) (what : Told) (r : EventRecord) → Tells line what r → Tells r.line what r
+told_itself line what r t = subst (λ (n : ℕ). Tells n what r) (sym t.at_line) t
+
+started_itself : (line : ℕ) (lab : LabValue) (now : ℕ) (r : StartRecord) → TellsStart line lab now r → TellsStart r.line lab r.now r
+started_itself line lab now r t =
+    subst (λ (n : ℕ). TellsStart r.line lab n r) (sym t.moment_is) (subst (λ (n : ℕ). TellsStart n lab now r) (sym t.at_line) t)
+
+-- what is left to be read
+abbrev pub LinesFrom : Option LabValue → List Shown → Said → Option LabValue → Said → Type 0
+LinesFrom lab shown said end said' = (lines : List Line) × TellsScript lab shown lines end × AreWritten lines said.written said'.written
+
+module _ (lab mid end : Option LabValue) (shown : List Shown) (said said1 said' : Said) where
+  line_on : (line : Line) → TellsOf line lab mid → AllZip Shows (read_line shown line) (tables_in mid) → IsWritten line said.written said1.written
+      → LinesFrom mid (read_line shown line) said1 end said' → LinesFrom lab shown said end said'
+  line_on line tells shows writes rest = (line ∷ rest.0, (mid, tells, shows, rest.1), (said1.written, writes, rest.2))
+
+  -- no line
+  none_on : mid ≡ lab → said1.written ≡ said.written → LinesFrom mid shown said1 end said' → LinesFrom lab shown said end said'
+  none_on same unwritten rest = (
+    rest.0,
+    subst (λ (l : Option LabValue). TellsScript l shown rest.0 end) same rest.1,
+    subst (λ (o : Option (List ℕ)). AreWritten rest.0 o said'.written) unwritten rest.2,
+  )
+
+  -- what a line prints or loses, or why it ends the script
+  aside_on : mid ≡ lab → AllZip Shows shown (tables_in mid) → SaysPrint said said1 ⊎ (SaysRefused said said1 ⊎ SaysLost said said1) → LinesFrom mid shown said1 end said' → LinesFrom lab shown said end said'
+  aside_on same shows (inl p) rest = line_on (PrintLine p.r) (same, p.word_is) shows p.writes rest
+  aside_on same shows (inr (inl p)) rest = line_on (RefusedLine p.r) (same, p.word_is) shows p.writes rest
+  aside_on same shows (inr (inr p)) rest = line_on (LostLine p.r) (same, p.word_is) shows p.writes rest
+
+aside_known : (said said' : Said) → SaysPrint said said' ⊎ (SaysRefused said said' ⊎ SaysLost said said') → said'.known ≡ said.known
+aside_known said said' (inl p) = p.known_is
+aside_known said said' (inr (inl p)) = p.known_is
+aside_known said said' (inr (inr p)) = p.known_is
+
+-- ---- a script, as one is told of it who makes of each telling what the tracer makes of it
+
+module _ {V : Type 0} (f : V → Said) (st : V → LabValue → ℕ → V → Type 0) (t fl : V → Told → V → Type 0) (n : V → Aside → V → Type 0)
+    (starts : (a : V) (lab : LabValue) (now : ℕ) (b : V) → st a lab now b → SaysStart (f a) lab now (f b)) (takes : (a : V) (what : Told) (b : V) → t a what b → SaysEvent (f a) what (f b))
+    (fails : (a : V) (what : Told) (b : V) → fl a what b → BreaksOff (f a) what (f b)) (notes : (a : V) (what : Aside) (b : V) → n a what b → SaysAside (f a) what (f b)) where
+  pub lines_told : (ts : List Telling) (lab : Option LabValue) (v : V) (end : Option LabValue) (v' : V) (shown : List Shown)
+      → AllZip Shows shown (tables_in lab) → (f v).known ≡ tables_in lab → TellsAll st t n (lab, v) ts (end, v') → LinesFrom lab shown (f v) end (f v')
+  lines_told [] lab v end v' shown shows known same =
+      ([], ap (λ (s : Option LabValue × V). s.0) same, ap (λ (s : Option LabValue × V). (f s.1).written) same)
+  lines_told (Starts now ∷ ts) lab v end v' shown shows known told =
+      let mid = told.0 in
+      let begins = told.1 in
+      let l = begins.1 in
+      let says : SaysStart (f v) l now (f mid.1) = starts v l now mid.1 begins.4 in
+      let routers = says.tells.routers in
+      let shows1 : AllZip Shows (read_line shown (StartLine says.r)) (tables_in mid.0) =
+      subst (λ (o : Option LabValue). AllZip Shows (read_line shown (StartLine says.r)) (tables_in o)) (sym begins.2)
+      (shows_started says.r.routers.items l.world.states routers.as_many (λ k r is. ((routers.each k r is).state, (routers.each k r is).state_is, (routers.each k r is).routes_lead))) in
+      let known1 : (f mid.1).known ≡ tables_in mid.0 =
+      says.known_is ∙ ap (λ (ts : List Table). ts ++ tables_of l.world) (known ∙ ap tables_in begins.0) ∙ sym (ap tables_in begins.2) in
+      line_on lab mid.0 end shown (f v) (f mid.1) (f v') (StartLine says.r)
+      (begins.0, l, begins.2, subst (StartsAt l) (sym says.tells.moment_is) begins.3, started_itself (f v).line l now says.r says.tells)
+      shows1 says.writes (lines_told ts mid.0 mid.1 end v' (read_line shown (StartLine says.r)) shows1 known1 told.2)
+  lines_told (Does e answer ∷ ts) lab v end v' shown shows known told =
+      let mid = told.0 in
+      let done = told.1 in
+      let l = done.0 in
+      let l1 = done.2 in
+      let what = telling l.network l.world e answer l1.world in
+      let says : SaysEvent (f v) what (f mid.1) = takes v what mid.1 done.6 in
+      let known0 : (f v).known ≡ tables_of l.world = known ∙ ap tables_in done.1 in
+      let shows0 : AllZip Shows shown (tables_of l.world) = subst (λ (o : Option LabValue). AllZip Shows shown (tables_in o)) done.1 shows in
+      let shows1 : AllZip Shows (read_line shown (EventLine says.r)) (tables_in mid.0) =
+      subst (λ (o : Option LabValue). AllZip Shows (read_line shown (EventLine says.r)) (tables_in o)) (sym done.3)
+      (shown_after l.network l.world e answer l1.world done.5 (f v) (f mid.1) known0 says shown shows0) in
+      let known1 : (f mid.1).known ≡ tables_in mid.0 =
+      known_after l.network l.world e answer l1.world done.5 (f v) (f mid.1) known0 says ∙ sym (ap tables_in done.3) in
+      line_on lab mid.0 end shown (f v) (f mid.1) (f v') (EventLine says.r)
+      (l, done.1, l1, done.3, e, answer, (done.4, done.5), told_itself (f v).line what says.r says.tells)
+      shows1 says.writes (lines_told ts mid.0 mid.1 end v' (read_line shown (EventLine says.r)) shows1 known1 told.2)
+  lines_told (Turns number ∷ ts) lab v end v' shown shows known told =
+      let mid = told.0 in
+      let turns = told.1 in
+      let turned : SaysAside (f v) (NextLine number) (f mid.1) = notes v (NextLine number) mid.1 turns.1 in
+      none_on lab mid.0 end shown (f v) (f mid.1) (f v') turns.0 (ap (λ (s : Said). s.written) turned)
+      (lines_told ts mid.0 mid.1 end v' shown (subst (λ (o : Option LabValue). AllZip Shows shown (tables_in o)) (sym turns.0) shows)
+      (ap (λ (s : Said). s.known) turned ∙ known ∙ sym (ap tables_in turns.0)) told.2)
+  lines_told (Notes ∷ ts) lab v end v' shown shows known told =
+      let mid = told.0 in
+      let notes1 = told.1 in
+      let prints : SaysAside (f v) Prints (f mid.1) = notes v Prints mid.1 notes1.1 in
+      let shows1 = subst (λ (o : Option LabValue). AllZip Shows shown (tables_in o)) (sym notes1.0) shows in
+      aside_on lab mid.0 end shown (f v) (f mid.1) (f v') notes1.0 shows1 prints
+      (lines_told ts mid.0 mid.1 end v' shown shows1 (aside_known (f v) (f mid.1) prints ∙ known ∙ sym (ap tables_in notes1.0)) told.2)
+
+  -- up to where memory or the tracer failed
+  pub until_told : (v : V) (end : Option LabValue) (v' : V) → (f v).known ≡ [] → IsToldUntil st t fl n (None, v) (end, v')
+      → IsTracedUntil (f v).written end (f v').written
+  until_told v end v' known until = by_why until.2
+    where
+      traced : LinesFrom None [] (f v) until.0.0 (f until.0.1)
+      traced = lines_told until.1.0 None v until.0.0 until.0.1 [] tt known until.1.1
+
+      by_why : FailsAtRest n until.0 (end, v') ⊎ FailsAtEvent fl until.0 (end, v') → IsTracedUntil (f v).written end (f v').written
+      by_why (inl (same, inl unsaid)) = (until.0.0, (f until.0.1).written, traced, inl same, inl (ap (λ (x : V). (f x).written) unsaid))
+      by_why (inl (same, inr broken)) = (until.0.0, (f until.0.1).written, traced, inl same, notes until.0.1 Broken v' broken)
+      by_why (inr at) =
+          (until.0.0, (f until.0.1).written, traced, inr (at.0, at.1, at.2, at.3, at.5, at.6, (at.4, at.7)), fails until.0.1 _ v' at.8)
+
+-- what each telling keeps, all of them keep
+module _ {V N : Type 0} (place : V → N) (st : V → LabValue → ℕ → V → Type 0) (t fl : V → Told → V → Type 0) (n : V → Aside → V → Type 0)
+    (starts : (a : V) (lab : LabValue) (now : ℕ) (b : V) → st a lab now b → place b ≡ place a) (takes : (a : V) (what : Told) (b : V) → t a what b → place b ≡ place a)
+    (fails : (a : V) (what : Told) (b : V) → fl a what b → place b ≡ place a) (notes : (a : V) (what : Aside) (b : V) → n a what b → place b ≡ place a) where
+  pub kept : (ts : List Telling) (s s' : Option LabValue × V) → TellsAll st t n s ts s' → place s'.1 ≡ place s.1
+  kept [] s s' same = ap (λ (x : Option LabValue × V). place x.1) same
+  kept (Starts now ∷ ts) s s' told = kept ts told.0 s' told.2 ∙ starts s.1 told.1.1 now told.0.1 told.1.4
+  kept (Does e answer ∷ ts) s s' told = kept ts told.0 s' told.2 ∙ takes s.1 _ told.0.1 told.1.6
+  kept (Turns number ∷ ts) s s' told = kept ts told.0 s' told.2 ∙ notes s.1 (NextLine number) told.0.1 told.1.1
+  kept (Notes ∷ ts) s s' told = kept ts told.0 s' told.2 ∙ notes s.1 Prints told.0.1 told.1.1
+
+  pub kept_until : (s s' : Option LabValue × V) → IsToldUntil st t fl n s s' → place s'.1 ≡ place s.1
+  kept_until s s' until = by_why until.2 ∙ kept until.1.0 s until.0 until.1.1
+    where
+      by_why : FailsAtRest n until.0 s' ⊎ FailsAtEvent fl until.0 s' → place s'.1 ≡ place until.0.1
+      by_why (inl (same, inl unsaid)) = ap place unsaid
+      by_why (inl (same, inr broken)) = notes until.0.1 Broken s'.1 broken
+      by_why (inr at) = fails until.0.1 _ s'.1 at.8

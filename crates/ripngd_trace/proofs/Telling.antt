@@ -52,7 +52,7 @@ gone_on t k k' p r es before here fewer q none left = by_tie (eq_by_cmp prefix_c
 nothing_taken : (p q : Prefix6) → map_of.get (map_of.remove (map_of.empty {X = RouteValue} {R = prefix_cmp}) p) q ≡ map_of.get (map_of.empty {X = RouteValue} {R = prefix_cmp}) q
 nothing_taken p q = removed_elsewhere map_of.empty p q (map_of.get-empty prefix_cmp q) ∙ sym (map_of.get-empty prefix_cmp q)
 
-pub without_nothing : (ps : List Prefix6) → without map_of.empty ps ≡ map_of.empty
+pub without_nothing : (ps : List Prefix6) → without {X = RouteValue} map_of.empty ps ≡ map_of.empty
 without_nothing [] = refl
 without_nothing (p ∷ ps) = ap (λ t. without t ps) (map_of.same_map prefixes_total exact_prefixes _ _ (nothing_taken p)) ∙ without_nothing ps
 

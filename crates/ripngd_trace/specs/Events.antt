@@ -1,5 +1,5 @@
 -- What the record of an event says: of the event, of the answer, and of what was sent.
-use Rattle.std.specs.Prelude.{◌≡◌, ℕ, List, drop, map, Option, Some, None, option_map, option_and_then, slice_get, string_bytes}
+use Rattle.std.specs.Prelude.{◌≡◌, ℕ, List, drop, map, Option, Some, None, option_map, option_and_then, slice_get, string_bytes, codes}
 use Rattle.std.specs.List.{enumerate_from}
 use Rattle.hex.specs.Hex.{encode_lower}
 use Rattle.fib.specs.declared.change.Hop.{Hop}
@@ -113,6 +113,7 @@ sent_from first sent = enumerate_from first (drop first sent)
 
 -- the record, of this line of the script, says what is told of an event, and nothing else
 pub record Tells (line : ℕ) (what : Told) (r : EventRecord) : Type 0 where
+  pub word_is : r.record.now ≡ codes "event"
   pub at_line : r.line ≡ line
   pub router_is : r.router ≡ router_of what.event
   pub moment_is : r.now ≡ moment_of what.event

@@ -1,60 +1,118 @@
--- What a reader of a trace knows, who applies its records from the first on: the table of each router.
-use Rattle.std.specs.Prelude.{◌≡◌, ℕ, List, [], ◌∷◌, ◌++◌, map, Some, IfSome, slice_get, slice_set}
+-- What a reader of a trace has, who goes through its records from the first one on: each router's table, as records of routes.
+use Rattle.std.specs.Prelude.{◌≡◌, ◌⊎◌, ℕ, List, [], ◌∷◌, map, Option, Some, None, option_map, codes, get_or, slice_set}
+use Rattle.std.specs.FinMap as map_of
+use Rattle.std.specs.List.{AllZip}
 use Rattle.prefix6.specs.Prefix.{Prefix6}
-use Rattle.route_table.specs.Table.{Table}
+use Rattle.route_table.specs.Table.{ByPrefix, Table}
 use Rattle.router_core.specs.declared.answer.Answer.{Answer}
 use Rattle.ripng_world.specs.Labs.{LabValue}
-use Rattle.ripng_world.specs.Network.{Network}
-use Rattle.ripng_world.specs.Watching.{Told, telling}
+use Rattle.ripng_world.specs.Watching.{telling}
 use Rattle.ripng_world.specs.World.{World, Event, Happens}
+use Rattle.ripngd_lab.specs.Witnessing.{StartsAt}
 use Rattle.ripngd_trace.specs.Events.{Tells}
-use Rattle.ripngd_trace.specs.Records.{LeadsTo}
+use Rattle.ripngd_trace.specs.Lines.{WritesLess, WritesRecord}
+use Rattle.ripngd_trace.specs.Records.{route_record, without}
 use Rattle.ripngd_trace.specs.Starting.{TellsStart}
 use Rattle.ripngd_trace.specs.declared.records.EventRecord.{EventRecord}
+use Rattle.ripngd_trace.specs.declared.records.PrintRecord.{PrintRecord}
+use Rattle.ripngd_trace.specs.declared.records.LostRecord.{LostRecord}
+use Rattle.ripngd_trace.specs.declared.records.RefusedRecord.{RefusedRecord}
 use Rattle.ripngd_trace.specs.declared.records.RouteRecord.{RouteRecord}
 use Rattle.ripngd_trace.specs.declared.records.StartRecord.{StartRecord}
+
+-- ---- what a reader has
+
+-- of one router: the record of its route to each prefix
+abbrev pub Shown : Type 0
+Shown = ByPrefix RouteRecord
+
+-- it shows a table: to each prefix there is the record of the route, or none where there is none
+abbrev pub Shows : Shown → Table → Type 0
+Shows shown table = (p : Prefix6) → map_of.get shown p ≡ option_map (route_record p) (map_of.get table p)
+
+-- once these routes are put in, one after another
+abbrev pub with_records : Shown → List RouteRecord → Shown
+with_records shown [] = shown
+with_records shown (r ∷ records) = with_records (map_of.insert shown r.prefix r) records
+
+-- a line of a trace: the record of a start, of an event, of what a line of the script prints, or of why it ends the script
+pub data Line : Type 0 where
+  StartLine : StartRecord → Line
+  EventLine : EventRecord → Line
+  PrintLine : PrintRecord → Line
+  RefusedLine : RefusedRecord → Line
+  LostLine : LostRecord → Line
+
+-- what a reader has of each router once it has read a line: of a start each router's routes; of an event what it had, but of the
+-- router that moved without what is gone and with the routes that are told; else what it had
+abbrev pub read_line : List Shown → Line → List Shown
+read_line shown (StartLine r) = map (λ router. with_records map_of.empty router.routes.items) r.routers.items
+read_line shown (EventLine r) = slice_set shown r.router (with_records (without (get_or shown r.router map_of.empty) r.gone.items) r.routes.items)
+read_line shown (PrintLine r) = shown
+read_line shown (RefusedLine r) = shown
+read_line shown (LostLine r) = shown
+
+-- ---- what there is to know
 
 -- the table of each router
 abbrev pub tables_of : World → List Table
 tables_of w = map (λ s. s.table) w.states
 
--- who knows these tables, and is told these routes and what is gone of one router, knows those: that router's table is what
--- its table is led to, and all others are as they were
-pub record Reads (known : List Table) (router : ℕ) (routes : List RouteRecord) (gone : List Prefix6) (known' : List Table) : Type 0 where
-  pub before : Table
-  pub before_is : slice_get known router ≡ Some before
-  pub after : Table
-  pub leads : LeadsTo before routes gone after
-  pub known_is : known' ≡ slice_set known router after
+-- the same of a script's lab, which has no routers before its start
+abbrev pub tables_in : Option LabValue → List Table
+tables_in None = []
+tables_in (Some lab) = tables_of lab.world
 
--- these records, one for each event of a run, tell of it, and a reader who knows each router's table before it knows each
--- after each record
-abbrev pub TellsRun : ℕ → Network → World → List Event → List EventRecord → World → Type 0
-TellsRun line net w [] [] w' = w' ≡ w
-TellsRun line net w (e ∷ events) (r ∷ records) w' =
-    (mid : World) × (answer : Answer) × Happens net w e answer mid × Tells line (telling net w e answer mid) r
-    × Reads (tables_of w) r.router r.routes.items r.gone.items (tables_of mid) × TellsRun line net mid events records w'
-TellsRun line net w _ _ w' = ⊥
+-- an event happens in a lab, with this answer
+abbrev pub HappensIn : LabValue → Event → Answer → LabValue → Type 0
+HappensIn lab e answer lab' = (lab'.network ≡ lab.network) × Happens lab.network lab.world e answer lab'.world
 
--- ---- what the tracer does
+-- the word of a record of what a line prints
+abbrev pub IsPrintWord : List ℕ → Type 0
+IsPrintWord word = (word ≡ codes "print") ⊎ ((word ≡ codes "sent") ⊎ (word ≡ codes "say"))
 
--- the line of the script that it is at, and the table of each router as a reader of its records knows it
-pub record Said : Type 0 where
-  pub line : ℕ
-  pub known : List Table
+-- a line tells what becomes of a script's lab: it starts; an event happens in it; or nothing does, as the line's word says
+abbrev pub TellsOf : Line → Option LabValue → Option LabValue → Type 0
+TellsOf (StartLine r) before after = (before ≡ None) × (lab : LabValue) × (after ≡ Some lab) × StartsAt lab r.now × TellsStart r.line lab r.now r
+TellsOf (EventLine r) before after =
+    (lab : LabValue) × (before ≡ Some lab) × (lab' : LabValue) × (after ≡ Some lab')
+    × (e : Event) × (answer : Answer) × HappensIn lab e answer lab' × Tells r.line (telling lab.network lab.world e answer lab'.world) r
+TellsOf (PrintLine r) before after = (after ≡ before) × IsPrintWord r.record.now
+TellsOf (RefusedLine r) before after = (after ≡ before) × (r.record.now ≡ codes "refused")
+TellsOf (LostLine r) before after = (after ≡ before) × (r.record.now ≡ codes "lost")
 
--- of an event it makes a record that tells of it, and leads from the table known of its router to that router's own; that
--- table is known from then on, and all others as they were
-pub record SaysEvent (said : Said) (what : Told) (said' : Said) : Type 0 where
-  pub r : EventRecord
-  pub tells : Tells said.line what r
-  pub listed : IfSome (slice_get said.known r.router) (λ before. IfSome (slice_get what.lab.world.states r.router) (λ state. LeadsTo before r.routes.items r.gone.items state.table))
-  pub known_is : IfSome (slice_get what.lab.world.states r.router) (λ state. said'.known ≡ slice_set said.known r.router state.table)
-  pub line_is : said'.line ≡ said.line
+-- ---- a trace
 
--- of the start it makes a record that tells of it, and each router's table is known from then on
-pub record SaysStart (said : Said) (lab : LabValue) (now : ℕ) (said' : Said) : Type 0 where
-  pub r : StartRecord
-  pub tells : TellsStart said.line lab now r
-  pub known_is : said'.known ≡ said.known ++ tables_of lab.world
-  pub line_is : said'.line ≡ said.line
+-- these lines tell all that becomes of a script's lab, one after another; and after each of them a reader has each router's table
+abbrev pub TellsScript : Option LabValue → List Shown → List Line → Option LabValue → Type 0
+TellsScript lab shown [] end = end ≡ lab
+TellsScript lab shown (line ∷ lines) end =
+    (mid : Option LabValue) × TellsOf line lab mid × AllZip Shows (read_line shown line) (tables_in mid) × TellsScript mid (read_line shown line) lines end
+
+-- its record is written, as one line
+abbrev pub IsWritten : Line → Option (List ℕ) → Option (List ℕ) → Type 0
+IsWritten (StartLine r) = WritesRecord r
+IsWritten (EventLine r) = WritesRecord r
+IsWritten (PrintLine r) = WritesRecord r
+IsWritten (RefusedLine r) = WritesRecord r
+IsWritten (LostLine r) = WritesRecord r
+
+-- so is that of each of these, in order, and nothing else
+abbrev pub AreWritten : List Line → Option (List ℕ) → Option (List ℕ) → Type 0
+AreWritten [] old new = new ≡ old
+AreWritten (line ∷ lines) old new = (mid : Option (List ℕ)) × IsWritten line old mid × AreWritten lines mid new
+
+-- a script is traced, from before its lab starts until this is its lab: behind what was written before stands a line for each
+-- record, and the records tell all that became of the lab, to a reader who had nothing
+abbrev pub IsTraced : Option (List ℕ) → Option LabValue → Option (List ℕ) → Type 0
+IsTraced old lab new = (lines : List Line) × TellsScript None [] lines lab × AreWritten lines old new
+
+-- the lab is one event further
+abbrev pub IsOneFurther : Option LabValue → Option LabValue → Type 0
+IsOneFurther before lab = (l : LabValue) × (before ≡ Some l) × (l' : LabValue) × (lab ≡ Some l') × (e : Event) × (answer : Answer) × HappensIn l e answer l'
+
+-- so it is until memory is refused, or the writer fails: then the lab may be one event further than what is told, and behind the
+-- lines there may be less than one more
+abbrev pub IsTracedUntil : Option (List ℕ) → Option LabValue → Option (List ℕ) → Type 0
+IsTracedUntil old lab new =
+    (told : Option LabValue) × (written : Option (List ℕ)) × IsTraced old told written × ((lab ≡ told) ⊎ IsOneFurther told lab) × WritesLess written new

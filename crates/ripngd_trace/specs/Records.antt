@@ -4,7 +4,7 @@ use Rattle.std.specs.FinMap as map_of
 use Rattle.prefix6.specs.Prefix.{Prefix6}
 use Rattle.route_table.specs.Due.{next_due}
 use Rattle.route_table.specs.Route.{RouteValue, deadline}
-use Rattle.route_table.specs.Table.{Table}
+use Rattle.route_table.specs.Table.{ByPrefix, Table}
 use Rattle.route_table.specs.declared.route.Origin.{Origin}
 use Rattle.route_table.specs.declared.route.Origin.TheVariants.{Own, Learned}
 use Rattle.router_core.specs.Machine.{State}
@@ -30,8 +30,8 @@ gateway_of (Learned iface from next_hop) = Some (record { iface = iface; from = 
 abbrev pub route_record : Prefix6 → RouteValue → RouteRecord
 route_record p r = record { prefix = p; metric = r.metric; tag = r.tag; gateway = gateway_of r.origin; until = deadline r; marked = r.changed }
 
--- a table once these prefixes are taken out
-abbrev pub without : Table → List Prefix6 → Table
+-- a finite map once these prefixes are taken out
+abbrev pub without : {X : Type 0} → ByPrefix X → List Prefix6 → ByPrefix X
 without t [] = t
 without t (p ∷ ps) = without (map_of.remove t p) ps
 

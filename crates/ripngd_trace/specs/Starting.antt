@@ -1,5 +1,5 @@
 -- What the record of the start says of each router.
-use Rattle.std.specs.Prelude.{◌≡◌, ℕ, List, [], map, length, Some, slice_get}
+use Rattle.std.specs.Prelude.{◌≡◌, ℕ, List, [], map, length, Some, slice_get, codes}
 use Rattle.std.specs.FinMap as map_of
 use Rattle.std.specs.List.{enumerate_from}
 use Rattle.prefix6.specs.Prefix.{Prefix6}
@@ -38,6 +38,7 @@ pub record AreTold (lab : LabValue) (records : List RouterRecord) : Type 0 where
 
 -- the start, at this moment, with all routers and all that they sent
 pub record TellsStart (line : ℕ) (lab : LabValue) (now : ℕ) (r : StartRecord) : Type 0 where
+  pub word_is : r.record.now ≡ codes "start"
   pub at_line : r.line ≡ line
   pub moment_is : r.now ≡ now
   pub routers : AreTold lab r.routers.items

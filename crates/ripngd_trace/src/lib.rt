@@ -9,6 +9,7 @@ mod records;
 mod shown;
 mod tables;
 mod tracer;
+mod writing;
 
 pub use laws::readers_know_each_table;
 pub use tracer::trace;

@@ -243,6 +243,14 @@ pub struct PrintRecord<'a> {
     pub prints: Vec<&'a str>,
 }
 
+/// A line said that a datagram is lost.
+#[derive(Clone, Copy, Debug, PartialEq, Eq, Serialize)]
+pub struct LostRecord {
+    pub line: usize,
+    pub record: &'static str,
+    pub datagram: usize,
+}
+
 /// A line was refused, or expected what is not so, and ended the script.
 #[derive(Drop, Serialize)]
 pub struct RefusedRecord<'a> {

@@ -1,23 +1,27 @@
 //! A script, traced.
 
-ghost use Rattle.std.specs.Prelude.{◌≡◌, [], ◌∷◌, ◌++◌, ⊤, IfOk, IfSome, OnOk, Some, slice_get, slice_set};
+ghost use Rattle.std.specs.Prelude.{◌≡◌, [], ◌∷◌, ◌++◌, IfOk, IfSome, OnErr, OnOk, Option, Some, codes, slice_get, slice_set};
 ghost use Rattle.ripng_world.specs.Events.{event_of};
+ghost use Rattle.ripng_world.specs.Labs.{LabValue};
 ghost use Rattle.ripngd_trace.specs.Events.{Tells};
-ghost use Rattle.ripngd_trace.specs.Lines.{WritesLine};
-ghost use Rattle.ripngd_trace.specs.Reading.{SaysEvent, SaysStart, tables_of};
+ghost use Rattle.ripngd_trace.specs.Lines.{WritesLess, WritesRecord};
+ghost use Rattle.ripngd_trace.specs.Reading.{IsTraced, IsTracedUntil, tables_of};
 ghost use Rattle.ripngd_trace.specs.Records.{LeadsTo};
+ghost use Rattle.ripngd_trace.specs.Saying.{BreaksOff, SaysAside, SaysEvent, SaysStart};
 ghost use Rattle.ripngd_trace.specs.Starting.{AreTold, TellsRouter, TellsStart};
 
 use crate::answers::{change_records, fault_record, note_records, sent_since};
 use crate::events::{happened, moment_of, router_of};
 use crate::network::{interface_records, owned_records};
-use crate::records::{EventRecord, PrintRecord, RefusedRecord, RouterRecord, StartRecord};
+use crate::records::{
+    EventRecord, LostRecord, PrintRecord, RefusedRecord, RouterRecord, StartRecord,
+};
 use crate::tables::{News, news_of, timers_of};
+use crate::writing::write_record;
 use ripng_world::{Event, Lab};
 use ripngd_lab::{Choice, Refusal, Unmet, Watch, print_routes, print_sent, watched};
 use route_table::{Moment, RouteStore, TrieRoutes};
 use router_core::{Answer, Router};
-use serde::Serialize;
 use std::alloc::{AllocError, Global};
 use std::io::{self, Write};
 use std::str;
@@ -27,15 +31,22 @@ use std::str;
 /// refused, which ends the script. docs/FORMATS.md has the records.
 ///
 /// # Errors
-/// `OutOfMemory` where memory was refused, else the fault of `out`. Earlier records may have been written.
-pub fn trace<W: Write>(alloc: Global, script: &[u8], out: &mut W) -> io::Result<bool> {
-    let mut tracer = Tracer {
-        alloc,
-        line: 0,
-        known: Vec::new(alloc),
-        out,
-    };
-    watched(alloc, script, &mut tracer)
+/// `OutOfMemory` where memory was refused, else the fault of `out`. Earlier records were written, and less than one more.
+pub fn trace<W: Write>(alloc: Global, script: &[u8], out: &mut W) -> io::Result<bool>
+    ensures traced { OnOk result ((lab : Option LabValue) × IsTraced (W.contents out.old) lab (W.contents out.new)) }
+    ensures traced_until { OnErr result ((lab : Option LabValue) × IsTracedUntil (W.contents out.old) lab (W.contents out.new)) }
+{
+    let mut tracer = Tracer::new(alloc, out);
+    let outcome = watched(alloc, script, &mut tracer);
+    let Tracer {
+        alloc: _,
+        line: _,
+        known: _known,
+        out: written,
+    } = tracer;
+    // No effect at run time. The proof reads what `out` holds from this use of the reference.
+    let _ = &*written;
+    outcome
 }
 
 /// The witness that writes the records.
@@ -65,18 +76,21 @@ fn news_in(
     news_of(alloc, &mut known[router], table)
 }
 
-/// Writes a record as one line.
-fn write_record<T: Serialize, W: Write>(alloc: Global, record: &T, out: &mut W) -> io::Result<()>
-    ensures { OnOk result (WritesLine (W.contents out.old) (W.contents out.new)) }
-{
-    let Ok(mut text) = serde_json::to_vec(alloc, record) else {
-        return Err(io::Error::from(AllocError));
-    };
-    text.push(b'\n')?;
-    out.write_all(&text)
-}
-
 impl<'a, W: Write> Tracer<'a, W> {
+    /// It is at no line yet, and knows no table.
+    fn new(alloc: Global, out: &'a mut W) -> Tracer<'a, W>
+        ensures known { result.known.items ≡ [] }
+        ensures out { result.out.now ≡ out.old }
+        ensures same_reference { result.out.ghost_name ≡ out.entry.ghost_name }
+    {
+        Tracer {
+            alloc,
+            line: 0,
+            known: Vec::new(alloc),
+            out,
+        }
+    }
+
     /// A router that has started. Its table is known from now on.
     fn router_record(
         &mut self,
@@ -87,7 +101,7 @@ impl<'a, W: Write> Tracer<'a, W> {
         ensures tells { IfOk result (λ r. slice_get lab.now.world.states number ≡ Some router.now → TellsRouter lab.now number r) }
         ensures known { OnOk result (self.new.known.items ≡ self.old.known.items ++ router.now.table ∷ []) }
         ensures line { self.new.line ≡ self.old.line }
-        ensures unwritten { W.contents self.new.out.now ≡ W.contents self.old.out.now }
+        ensures out { self.new.out ≡ self.old.out }
     {
         let mut known = TrieRoutes::empty(self.alloc);
         let news = news_of(self.alloc, &mut known, router.routes())?;
@@ -109,7 +123,7 @@ impl<'a, W: Write> Tracer<'a, W> {
         ensures tells { IfOk result (λ records. AreTold lab.now records.items) }
         ensures known { OnOk result (self.new.known.items ≡ self.old.known.items ++ tables_of lab.now.world) }
         ensures line { self.new.line ≡ self.old.line }
-        ensures unwritten { W.contents self.new.out.now ≡ W.contents self.old.out.now }
+        ensures out { self.new.out ≡ self.old.out }
     {
         let mut records = Vec::new(self.alloc);
         while let Some(router) = lab.router(records.len()) {
@@ -128,7 +142,7 @@ impl<'a, W: Write> Tracer<'a, W> {
         ensures tells { IfOk result (TellsStart self.old.line lab.now now) }
         ensures known { OnOk result (self.new.known.items ≡ self.old.known.items ++ tables_of lab.now.world) }
         ensures line { self.new.line ≡ self.old.line }
-        ensures unwritten { W.contents self.new.out.now ≡ W.contents self.old.out.now }
+        ensures out { self.new.out ≡ self.old.out }
     {
         Ok(StartRecord {
             line: self.line,
@@ -145,7 +159,7 @@ impl<'a, W: Write> Tracer<'a, W> {
             LeadsTo before news.routes.items news.gone.items state.table))) }
         ensures known { OnOk result (IfSome (slice_get lab.now.world.states router) (λ state. self.new.known.items ≡ slice_set self.old.known.items router state.table)) }
         ensures line { self.new.line ≡ self.old.line }
-        ensures unwritten { W.contents self.new.out.now ≡ W.contents self.old.out.now }
+        ensures out { self.new.out ≡ self.old.out }
     {
         match lab.router(router) {
             Some(moved) => news_in(self.alloc, &mut self.known, router, moved.routes()),
@@ -166,7 +180,7 @@ impl<'a, W: Write> Tracer<'a, W> {
             LeadsTo before r.routes.items r.gone.items state.table))) }
         ensures known { IfOk result (λ r. IfSome (slice_get lab.now.world.states r.router) (λ state. self.new.known.items ≡ slice_set self.old.known.items r.router state.table)) }
         ensures line { self.new.line ≡ self.old.line }
-        ensures unwritten { W.contents self.new.out.now ≡ W.contents self.old.out.now }
+        ensures out { self.new.out ≡ self.old.out }
     {
         let router = router_of(event);
         let news = self.news_at(lab, router)?;
@@ -187,21 +201,42 @@ impl<'a, W: Write> Tracer<'a, W> {
     }
 
     /// What a line prints.
-    fn write_prints(&mut self, record: &'static str, prints: &[u8]) -> io::Result<()>
-        ensures { self.new.known.items ≡ self.old.known.items }
+    fn write_prints(&mut self, word: &'static str, prints: &[u8]) -> io::Result<()>
+        ensures whole { OnOk result ((r : PrintRecord) × (r.«record».now ≡ word.now) × WritesRecord r (W.contents self.old.out.now) (W.contents self.new.out.now)) }
+        ensures broken { OnErr result (WritesLess (W.contents self.old.out.now) (W.contents self.new.out.now)) }
+        ensures known { self.new.known.items ≡ self.old.known.items }
+        ensures same_reference { self.new.out.ghost_name ≡ self.old.out.ghost_name }
     {
         let text = str::from_utf8(prints).unwrap_or("");
         let record = PrintRecord {
             line: self.line,
-            record,
+            record: word,
             prints: text.lines().collect(self.alloc)?,
+        };
+        write_record(self.alloc, &record, self.out)
+    }
+
+    /// A line that says that a datagram is lost.
+    fn write_lost(&mut self, datagram: usize) -> io::Result<()>
+        ensures whole { OnOk result ((r : LostRecord) × (r.«record».now ≡ codes "lost") × (r.datagram ≡ datagram) × WritesRecord r (W.contents self.old.out.now) (W.contents self.new.out.now)) }
+        ensures broken { OnErr result (WritesLess (W.contents self.old.out.now) (W.contents self.new.out.now)) }
+        ensures known { self.new.known.items ≡ self.old.known.items }
+        ensures same_reference { self.new.out.ghost_name ≡ self.old.out.ghost_name }
+    {
+        let record = LostRecord {
+            line: self.line,
+            record: "lost",
+            datagram,
         };
         write_record(self.alloc, &record, self.out)
     }
 
     /// A line that ends the script, and why.
     fn write_refused(&mut self, why: &str) -> io::Result<()>
-        ensures { self.new.known.items ≡ self.old.known.items }
+        ensures whole { OnOk result ((r : RefusedRecord) × (r.«record».now ≡ codes "refused") × WritesRecord r (W.contents self.old.out.now) (W.contents self.new.out.now)) }
+        ensures broken { OnErr result (WritesLess (W.contents self.old.out.now) (W.contents self.new.out.now)) }
+        ensures known { self.new.known.items ≡ self.old.known.items }
+        ensures same_reference { self.new.out.ghost_name ≡ self.old.out.ghost_name }
     {
         let record = RefusedRecord {
             line: self.line,
@@ -215,10 +250,11 @@ impl<'a, W: Write> Tracer<'a, W> {
 impl<'a, W: Write> ripng_world::Watch<TrieRoutes> for Tracer<'a, W> {
     type Fault = io::Error;
 
-    ghost takes = { λ old what new. SaysEvent (record { line = old.line; known = old.known.items }) what (record { line = new.line; known = new.known.items })
-        × WritesLine (W.contents old.out.now) (W.contents new.out.now) };
+    ghost takes = { λ old what new. SaysEvent (record { line = old.line; known = old.known.items; written = W.contents old.out.now }) what (record { line = new.line; known = new.known.items; written = W.contents new.out.now })
+        × (new.out.ghost_name ≡ old.out.ghost_name) };
 
-    ghost fails = { λ _ _ _. ⊤ };
+    ghost fails = { λ old what new. BreaksOff (record { line = old.line; known = old.known.items; written = W.contents old.out.now }) what (record { line = new.line; known = new.known.items; written = W.contents new.out.now })
+        × (new.out.ghost_name ≡ old.out.ghost_name) };
 
     fn happened(
         &mut self,
@@ -233,10 +269,11 @@ impl<'a, W: Write> ripng_world::Watch<TrieRoutes> for Tracer<'a, W> {
 }
 
 impl<'a, W: Write> Watch for Tracer<'a, W> {
-    ghost starts = { λ old lab now new. SaysStart (record { line = old.line; known = old.known.items }) lab now (record { line = new.line; known = new.known.items })
-        × WritesLine (W.contents old.out.now) (W.contents new.out.now) };
+    ghost starts = { λ old lab now new. SaysStart (record { line = old.line; known = old.known.items; written = W.contents old.out.now }) lab now (record { line = new.line; known = new.known.items; written = W.contents new.out.now })
+        × (new.out.ghost_name ≡ old.out.ghost_name) };
 
-    ghost notes = { λ old new. new.known.items ≡ old.known.items };
+    ghost notes = { λ old what new. SaysAside (record { line = old.line; known = old.known.items; written = W.contents old.out.now }) what (record { line = new.line; known = new.known.items; written = W.contents new.out.now })
+        × (new.out.ghost_name ≡ old.out.ghost_name) };
 
     fn at_line(&mut self, number: usize) {
         self.line = number;
@@ -261,6 +298,10 @@ impl<'a, W: Write> Watch for Tracer<'a, W> {
 
     fn said(&mut self, text: &str) -> io::Result<()> {
         self.write_prints("say", text.as_bytes())
+    }
+
+    fn lost(&mut self, datagram: usize) -> io::Result<()> {
+        self.write_lost(datagram)
     }
 
     fn refused(&mut self, why: &Refusal) -> io::Result<()> {

@@ -3,7 +3,7 @@
 use ripngd::program;
 
 /// Words that have a fault.
-const FAULTS: [&[&str]; 18] = [
+const FAULTS: [&[&str]; 21] = [
     &[],
     &["ripngd"],
     &["ripngd", "show"],
@@ -16,6 +16,9 @@ const FAULTS: [&[&str]; 18] = [
     &["ripngd", "run", "--turns", "4294967296", "file"],
     &["ripngd", "run", "-t", "65536", "file"],
     &["ripngd", "run", "-t", "0x10", "file"],
+    &["ripngd", "ctl"],
+    &["ripngd", "ctl", "east.sock"],
+    &["ripngd", "ctl", "east.sock", "cost", "0", "1", "2"],
     &["ripngd", "table"],
     &["ripngd", "table", "log", "other"],
     &["ripngd", "page", "file"],

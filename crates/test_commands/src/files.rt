@@ -44,7 +44,7 @@ fn check_refuses_a_prefix_more_than_a_router_may_own(rt: HostRuntime) -> Result<
 
 /// Command lines on files, with their status and what they write to standard output or, with status 3, to standard
 /// error. The file `few.toml` has no interface, `few.lab` a router without one.
-const ON_FILES: [(&[&str], u8, &str); 11] = [
+const ON_FILES: [(&[&str], u8, &str); 14] = [
     (
         &["ripngd", "check", "few.toml"],
         1,
@@ -96,6 +96,16 @@ const ON_FILES: [(&[&str], u8, &str); 11] = [
         "ripngd: cannot read absent\n",
     ),
     (
+        &["ripngd", "ctl", "absent.sock", "routes"],
+        3,
+        "ripngd: nobody listens at absent.sock\n",
+    ),
+    (
+        &["ripngd", "ctl", "absent.sock", "cost", "all", "1"],
+        1,
+        "refused 52 NoSuchCommand\n",
+    ),
+    (
         &["ripngd", "run", "-R", "absent/log", "one.toml"],
         3,
         "ripngd: cannot write absent/log\n",
@@ -114,5 +124,18 @@ fn files_that_are_refused_or_absent(rt: HostRuntime) -> Result<(), Fail> {
         assert_eq!(rt; answered, status, "at {words:?}");
         assert!(rt; written.as_slice() == text.as_bytes(), "at {words:?}");
     }
+    Ok(())
+}
+
+#[test]
+fn of_a_refused_script_standard_error_says_what_to_write(rt: HostRuntime) -> Result<(), Fail> {
+    std::fs::write(&rt, "hinted.lab", "router\ncold 0\n")?;
+    let (status, _, err) = outcome(&rt, &["ripngd", "lab", "hinted.lab"])?;
+    assert_eq!(rt; status, 1);
+    let hint = b"ripngd: line 1: a router has at least one iface line behind it\n";
+    assert!(rt; err.as_slice() == hint.as_slice());
+    let (status, _, err) = outcome(&rt, &["ripngd", "lab", "--trace", "hinted.lab"])?;
+    assert_eq!(rt; status, 1);
+    assert!(rt; err.is_empty());
     Ok(())
 }

@@ -13,7 +13,7 @@ const HELP: [&[&str]; 5] = [
 ];
 
 /// Each subcommand, with the example at the end of its help.
-const EXAMPLES: [(&str, &str); 6] = [
+const EXAMPLES: [(&str, &str); 7] = [
     (
         "show",
         "\n  ripngd show 0201000020010db800000000000000000000000000002001\n",
@@ -24,6 +24,7 @@ const EXAMPLES: [(&str, &str); 6] = [
         "run",
         "\n  ripngd run --turns 400 -R east.log examples/east.toml &\n  ripngd run --turns 400 examples/west.toml\n",
     ),
+    ("ctl", "\n  ripngd ctl east.sock routes\n"),
     ("table", "\n  ripngd table east.log\n"),
     (
         "page",

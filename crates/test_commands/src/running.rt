@@ -134,6 +134,27 @@ fn a_run_prints_its_table_and_keeps_a_log(rt: HostRuntime) -> Result<(), Fail> {
 }
 
 #[test]
+fn a_run_that_listens_makes_its_turns_and_leaves_no_socket(rt: HostRuntime) -> Result<(), Fail> {
+    let ports = ((1, free_port(&rt)?), (2, free_port(&rt)?));
+    let text = config_text(rt.alloc(), "2001:db8::/32", ports.0, ports.1)?;
+    std::fs::write(&rt, "listening.toml", text.as_str())?;
+    let words = [
+        "ripngd",
+        "run",
+        "--turns",
+        "3",
+        "--control",
+        "listening.sock",
+        "listening.toml",
+    ];
+    let (status, out, err) = outcome(&rt, &words)?;
+    assert!(rt; status == 0 && err.as_slice() == b"ripngd: running, 1 interfaces\n".as_slice());
+    assert!(rt; out.as_slice() == b"2001:db8::/32 metric 1 direct\n".as_slice());
+    assert!(rt; std::fs::symlink_metadata(&rt, "listening.sock").is_err());
+    Ok(())
+}
+
+#[test]
 fn a_full_device_ends_the_log_alone(rt: HostRuntime) -> Result<(), Fail> {
     let ports = ((1, free_port(&rt)?), (2, free_port(&rt)?));
     let text = config_text(rt.alloc(), "2001:db8::/32", ports.0, ports.1)?;
@@ -164,6 +185,18 @@ fn a_port_in_use_is_said(rt: HostRuntime) -> Result<(), Fail> {
     let said = format!(in rt.alloc(); "ripngd: cannot bind {port}\n")?;
     assert!(rt; status == 3 && out.is_empty());
     assert!(rt; err.as_slice() == said.as_bytes());
+    Ok(())
+}
+
+#[test]
+fn a_control_path_that_is_a_file_is_said(rt: HostRuntime) -> Result<(), Fail> {
+    let ports = ((1, free_port(&rt)?), (2, free_port(&rt)?));
+    let text = config_text(rt.alloc(), "2001:db8::/32", ports.0, ports.1)?;
+    std::fs::write(&rt, "heard.toml", text.as_str())?;
+    let words = ["ripngd", "run", "--control", "heard.toml", "heard.toml"];
+    let (status, out, err) = outcome(&rt, &words)?;
+    assert!(rt; status == 3 && out.is_empty());
+    assert!(rt; err.as_slice() == b"ripngd: cannot listen at heard.toml\n".as_slice());
     Ok(())
 }
 

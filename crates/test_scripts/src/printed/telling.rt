@@ -18,7 +18,7 @@ cold 0
 ";
 
 /// What lines behind those print. The Requests of the start are datagrams 0 to 3.
-const BEHIND: [(&str, &str); 40] = [
+const BEHIND: [(&str, &str); 50] = [
     // What a tick sends comes to all others of its link.
     (
         "tell west 0 0\nexpect host 2001:db8::/32 2\nexpect middle 2001:db8::/32 2\nexpect east 2001:db8::/32 none",
@@ -137,6 +137,30 @@ const BEHIND: [(&str, &str); 40] = [
         "",
     ),
     ("silent 4", "line 12 refused 1 NoSuchRouter\n"),
+    // What is lost comes to nobody; what is sent later does.
+    (
+        "tick west 0 0\nlose last\nhear\nexpect host 2001:db8::/32 none\nexpect middle 2001:db8::/32 none\ntell west +15000 0\nexpect host 2001:db8::/32 2",
+        "",
+    ),
+    (
+        "lose 0\nrounds 3 0 15000\nexpect east 2001:db8::/32 3\nlose last-1\nhear",
+        "",
+    ),
+    // It may have come to another before.
+    (
+        "deliver 0 host 0 0\nlose 0\nrefused DatagramLost\ndeliver 0 middle 0 0\ndeliver 1 west 0 0",
+        "",
+    ),
+    (
+        "lose 0\ndeliver 0 middle 0 0",
+        "line 13 refused DatagramLost\n",
+    ),
+    ("lose 0\ndeliver 0 9 9 0", "line 13 refused DatagramLost\n"),
+    ("lose 0\nlose 0", "line 13 refused DatagramLost\n"),
+    ("lose 4", "line 12 refused 3 NoSuchDatagram\n"),
+    ("lose last-4", "line 12 refused BadLine\n"),
+    ("lose", "line 12 refused BadLine\n"),
+    ("lose 0 1", "line 12 refused BadLine\n"),
 ];
 
 #[test]
@@ -152,7 +176,7 @@ fn lines_behind_the_start(rt: HostRuntime) -> Result<(), Fail> {
 }
 
 /// Scripts that list routers, with what they print.
-const LISTS: [(&str, &str); 10] = [
+const LISTS: [(&str, &str); 11] = [
     ("router loud\n", ""),
     ("router a\nrouter quiet b-2_\nrouter A\n", ""),
     ("router a\nrouter a\n", "line 2 refused NameTwice\n"),
@@ -171,6 +195,7 @@ const LISTS: [(&str, &str); 10] = [
         "line 2 refused BadLine\n",
     ),
     ("router\nown ::/0 0 times 2\n", "line 2 refused BadLine\n"),
+    ("router\nlose 0\n", "line 2 refused BadLine\n"),
 ];
 
 #[test]

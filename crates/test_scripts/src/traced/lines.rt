@@ -4,7 +4,7 @@ use super::{TWO, traced};
 use std::test::Fail;
 
 /// Lines behind the six that start two routers, with what the last of them writes.
-const LINES: [(&str, &str); 25] = [
+const LINES: [(&str, &str); 27] = [
     // The word sets the regular update: 10 + 15,000 + 30,007 mod 30,001.
     (
         "tick 0 10 30007",
@@ -171,6 +171,14 @@ deliver 1 1 0 31",
         "sent",
         "{\"line\":7,\"record\":\"sent\",\
 \"prints\":[\"0 router 0 iface 0 group 010100000000000000000000000000000000000000000010\"]}",
+    ),
+    (
+        "tick 0 10 0\nlose last",
+        "{\"line\":8,\"record\":\"lost\",\"datagram\":1}",
+    ),
+    (
+        "lose 0\ndeliver 0 1 0 9",
+        "{\"line\":8,\"record\":\"refused\",\"why\":\"DatagramLost\"}",
     ),
     (
         "tick 2 0 0",

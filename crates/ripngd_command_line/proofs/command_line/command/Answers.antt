@@ -15,4 +15,5 @@ returns c =
     let s3 = subcommand_added _ _ _ _ _ c.in_ok-subcommand-3.ensures c.in_ok-lab.ensures s2 in
     let s4 = subcommand_added _ _ _ _ _ c.in_ok-subcommand-4.ensures c.in_ok-run.ensures s3 in
     let s5 = subcommand_added _ _ _ _ _ c.in_ok-subcommand-5.ensures c.in_ok-with_one-3.ensures s4 in
-    subcommand_added_ok _ _ _ _ c.subcommand-6.result c.subcommand-6.ensures c.in_ok-page.ensures s5
+    let s6 = subcommand_added _ _ _ _ _ c.in_ok-subcommand-6.ensures c.in_ok-page.ensures s5 in
+    subcommand_added_ok _ _ _ _ c.subcommand-7.result c.subcommand-7.ensures c.in_ok-ctl.ensures s6

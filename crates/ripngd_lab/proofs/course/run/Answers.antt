@@ -4,11 +4,11 @@ use Rattle.ripngd_lab.proofs.course.run.Goals as goal
 
 pub returns-in_err-said-in-Say : goal.returns-in_err-said-in-Say
 returns-in_err-said-in-Say g c =
-    fault_told g.V.Watch-1.starts g.V.Watch-2.takes g.V.Watch-2.fails g.V.Watch-1.notes c.from_residual.result c.in_err-said-in-Say.field-0.0 (Some c.args.lab.now) c.args.watch.now c.said.new.self c.from_residual.ensures.1
+    fault_told g.V.Watch-1.starts g.V.Watch-2.takes g.V.Watch-2.fails g.V.Watch-1.notes c.from_residual.result c.in_err-said-in-Say.field-0.0 (Some c.args.lab.now) c.args.watch.now c.said.new.self c.from_residual.ensures.1 c.in_err-said-in-Say.ensures.broken
 
 pub returns-in_ok-said-in-Say : goal.returns-in_ok-said-in-Say
 returns-in_ok-said-in-Say g c =
-    noted g.V.Watch-1.starts g.V.Watch-2.takes g.V.Watch-2.fails g.V.Watch-1.notes (Some c.args.lab.now) c.args.watch.now c.said.new.self c.in_ok-said-in-Say.ensures
+    noted g.V.Watch-1.starts g.V.Watch-2.takes g.V.Watch-2.fails g.V.Watch-1.notes (Some c.args.lab.now) c.args.watch.now c.said.new.self c.in_ok-said-in-Say.ensures.notes
 
 pub returns-in-Expect : goal.returns-in-Expect
 returns-in-Expect g c =

@@ -8,8 +8,8 @@ returns-in_err-check_router g c =
 
 pub returns-in_err-routes_asked : goal.returns-in_err-routes_asked
 returns-in_err-routes_asked g c =
-    fault_told g.V.Watch-1.starts g.V.Watch-2.takes g.V.Watch-2.fails g.V.Watch-1.notes c.from_residual-in_err-routes_asked.result c.in_err-routes_asked.field-0.0 (Some c.args.lab.now) c.args.watch.now c.routes_asked.new.self c.from_residual-in_err-routes_asked.ensures.1
+    fault_told g.V.Watch-1.starts g.V.Watch-2.takes g.V.Watch-2.fails g.V.Watch-1.notes c.from_residual-in_err-routes_asked.result c.in_err-routes_asked.field-0.0 (Some c.args.lab.now) c.args.watch.now c.routes_asked.new.self c.from_residual-in_err-routes_asked.ensures.1 c.in_err-routes_asked.ensures.broken
 
 pub returns : goal.returns
 returns g c =
-    noted g.V.Watch-1.starts g.V.Watch-2.takes g.V.Watch-2.fails g.V.Watch-1.notes (Some c.args.lab.now) c.args.watch.now c.routes_asked.new.self c.in_ok-routes_asked.ensures
+    noted g.V.Watch-1.starts g.V.Watch-2.takes g.V.Watch-2.fails g.V.Watch-1.notes (Some c.args.lab.now) c.args.watch.now c.routes_asked.new.self c.in_ok-routes_asked.ensures.notes

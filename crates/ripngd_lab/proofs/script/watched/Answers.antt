@@ -1,12 +1,12 @@
 use Rattle.std.proofs.Common.{None, false, true, ap}
 use Rattle.ripngd_lab.specs.Witnessing.{is_failure, lab_in}
-use Rattle.ripngd_lab.proofs.Witnessing.{told_on, noted_on, line_ends, on_fault}
+use Rattle.ripngd_lab.proofs.Witnessing.{told_on, noted_on, turned_on, line_ends, on_fault}
 use Rattle.ripngd_lab.proofs.script.watched.Goals as goal
 
 pub loop-rest-preserved : goal.loop-rest-preserved
 loop-rest-preserved g c =
     told_on g.V.Watch-1.starts g.V.Watch-2.takes g.V.Watch-2.fails g.V.Watch-1.notes (None, c.args.watch.now) (lab_in c.loop-rest.session.stage, c.at_line.new.self) (lab_in c.run_line.new.session.stage, c.run_line.new.watch)
-    (noted_on g.V.Watch-1.starts g.V.Watch-2.takes g.V.Watch-2.fails g.V.Watch-1.notes (None, c.args.watch.now) (lab_in c.loop-rest.session.stage) c.loop-rest.watch c.at_line.new.self c.loop-rest.invariant c.at_line.ensures)
+    (turned_on g.V.Watch-1.starts g.V.Watch-2.takes g.V.Watch-2.fails g.V.Watch-1.notes (None, c.args.watch.now) (lab_in c.loop-rest.session.stage) c.loop-rest.watch c.at_line.new.self _ c.loop-rest.invariant c.at_line.ensures)
     c.in-Ok.ensures
 
 pub returns-in_err-refused-in-Err-Refused-clause-told_until :
@@ -14,17 +14,18 @@ pub returns-in_err-refused-in-Err-Refused-clause-told_until :
 returns-in_err-refused-in-Err-Refused-clause-told_until g c =
     on_fault g.V.Watch-1.starts g.V.Watch-2.takes g.V.Watch-2.fails g.V.Watch-1.notes c.from_residual.result (None, c.args.watch.now) (lab_in c.run_line.new.session.stage) c.run_line.new.watch c.refused.new.self
     (line_ends g.V.Watch-1.starts g.V.Watch-2.takes g.V.Watch-2.fails g.V.Watch-1.notes false c.in-Err-Refused.field-0 (None, c.args.watch.now) (lab_in c.loop-rest.session.stage, c.at_line.new.self) (lab_in c.run_line.new.session.stage, c.run_line.new.watch) (ap is_failure c.in-Err-Refused.field-0-is)
-    (noted_on g.V.Watch-1.starts g.V.Watch-2.takes g.V.Watch-2.fails g.V.Watch-1.notes (None, c.args.watch.now) (lab_in c.loop-rest.session.stage) c.loop-rest.watch c.at_line.new.self c.loop-rest.invariant c.at_line.ensures)
+    (turned_on g.V.Watch-1.starts g.V.Watch-2.takes g.V.Watch-2.fails g.V.Watch-1.notes (None, c.args.watch.now) (lab_in c.loop-rest.session.stage) c.loop-rest.watch c.at_line.new.self _ c.loop-rest.invariant c.at_line.ensures)
     c.in-Err-Refused.ensures)
+    c.in_err-refused-in-Err-Refused.ensures.broken
 
 pub returns-in-Err-Refused-clause-told : goal.returns-in-Err-Refused-clause-told
 returns-in-Err-Refused-clause-told g c = (
   lab_in c.run_line.new.session.stage,
   noted_on g.V.Watch-1.starts g.V.Watch-2.takes g.V.Watch-2.fails g.V.Watch-1.notes (None, c.args.watch.now) (lab_in c.run_line.new.session.stage) c.run_line.new.watch c.refused.new.self
       (line_ends g.V.Watch-1.starts g.V.Watch-2.takes g.V.Watch-2.fails g.V.Watch-1.notes false c.in-Err-Refused.field-0 (None, c.args.watch.now) (lab_in c.loop-rest.session.stage, c.at_line.new.self) (lab_in c.run_line.new.session.stage, c.run_line.new.watch) (ap is_failure c.in-Err-Refused.field-0-is)
-      (noted_on g.V.Watch-1.starts g.V.Watch-2.takes g.V.Watch-2.fails g.V.Watch-1.notes (None, c.args.watch.now) (lab_in c.loop-rest.session.stage) c.loop-rest.watch c.at_line.new.self c.loop-rest.invariant c.at_line.ensures)
+      (turned_on g.V.Watch-1.starts g.V.Watch-2.takes g.V.Watch-2.fails g.V.Watch-1.notes (None, c.args.watch.now) (lab_in c.loop-rest.session.stage) c.loop-rest.watch c.at_line.new.self _ c.loop-rest.invariant c.at_line.ensures)
       c.in-Err-Refused.ensures)
-      c.in_ok-refused-in-Err-Refused.ensures,
+      c.in_ok-refused-in-Err-Refused.ensures.notes,
 )
 
 pub returns-in_err-unmet-in-Err-Unmet-clause-told_until :
@@ -32,23 +33,24 @@ pub returns-in_err-unmet-in-Err-Unmet-clause-told_until :
 returns-in_err-unmet-in-Err-Unmet-clause-told_until g c =
     on_fault g.V.Watch-1.starts g.V.Watch-2.takes g.V.Watch-2.fails g.V.Watch-1.notes c.from_residual-in_err-unmet-in-Err-Unmet.result (None, c.args.watch.now) (lab_in c.run_line.new.session.stage) c.run_line.new.watch c.unmet.new.self
     (line_ends g.V.Watch-1.starts g.V.Watch-2.takes g.V.Watch-2.fails g.V.Watch-1.notes false c.in-Err-Unmet.field-0 (None, c.args.watch.now) (lab_in c.loop-rest.session.stage, c.at_line.new.self) (lab_in c.run_line.new.session.stage, c.run_line.new.watch) (ap is_failure c.in-Err-Unmet.field-0-is)
-    (noted_on g.V.Watch-1.starts g.V.Watch-2.takes g.V.Watch-2.fails g.V.Watch-1.notes (None, c.args.watch.now) (lab_in c.loop-rest.session.stage) c.loop-rest.watch c.at_line.new.self c.loop-rest.invariant c.at_line.ensures)
+    (turned_on g.V.Watch-1.starts g.V.Watch-2.takes g.V.Watch-2.fails g.V.Watch-1.notes (None, c.args.watch.now) (lab_in c.loop-rest.session.stage) c.loop-rest.watch c.at_line.new.self _ c.loop-rest.invariant c.at_line.ensures)
     c.in-Err-Unmet.ensures)
+    c.in_err-unmet-in-Err-Unmet.ensures.broken
 
 pub returns-in-Err-Unmet-clause-told : goal.returns-in-Err-Unmet-clause-told
 returns-in-Err-Unmet-clause-told g c = (
   lab_in c.run_line.new.session.stage,
   noted_on g.V.Watch-1.starts g.V.Watch-2.takes g.V.Watch-2.fails g.V.Watch-1.notes (None, c.args.watch.now) (lab_in c.run_line.new.session.stage) c.run_line.new.watch c.unmet.new.self
       (line_ends g.V.Watch-1.starts g.V.Watch-2.takes g.V.Watch-2.fails g.V.Watch-1.notes false c.in-Err-Unmet.field-0 (None, c.args.watch.now) (lab_in c.loop-rest.session.stage, c.at_line.new.self) (lab_in c.run_line.new.session.stage, c.run_line.new.watch) (ap is_failure c.in-Err-Unmet.field-0-is)
-      (noted_on g.V.Watch-1.starts g.V.Watch-2.takes g.V.Watch-2.fails g.V.Watch-1.notes (None, c.args.watch.now) (lab_in c.loop-rest.session.stage) c.loop-rest.watch c.at_line.new.self c.loop-rest.invariant c.at_line.ensures)
+      (turned_on g.V.Watch-1.starts g.V.Watch-2.takes g.V.Watch-2.fails g.V.Watch-1.notes (None, c.args.watch.now) (lab_in c.loop-rest.session.stage) c.loop-rest.watch c.at_line.new.self _ c.loop-rest.invariant c.at_line.ensures)
       c.in-Err-Unmet.ensures)
-      c.in_ok-unmet-in-Err-Unmet.ensures,
+      c.in_ok-unmet-in-Err-Unmet.ensures.notes,
 )
 
 pub returns-in-Err-Failed-clause-told_until : goal.returns-in-Err-Failed-clause-told_until
 returns-in-Err-Failed-clause-told_until g c = (
   lab_in c.run_line.new.session.stage,
   (line_ends g.V.Watch-1.starts g.V.Watch-2.takes g.V.Watch-2.fails g.V.Watch-1.notes true c.in-Err-Failed.field-0 (None, c.args.watch.now) (lab_in c.loop-rest.session.stage, c.at_line.new.self) (lab_in c.run_line.new.session.stage, c.run_line.new.watch) (ap is_failure c.in-Err-Failed.field-0-is)
-      (noted_on g.V.Watch-1.starts g.V.Watch-2.takes g.V.Watch-2.fails g.V.Watch-1.notes (None, c.args.watch.now) (lab_in c.loop-rest.session.stage) c.loop-rest.watch c.at_line.new.self c.loop-rest.invariant c.at_line.ensures)
+      (turned_on g.V.Watch-1.starts g.V.Watch-2.takes g.V.Watch-2.fails g.V.Watch-1.notes (None, c.args.watch.now) (lab_in c.loop-rest.session.stage) c.loop-rest.watch c.at_line.new.self _ c.loop-rest.invariant c.at_line.ensures)
       c.in-Err-Failed.ensures),
 )

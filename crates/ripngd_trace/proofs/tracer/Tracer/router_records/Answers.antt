@@ -30,7 +30,7 @@ loop-router-preserved g c =
           ∙ ap (λ (ts : List Table). known ++ ts) (sym (known_more w records r s here))
           ∙ ap (λ (rs : List RouterRecord). known ++ take (length rs) (tables_of w)) (sym pushed);
       line = c.in_ok-record.ensures.line ∙ c.loop-router.invariant.line;
-      unwritten = c.in_ok-record.ensures.unwritten ∙ c.loop-router.invariant.unwritten;
+      out = c.in_ok-record.ensures.out ∙ c.loop-router.invariant.out;
       few = subst (λ (rs : List RouterRecord). length rs ≤ length w.states) (sym pushed) (omega (arith, length_push records r, slice_get_within w.states (length records) s here));
       each = λ k told is. each_pushed (TellsRouter c.args.lab.now) records r c.loop-router.invariant.each tells k told (ap (λ (rs : List RouterRecord). slice_get rs k) (sym pushed) ∙ is);
     }

@@ -8,7 +8,7 @@ abbrev pub invariant-loop-router : goal.invariant-loop-router
 invariant-loop-router g l = record {
   known : l.self.known.items ≡ l.fn.self.known.items ++ take (length l.records.items) (tables_of l.lab.world);
   line : l.self.line ≡ l.fn.self.line;
-  unwritten : g.W.Write.contents l.self.out.now ≡ g.W.Write.contents l.fn.self.out.now;
+  out : l.self.out ≡ l.fn.self.out;
   few : length l.records.items ≤ length l.lab.world.states;
   each : (k : ℕ) (r : RouterRecord) → slice_get l.records.items k ≡ Some r → TellsRouter l.lab k r;
 }

@@ -1,0 +1,81 @@
+-- What a router does for a command and answers to it (the format is this project's choice).
+use Rattle.std.specs.Prelude.{ℕ, ◌≡◌, ◌≢◌, ◌⊎◌, Bool, true, false, List, [], ◌∷◌, ◌++◌, Option, None, Some, codes, decimal}
+use Rattle.std.specs.Io.KnownBytes.{Appends}
+use Rattle.prefix6.specs.Prefix.{Prefix6}
+use Rattle.fib.specs.Forwarding.{Forwarding}
+use Rattle.router_core.specs.Machine.{State}
+use Rattle.router_core.specs.declared.reconfiguring.Change.{Change}
+use Rattle.ripngd_engine.specs.Seen.{Seen}
+use Rattle.ripngd_engine.specs.declared.report.Report.{Report}
+use Rattle.ripngd_watch.specs.Printed.{counts_text}
+use Rattle.ripngd_watch.specs.declared.counts.Counts.{Counts}
+use Rattle.ripngd_control.specs.Answers.{Obeys, ShowsEntries, ShowsHeld, reply_text}
+use Rattle.ripngd_control.specs.declared.answering.Course.{Course}
+use Rattle.ripngd_control.specs.declared.answering.Course.TheVariants.{GoOn, Ended}
+use Rattle.ripngd_control.specs.declared.answering.Rest.{Rest}
+use Rattle.ripngd_control.specs.declared.answering.Rest.TheVariants as rests
+use Rattle.ripngd_control.specs.declared.command.Command.{Command}
+use Rattle.ripngd_control.specs.declared.command.Command.TheVariants as commands
+use Rattle.ripngd_control.specs.declared.reply.Reply.{Reply}
+use Rattle.ripngd_control.specs.declared.reply.Reply.TheVariants as replies
+
+-- ---- lines
+-- the last line of an answer
+abbrev pub reply_line : Reply → List ℕ
+reply_line reply = reply_text reply ++ 10 ∷ []
+
+-- `log failed` on a line of its own, if it did
+abbrev pub log_text : Bool → List ℕ
+log_text true = 10 ∷ codes "log failed"
+log_text false = []
+
+-- `lost sends N steps M`, and whether the log failed
+abbrev pub lost_text : Report → List ℕ
+lost_text r = codes "lost sends " ++ (decimal r.lost_sends ++ (codes " steps " ++ (decimal r.lost_memory ++ log_text r.log_failed)))
+
+-- what was counted and what was lost, and `ok`
+abbrev pub counts_answer : Counts → Report → List ℕ
+counts_answer c r = counts_text c ++ (10 ∷ (lost_text r ++ (10 ∷ (codes "ok" ++ 10 ∷ []))))
+
+-- ---- what is done for a command, and answered at once
+-- the writer gained this and nothing is left to write, but where the writer failed
+abbrev pub Says : Option (List ℕ) → Rest → Option (List ℕ) → List ℕ → Type 0
+Says old rest new text = rest ≢ rests.Lost → (rest ≡ rests.Nothing) × Appends old new text
+
+-- a change was told to a router, and how that ended is what is said
+abbrev pub Obeyed : Change → Seen → Option (List ℕ) → Rest → Seen → Option (List ℕ) → Type 0
+Obeyed c a old rest b new = (reply : Reply) × Obeys c a reply b × Says old rest new (reply_line reply)
+
+-- what was done and said for a command, or for a line that is of none: only a change changes the router
+abbrev pub Answers : Option Command → Counts → Report → Seen → Option (List ℕ) → Rest → Seen → Option (List ℕ) → Type 0
+Answers None counts lost a old rest b new = (b ≡ a) × Says old rest new (reply_line replies.NoSuchCommand)
+Answers (Some commands.Routes) counts lost a old rest b new = (b ≡ a) × (rest ≡ rests.Routes None) × (new ≡ old)
+Answers (Some commands.Table) counts lost a old rest b new = (b ≡ a) × (rest ≡ rests.Table None) × (new ≡ old)
+Answers (Some commands.Counts) counts lost a old rest b new = (b ≡ a) × Says old rest new (counts_answer counts lost)
+Answers (Some commands.Stop) counts lost a old rest b new = (b ≡ a) × Says old rest new (reply_line replies.Done)
+Answers (Some (commands.Reconfigure c)) counts lost a old rest b new = Obeyed c a old rest b new
+
+-- a router goes on behind every reply but that it ended
+abbrev pub GoesOn : Reply → Course → Type 0
+GoesOn replies.Ended course = course ≡ Ended
+GoesOn _ course = course ≡ GoOn
+
+-- ---- what is answered in pieces
+-- there is more to write, and nothing is said of it yet; or all was written, and that it was
+abbrev pub Ends : Rest → Option (List ℕ) → Option (List ℕ) → Type 0
+Ends rests.Nothing mid new = Appends mid new (reply_line replies.Done)
+Ends rest mid new = new ≡ mid
+
+-- the writer gained lines of routes that the router holds, and the last line if there are no others
+abbrev pub WritesRoutes : State → Option (List ℕ) → Rest → Option (List ℕ) → Type 0
+WritesRoutes s old rest new = (mid : Option (List ℕ)) × ShowsHeld s.table s.last old mid × Ends rest mid new
+
+-- the writer gained the lines of the next entries of a forwarding table, and the last line if there are no others
+abbrev pub WritesEntries : Forwarding → Option Prefix6 → Option (List ℕ) → Rest → Option (List ℕ) → Type 0
+WritesEntries table after old rest new = (mid : Option (List ℕ)) × ShowsEntries table after old mid × Ends rest mid new
+
+-- the writer gained what was next of the rest of an answer, but where it failed
+abbrev pub Continues : State → Forwarding → Rest → Option (List ℕ) → Rest → Option (List ℕ) → Type 0
+Continues s table (rests.Routes after) old left new = left ≢ rests.Lost → WritesRoutes s old left new
+Continues s table (rests.Table after) old left new = left ≢ rests.Lost → WritesEntries table after old left new
+Continues s table rest old left new = (left ≡ rest) × (new ≡ old)

@@ -1,0 +1,59 @@
+-- Runs of a router that is told changes between its turns.
+use Rattle.std.proofs.Common.{◌≡◌, ◌∙◌, ◌≤◌, ◌+◌, ℕ, List, [], ◌∷◌, ◌++◌, refl, sym, ap, subst, arith, inl, inr, Option, Some}
+use Rattle.std.specs.Prelude.{◌⊎◌, None}
+use Rattle.ripngd_control.specs.Answering.{Answers}
+use Rattle.ripngd_control.specs.declared.answering.Rest.{Rest}
+use Rattle.ripngd_control.specs.declared.command.Command.{Command}
+use Rattle.ripngd_control.specs.declared.command.Command.TheVariants as commands
+use Rattle.ripngd_engine.specs.declared.report.Report.{Report}
+use Rattle.ripngd_watch.specs.declared.counts.Counts.{Counts}
+use Rattle.ripngd_engine.specs.Seen.{Ran, Seen}
+use Rattle.ripngd_daemon.specs.Controlled.{Deed, Turned, Told, Does, DoesAll, Heeds, LastsFor, TurnsAndHeeds, turns_in}
+
+-- a deed more
+DoesAll-more : (deeds : List Deed) (d : Deed) (a m b : Seen) → DoesAll deeds a m → Does d m b → DoesAll (deeds ++ d ∷ []) a b
+DoesAll-more [] d a m b same does = let P : Seen → Type 0 = λ x. Does d x b in (b, subst P same does, refl)
+DoesAll-more (e ∷ deeds) d a m b all does = (all.0, all.1, DoesAll-more deeds d all.0 m b all.2 does)
+
+turns_in-append : (deeds more : List Deed) → turns_in (deeds ++ more) ≡ turns_in deeds + turns_in more
+turns_in-append [] more = omega arith
+turns_in-append (Turned ∷ deeds) more = omega (arith, turns_in-append deeds more)
+turns_in-append (Told c reply ∷ deeds) more = turns_in-append deeds more
+
+-- whatever the command, a router was told a change or is as it was
+pub heeds_command : (command : Option Command) (counts : Counts) (lost : Report) (a : Seen) (old : Option (List ℕ)) (rest : Rest) (b : Seen) (new : Option (List ℕ))
+    → Answers command counts lost a old rest b new → Heeds a b
+heeds_command None counts lost a old rest b new h = inl h.0
+heeds_command (Some commands.Routes) counts lost a old rest b new h = inl h.0
+heeds_command (Some commands.Table) counts lost a old rest b new h = inl h.0
+heeds_command (Some commands.Counts) counts lost a old rest b new h = inl h.0
+heeds_command (Some commands.Stop) counts lost a old rest b new h = inl h.0
+heeds_command (Some (commands.Reconfigure c)) counts lost a old rest b new h = inr (c, h.0, h.1)
+
+-- a run of no turn
+pub LastsFor-none : (a : Seen) → LastsFor 0 a a
+LastsFor-none a = record { deeds = []; within = omega arith; does = refl }
+
+-- a turn more
+lasts_turn : (turns : ℕ) (a m b : Seen) → LastsFor turns a m → Ran 1 m b → LastsFor (turns + 1) a b
+lasts_turn turns a m b l ran = record {
+  deeds = l.deeds ++ Turned ∷ [];
+  within = let w = l.within in omega (arith, turns_in-append l.deeds (Turned ∷ []));
+  does = DoesAll-more l.deeds Turned a m b l.does ran;
+}
+
+-- and what it was told then
+lasts_heed : (turns : ℕ) (a m b : Seen) → LastsFor turns a m → Heeds m b → LastsFor turns a b
+lasts_heed turns a m b l (inl same) = let P : Seen → Type 0 = λ x. LastsFor turns a x in subst P (sym same) l
+lasts_heed turns a m b l (inr told) = record {
+  deeds = l.deeds ++ Told told.0 told.1 ∷ [];
+  within = let w = l.within in omega (arith, turns_in-append l.deeds (Told told.0 told.1 ∷ []));
+  does = DoesAll-more l.deeds (Told told.0 told.1) a m b l.does told.2;
+}
+
+pub LastsFor-more : (turns : ℕ) (a m b : Seen) → LastsFor turns a m → TurnsAndHeeds m b → LastsFor (turns + 1) a b
+LastsFor-more turns a m b l does = lasts_heed (turns + 1) a does.0 b (lasts_turn turns a m does.0 l does.1) does.2
+
+-- or fewer turns
+pub LastsFor-fewer : (turns most : ℕ) (a b : Seen) → turns ≤ most → LastsFor turns a b → LastsFor most a b
+LastsFor-fewer turns most a b fewer l = record { deeds = l.deeds; within = let w = l.within in omega arith; does = l.does }

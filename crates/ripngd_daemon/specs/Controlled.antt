@@ -1,0 +1,60 @@
+-- What a router does that is told while it runs.
+use Rattle.std.specs.Prelude.{◌≡◌, ◌≤◌, ◌+◌, ◌⊎◌, ℕ, List, [], ◌∷◌, Option, None}
+use Rattle.rand_core.specs.Stream.{Stream}
+use Rattle.fib.specs.Forwarding.{Forwarding}
+use Rattle.router_core.specs.Config.{Config as RouterValue}
+use Rattle.router_core.specs.declared.reconfiguring.Change.{Change}
+use Rattle.ripngd_control.specs.Answers.{Obeys}
+use Rattle.ripngd_control.specs.Commands.{command_text}
+use Rattle.ripngd_control.specs.declared.command.Command.{Command}
+use Rattle.ripngd_control.specs.declared.reply.Reply.{Reply}
+use Rattle.ripngd_door.specs.Lines.{BeginsWith}
+use Rattle.ripngd_engine.specs.Seen.{Ran, Seen, Started, fresh}
+
+-- this command is the first line of what was heard
+abbrev pub IsHeard : Command → List ℕ → Type 0
+IsHeard c heard = (line : List ℕ) × BeginsWith line heard × (command_text c ≡ line)
+
+-- a router made a turn, or was told a change, with this reply
+pub data Deed : Type 0 where
+  Turned : Deed
+  Told : Change → Reply → Deed
+
+-- how many of them are turns
+abbrev pub turns_in : List Deed → ℕ
+turns_in [] = 0
+turns_in (Turned ∷ deeds) = 1 + turns_in deeds
+turns_in (Told c reply ∷ deeds) = turns_in deeds
+
+abbrev pub Does : Deed → Seen → Seen → Type 0
+Does Turned a b = Ran 1 a b
+Does (Told c reply) a b = Obeys c a reply b
+
+-- these deeds, one after another
+abbrev pub DoesAll : List Deed → Seen → Seen → Type 0
+DoesAll [] a b = b ≡ a
+DoesAll (d ∷ deeds) a b = (m : Seen) × Does d a m × DoesAll deeds m b
+
+-- a router was told a change, or it is as it was
+abbrev pub Heeds : Seen → Seen → Type 0
+Heeds a b = (b ≡ a) ⊎ ((c : Change) × (reply : Reply) × Obeys c a reply b)
+
+-- a router made a turn, and was then told a change, or was not
+abbrev pub TurnsAndHeeds : Seen → Seen → Type 0
+TurnsAndHeeds a b = (m : Seen) × Ran 1 a m × Heeds m b
+
+-- a router made turns, at most so many, and was told changes between them
+pub record LastsFor (turns : ℕ) (a b : Seen) : Type 0 where
+  pub deeds : List Deed
+  pub within : turns_in deeds ≤ turns
+  pub does : DoesAll deeds a b
+
+-- a router of this configuration started with these random words, over a link and a clock that tell nothing, and lasted for at
+-- most so many turns; this is its forwarding table then
+pub record IsControlled (router : RouterValue) (words : Stream) (turns : ℕ) (table : Forwarding) : Type 0 where
+  pub log : Option (List ℕ)  -- what stood in its log
+  pub begun : Seen
+  pub done : Seen
+  pub started : Started router words (fresh None None log) begun
+  pub lasted : LastsFor turns begun done
+  pub table_is : table ≡ done.machine.fib

@@ -1,0 +1,153 @@
+//! `ctl`: a router that runs is asked or told something, and what it answers is printed.
+
+ghost use Rattle.std.specs.Prelude.{◌≡◌, ◌⊎◌, ◌≤◌, IfErr, IfOk, IfSome, List, OnOk, length, ℕ};
+ghost use Rattle.std.specs.Io.KnownBytes.{Appends};
+ghost use Rattle.ripngd_command_line.specs.declared.asked.Ask.TheVariants as asks;
+ghost use Rattle.ripngd_daemon.specs.Asking.{IsAnswer, IsPrinted, command_line};
+ghost use Rattle.ripngd_daemon.specs.Failing.{MayFail};
+ghost use Rattle.ripngd_daemon.specs.declared.failure.Failure.TheVariants as failures;
+
+use crate::failure::Failure;
+use ripngd_command_line::Question;
+use ripngd_control::{Command, Reply, command_in};
+use std::alloc::{AllocError, Global};
+use std::io::{self, Read, Write};
+use std::net::Net;
+use std::os::unix::net::UnixStream;
+use std::time::Duration;
+
+/// How long a router may say nothing, in milliseconds.
+const SILENCE: u64 = 10_000;
+
+/// The words of a question, a space between them.
+fn words_of(alloc: Global, question: Question<'_>) -> Result<String, AllocError> {
+    let command = question.command;
+    match (question.what, question.value) {
+        (Some(what), Some(value)) => format!(in alloc; "{command} {what} {value}"),
+        (Some(what), None) => format!(in alloc; "{command} {what}"),
+        _ => format!(in alloc; "{command}"),
+    }
+}
+
+/// Sends a command.
+fn send<T: Write>(command: Command, stream: &mut T) -> io::Result<()>
+    ensures { OnOk result (Appends (T.contents stream.old) (T.contents stream.new) (command_line command)) }
+{
+    writeln!(stream, "{command}")
+}
+
+/// All that a router answers.
+fn receive<T: Read>(alloc: Global, stream: &mut T) -> io::Result<Vec<u8>>
+    ensures { OnOk result (IfSome (T.remaining stream.old) (λ bytes. IfOk result (λ answer. answer.items ≡ bytes))) }
+{
+    let mut answer = Vec::new(alloc);
+    stream.read_to_end(&mut answer)?;
+    Ok(answer)
+}
+
+/// Sends a command to the router that listens at a path, and gives its answer.
+///
+/// # Errors
+/// Of the socket, after the connection is made.
+fn converse(alloc: Global, command: Command, stream: &mut UnixStream) -> io::Result<Vec<u8>> {
+    stream.set_read_timeout(Some(Duration::from_millis(SILENCE)))?;
+    stream.set_write_timeout(Some(Duration::from_millis(SILENCE)))?;
+    send(command, stream)?;
+    receive(alloc, stream)
+}
+
+/// Where the last line begins.
+fn last_line(answer: &[u8]) -> usize
+    ensures { result ≤ length answer.now }
+{
+    let end = answer.len() - answer.len().min(1);
+    match answer[..end].iter().rposition(|byte| *byte == b'\n') {
+        Some(before) => before + 1,
+        None => 0,
+    }
+}
+
+/// What is to be printed of an answer, and whether the router did what it was told; none where the answer breaks off.
+fn told_in(answer: &[u8]) -> Option<(&[u8], bool)>
+    ensures { IfSome result (λ told. IsAnswer answer.now told.1 told.0.now) }
+{
+    let (lines, last) = answer.split_at(last_line(answer));
+    if last == b"ok\n".as_slice() {
+        Some((lines, true))
+    } else if last.starts_with(b"refused ") && last.ends_with(b"\n") {
+        Some((answer, false))
+    } else {
+        None
+    }
+}
+
+/// Prints an answer.
+fn print_answer<'a, O: Write>(
+    socket: &'a str,
+    answer: &[u8],
+    out: &mut O,
+) -> Result<bool, Failure<'a>>
+    ensures answered { IfOk result (λ accepted. IsPrinted answer.now accepted (O.contents out.old) (O.contents out.new)) }
+    ensures failed { IfErr result (λ f. (f ≡ failures.Output) ⊎ (f ≡ failures.Answer socket.entry)) }
+{
+    match told_in(answer) {
+        Some((text, accepted)) => match out.write_all(text) {
+            Ok(()) => Ok(accepted),
+            Err(_) => Err(Failure::Output),
+        },
+        None => Err(Failure::Answer(socket)),
+    }
+}
+
+/// Says that words are no command, as a router says it of a line that is none.
+fn refuse<'a, O: Write>(out: &mut O) -> Result<bool, Failure<'a>>
+    ensures answered { IfOk result (λ accepted. (answer : List ℕ) × IsPrinted answer accepted (O.contents out.old) (O.contents out.new)) }
+    ensures failed { IfErr result (λ f. f ≡ failures.Output) }
+{
+    match writeln!(out, "{}", Reply::NoSuchCommand) {
+        Ok(()) => Ok(false),
+        Err(_) => Err(Failure::Output),
+    }
+}
+
+/// Asks the router that listens at a socket.
+fn ask<'a, R: Net + AllocGlobal, O: Write>(
+    rt: &R,
+    socket: &'a str,
+    command: Command,
+    out: &mut O,
+) -> Result<bool, Failure<'a>>
+    ensures answered { IfOk result (λ accepted. (answer : List ℕ) × IsPrinted answer accepted (O.contents out.old) (O.contents out.new)) }
+    ensures failed { IfErr result (λ f. (f ≡ failures.Output) ⊎ (f ≡ failures.Answer socket.entry) ⊎ (f ≡ failures.Ask socket.entry)) }
+{
+    let Ok(mut stream) = UnixStream::connect(rt, socket) else {
+        return Err(Failure::Ask(socket));
+    };
+    match converse(rt.alloc(), command, &mut stream) {
+        Ok(answer) => print_answer(socket, answer.as_slice(), out),
+        Err(_) => Err(Failure::Answer(socket)),
+    }
+}
+
+/// `ctl PATH COMMAND..`: asks the router that listens at a path, or tells it something, prints its answer without the last
+/// line `ok`, and answers whether it did what it was asked and told. Words that are no command are refused unasked.
+///
+/// # Errors
+/// `Ask` with the path, where nobody listens; `Answer` with it, where the answer breaks off, or none comes for 10 seconds;
+/// `Output` or `OutOfMemory`.
+pub fn ctl<'a, R: Net + AllocGlobal, O: Write>(
+    rt: &R,
+    question: Question<'a>,
+    out: &mut O,
+) -> Result<bool, Failure<'a>>
+    ensures answered { IfOk result (λ accepted. (answer : List ℕ) × IsPrinted answer accepted (O.contents out.old) (O.contents out.new)) }
+    ensures failed { IfErr result (MayFail (asks.Ctl question.entry)) }
+{
+    let Ok(words) = words_of(rt.alloc(), question) else {
+        return Err(Failure::OutOfMemory);
+    };
+    match command_in(words.as_str()) {
+        Some(command) => ask(rt, question.socket, command, out),
+        None => refuse(out),
+    }
+}

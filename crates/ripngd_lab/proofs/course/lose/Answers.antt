@@ -1,0 +1,25 @@
+use Rattle.std.proofs.Common.{Some, Err}
+use Rattle.ripngd_lab.specs.declared.stop.Refusal.TheVariants.{DatagramLost}
+use Rattle.ripngd_lab.specs.declared.stop.Stop.TheVariants.{Refused}
+use Rattle.ripngd_lab.proofs.Witnessing.{untold, has_told, fault_told, noted}
+use Rattle.ripngd_lab.proofs.course.lose.Goals as goal
+
+pub returns-in_err-check_datagram : goal.returns-in_err-check_datagram
+returns-in_err-check_datagram g c =
+    has_told g.V.Watch-1.starts g.V.Watch-2.takes g.V.Watch-2.fails g.V.Watch-1.notes c.from_residual.result (Some c.args.lab.now, c.args.watch.now) (Some c.args.lab.now, c.args.watch.now) (untold g.V.Watch-1.starts g.V.Watch-2.takes g.V.Watch-2.fails g.V.Watch-1.notes (Some c.args.lab.now, c.args.watch.now))
+
+pub returns-then-is_lost : goal.returns-then-is_lost
+returns-then-is_lost g c =
+    has_told g.V.Watch-1.starts g.V.Watch-2.takes g.V.Watch-2.fails g.V.Watch-1.notes (Err (Refused DatagramLost)) (Some c.args.lab.now, c.args.watch.now) (Some c.args.lab.now, c.args.watch.now) (untold g.V.Watch-1.starts g.V.Watch-2.takes g.V.Watch-2.fails g.V.Watch-1.notes (Some c.args.lab.now, c.args.watch.now))
+
+pub returns-in_err-lose : goal.returns-in_err-lose
+returns-in_err-lose g c =
+    has_told g.V.Watch-1.starts g.V.Watch-2.takes g.V.Watch-2.fails g.V.Watch-1.notes c.from_residual-in_err-lose.result (Some c.args.lab.now, c.args.watch.now) (Some c.args.lab.now, c.args.watch.now) (untold g.V.Watch-1.starts g.V.Watch-2.takes g.V.Watch-2.fails g.V.Watch-1.notes (Some c.args.lab.now, c.args.watch.now))
+
+pub returns-in_err-lost : goal.returns-in_err-lost
+returns-in_err-lost g c =
+    fault_told g.V.Watch-1.starts g.V.Watch-2.takes g.V.Watch-2.fails g.V.Watch-1.notes c.from_residual-in_err-lost.result c.in_err-lost.field-0.0 (Some c.args.lab.now) c.args.watch.now c.lost.new.self c.from_residual-in_err-lost.ensures.1 c.in_err-lost.ensures.broken
+
+pub returns : goal.returns
+returns g c =
+    noted g.V.Watch-1.starts g.V.Watch-2.takes g.V.Watch-2.fails g.V.Watch-1.notes (Some c.args.lab.now) c.args.watch.now c.lost.new.self c.in_ok-lost.ensures.notes

@@ -1,0 +1,9 @@
+-- What the witness of a script is told beside what happens in the lab.
+use Rattle.std.specs.Prelude.{ℕ}
+
+-- of nothing that happens in the lab: the number of the script's next line; what a line prints, or why it ends the script. `Broken`
+-- stands for a telling that fails, of this or of a start
+pub data Aside : Type 0 where
+  NextLine : (number : ℕ) → Aside
+  Prints : Aside
+  Broken : Aside

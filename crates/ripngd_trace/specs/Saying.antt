@@ -1,0 +1,71 @@
+-- What the tracer makes of what it is told.
+use Rattle.std.specs.Prelude.{◌≡◌, ◌⊎◌, ℕ, List, ◌++◌, Option, IfSome, codes, slice_get, slice_set}
+use Rattle.route_table.specs.Table.{Table}
+use Rattle.ripng_world.specs.Labs.{LabValue}
+use Rattle.ripng_world.specs.Watching.{Told}
+use Rattle.ripngd_lab.specs.Asides.{Aside, NextLine, Prints, Broken}
+use Rattle.ripngd_trace.specs.Events.{Tells}
+use Rattle.ripngd_trace.specs.Lines.{WritesLess, WritesRecord}
+use Rattle.ripngd_trace.specs.Reading.{IsPrintWord, tables_of}
+use Rattle.ripngd_trace.specs.Records.{LeadsTo}
+use Rattle.ripngd_trace.specs.Starting.{TellsStart}
+use Rattle.ripngd_trace.specs.declared.records.EventRecord.{EventRecord}
+use Rattle.ripngd_trace.specs.declared.records.PrintRecord.{PrintRecord}
+use Rattle.ripngd_trace.specs.declared.records.LostRecord.{LostRecord}
+use Rattle.ripngd_trace.specs.declared.records.RefusedRecord.{RefusedRecord}
+use Rattle.ripngd_trace.specs.declared.records.StartRecord.{StartRecord}
+
+-- the line of the script that it is at, the table of each router as a reader of its records knows it, and what is written
+pub record Said : Type 0 where
+  pub line : ℕ
+  pub known : List Table
+  pub written : Option (List ℕ)
+
+-- of the start it writes a record that tells of it, as one line, and each router's table is known from then on
+pub record SaysStart (said : Said) (lab : LabValue) (now : ℕ) (said' : Said) : Type 0 where
+  pub r : StartRecord
+  pub tells : TellsStart said.line lab now r
+  pub known_is : said'.known ≡ said.known ++ tables_of lab.world
+  pub line_is : said'.line ≡ said.line
+  pub writes : WritesRecord r said.written said'.written
+
+-- of an event it writes a record that tells of it, as one line, and leads from the table known of its router to that router's
+-- own; that table is known from then on, and all others as they were
+pub record SaysEvent (said : Said) (what : Told) (said' : Said) : Type 0 where
+  pub r : EventRecord
+  pub tells : Tells said.line what r
+  pub listed : IfSome (slice_get said.known r.router) (λ before. IfSome (slice_get what.lab.world.states r.router) (λ state. LeadsTo before r.routes.items r.gone.items state.table))
+  pub known_is : IfSome (slice_get what.lab.world.states r.router) (λ state. said'.known ≡ slice_set said.known r.router state.table)
+  pub line_is : said'.line ≡ said.line
+  pub writes : WritesRecord r said.written said'.written
+
+-- where the telling of an event fails, less than a line is written
+abbrev pub BreaksOff : Said → Told → Said → Type 0
+BreaksOff said what said' = WritesLess said.written said'.written
+
+-- of what a line prints it writes a record, as one line, and all that is known stays
+pub record SaysPrint (said said' : Said) : Type 0 where
+  pub r : PrintRecord
+  pub word_is : IsPrintWord r.record.now
+  pub known_is : said'.known ≡ said.known
+  pub writes : WritesRecord r said.written said'.written
+
+-- so of why a line ends the script
+pub record SaysRefused (said said' : Said) : Type 0 where
+  pub r : RefusedRecord
+  pub word_is : r.record.now ≡ codes "refused"
+  pub known_is : said'.known ≡ said.known
+  pub writes : WritesRecord r said.written said'.written
+
+-- and so that a line lost a datagram
+pub record SaysLost (said said' : Said) : Type 0 where
+  pub r : LostRecord
+  pub word_is : r.record.now ≡ codes "lost"
+  pub known_is : said'.known ≡ said.known
+  pub writes : WritesRecord r said.written said'.written
+
+-- of the number of the next line it writes nothing, and knows it; of what a line prints or loses, or why it ends the script, a record
+abbrev pub SaysAside : Said → Aside → Said → Type 0
+SaysAside said (NextLine number) said' = said' ≡ record said { line = number }
+SaysAside said Prints said' = SaysPrint said said' ⊎ (SaysRefused said said' ⊎ SaysLost said said')
+SaysAside said Broken said' = WritesLess said.written said'.written

@@ -1,0 +1,45 @@
+//! Records written as lines.
+
+ghost use Rattle.std.specs.Prelude.{◌<◌, ℕ, OnErr, OnOk, length, take};
+ghost use Rattle.std.specs.Io.KnownBytes.{Appends};
+ghost use Rattle.ripngd_trace.specs.Lines.{WritesLess, WritesRecord};
+
+use serde::Serialize;
+use std::alloc::{AllocError, Global};
+use std::io::{self, ErrorKind, Write};
+
+/// Writes a record as one line.
+///
+/// # Errors
+/// Want of memory, before anything is written; else the fault of `out`, behind a beginning of the line.
+pub fn write_record<T: Serialize, W: Write>(alloc: Global, value: &T, out: &mut W) -> io::Result<()>
+    ensures whole { OnOk result (WritesRecord value.now (W.contents out.old) (W.contents out.new)) }
+    ensures broken { OnErr result (WritesLess (W.contents out.old) (W.contents out.new)) }
+{
+    let Ok(mut text) = serde_json::to_vec(alloc, value) else {
+        return Err(io::Error::from(AllocError));
+    };
+    text.push(b'\n')?;
+    write_bytes(&text, out)
+}
+
+/// Writes bytes, as `write_all` does; but where that fails, it is known what was written.
+fn write_bytes<W: Write>(bytes: &[u8], out: &mut W) -> io::Result<()>
+    requires { 0 < length bytes.now }
+    ensures whole { OnOk result (Appends (W.contents out.old) (W.contents out.new) bytes.now) }
+    ensures broken { OnErr result ((count : ℕ) × count < length bytes.now × Appends (W.contents out.old) (W.contents out.new) (take count bytes.now)) }
+{
+    let mut written = 0;
+    for _ in 0..u64::MAX {
+        match out.write(&bytes[written..]) {
+            Ok(0) => return Err(io::Error::from(ErrorKind::WriteZero)),
+            Ok(count) => written += count,
+            Err(error) if error.kind() == ErrorKind::Interrupted => {}
+            Err(error) => return Err(error),
+        }
+        if written == bytes.len() {
+            return Ok(());
+        }
+    }
+    Err(io::Error::from(ErrorKind::WriteZero))
+}
