@@ -45,9 +45,9 @@ impl Display for RouteLine {
     }
 }
 
-/// A change of a route, written `add` and the entry, or `del PREFIX`.
-#[derive(Clone, Copy)]
-struct ChangeLine(RouteChange);
+/// A change of a route, written as its line in the log: `add` and the entry, or `del PREFIX`.
+#[derive(Clone, Copy, Debug, PartialEq, Eq)]
+pub struct ChangeLine(pub RouteChange);
 
 impl Display for ChangeLine {
     ghost output = { λ c. Some (change_text c.0) };

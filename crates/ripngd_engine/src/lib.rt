@@ -17,7 +17,7 @@ mod report;
 mod running;
 mod watch;
 
-pub use change_lines::RouteLine;
+pub use change_lines::{ChangeLine, RouteLine};
 pub use clock::TimeSource;
 pub use engine::Engine;
 pub use laws::turns_go_on;

@@ -11,36 +11,10 @@ ghost use Rattle.ripngd_log.specs.Words.{IsRead, PushesLine};
 
 use crate::words::{addr_in, first_word, iface_in, metric_in, prefix_in};
 use fib::{Hop, RouteChange};
-use ripngd_engine::RouteLine;
+use ripngd_engine::ChangeLine;
 use std::alloc::AllocError;
-use std::fmt::{self, Display, Write};
+use std::fmt::Write;
 use std::str;
-
-/// A change, written as its line in the log.
-#[derive(Clone, Copy)]
-struct ChangeLine(RouteChange);
-
-impl Display for ChangeLine {
-    ghost output = { λ c. Some (change_text c.0) };
-
-    fn fmt<W: fmt::Write>(&self, f: &mut fmt::Formatter<W>) -> fmt::Result {
-        match self.0 {
-            RouteChange::Install {
-                prefix,
-                hop,
-                metric,
-            } => {
-                let route = RouteLine {
-                    prefix,
-                    hop,
-                    metric,
-                };
-                write!(f, "add {route}")
-            }
-            RouteChange::Withdraw { prefix } => write!(f, "del {prefix}"),
-        }
-    }
-}
 
 /// The hop that the text can be of.
 fn hop_in(text: &str) -> Option<Hop>
