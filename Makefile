@@ -31,7 +31,7 @@ INSTALL ?= install
 # The folders with what goes beside README.md.
 folders = docs docs/films docs/pictures examples examples/lessons page
 
-VERSION = $(shell sed -n 's/^pub const VERSION: &str = "\(.*\)";/\1/p' crates/ripngd_command_line/src/command_line.rt)
+VERSION = $(shell sed -n 's/^pub const VERSION: &str = "\(.*\)";/\1/p' crates/ripngd_command_line/src/help.rt)
 name = ripngd-$(VERSION)-x86_64-linux
 
 .PHONY: all lab try show page install uninstall dist bench beside pictures test check edits clean

@@ -19,10 +19,10 @@ use Rattle.prefix6.proofs.PrefixLaws.{prefixes_total, exact_prefixes}
 use Rattle.prefix6.proofs.SortedEntries.{searched, find_at, find_gap, put_at, put_gap, where_at}
 use Rattle.fib.specs.declared.change.Hop.{Hop}
 use Rattle.fib.specs.Forwarding.{Forward, Forwarding}
-use Rattle.fib.specs.Entries.{Entry, at_prefix, entry_of, listed, table_of, AreInOrder}
+use Rattle.fib.specs.Entries.{Entry, at_prefix, fib_entry, listed, table_of, AreInOrder}
 
 -- ---- entries and what stands at their prefixes
-listed_again : (es : List Entry) → each entry_of (each at_prefix es) ≡ es
+listed_again : (es : List Entry) → each fib_entry (each at_prefix es) ≡ es
 listed_again [] = refl
 listed_again (e ∷ es) = ap (λ l. e ∷ l) (listed_again es)
 
@@ -37,20 +37,20 @@ at_prefix-remove es i =
     ∙ sym (map-append at_prefix (take i es) (drop (suc i) es))
 
 -- the prefix at a place
-pub same_at : (es : List Entry) (i : ℕ) (d : Prefix6 × Forward) → (get_or (each at_prefix es) i d).0 ≡ (get_or es i (entry_of d)).0
-same_at es i d = ap (λ (e : Prefix6 × Forward). e.0) (get_or-map at_prefix es i (entry_of d))
+pub same_at : (es : List Entry) (i : ℕ) (d : Prefix6 × Forward) → (get_or (each at_prefix es) i d).0 ≡ (get_or es i (fib_entry d)).0
+same_at es i d = ap (λ (e : Prefix6 × Forward). e.0) (get_or-map at_prefix es i (fib_entry d))
 
 -- ---- a binary search
 -- by the prefixes of entries is one by the prefixes at which they stand
 by_prefix : (es : List Entry) (p : Prefix6) (r : Result ℕ ℕ) → IsBinarySearchResult (λ e. prefix_cmp e.0 p) es r → IsBinarySearchResult (λ e. prefix_cmp e.0 p) (each at_prefix es) r
-by_prefix es p (Ok i) is = λ d. subst (λ q. prefix_cmp q p ≡ Equal) (sym (same_at es i d)) (is (entry_of d))
+by_prefix es p (Ok i) is = λ d. subst (λ q. prefix_cmp q p ≡ Equal) (sym (same_at es i d)) (is (fib_entry d))
 by_prefix es p (Err i) is = λ rises.
     let parts = is (λ j k d le lt.
     subst (λ q. ordering_index (prefix_cmp q p) ≤ ordering_index (prefix_cmp (get_or es k d).0 p)) (same_at es j (at_prefix d))
     (subst (λ q. ordering_index (prefix_cmp (get_or (each at_prefix es) j (at_prefix d)).0 p) ≤ ordering_index (prefix_cmp q p)) (same_at es k (at_prefix d))
     (rises j k (at_prefix d) le (subst (λ n. k < n) (sym (length-map es at_prefix)) lt)))) in (
-      λ j d low lt. subst (λ q. prefix_cmp q p ≡ Less) (sym (same_at es j d)) (parts.0 j (entry_of d) low lt),
-      λ j d low lt. subst (λ q. prefix_cmp q p ≡ Greater) (sym (same_at es j d)) (parts.1 j (entry_of d) low (subst (λ n. j < n) (length-map es at_prefix) lt)),
+      λ j d low lt. subst (λ q. prefix_cmp q p ≡ Less) (sym (same_at es j d)) (parts.0 j (fib_entry d) low lt),
+      λ j d low lt. subst (λ q. prefix_cmp q p ≡ Greater) (sym (same_at es j d)) (parts.1 j (fib_entry d) low (subst (λ n. j < n) (length-map es at_prefix) lt)),
     )
 
 -- ends at the entry of the prefix, or at the gap for it
@@ -76,7 +76,7 @@ module _ (es : List Entry) (h : AreInOrder es) (table : Forwarding) (is : table_
   )
 
   pub listed_is : es ≡ listed table
-  listed_is = sym (ap (each entry_of) entries_are ∙ listed_again es)
+  listed_is = sym (ap (each fib_entry) entries_are ∙ listed_again es)
 
   pub get_is : (p : Prefix6) → map.get table p ≡ find prefix_cmp p (each at_prefix es)
   get_is p = ap (λ m. map.get m p) (sym is) ∙ get-from_sorted prefix_cmp (each at_prefix es) p h.rising

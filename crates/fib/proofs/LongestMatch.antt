@@ -17,7 +17,7 @@ use Rattle.prefix6.proofs.SortedEntries.{sorted_at, find_at}
 use Rattle.fib.specs.declared.change.Hop.{Hop}
 use Rattle.fib.specs.declared.change.Hop.TheVariants.{Direct}
 use Rattle.fib.specs.Forwarding.{Forward, Forwarding, IsMatch, IsLongestMatch}
-use Rattle.fib.specs.Entries.{Entry, at_prefix, entry_of, table_of, AreInOrder, AreAllPast, IsLastUpTo}
+use Rattle.fib.specs.Entries.{Entry, at_prefix, fib_entry, table_of, AreInOrder, AreAllPast, IsLastUpTo}
 use Rattle.fib.proofs.EntryLists.{get_is, same_at, some_found}
 use Rattle.fib.proofs.Gaps.{found_at}
 use Rattle.fib.proofs.Orders.{IsNoLater, no_later, not_greater, less_is_no_later, itself_no_later}
@@ -151,7 +151,7 @@ module _ (es : List Entry) (h : AreInOrder es) (table : Forwarding) (is : table_
         get_is es h table is e.0
         ∙ find_at (each at_prefix es) e.0 i (at_prefix d) h.rising (record {
           in_range = subst (λ n. i < n) (sym (length-map es at_prefix)) last.in_range;
-          has_prefix = λ x. same_at es i x ∙ ap (λ (y : Entry). y.0) (get_or_default es i (entry_of x) d last.in_range ∙ sym there);
+          has_prefix = λ x. same_at es i x ∙ ap (λ (y : Entry). y.0) (get_or_default es i (fib_entry x) d last.in_range ∙ sym there);
         })
         ∙ ap (λ (x : Prefix6 × Forward). Some x.1) (get_or-map at_prefix es i d)
         ∙ ap (λ (x : Entry). Some (record { hop = x.1; metric = x.2 })) (sym there)

@@ -17,12 +17,12 @@ abbrev pub at_prefix : Entry → Prefix6 × Forward
 at_prefix e = (e.0, record { hop = e.1; metric = e.2 })
 
 -- what the table has at a prefix, as an entry
-abbrev pub entry_of : Prefix6 × Forward → Entry
-entry_of e = (e.0, e.1.hop, e.1.metric)
+abbrev pub fib_entry : Prefix6 × Forward → Entry
+fib_entry e = (e.0, e.1.hop, e.1.metric)
 
 -- the entries of a table in the order of address, then length
 abbrev pub listed : Forwarding → List Entry
-listed table = each entry_of (entries table)
+listed table = each fib_entry (entries table)
 
 -- the table of a list of entries in that order
 abbrev pub table_of : List Entry → Forwarding

@@ -4,20 +4,20 @@ use Rattle.std.specs.declared.cmp.Ordering.TheVariants.{Less, Greater}
 use Rattle.prefix6.specs.Prefix.{Prefix6, prefix_cmp}
 
 -- a value at each prefix
-abbrev pub Entries : Type 0 → Type 0
-Entries X = List (Prefix6 × X)
+abbrev pub Valued : Type 0 → Type 0
+Valued X = List (Prefix6 × X)
 
 -- the prefix of the entry at a place, or of d past the end
-abbrev pub prefix_at : {X : Type 0} → Entries X → ℕ → Prefix6 × X → Prefix6
+abbrev pub prefix_at : {X : Type 0} → Valued X → ℕ → Prefix6 × X → Prefix6
 prefix_at es i d = (get_or es i d).0
 
 -- the place of a prefix
-pub record IsAt {X : Type 0} (es : Entries X) (p : Prefix6) (i : ℕ) : Type 0 where
+pub record IsAt {X : Type 0} (es : Valued X) (p : Prefix6) (i : ℕ) : Type 0 where
   pub in_range : i < length es
   pub has_prefix : (d : Prefix6 × X) → prefix_at es i d ≡ p
 
 -- the place where a prefix would go
-pub record IsGap {X : Type 0} (es : Entries X) (p : Prefix6) (i : ℕ) : Type 0 where
+pub record IsGap {X : Type 0} (es : Valued X) (p : Prefix6) (i : ℕ) : Type 0 where
   pub in_range : i ≤ length es
   pub before : (j : ℕ) (d : Prefix6 × X) → j < i → prefix_cmp (prefix_at es j d) p ≡ Less
   pub after : (j : ℕ) (d : Prefix6 × X) → i ≤ j → j < length es → prefix_cmp (prefix_at es j d) p ≡ Greater

@@ -4,13 +4,13 @@ use Rattle.prefix6.specs.declared.error.PrefixError.{PrefixError}
 use Rattle.prefix6.specs.declared.error.PrefixError.TheVariants.{LengthTooLarge, BadAddressText, BadLengthText}
 
 -- the number of a refusal
-abbrev pub number_of : PrefixError → ℕ
-number_of LengthTooLarge = 1
-number_of BadAddressText = 2
-number_of BadLengthText = 3
+abbrev pub prefix_error_number : PrefixError → ℕ
+prefix_error_number LengthTooLarge = 1
+prefix_error_number BadAddressText = 2
+prefix_error_number BadLengthText = 3
 
 -- as the variant is spelled
-abbrev pub name_of : PrefixError → List ℕ
-name_of LengthTooLarge = codes "LengthTooLarge"
-name_of BadAddressText = codes "BadAddressText"
-name_of BadLengthText = codes "BadLengthText"
+abbrev pub prefix_error_name : PrefixError → List ℕ
+prefix_error_name LengthTooLarge = codes "LengthTooLarge"
+prefix_error_name BadAddressText = codes "BadAddressText"
+prefix_error_name BadLengthText = codes "BadLengthText"

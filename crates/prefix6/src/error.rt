@@ -1,7 +1,7 @@
 //! Refusals: why a length is none, or a text names no address or prefix.
 
 ghost use Rattle.std.specs.Prelude.{◌≡◌};
-ghost use Rattle.prefix6.specs.Refusal.{number_of, name_of};
+ghost use Rattle.prefix6.specs.Refusal.{prefix_error_number, prefix_error_name};
 
 use thiserror::Error;
 
@@ -25,7 +25,7 @@ pub enum PrefixError {
 impl PrefixError {
     /// The number of the refusal, from 1 to 3.
     pub fn number(self) -> u8
-        ensures { result ≡ number_of self }
+        ensures { result ≡ prefix_error_number self }
     {
         match self {
             PrefixError::LengthTooLarge => 1,
@@ -36,7 +36,7 @@ impl PrefixError {
 
     /// The name of the refusal, as the variant is spelled.
     pub fn name(self) -> &'static str
-        ensures { result.now ≡ name_of self }
+        ensures { result.now ≡ prefix_error_name self }
     {
         match self {
             PrefixError::LengthTooLarge => "LengthTooLarge",

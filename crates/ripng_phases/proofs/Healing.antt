@@ -32,29 +32,29 @@ positive_of : (net : Network) → IsNetwork net → IsPositive net
 positive_of net is_net router iface here is =
     subst (λ (o : Option NetInterface). 1 ≤ unwrap_or (option_map (λ i. i.interface.cost) o) infinity) (sym is) (is_net.usable.costs router iface here is).0
 
-module _ (net : Network) (is_net : IsNetwork net) (noisy : IsNeverQuiet net) (changes : List (ℕ × Change)) (fits : AreFew (IsKnown (record { net = net; changes = changes }))) where
+module _ (net : Network) (is_net : IsNetwork net) (noisy : IsNeverQuiet net) (reconfigurations : List (ℕ × Change)) (fits : AreFew (IsKnown (record { net = net; reconfigurations = reconfigurations }))) where
   abbrev now : Network
-  now = network_now (record { net = net; changes = changes })
+  now = network_now (record { net = net; reconfigurations = reconfigurations })
 
-  calm_part : IsNetwork (network_now (record { net = net; changes = changes })) → (past : Before) (w : World) (steps : List Step) (w' : World) → IsSettled net is_net changes w → IsBegun net past w steps w'
-      → IsCalmPart (network_now (record { net = net; changes = changes })) (IsKnown (record { net = net; changes = changes })) past w steps w'
+  calm_part : IsNetwork (network_now (record { net = net; reconfigurations = reconfigurations })) → (past : Before) (w : World) (steps : List Step) (w' : World) → IsSettled net is_net reconfigurations w → IsBegun net past w steps w'
+      → IsCalmPart (network_now (record { net = net; reconfigurations = reconfigurations })) (IsKnown (record { net = net; reconfigurations = reconfigurations })) past w steps w'
   calm_part lawful past w steps w' settled is =
       record {
         usable = lawful.usable;
-        noisy = noisy_alike net now (now_alike changes net) noisy;
+        noisy = noisy_alike net now (now_alike reconfigurations net) noisy;
         distinct = lawful.distinct;
         fits = fits;
-        begun = record { takes = takes_alike net now (now_alike changes net) steps w w' is.takes; recent = is.recent; close = is.close };
-        orderly = all_orderly net is_net changes steps w w' is.takes settled;
+        begun = record { takes = takes_alike net now (now_alike reconfigurations net) steps w w' is.takes; recent = is.recent; close = is.close };
+        orderly = all_orderly net is_net reconfigurations steps w w' is.takes settled;
       }
 
-  calm_begun : IsNetwork (network_now (record { net = net; changes = changes })) → (phases : List (List Step)) (since : List Step) (past : Before) (w end : World) → IsSettled net is_net changes w → BegunAfter net past w phases since end
-      → CalmBegun (network_now (record { net = net; changes = changes })) (IsKnown (record { net = net; changes = changes })) past w phases since end
+  calm_begun : IsNetwork (network_now (record { net = net; reconfigurations = reconfigurations })) → (phases : List (List Step)) (since : List Step) (past : Before) (w end : World) → IsSettled net is_net reconfigurations w → BegunAfter net past w phases since end
+      → CalmBegun (network_now (record { net = net; reconfigurations = reconfigurations })) (IsKnown (record { net = net; reconfigurations = reconfigurations })) past w phases since end
   calm_begun lawful [] since past w end settled is = calm_part lawful past w since end settled is
   calm_begun lawful (steps ∷ phases) since past w end settled is = (
     is.0,
-    record { part = calm_part lawful past w steps is.0 settled (begun_of net past w steps is.0 is.1); phase = phase_alike net now (now_alike changes net) past w is.0 steps is.1 },
-    calm_begun lawful phases since (before_next w steps) is.0 end (settled_on net is_net changes steps w is.0 is.1.takes settled) is.2,
+    record { part = calm_part lawful past w steps is.0 settled (begun_of net past w steps is.0 is.1); phase = phase_alike net now (now_alike reconfigurations net) past w is.0 steps is.1 },
+    calm_begun lawful phases since (before_next w steps) is.0 end (settled_on net is_net reconfigurations steps w is.0 is.1.takes settled) is.2,
   )
 
 -- after so many phases, whatever has happened since
@@ -62,18 +62,18 @@ pub heals_in_phases : (net : Network) (moments : List ℕ) (events : List Event)
     → IsNetwork net → IsNeverQuiet net → IsCold net moments cold → WorldRun net cold events w → FitsTablesSince (past_of net w)
     → Begun net w phases since end → 28 ≤ length phases → AreHealed (network_now (past_of net end)) end
 heals_in_phases net moments events phases since cold w end is_net noisy is run fits begun many =
-    subst (λ cs. AreHealed (network_now (record { net = net; changes = cs })) end) (sym (takes_keep net (steps_of phases ++ since) w end (begun_take net phases since _ w end begun)))
+    subst (λ cs. AreHealed (network_now (record { net = net; reconfigurations = cs })) end) (sym (takes_keep net (steps_of phases ++ since) w end (begun_take net phases since _ w end begun)))
     (heals_always now (IsKnown (past_of net w)) (positive_of now lawful) phases since _ w end many
-    (calm_begun net is_net noisy w.changes (few_of net is_net w settled.all fits) lawful phases since _ w end settled begun))
+    (calm_begun net is_net noisy w.reconfigurations (few_of net is_net w settled.all fits) lawful phases since _ w end settled begun))
   where
     now : Network
     now = network_now (past_of net w)
 
-    settled : IsSettled net is_net w.changes w
+    settled : IsSettled net is_net w.reconfigurations w
     settled = settled_from_cold net is_net moments events cold w is run
 
     lawful : IsNetwork (network_now (past_of net w))
-    lawful = now_lawful w.changes net settled.all.lawful is_net
+    lawful = now_lawful w.reconfigurations net settled.all.lawful is_net
 
 -- at every moment of further phases
 pub heals_then : (net : Network) (moments : List ℕ) (events : List Event) (phases later : List (List Step)) (before after : List Step) (cold w end : World)

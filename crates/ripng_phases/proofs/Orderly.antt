@@ -44,22 +44,22 @@ pub record IsOrderly (net : Network) (known : Prefix6 → Type 0) (w : World) : 
 abbrev pub AllOrderly : Network → (Prefix6 → Type 0) → World → List Step → Type 0
 AllOrderly net known w steps = (before after : List Step) → steps ≡ before ++ after → IsOrderly net known (reached w before)
 
-module _ (start : Network) (is_net : IsNetwork start) (changes : List (ℕ × Change)) where
-  pub orderly_of : (w : World) → IsSettled start is_net changes w → IsOrderly (network_now (record { net = start; changes = changes })) (IsKnown (record { net = start; changes = changes })) w
+module _ (start : Network) (is_net : IsNetwork start) (reconfigurations : List (ℕ × Change)) where
+  pub orderly_of : (w : World) → IsSettled start is_net reconfigurations w → IsOrderly (network_now (record { net = start; reconfigurations = reconfigurations })) (IsKnown (record { net = start; reconfigurations = reconfigurations })) w
   orderly_of w is =
       record {
-        states = λ router s at. orderly_state router s (state_at start is_net changes w is router s at);
-        everyone = λ router node node_is. there router node (slice_get start router) refl (sym ((now_alike changes start).quiet router) ∙ ap (option_map (λ (n : Node). n.quiet)) node_is);
+        states = λ router s at. orderly_state router s (state_at start is_net reconfigurations w is router s at);
+        everyone = λ router node node_is. there router node (slice_get start router) refl (sym ((now_alike reconfigurations start).quiet router) ∙ ap (option_map (λ (n : Node). n.quiet)) node_is);
       }
     where
-      listed : (router : ℕ) (s : State) (t : IsReachedState start changes router s) (p : Prefix6) (tag : ℕ) → Owns (network_now (record { net = start; changes = changes })) router p tag → (i : ℕ) × (slice_get s.config.prefixes i ≡ Some (p, tag))
+      listed : (router : ℕ) (s : State) (t : IsReachedState start reconfigurations router s) (p : Prefix6) (tag : ℕ) → Owns (network_now (record { net = start; reconfigurations = reconfigurations })) router p tag → (i : ℕ) × (slice_get s.config.prefixes i ≡ Some (p, tag))
       listed router s t p tag owns = (
         owns.place,
         ap (λ (c : Config). slice_get c.prefixes owns.place) t.config_is ∙ ap (λ (n : Node). slice_get n.prefixes owns.place) (Some-same t.node owns.node (sym t.node_is ∙ owns.node_is)) ∙ owns.listed,
       )
 
-      row_of : (router : ℕ) (s : State) (t : IsReachedState start changes router s) (p : Prefix6) (r : RouteValue) (c : Clock) → IsReachedBy s.config s.last p r c
-          → IsOrderlyBy (network_now (record { net = start; changes = changes })) router s.last p r c
+      row_of : (router : ℕ) (s : State) (t : IsReachedState start reconfigurations router s) (p : Prefix6) (r : RouteValue) (c : Clock) → IsReachedBy s.config s.last p r c
+          → IsOrderlyBy (network_now (record { net = start; reconfigurations = reconfigurations })) router s.last p r c
       row_of router s t p r Fixed k = (
         k.0,
         (k.1.0, record { node = t.node; node_is = t.node_is; place = k.1.1.0; listed = ap (λ (c : Config). slice_get c.prefixes k.1.1.0) (sym t.config_is) ∙ k.1.1.1 }),
@@ -67,7 +67,7 @@ module _ (start : Network) (is_net : IsNetwork start) (changes : List (ℕ × Ch
       row_of router s t p r (Dying until) k = tt
       row_of router s t p r (Live until) k = (k.1, k.2)
 
-      orderly_state : (router : ℕ) (s : State) → IsReachedState start changes router s → IsOrderlyState (network_now (record { net = start; changes = changes })) (IsKnown (record { net = start; changes = changes })) router s
+      orderly_state : (router : ℕ) (s : State) → IsReachedState start reconfigurations router s → IsOrderlyState (network_now (record { net = start; reconfigurations = reconfigurations })) (IsKnown (record { net = start; reconfigurations = reconfigurations })) router s
       orderly_state router s t =
           record {
             node = t.node;
@@ -82,6 +82,6 @@ module _ (start : Network) (is_net : IsNetwork start) (changes : List (ℕ × Ch
       there router node None is' e = absurd (None-Some node.quiet e)
       there router node (Some n) is' e = is.all.everyone router n is'
 
-  pub all_orderly : (steps : List Step) (w w' : World) → Takes start w steps w' → IsSettled start is_net changes w
-      → AllOrderly (network_now (record { net = start; changes = changes })) (IsKnown (record { net = start; changes = changes })) w steps
-  all_orderly steps w w' takes is before after parts = orderly_of (reached w before) (settled_at start is_net changes steps before after w w' takes is parts)
+  pub all_orderly : (steps : List Step) (w w' : World) → Takes start w steps w' → IsSettled start is_net reconfigurations w
+      → AllOrderly (network_now (record { net = start; reconfigurations = reconfigurations })) (IsKnown (record { net = start; reconfigurations = reconfigurations })) w steps
+  all_orderly steps w w' takes is before after parts = orderly_of (reached w before) (settled_at start is_net reconfigurations steps before after w w' takes is parts)

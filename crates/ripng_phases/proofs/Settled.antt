@@ -18,24 +18,24 @@ use Rattle.ripng_phases.specs.Phases.{Step, IsOrdinary, Takes, events_of, reache
 use Rattle.ripng_phases.proofs.Runs.{takes_run, takes_first}
 
 -- no ordinary event changes a cost or an owner
-event_keeps : (net : Network) (w w' : World) (e : Event) (answer : Answer) → IsOrdinary e → Happens net w e answer w' → w'.changes ≡ w.changes
-event_keeps net w w' (Deliver datagram router iface now) answer plain d = d.moves.changes ∙ append-nil w.changes
-event_keeps net w w' (Stranger router x) answer plain i = i.moves.changes ∙ append-nil w.changes
-event_keeps net w w' (Tick router now word) answer plain m = m.changes ∙ append-nil w.changes
+event_keeps : (net : Network) (w w' : World) (e : Event) (answer : Answer) → IsOrdinary e → Happens net w e answer w' → w'.reconfigurations ≡ w.reconfigurations
+event_keeps net w w' (Deliver datagram router iface now) answer plain d = d.moves.reconfigurations ∙ append-nil w.reconfigurations
+event_keeps net w w' (Stranger router x) answer plain i = i.moves.reconfigurations ∙ append-nil w.reconfigurations
+event_keeps net w w' (Tick router now word) answer plain m = m.reconfigurations ∙ append-nil w.reconfigurations
 event_keeps net w w' (Restart router now) answer plain m = absurd plain
 event_keeps net w w' (Reconfigure router now c) answer plain m = absurd plain
 
-pub takes_keep : (net : Network) (steps : List Step) (w w' : World) → Takes net w steps w' → w'.changes ≡ w.changes
-takes_keep net [] w w' is = ap (λ (v : World). v.changes) is
+pub takes_keep : (net : Network) (steps : List Step) (w w' : World) → Takes net w steps w' → w'.reconfigurations ≡ w.reconfigurations
+takes_keep net [] w w' is = ap (λ (v : World). v.reconfigurations) is
 takes_keep net (s ∷ steps) w w' is = takes_keep net steps s.after w' is.3 ∙ event_keeps net w s.after s.event s.answer is.0 is.1
 
-module _ (net : Network) (is_net : IsNetwork net) (changes : List (ℕ × Change)) where
+module _ (net : Network) (is_net : IsNetwork net) (reconfigurations : List (ℕ × Change)) where
   pub record IsSettled (w : World) : Type 0 where
     pub good : IsGood net is_net.owns_prefixes w
     pub all : AreReached net w
-    pub changed : w.changes ≡ changes
+    pub changed : w.reconfigurations ≡ reconfigurations
 
-  pub state_at : (w : World) → IsSettled w → (router : ℕ) (s : State) → slice_get w.states router ≡ Some s → IsReachedState net changes router s
+  pub state_at : (w : World) → IsSettled w → (router : ℕ) (s : State) → slice_get w.states router ≡ Some s → IsReachedState net reconfigurations router s
   state_at w is router s at = subst (λ cs. IsReachedState net cs router s) is.changed (is.all.states router s at)
 
   -- so is every world on the way
@@ -52,7 +52,7 @@ module _ (net : Network) (is_net : IsNetwork net) (changes : List (ℕ × Change
   settled_at steps before after w w' takes is parts =
       settled_on before w (reached w before) (takes_first net before after w w' (subst (λ (xs : List Step). Takes net w xs w') parts takes)) is
 
-pub settled_from_cold : (net : Network) (is_net : IsNetwork net) (moments : List ℕ) (events : List Event) (cold w : World) → IsCold net moments cold → WorldRun net cold events w → IsSettled net is_net w.changes w
+pub settled_from_cold : (net : Network) (is_net : IsNetwork net) (moments : List ℕ) (events : List Event) (cold w : World) → IsCold net moments cold → WorldRun net cold events w → IsSettled net is_net w.reconfigurations w
 settled_from_cold net is_net moments events cold w is run =
     record { good = run_from_cold net is_net.owns_prefixes moments events cold w is run; all = reached_from_cold net is_net moments events cold w is run; changed = refl }
 
@@ -70,5 +70,5 @@ few_of net is_net w all fits =
     lawful : (p : Prefix6) → IsKnown (past_of net w) p → IsPrefix p × IsTrue (is_routable p)
     lawful p k = elim k.2 [
       | inl owns ↦ (is_net.owns_prefixes k.0 p k.1 owns, is_net.usable.routable k.0 p k.1 owns)
-      | inr done ↦ each_at_place (λ (t : ℕ × Change). IsLawfulChange t.1) w.changes all.lawful done.0 _ done.1
+      | inr done ↦ each_at_place (λ (t : ℕ × Change). IsLawfulChange t.1) w.reconfigurations all.lawful done.0 _ done.1
     ]

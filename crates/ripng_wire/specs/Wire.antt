@@ -29,19 +29,19 @@ abbrev pub is_response : List ℕ → Bool
 is_response bytes = slice_index bytes 0 == 2
 
 -- the number of a refusal
-abbrev pub refusal_number : WireError → ℕ
-refusal_number Short = 1
-refusal_number TooLong = 2
-refusal_number Ragged = 3
-refusal_number BadCommand = 4
-refusal_number BadVersion = 5
-refusal_number NotZero = 6
+abbrev pub wire_error_number : WireError → ℕ
+wire_error_number Short = 1
+wire_error_number TooLong = 2
+wire_error_number Ragged = 3
+wire_error_number BadCommand = 4
+wire_error_number BadVersion = 5
+wire_error_number NotZero = 6
 
 -- the name of a refusal
-abbrev pub refusal_name : WireError → List ℕ
-refusal_name Short = codes "Short"
-refusal_name TooLong = codes "TooLong"
-refusal_name Ragged = codes "Ragged"
-refusal_name BadCommand = codes "BadCommand"
-refusal_name BadVersion = codes "BadVersion"
-refusal_name NotZero = codes "NotZero"
+abbrev pub wire_error_name : WireError → List ℕ
+wire_error_name Short = codes "Short"
+wire_error_name TooLong = codes "TooLong"
+wire_error_name Ragged = codes "Ragged"
+wire_error_name BadCommand = codes "BadCommand"
+wire_error_name BadVersion = codes "BadVersion"
+wire_error_name NotZero = codes "NotZero"

@@ -29,18 +29,18 @@ pub enum WireError {
 }
 
 impl WireError {
-    ghost use Rattle.ripng_wire.specs.Wire.{refusal_name, refusal_number};
+    ghost use Rattle.ripng_wire.specs.Wire.{wire_error_name, wire_error_number};
 
     /// The number of the refusal, 1 to 6.
     pub fn number(self) -> u8
-        ensures { result ≡ refusal_number self }
+        ensures { result ≡ wire_error_number self }
     {
         self as u8
     }
 
     /// The name of the refusal, one word.
     pub fn name(self) -> &'static str
-        ensures { result.now ≡ refusal_name self }
+        ensures { result.now ≡ wire_error_name self }
     {
         match self {
             WireError::Short => "Short",

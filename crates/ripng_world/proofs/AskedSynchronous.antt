@@ -16,7 +16,7 @@ use Rattle.ripng_world.specs.Labs.{is_one_link, link_at}
 use Rattle.ripng_world.specs.Network.{Network, IsNetwork, Node, AreLinked, interface_at}
 use Rattle.ripng_world.specs.Rounds.{Round, AllTick, AllHeard, SynchronousRounds, IsSynchronousRound, IsDeliveryOf, AreWithinTimeout, router_of}
 use Rattle.ripng_world.specs.Stopping.{HaveFailed, HaveStopped, StopsFor, StopsForWatcher}
-use Rattle.ripng_world.specs.World.{World, Event, Deliver, Tick, WorldRun, IsCold, change_in, changes_in}
+use Rattle.ripng_world.specs.World.{World, Event, Deliver, Tick, WorldRun, IsCold, reconfiguration_in, reconfigurations_in}
 use Rattle.ripng_world.specs.declared.network.NetInterface.{NetInterface}
 use Rattle.ripng_world.specs.declared.pairs.Pair.{Pair}
 use Rattle.ripng_world.specs.declared.rounds.RoundsRefused.{RoundsRefused}
@@ -231,28 +231,28 @@ as_many net _ _ w w' made = absurd made
 
 -- ---- no configuration changes
 
-still : (es : List Event) → ((e : Event) → At es e → change_in e ≡ None) → changes_in es ≡ []
+still : (es : List Event) → ((e : Event) → At es e → reconfiguration_in e ≡ None) → reconfigurations_in es ≡ []
 still [] each = refl
 still (e ∷ es) each = ap₂ cons_option (each e (0, refl)) (still es (λ d a. each d (suc a.0, a.1)))
 
-ran_still : (net : Network) (es : List Event) (w w' : World) → ((e : Event) → At es e → change_in e ≡ None) → WorldRun net w es w' → w'.changes ≡ w.changes
-ran_still net es w w' each run = done_from net es w w' run ∙ ap (λ (cs : List (ℕ × Change)). w.changes ++ cs) (still es each) ∙ append-nil w.changes
+ran_still : (net : Network) (es : List Event) (w w' : World) → ((e : Event) → At es e → reconfiguration_in e ≡ None) → WorldRun net w es w' → w'.reconfigurations ≡ w.reconfigurations
+ran_still net es w w' each run = done_from net es w w' run ∙ ap (λ (cs : List (ℕ × Change)). w.reconfigurations ++ cs) (still es each) ∙ append-nil w.reconfigurations
 
-tick_still : (ticks : List (ℕ × ℕ)) (e : Event) → At (ticks_of ticks) e → change_in e ≡ None
-tick_still ticks e a = let m = in_map (λ (t : ℕ × (ℕ × ℕ)). Tick t.0 t.1.0 t.1.1) (enumerate_from 0 ticks) e a in ap change_in (sym m.2)
+tick_still : (ticks : List (ℕ × ℕ)) (e : Event) → At (ticks_of ticks) e → reconfiguration_in e ≡ None
+tick_still ticks e a = let m = in_map (λ (t : ℕ × (ℕ × ℕ)). Tick t.0 t.1.0 t.1.1) (enumerate_from 0 ticks) e a in ap reconfiguration_in (sym m.2)
 
-delivery_still : (pairs : List Pair) (picks : List (ℕ × ℕ)) (rest : ℕ) (e : Event) → At (deliveries_of pairs picks rest) e → change_in e ≡ None
-delivery_still pairs picks rest e a = let d = in_deliveries pairs picks rest e a in ap change_in (sym d.3)
+delivery_still : (pairs : List Pair) (picks : List (ℕ × ℕ)) (rest : ℕ) (e : Event) → At (deliveries_of pairs picks rest) e → reconfiguration_in e ≡ None
+delivery_still pairs picks rest e a = let d = in_deliveries pairs picks rest e a in ap reconfiguration_in (sym d.3)
 
-ticked_still : (net : Network) (ticks : List (ℕ × ℕ)) (w w' : World) → AllTick net w (ticks_of ticks) w' → w'.changes ≡ w.changes
+ticked_still : (net : Network) (ticks : List (ℕ × ℕ)) (w w' : World) → AllTick net w (ticks_of ticks) w' → w'.reconfigurations ≡ w.reconfigurations
 ticked_still net ticks w w' is = ran_still net (ticks_of ticks) w w' (tick_still ticks) (ticks_run net (ticks_of ticks) w w' is)
 
-some_ticked_still : (net : Network) (n : ℕ) (ticks : List (ℕ × ℕ)) (w w' : World) → AllTick net w (take n (ticks_of ticks)) w' → w'.changes ≡ w.changes
+some_ticked_still : (net : Network) (n : ℕ) (ticks : List (ℕ × ℕ)) (w w' : World) → AllTick net w (take n (ticks_of ticks)) w' → w'.reconfigurations ≡ w.reconfigurations
 some_ticked_still net n ticks w w' is =
     ran_still net (take n (ticks_of ticks)) w w' (λ e a. tick_still ticks e (at_take n (ticks_of ticks) e a)) (ticks_run net (take n (ticks_of ticks)) w w' is)
 
-pub made_still : (net : Network) (asks : List Asked) (rs : List Round) (w w' : World) → AreMade net w asks rs w' → w'.changes ≡ w.changes
-made_still net [] [] w w' made = ap (λ (v : World). v.changes) made
+pub made_still : (net : Network) (asks : List Asked) (rs : List Round) (w w' : World) → AreMade net w asks rs w' → w'.reconfigurations ≡ w.reconfigurations
+made_still net [] [] w w' made = ap (λ (v : World). v.reconfigurations) made
 made_still net (a ∷ asks) (r ∷ rs) w w' made =
     let es = (round_of net a w made.0).deliveries in
     made_still net asks rs made.1 w' made.5
@@ -262,27 +262,27 @@ made_still net (a ∷ asks) (r ∷ rs) w w' made =
 made_still net _ _ w w' made = absurd made
 
 -- where events stop that change no configuration
-module _ (net : Network) (es : List Event) (each : (e : Event) → At es e → change_in e ≡ None) where
-  heard_still : (n : ℕ) (w w' : World) → AllHeard net w (take n es) w' → w'.changes ≡ w.changes
+module _ (net : Network) (es : List Event) (each : (e : Event) → At es e → reconfiguration_in e ≡ None) where
+  heard_still : (n : ℕ) (w w' : World) → AllHeard net w (take n es) w' → w'.reconfigurations ≡ w.reconfigurations
   heard_still n w w' heard = ran_still net (take n es) w w' (λ e a. each e (at_take n es e a)) (heard_run net (take n es) w w' heard)
 
-  next_still : (n : ℕ) (answer : Answer) (w w' : World) → HappensAt net w es n answer w' → w'.changes ≡ w.changes
+  next_still : (n : ℕ) (answer : Answer) (w w' : World) → HappensAt net w es n answer w' → w'.reconfigurations ≡ w.reconfigurations
   next_still n answer w w' next =
       done_from net (next.event ∷ []) w w' (w', answer, next.happens, refl)
-      ∙ ap (λ (c : Option (ℕ × Change)). w.changes ++ cons_option c []) (each next.event (n, next.event_is))
-      ∙ append-nil w.changes
+      ∙ ap (λ (c : Option (ℕ × Change)). w.reconfigurations ++ cons_option c []) (each next.event (n, next.event_is))
+      ∙ append-nil w.reconfigurations
 
-  memory_still : (w w' : World) → StopForMemory net w es w' → w'.changes ≡ w.changes
+  memory_still : (w w' : World) → StopForMemory net w es w' → w'.reconfigurations ≡ w.reconfigurations
   memory_still w w' s =
       elim s.last [
-        | inl same ↦ ap (λ (v : World). v.changes) same ∙ heard_still s.done w s.before s.heard
+        | inl same ↦ ap (λ (v : World). v.reconfigurations) same ∙ heard_still s.done w s.before s.heard
         | inr next ↦ next_still s.done next.0 s.before w' next.1 ∙ heard_still s.done w s.before s.heard
       ]
 
-  watcher_still : (w w' : World) → StopForWatcher net w es w' → w'.changes ≡ w.changes
+  watcher_still : (w w' : World) → StopForWatcher net w es w' → w'.reconfigurations ≡ w.reconfigurations
   watcher_still w w' s = next_still s.done s.answer s.before w' s.last ∙ heard_still s.done w s.before s.heard
 
-stops_still : (net : Network) (a : Asked) (why : RoundsRefused) (w w' : World) → StopsFor net w a why w' → w'.changes ≡ w.changes
+stops_still : (net : Network) (a : Asked) (why : RoundsRefused) (w w' : World) → StopsFor net w a why w' → w'.reconfigurations ≡ w.reconfigurations
 stops_still net a (NoRegularUpdate round router) w w' stops = some_ticked_still net router a.ticks w w' stops.before
 stops_still net a (OutOfMemory round) w w' stops =
     elim stops [
@@ -290,17 +290,17 @@ stops_still net a (OutOfMemory round) w w' stops =
       | inr d ↦ memory_still net (round_of net a w d.0).deliveries (delivery_still (pairs_since net (length w.sent) d.0.sent) a.picks a.rest) d.0 w' d.2 ∙ ticked_still net a.ticks w d.0 d.1
     ]
 
-fails_still : (net : Network) (a : Asked) (w w' : World) → StopsForWatcher net w a w' → w'.changes ≡ w.changes
+fails_still : (net : Network) (a : Asked) (w w' : World) → StopsForWatcher net w a w' → w'.reconfigurations ≡ w.reconfigurations
 fails_still net a w w' stops =
     elim stops [
       | inl t ↦ some_ticked_still net (t.before + 1) a.ticks w w' t.done
       | inr d ↦ watcher_still net (round_of net a w d.0).deliveries (delivery_still (pairs_since net (length w.sent) d.0.sent) a.picks a.rest) d.0 w' d.2 ∙ ticked_still net a.ticks w d.0 d.1
     ]
 
-pub stopped_still : (net : Network) (asks : List Asked) (why : RoundsRefused) (w w' : World) → HaveStopped net w asks why w' → w'.changes ≡ w.changes
+pub stopped_still : (net : Network) (asks : List Asked) (why : RoundsRefused) (w w' : World) → HaveStopped net w asks why w' → w'.reconfigurations ≡ w.reconfigurations
 stopped_still net asks why w w' s = stops_still net s.stopped why s.begin w' s.stops ∙ made_still net _ s.rounds w s.begin s.made
 
-pub failed_still : (net : Network) (asks : List Asked) (w w' : World) → HaveFailed net w asks w' → w'.changes ≡ w.changes
+pub failed_still : (net : Network) (asks : List Asked) (w w' : World) → HaveFailed net w asks w' → w'.reconfigurations ≡ w.reconfigurations
 failed_still net asks w w' s = fails_still net s.1.stopped s.1.begin w' s.1.stops ∙ made_still net _ s.1.rounds w s.1.begin s.1.made
 
 -- ---- all that was asked for
@@ -348,14 +348,14 @@ to_ok (Err e) Q h = tt
 
 -- deliveries change no configuration, all or in part
 pub since_still : {X R F : Type 0} (net : Network) (pairs : List Pair) (now : ℕ) (w w' : World) (r : Result X (Stopped R F)) → OnOk r (WorldRun net w (map (λ p. delivery p now) pairs) w')
-    → IfErr r (λ why. StopAt net w (map (λ p. delivery p now) pairs) why w') → w'.changes ≡ w.changes
+    → IfErr r (λ why. StopAt net w (map (λ p. delivery p now) pairs) why w') → w'.reconfigurations ≡ w.reconfigurations
 since_still net pairs now w w' r run stops = by_end r run stops
   where
-    each : (e : Event) → At (map (λ p. delivery p now) pairs) e → change_in e ≡ None
-    each e a = let m = in_map (λ (p : Pair). delivery p now) pairs e a in ap change_in (sym m.2)
+    each : (e : Event) → At (map (λ p. delivery p now) pairs) e → reconfiguration_in e ≡ None
+    each e a = let m = in_map (λ (p : Pair). delivery p now) pairs e a in ap reconfiguration_in (sym m.2)
 
     by_end : {X R F : Type 0} (r : Result X (Stopped R F)) → OnOk r (WorldRun net w (map (λ p. delivery p now) pairs) w') → IfErr r (λ why. StopAt net w (map (λ p. delivery p now) pairs) why w')
-        → w'.changes ≡ w.changes
+        → w'.reconfigurations ≡ w.reconfigurations
     by_end (Ok x) run stops = ran_still net (map (λ p. delivery p now) pairs) w w' each run
     by_end (Err (Refused why)) run stops = memory_still net (map (λ p. delivery p now) pairs) each w w' stops
     by_end (Err (Failed fault)) run stops = watcher_still net (map (λ p. delivery p now) pairs) each w w' stops

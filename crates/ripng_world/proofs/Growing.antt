@@ -35,15 +35,15 @@ module _ (net : Network) (reach reach' : Prefix6 → ℕ → ℕ → List Hop �
   pub datagram_by : (bytes : List ℕ) → IsSoundDatagramBy (IsEntryBackedBy reach) bytes → IsSoundDatagramBy (IsEntryBackedBy reach') bytes
   datagram_by bytes told entries read = entries_by entries (told entries read)
 
-module _ (net : Network) (changes more : List (ℕ × Change)) where
+module _ (net : Network) (reconfigurations more : List (ℕ × Change)) where
   abbrev pub before : Past
-  before = record { net = net; changes = changes }
+  before = record { net = net; reconfigurations = reconfigurations }
 
   abbrev pub after : Past
-  after = record { net = net; changes = changes ++ more }
+  after = record { net = net; reconfigurations = reconfigurations ++ more }
 
   done_grows : (router : ℕ) (c : Change) → WasDone before router c → WasDone after router c
-  done_grows router c done = (done.0, get_left changes more done.0 (router, c) done.1)
+  done_grows router c done = (done.0, get_left reconfigurations more done.0 (router, c) done.1)
 
   pub cost_grows : (router iface c : ℕ) → HasCostSince before router iface c → HasCostSince after router iface c
   cost_grows router iface c (inl first) = inl first
@@ -69,7 +69,7 @@ module _ (net : Network) (changes more : List (ℕ × Change)) where
 
 -- ---- no change
 
-module _ (past : Past) (unchanged : past.changes ≡ []) where
+module _ (past : Past) (unchanged : past.reconfigurations ≡ []) where
   none_done : (router : ℕ) (c : Change) → WasDone past router c → ⊥
   none_done router c done = None-Some (router, c) (sym (ap (λ (cs : List (ℕ × Change)). slice_get cs done.0) unchanged) ∙ done.1)
 

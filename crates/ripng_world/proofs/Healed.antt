@@ -88,24 +88,24 @@ module _ (net other : Network) (same : AreAlike net other) where
 
 -- ---- rounds change no configuration
 
-ticks_keep : (net : Network) (events : List Event) (w w' : World) → AllTick net w events w' → w'.changes ≡ w.changes
-ticks_keep net [] w w' is = ap (λ (v : World). v.changes) is
-ticks_keep net (Tick router now word ∷ events) w w' run = ticks_keep net events run.0 w' run.4 ∙ run.3.changes ∙ append-nil w.changes
+ticks_keep : (net : Network) (events : List Event) (w w' : World) → AllTick net w events w' → w'.reconfigurations ≡ w.reconfigurations
+ticks_keep net [] w w' is = ap (λ (v : World). v.reconfigurations) is
+ticks_keep net (Tick router now word ∷ events) w w' run = ticks_keep net events run.0 w' run.4 ∙ run.3.reconfigurations ∙ append-nil w.reconfigurations
 ticks_keep net (Deliver datagram router iface now ∷ events) w w' run = absurd run.2
 ticks_keep net (Stranger router x ∷ events) w w' run = absurd run.2
 ticks_keep net (Restart router now ∷ events) w w' run = absurd run.2
 ticks_keep net (Reconfigure router now c ∷ events) w w' run = absurd run.2
 
-heard_keep : (net : Network) (first end : ℕ) (events : List Event) → AllByRecursion (IsDeliveryOf first end) events → (w w' : World) → AllHeard net w events w' → w'.changes ≡ w.changes
-heard_keep net first end [] these w w' is = ap (λ (v : World). v.changes) is
-heard_keep net first end (Deliver datagram router iface now ∷ events) these w w' run = heard_keep net first end events these.1 run.0 w' run.4 ∙ run.2.moves.changes ∙ append-nil w.changes
+heard_keep : (net : Network) (first end : ℕ) (events : List Event) → AllByRecursion (IsDeliveryOf first end) events → (w w' : World) → AllHeard net w events w' → w'.reconfigurations ≡ w.reconfigurations
+heard_keep net first end [] these w w' is = ap (λ (v : World). v.reconfigurations) is
+heard_keep net first end (Deliver datagram router iface now ∷ events) these w w' run = heard_keep net first end events these.1 run.0 w' run.4 ∙ run.2.moves.reconfigurations ∙ append-nil w.reconfigurations
 heard_keep net first end (Stranger router x ∷ events) these w w' run = absurd these.0
 heard_keep net first end (Tick router now word ∷ events) these w w' run = absurd these.0
 heard_keep net first end (Restart router now ∷ events) these w w' run = absurd these.0
 heard_keep net first end (Reconfigure router now c ∷ events) these w w' run = absurd these.0
 
-pub rounds_keep : (net : Network) (rounds : List Round) (w w' : World) → SynchronousRounds net w rounds w' → w'.changes ≡ w.changes
-rounds_keep net [] w w' is = ap (λ (v : World). v.changes) is
+pub rounds_keep : (net : Network) (rounds : List Round) (w w' : World) → SynchronousRounds net w rounds w' → w'.reconfigurations ≡ w.reconfigurations
+rounds_keep net [] w w' is = ap (λ (v : World). v.reconfigurations) is
 rounds_keep net (round ∷ rounds) w w' run =
     rounds_keep net rounds run.0 w' run.2
     ∙ heard_keep net _ _ round.deliveries (recursion_from_All (IsDeliveryOf (length w.sent) (length run.1.after_ticks.sent)) round.deliveries run.1.only_these) run.1.after_ticks run.0 run.1.all_heard
@@ -133,7 +133,7 @@ module _ (net : Network) (is_net : IsNetwork net) (w : World) (all : AreReached 
       lawful : (p : Prefix6) → IsKnown (past_of net w) p → IsPrefix p × IsTrue (is_routable p)
       lawful p k = elim k.2 [
         | inl owns ↦ (is_net.owns_prefixes k.0 p k.1 owns, is_net.usable.routable k.0 p k.1 owns)
-        | inr done ↦ each_at_place (λ (t : ℕ × Change). IsLawfulChange t.1) w.changes all.lawful done.0 _ done.1
+        | inr done ↦ each_at_place (λ (t : ℕ × Change). IsLawfulChange t.1) w.reconfigurations all.lawful done.0 _ done.1
       ]
 
   steady : IsSteady (network_now (past_of net w)) (IsKnown (past_of net w)) w (λ _ _. ⊥) 13 3
@@ -148,16 +148,16 @@ module _ (net : Network) (is_net : IsNetwork net) (w : World) (all : AreReached 
               steady = λ p r at. by_clock router s t p r r.clock (t.reached.rows p r at).reached;
               owned = λ p tag owns. t.reached.owned p tag (listed router s t p tag owns);
             };
-        everyone = λ router node is. there router node (slice_get net router) refl (sym ((now_alike w.changes net).quiet router) ∙ ap (option_map (λ (n : Node). n.quiet)) is);
+        everyone = λ router node is. there router node (slice_get net router) refl (sym ((now_alike w.reconfigurations net).quiet router) ∙ ap (option_map (λ (n : Node). n.quiet)) is);
       }
     where
-      listed : (router : ℕ) (s : State) (t : IsReachedState net w.changes router s) (p : Prefix6) (tag : ℕ) → Owns (network_now (past_of net w)) router p tag → (i : ℕ) × (slice_get s.config.prefixes i ≡ Some (p, tag))
+      listed : (router : ℕ) (s : State) (t : IsReachedState net w.reconfigurations router s) (p : Prefix6) (tag : ℕ) → Owns (network_now (past_of net w)) router p tag → (i : ℕ) × (slice_get s.config.prefixes i ≡ Some (p, tag))
       listed router s t p tag owns = (
         owns.place,
         ap (λ (c : Config). slice_get c.prefixes owns.place) t.config_is ∙ ap (λ (n : Node). slice_get n.prefixes owns.place) (Some-same t.node owns.node (sym t.node_is ∙ owns.node_is)) ∙ owns.listed,
       )
 
-      by_clock : (router : ℕ) (s : State) (t : IsReachedState net w.changes router s) (p : Prefix6) (r : RouteValue) (c : Clock) → IsReachedBy s.config s.last p r c
+      by_clock : (router : ℕ) (s : State) (t : IsReachedState net w.reconfigurations router s) (p : Prefix6) (r : RouteValue) (c : Clock) → IsReachedBy s.config s.last p r c
           → IsSteadyBy (network_now (past_of net w)) w (λ _ _. ⊥) 13 3 router (max s.last s.regular) p r c
       by_clock router s t p r Fixed k = (
         k.0,
@@ -176,9 +176,9 @@ module _ (net : Network) (is_net : IsNetwork net) (w : World) (all : AreReached 
 
   pub heals_here : IsNeverQuiet net → (rounds : List Round) (end : World) → SynchronousRounds net w rounds end → AreWithinGarbageTime rounds → 26 ≤ length rounds → AreHealed (network_now (past_of net end)) end
   heals_here noisy rounds end run close many =
-      let alike = now_alike w.changes net in
-      let lawful = now_lawful w.changes net all.lawful is_net in
-      subst (λ cs. AreHealed (network_now (record { net = net; changes = cs })) end) (sym (rounds_keep net rounds w end run))
+      let alike = now_alike w.reconfigurations net in
+      let lawful = now_lawful w.reconfigurations net all.lawful is_net in
+      subst (λ cs. AreHealed (network_now (record { net = net; reconfigurations = cs })) end) (sym (rounds_keep net rounds w end run))
       (heals (network_now (past_of net w)) lawful.usable (noisy_alike net (network_now (past_of net w)) alike noisy) lawful.distinct (IsKnown (past_of net w)) few rounds w end steady close
       (rounds_alike net (network_now (past_of net w)) alike rounds w end run) many)
 

@@ -5,7 +5,7 @@ use Rattle.router_core.specs.Machine.{State, Starts}
 use Rattle.router_core.specs.declared.answer.Answer.{Answer}
 use Rattle.ripng_world.specs.Network.{Network, Node, config_of}
 use Rattle.router_core.specs.declared.reconfiguring.Change.{Change}
-use Rattle.ripng_world.specs.World.{World, Event, Happens, WorldRun, IsCold, StartsFrom, changes_in, past_of, sent_by}
+use Rattle.ripng_world.specs.World.{World, Event, Happens, WorldRun, IsCold, StartsFrom, reconfigurations_in, past_of, sent_by}
 use Rattle.ripng_world.specs.Rounds.{router_of}
 use Rattle.ripng_world.specs.Stations.{StationValue, MoveStations, network_of, world_of}
 use Rattle.ripng_world.specs.Labs.{HasRun, AreRoutesBacked, AreRoutesBackedSince, HaveNoneBelowLeast, HaveNoneBelowLeastSince, AreDatagramsSoundSince, HoldsFixed}
@@ -33,10 +33,10 @@ module _ (net : Network) (w : World) (has_run : HasRun net w) where
   pub truth : AreDatagramsSoundSince net w
   truth = good.sent_true
 
-  fixed_backed : w.changes ≡ [] → AreRoutesBacked net w
+  fixed_backed : w.reconfigurations ≡ [] → AreRoutesBacked net w
   fixed_backed unchanged router state here p r at low = backed_first (past_of net w) unchanged router p r (backed router state here p r at low)
 
-  fixed_least : w.changes ≡ [] → HaveNoneBelowLeast net w
+  fixed_least : w.reconfigurations ≡ [] → HaveNoneBelowLeast net w
   fixed_least unchanged router state here p r metric at low least =
       let b = fixed_backed unchanged router state here p r at low in
       least.least r.metric r.tag b.0 b.1
@@ -66,18 +66,18 @@ pub one_event : (net : Network) (w w' : World) (e : Event) (answer : Answer) →
 one_event net w w' e answer happens = (w', answer, happens, refl)
 
 -- a move of stations, once what was sent is added
-module _ (old new : List StationValue) (sent sent' : List Sent) (changes changes' : List (ℕ × Change)) (e : Event) (answer : Answer) (moves : MoveStations old sent changes e answer new)
-    (added : sent' ≡ sent ++ map (sent_by (router_of e)) answer.sends) (done : changes' ≡ changes ++ changes_in (e ∷ [])) where
-  pub stepped : Happens (network_of old) (world_of old sent changes) e answer (world_of new sent' changes')
+module _ (old new : List StationValue) (sent sent' : List Sent) (reconfigurations reconfigurations' : List (ℕ × Change)) (e : Event) (answer : Answer) (moves : MoveStations old sent reconfigurations e answer new)
+    (added : sent' ≡ sent ++ map (sent_by (router_of e)) answer.sends) (done : reconfigurations' ≡ reconfigurations ++ reconfigurations_in (e ∷ [])) where
+  pub stepped : Happens (network_of old) (world_of old sent reconfigurations) e answer (world_of new sent' reconfigurations')
   stepped =
-      subst (λ (ds : List Sent). Happens (network_of old) (world_of old sent changes) e answer (world_of new ds changes')) (sym added)
-      (subst (λ (cs : List (ℕ × Change)). Happens (network_of old) (world_of old sent changes) e answer (world_of new (sent ++ map (sent_by (router_of e)) answer.sends) cs)) (sym done) moves.happens)
+      subst (λ (ds : List Sent). Happens (network_of old) (world_of old sent reconfigurations) e answer (world_of new ds reconfigurations')) (sym added)
+      (subst (λ (cs : List (ℕ × Change)). Happens (network_of old) (world_of old sent reconfigurations) e answer (world_of new (sent ++ map (sent_by (router_of e)) answer.sends) cs)) (sym done) moves.happens)
 
-  pub stepped_on : HasRun (network_of old) (world_of old sent changes) → HasRun (network_of new) (world_of new sent' changes')
+  pub stepped_on : HasRun (network_of old) (world_of old sent reconfigurations) → HasRun (network_of new) (world_of new sent' reconfigurations')
   stepped_on has_run =
-      subst (λ (net : Network). HasRun net (world_of new sent' changes')) (sym moves.network)
-      (went_on (network_of old) (world_of old sent changes) has_run (e ∷ []) (world_of new sent' changes')
-      (one_event (network_of old) (world_of old sent changes) (world_of new sent' changes') e answer stepped))
+      subst (λ (net : Network). HasRun net (world_of new sent' reconfigurations')) (sym moves.network)
+      (went_on (network_of old) (world_of old sent reconfigurations) has_run (e ∷ []) (world_of new sent' reconfigurations')
+      (one_event (network_of old) (world_of old sent reconfigurations) (world_of new sent' reconfigurations') e answer stepped))
 
 -- one more router has started
 pub starts_next : (n : ℕ) (nodes : List Node) (moments : List ℕ) (states : List State) (sent : List Sent) (node : Node) (now : ℕ) (answer : Answer) (s : State)

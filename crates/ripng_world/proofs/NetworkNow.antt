@@ -8,12 +8,12 @@ use Rattle.prefix6.specs.Addr.{is_link_local}
 use Rattle.prefix6.specs.Prefix.{Prefix6, IsPrefix, is_routable, same_prefix}
 use Rattle.route_table.specs.Route.{infinity}
 use Rattle.route_table.proofs.TableLaws.{Some-same, None-Some}
-use Rattle.router_core.specs.Reconfiguring.{with_cost, changed_config}
+use Rattle.router_core.specs.Reconfiguring.{with_cost, reconfigured_config}
 use Rattle.router_core.specs.declared.config.Interface.{Interface}
 use Rattle.router_core.specs.declared.reconfiguring.Change.{Change}
 use Rattle.router_core.specs.declared.reconfiguring.Change.TheVariants.{Cost, Own, Disown}
 use Rattle.ripng_world.specs.declared.network.NetInterface.{NetInterface}
-use Rattle.ripng_world.specs.Healing.{with_link_cost, changed_node, changed_network, network_now}
+use Rattle.ripng_world.specs.Healing.{with_link_cost, reconfigured_node, reconfigured_network, network_now}
 use Rattle.ripng_world.specs.Network.{Network, Node, AreLinked, IsNetwork, Owns, config_of, interface_at}
 use Rattle.ripng_world.proofs.Members.{At, split_at}
 use Rattle.ripng_world.proofs.Running.{get_set, in_node}
@@ -113,17 +113,17 @@ cost_places is iface cost j = by_value (slice_get is iface) refl
         by_place true e = sym (ap (option_map place_of) (ap (slice_get is) (sym (eqb-true iface j e)) ∙ at))
         by_place false e = refl
 
-node_places : (node : Node) (c : Change) (j : ℕ) → option_map place_of (slice_get (changed_node node c).interfaces j) ≡ option_map place_of (slice_get node.interfaces j)
+node_places : (node : Node) (c : Change) (j : ℕ) → option_map place_of (slice_get (reconfigured_node node c).interfaces j) ≡ option_map place_of (slice_get node.interfaces j)
 node_places node (Cost iface cost) j = cost_places node.interfaces iface cost j
 node_places node (Own p tag) j = refl
 node_places node (Disown p) j = refl
 
-node_quiet : (node : Node) (c : Change) → (changed_node node c).quiet ≡ node.quiet
+node_quiet : (node : Node) (c : Change) → (reconfigured_node node c).quiet ≡ node.quiet
 node_quiet node (Cost iface cost) = refl
 node_quiet node (Own p tag) = refl
 node_quiet node (Disown p) = refl
 
-node_costs : (node : Node) (c : Change) → IsLawfulChange c → (j : ℕ) (i : NetInterface) → slice_get (changed_node node c).interfaces j ≡ Some i
+node_costs : (node : Node) (c : Change) → IsLawfulChange c → (j : ℕ) (i : NetInterface) → slice_get (reconfigured_node node c).interfaces j ≡ Some i
     → ((1 ≤ i.interface.cost) × (i.interface.cost < infinity)) ⊎ (slice_get node.interfaces j ≡ Some i)
 node_costs node (Own p tag) lawful j i is = inr is
 node_costs node (Disown p) lawful j i is = inr is
@@ -151,7 +151,7 @@ at_unfiltered test (y ∷ ys) x a = by_test (test y) a (λ b. at_unfiltered test
         by_place (suc i) e = let l = later (i, e) in (suc l.0, l.1)
     by_test false a later = let l = later a in (suc l.0, l.1)
 
-pub node_prefixes : (node : Node) (c : Change) (t : Prefix6 × ℕ) → At (changed_node node c).prefixes t → At node.prefixes t ⊎ (c ≡ Own t.0 t.1)
+pub node_prefixes : (node : Node) (c : Change) (t : Prefix6 × ℕ) → At (reconfigured_node node c).prefixes t → At node.prefixes t ⊎ (c ≡ Own t.0 t.1)
 node_prefixes node (Cost iface cost) t a = inl a
 node_prefixes node (Disown p) t a = inl (at_unfiltered (λ u. not (same_prefix u.0 p)) node.prefixes t a)
 node_prefixes node (Own p tag) t a =
@@ -165,7 +165,7 @@ node_prefixes node (Own p tag) t a =
     one (suc i) e = absurd (None-Some t e)
 
 -- the configuration changes alike
-pub changed_alike : (node : Node) (c : Change) → config_of (changed_node node c) ≡ changed_config (config_of node) c
+pub changed_alike : (node : Node) (c : Change) → config_of (reconfigured_node node c) ≡ reconfigured_config (config_of node) c
 changed_alike node (Own p tag) = refl
 changed_alike node (Disown p) = refl
 changed_alike node (Cost iface cost) = ap (λ (is : List Interface). record { interfaces = is; prefixes = node.prefixes; quiet = node.quiet }) (by_value (slice_get node.interfaces iface) refl)
@@ -199,10 +199,10 @@ changed_alike node (Cost iface cost) = ap (λ (is : List Interface). record { in
 
 module _ (net : Network) (router : ℕ) (c : Change) where
   abbrev next : Network
-  next = changed_network net (router, c)
+  next = reconfigured_network net (router, c)
 
   -- each router of the network after it
-  pub changed_at : (r : ℕ) → slice_get (changed_network net (router, c)) r ≡ option_map (λ node. cond (router == r) (changed_node node c) node) (slice_get net r)
+  pub changed_at : (r : ℕ) → slice_get (reconfigured_network net (router, c)) r ≡ option_map (λ node. cond (router == r) (reconfigured_node node c) node) (slice_get net r)
   changed_at r = by_value (slice_get net router) refl
     where
       same : (o : Option Node) → o ≡ option_map (λ node. node) o
@@ -210,58 +210,58 @@ module _ (net : Network) (router : ℕ) (c : Change) where
       same (Some x) = refl
 
       by_value : (o : Option Node) → slice_get net router ≡ o
-          → slice_get (unwrap_or (option_map (λ node. slice_set net router (changed_node node c)) o) net) r ≡ option_map (λ node. cond (router == r) (changed_node node c) node) (slice_get net r)
+          → slice_get (unwrap_or (option_map (λ node. slice_set net router (reconfigured_node node c)) o) net) r ≡ option_map (λ node. cond (router == r) (reconfigured_node node c) node) (slice_get net r)
       by_value None at = by_place (router == r) refl
         where
-          by_place : (b : Bool) → (router == r) ≡ b → slice_get net r ≡ option_map (λ node. cond b (changed_node node c) node) (slice_get net r)
+          by_place : (b : Bool) → (router == r) ≡ b → slice_get net r ≡ option_map (λ node. cond b (reconfigured_node node c) node) (slice_get net r)
           by_place true e = gone (ap (slice_get net) (sym (eqb-true router r e)) ∙ at)
             where
-              gone : slice_get net r ≡ None → slice_get net r ≡ option_map (λ node. changed_node node c) (slice_get net r)
-              gone f = f ∙ sym (ap (option_map (λ node. changed_node node c)) f)
+              gone : slice_get net r ≡ None → slice_get net r ≡ option_map (λ node. reconfigured_node node c) (slice_get net r)
+              gone f = f ∙ sym (ap (option_map (λ node. reconfigured_node node c)) f)
           by_place false e = same (slice_get net r)
-      by_value (Some node) at = set_get net router (changed_node node c) node at r ∙ by_place (router == r) refl
+      by_value (Some node) at = set_get net router (reconfigured_node node c) node at r ∙ by_place (router == r) refl
         where
-          by_place : (b : Bool) → (router == r) ≡ b → cond b (Some (changed_node node c)) (slice_get net r) ≡ option_map (λ x. cond b (changed_node x c) x) (slice_get net r)
-          by_place true e = sym (ap (option_map (λ x. changed_node x c)) (ap (slice_get net) (sym (eqb-true router r e)) ∙ at))
+          by_place : (b : Bool) → (router == r) ≡ b → cond b (Some (reconfigured_node node c)) (slice_get net r) ≡ option_map (λ x. cond b (reconfigured_node x c) x) (slice_get net r)
+          by_place true e = sym (ap (option_map (λ x. reconfigured_node x c)) (ap (slice_get net) (sym (eqb-true router r e)) ∙ at))
           by_place false e = same (slice_get net r)
 
-  pub change_alike : AreAlike net (changed_network net (router, c))
+  pub change_alike : AreAlike net (reconfigured_network net (router, c))
   change_alike = record { size = by_value (slice_get net router); places = places; quiet = quiet }
     where
-      by_value : (o : Option Node) → length (unwrap_or (option_map (λ node. slice_set net router (changed_node node c)) o) net) ≡ length net
+      by_value : (o : Option Node) → length (unwrap_or (option_map (λ node. slice_set net router (reconfigured_node node c)) o) net) ≡ length net
       by_value None = refl
-      by_value (Some node) = set_length net router (changed_node node c)
+      by_value (Some node) = set_length net router (reconfigured_node node c)
 
-      places : (r iface : ℕ) → option_map place_of (interface_at (changed_network net (router, c)) r iface) ≡ option_map place_of (interface_at net r iface)
+      places : (r iface : ℕ) → option_map place_of (interface_at (reconfigured_network net (router, c)) r iface) ≡ option_map place_of (interface_at net r iface)
       places r iface = ap (λ o. option_map place_of (option_and_then (λ (node : Node). slice_get node.interfaces iface) o)) (changed_at r) ∙ at (slice_get net r) (router == r)
         where
-          at : (o : Option Node) (b : Bool) → option_map place_of (option_and_then (λ (node : Node). slice_get node.interfaces iface) (option_map (λ node. cond b (changed_node node c) node) o))
+          at : (o : Option Node) (b : Bool) → option_map place_of (option_and_then (λ (node : Node). slice_get node.interfaces iface) (option_map (λ node. cond b (reconfigured_node node c) node) o))
               ≡ option_map place_of (option_and_then (λ (node : Node). slice_get node.interfaces iface) o)
           at None b = refl
           at (Some node) true = node_places node c iface
           at (Some node) false = refl
 
-      quiet : (r : ℕ) → option_map (λ (n : Node). n.quiet) (slice_get (changed_network net (router, c)) r) ≡ option_map (λ (n : Node). n.quiet) (slice_get net r)
+      quiet : (r : ℕ) → option_map (λ (n : Node). n.quiet) (slice_get (reconfigured_network net (router, c)) r) ≡ option_map (λ (n : Node). n.quiet) (slice_get net r)
       quiet r = ap (option_map (λ (n : Node). n.quiet)) (changed_at r) ∙ at (slice_get net r) (router == r)
         where
-          at : (o : Option Node) (b : Bool) → option_map (λ (n : Node). n.quiet) (option_map (λ node. cond b (changed_node node c) node) o) ≡ option_map (λ (n : Node). n.quiet) o
+          at : (o : Option Node) (b : Bool) → option_map (λ (n : Node). n.quiet) (option_map (λ node. cond b (reconfigured_node node c) node) o) ≡ option_map (λ (n : Node). n.quiet) o
           at None b = refl
           at (Some node) true = ap Some (node_quiet node c)
           at (Some node) false = refl
 
   -- a node of the network after it is one of before, or was changed
-  came_from : (r : ℕ) (node : Node) → slice_get (changed_network net (router, c)) r ≡ Some node → (old : Node) × (slice_get net r ≡ Some old) × ((node ≡ old) ⊎ (node ≡ changed_node old c))
+  came_from : (r : ℕ) (node : Node) → slice_get (reconfigured_network net (router, c)) r ≡ Some node → (old : Node) × (slice_get net r ≡ Some old) × ((node ≡ old) ⊎ (node ≡ reconfigured_node old c))
   came_from r node is = by_value (slice_get net r) refl (sym (changed_at r) ∙ is)
     where
-      by_value : (o : Option Node) → slice_get net r ≡ o → option_map (λ x. cond (router == r) (changed_node x c) x) o ≡ Some node → (old : Node) × (slice_get net r ≡ Some old) × ((node ≡ old) ⊎ (node ≡ changed_node old c))
+      by_value : (o : Option Node) → slice_get net r ≡ o → option_map (λ x. cond (router == r) (reconfigured_node x c) x) o ≡ Some node → (old : Node) × (slice_get net r ≡ Some old) × ((node ≡ old) ⊎ (node ≡ reconfigured_node old c))
       by_value None at e = absurd (None-Some node e)
       by_value (Some old) at e = (old, at, by_place (router == r) (Some-same _ node e))
         where
-          by_place : (b : Bool) → cond b (changed_node old c) old ≡ node → (node ≡ old) ⊎ (node ≡ changed_node old c)
+          by_place : (b : Bool) → cond b (reconfigured_node old c) old ≡ node → (node ≡ old) ⊎ (node ≡ reconfigured_node old c)
           by_place true f = inr (sym f)
           by_place false f = inl (sym f)
 
-  owned_from : (r : ℕ) (p : Prefix6) (tag : ℕ) → Owns (changed_network net (router, c)) r p tag → Owns net r p tag ⊎ (c ≡ Own p tag)
+  owned_from : (r : ℕ) (p : Prefix6) (tag : ℕ) → Owns (reconfigured_network net (router, c)) r p tag → Owns net r p tag ⊎ (c ≡ Own p tag)
   owned_from r p tag owns =
       let f = came_from r owns.node owns.node_is in
       elim f.2 [
@@ -272,21 +272,21 @@ module _ (net : Network) (router : ℕ) (c : Change) where
         ]
       ]
 
-  pub change_lawful : IsLawfulChange c → IsNetwork net → IsNetwork (changed_network net (router, c))
+  pub change_lawful : IsLawfulChange c → IsNetwork net → IsNetwork (reconfigured_network net (router, c))
   change_lawful lawful is_net =
       record {
         owns_prefixes = λ r p tag owns. (owned r p tag (owned_from r p tag owns)).0;
         distinct = λ r i s j a b at_a at_b same.
-            let x = placed (changed_network net (router, c)) net (alike_back net (changed_network net (router, c)) change_alike) r i a at_a in
-            let y = placed (changed_network net (router, c)) net (alike_back net (changed_network net (router, c)) change_alike) s j b at_b in
+            let x = placed (reconfigured_network net (router, c)) net (alike_back net (reconfigured_network net (router, c)) change_alike) r i a at_a in
+            let y = placed (reconfigured_network net (router, c)) net (alike_back net (reconfigured_network net (router, c)) change_alike) s j b at_b in
             is_net.distinct r i s j x.there y.there x.there_is y.there_is (x.addr ∙ same ∙ sym y.addr);
         usable = record {
           costs = λ r i a at. costs r i a at;
           local = λ r i a at.
-              let x = placed (changed_network net (router, c)) net (alike_back net (changed_network net (router, c)) change_alike) r i a at in
+              let x = placed (reconfigured_network net (router, c)) net (alike_back net (reconfigured_network net (router, c)) change_alike) r i a at in
               subst (λ n. IsTrue (is_link_local n)) x.addr (is_net.usable.local r i x.there x.there_is);
           mtus = λ r i a at.
-              let x = placed (changed_network net (router, c)) net (alike_back net (changed_network net (router, c)) change_alike) r i a at in
+              let x = placed (reconfigured_network net (router, c)) net (alike_back net (reconfigured_network net (router, c)) change_alike) r i a at in
               subst (λ n. (1280 ≤ n) × (n ≤ 65535)) x.mtu (is_net.usable.mtus r i x.there x.there_is);
           routable = λ r p tag owns. (owned r p tag (owned_from r p tag owns)).1;
         };
@@ -296,10 +296,10 @@ module _ (net : Network) (router : ℕ) (c : Change) where
       owned r p tag (inl o) = (is_net.owns_prefixes r p tag o, is_net.usable.routable r p tag o)
       owned r p tag (inr e) = subst IsLawfulChange e lawful
 
-      costs : (r i : ℕ) (a : NetInterface) → interface_at (changed_network net (router, c)) r i ≡ Some a → (1 ≤ a.interface.cost) × (a.interface.cost < infinity)
-      costs r i a at = by_value (slice_get (changed_network net (router, c)) r) refl
+      costs : (r i : ℕ) (a : NetInterface) → interface_at (reconfigured_network net (router, c)) r i ≡ Some a → (1 ≤ a.interface.cost) × (a.interface.cost < infinity)
+      costs r i a at = by_value (slice_get (reconfigured_network net (router, c)) r) refl
         where
-          by_value : (o : Option Node) → slice_get (changed_network net (router, c)) r ≡ o → (1 ≤ a.interface.cost) × (a.interface.cost < infinity)
+          by_value : (o : Option Node) → slice_get (reconfigured_network net (router, c)) r ≡ o → (1 ≤ a.interface.cost) × (a.interface.cost < infinity)
           by_value None is = absurd (None-Some a (sym (ap (option_and_then (λ (node : Node). slice_get node.interfaces i)) is) ∙ at))
           by_value (Some node) is =
               let f = came_from r node is in
@@ -315,16 +315,16 @@ module _ (net : Network) (router : ℕ) (c : Change) where
 -- ---- all changes
 
 abbrev pub AreLawful : List (ℕ × Change) → Type 0
-AreLawful changes = AllByRecursion (λ (t : ℕ × Change). IsLawfulChange t.1) changes
+AreLawful reconfigurations = AllByRecursion (λ (t : ℕ × Change). IsLawfulChange t.1) reconfigurations
 
-pub now_alike : (changes : List (ℕ × Change)) (net : Network) → AreAlike net (network_now (record { net = net; changes = changes }))
+pub now_alike : (reconfigurations : List (ℕ × Change)) (net : Network) → AreAlike net (network_now (record { net = net; reconfigurations = reconfigurations }))
 now_alike [] net = alike_refl net
-now_alike (c ∷ changes) net =
-    alike_trans net (changed_network net c) (network_now (record { net = changed_network net c; changes = changes })) (change_alike net c.0 c.1) (now_alike changes (changed_network net c))
+now_alike (c ∷ reconfigurations) net =
+    alike_trans net (reconfigured_network net c) (network_now (record { net = reconfigured_network net c; reconfigurations = reconfigurations })) (change_alike net c.0 c.1) (now_alike reconfigurations (reconfigured_network net c))
 
-pub now_lawful : (changes : List (ℕ × Change)) (net : Network) → AreLawful changes → IsNetwork net → IsNetwork (network_now (record { net = net; changes = changes }))
+pub now_lawful : (reconfigurations : List (ℕ × Change)) (net : Network) → AreLawful reconfigurations → IsNetwork net → IsNetwork (network_now (record { net = net; reconfigurations = reconfigurations }))
 now_lawful [] net lawful is_net = is_net
-now_lawful (c ∷ changes) net lawful is_net = now_lawful changes (changed_network net c) lawful.1 (change_lawful net c.0 c.1 lawful.0 is_net)
+now_lawful (c ∷ reconfigurations) net lawful is_net = now_lawful reconfigurations (reconfigured_network net c) lawful.1 (change_lawful net c.0 c.1 lawful.0 is_net)
 
-pub now_more : (net : Network) (changes : List (ℕ × Change)) (c : ℕ × Change) → network_now (record { net = net; changes = changes ++ c ∷ [] }) ≡ changed_network (network_now (record { net = net; changes = changes })) c
-now_more net changes c = fold-append changed_network net changes (c ∷ [])
+pub now_more : (net : Network) (reconfigurations : List (ℕ × Change)) (c : ℕ × Change) → network_now (record { net = net; reconfigurations = reconfigurations ++ c ∷ [] }) ≡ reconfigured_network (network_now (record { net = net; reconfigurations = reconfigurations })) c
+now_more net reconfigurations c = fold-append reconfigured_network net reconfigurations (c ∷ [])

@@ -19,14 +19,14 @@ use Rattle.router_core.specs.Adoption.{lost}
 use Rattle.router_core.specs.Ageing.{aged_table, unmarked}
 use Rattle.router_core.specs.Config.{Config}
 use Rattle.router_core.specs.Machine.{State, Happening, ticked, is_regular_due, is_triggered_due}
-use Rattle.router_core.specs.Reconfiguring.{IsNamed, change_fault, change_reasons, changed_config, changed_table, gained, given_up}
+use Rattle.router_core.specs.Reconfiguring.{IsNamed, reconfigure_fault, reconfigure_reasons, reconfigured_config, reconfigured_table, newly_owned, disowned}
 use Rattle.router_core.specs.declared.answer.Answer.{Answer}
 use Rattle.router_core.specs.declared.reconfiguring.Change.{Change}
 use Rattle.router_core.specs.declared.reconfiguring.Change.TheVariants.{Cost, Own, Disown}
 use Rattle.ripng_world.specs.Healing.{network_now}
 use Rattle.ripng_world.specs.Network.{Network, Node, IsNetwork, config_of}
 use Rattle.ripng_world.specs.Past.{Past}
-use Rattle.ripng_world.specs.World.{World, RouterMoves, past_of, changes_by}
+use Rattle.ripng_world.specs.World.{World, RouterMoves, past_of, reconfigurations_of}
 use Rattle.ripng_world.proofs.Growing.{owner_grows}
 use Rattle.ripng_world.proofs.Among.{in_filter, to_filter}
 use Rattle.ripng_world.proofs.Members.{At, at_left, at_right, split_at}
@@ -35,19 +35,19 @@ use Rattle.ripng_world.proofs.Reached.{IsKnown, IsReached, IsReachedBy, IsReache
 
 -- ---- changes
 
-known_grows : (net : Network) (changes more : List (ℕ × Change)) (p : Prefix6) → IsKnown (record { net = net; changes = changes }) p → IsKnown (record { net = net; changes = changes ++ more }) p
-known_grows net changes more p k = (k.0, k.1, owner_grows net changes more k.0 p k.1 k.2)
+known_grows : (net : Network) (reconfigurations more : List (ℕ × Change)) (p : Prefix6) → IsKnown (record { net = net; reconfigurations = reconfigurations }) p → IsKnown (record { net = net; reconfigurations = reconfigurations ++ more }) p
+known_grows net reconfigurations more p k = (k.0, k.1, owner_grows net reconfigurations more k.0 p k.1 k.2)
 
-row_grows : (net : Network) (changes more : List (ℕ × Change)) (config : Config) (last : ℕ) (p : Prefix6) (r : RouteValue)
-    → IsReachedRow (record { net = net; changes = changes }) config last p r → IsReachedRow (record { net = net; changes = changes ++ more }) config last p r
-row_grows net changes more config last p r row =
+row_grows : (net : Network) (reconfigurations more : List (ℕ × Change)) (config : Config) (last : ℕ) (p : Prefix6) (r : RouteValue)
+    → IsReachedRow (record { net = net; reconfigurations = reconfigurations }) config last p r → IsReachedRow (record { net = net; reconfigurations = reconfigurations ++ more }) config last p r
+row_grows net reconfigurations more config last p r row =
     record {
-      plain = record { is_known = known_grows net changes more p row.plain.is_known; positive = row.plain.positive; in_range = row.plain.in_range; clocked = row.plain.clocked };
+      plain = record { is_known = known_grows net reconfigurations more p row.plain.is_known; positive = row.plain.positive; in_range = row.plain.in_range; clocked = row.plain.clocked };
       reached = row.reached;
     }
 
-pub reached_grows : (net : Network) (changes more : List (ℕ × Change)) (s : State) → IsReached (record { net = net; changes = changes }) s → IsReached (record { net = net; changes = changes ++ more }) s
-reached_grows net changes more s good = record { rows = λ p r at. row_grows net changes more s.config s.last p r (good.rows p r at); owned = good.owned }
+pub reached_grows : (net : Network) (reconfigurations more : List (ℕ × Change)) (s : State) → IsReached (record { net = net; reconfigurations = reconfigurations }) s → IsReached (record { net = net; reconfigurations = reconfigurations ++ more }) s
+reached_grows net reconfigurations more s good = record { rows = λ p r at. row_grows net reconfigurations more s.config s.last p r (good.rows p r at); owned = good.owned }
 
 -- the same route with another configuration
 reconfigured_row : (past : Past) (config config' : Config) (last : ℕ) (p : Prefix6) (r : RouteValue) → ((tag : ℕ) → At config.prefixes (p, tag) → At config'.prefixes (p, tag))
@@ -82,51 +82,51 @@ untied q p other = by_test (eq_by_cmp prefix_cmp q p) refl
     by_test false e = refl
     by_test true e = absurd (clash (sym (ap not (ap (λ (x : Prefix6). same_prefix x p) (tells_apart exact_prefixes q p e) ∙ same_itself p)) ∙ other))
 
-module _ (net : Network) (changes : List (ℕ × Change)) (router : ℕ) where
+module _ (net : Network) (reconfigurations : List (ℕ × Change)) (router : ℕ) where
   abbrev before : Past
-  before = record { net = net; changes = changes }
+  before = record { net = net; reconfigurations = reconfigurations }
 
   abbrev after : Change → Past
-  after c = record { net = net; changes = changes ++ (router, c) ∷ [] }
+  after c = record { net = net; reconfigurations = reconfigurations ++ (router, c) ∷ [] }
 
-  pub changed_reached : (s : State) (n : ℕ) (c : Change) → s.last ≤ n → IsReached before s → IsReached (after c) (record s { config = changed_config s.config c; table = changed_table n s.table c; last = n })
+  pub changed_reached : (s : State) (n : ℕ) (c : Change) → s.last ≤ n → IsReached before s → IsReached (after c) (record s { config = reconfigured_config s.config c; table = reconfigured_table n s.table c; last = n })
   changed_reached s n (Cost iface cost) le good =
       record {
-        rows = λ p r at. reconfigured_row (after (Cost iface cost)) s.config (changed_config s.config (Cost iface cost)) n p r (λ tag a. a)
-            (later_row (after (Cost iface cost)) s.config s.last n p r le (row_grows net changes ((router, Cost iface cost) ∷ []) s.config s.last p r (good.rows p r at)));
+        rows = λ p r at. reconfigured_row (after (Cost iface cost)) s.config (reconfigured_config s.config (Cost iface cost)) n p r (λ tag a. a)
+            (later_row (after (Cost iface cost)) s.config s.last n p r le (row_grows net reconfigurations ((router, Cost iface cost) ∷ []) s.config s.last p r (good.rows p r at)));
         owned = good.owned;
       }
   changed_reached s n (Own q tag) le good = record { rows = rows; owned = owned }
     where
       config' : Config
-      config' = changed_config s.config (Own q tag)
+      config' = reconfigured_config s.config (Own q tag)
 
-      rows : AreRows (after (Own q tag)) (changed_config s.config (Own q tag)) n (with_value s.table q (Some (gained tag)))
-      rows p r at = by_tie (eq_by_cmp prefix_cmp p q) refl (sym (get-with_value s.table q (Some (gained tag)) p) ∙ at)
+      rows : AreRows (after (Own q tag)) (reconfigured_config s.config (Own q tag)) n (with_value s.table q (Some (newly_owned tag)))
+      rows p r at = by_tie (eq_by_cmp prefix_cmp p q) refl (sym (get-with_value s.table q (Some (newly_owned tag)) p) ∙ at)
         where
-          by_tie : (b : Bool) → eq_by_cmp prefix_cmp p q ≡ b → cond b (Some (gained tag)) (map_of.get s.table p) ≡ Some r → IsReachedRow (after (Own q tag)) (changed_config s.config (Own q tag)) n p r
+          by_tie : (b : Bool) → eq_by_cmp prefix_cmp p q ≡ b → cond b (Some (newly_owned tag)) (map_of.get s.table p) ≡ Some r → IsReachedRow (after (Own q tag)) (reconfigured_config s.config (Own q tag)) n p r
           by_tie true tie e =
-              subst (λ (x : Prefix6). IsReachedRow (after (Own q tag)) (changed_config s.config (Own q tag)) n x r) (sym (tells_apart exact_prefixes p q tie))
-              (subst (IsReachedRow (after (Own q tag)) (changed_config s.config (Own q tag)) n q) (Some-same (gained tag) r e)
-              (own_row (after (Own q tag)) (changed_config s.config (Own q tag)) n q tag true
-              (router, tag, inr (at_right changes ((router, Own q tag) ∷ []) (router, Own q tag) (0, refl)))
+              subst (λ (x : Prefix6). IsReachedRow (after (Own q tag)) (reconfigured_config s.config (Own q tag)) n x r) (sym (tells_apart exact_prefixes p q tie))
+              (subst (IsReachedRow (after (Own q tag)) (reconfigured_config s.config (Own q tag)) n q) (Some-same (newly_owned tag) r e)
+              (own_row (after (Own q tag)) (reconfigured_config s.config (Own q tag)) n q tag true
+              (router, tag, inr (at_right reconfigurations ((router, Own q tag) ∷ []) (router, Own q tag) (0, refl)))
               (at_right s.config.prefixes ((q, tag) ∷ []) (q, tag) (0, refl))))
           by_tie false tie e =
-              reconfigured_row (after (Own q tag)) s.config (changed_config s.config (Own q tag)) n p r (λ t a. at_left s.config.prefixes ((q, tag) ∷ []) (p, t) a)
-              (later_row (after (Own q tag)) s.config s.last n p r le (row_grows net changes ((router, Own q tag) ∷ []) s.config s.last p r (good.rows p r e)))
+              reconfigured_row (after (Own q tag)) s.config (reconfigured_config s.config (Own q tag)) n p r (λ t a. at_left s.config.prefixes ((q, tag) ∷ []) (p, t) a)
+              (later_row (after (Own q tag)) s.config s.last n p r le (row_grows net reconfigurations ((router, Own q tag) ∷ []) s.config s.last p r (good.rows p r e)))
 
-      owned : HasOwned (changed_config s.config (Own q tag)) (with_value s.table q (Some (gained tag)))
+      owned : HasOwned (reconfigured_config s.config (Own q tag)) (with_value s.table q (Some (newly_owned tag)))
       owned p t a = by_tie (eq_by_cmp prefix_cmp p q) refl
         where
           clash : true ≡ false → ⊥
           clash e = cc
 
-          by_tie : (b : Bool) → eq_by_cmp prefix_cmp p q ≡ b → (r : RouteValue) × (map_of.get (with_value s.table q (Some (gained tag))) p ≡ Some r) × (r.clock ≡ Fixed)
-          by_tie true tie = (gained tag, get-with_value s.table q (Some (gained tag)) p ∙ ap (λ b. cond b (Some (gained tag)) (map_of.get s.table p)) tie, refl)
+          by_tie : (b : Bool) → eq_by_cmp prefix_cmp p q ≡ b → (r : RouteValue) × (map_of.get (with_value s.table q (Some (newly_owned tag))) p ≡ Some r) × (r.clock ≡ Fixed)
+          by_tie true tie = (newly_owned tag, get-with_value s.table q (Some (newly_owned tag)) p ∙ ap (λ b. cond b (Some (newly_owned tag)) (map_of.get s.table p)) tie, refl)
           by_tie false tie =
               elim (split_at s.config.prefixes ((q, tag) ∷ []) a.0 (p, t) a.1) [
                 | inl l ↦ let o = good.owned p t l in
-                    (o.0, get-with_value s.table q (Some (gained tag)) p ∙ ap (λ b. cond b (Some (gained tag)) (map_of.get s.table p)) tie ∙ o.1, o.2)
+                    (o.0, get-with_value s.table q (Some (newly_owned tag)) p ∙ ap (λ b. cond b (Some (newly_owned tag)) (map_of.get s.table p)) tie ∙ o.1, o.2)
                 | inr l ↦ absurd (by_place l.0 l.1)
               ]
             where
@@ -135,36 +135,36 @@ module _ (net : Network) (changes : List (ℕ × Change)) (router : ℕ) where
               by_place (suc i) e = None-Some (p, t) e
   changed_reached s n (Disown q) le good = record { rows = rows; owned = owned }
     where
-      rows : AreRows (after (Disown q)) (changed_config s.config (Disown q)) n (with_value s.table q (given_up n (map_of.get s.table q)))
-      rows p r at = by_tie (eq_by_cmp prefix_cmp p q) refl (sym (get-with_value s.table q (given_up n (map_of.get s.table q)) p) ∙ at)
+      rows : AreRows (after (Disown q)) (reconfigured_config s.config (Disown q)) n (with_value s.table q (disowned n (map_of.get s.table q)))
+      rows p r at = by_tie (eq_by_cmp prefix_cmp p q) refl (sym (get-with_value s.table q (disowned n (map_of.get s.table q)) p) ∙ at)
         where
-          gone : (o : Option RouteValue) → map_of.get s.table q ≡ o → given_up n o ≡ Some r → IsReachedRow (after (Disown q)) (changed_config s.config (Disown q)) n q r
+          gone : (o : Option RouteValue) → map_of.get s.table q ≡ o → disowned n o ≡ Some r → IsReachedRow (after (Disown q)) (reconfigured_config s.config (Disown q)) n q r
           gone None is e = absurd (None-Some r e)
           gone (Some x) is e =
-              let old = row_grows net changes ((router, Disown q) ∷ []) s.config s.last q x (good.rows q x is) in
-              subst (IsReachedRow (after (Disown q)) (changed_config s.config (Disown q)) n q) (Some-same (lost n x) r e)
+              let old = row_grows net reconfigurations ((router, Disown q) ∷ []) s.config s.last q x (good.rows q x is) in
+              subst (IsReachedRow (after (Disown q)) (reconfigured_config s.config (Disown q)) n q) (Some-same (lost n x) r e)
               (record { plain = record { is_known = old.plain.is_known; positive = omega arith; in_range = le_refl 16; clocked = refl }; reached = tt })
 
-          by_tie : (b : Bool) → eq_by_cmp prefix_cmp p q ≡ b → cond b (given_up n (map_of.get s.table q)) (map_of.get s.table p) ≡ Some r → IsReachedRow (after (Disown q)) (changed_config s.config (Disown q)) n p r
+          by_tie : (b : Bool) → eq_by_cmp prefix_cmp p q ≡ b → cond b (disowned n (map_of.get s.table q)) (map_of.get s.table p) ≡ Some r → IsReachedRow (after (Disown q)) (reconfigured_config s.config (Disown q)) n p r
           by_tie true tie e =
-              subst (λ (x : Prefix6). IsReachedRow (after (Disown q)) (changed_config s.config (Disown q)) n x r) (sym (tells_apart exact_prefixes p q tie)) (gone (map_of.get s.table q) refl e)
+              subst (λ (x : Prefix6). IsReachedRow (after (Disown q)) (reconfigured_config s.config (Disown q)) n x r) (sym (tells_apart exact_prefixes p q tie)) (gone (map_of.get s.table q) refl e)
           by_tie false tie e =
-              reconfigured_row (after (Disown q)) s.config (changed_config s.config (Disown q)) n p r
+              reconfigured_row (after (Disown q)) s.config (reconfigured_config s.config (Disown q)) n p r
               (λ t a. to_filter (λ (x : Prefix6 × ℕ). not (same_prefix x.0 q)) s.config.prefixes (p, t) a (ap not (apart p q tie)))
-              (later_row (after (Disown q)) s.config s.last n p r le (row_grows net changes ((router, Disown q) ∷ []) s.config s.last p r (good.rows p r e)))
+              (later_row (after (Disown q)) s.config s.last n p r le (row_grows net reconfigurations ((router, Disown q) ∷ []) s.config s.last p r (good.rows p r e)))
 
-      owned : HasOwned (changed_config s.config (Disown q)) (with_value s.table q (given_up n (map_of.get s.table q)))
+      owned : HasOwned (reconfigured_config s.config (Disown q)) (with_value s.table q (disowned n (map_of.get s.table q)))
       owned p t a =
           let f = in_filter (λ (x : Prefix6 × ℕ). not (same_prefix x.0 q)) s.config.prefixes (p, t) a in
           let o = good.owned p t f.0 in (
             o.0,
-            get-with_value s.table q (given_up n (map_of.get s.table q)) p ∙ ap (λ b. cond b (given_up n (map_of.get s.table q)) (map_of.get s.table p)) (untied p q f.1) ∙ o.1,
+            get-with_value s.table q (disowned n (map_of.get s.table q)) p ∙ ap (λ b. cond b (disowned n (map_of.get s.table q)) (map_of.get s.table p)) (untied p q f.1) ∙ o.1,
             o.2,
           )
 
 -- a change that is done is lawful
-pub done_lawful : (config : Config) (table : Table) (c : Change) → IsNamed config c → change_fault config table c ≡ None → IsLawfulChange c
-done_lawful config table (Cost iface cost) named none = in_range cost (each_passes (change_reasons config table (Cost iface cost)) none).0
+pub done_lawful : (config : Config) (table : Table) (c : Change) → IsNamed config c → reconfigure_fault config table c ≡ None → IsLawfulChange c
+done_lawful config table (Cost iface cost) named none = in_range cost (each_passes (reconfigure_reasons config table (Cost iface cost)) none).0
   where
     in_range : (n : ℕ) → not (nat_le 1 n && nat_lt n 16) ≡ false → (1 ≤ n) × (n < 16)
     in_range n e = (lower n e, upper n e)
@@ -174,7 +174,7 @@ done_lawful config table (Cost iface cost) named none = in_range cost (each_pass
 
         upper : (n : ℕ) → not (nat_le 1 n && nat_lt n 16) ≡ false → n < 16
         upper n e = grind (arith, nat_tests)
-done_lawful config table (Own p tag) named none = (named, holds (is_routable p) (each_passes (change_reasons config table (Own p tag)) none).0)
+done_lawful config table (Own p tag) named none = (named, holds (is_routable p) (each_passes (reconfigure_reasons config table (Own p tag)) none).0)
   where
     holds : (b : Bool) → not b ≡ false → b ≡ true
     holds true e = refl
@@ -183,38 +183,38 @@ done_lawful config table (Disown p) named none = tt
 
 -- ---- worlds
 
-pub record IsReachedState (net : Network) (changes : List (ℕ × Change)) (router : ℕ) (s : State) : Type 0 where
+pub record IsReachedState (net : Network) (reconfigurations : List (ℕ × Change)) (router : ℕ) (s : State) : Type 0 where
   pub node : Node
-  pub node_is : slice_get (network_now (record { net = net; changes = changes })) router ≡ Some node
+  pub node_is : slice_get (network_now (record { net = net; reconfigurations = reconfigurations })) router ≡ Some node
   pub config_is : s.config ≡ config_of node
-  pub reached : IsReached (record { net = net; changes = changes }) s
+  pub reached : IsReached (record { net = net; reconfigurations = reconfigurations }) s
 
 pub record AreReached (net : Network) (w : World) : Type 0 where
-  pub lawful : AreLawful w.changes
-  pub states : (router : ℕ) (s : State) → slice_get w.states router ≡ Some s → IsReachedState net w.changes router s
+  pub lawful : AreLawful w.reconfigurations
+  pub states : (router : ℕ) (s : State) → slice_get w.states router ≡ Some s → IsReachedState net w.reconfigurations router s
   pub everyone : (router : ℕ) (node : Node) → slice_get net router ≡ Some node → (s : State) × (slice_get w.states router ≡ Some s)
 
 module _ (net : Network) (is_net : IsNetwork net) where
   -- the others stay when one router moves
   pub moved : (w w' : World) (router : ℕ) (happening : Happening) (answer : Answer) (m : RouterMoves w router happening answer w') → AreReached net w
-      → AreLawful (w.changes ++ changes_by router happening)
-      → IsReachedState net (w.changes ++ changes_by router happening) router m.new
-      → ((r : ℕ) (s : State) → (router == r) ≡ false → IsReachedState net w.changes r s → IsReachedState net (w.changes ++ changes_by router happening) r s)
+      → AreLawful (w.reconfigurations ++ reconfigurations_of router happening)
+      → IsReachedState net (w.reconfigurations ++ reconfigurations_of router happening) router m.new
+      → ((r : ℕ) (s : State) → (router == r) ≡ false → IsReachedState net w.reconfigurations r s → IsReachedState net (w.reconfigurations ++ reconfigurations_of router happening) r s)
       → AreReached net w'
   moved w w' router happening answer m all lawful new others =
       record {
-        lawful = subst AreLawful (sym m.changes) lawful;
-        states = λ r s is. subst (λ cs. IsReachedState net cs r s) (sym m.changes)
+        lawful = subst AreLawful (sym m.reconfigurations) lawful;
+        states = λ r s is. subst (λ cs. IsReachedState net cs r s) (sym m.reconfigurations)
             (by_router r s (router == r) refl (sym (ap (λ (ss : List State). slice_get ss r) m.states ∙ set_get w.states router m.new m.old m.old_is r) ∙ is));
         everyone = λ r node is.
             let s = all.everyone r node is in
             still r s.0 s.1 (router == r) refl;
       }
     where
-      by_router : (r : ℕ) (s : State) (b : Bool) → (router == r) ≡ b → cond b (Some m.new) (slice_get w.states r) ≡ Some s → IsReachedState net (w.changes ++ changes_by router happening) r s
+      by_router : (r : ℕ) (s : State) (b : Bool) → (router == r) ≡ b → cond b (Some m.new) (slice_get w.states r) ≡ Some s → IsReachedState net (w.reconfigurations ++ reconfigurations_of router happening) r s
       by_router r s true e is =
-          subst (λ k. IsReachedState net (w.changes ++ changes_by router happening) k s) (eqb-true router r e)
-          (subst (IsReachedState net (w.changes ++ changes_by router happening) router) (Some-same m.new s is) new)
+          subst (λ k. IsReachedState net (w.reconfigurations ++ reconfigurations_of router happening) k s) (eqb-true router r e)
+          (subst (IsReachedState net (w.reconfigurations ++ reconfigurations_of router happening) router) (Some-same m.new s is) new)
       by_router r s false e is = others r s e (all.states r s is)
 
       still : (r : ℕ) (s : State) → slice_get w.states r ≡ Some s → (b : Bool) → (router == r) ≡ b → (t : State) × (slice_get w'.states r ≡ Some t)
@@ -222,10 +222,10 @@ module _ (net : Network) (is_net : IsNetwork net) where
       still r s is false e = (s, ap (λ (ss : List State). slice_get ss r) m.states ∙ set_get w.states router m.new m.old m.old_is r ∙ ap (λ b. cond b (Some m.new) (slice_get w.states r)) e ∙ is)
 
   -- a move that is no change
-  pub unchanging : (w w' : World) (router : ℕ) (happening : Happening) (answer : Answer) (m : RouterMoves w router happening answer w') → changes_by router happening ≡ [] → AreReached net w
+  pub unchanging : (w w' : World) (router : ℕ) (happening : Happening) (answer : Answer) (m : RouterMoves w router happening answer w') → reconfigurations_of router happening ≡ [] → AreReached net w
       → m.new.config ≡ m.old.config → IsReached (past_of net w) m.new → AreReached net w'
   unchanging w w' router happening answer m none all same new =
-      let same_changes : w.changes ++ changes_by router happening ≡ w.changes = ap (λ cs. w.changes ++ cs) none ∙ append-nil w.changes in
+      let same_changes : w.reconfigurations ++ reconfigurations_of router happening ≡ w.reconfigurations = ap (λ cs. w.reconfigurations ++ cs) none ∙ append-nil w.reconfigurations in
       let t = all.states router m.old m.old_is in
       moved w w' router happening answer m all (subst AreLawful (sym same_changes) all.lawful)
       (subst (λ cs. IsReachedState net cs router m.new) (sym same_changes) (record { node = t.node; node_is = t.node_is; config_is = same ∙ t.config_is; reached = new }))

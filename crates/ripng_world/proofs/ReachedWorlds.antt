@@ -12,12 +12,12 @@ use Rattle.router_core.specs.Config.{cost_at}
 use Rattle.router_core.specs.Faults.{fault}
 use Rattle.router_core.specs.Received.{Received}
 use Rattle.router_core.specs.Machine.{State, Arrives, Ticks, Restarts, Reconfigures, Hears, Replies, Refuses, gateway_of}
-use Rattle.router_core.specs.Reconfiguring.{changed_config}
+use Rattle.router_core.specs.Reconfiguring.{reconfigured_config}
 use Rattle.router_core.specs.declared.answer.Answer.{Answer}
 use Rattle.router_core.specs.declared.arrival.Fault.{Fault}
 use Rattle.ripng_world.specs.declared.network.NetInterface.{NetInterface}
 use Rattle.ripng_world.specs.declared.sent.Sent.{Sent}
-use Rattle.ripng_world.specs.Healing.{changed_node, network_now}
+use Rattle.ripng_world.specs.Healing.{reconfigured_node, network_now}
 use Rattle.ripng_world.specs.Network.{Network, IsNetwork, config_of, interface_at}
 use Rattle.ripng_world.specs.Past.{OwnsSince}
 use Rattle.ripng_world.specs.TruthSince.{IsSoundDatagramSince, IsSoundEntrySince}
@@ -47,7 +47,7 @@ module _ (net : Network) (is_net : IsNetwork net) where
     where
       by_value : (o : Option NetInterface) → interface_at (network_now (past_of net w)) router iface ≡ o → 1 ≤ unwrap_or (option_map (λ i. i.interface.cost) o) infinity
       by_value None e = omega arith
-      by_value (Some i) e = ((now_lawful w.changes net all.lawful is_net).usable.costs router iface i e).0
+      by_value (Some i) e = ((now_lawful w.reconfigurations net all.lawful is_net).usable.costs router iface i e).0
 
   module _ (w w' : World) (all : AreReached net w) (good : IsGood net is_net.owns_prefixes w) where
     state_of : (router : ℕ) (s : State) → slice_get w.states router ≡ Some s → IsReached (past_of net w) s
@@ -108,21 +108,21 @@ module _ (net : Network) (is_net : IsNetwork net) where
         let t = all.states router m.old m.old_is in
         let n : ℕ = max m.old.last now in
         moved net is_net w w' router (Reconfigures now c) answer m all
-        (each_append _ w.changes ((router, c) ∷ []) all.lawful (done_lawful m.old.config m.old.table c m.moves.named m.moves.allowed, tt))
-        (subst (IsReachedState net (w.changes ++ (router, c) ∷ []) router) (sym m.moves.state)
+        (each_append _ w.reconfigurations ((router, c) ∷ []) all.lawful (done_lawful m.old.config m.old.table c m.moves.named m.moves.allowed, tt))
+        (subst (IsReachedState net (w.reconfigurations ++ (router, c) ∷ []) router) (sym m.moves.state)
         (record {
-          node = changed_node t.node c;
-          node_is = ap (λ (k : Network). slice_get k router) (now_more net w.changes (router, c)) ∙ changed_at (network_now (past_of net w)) router c router
-              ∙ ap (option_map (λ node. cond (router == router) (changed_node node c) node)) t.node_is ∙ ap (λ b. Some (cond b (changed_node t.node c) t.node)) (eq-eqb router router refl);
-          config_is = ap (λ k. changed_config k c) t.config_is ∙ sym (changed_alike t.node c);
-          reached = changed_reached net w.changes router m.old n c (max_later net is_net m.old.last now) t.reached;
+          node = reconfigured_node t.node c;
+          node_is = ap (λ (k : Network). slice_get k router) (now_more net w.reconfigurations (router, c)) ∙ changed_at (network_now (past_of net w)) router c router
+              ∙ ap (option_map (λ node. cond (router == router) (reconfigured_node node c) node)) t.node_is ∙ ap (λ b. Some (cond b (reconfigured_node t.node c) t.node)) (eq-eqb router router refl);
+          config_is = ap (λ k. reconfigured_config k c) t.config_is ∙ sym (changed_alike t.node c);
+          reached = changed_reached net w.reconfigurations router m.old n c (max_later net is_net m.old.last now) t.reached;
         }))
         (λ r s e x. record {
           node = x.node;
-          node_is = ap (λ (k : Network). slice_get k r) (now_more net w.changes (router, c)) ∙ changed_at (network_now (past_of net w)) router c r
-              ∙ ap (option_map (λ node. cond (router == r) (changed_node node c) node)) x.node_is ∙ ap (λ b. Some (cond b (changed_node x.node c) x.node)) e;
+          node_is = ap (λ (k : Network). slice_get k r) (now_more net w.reconfigurations (router, c)) ∙ changed_at (network_now (past_of net w)) router c r
+              ∙ ap (option_map (λ node. cond (router == r) (reconfigured_node node c) node)) x.node_is ∙ ap (λ b. Some (cond b (reconfigured_node x.node c) x.node)) e;
           config_is = x.config_is;
-          reached = reached_grows net w.changes ((router, c) ∷ []) s x.reached;
+          reached = reached_grows net w.reconfigurations ((router, c) ∷ []) s x.reached;
         })
 
   pub reached_on : (events : List Event) (w w' : World) → WorldRun net w events w' → IsGood net is_net.owns_prefixes w → AreReached net w → AreReached net w'
@@ -143,10 +143,10 @@ module _ (net : Network) (is_net : IsNetwork net) where
               node = t.0;
               node_is = t.2;
               config_is = ap (λ (x : State). x.config) t.3;
-              reached = subst (IsReached (record { net = net; changes = [] })) (sym t.3)
+              reached = subst (IsReached (record { net = net; reconfigurations = [] })) (sym t.3)
                   (record {
-                    rows = started_rows (record { net = net; changes = [] }) (config_of t.0) t.1 (λ p tag a. (router, tag, inl (record { node = t.0; node_is = t.2; place = a.0; listed = a.1 })));
-                    owned = started_owned (record { net = net; changes = [] }) (config_of t.0);
+                    rows = started_rows (record { net = net; reconfigurations = [] }) (config_of t.0) t.1 (λ p tag a. (router, tag, inl (record { node = t.0; node_is = t.2; place = a.0; listed = a.1 })));
+                    owned = started_owned (record { net = net; reconfigurations = [] }) (config_of t.0);
                   });
             });
         everyone = both.1;

@@ -50,19 +50,19 @@ module _ (stations : List StationValue) (sent : List Sent) (router iface : ℕ) 
       let few : router < length (network_of stations) = grind (arith, nat_tests, h) in
       subst (λ (n : ℕ). router < n) (length-map stations (λ (s : StationValue). s.node)) few
 
-  module _ (datagram : ℕ) (changes : List (ℕ × Change)) (now : ℕ) where
+  module _ (datagram : ℕ) (reconfigurations : List (ℕ × Change)) (now : ℕ) where
     tested : (past other : Bool) → nat_le (length sent) datagram ≡ past
-        → not (is_one_link (link_of_datagram (lab_of stations sent changes) datagram) (link_at (network_of stations) router iface)) ≡ other
-        → event_fault (lab_of stations sent changes) (Deliver datagram router iface now) ≡ cond past (Some NoSuchDatagram) (cond other (Some OtherLink) None)
+        → not (is_one_link (link_of_datagram (lab_of stations sent reconfigurations) datagram) (link_at (network_of stations) router iface)) ≡ other
+        → event_fault (lab_of stations sent reconfigurations) (Deliver datagram router iface now) ≡ cond past (Some NoSuchDatagram) (cond other (Some OtherLink) None)
     tested past other p q =
         first_reason-append (missing_interface_reasons (network_of stations) router iface) (
         (nat_le (length sent) datagram, NoSuchDatagram)
-        ∷ (not (is_one_link (link_of_datagram (lab_of stations sent changes) datagram) (link_at (network_of stations) router iface)), OtherLink)
+        ∷ (not (is_one_link (link_of_datagram (lab_of stations sent reconfigurations) datagram) (link_at (network_of stations) router iface)), OtherLink)
         ∷ []
         ) (sym there)
         ∙ ap₂ (λ (a b : Bool). cond a (Some NoSuchDatagram) (cond b (Some OtherLink) None)) p q
 
-    pub no_datagram : length sent ≤ datagram → Some NoSuchDatagram ≡ event_fault (lab_of stations sent changes) (Deliver datagram router iface now)
+    pub no_datagram : length sent ≤ datagram → Some NoSuchDatagram ≡ event_fault (lab_of stations sent reconfigurations) (Deliver datagram router iface now)
     no_datagram past =
         let failed : nat_le (length sent) datagram ≡ true = grind (arith, nat_tests, past) in
         sym (tested true _ failed refl)
@@ -72,15 +72,15 @@ module _ (stations : List StationValue) (sent : List Sent) (router iface : ℕ) 
       passed : nat_le (length sent) datagram ≡ false
       passed = grind (arith, nat_tests, few)
 
-      links : is_one_link (link_of_datagram (lab_of stations sent changes) datagram) (link_at (network_of stations) router iface) ≡ (own == link)
+      links : is_one_link (link_of_datagram (lab_of stations sent reconfigurations) datagram) (link_at (network_of stations) router iface) ≡ (own == link)
       links = ap₂ is_one_link (ap (option_and_then (λ (x : Sent). link_at (network_of stations) x.router x.iface)) is ∙ own_is) link_is
 
-      pub deliverable : own ≡ link → None ≡ event_fault (lab_of stations sent changes) (Deliver datagram router iface now)
+      pub deliverable : own ≡ link → None ≡ event_fault (lab_of stations sent reconfigurations) (Deliver datagram router iface now)
       deliverable same =
           let one : (own == link) ≡ true = grind (arith, nat_tests, same) in
           sym (tested false false passed (ap not (links ∙ one)))
 
-      pub other_link : own ≢ link → Some OtherLink ≡ event_fault (lab_of stations sent changes) (Deliver datagram router iface now)
+      pub other_link : own ≢ link → Some OtherLink ≡ event_fault (lab_of stations sent reconfigurations) (Deliver datagram router iface now)
       other_link different =
           let two : (own == link) ≡ false = grind (arith, nat_tests, different) in
           sym (tested false true passed (ap not (links ∙ two)))
@@ -91,11 +91,11 @@ pub stranger_there : (stations : List StationValue) (router : ℕ) (x y : Receiv
     → None ≡ first_reason (missing_interface_reasons (network_of stations) router x.iface)
 stranger_there stations router x y same there = subst (λ (z : Received). None ≡ first_reason (missing_interface_reasons (network_of stations) router z.iface)) same there
 
-pub stranger_tested : (stations : List StationValue) (sent : List Sent) (changes : List (ℕ × Change)) (router : ℕ) (x : Received) (s : StationValue) (b : Bool)
+pub stranger_tested : (stations : List StationValue) (sent : List Sent) (reconfigurations : List (ℕ × Change)) (router : ℕ) (x : Received) (s : StationValue) (b : Bool)
     → None ≡ first_reason (missing_interface_reasons (network_of stations) router x.iface) → slice_get stations router ≡ Some s → is_heard s.state x ≡ b
-    → cond b (Some NotAStranger) None ≡ event_fault (lab_of stations sent changes) (Stranger router x)
-stranger_tested stations sent changes router x s b there here heard =
-    let at : is_heard_at (world_of stations sent changes) router x ≡ is_heard s.state x =
+    → cond b (Some NotAStranger) None ≡ event_fault (lab_of stations sent reconfigurations) (Stranger router x)
+stranger_tested stations sent reconfigurations router x s b there here heard =
+    let at : is_heard_at (world_of stations sent reconfigurations) router x ≡ is_heard s.state x =
     ap (λ (o : Option State). option_map_or (λ t. is_heard t x) o false) (slice_get-map (λ (t : StationValue). t.state) stations router ∙ ap (option_map (λ (t : StationValue). t.state)) here) in
-    sym (first_reason-append (missing_interface_reasons (network_of stations) router x.iface) ((is_heard_at (world_of stations sent changes) router x, NotAStranger) ∷ []) (sym there)
+    sym (first_reason-append (missing_interface_reasons (network_of stations) router x.iface) ((is_heard_at (world_of stations sent reconfigurations) router x, NotAStranger) ∷ []) (sym there)
     ∙ ap (λ (a : Bool). cond a (Some NotAStranger) None) (at ∙ heard))

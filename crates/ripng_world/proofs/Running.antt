@@ -19,7 +19,7 @@ use Rattle.router_core.specs.Ageing.{aged_table, unmarked}
 use Rattle.router_core.specs.Machine.{State, Happening, Arrives, Ticks, Restarts, Reconfigures, Hears, Replies, Refuses, started, ticked, owned_table, gateway_of, is_regular_due, is_triggered_due}
 use Rattle.router_core.specs.Adoption.{lost}
 use Rattle.router_core.specs.Owning.{owned_route}
-use Rattle.router_core.specs.Reconfiguring.{IsNamed, with_cost, changed_config, changed_table, gained, given_up}
+use Rattle.router_core.specs.Reconfiguring.{IsNamed, with_cost, reconfigured_config, reconfigured_table, newly_owned, disowned}
 use Rattle.router_core.specs.declared.config.Interface.{Interface}
 use Rattle.router_core.specs.declared.reconfiguring.Change.{Change}
 use Rattle.router_core.specs.declared.reconfiguring.Change.TheVariants.{Cost, Own, Disown}
@@ -30,7 +30,7 @@ use Rattle.ripng_world.specs.declared.network.NetInterface.{NetInterface}
 use Rattle.ripng_world.specs.declared.sent.Sent.{Sent}
 use Rattle.ripng_world.specs.Network.{Network, Node, config_of, interface_at, AreLinked, Owns, OwnsPrefixes}
 use Rattle.ripng_world.specs.Walks.{cost_of_interface}
-use Rattle.ripng_world.specs.World.{World, Event, Deliver, Stranger, Tick, Restart, Reconfigure, RouterMoves, Happens, WorldRun, StartsFrom, IsCold, past_of, changes_by, change_in, changes_in, sent_by, address_at, arrival_of}
+use Rattle.ripng_world.specs.World.{World, Event, Deliver, Stranger, Tick, Restart, Reconfigure, RouterMoves, Happens, WorldRun, StartsFrom, IsCold, past_of, reconfigurations_of, reconfiguration_in, reconfigurations_in, sent_by, address_at, arrival_of}
 use Rattle.ripng_world.specs.Past.{Past, HasCostSince, OwnsSince}
 use Rattle.ripng_world.specs.TruthSince.{IsNeighborSince, IsSoundSince, IsSoundTableSince, IsSoundDatagramSince}
 use Rattle.ripng_world.proofs.Each.{each_append, each_filter, each_mapped, each_weaker, each_from_places, each_at_place}
@@ -134,17 +134,17 @@ first_configured past owns router node is =
     same_cost : (iface : ℕ) (i : Interface) → slice_get (map (λ (i : NetInterface). i.interface) node.interfaces) iface ≡ Some i → i.cost ≡ cost_of_interface past.net router iface
     same_cost iface i here = sym (ap (λ o. unwrap_or (option_map (λ (i : Interface). i.cost) o) infinity) here) ∙ cost_is past.net router iface node is
 
-configured_grows : (net : Network) (changes more : List (ℕ × Change)) (router : ℕ) (config : Config)
-    → IsConfigured (record { net = net; changes = changes }) router config → IsConfigured (record { net = net; changes = changes ++ more }) router config
-configured_grows net changes more router config c =
+configured_grows : (net : Network) (reconfigurations more : List (ℕ × Change)) (router : ℕ) (config : Config)
+    → IsConfigured (record { net = net; reconfigurations = reconfigurations }) router config → IsConfigured (record { net = net; reconfigurations = reconfigurations ++ more }) router config
+configured_grows net reconfigurations more router config c =
     record {
       node = c.node;
       node_is = c.node_is;
       addresses = c.addresses;
-      costs = λ iface i here. cost_grows net changes more router iface i.cost (c.costs iface i here);
-      prefixes = each_weaker (λ (t : Prefix6 × ℕ). IsPrefix t.0 × OwnsSince (record { net = net; changes = changes ++ more }) router t.0 t.1)
-          (λ (t : Prefix6 × ℕ). IsPrefix t.0 × OwnsSince (record { net = net; changes = changes }) router t.0 t.1)
-          (λ t both. (both.0, owner_grows net changes more router t.0 t.1 both.1)) config.prefixes c.prefixes;
+      costs = λ iface i here. cost_grows net reconfigurations more router iface i.cost (c.costs iface i here);
+      prefixes = each_weaker (λ (t : Prefix6 × ℕ). IsPrefix t.0 × OwnsSince (record { net = net; reconfigurations = reconfigurations ++ more }) router t.0 t.1)
+          (λ (t : Prefix6 × ℕ). IsPrefix t.0 × OwnsSince (record { net = net; reconfigurations = reconfigurations }) router t.0 t.1)
+          (λ t both. (both.0, owner_grows net reconfigurations more router t.0 t.1 both.1)) config.prefixes c.prefixes;
     }
 
 -- another cost of an interface leaves the addresses, and is the only other cost
@@ -172,10 +172,10 @@ set_costs xs iface cost j i = by_value (slice_get xs iface)
           | inr there ↦ inr there
         ]
 
-changed_configured : (net : Network) (changes : List (ℕ × Change)) (router : ℕ) (config : Config) (c : Change) → IsNamed config c
-    → IsConfigured (record { net = net; changes = changes }) router config → IsConfigured (record { net = net; changes = changes ++ (router, c) ∷ [] }) router (changed_config config c)
-changed_configured net changes router config (Cost iface cost) named good =
-    let g = configured_grows net changes ((router, Cost iface cost) ∷ []) router config good in
+changed_configured : (net : Network) (reconfigurations : List (ℕ × Change)) (router : ℕ) (config : Config) (c : Change) → IsNamed config c
+    → IsConfigured (record { net = net; reconfigurations = reconfigurations }) router config → IsConfigured (record { net = net; reconfigurations = reconfigurations ++ (router, c) ∷ [] }) router (reconfigured_config config c)
+changed_configured net reconfigurations router config (Cost iface cost) named good =
+    let g = configured_grows net reconfigurations ((router, Cost iface cost) ∷ []) router config good in
     record {
       node = g.node;
       node_is = g.node_is;
@@ -185,33 +185,33 @@ changed_configured net changes router config (Cost iface cost) named good =
     }
   where
     after : Past
-    after = record { net = net; changes = changes ++ (router, Cost iface cost) ∷ [] }
+    after = record { net = net; reconfigurations = reconfigurations ++ (router, Cost iface cost) ∷ [] }
 
     by_place : (j : ℕ) (i : Interface) → ((iface ≡ j) × (cost ≡ i.cost)) ⊎ (slice_get config.interfaces j ≡ Some i)
-        → ((k : ℕ) (x : Interface) → slice_get config.interfaces k ≡ Some x → HasCostSince (record { net = net; changes = changes ++ (router, Cost iface cost) ∷ [] }) router k x.cost)
-        → HasCostSince (record { net = net; changes = changes ++ (router, Cost iface cost) ∷ [] }) router j i.cost
+        → ((k : ℕ) (x : Interface) → slice_get config.interfaces k ≡ Some x → HasCostSince (record { net = net; reconfigurations = reconfigurations ++ (router, Cost iface cost) ∷ [] }) router k x.cost)
+        → HasCostSince (record { net = net; reconfigurations = reconfigurations ++ (router, Cost iface cost) ∷ [] }) router j i.cost
     by_place j i (inl both) earlier =
-        let d = at_right changes ((router, Cost iface cost) ∷ []) (router, Cost iface cost) (0, refl) in
+        let d = at_right reconfigurations ((router, Cost iface cost) ∷ []) (router, Cost iface cost) (0, refl) in
         inr (d.0, d.1 ∙ ap₂ (λ a b. Some (router, Cost a b)) both.0 both.1)
     by_place j i (inr there) earlier = earlier j i there
-changed_configured net changes router config (Own p tag) named good =
-    let g = configured_grows net changes ((router, Own p tag) ∷ []) router config good in
+changed_configured net reconfigurations router config (Own p tag) named good =
+    let g = configured_grows net reconfigurations ((router, Own p tag) ∷ []) router config good in
     record {
       node = g.node;
       node_is = g.node_is;
       addresses = g.addresses;
       costs = g.costs;
-      prefixes = each_append (λ (t : Prefix6 × ℕ). IsPrefix t.0 × OwnsSince (record { net = net; changes = changes ++ (router, Own p tag) ∷ [] }) router t.0 t.1) config.prefixes ((p, tag) ∷ []) g.prefixes
-          ((named, inr (at_right changes ((router, Own p tag) ∷ []) (router, Own p tag) (0, refl))), tt);
+      prefixes = each_append (λ (t : Prefix6 × ℕ). IsPrefix t.0 × OwnsSince (record { net = net; reconfigurations = reconfigurations ++ (router, Own p tag) ∷ [] }) router t.0 t.1) config.prefixes ((p, tag) ∷ []) g.prefixes
+          ((named, inr (at_right reconfigurations ((router, Own p tag) ∷ []) (router, Own p tag) (0, refl))), tt);
     }
-changed_configured net changes router config (Disown p) named good =
-    let g = configured_grows net changes ((router, Disown p) ∷ []) router config good in
+changed_configured net reconfigurations router config (Disown p) named good =
+    let g = configured_grows net reconfigurations ((router, Disown p) ∷ []) router config good in
     record {
       node = g.node;
       node_is = g.node_is;
       addresses = g.addresses;
       costs = g.costs;
-      prefixes = each_filter (λ (t : Prefix6 × ℕ). IsPrefix t.0 × OwnsSince (record { net = net; changes = changes ++ (router, Disown p) ∷ [] }) router t.0 t.1) (λ t. not (same_prefix t.0 p)) config.prefixes g.prefixes;
+      prefixes = each_filter (λ (t : Prefix6 × ℕ). IsPrefix t.0 × OwnsSince (record { net = net; reconfigurations = reconfigurations ++ (router, Disown p) ∷ [] }) router t.0 t.1) (λ t. not (same_prefix t.0 p)) config.prefixes g.prefixes;
     }
 
 -- the cost of an interface that is there
@@ -235,10 +235,10 @@ pub record IsGoodState (past : Past) (router : ℕ) (s : State) : Type 0 where
   pub configured : IsConfigured past router s.config
   pub sound : IsSoundTableSince past router s.table
 
-state_grows : (net : Network) (changes more : List (ℕ × Change)) (router : ℕ) (s : State)
-    → IsGoodState (record { net = net; changes = changes }) router s → IsGoodState (record { net = net; changes = changes ++ more }) router s
-state_grows net changes more router s good =
-    record { configured = configured_grows net changes more router s.config good.configured; sound = table_grows net changes more router s.table good.sound }
+state_grows : (net : Network) (reconfigurations more : List (ℕ × Change)) (router : ℕ) (s : State)
+    → IsGoodState (record { net = net; reconfigurations = reconfigurations }) router s → IsGoodState (record { net = net; reconfigurations = reconfigurations ++ more }) router s
+state_grows net reconfigurations more router s good =
+    record { configured = configured_grows net reconfigurations more router s.config good.configured; sound = table_grows net reconfigurations more router s.table good.sound }
 
 module _ (past : Past) (router : ℕ) where
   own : (p : Prefix6) (tag : ℕ) (changed : Bool) → IsPrefix p → OwnsSince past router p tag → IsSoundSince past router p (record (owned_route tag) { changed = changed })
@@ -290,26 +290,26 @@ module _ (past : Past) (router : ℕ) where
       by_tie false tie is = sound q s is
 
 -- a change that is done
-pub changed_sound : (net : Network) (changes : List (ℕ × Change)) (router now : ℕ) (config : Config) (table : Table) (c : Change) → IsNamed config c
-    → IsSoundTableSince (record { net = net; changes = changes }) router table
-    → IsSoundTableSince (record { net = net; changes = changes ++ (router, c) ∷ [] }) router (changed_table now table c)
-changed_sound net changes router now config table (Cost iface cost) named sound = table_grows net changes ((router, Cost iface cost) ∷ []) router table sound
-changed_sound net changes router now config table (Own p tag) named sound =
-    with_sound (record { net = net; changes = changes ++ (router, Own p tag) ∷ [] }) router table p (Some (gained tag))
-    (table_grows net changes ((router, Own p tag) ∷ []) router table sound)
-    (λ r is. subst (IsSoundSince (record { net = net; changes = changes ++ (router, Own p tag) ∷ [] }) router p) (Some-same (gained tag) r is)
-    (own (record { net = net; changes = changes ++ (router, Own p tag) ∷ [] }) router p tag true named (inr (at_right changes ((router, Own p tag) ∷ []) (router, Own p tag) (0, refl)))))
-changed_sound net changes router now config table (Disown p) named sound =
-    let all = table_grows net changes ((router, Disown p) ∷ []) router table sound in
-    with_sound (record { net = net; changes = changes ++ (router, Disown p) ∷ [] }) router table p (given_up now (map_of.get table p)) all
+pub changed_sound : (net : Network) (reconfigurations : List (ℕ × Change)) (router now : ℕ) (config : Config) (table : Table) (c : Change) → IsNamed config c
+    → IsSoundTableSince (record { net = net; reconfigurations = reconfigurations }) router table
+    → IsSoundTableSince (record { net = net; reconfigurations = reconfigurations ++ (router, c) ∷ [] }) router (reconfigured_table now table c)
+changed_sound net reconfigurations router now config table (Cost iface cost) named sound = table_grows net reconfigurations ((router, Cost iface cost) ∷ []) router table sound
+changed_sound net reconfigurations router now config table (Own p tag) named sound =
+    with_sound (record { net = net; reconfigurations = reconfigurations ++ (router, Own p tag) ∷ [] }) router table p (Some (newly_owned tag))
+    (table_grows net reconfigurations ((router, Own p tag) ∷ []) router table sound)
+    (λ r is. subst (IsSoundSince (record { net = net; reconfigurations = reconfigurations ++ (router, Own p tag) ∷ [] }) router p) (Some-same (newly_owned tag) r is)
+    (own (record { net = net; reconfigurations = reconfigurations ++ (router, Own p tag) ∷ [] }) router p tag true named (inr (at_right reconfigurations ((router, Own p tag) ∷ []) (router, Own p tag) (0, refl)))))
+changed_sound net reconfigurations router now config table (Disown p) named sound =
+    let all = table_grows net reconfigurations ((router, Disown p) ∷ []) router table sound in
+    with_sound (record { net = net; reconfigurations = reconfigurations ++ (router, Disown p) ∷ [] }) router table p (disowned now (map_of.get table p)) all
     (by_route (map_of.get table p) refl)
   where
     by_route : (o : Option RouteValue) → map_of.get table p ≡ o
-        → (r : RouteValue) → given_up now o ≡ Some r → IsSoundSince (record { net = net; changes = changes ++ (router, Disown p) ∷ [] }) router p r
+        → (r : RouteValue) → disowned now o ≡ Some r → IsSoundSince (record { net = net; reconfigurations = reconfigurations ++ (router, Disown p) ∷ [] }) router p r
     by_route None at r is = absurd (None-Some r is)
     by_route (Some old) at r is =
-        subst (IsSoundSince (record { net = net; changes = changes ++ (router, Disown p) ∷ [] }) router p) (Some-same (lost now old) r is)
-        (lost_sound (record { net = net; changes = changes ++ (router, Disown p) ∷ [] }) router now p old (table_grows net changes ((router, Disown p) ∷ []) router table sound p old at))
+        subst (IsSoundSince (record { net = net; reconfigurations = reconfigurations ++ (router, Disown p) ∷ [] }) router p) (Some-same (lost now old) r is)
+        (lost_sound (record { net = net; reconfigurations = reconfigurations ++ (router, Disown p) ∷ [] }) router now p old (table_grows net reconfigurations ((router, Disown p) ∷ []) router table sound p old at))
 
 -- ---- deliveries
 
@@ -368,25 +368,25 @@ module _ (net : Network) (owns : OwnsPrefixes net) where
   IsGood w = AreGood (past_of net w) w.states w.sent
 
   moved : (w w' : World) (router : ℕ) (happening : Happening) (answer : Answer) (m : RouterMoves w router happening answer w')
-      → IsGood w → IsGoodState (record { net = net; changes = w.changes ++ changes_by router happening }) router m.new → IsGood w'
+      → IsGood w → IsGoodState (record { net = net; reconfigurations = w.reconfigurations ++ reconfigurations_of router happening }) router m.new → IsGood w'
   moved w w' router happening answer m good new_good =
-      subst (λ (cs : List (ℕ × Change)). AreGood (record { net = net; changes = cs }) w'.states w'.sent) (sym m.changes)
+      subst (λ (cs : List (ℕ × Change)). AreGood (record { net = net; reconfigurations = cs }) w'.states w'.sent) (sym m.reconfigurations)
       (record {
         states_good = λ r s is.
             elim (get_set w.states router m.new r s (ap (λ (ss : List State). slice_get ss r) (sym m.states) ∙ is)) [
               | inl both ↦ subst (λ k. IsGoodState after k s) both.0 (subst (IsGoodState after router) both.1 new_good)
-              | inr there ↦ state_grows net w.changes (changes_by router happening) r s (good.states_good r s there)
+              | inr there ↦ state_grows net w.reconfigurations (reconfigurations_of router happening) r s (good.states_good r s there)
             ];
         sent_true = subst IsTrueOf (sym m.sent)
             (each_weaker (λ (d : Sent). IsSoundDatagramSince after d.router d.bytes) (λ (d : Sent). IsSoundDatagramSince (past_of net w) d.router d.bytes)
-            (λ d. truth_grows net w.changes (changes_by router happening) d.router d.bytes) _
+            (λ d. truth_grows net w.reconfigurations (reconfigurations_of router happening) d.router d.bytes) _
             (each_append (λ (d : Sent). IsSoundDatagramSince (past_of net w) d.router d.bytes) w.sent _ good.sent_true
             (each_mapped (λ (d : Sent). IsSoundDatagramSince (past_of net w) d.router d.bytes) (sent_by router) answer.sends
             (sends_true (past_of net w) router m.old happening answer m.new (good.states_good router m.old m.old_is).sound m.moves))));
       })
     where
       after : Past
-      after = record { net = net; changes = w.changes ++ changes_by router happening }
+      after = record { net = net; reconfigurations = w.reconfigurations ++ reconfigurations_of router happening }
 
       IsTrueOf : List Sent → Type 0
       IsTrueOf sent = AllByRecursion (λ (d : Sent). IsSoundDatagramSince after d.router d.bytes) sent
@@ -395,7 +395,7 @@ module _ (net : Network) (owns : OwnsPrefixes net) where
   unchanging : (w w' : World) (router : ℕ) (happening : Happening) (answer : Answer) (m : RouterMoves w router happening answer w')
       → IsGood w → IsGoodState (past_of net w) router m.new → IsGood w'
   unchanging w w' router happening answer m good new_good =
-      moved w w' router happening answer m good (state_grows net w.changes (changes_by router happening) router m.new new_good)
+      moved w w' router happening answer m good (state_grows net w.reconfigurations (reconfigurations_of router happening) router m.new new_good)
 
   happened : (w : World) (e : Event) (answer : Answer) (w' : World) → Happens net w e answer w' → IsGood w → IsGood w'
   happened w (Tick router now word) answer w' m good =
@@ -409,10 +409,10 @@ module _ (net : Network) (owns : OwnsPrefixes net) where
   happened w (Reconfigure router now change) answer w' m good =
       let old_good = good.states_good router m.old m.old_is in
       moved w w' router (Reconfigures now change) answer m good
-      (subst (IsGoodState (record { net = net; changes = w.changes ++ (router, change) ∷ [] }) router) (sym m.moves.state)
+      (subst (IsGoodState (record { net = net; reconfigurations = w.reconfigurations ++ (router, change) ∷ [] }) router) (sym m.moves.state)
       (record {
-        configured = changed_configured net w.changes router m.old.config change m.moves.named old_good.configured;
-        sound = changed_sound net w.changes router (max m.old.last now) m.old.config m.old.table change m.moves.named old_good.sound;
+        configured = changed_configured net w.reconfigurations router m.old.config change m.moves.named old_good.configured;
+        sound = changed_sound net w.reconfigurations router (max m.old.last now) m.old.config m.old.table change m.moves.named old_good.sound;
       }))
   happened w (Stranger router x) answer w' i good =
       let m = i.moves in
@@ -431,9 +431,9 @@ module _ (net : Network) (owns : OwnsPrefixes net) where
 
   -- ---- the beginning
 
-  module _ (changes : List (ℕ × Change)) where
+  module _ (reconfigurations : List (ℕ × Change)) where
     abbrev past : Past
-    past = record { net = net; changes = changes }
+    past = record { net = net; reconfigurations = reconfigurations }
 
     starts_good : (n : ℕ) (nodes : List Node) (moments : List ℕ) (states : List State) (sent : List Sent)
         → ((k : ℕ) (node : Node) → slice_get nodes k ≡ Some node → slice_get net (n + k) ≡ Some node)
@@ -463,7 +463,7 @@ module _ (net : Network) (owns : OwnsPrefixes net) where
 
   pub cold_good : (moments : List ℕ) (w : World) → IsCold net moments w → IsGood w
   cold_good moments w cold =
-      let both = starts_good w.changes 0 net moments w.states w.sent (λ k node is. ap (slice_get net) (zero_first k) ∙ is) cold.starts in
+      let both = starts_good w.reconfigurations 0 net moments w.states w.sent (λ k node is. ap (slice_get net) (zero_first k) ∙ is) cold.starts in
       record { states_good = λ r s is. subst (λ k. IsGoodState (past_of net w) k s) (zero_first r) (both.0 r s is); sent_true = both.1 }
     where
       zero_first : (k : ℕ) → 0 + k ≡ k
@@ -474,24 +474,24 @@ module _ (net : Network) (owns : OwnsPrefixes net) where
 
 -- ---- the changes done are those of the events
 
-pub done_by : (net : Network) (w : World) (e : Event) (answer : Answer) (w' : World) → Happens net w e answer w' → w'.changes ≡ w.changes ++ cons_option (change_in e) []
-done_by net w (Tick router now word) answer w' m = m.changes
-done_by net w (Restart router now) answer w' m = m.changes
-done_by net w (Reconfigure router now change) answer w' m = m.changes
-done_by net w (Stranger router x) answer w' i = i.moves.changes
-done_by net w (Deliver datagram router iface now) answer w' d = d.moves.changes
+pub done_by : (net : Network) (w : World) (e : Event) (answer : Answer) (w' : World) → Happens net w e answer w' → w'.reconfigurations ≡ w.reconfigurations ++ cons_option (reconfiguration_in e) []
+done_by net w (Tick router now word) answer w' m = m.reconfigurations
+done_by net w (Restart router now) answer w' m = m.reconfigurations
+done_by net w (Reconfigure router now change) answer w' m = m.reconfigurations
+done_by net w (Stranger router x) answer w' i = i.moves.reconfigurations
+done_by net w (Deliver datagram router iface now) answer w' d = d.moves.reconfigurations
 
-pub done_from : (net : Network) (events : List Event) (w w' : World) → WorldRun net w events w' → w'.changes ≡ w.changes ++ changes_in events
-done_from net [] w w' is = ap (λ (v : World). v.changes) is ∙ sym (append-nil w.changes)
+pub done_from : (net : Network) (events : List Event) (w w' : World) → WorldRun net w events w' → w'.reconfigurations ≡ w.reconfigurations ++ reconfigurations_in events
+done_from net [] w w' is = ap (λ (v : World). v.reconfigurations) is ∙ sym (append-nil w.reconfigurations)
 done_from net (e ∷ events) w w' run =
     done_from net events run.0 w' run.3
-    ∙ ap (λ (cs : List (ℕ × Change)). cs ++ changes_in events) (done_by net w e run.1 run.0 run.2)
-    ∙ append_assoc w.changes (cons_option (change_in e) []) (changes_in events)
-    ∙ ap (λ cs. w.changes ++ cs) (joined (change_in e) (changes_in events))
+    ∙ ap (λ (cs : List (ℕ × Change)). cs ++ reconfigurations_in events) (done_by net w e run.1 run.0 run.2)
+    ∙ append_assoc w.reconfigurations (cons_option (reconfiguration_in e) []) (reconfigurations_in events)
+    ∙ ap (λ cs. w.reconfigurations ++ cs) (joined (reconfiguration_in e) (reconfigurations_in events))
   where
     joined : (o : Option (ℕ × Change)) (cs : List (ℕ × Change)) → cons_option o [] ++ cs ≡ cons_option o cs
     joined None cs = refl
     joined (Some c) cs = refl
 
-pub done_in_run : (net : Network) (moments : List ℕ) (events : List Event) (cold w : World) → IsCold net moments cold → WorldRun net cold events w → w.changes ≡ changes_in events
-done_in_run net moments events cold w is run = done_from net events cold w run ∙ ap (λ (cs : List (ℕ × Change)). cs ++ changes_in events) is.unchanged
+pub done_in_run : (net : Network) (moments : List ℕ) (events : List Event) (cold w : World) → IsCold net moments cold → WorldRun net cold events w → w.reconfigurations ≡ reconfigurations_in events
+done_in_run net moments events cold w is run = done_from net events cold w run ∙ ap (λ (cs : List (ℕ × Change)). cs ++ reconfigurations_in events) is.unchanged

@@ -20,12 +20,12 @@ use Rattle.router_core.specs.Machine.{State, Happening, Arrives, Reconfigures, M
 use Rattle.router_core.specs.Received.{Received}
 use Rattle.router_core.specs.declared.answer.Answer.{Answer}
 use Rattle.ripng_world.specs.Network.{Node, AreLinked, config_of, interface_at}
-use Rattle.router_core.specs.Reconfiguring.{NamesInterface, change_fault, change_reasons}
+use Rattle.router_core.specs.Reconfiguring.{NamesInterface, reconfigure_fault, reconfigure_reasons}
 use Rattle.router_core.specs.declared.reconfiguring.Change.{Change}
 use Rattle.router_core.specs.declared.reconfiguring.Change.TheVariants.{Cost, Own, Disown}
 use Rattle.router_core.specs.declared.reconfiguring.ReconfigureRefused.{ReconfigureRefused}
 use Rattle.router_core.specs.declared.reconfiguring.ReconfigureRefused.TheVariants as refused
-use Rattle.ripng_world.specs.World.{World, Event, RouterMoves, Happens, Deliver, Stranger, Tick, Restart, Reconfigure, changes_by, is_heard, arrival_of, sent_by}
+use Rattle.ripng_world.specs.World.{World, Event, RouterMoves, Happens, Deliver, Stranger, Tick, Restart, Reconfigure, reconfigurations_of, is_heard, arrival_of, sent_by}
 use Rattle.ripng_world.specs.Stations.{StationValue, MoveStations, network_of, world_of}
 use Rattle.ripng_world.specs.Labs.{LabValue, IsRefusal, asked_reasons, lab_of, event_fault, event_reasons, missing_router_reasons, named_reasons, refusal_of, step_fault, is_one_link, link_at, link_of_datagram}
 use Rattle.ripng_world.specs.declared.event.LabError.{LabError}
@@ -51,10 +51,10 @@ module _ (stations : List StationValue) (router : ℕ) (old new : StationValue) 
       ∙ ap (slice_set (network_of stations) router) same
       ∙ slice_set_same (network_of stations) router old.node (slice_get-map (λ (s : StationValue). s.node) stations router ∙ ap (option_map (λ (s : StationValue). s.node)) old_is)
 
-  pub router_moves : (sent : List Sent) (changes : List (ℕ × Change)) (happening : Happening) (answer : Answer) → Moves old.state happening answer new.state
-      → RouterMoves (world_of stations sent changes) router happening answer
-      (world_of (slice_set stations router new) (sent ++ map (sent_by router) answer.sends) (changes ++ changes_by router happening))
-  router_moves sent changes happening answer moves =
+  pub router_moves : (sent : List Sent) (reconfigurations : List (ℕ × Change)) (happening : Happening) (answer : Answer) → Moves old.state happening answer new.state
+      → RouterMoves (world_of stations sent reconfigurations) router happening answer
+      (world_of (slice_set stations router new) (sent ++ map (sent_by router) answer.sends) (reconfigurations ++ reconfigurations_of router happening))
+  router_moves sent reconfigurations happening answer moves =
       record {
         old = old.state;
         new = new.state;
@@ -62,7 +62,7 @@ module _ (stations : List StationValue) (router : ℕ) (old new : StationValue) 
         moves = moves;
         states = map-slice_set (λ s. s.state) stations router new;
         sent = refl;
-        changes = refl;
+        reconfigurations = refl;
       }
 
 -- ---- nothing refuses an event
@@ -144,14 +144,14 @@ pub delivered : (stations : List StationValue) (sent : List Sent) (datagram rout
     → event_fault (lab_of stations sent []) (Deliver datagram router iface now) ≡ None → slice_get sent datagram ≡ Some d
     → slice_get stations router ≡ Some old → new.node ≡ old.node
     → Moves old.state (Arrives (arrival_of (network_of stations) d iface now)) answer new.state
-    → (changes : List (ℕ × Change)) → MoveStations stations sent changes (Deliver datagram router iface now) answer (slice_set stations router new)
-delivered stations sent datagram router iface now d old new answer none sent_is old_is same moves changes =
+    → (reconfigurations : List (ℕ × Change)) → MoveStations stations sent reconfigurations (Deliver datagram router iface now) answer (slice_set stations router new)
+delivered stations sent datagram router iface now d old new answer none sent_is old_is same moves reconfigurations =
     record {
       happens = record {
         sent = d;
         sent_is = sent_is;
         linked = delivery_linked stations sent datagram router iface now d none sent_is;
-        moves = router_moves stations router old new old_is same sent changes (Arrives (arrival_of (network_of stations) d iface now)) answer moves;
+        moves = router_moves stations router old new old_is same sent reconfigurations (Arrives (arrival_of (network_of stations) d iface now)) answer moves;
       };
       network = network_kept stations router old new old_is same;
     }
@@ -185,14 +185,14 @@ pub intruded : (stations : List StationValue) (sent : List Sent) (router : ℕ) 
     → event_fault (lab_of stations sent []) (Stranger router x) ≡ None
     → slice_get stations router ≡ Some old → new.node ≡ old.node → length old.state.config.interfaces ≡ length old.node.interfaces
     → Moves old.state (Arrives x) answer new.state
-    → (changes : List (ℕ × Change)) → MoveStations stations sent changes (Stranger router x) answer (slice_set stations router new)
+    → (reconfigurations : List (ℕ × Change)) → MoveStations stations sent reconfigurations (Stranger router x) answer (slice_set stations router new)
 unfolding router_moves
-intruded stations sent router x old new answer none old_is same many moves changes =
+intruded stations sent router x old new answer none old_is same many moves reconfigurations =
     let lawful = stranger stations sent router x none in
     let here = interface_within stations router x.iface lawful.interface old lawful.interface_is old_is in
     record {
       happens = record {
-        moves = router_moves stations router old new old_is same sent changes (Arrives x) answer moves;
+        moves = router_moves stations router old new old_is same sent reconfigurations (Arrives x) answer moves;
         known = subst (λ (n : ℕ). x.iface < n) (sym many) here;
         unheard = lawful.unheard old old_is;
       };
@@ -241,14 +241,14 @@ placed_alike a b (Disown p) same there = tt
 
 -- the tests of the router itself
 asked : (lab : LabValue) (router now : ℕ) (c : Change) (s : State) → slice_get lab.world.states router ≡ Some s → event_fault lab (Reconfigure router now c) ≡ None
-    → step_fault lab (Reconfigure router now c) ≡ option_map LabError.ReconfigureRefused (change_fault s.config s.table c)
+    → step_fault lab (Reconfigure router now c) ≡ option_map LabError.ReconfigureRefused (reconfigure_fault s.config s.table c)
 asked lab router now c s here none =
     first_reason-append (event_reasons lab (Reconfigure router now c)) (asked_reasons lab.world (Reconfigure router now c)) none
-    ∙ ap (λ (o : Option State). first_reason (option_map_or (λ t. map (λ u. (u.0, LabError.ReconfigureRefused u.1)) (change_reasons t.config t.table c)) o [])) here
-    ∙ first_reason-map LabError.ReconfigureRefused (change_reasons s.config s.table c)
+    ∙ ap (λ (o : Option State). first_reason (option_map_or (λ t. map (λ u. (u.0, LabError.ReconfigureRefused u.1)) (reconfigure_reasons t.config t.table c)) o [])) here
+    ∙ first_reason-map LabError.ReconfigureRefused (reconfigure_reasons s.config s.table c)
 
 -- none of them is for want of memory
-refused_as : (s : State) (c : Change) (why : ReconfigureRefused) → change_fault s.config s.table c ≡ Some why → refusal_of why ≡ LabError.ReconfigureRefused why
+refused_as : (s : State) (c : Change) (why : ReconfigureRefused) → reconfigure_fault s.config s.table c ≡ Some why → refusal_of why ≡ LabError.ReconfigureRefused why
 refused_as s c refused.BadCost is = refl
 refused_as s c refused.PrefixNotAllowed is = refl
 refused_as s c refused.AlreadyOwned is = refl
@@ -258,7 +258,7 @@ refused_as s c refused.NotOwned is = refl
 refused_as s c refused.OutOfMemory is = absurd (never c is)
   where
     -- by the tests of each kind
-    never : (d : Change) → change_fault s.config s.table d ≡ Some refused.OutOfMemory → ⊥
+    never : (d : Change) → reconfigure_fault s.config s.table d ≡ Some refused.OutOfMemory → ⊥
     never (Cost iface cost) e = by_test (is_usable_cost cost) e
       where
         by_test : (a : Bool) → cond (not a) (Some refused.BadCost) None ≡ Some refused.OutOfMemory → ⊥
@@ -279,10 +279,10 @@ refused_as s c refused.OutOfMemory is = absurd (never c is)
         by_test false e = cc
 
 pub change_refused : (lab : LabValue) (router now : ℕ) (c : Change) (s : State) (why : ReconfigureRefused) → slice_get lab.world.states router ≡ Some s
-    → event_fault lab (Reconfigure router now c) ≡ None → why ≡ unwrap_or (change_fault s.config s.table c) refused.OutOfMemory → IsRefusal lab (Reconfigure router now c) (refusal_of why)
-change_refused lab router now c s why here none is = by_fault (change_fault s.config s.table c) refl is
+    → event_fault lab (Reconfigure router now c) ≡ None → why ≡ unwrap_or (reconfigure_fault s.config s.table c) refused.OutOfMemory → IsRefusal lab (Reconfigure router now c) (refusal_of why)
+change_refused lab router now c s why here none is = by_fault (reconfigure_fault s.config s.table c) refl is
   where
-    by_fault : (o : Option ReconfigureRefused) → change_fault s.config s.table c ≡ o → why ≡ unwrap_or o refused.OutOfMemory → IsRefusal lab (Reconfigure router now c) (refusal_of why)
+    by_fault : (o : Option ReconfigureRefused) → reconfigure_fault s.config s.table c ≡ o → why ≡ unwrap_or o refused.OutOfMemory → IsRefusal lab (Reconfigure router now c) (refusal_of why)
     by_fault None fault same = inr (none, ap refusal_of same)
     by_fault (Some f) fault same =
         inl (asked lab router now c s here none ∙ ap (option_map LabError.ReconfigureRefused) fault ∙ ap Some (sym (ap refusal_of same ∙ refused_as s c f fault)))
@@ -302,10 +302,10 @@ happened_passes lab (Restart router now) answer w' none happens = first_reason-a
 
 pub reconfigured : (stations : List StationValue) (router now : ℕ) (c : Change) (old new : StationValue) (answer : Answer)
     → slice_get stations router ≡ Some old → new.node ≡ old.node → Moves old.state (Reconfigures now c) answer new.state
-    → (sent : List Sent) (changes : List (ℕ × Change)) → MoveStations stations sent changes (Reconfigure router now c) answer (slice_set stations router new)
-reconfigured stations router now c old new answer old_is same moves sent changes =
+    → (sent : List Sent) (reconfigurations : List (ℕ × Change)) → MoveStations stations sent reconfigurations (Reconfigure router now c) answer (slice_set stations router new)
+reconfigured stations router now c old new answer old_is same moves sent reconfigurations =
     record {
-      happens = router_moves stations router old new old_is same sent changes (Reconfigures now c) answer moves;
+      happens = router_moves stations router old new old_is same sent reconfigurations (Reconfigures now c) answer moves;
       network = network_kept stations router old new old_is same;
     }
 

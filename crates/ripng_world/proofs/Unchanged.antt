@@ -21,7 +21,7 @@ use Rattle.ripng_world.proofs.Keeping.{heard_sound}
 
 -- ---- from all that was in force to the network
 
-module _ (past : Past) (unchanged : past.changes ≡ []) (router : ℕ) where
+module _ (past : Past) (unchanged : past.reconfigurations ≡ []) (router : ℕ) where
   pub table_first : (table : Table) → IsSoundTableSince past router table → IsSoundTable past.net router table
   table_first table = table_by past.net (ReachesSince past router) (Reaches past.net router) (reaches_first past unchanged router) table
 

@@ -8,7 +8,7 @@ use Rattle.ripng_world.specs.Asked.{Asked}
 use Rattle.ripng_world.specs.AskedRounds.{AreMade, IsMade, round_of, ticks_of}
 use Rattle.ripng_world.specs.Delivering.{StopAt}
 use Rattle.ripng_world.specs.Network.{Network}
-use Rattle.ripng_world.specs.Rounds.{Round, AllTick, IsDueTick, events_of}
+use Rattle.ripng_world.specs.Rounds.{Round, AllTick, IsDueTick, events_of_rounds}
 use Rattle.ripng_world.specs.Stopping.{RoundStops, RoundsStop, round_in}
 use Rattle.ripng_world.specs.Watching.{Told, WatchedRun, WatchedInPart, AreMadeTold, IsMadeTold, IfRefused, RoundToldInPart, any, due, failures, heard, refused_as, telling}
 use Rattle.ripng_world.specs.World.{World, Event, Happens, WorldRun}
@@ -115,10 +115,10 @@ made_with net [] [] a w mid w' first made =
 made_with net (x ∷ asks) (r ∷ rs) a w mid w' first made = (first.0, first.1, first.2, first.3, first.4, made_with net asks rs a first.1 mid w' first.5 made)
 made_with net _ _ a w mid w' first made = absurd first
 
-events_more : (rs : List Round) (r : Round) → events_of (rs ++ r ∷ []) ≡ events_of rs ++ (r.ticks ++ r.deliveries)
+events_more : (rs : List Round) (r : Round) → events_of_rounds (rs ++ r ∷ []) ≡ events_of_rounds rs ++ (r.ticks ++ r.deliveries)
 events_more rs r =
     let f : Round → List Event = λ x. x.ticks ++ x.deliveries in
-    flat_map-append f rs (r ∷ []) ∙ ap (λ (es : List Event). events_of rs ++ es) (append-nil (r.ticks ++ r.deliveries))
+    flat_map-append f rs (r ∷ []) ∙ ap (λ (es : List Event). events_of_rounds rs ++ es) (append-nil (r.ticks ++ r.deliveries))
 
 pub told_more : {V : Type 0} (t : V → Told → V → Type 0) (net : Network) (asks : List Asked) (n : ℕ) (a : Asked) (s mid s' : World × V) → n < length asks → a ≡ get_or asks n a
     → AreMadeTold t net s (take n asks) mid → IsMadeTold t net mid a s' → AreMadeTold t net s (take (n + 1) asks) s'
@@ -130,7 +130,7 @@ told_more t net asks n a s mid s' here is before made =
       before.0 ++ round ∷ [],
       made_with net (take n asks) before.0 a s.0 mid.0 s'.0 before.1 (made_told t net a mid s' made),
       subst (λ (es : List Event). WatchedRun t any net s es s') (sym (events_more before.0 round))
-          (watched_on t any net (events_of before.0) (round.ticks ++ round.deliveries) s mid s' before.2 (round_told t net a mid s' made)),
+          (watched_on t any net (events_of_rounds before.0) (round.ticks ++ round.deliveries) s mid s' before.2 (round_told t net a mid s' made)),
     )
 
 module _ {F : Type 0} (net : Network) where
@@ -158,7 +158,7 @@ module _ {F : Type 0} (net : Network) where
       (n, record { rounds = made.0; begin = mid.0; made = made.1; stopped = a; stopped_is = here; stops = stops })
 
   pub rounds_still : {X V : Type 0} (t : V → Told → V → Type 0) (asks : List Asked) (s s' : World × V) (r : Result X (Stopped RoundsRefused F)) → OnOk r (AreMadeTold t net s asks s')
-      → IfErr r (λ why. RoundsStop net s.0 asks why s'.0) → s'.0.changes ≡ s.0.changes
+      → IfErr r (λ why. RoundsStop net s.0 asks why s'.0) → s'.0.reconfigurations ≡ s.0.reconfigurations
   rounds_still t asks s s' (Ok x) made stopped = made_still net asks made.0 s.0 s'.0 made.1
   rounds_still t asks s s' (Err (Refused why)) made stopped = stopped_still net asks why s.0 s'.0 stopped
   rounds_still t asks s s' (Err (Failed fault)) made stopped = failed_still net asks s.0 s'.0 stopped

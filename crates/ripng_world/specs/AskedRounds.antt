@@ -5,7 +5,7 @@ use Rattle.ripng_world.specs.Asked.{Asked}
 use Rattle.ripng_world.specs.Convergence.{IsNeverQuiet, FitsTables, AreConverged, HaveSettled}
 use Rattle.ripng_world.specs.Labs.{is_one_link, link_at}
 use Rattle.ripng_world.specs.Network.{Network}
-use Rattle.ripng_world.specs.Rounds.{Round, AllTick, AllHeard, SynchronousRounds, AreWithinTimeout, events_of}
+use Rattle.ripng_world.specs.Rounds.{Round, AllTick, AllHeard, SynchronousRounds, AreWithinTimeout, events_of_rounds}
 use Rattle.ripng_world.specs.World.{World, Event, Deliver, Tick, WorldRun, IsCold}
 use Rattle.ripng_world.specs.declared.pairs.Pair.{Pair}
 use Rattle.ripng_world.specs.declared.sent.Sent.{Sent}
@@ -81,7 +81,7 @@ pub record AreAllMade (net : Network) (w : World) (asked : List Asked) (w' : Wor
   pub made : AreMade net w asked rounds w'
   pub as_many : length rounds ≡ length asked
   pub synchronous : SynchronousRounds net w rounds w'
-  pub run : WorldRun net w (events_of rounds) w'
+  pub run : WorldRun net w (events_of_rounds rounds) w'
 
 -- from a cold start, where moments are close, so many rounds find all that is that near
 pub record Converges (net : Network) (w : World) (asked : List Asked) (w' : World) : Type 0 where

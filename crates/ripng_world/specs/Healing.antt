@@ -27,18 +27,18 @@ with_link_cost interfaces iface cost =
     unwrap_or (option_map (λ i. slice_set interfaces iface (record i { interface = record i.interface { cost = cost } })) (slice_get interfaces iface)) interfaces
 
 -- what a router is configured with after a change
-abbrev pub changed_node : Node → Change → Node
-changed_node node (Cost iface cost) = record node { interfaces = with_link_cost node.interfaces iface cost }
-changed_node node (Own p tag) = record node { prefixes = node.prefixes ++ (p, tag) ∷ [] }
-changed_node node (Disown p) = record node { prefixes = without_prefix node.prefixes p }
+abbrev pub reconfigured_node : Node → Change → Node
+reconfigured_node node (Cost iface cost) = record node { interfaces = with_link_cost node.interfaces iface cost }
+reconfigured_node node (Own p tag) = record node { prefixes = node.prefixes ++ (p, tag) ∷ [] }
+reconfigured_node node (Disown p) = record node { prefixes = without_prefix node.prefixes p }
 
 -- the network after a change that one router has done
-abbrev pub changed_network : Network → ℕ × Change → Network
-changed_network net done = unwrap_or (option_map (λ node. slice_set net done.0 (changed_node node done.1)) (slice_get net done.0)) net
+abbrev pub reconfigured_network : Network → ℕ × Change → Network
+reconfigured_network net done = unwrap_or (option_map (λ node. slice_set net done.0 (reconfigured_node node done.1)) (slice_get net done.0)) net
 
 -- the network after all changes that were done: its costs and owners are those of now
 abbrev pub network_now : Past → Network
-network_now past = fold changed_network past.net past.changes
+network_now past = fold reconfigured_network past.net past.reconfigurations
 
 -- no more distinct prefixes than a table holds were ever owned
 abbrev pub FitsTablesSince : Past → Type 0

@@ -8,7 +8,7 @@ use Rattle.ripng_wire.specs.Wire.{first_reason}
 use Rattle.route_table.specs.Route.{RouteValue, infinity}
 use Rattle.router_core.specs.Machine.{State}
 use Rattle.router_core.specs.Received.{Received}
-use Rattle.router_core.specs.Reconfiguring.{change_reasons}
+use Rattle.router_core.specs.Reconfiguring.{reconfigure_reasons}
 use Rattle.router_core.specs.declared.answer.Answer.{Answer}
 use Rattle.router_core.specs.declared.reconfiguring.Change.{Change}
 use Rattle.router_core.specs.declared.reconfiguring.Change.TheVariants.{Cost, Own, Disown}
@@ -32,7 +32,7 @@ pub record LabValue : Type 0 where
 
 -- the lab of these routers, of what was sent and of what was changed
 abbrev pub lab_of : List StationValue → List Sent → List (ℕ × Change) → LabValue
-lab_of stations sent changes = record { network = network_of stations; world = world_of stations sent changes }
+lab_of stations sent reconfigurations = record { network = network_of stations; world = world_of stations sent reconfigurations }
 
 -- the network is lawful, and the world is what some events made of a cold one
 pub record HasRun (net : Network) (w : World) : Type 0 where
@@ -90,9 +90,9 @@ AreDatagramsSound net sent = AllByRecursion (λ d. IsSoundDatagram net d.router 
 
 -- all three, while no change was done
 pub record HoldsFixed (net : Network) (w : World) : Type 0 where
-  pub backed : w.changes ≡ [] → AreRoutesBacked net w
-  pub least : w.changes ≡ [] → HaveNoneBelowLeast net w
-  pub truth : w.changes ≡ [] → AreDatagramsSound net w.sent
+  pub backed : w.reconfigurations ≡ [] → AreRoutesBacked net w
+  pub least : w.reconfigurations ≡ [] → HaveNoneBelowLeast net w
+  pub truth : w.reconfigurations ≡ [] → AreDatagramsSound net w.sent
 
 -- ---- steps
 
@@ -157,7 +157,7 @@ refusal_of why = LabError.ReconfigureRefused why
 -- the reasons to refuse the router itself
 abbrev pub asked_reasons : World → Event → List (Bool × LabError)
 asked_reasons w (Reconfigure router now c) =
-    option_map_or (λ s. map (λ t. (t.0, LabError.ReconfigureRefused t.1)) (change_reasons s.config s.table c)) (slice_get w.states router) []
+    option_map_or (λ s. map (λ t. (t.0, LabError.ReconfigureRefused t.1)) (reconfigure_reasons s.config s.table c)) (slice_get w.states router) []
 asked_reasons w _ = []
 
 -- the first reason of all that applies
@@ -175,21 +175,21 @@ pub record IsRefusedNext (lab : LabValue) (events : List Event) (place : ℕ) (w
   pub reason : IsRefusal lab event why
 
 -- the number of a refusal
-abbrev pub refusal_number : LabError → ℕ
-refusal_number NoSuchRouter = 1
-refusal_number NoSuchInterface = 2
-refusal_number NoSuchDatagram = 3
-refusal_number OtherLink = 4
-refusal_number NotAStranger = 5
-refusal_number OutOfMemory = 6
-refusal_number (LabError.ReconfigureRefused why) = 7
+abbrev pub lab_error_number : LabError → ℕ
+lab_error_number NoSuchRouter = 1
+lab_error_number NoSuchInterface = 2
+lab_error_number NoSuchDatagram = 3
+lab_error_number OtherLink = 4
+lab_error_number NotAStranger = 5
+lab_error_number OutOfMemory = 6
+lab_error_number (LabError.ReconfigureRefused why) = 7
 
 -- the name of a refusal
-abbrev pub refusal_name : LabError → List ℕ
-refusal_name NoSuchRouter = codes "NoSuchRouter"
-refusal_name NoSuchInterface = codes "NoSuchInterface"
-refusal_name NoSuchDatagram = codes "NoSuchDatagram"
-refusal_name OtherLink = codes "OtherLink"
-refusal_name NotAStranger = codes "NotAStranger"
-refusal_name OutOfMemory = codes "OutOfMemory"
-refusal_name (LabError.ReconfigureRefused why) = codes "ReconfigureRefused"
+abbrev pub lab_error_name : LabError → List ℕ
+lab_error_name NoSuchRouter = codes "NoSuchRouter"
+lab_error_name NoSuchInterface = codes "NoSuchInterface"
+lab_error_name NoSuchDatagram = codes "NoSuchDatagram"
+lab_error_name OtherLink = codes "OtherLink"
+lab_error_name NotAStranger = codes "NotAStranger"
+lab_error_name OutOfMemory = codes "OutOfMemory"
+lab_error_name (LabError.ReconfigureRefused why) = codes "ReconfigureRefused"

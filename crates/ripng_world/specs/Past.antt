@@ -12,15 +12,15 @@ use Rattle.ripng_world.specs.Walks.{Hop, IsWalk, IsBackedBy, IsEntryBackedBy, Is
 -- a network as it started, and the changes that its routers have done since, each with its router
 pub record Past : Type 0 where
   pub net : Network
-  pub changes : List (ℕ × Change)
+  pub reconfigurations : List (ℕ × Change)
 
 -- nothing was changed yet
 abbrev pub beginning : Network → Past
-beginning net = record { net = net; changes = [] }
+beginning net = record { net = net; reconfigurations = [] }
 
 -- the router did this change
 abbrev pub WasDone : Past → ℕ → Change → Type 0
-WasDone past router c = (place : ℕ) × (slice_get past.changes place ≡ Some (router, c))
+WasDone past router c = (place : ℕ) × (slice_get past.reconfigurations place ≡ Some (router, c))
 
 -- the interface has, or had, this cost
 abbrev pub HasCostSince : Past → ℕ → ℕ → ℕ → Type 0

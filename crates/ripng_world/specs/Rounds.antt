@@ -73,8 +73,8 @@ SynchronousRounds net w [] w' = w' ≡ w
 SynchronousRounds net w (round ∷ rounds) w' = (mid : World) × IsSynchronousRound net w round mid × SynchronousRounds net mid rounds w'
 
 -- all events of the rounds, in order
-abbrev pub events_of : List Round → List Event
-events_of rounds = flat_map (λ round. round.ticks ++ round.deliveries) rounds
+abbrev pub events_of_rounds : List Round → List Event
+events_of_rounds rounds = flat_map (λ round. round.ticks ++ round.deliveries) rounds
 
 -- the router moves at that moment in the round
 pub record IsMomentOf (round : Round) (router moment : ℕ) : Type 0 where

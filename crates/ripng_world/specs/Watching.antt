@@ -7,7 +7,7 @@ use Rattle.ripng_world.specs.AskedRounds.{AreMade, round_of, ticks_of}
 use Rattle.ripng_world.specs.Delivering.{WantsMemory}
 use Rattle.ripng_world.specs.Labs.{LabValue}
 use Rattle.ripng_world.specs.Network.{Network}
-use Rattle.ripng_world.specs.Rounds.{Round, AllTick, IsDueTick, events_of}
+use Rattle.ripng_world.specs.Rounds.{Round, AllTick, IsDueTick, events_of_rounds}
 use Rattle.ripng_world.specs.World.{World, Event, Happens}
 use Rattle.ripng_world.specs.declared.watch.Stopped.{Stopped}
 use Rattle.ripng_world.specs.declared.watch.Stopped.TheVariants.{Refused, Failed}
@@ -112,7 +112,7 @@ IsMadeTold {V} takes net s asked s' =
 
 -- so are these, and what was told is just their events
 abbrev pub AreMadeTold : {V : Type 0} → (V → Told → V → Type 0) → Network → World × V → List Asked → World × V → Type 0
-AreMadeTold takes net s asked s' = (rounds : List Round) × AreMade net s.0 asked rounds s'.0 × WatchedRun takes any net s (events_of rounds) s'
+AreMadeTold takes net s asked s' = (rounds : List Round) × AreMade net s.0 asked rounds s'.0 × WatchedRun takes any net s (events_of_rounds rounds) s'
 
 -- these events are the beginning of a round: some of its ticks, or all of them and some of the deliveries that they lead to
 abbrev pub AreFirstOf : Network → World → Asked → List Event → Type 0

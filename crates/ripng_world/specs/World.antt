@@ -17,11 +17,11 @@ use Rattle.ripng_world.specs.declared.sent.Sent.{Sent}
 pub record World : Type 0 where
   pub states : List State
   pub sent : List Sent
-  pub changes : List (ℕ × Change)  -- that routers have done, each with its router
+  pub reconfigurations : List (ℕ × Change)  -- that routers have done, each with its router
 
 -- all that was in force since the cold start
 abbrev pub past_of : Network → World → Past
-past_of net w = record { net = net; changes = w.changes }
+past_of net w = record { net = net; reconfigurations = w.reconfigurations }
 
 -- what may happen to a network; losing a datagram is none: it is never delivered
 pub data Event : Type 0 where
@@ -36,9 +36,9 @@ abbrev pub sent_by : ℕ → Outgoing → Sent
 sent_by router o = record { router = router; iface = o.iface; to = o.to; bytes = o.bytes }
 
 -- what is added to the changes done
-abbrev pub changes_by : ℕ → Happening → List (ℕ × Change)
-changes_by router (Reconfigures now c) = (router, c) ∷ []
-changes_by router _ = []
+abbrev pub reconfigurations_of : ℕ → Happening → List (ℕ × Change)
+reconfigurations_of router (Reconfigures now c) = (router, c) ∷ []
+reconfigurations_of router _ = []
 
 -- one router moves, what it sends and the change that it does are added, and all else stays
 pub record RouterMoves (w : World) (router : ℕ) (happening : Happening) (answer : Answer) (w' : World) : Type 0 where
@@ -48,7 +48,7 @@ pub record RouterMoves (w : World) (router : ℕ) (happening : Happening) (answe
   pub moves : Moves old happening answer new
   pub states : w'.states ≡ slice_set w.states router new
   pub sent : w'.sent ≡ w.sent ++ map (sent_by router) answer.sends
-  pub changes : w'.changes ≡ w.changes ++ changes_by router happening
+  pub reconfigurations : w'.reconfigurations ≡ w.reconfigurations ++ reconfigurations_of router happening
 
 -- it goes to all routers of the link
 abbrev pub is_to_group : Destination → Bool
@@ -103,13 +103,13 @@ WorldRun net w [] w' = w' ≡ w
 WorldRun net w (e ∷ events) w' = (mid : World) × (answer : Answer) × Happens net w e answer mid × WorldRun net mid events w'
 
 -- the changes of the reconfigurations among the events, each with its router, in order
-abbrev pub change_in : Event → Option (ℕ × Change)
-change_in (Reconfigure router now c) = Some (router, c)
-change_in _ = None
+abbrev pub reconfiguration_in : Event → Option (ℕ × Change)
+reconfiguration_in (Reconfigure router now c) = Some (router, c)
+reconfiguration_in _ = None
 
 -- the changes among events
-abbrev pub changes_in : List Event → List (ℕ × Change)
-changes_in events = filter_map change_in events
+abbrev pub reconfigurations_in : List Event → List (ℕ × Change)
+reconfigurations_in events = filter_map reconfiguration_in events
 
 -- the routers from a number on start in order, each at its moment
 abbrev pub StartsFrom : ℕ → List Node → List ℕ → List State → List Sent → Type 0
@@ -122,4 +122,4 @@ StartsFrom n _ _ _ sent = ⊥
 -- every router has just started, and nothing was changed
 pub record IsCold (net : Network) (moments : List ℕ) (w : World) : Type 0 where
   pub starts : StartsFrom 0 net moments w.states w.sent
-  pub unchanged : w.changes ≡ []
+  pub unchanged : w.reconfigurations ≡ []

@@ -72,11 +72,11 @@ pub enum LabError {
 
 impl LabError {
     ghost use Rattle.std.specs.Prelude.{◌≡◌};
-    ghost use Rattle.ripng_world.specs.Labs.{refusal_name, refusal_number};
+    ghost use Rattle.ripng_world.specs.Labs.{lab_error_name, lab_error_number};
 
     /// The number of the refusal, 1 to 7.
     pub fn number(self) -> u8
-        ensures { result ≡ refusal_number self }
+        ensures { result ≡ lab_error_number self }
     {
         match self {
             LabError::NoSuchRouter => 1,
@@ -91,7 +91,7 @@ impl LabError {
 
     /// The name of the refusal, one word.
     pub fn name(self) -> &'static str
-        ensures { result.now ≡ refusal_name self }
+        ensures { result.now ≡ lab_error_name self }
     {
         match self {
             LabError::NoSuchRouter => "NoSuchRouter",

@@ -9,7 +9,7 @@ ghost use Rattle.ripng_world.specs.Past.{IsTableBackedSince};
 ghost use Rattle.ripng_world.specs.Stations.{network_of, world_of};
 ghost use Rattle.ripng_world.specs.Walks.{IsTableBacked};
 ghost use Rattle.ripng_world.specs.Watching.{IfRefused, WatchedInPart, WatchedUntil, any, failures, failures_in};
-ghost use Rattle.ripng_world.specs.World.{IsCold, WorldRun, changes_in, past_of};
+ghost use Rattle.ripng_world.specs.World.{IsCold, WorldRun, reconfigurations_in, past_of};
 
 mod delivering;
 mod making;
@@ -32,7 +32,7 @@ use std::marker::Model;
 pub struct Lab<S: RouteStore> {
     stations: Vec<Station<S>>,
     sent: Vec<Sent>,
-    changes: Vec<(usize, Change)>,
+    reconfigurations: Vec<(usize, Change)>,
     alloc: Global,
 }
 
@@ -49,9 +49,9 @@ impl<S: RouteStore> Model for Lab<S> {
 
     ghost coded = { Prim.hlevel (codes, map_of.code {R = prefix_cmp} prefix.the_row.coded route.the_row.coded) };
 
-    ghost view = { λ l. lab_of l.stations.items l.sent.items l.changes.items };
+    ghost view = { λ l. lab_of l.stations.items l.sent.items l.reconfigurations.items };
 
-    ghost invariant = { λ l. HasRun (network_of l.stations.items) (world_of l.stations.items l.sent.items l.changes.items) };
+    ghost invariant = { λ l. HasRun (network_of l.stations.items) (world_of l.stations.items l.sent.items l.reconfigurations.items) };
 }
 
 /// Each router starts at its moment.
@@ -113,7 +113,7 @@ impl<S: RouteStore> Lab<S> {
         Ok(Lab {
             stations,
             sent,
-            changes: Vec::new(alloc),
+            reconfigurations: Vec::new(alloc),
             alloc,
         })
     }
@@ -131,8 +131,8 @@ impl<S: RouteStore> Lab<S> {
         ensures value { option_copied result ≡ slice_get self.now.world.states router }
         ensures backed { IfSome result (λ r. IsTableBackedSince (past_of self.now.network self.now.world) router r.now.table) }
         ensures least { IfSome result (λ r. HasNoneBelowLeastSince self.now.network self.now.world router r.now) }
-        ensures fixed_backed { IfSome result (λ r. self.now.world.changes ≡ [] → IsTableBacked self.now.network router r.now.table) }
-        ensures fixed_least { IfSome result (λ r. self.now.world.changes ≡ [] → HasNoneBelowLeast self.now.network router r.now) }
+        ensures fixed_backed { IfSome result (λ r. self.now.world.reconfigurations ≡ [] → IsTableBacked self.now.network router r.now.table) }
+        ensures fixed_least { IfSome result (λ r. self.now.world.reconfigurations ≡ [] → HasNoneBelowLeast self.now.network router r.now) }
     {
         match self.stations.get(router) {
             Some(station) => Some(station.router()),
@@ -144,16 +144,16 @@ impl<S: RouteStore> Lab<S> {
     pub fn sent(&self) -> &[Sent]
         ensures value { result.now ≡ self.now.world.sent }
         ensures truth { AreDatagramsSoundSince self.now.network self.now.world }
-        ensures fixed { self.now.world.changes ≡ [] → AreDatagramsSound self.now.network result.now }
+        ensures fixed { self.now.world.reconfigurations ≡ [] → AreDatagramsSound self.now.network result.now }
     {
         &self.sent
     }
 
     /// The changes that routers have done since the cold start, each with its router, in order.
-    pub fn changes_done(&self) -> &[(usize, Change)]
-        ensures { result.now ≡ self.now.world.changes }
+    pub fn reconfigurations(&self) -> &[(usize, Change)]
+        ensures { result.now ≡ self.now.world.reconfigurations }
     {
-        &self.changes
+        &self.reconfigurations
     }
 
     /// The number of the link of an interface, if the network has such a router and interface.
@@ -172,7 +172,7 @@ impl<S: RouteStore> Lab<S> {
     pub fn step(&mut self, event: &Event<'_>) -> Result<Answer, LabError>
         ensures happens { IfOk result (λ answer. HappensGiving self.old (event_of event.entry.now) answer self.new.world) }
         ensures network { self.new.network ≡ self.old.network }
-        ensures changes { OnOk result (self.new.world.changes ≡ self.old.world.changes ++ changes_in (event_of event.entry.now ∷ [])) }
+        ensures reconfigurations { OnOk result (self.new.world.reconfigurations ≡ self.old.world.reconfigurations ++ reconfigurations_in (event_of event.entry.now ∷ [])) }
         ensures passes { OnOk result (step_fault self.old (event_of event.entry.now) ≡ None) }
         ensures refused { IfErr result (λ why. IsRefusal self.old (event_of event.entry.now) why) }
         ensures err { OnErr result (self.new ≡ self.old) }
@@ -182,7 +182,7 @@ impl<S: RouteStore> Lab<S> {
         ensures fixed { HoldsFixed self.new.network self.new.world }
     {
         check(&self.stations, &self.sent, event)?;
-        let answer = happen(&mut self.stations, &mut self.sent, &mut self.changes, event)?;
+        let answer = happen(&mut self.stations, &mut self.sent, &mut self.reconfigurations, event)?;
         file(&mut self.sent, event.router(), answer.sends);
         Ok(handed_out(self.alloc, answer.fault, answer.changes, answer.notes))
     }
@@ -200,7 +200,7 @@ impl<S: RouteStore> Lab<S> {
         ensures stopped { IfErr result (λ why. WatchedInPart V.takes V.fails (failures why) self.old.network (self.old.world, watch.old) (event_of event.entry.now ∷ []) (self.new.world, watch.new)) }
         ensures happens { IfOk result (λ answer. HappensGiving self.old (event_of event.entry.now) answer self.new.world) }
         ensures network { self.new.network ≡ self.old.network }
-        ensures changes { OnOk result (self.new.world.changes ≡ self.old.world.changes ++ changes_in (event_of event.entry.now ∷ [])) }
+        ensures reconfigurations { OnOk result (self.new.world.reconfigurations ≡ self.old.world.reconfigurations ++ reconfigurations_in (event_of event.entry.now ∷ [])) }
         ensures passes { OnOk result (step_fault self.old (event_of event.entry.now) ≡ None) }
         ensures refused { IfErr result (λ why. IfRefused why (IsRefusal self.old (event_of event.entry.now))) }
         ensures err { IfErr result (λ why. IfRefused why (λ _. self.new ≡ self.old)) }
@@ -228,7 +228,7 @@ impl<S: RouteStore> Lab<S> {
     pub fn run(&mut self, events: &[Event<'_>]) -> (usize, Result<(), LabError>)
         ensures done { WorldRun self.old.network self.old.world (take result.0 (map event_of events.entry.now)) self.new.world }
         ensures network { self.new.network ≡ self.old.network }
-        ensures changes { self.new.world.changes ≡ self.old.world.changes ++ changes_in (take result.0 (map event_of events.entry.now)) }
+        ensures reconfigurations { self.new.world.reconfigurations ≡ self.old.world.reconfigurations ++ reconfigurations_in (take result.0 (map event_of events.entry.now)) }
         ensures all { OnOk result.1 (result.0 ≡ length events.entry.now) }
         ensures refused { IfErr result.1 (λ why. IsRefusedNext self.new (map event_of events.entry.now) result.0 why) }
         ensures backed { AreRoutesBackedSince self.new.network self.new.world }
@@ -255,7 +255,7 @@ impl<S: RouteStore> Lab<S> {
         ensures told { WatchedUntil V.takes V.fails (failures_in result.1) self.old.network (self.old.world, watch.old) (take result.0 (map event_of events.entry.now)) (self.new.world, watch.new) }
         ensures done { WorldRun self.old.network self.old.world (take result.0 (map event_of events.entry.now)) self.new.world }
         ensures network { self.new.network ≡ self.old.network }
-        ensures changes { self.new.world.changes ≡ self.old.world.changes ++ changes_in (take result.0 (map event_of events.entry.now)) }
+        ensures reconfigurations { self.new.world.reconfigurations ≡ self.old.world.reconfigurations ++ reconfigurations_in (take result.0 (map event_of events.entry.now)) }
         ensures all { OnOk result.1 (result.0 ≡ length events.entry.now) }
         ensures refused { IfErr result.1 (λ why. IfRefused why (IsRefusedNext self.new (map event_of events.entry.now) result.0)) }
         ensures backed { AreRoutesBackedSince self.new.network self.new.world }

@@ -10,18 +10,18 @@ ghost use Rattle.router_core.specs.Ageing.{aged_table};
 ghost use Rattle.router_core.specs.Config.{Config};
 ghost use Rattle.router_core.specs.Hearing.{Hearing, Heard};
 ghost use Rattle.router_core.specs.Machine.{State, Happening, Moves};
-ghost use Rattle.router_core.specs.Reconfiguring.{IsNamed, changed_table};
+ghost use Rattle.router_core.specs.Reconfiguring.{IsNamed, reconfigured_table};
 ghost use Rattle.router_core.specs.declared.answer.Answer.{Answer};
 ghost use Rattle.router_core.specs.declared.reconfiguring.Change.{Change};
 ghost use Rattle.ripng_world.specs.Network.{Network, IsNetwork};
 ghost use Rattle.ripng_world.specs.Walks.{Hop, IsWalk, Reaches, cost, IsTableBacked, IsLeast};
 ghost use Rattle.ripng_world.specs.Past.{Past, ReachesSince, IsTableBackedSince, IsLeastSince};
 ghost use Rattle.ripng_world.specs.Convergence.{IsNeverQuiet, FitsTables, AreConverged};
-ghost use Rattle.ripng_world.specs.Rounds.{Round, SynchronousRounds, AreWithinTimeout, events_of};
+ghost use Rattle.ripng_world.specs.Rounds.{Round, SynchronousRounds, AreWithinTimeout, events_of_rounds};
 ghost use Rattle.ripng_world.specs.Healing.{AreWithinGarbageTime, AreHealed, FitsTablesSince, network_now};
 ghost use Rattle.ripng_world.specs.Truth.{IsNeighbor, IsSoundTable, IsSoundEntry, IsSoundDatagram};
 ghost use Rattle.ripng_world.specs.TruthSince.{IsNeighborSince, IsSoundTableSince, IsSoundEntrySince, IsSoundDatagramSince};
-ghost use Rattle.ripng_world.specs.World.{World, Event, IsCold, WorldRun, past_of, changes_in};
+ghost use Rattle.ripng_world.specs.World.{World, Event, IsCold, WorldRun, past_of, reconfigurations_in};
 
 /// A router whose routes are backed sends only entries that tell the cost and tag of a walk: over all that was in force
 /// since a cold start, and, with the same words, over a network with fixed costs and owners.
@@ -42,10 +42,10 @@ pub fn keeps_routes_backed()
         → IsSoundTableSince past router h.before → Heard h after → IsSoundTableSince past router after }
     ensures aged { (past : Past) (router now : ℕ) (table : Table)
         → IsSoundTableSince past router table → IsSoundTableSince past router (aged_table now table) }
-    ensures changed { (net : Network) (changes : List (ℕ × Change)) (router now : ℕ) (config : Config) (table : Table) (c : Change)
+    ensures changed { (net : Network) (reconfigurations : List (ℕ × Change)) (router now : ℕ) (config : Config) (table : Table) (c : Change)
         → IsNamed config c
-        → IsSoundTableSince (record { net = net; changes = changes }) router table
-        → IsSoundTableSince (record { net = net; changes = changes ++ (router, c) ∷ [] }) router (changed_table now table c) }
+        → IsSoundTableSince (record { net = net; reconfigurations = reconfigurations }) router table
+        → IsSoundTableSince (record { net = net; reconfigurations = reconfigurations ++ (router, c) ∷ [] }) router (reconfigured_table now table c) }
     ensures heard_fixed { (net : Network) (router sender sender_iface : ℕ) (h : Hearing) (after : Table)
         → IsNeighbor net router h.gateway sender sender_iface
         → AllByRecursion (IsSoundEntry net sender) h.entries
@@ -70,22 +70,22 @@ pub fn invents_no_distance()
         → IsNetwork net → IsCold net moments cold → WorldRun net cold events w
         → AllByRecursion (λ d. IsSoundDatagramSince (past_of net w) d.router d.bytes) w.sent }
     ensures done { (net : Network) (moments : List ℕ) (events : List Event) (cold w : World)
-        → IsCold net moments cold → WorldRun net cold events w → w.changes ≡ changes_in events }
+        → IsCold net moments cold → WorldRun net cold events w → w.reconfigurations ≡ reconfigurations_in events }
 {}
 
 /// In every network with fixed costs and fixed owners, after every list of events, every route is backed by a walk, and so
 /// is not below the least cost: the same while no change was done.
 pub fn invents_no_distance_unchanged()
     ensures backed { (net : Network) (moments : List ℕ) (events : List Event) (cold w : World)
-        → IsNetwork net → IsCold net moments cold → WorldRun net cold events w → w.changes ≡ []
+        → IsNetwork net → IsCold net moments cold → WorldRun net cold events w → w.reconfigurations ≡ []
         → (router : ℕ) (state : State) → slice_get w.states router ≡ Some state → IsTableBacked net router state.table }
     ensures least { (net : Network) (moments : List ℕ) (events : List Event) (cold w : World)
-        → IsNetwork net → IsCold net moments cold → WorldRun net cold events w → w.changes ≡ []
+        → IsNetwork net → IsCold net moments cold → WorldRun net cold events w → w.reconfigurations ≡ []
         → (router : ℕ) (state : State) (p : Prefix6) (r : RouteValue) (metric : ℕ)
         → slice_get w.states router ≡ Some state → map_of.get state.table p ≡ Some r → r.metric < infinity
         → IsLeast net router p metric → metric ≤ r.metric }
     ensures sent { (net : Network) (moments : List ℕ) (events : List Event) (cold w : World)
-        → IsNetwork net → IsCold net moments cold → WorldRun net cold events w → w.changes ≡ []
+        → IsNetwork net → IsCold net moments cold → WorldRun net cold events w → w.reconfigurations ≡ []
         → AllByRecursion (λ d. IsSoundDatagram net d.router d.bytes) w.sent }
 {}
 
@@ -93,7 +93,7 @@ pub fn invents_no_distance_unchanged()
 /// such walks.
 pub fn generalises_walks()
     ensures unchanged { (past : Past) (from : ℕ) (p : Prefix6) (metric tag : ℕ) (walk : List Hop)
-        → past.changes ≡ [] → ReachesSince past from p metric tag walk → Reaches past.net from p metric tag walk }
+        → past.reconfigurations ≡ [] → ReachesSince past from p metric tag walk → Reaches past.net from p metric tag walk }
     ensures still { (past : Past) (from : ℕ) (p : Prefix6) (metric tag : ℕ) (walk : List Hop)
         → Reaches past.net from p metric tag walk → ReachesSince past from p metric tag walk }
 {}
@@ -126,7 +126,7 @@ pub fn heals_in_rounds()
 
 /// Synchronous rounds are a run of just their events.
 pub fn rounds_are_run()
-    ensures { (net : Network) (rounds : List Round) (w end : World) → SynchronousRounds net w rounds end → WorldRun net w (events_of rounds) end }
+    ensures { (net : Network) (rounds : List Round) (w end : World) → SynchronousRounds net w rounds end → WorldRun net w (events_of_rounds rounds) end }
 {}
 
 /// Rounds go on by rounds: those of several calls are those of one.

@@ -7,7 +7,7 @@ ghost use Rattle.router_core.specs.declared.reconfiguring.Change.{Change as Chan
 ghost use Rattle.ripng_world.specs.Events.{event_of};
 ghost use Rattle.ripng_world.specs.Labs.{IsRefusal, event_fault, lab_of, named_reasons};
 ghost use Rattle.ripng_world.specs.Stations.{MoveStations, network_of};
-ghost use Rattle.ripng_world.specs.World.{Deliver, Stranger, Tick, Restart, Reconfigure, arrival_of, changes_in, sent_by};
+ghost use Rattle.ripng_world.specs.World.{Deliver, Stranger, Tick, Restart, Reconfigure, arrival_of, reconfigurations_in, sent_by};
 ghost use Rattle.ripng_world.specs.declared.sent.Sent.{Sent as SentValue};
 
 use crate::event::{Event, LabError};
@@ -52,7 +52,7 @@ fn deliver<S: RouteStore>(
     now: Moment,
 ) -> Result<Answer, AllocError>
     requires { event_fault (lab_of stations.old sent.old.items []) (Deliver datagram router iface now) ≡ None }
-    ensures moves { IfOk result (λ answer. (changes : List (ℕ × ChangeValue)) → MoveStations stations.old sent.old.items changes (Deliver datagram router iface now) answer stations.new) }
+    ensures moves { IfOk result (λ answer. (reconfigurations : List (ℕ × ChangeValue)) → MoveStations stations.old sent.old.items reconfigurations (Deliver datagram router iface now) answer stations.new) }
     ensures room { IfOk result (λ answer. vec_len sent.new + length answer.sends ≤ vec_capacity sent.new) }
     ensures sent { sent.new.items ≡ sent.old.items }
     ensures err { OnErr result (stations.new ≡ stations.old) }
@@ -72,7 +72,7 @@ fn intrude<S: RouteStore>(
     arrival: &Arrival<'_>,
 ) -> Result<Answer, AllocError>
     requires { event_fault (lab_of stations.old sent.old.items []) (Stranger router arrival.now) ≡ None }
-    ensures moves { IfOk result (λ answer. (changes : List (ℕ × ChangeValue)) → MoveStations stations.old sent.old.items changes (Stranger router arrival.entry.now) answer stations.new) }
+    ensures moves { IfOk result (λ answer. (reconfigurations : List (ℕ × ChangeValue)) → MoveStations stations.old sent.old.items reconfigurations (Stranger router arrival.entry.now) answer stations.new) }
     ensures room { IfOk result (λ answer. vec_len sent.new + length answer.sends ≤ vec_capacity sent.new) }
     ensures sent { sent.new.items ≡ sent.old.items }
     ensures err { OnErr result (stations.new ≡ stations.old) }
@@ -101,7 +101,7 @@ fn tick<S: RouteStore>(
     word: u32,
 ) -> Result<Answer, AllocError>
     requires { router < length stations.old }
-    ensures moves { IfOk result (λ answer. (changes : List (ℕ × ChangeValue)) → MoveStations stations.old sent.old.items changes (Tick router now word) answer stations.new) }
+    ensures moves { IfOk result (λ answer. (reconfigurations : List (ℕ × ChangeValue)) → MoveStations stations.old sent.old.items reconfigurations (Tick router now word) answer stations.new) }
     ensures room { IfOk result (λ answer. vec_len sent.new + length answer.sends ≤ vec_capacity sent.new) }
     ensures sent { sent.new.items ≡ sent.old.items }
     ensures err { OnErr result (stations.new ≡ stations.old) }
@@ -118,7 +118,7 @@ fn restart<S: RouteStore>(
     now: Moment,
 ) -> Result<Answer, AllocError>
     requires { router < length stations.old }
-    ensures moves { IfOk result (λ answer. (changes : List (ℕ × ChangeValue)) → MoveStations stations.old sent.old.items changes (Restart router now) answer stations.new) }
+    ensures moves { IfOk result (λ answer. (reconfigurations : List (ℕ × ChangeValue)) → MoveStations stations.old sent.old.items reconfigurations (Restart router now) answer stations.new) }
     ensures room { IfOk result (λ answer. vec_len sent.new + length answer.sends ≤ vec_capacity sent.new) }
     ensures sent { sent.new.items ≡ sent.old.items }
     ensures err { OnErr result (stations.new ≡ stations.old) }
@@ -130,22 +130,22 @@ fn restart<S: RouteStore>(
 /// The configuration of a router is changed. Room for the change, among those that were done, is made first.
 fn reconfigure<S: RouteStore>(
     stations: &mut [Station<S>],
-    changes: &mut Vec<(usize, Change)>,
+    reconfigurations: &mut Vec<(usize, Change)>,
     router: usize,
     now: Moment,
     change: &Change,
 ) -> Result<Answer, LabError>
     requires { first_reason (named_reasons (network_of stations.old) router change.now) ≡ None }
-    ensures moves { IfOk result (λ answer. (sent : List SentValue) → MoveStations stations.old sent changes.old.items (Reconfigure router now change.now) answer stations.new) }
+    ensures moves { IfOk result (λ answer. (sent : List SentValue) → MoveStations stations.old sent reconfigurations.old.items (Reconfigure router now change.now) answer stations.new) }
     ensures silent { IfOk result (λ answer. answer.sends ≡ []) }
-    ensures changes { OnOk result (changes.new.items ≡ changes.old.items ++ (router, change.now) ∷ []) }
-    ensures kept { OnErr result (changes.new.items ≡ changes.old.items) }
-    ensures refused { IfErr result (λ why. (sent : List SentValue) → IsRefusal (lab_of stations.old sent changes.old.items) (Reconfigure router now change.now) why) }
+    ensures reconfigurations { OnOk result (reconfigurations.new.items ≡ reconfigurations.old.items ++ (router, change.now) ∷ []) }
+    ensures kept { OnErr result (reconfigurations.new.items ≡ reconfigurations.old.items) }
+    ensures refused { IfErr result (λ why. (sent : List SentValue) → IsRefusal (lab_of stations.old sent reconfigurations.old.items) (Reconfigure router now change.now) why) }
     ensures err { OnErr result (stations.new ≡ stations.old) }
 {
-    changes.reserve(1)?;
+    reconfigurations.reserve(1)?;
     let answer = stations[router].reconfigure(now, *change)?;
-    changes.push_reserved((router, *change));
+    reconfigurations.push_reserved((router, *change));
     Ok(answer)
 }
 
@@ -154,16 +154,16 @@ fn reconfigure<S: RouteStore>(
 pub fn happen<S: RouteStore>(
     stations: &mut [Station<S>],
     sent: &mut Vec<Sent>,
-    changes: &mut Vec<(usize, Change)>,
+    reconfigurations: &mut Vec<(usize, Change)>,
     event: &Event<'_>,
 ) -> Result<Answer, LabError>
-    requires { event_fault (lab_of stations.old sent.old.items changes.old.items) (event_of event.now) ≡ None }
-    ensures moves { IfOk result (λ answer. MoveStations stations.old sent.old.items changes.old.items (event_of event.entry.now) answer stations.new) }
+    requires { event_fault (lab_of stations.old sent.old.items reconfigurations.old.items) (event_of event.now) ≡ None }
+    ensures moves { IfOk result (λ answer. MoveStations stations.old sent.old.items reconfigurations.old.items (event_of event.entry.now) answer stations.new) }
     ensures room { IfOk result (λ answer. vec_len sent.new + length answer.sends ≤ vec_capacity sent.new) }
     ensures sent { sent.new.items ≡ sent.old.items }
-    ensures changes { OnOk result (changes.new.items ≡ changes.old.items ++ changes_in (event_of event.entry.now ∷ [])) }
-    ensures kept { OnErr result (changes.new.items ≡ changes.old.items) }
-    ensures refused { IfErr result (λ why. IsRefusal (lab_of stations.old sent.old.items changes.old.items) (event_of event.entry.now) why) }
+    ensures reconfigurations { OnOk result (reconfigurations.new.items ≡ reconfigurations.old.items ++ reconfigurations_in (event_of event.entry.now ∷ [])) }
+    ensures kept { OnErr result (reconfigurations.new.items ≡ reconfigurations.old.items) }
+    ensures refused { IfErr result (λ why. IsRefusal (lab_of stations.old sent.old.items reconfigurations.old.items) (event_of event.entry.now) why) }
     ensures err { OnErr result (stations.new ≡ stations.old) }
 {
     match event {
@@ -180,7 +180,7 @@ pub fn happen<S: RouteStore>(
             router,
             now,
             change,
-        } => reconfigure(stations, changes, *router, *now, change),
+        } => reconfigure(stations, reconfigurations, *router, *now, change),
     }
 }
 

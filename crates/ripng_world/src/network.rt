@@ -68,11 +68,11 @@ pub enum NetRefused {
 }
 
 impl NetRefused {
-    ghost use Rattle.ripng_world.specs.NetworkFaults.{refused_name, refused_number};
+    ghost use Rattle.ripng_world.specs.NetworkFaults.{net_refused_name, net_refused_number};
 
     /// The number of the refusal, 1 to 4.
     pub fn number(self) -> u8
-        ensures { result ≡ refused_number self }
+        ensures { result ≡ net_refused_number self }
     {
         match self {
             NetRefused::TooManyRouters => 1,
@@ -84,7 +84,7 @@ impl NetRefused {
 
     /// The name of the refusal, one word.
     pub fn name(self) -> &'static str
-        ensures { result.now ≡ refused_name self }
+        ensures { result.now ≡ net_refused_name self }
     {
         match self {
             NetRefused::TooManyRouters => "TooManyRouters",

@@ -74,7 +74,7 @@ fn check_delivery<S: RouteStore>(
     router: usize,
     iface: usize,
 ) -> Result<(), LabError>
-    ensures { (changes : List (ℕ × ChangeValue)) (now : ℕ) → result_err result ≡ event_fault (lab_of stations.now sent.now changes) (Deliver datagram router iface now) }
+    ensures { (reconfigurations : List (ℕ × ChangeValue)) (now : ℕ) → result_err result ≡ event_fault (lab_of stations.now sent.now reconfigurations) (Deliver datagram router iface now) }
 {
     let link = check_interface(stations, router, iface)?;
     let Some(datagram) = sent.get(datagram) else {
@@ -102,7 +102,7 @@ fn check_stranger<S: RouteStore>(
     router: usize,
     arrival: &Arrival<'_>,
 ) -> Result<(), LabError>
-    ensures { (changes : List (ℕ × ChangeValue)) → result_err result ≡ event_fault (lab_of stations.now sent.now changes) (Stranger router arrival.entry.now) }
+    ensures { (reconfigurations : List (ℕ × ChangeValue)) → result_err result ≡ event_fault (lab_of stations.now sent.now reconfigurations) (Stranger router arrival.entry.now) }
 {
     check_interface(stations, router, arrival.iface)?;
     if is_heard(stations[router].router(), arrival) {
@@ -135,7 +135,7 @@ pub fn check<S: RouteStore>(
     sent: &[Sent],
     event: &Event<'_>,
 ) -> Result<(), LabError>
-    ensures { (changes : List (ℕ × ChangeValue)) → result_err result ≡ event_fault (lab_of stations.now sent.now changes) (event_of event.entry.now) }
+    ensures { (reconfigurations : List (ℕ × ChangeValue)) → result_err result ≡ event_fault (lab_of stations.now sent.now reconfigurations) (event_of event.entry.now) }
 {
     match event {
         Event::Deliver {

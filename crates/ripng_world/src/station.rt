@@ -3,7 +3,7 @@
 ghost use Rattle.std.specs.Prelude.{◌≡◌, ◌<◌, ◌≤◌, ◌*◌, ◌/◌, [], max, IfErr, IfOk, OnErr, length, slice_get, unwrap_or};
 ghost use Rattle.std.specs.FinMap as map_of;
 ghost use Rattle.router_core.specs.Machine.{Happening, Moves, Starts};
-ghost use Rattle.router_core.specs.Reconfiguring.{NamesInterface, change_fault};
+ghost use Rattle.router_core.specs.Reconfiguring.{NamesInterface, reconfigure_fault};
 ghost use Rattle.ripng_world.specs.Network.{config_of};
 
 use crate::network::{NetInterface, NetRouter, Node};
@@ -154,7 +154,7 @@ impl<S: RouteStore> Station<S> {
         ensures moves { IfOk result (λ answer. Moves self.old.state (Happening.Reconfigures now change) answer self.new.state) }
         ensures silent { IfOk result (λ answer. answer.sends ≡ []) }
         ensures node { self.new.node ≡ self.old.node }
-        ensures refused { IfErr result (λ why. why ≡ unwrap_or (change_fault self.old.state.config self.old.state.table change) ReconfigureRefused.OutOfMemory) }
+        ensures refused { IfErr result (λ why. why ≡ unwrap_or (reconfigure_fault self.old.state.config self.old.state.table change) ReconfigureRefused.OutOfMemory) }
         ensures err { OnErr result (self.new ≡ self.old) }
     {
         self.router.reconfigure(now, change)

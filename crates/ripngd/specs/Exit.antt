@@ -18,7 +18,7 @@ use Rattle.ripngd_command_line.specs.CommandLine.{ripngd}
 use Rattle.ripngd_daemon.specs.Failing.{MayFail}
 use Rattle.ripngd_daemon.specs.Ran.{IsRan}
 use Rattle.ripngd_daemon.specs.Tabled.{IsTabled}
-use Rattle.ripngd_page.specs.Film.{film_text, name_of}
+use Rattle.ripngd_page.specs.Film.{film_text, script_name}
 use Rattle.ripngd_show.specs.Shown.{IsShown}
 
 -- the bytes of a writer grew by the answer to what is asked, of a text that the file which is asked about may hold. What
@@ -36,7 +36,7 @@ AnswersAsk holds (asks.Table file) accepted old new = (log : List ℕ) × holds 
     × (text : List ℕ) × IsTabled log accepted text × Appends old new text
 AnswersAsk holds (asks.Page serve) accepted old new = accepted ≡ true
 AnswersAsk holds (asks.Film file) accepted old new = (script : List ℕ) × holds file.now script
-    × (trace : List ℕ) × Appends old new (film_text (name_of file.now) script trace)
+    × (trace : List ℕ) × Appends old new (film_text (script_name file.now) script trace)
 
 -- the bytes of a writer grew by the answer to what the words ask
 abbrev pub AnswersWords : (List ℕ → List ℕ → Type 0) → List Text → Bool → Option (List ℕ) → Option (List ℕ) → Type 0
@@ -57,8 +57,8 @@ abbrev pub AsksForHelp : List Text → Type 0
 AsksForHelp words = IsAmong DisplayHelp (fault_of ripngd words) ⊎ IsAmong DisplayVersion (fault_of ripngd words)
 
 -- the words have a fault
-abbrev pub HasFault : List Text → Type 0
-HasFault words = fault_of ripngd words ≢ []
+abbrev pub HaveFault : List Text → Type 0
+HaveFault words = fault_of ripngd words ≢ []
 
 -- what a fault of the page's server is to the program
 abbrev pub failure_of_serve : ServeFault → Failure

@@ -5,7 +5,7 @@ ghost use Rattle.std.specs.Io.KnownBytes.{Appends};
 ghost use Rattle.ripngd_daemon.specs.Failing.{MayFail};
 ghost use Rattle.ripngd_command_line.specs.declared.asked.Ask.TheVariants as asks;
 ghost use Rattle.ripngd.specs.Exit.{failure_of_serve};
-ghost use Rattle.ripngd_page.specs.Film.{film_text, name_of};
+ghost use Rattle.ripngd_page.specs.Film.{film_text, script_name};
 
 use ripngd_command_line::Serve;
 use ripngd_daemon::Failure;
@@ -59,7 +59,7 @@ pub(crate) fn film<W: Write>(
     out: &mut W,
 ) -> Result<bool, PrintFault>
     ensures film { OnOk result ((trace : List ℕ)
-        × Appends (W.contents out.old) (W.contents out.new) (film_text (name_of file.now) script.now trace)) }
+        × Appends (W.contents out.old) (W.contents out.new) (film_text (script_name file.now) script.now trace)) }
     ensures out_of_memory { result ≡ Err PrintFault.OutOfMemory → out.new ≡ out.old }
 {
     write_film(alloc, file, script, out)

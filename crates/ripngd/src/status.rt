@@ -2,7 +2,7 @@
 
 ghost use Rattle.std.specs.Prelude.{◌≡◌, ◌≢◌, ◌⊎◌, ◌≤◌, IfErr, IfOk, Ok, false, map, true};
 ghost use Rattle.clap.specs.Words.{kind_of};
-ghost use Rattle.ripngd.specs.Exit.{AnswersAsk, AnswersWords, AsksForHelp, FailsWords, HasFault, holds_any};
+ghost use Rattle.ripngd.specs.Exit.{AnswersAsk, AnswersWords, AsksForHelp, FailsWords, HaveFault, holds_any};
 ghost use Rattle.ripngd_daemon.specs.Failing.{MayFail};
 ghost use Rattle.ripngd_daemon.specs.declared.failure.Failure.TheVariants as failures;
 
@@ -57,7 +57,7 @@ pub fn program<
         ⊎ AsksForHelp (map (λ w. w.now) words.now) }
     ensures refused { result ≡ 1
         → AnswersWords holds_any (map (λ w. w.now) words.now) false (O.contents out.old) (O.contents out.new) }
-    ensures usage { result ≡ 2 → HasFault (map (λ w. w.now) words.now) }
+    ensures usage { result ≡ 2 → HaveFault (map (λ w. w.now) words.now) }
     ensures in_range { result ≤ 3 }
 {
     let mut lost = NOTHING_LOST;
@@ -90,7 +90,7 @@ fn outcome<
         ⊎ AsksForHelp (map (λ w. w.now) words.now) }
     ensures refused { result ≡ Ok Status.Refused
         → AnswersWords (F.holds files.now) (map (λ w. w.now) words.now) false (O.contents out.old) (O.contents out.new) }
-    ensures usage { result ≡ Ok Status.Usage → HasFault (map (λ w. w.now) words.now) }
+    ensures usage { result ≡ Ok Status.Usage → HaveFault (map (λ w. w.now) words.now) }
     ensures failed { IfErr result (FailsWords (map (λ w. w.now) words.entry.now)) }
 {
     match ask(rt.alloc(), words) {

@@ -5,7 +5,7 @@ ghost use Rattle.std.specs.Prelude.{IfErr, IfOk, List, ℕ};
 ghost use Rattle.std.specs.Io.KnownBytes.{Appends};
 ghost use Rattle.ripngd_daemon.specs.Failing.{MayFail};
 ghost use Rattle.ripngd_command_line.specs.declared.asked.Ask.TheVariants as asks;
-ghost use Rattle.ripngd_page.specs.Film.{film_text, name_of};
+ghost use Rattle.ripngd_page.specs.Film.{film_text, script_name};
 ghost use Rattle.ripngd_show.specs.Shown.{IsShown};
 
 use crate::browser::film;
@@ -63,7 +63,7 @@ pub(crate) fn film_file<'a, F: FileSource, O: Write>(
     out: &mut O,
 ) -> Result<bool, Failure<'a>>
     ensures answered { IfOk result (λ accepted. (script : List ℕ) × F.holds files.now file.entry.now script
-        × (trace : List ℕ) × Appends (O.contents out.old) (O.contents out.new) (film_text (name_of file.entry.now) script trace)) }
+        × (trace : List ℕ) × Appends (O.contents out.old) (O.contents out.new) (film_text (script_name file.entry.now) script trace)) }
     ensures failed { IfErr result (MayFail (asks.Film file.entry)) }
 {
     Ok(film(alloc, file, files.read(file)?.as_slice(), out)?)

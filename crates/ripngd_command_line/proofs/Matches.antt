@@ -16,20 +16,20 @@ use Rattle.clap.specs.Walk.{Row, Text, rows_of}
 use Rattle.clap.specs.Matches.{ReadsOne, found_of, one_text, subcommand_name_of}
 use Rattle.clap.specs.declared.parser.matches.Found.{Found}
 use Rattle.clap.proofs.WalkLemmas.{one_text-rows}
-use Rattle.ripngd_command_line.specs.Asked.{IsNumber, IsSet, number_of}
+use Rattle.ripngd_command_line.specs.Asked.{HasNumber, IsSet, decimal_value}
 
 -- what a getter of numbers reads is the number of the argument's text
-module _ {E : Type 0} (gives : List ℕ → Result ℕ E → Type 0) (reads : (t : List ℕ) (n : ℕ) → gives t (Ok n) → n ≡ number_of t) where
+module _ {E : Type 0} (gives : List ℕ → Result ℕ E → Type 0) (reads : (t : List ℕ) (n : ℕ) → gives t (Ok n) → n ≡ decimal_value t) where
   number_at : (o : Option Text) (r : Option ℕ) → (o ≡ None → r ≡ None) → ((t : List ℕ) → o ≡ Some t → ReadsOne gives t r)
-      → IfSome r (λ n. (t : Text) × (o ≡ Some t) × (number_of t ≡ n))
+      → IfSome r (λ n. (t : Text) × (o ≡ Some t) × (decimal_value t ≡ n))
   number_at o None none value = tt
   number_at None (Some n) none value = absurd (let bad = none refl in cc bad)
   number_at (Some t) (Some n) none value = (t, refl, sym (reads t n (value t refl)))
 
   pub number_read : (f : Found) (id : Text) (r : Option ℕ) → (one_text f id ≡ None → r ≡ None) → ((t : List ℕ) → one_text f id ≡ Some t → ReadsOne gives t r)
-      → IfSome r (IsNumber (rows_of f) id)
+      → IfSome r (HasNumber (rows_of f) id)
   number_read f id r none value =
-      subst (λ (o : Option Text). IfSome r (λ n. (t : Text) × (o ≡ Some t) × (number_of t ≡ n))) (one_text-rows f id) (number_at (one_text f id) r none value)
+      subst (λ (o : Option Text). IfSome r (λ n. (t : Text) × (o ≡ Some t) × (decimal_value t ≡ n))) (one_text-rows f id) (number_at (one_text f id) r none value)
 
 -- what a getter of flags reads is whether the flag was given
 flag_at : (E : Type 0) (o : Option Text) (r : Option Bool) → (o ≡ None → r ≡ None) → ((t : List ℕ) → o ≡ Some t → ReadsOne (ParsesBool {E = E}) t r)

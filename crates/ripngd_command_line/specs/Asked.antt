@@ -11,12 +11,12 @@ use Rattle.ripngd_command_line.specs.declared.asked.Ask.TheVariants as asks
 use Rattle.ripngd_command_line.specs.CommandLine.{ripngd}
 
 -- the number that a decimal text stands for
-abbrev pub number_of : Text → ℕ
-number_of text = digits_value 10 (without_leading_plus text)
+abbrev pub decimal_value : Text → ℕ
+decimal_value text = digits_value 10 (without_leading_plus text)
 
 -- the argument has this number as its value
-abbrev pub IsNumber : List Row → Text → ℕ → Type 0
-IsNumber rows id n = (text : Text) × (one_of id rows ≡ Some text) × (number_of text ≡ n)
+abbrev pub HasNumber : List Row → Text → ℕ → Type 0
+HasNumber rows id n = (text : Text) × (one_of id rows ≡ Some text) × (decimal_value text ≡ n)
 
 -- the flag was given
 abbrev pub IsSet : List Row → Text → Type 0
@@ -26,9 +26,9 @@ IsSet rows id = one_of id rows ≡ Some (codes "true")
 pub record IsOrdered (order : Order) (rows : List Row) : Type 0 where
   pub quiet : IsTrue order.quiet ↔ IsSet rows (codes "quiet")
   pub debug : IsTrue order.debug ↔ IsSet rows (codes "debug")
-  pub tag : IsNumber rows (codes "tag") order.tag
+  pub tag : HasNumber rows (codes "tag") order.tag
   pub log : option_map (λ s. s.now) order.log ≡ first_of (codes "log") rows
-  pub turns : IsNumber rows (codes "turns") order.turns
+  pub turns : HasNumber rows (codes "turns") order.turns
   pub some : 1 ≤ order.turns
   pub control : option_map (λ s. s.now) order.control ≡ first_of (codes "control") rows
   pub config : first_of (codes "CONFIG") rows ≡ Some order.config.now
@@ -42,8 +42,8 @@ pub record IsQuestion (question : Question) (rows : List Row) : Type 0 where
 
 -- the rows of `page` order this, without a film
 pub record IsServed (serve : Serve) (rows : List Row) : Type 0 where
-  pub port : IsNumber rows (codes "port") serve.port
-  pub requests : IsNumber rows (codes "requests") serve.requests
+  pub port : HasNumber rows (codes "port") serve.port
+  pub requests : HasNumber rows (codes "requests") serve.requests
   pub some_request : 1 ≤ serve.requests
   pub no_film : first_of (codes "film") rows ≡ None
 

@@ -7,7 +7,7 @@ ghost use Rattle.clap.specs.Simple.{subcommand_of};
 ghost use Rattle.clap.specs.Takes.{takes};
 ghost use Rattle.clap.specs.Walk.{Row, Text, first_of, rows_of};
 ghost use Rattle.clap.specs.Words.{found_of, kind_of, subcommand_rows_of};
-ghost use Rattle.ripngd_command_line.specs.Asked.{Asks, IsAsked, IsNumber, IsSet};
+ghost use Rattle.ripngd_command_line.specs.Asked.{Asks, IsAsked, HasNumber, IsSet};
 ghost use Rattle.ripngd_command_line.specs.CommandLine.{IsArg, IsCommand, control_option, ctl_command, debug_option, film_option, lab_command, log_option, one_argument, optional_rule, page_command, port_option, positional, quiet_option, requests_option, ripngd, run_command, tag_option, trace_option, turns_option};
 
 use crate::asked::{Ask, Order, Question, Serve};
@@ -15,9 +15,6 @@ use crate::help;
 use clap::error::ErrorKind;
 use clap::{Arg, ArgAction, ArgMatches, Command, Error, value_parser};
 use std::alloc::{AllocError, Global};
-
-/// The version of the program, which `--version` prints.
-pub const VERSION: &str = "0.1.0";
 
 /// An argument that has to be given, by its place.
 fn required<'a>(alloc: Global, id: &'a str, help: &'a str) -> Arg<'a>
@@ -222,7 +219,7 @@ fn command<'a>(alloc: Global) -> Result<Command<'a>, AllocError>
     Command::new(alloc, "ripngd")
         .about("A router for RIPng, the distance vector protocol of IPv6 (RFC 2080)")
         .after_help(help::PROGRAM)
-        .version(VERSION)
+        .version(help::VERSION)
         .subcommand_required(true)
         .subcommand(with_one(
             alloc,
@@ -375,13 +372,13 @@ fn is_set(matches: &ArgMatches<'_>, id: &str) -> bool
 }
 
 fn tag_given(matches: &ArgMatches<'_>) -> Option<u16>
-    ensures { IfSome result (IsNumber (rows_of (found_of matches.now)) (codes "tag")) }
+    ensures { IfSome result (HasNumber (rows_of (found_of matches.now)) (codes "tag")) }
 {
     matches.get_one::<u16>("tag")
 }
 
 fn turns_given(matches: &ArgMatches<'_>) -> Option<u32>
-    ensures number { IfSome result (IsNumber (rows_of (found_of matches.now)) (codes "turns")) }
+    ensures number { IfSome result (HasNumber (rows_of (found_of matches.now)) (codes "turns")) }
     ensures some { IfSome result (λ n. 1 ≤ n) }
 {
     let turns = matches.get_one::<u32>("turns")?;
@@ -389,13 +386,13 @@ fn turns_given(matches: &ArgMatches<'_>) -> Option<u32>
 }
 
 fn port_given(matches: &ArgMatches<'_>) -> Option<u16>
-    ensures { IfSome result (IsNumber (rows_of (found_of matches.now)) (codes "port")) }
+    ensures { IfSome result (HasNumber (rows_of (found_of matches.now)) (codes "port")) }
 {
     matches.get_one::<u16>("port")
 }
 
 fn requests_given(matches: &ArgMatches<'_>) -> Option<u32>
-    ensures number { IfSome result (IsNumber (rows_of (found_of matches.now)) (codes "requests")) }
+    ensures number { IfSome result (HasNumber (rows_of (found_of matches.now)) (codes "requests")) }
     ensures some { IfSome result (λ n. 1 ≤ n) }
 {
     let requests = matches.get_one::<u32>("requests")?;

@@ -1,5 +1,8 @@
 //! What help says of the program and of its subcommands, beside their lines and those of their arguments: whole sentences,
-//! and an example of each.
+//! and an example of each; and its version.
+
+/// The version of the program, which `--version` prints.
+pub const VERSION: &str = "0.1.0";
 
 /// Of the program.
 pub(crate) const PROGRAM: &str = "\

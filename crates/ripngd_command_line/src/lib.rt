@@ -6,4 +6,5 @@ mod command_line;
 mod help;
 
 pub use asked::{Ask, Order, Question, Serve};
-pub use command_line::{VERSION, ask};
+pub use command_line::ask;
+pub use help::VERSION;

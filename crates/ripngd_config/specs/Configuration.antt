@@ -19,8 +19,8 @@ use Rattle.ripngd_config.specs.declared.tables.Document.{Document}
 use Rattle.ripngd_config.specs.declared.tables.PrefixTable.{PrefixTable}
 
 -- the interfaces of a document, without their peers
-abbrev pub interfaces_of : Document → List Interface
-interfaces_of d = map (λ t. t.interface) d.interfaces.items
+abbrev pub configured_interfaces : Document → List Interface
+configured_interfaces d = map (λ t. t.interface) d.interfaces.items
 
 -- an owned prefix, with the default tag where its table gives none
 abbrev pub owned_of : ℕ → PrefixTable → Prefix6 × ℕ
@@ -35,8 +35,8 @@ abbrev pub ports_of : Document → List ℕ
 ports_of d = map (λ t. t.local_port) d.interfaces.items
 
 -- what the router's own check is given
-abbrev pub router_of : ℕ → Bool → Document → RouterConfig
-router_of tag quiet d = config (interfaces_of d) (owned_by tag d) quiet
+abbrev pub router_config_of : ℕ → Bool → Document → RouterConfig
+router_config_of tag quiet d = config (configured_interfaces d) (owned_by tag d) quiet
 
 -- the text is UTF-8 and TOML, and its tables say this
 pub record Says (text : List ℕ) (d : Document) : Type 0 where
@@ -47,7 +47,7 @@ pub record Says (text : List ℕ) (d : Document) : Type 0 where
 
 -- the router, ports, peers and random source are those of the tables, and each test is met
 pub record IsMadeOf (tag : ℕ) (quiet : Bool) (d : Document) (c : Config) : Type 0 where
-  pub router : c.router ≡ router_of tag quiet d
+  pub router : c.router ≡ router_config_of tag quiet d
   pub ports : c.ports.items ≡ ports_of d
   pub peers : c.peers.items ≡ map (λ t. t.peers) d.interfaces.items
   pub rng : c.rng ≡ pcg32_of_seed (pcg32_seed 16 d.seed)
@@ -72,13 +72,13 @@ RefusesText text fault =
 
 -- which test the tables fail
 abbrev pub RefusesTables : ℕ → Bool → Document → ConfigFault → Type 0
-RefusesTables tag quiet d (Router refused) = config_fault (router_of tag quiet d) ≡ Some refused
+RefusesTables tag quiet d (Router refused) = config_fault (router_config_of tag quiet d) ≡ Some refused
 RefusesTables tag quiet d (PortTwice path) = ¬ (ArePortsDistinct (ports_of d))
 RefusesTables tag quiet d (PeerTwice path) = ¬ (AreAllPeersDistinct d.interfaces.items)
 RefusesTables tag quiet d OutOfMemory = ⊤
 RefusesTables tag quiet d _ = ⊥
 
 -- why a text is refused
-abbrev pub Refuses : List ℕ → ℕ → Bool → ConfigFault → Type 0
-Refuses text tag quiet fault =
+abbrev pub RefusesConfig : List ℕ → ℕ → Bool → ConfigFault → Type 0
+RefusesConfig text tag quiet fault =
     RefusesText text fault ⊎ ((d : Document) × Says text d × RefusesTables tag quiet d fault)

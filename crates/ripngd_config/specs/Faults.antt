@@ -6,28 +6,28 @@ use Rattle.ripngd_config.specs.declared.fault.ConfigFault.{ConfigFault}
 use Rattle.ripngd_config.specs.declared.fault.ConfigFault.TheVariants.{BadToml, MissingKey, WrongType, BadValue, UnknownKey, Router, PortTwice, PeerTwice, OutOfMemory}
 
 -- the number of a refusal
-abbrev pub number_of : ConfigFault → ℕ
-number_of BadToml = 1
-number_of (MissingKey path) = 2
-number_of (WrongType path) = 3
-number_of (BadValue path) = 4
-number_of (UnknownKey path) = 5
-number_of (Router refused) = 6
-number_of (PortTwice path) = 7
-number_of (PeerTwice path) = 8
-number_of OutOfMemory = 9
+abbrev pub config_fault_number : ConfigFault → ℕ
+config_fault_number BadToml = 1
+config_fault_number (MissingKey path) = 2
+config_fault_number (WrongType path) = 3
+config_fault_number (BadValue path) = 4
+config_fault_number (UnknownKey path) = 5
+config_fault_number (Router refused) = 6
+config_fault_number (PortTwice path) = 7
+config_fault_number (PeerTwice path) = 8
+config_fault_number OutOfMemory = 9
 
 -- as the variant is spelled
-abbrev pub name_of : ConfigFault → List ℕ
-name_of BadToml = codes "BadToml"
-name_of (MissingKey path) = codes "MissingKey"
-name_of (WrongType path) = codes "WrongType"
-name_of (BadValue path) = codes "BadValue"
-name_of (UnknownKey path) = codes "UnknownKey"
-name_of (Router refused) = codes "Router"
-name_of (PortTwice path) = codes "PortTwice"
-name_of (PeerTwice path) = codes "PeerTwice"
-name_of OutOfMemory = codes "OutOfMemory"
+abbrev pub config_fault_name : ConfigFault → List ℕ
+config_fault_name BadToml = codes "BadToml"
+config_fault_name (MissingKey path) = codes "MissingKey"
+config_fault_name (WrongType path) = codes "WrongType"
+config_fault_name (BadValue path) = codes "BadValue"
+config_fault_name (UnknownKey path) = codes "UnknownKey"
+config_fault_name (Router refused) = codes "Router"
+config_fault_name (PortTwice path) = codes "PortTwice"
+config_fault_name (PeerTwice path) = codes "PeerTwice"
+config_fault_name OutOfMemory = codes "OutOfMemory"
 
 -- memory ran out, or the text is refused at a path for a fault of which P holds
 abbrev pub RefusesAt : (PathFault → Type 0) → ConfigFault → Type 0

@@ -1,7 +1,7 @@
 //! A configuration, read and checked: all that a router runs on.
 
 ghost use Rattle.std.specs.Prelude.{◌≡◌, IfErr, IfOk, map};
-ghost use Rattle.ripngd_config.specs.Configuration.{HasOneEach, IsConfigured, IsMadeOf, Refuses, RefusesTables, interfaces_of, owned_by, ports_of};
+ghost use Rattle.ripngd_config.specs.Configuration.{HasOneEach, IsConfigured, IsMadeOf, RefusesConfig, RefusesTables, configured_interfaces, owned_by, ports_of};
 
 use crate::document::document_of;
 use crate::fault::ConfigFault;
@@ -41,7 +41,7 @@ pub fn read_config(
 ) -> Result<Config, ConfigFault>
     ensures read { IfOk result (IsConfigured text.now default_tag quiet) }
     ensures one_each { IfOk result HasOneEach }
-    ensures refused { IfErr result (Refuses text.now default_tag quiet) }
+    ensures refused { IfErr result (RefusesConfig text.now default_tag quiet) }
 {
     let document = document_of(alloc, text)?;
     configure(alloc, document, default_tag, quiet)
@@ -74,7 +74,7 @@ fn configure(
 }
 
 fn interfaces_of(alloc: Global, document: &Document) -> Result<Vec<Interface>, AllocError>
-    ensures { IfOk result (λ v. v.items ≡ interfaces_of document.now) }
+    ensures { IfOk result (λ v. v.items ≡ configured_interfaces document.now) }
 {
     document
         .interfaces

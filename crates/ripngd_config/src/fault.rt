@@ -54,11 +54,11 @@ pub(crate) enum PathFault {
 }
 
 impl ConfigFault {
-    ghost use Rattle.ripngd_config.specs.Faults.{RefusesAt, name_of, number_of};
+    ghost use Rattle.ripngd_config.specs.Faults.{RefusesAt, config_fault_name, config_fault_number};
 
     /// The number of the refusal, 1 to 9.
     pub fn number(&self) -> u8
-        ensures { result ≡ number_of self.now }
+        ensures { result ≡ config_fault_number self.now }
     {
         match self {
             ConfigFault::BadToml => 1,
@@ -75,7 +75,7 @@ impl ConfigFault {
 
     /// The name of the refusal, as the variant is spelled.
     pub fn name(&self) -> &'static str
-        ensures { result.now ≡ name_of self.now }
+        ensures { result.now ≡ config_fault_name self.now }
     {
         match self {
             ConfigFault::BadToml => "BadToml",

@@ -16,7 +16,7 @@ use Rattle.route_table.specs.declared.route.Origin.{Origin}
 use Rattle.route_table.specs.declared.route.Origin.TheVariants.{Own, Learned}
 use Rattle.router_core.specs.Reconfiguring.{NamesInterface, reconfigure_name, reconfigure_number}
 use Rattle.router_core.specs.declared.reconfiguring.Change.{Change}
-use Rattle.ripngd_engine.specs.Changing.{ChangesNothing, ChangesOnce, why_refused}
+use Rattle.ripngd_engine.specs.Changing.{ReconfiguresNothing, ReconfiguresOnce, why_refused}
 use Rattle.ripngd_engine.specs.Log.{route_text}
 use Rattle.ripngd_engine.specs.Seen.{Acts, Seen}
 use Rattle.ripngd_control.specs.declared.reply.Reply.{Reply}
@@ -79,8 +79,8 @@ reply_text replies.Ended = codes "refused 53 Ended"
 
 -- what a change did to an engine, by what is replied
 abbrev pub Obeys : Change → Seen → Reply → Seen → Type 0
-Obeys c a replies.Done b = (b.machine.ended ≡ false) × Acts (ChangesOnce c) a b
-Obeys c a (replies.Refused why) b = (b.machine.ended ≡ false) × (why ≡ why_refused a.machine.router c) × Acts ChangesNothing a b
+Obeys c a replies.Done b = (b.machine.ended ≡ false) × Acts (ReconfiguresOnce c) a b
+Obeys c a (replies.Refused why) b = (b.machine.ended ≡ false) × (why ≡ why_refused a.machine.router c) × Acts ReconfiguresNothing a b
 Obeys c a replies.NoSuchInterface b = (b ≡ a) × ¬ (NamesInterface a.machine.router.config c)
 Obeys c a replies.NoSuchCommand b = ⊥
-Obeys c a replies.Ended b = (b.machine.ended ≡ true) × Acts (ChangesOnce c) a b
+Obeys c a replies.Ended b = (b.machine.ended ≡ true) × Acts (ReconfiguresOnce c) a b

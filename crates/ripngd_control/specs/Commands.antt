@@ -7,15 +7,15 @@ use Rattle.ripngd_control.specs.declared.command.Command.{Command}
 use Rattle.ripngd_control.specs.declared.command.Command.TheVariants as commands
 
 -- `cost INTERFACE COST`, `gain PREFIX TAG` or `drop PREFIX`
-abbrev pub change_text : Change → List ℕ
-change_text (Cost iface cost) = codes "cost " ++ (decimal iface ++ (codes " " ++ decimal cost))
-change_text (Own p tag) = codes "gain " ++ (written_prefix p ++ (codes " " ++ decimal tag))
-change_text (Disown p) = codes "drop " ++ written_prefix p
+abbrev pub reconfigure_text : Change → List ℕ
+reconfigure_text (Cost iface cost) = codes "cost " ++ (decimal iface ++ (codes " " ++ decimal cost))
+reconfigure_text (Own p tag) = codes "gain " ++ (written_prefix p ++ (codes " " ++ decimal tag))
+reconfigure_text (Disown p) = codes "drop " ++ written_prefix p
 
 -- a command, without its line feed
-abbrev pub command_text : Command → List ℕ
-command_text commands.Routes = codes "routes"
-command_text commands.Table = codes "table"
-command_text commands.Counts = codes "counts"
-command_text commands.Stop = codes "stop"
-command_text (commands.Reconfigure c) = change_text c
+abbrev pub control_text : Command → List ℕ
+control_text commands.Routes = codes "routes"
+control_text commands.Table = codes "table"
+control_text commands.Counts = codes "counts"
+control_text commands.Stop = codes "stop"
+control_text (commands.Reconfigure c) = reconfigure_text c

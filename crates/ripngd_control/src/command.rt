@@ -1,7 +1,7 @@
 //! Commands, and the lines that they are sent as.
 
 ghost use Rattle.std.specs.Prelude.{◌≡◌, IfOk, IfSome, Some};
-ghost use Rattle.ripngd_control.specs.Commands.{change_text, command_text};
+ghost use Rattle.ripngd_control.specs.Commands.{reconfigure_text, control_text};
 
 use prefix6::{Prefix, parse_prefix};
 use router_core::Change;
@@ -29,7 +29,7 @@ pub enum Command {
 struct ChangeText(Change);
 
 impl Display for ChangeText {
-    ghost output = { λ c. Some (change_text c.0) };
+    ghost output = { λ c. Some (reconfigure_text c.0) };
 
     fn fmt<W: fmt::Write>(&self, f: &mut fmt::Formatter<W>) -> fmt::Result {
         match self.0 {
@@ -42,7 +42,7 @@ impl Display for ChangeText {
 
 /// Its line, without the line feed.
 impl Display for Command {
-    ghost output = { λ c. Some (command_text c) };
+    ghost output = { λ c. Some (control_text c) };
 
     fn fmt<W: fmt::Write>(&self, f: &mut fmt::Formatter<W>) -> fmt::Result {
         match *self {
@@ -97,7 +97,7 @@ pub fn command_in(text: &str) -> Option<Command> {
 /// # Errors
 /// Want of memory.
 pub fn read_command(alloc: Global, line: &[u8]) -> Result<Option<Command>, AllocError>
-    ensures { IfOk result (λ read. IfSome read (λ c. command_text c ≡ line.now)) }
+    ensures { IfOk result (λ read. IfSome read (λ c. control_text c ≡ line.now)) }
 {
     let Ok(text) = str::from_utf8(line) else {
         return Ok(None);

@@ -1,12 +1,12 @@
 -- What `ctl` sends to a router that runs, and prints of its answer.
 use Rattle.std.specs.Prelude.{◌≡◌, ℕ, Bool, true, false, List, [], ◌∷◌, ◌++◌, Option, codes}
 use Rattle.std.specs.Io.KnownBytes.{Appends}
-use Rattle.ripngd_control.specs.Commands.{command_text}
+use Rattle.ripngd_control.specs.Commands.{control_text}
 use Rattle.ripngd_control.specs.declared.command.Command.{Command}
 
 -- the line of a command
 abbrev pub command_line : Command → List ℕ
-command_line c = command_text c ++ 10 ∷ []
+command_line c = control_text c ++ 10 ∷ []
 
 -- what is printed of an answer: all but a last line `ok`, or all of it, where its last line is `refused ..`
 abbrev pub IsAnswer : List ℕ → Bool → List ℕ → Type 0

@@ -3,7 +3,7 @@ use Rattle.std.specs.Prelude.{◌≢◌, ℕ, ◌+◌, ◌-◌, ◌^◌, Bool, t
 use Rattle.std.specs.List.{sum_by}
 use Rattle.std.specs.Io.KnownBytes.{Appends}
 use Rattle.std.specs.declared.alloc.Global.{Global}
-use Rattle.ripngd_config.specs.Configuration.{IsConfigured, Refuses}
+use Rattle.ripngd_config.specs.Configuration.{IsConfigured, RefusesConfig}
 use Rattle.ripngd_config.specs.declared.configuration.Config.{Config}
 use Rattle.ripngd_config.specs.declared.fault.ConfigFault.{ConfigFault}
 use Rattle.ripngd_config.specs.declared.fault.ConfigFault.TheVariants.{OutOfMemory}
@@ -24,4 +24,4 @@ counts_line c =
 -- refused, and not for want of memory. What is then written is not said here
 abbrev pub IsChecked : List ℕ → Bool → Option (List ℕ) → Option (List ℕ) → Type 0
 IsChecked text true old new = (config : Config) × IsConfigured text 0 false config × Appends old new (counts_line config)
-IsChecked text false old new = (fault : ConfigFault) × (fault ≢ OutOfMemory) × Refuses text 0 false fault
+IsChecked text false old new = (fault : ConfigFault) × (fault ≢ OutOfMemory) × RefusesConfig text 0 false fault

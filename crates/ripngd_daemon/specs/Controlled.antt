@@ -5,15 +5,15 @@ use Rattle.fib.specs.Forwarding.{Forwarding}
 use Rattle.router_core.specs.Config.{Config as RouterValue}
 use Rattle.router_core.specs.declared.reconfiguring.Change.{Change}
 use Rattle.ripngd_control.specs.Answers.{Obeys}
-use Rattle.ripngd_control.specs.Commands.{command_text}
+use Rattle.ripngd_control.specs.Commands.{control_text}
 use Rattle.ripngd_control.specs.declared.command.Command.{Command}
 use Rattle.ripngd_control.specs.declared.reply.Reply.{Reply}
 use Rattle.ripngd_door.specs.Lines.{BeginsWith}
-use Rattle.ripngd_engine.specs.Seen.{Ran, Seen, Started, fresh}
+use Rattle.ripngd_engine.specs.Seen.{Ran, Seen, Started, untouched}
 
 -- this command is the first line of what was heard
 abbrev pub IsHeard : Command → List ℕ → Type 0
-IsHeard c heard = (line : List ℕ) × BeginsWith line heard × (command_text c ≡ line)
+IsHeard c heard = (line : List ℕ) × BeginsWith line heard × (control_text c ≡ line)
 
 -- a router made a turn, or was told a change, with this reply
 pub data Deed : Type 0 where
@@ -55,6 +55,6 @@ pub record IsControlled (router : RouterValue) (words : Stream) (turns : ℕ) (t
   pub log : Option (List ℕ)  -- what stood in its log
   pub begun : Seen
   pub done : Seen
-  pub started : Started router words (fresh None None log) begun
+  pub started : Started router words (untouched None None log) begun
   pub lasted : LastsFor turns begun done
   pub table_is : table ≡ done.machine.fib

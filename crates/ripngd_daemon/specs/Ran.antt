@@ -7,11 +7,11 @@ use Rattle.rand_pcg.specs.Lcg.{Lcg}
 use Rattle.rand_pcg.specs.Pcg.{pcg32}
 use Rattle.fib.specs.Forwarding.{Forwarding}
 use Rattle.router_core.specs.Config.{Config as RouterValue}
-use Rattle.ripngd_config.specs.Configuration.{IsConfigured, Refuses}
+use Rattle.ripngd_config.specs.Configuration.{IsConfigured, RefusesConfig}
 use Rattle.ripngd_config.specs.declared.configuration.Config.{Config}
 use Rattle.ripngd_config.specs.declared.fault.ConfigFault.{ConfigFault}
 use Rattle.ripngd_config.specs.declared.fault.ConfigFault.TheVariants as config_faults
-use Rattle.ripngd_engine.specs.Seen.{Ran, Seen, Started, fresh}
+use Rattle.ripngd_engine.specs.Seen.{Ran, Seen, Started, untouched}
 use Rattle.ripngd_command_line.specs.declared.asked.Order.{Order}
 use Rattle.ripngd_daemon.specs.Controlled.{IsControlled}
 use Rattle.ripngd_daemon.specs.Tabled.{table_text}
@@ -26,7 +26,7 @@ pub record MakesTurns (router : RouterValue) (words : Stream) (turns : ℕ) (tab
   pub log : Option (List ℕ)  -- what stood in its log
   pub begun : Seen
   pub done : Seen
-  pub started : Started router words (fresh None None log) begun
+  pub started : Started router words (untouched None None log) begun
   pub ran : Ran turns begun done
   pub table_is : table ≡ done.machine.fib
 
@@ -54,4 +54,4 @@ abbrev pub IsRan : Order → List ℕ → Bool → Option (List ℕ) → Option 
 IsRan order text true old new =
     (config : Config) × IsConfigured text order.tag order.quiet config × ShowsOrdered order.control config order.turns old new
 IsRan order text false old new =
-    (fault : ConfigFault) × (fault ≢ config_faults.OutOfMemory) × Refuses text order.tag order.quiet fault
+    (fault : ConfigFault) × (fault ≢ config_faults.OutOfMemory) × RefusesConfig text order.tag order.quiet fault

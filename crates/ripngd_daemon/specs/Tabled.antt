@@ -3,7 +3,7 @@ use Rattle.std.specs.Prelude.{◌≡◌, ℕ, Bool, true, false, List, ◌++◌,
 use Rattle.fib.specs.Entries.{listed}
 use Rattle.fib.specs.Forwarding.{Forwarding}
 use Rattle.ripngd_engine.specs.Log.{route_text}
-use Rattle.ripngd_log.specs.Reading.{IsFirstBadLine, MakesTable, fault_name, fault_number}
+use Rattle.ripngd_log.specs.Reading.{IsFirstBadLine, MakesTable, log_fault_name, log_fault_number}
 use Rattle.ripngd_log.specs.declared.fault.LogFault.TheVariants.{BadLine}
 use Rattle.ripngd_show.specs.Shown.{newline}
 
@@ -13,8 +13,8 @@ table_text table = flat_map (λ e. route_text e.0 e.1 e.2 ++ newline) (listed ta
 
 -- `line L refused NR NAME`, with the number and the name of a bad line
 abbrev pub bad_line_text : ℕ → List ℕ
-bad_line_text line = codes "line " ++ (decimal line ++ (codes " refused " ++ (decimal (fault_number (BadLine line))
-    ++ (codes " " ++ (fault_name (BadLine line) ++ newline)))))
+bad_line_text line = codes "line " ++ (decimal line ++ (codes " refused " ++ (decimal (log_fault_number (BadLine line))
+    ++ (codes " " ++ (log_fault_name (BadLine line) ++ newline)))))
 
 -- the text for a log, and whether it is one: the table that its changes make, or its first line that is of none
 abbrev pub IsTabled : List ℕ → Bool → List ℕ → Type 0

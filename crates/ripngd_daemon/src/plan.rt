@@ -1,7 +1,7 @@
 //! What a run is to do, made of what is asked and of a configuration's text.
 
 ghost use Rattle.std.specs.Prelude.{◌≡◌, IfErr, IfOk};
-ghost use Rattle.ripngd_config.specs.Configuration.{HasOneEach, IsConfigured, Refuses};
+ghost use Rattle.ripngd_config.specs.Configuration.{HasOneEach, IsConfigured, RefusesConfig};
 
 use ripngd_command_line::Order;
 use ripngd_config::{Config, ConfigFault, read_config};
@@ -37,7 +37,7 @@ pub(crate) fn plan_of<'a>(
     ensures log { IfOk result (λ plan. plan.log ≡ order.entry.log) }
     ensures control { IfOk result (λ plan. plan.control ≡ order.entry.control) }
     ensures one_each { IfOk result (λ plan. HasOneEach plan.config) }
-    ensures refused { IfErr result (Refuses text.now order.entry.tag order.entry.quiet) }
+    ensures refused { IfErr result (RefusesConfig text.now order.entry.tag order.entry.quiet) }
 {
     let config = read_config(alloc, text, order.tag, order.quiet)?;
     Ok(Plan {

@@ -10,7 +10,7 @@ ghost use Rattle.ripngd_daemon.specs.Ran.{IsRan, ShowsBound, ShowsControlled, Sh
 ghost use Rattle.ripngd_daemon.specs.Tabled.{table_text};
 ghost use Rattle.ripngd_daemon.specs.declared.failure.Failure.TheVariants as failures;
 ghost use Rattle.ripngd_door.specs.declared.door.DoorFault.{DoorFault};
-ghost use Rattle.ripngd_udp.specs.Udp.{fresh};
+ghost use Rattle.ripngd_udp.specs.Udp.{new_link};
 
 use crate::checking::write_refusal;
 use crate::controlled::run_controlled;
@@ -117,7 +117,7 @@ fn bind_and_empty<'r, 'a, R: Clock + Net + AllocGlobal, L: Log>(
     log: &mut L,
 ) -> Result<Udp<'r, R>, Failure<'a>>
     requires { length ports.now ≡ vec_len peers }
-    ensures bound { IfOk result (λ link. link ≡ fresh (length ports.now)) }
+    ensures bound { IfOk result (λ link. link ≡ new_link (length ports.now)) }
     ensures kept { (port : ℕ) → result ≡ Err (failures.Bind port) → log.new ≡ log.old }
     ensures failed { IfErr result (λ f. (turns : ℕ) → FailsLogged turns (option_map (λ s. s.now) name.entry) f) }
 {

@@ -10,14 +10,14 @@ use Rattle.ripngd_engine.specs.Watch.{Told}
 use Rattle.ripngd_engine.specs.Run.{one_moment}
 use Rattle.ripngd_engine.specs.Outlet.{OutletSeen, CarriesOut}
 use Rattle.ripngd_engine.specs.Seen.{Acts}
-use Rattle.ripngd_engine.specs.Changing.{ChangesOnce, ChangesNothing}
+use Rattle.ripngd_engine.specs.Changing.{ReconfiguresOnce, ReconfiguresNothing}
 use Rattle.ripngd_engine.proofs.Tells.{Gains-nil}
 use Rattle.ripngd_engine.proofs.Steps.{around, carried, Carries-out, Shows-carried}
 
 module _ (o : OutletSeen) (router new_router : State) (lost : ℕ) (stream : Stream) (before after : Option (List ℕ)) (now : ℕ) (told : Gains before after (now ∷ [])) where
   pub Acts-changed : {V : Type 0} (takes : V → Told → V → Type 0) (v w : V) (p : OutletSeen) (answer : Answer) (c : Change)
       → Moves router (Reconfigures now c) answer new_router → CarriesOut takes v w o answer p
-      → Acts (ChangesOnce c) (around o router lost stream before) (around p new_router lost stream after)
+      → Acts (ReconfiguresOnce c) (around o router lost stream before) (around p new_router lost stream after)
   Acts-changed takes v w p answer c moves out = record {
     trace = carried [] now answer out.hands.sends;
     does = (
@@ -33,7 +33,7 @@ module _ (o : OutletSeen) (router new_router : State) (lost : ℕ) (stream : Str
     shows = Shows-carried takes v w o p answer out [] lost lost router new_router stream stream before after now told;
   }
 
-  pub Acts-unchanged : new_router ≡ router → Acts ChangesNothing (around o router lost stream before) (around o new_router lost stream after)
+  pub Acts-unchanged : new_router ≡ router → Acts ReconfiguresNothing (around o router lost stream before) (around o new_router lost stream after)
   Acts-unchanged same = record {
     trace = one_moment now;
     does = (now, refl, λ i. record { router = same i; fib = o.fib; ended = o.ended; lost_memory = lost; stream = stream });

@@ -17,16 +17,16 @@ use Rattle.ripngd_engine.specs.Telling.{Gains}
 use Rattle.ripngd_engine.specs.Watch.{Told, WasTold}
 use Rattle.ripngd_engine.specs.Log.{change_text, log_of}
 use Rattle.ripngd_engine.specs.Link.{Call, Gave, Silent, RecvFailed, Handed, Datagram, failed_sends, gave_call}
-use Rattle.ripngd_engine.specs.Run.{Machine, Trace, Sends, Step, Carries, FollowsUnless, Takes, TakesIn, TicksOnce, TicksUnless, Turn, Turns, arrival, handed, heard, sent, one_call, one_moment, nothing, joined, all_joined, counted}
+use Rattle.ripngd_engine.specs.Run.{Machine, Trace, Sends, Step, Carries, FollowsUnless, TakesArrival, TakesIn, TicksOnce, TicksUnless, Turn, Turns, arrival, handed, arrival_told, sent, one_call, one_moment, no_step, followed_by, all_joined, counted}
 use Rattle.ripngd_engine.specs.Outlet.{OutletSeen, CarriesOut}
-use Rattle.ripngd_engine.specs.Seen.{Seen, Outside, Shows, Acts, Started, Listens, Ran, TurnsWatched, fresh}
+use Rattle.ripngd_engine.specs.Seen.{Seen, Outside, Shows, Acts, Started, Listens, Ran, TurnsWatched, untouched}
 use Rattle.ripngd_engine.specs.declared.report.EngineFault.TheVariants.{LinkFault, OutOfMemory}
 use Rattle.ripngd_engine.specs.Running.{TakesReceived, ActsTold}
 use Rattle.ripngd_engine.proofs.Tells.{Gains-nil, Gains-trans, WasTold-append, failed_sends-append}
 
 -- ---- what the outside gained
-pub Shows-nothing : (a : Outside) → Shows a nothing a
-Shows-nothing a = record {
+pub Shows-no_step : (a : Outside) → Shows a no_step a
+Shows-no_step a = record {
   calls = Gains-nil a.calls;
   moments = Gains-nil a.moments;
   lost_sends = omega arith;
@@ -42,7 +42,7 @@ was_well true c f h = let e : c ≡ true = (f refl).0 in absurd (cc)
 log_of-append : (xs ys : List RouteChange) → log_of (xs ++ ys) ≡ log_of xs ++ log_of ys
 log_of-append xs ys = flat_map-append (λ c. change_text c ++ 10 ∷ []) xs ys
 
-pub Shows-trans : (a b c : Outside) (s t : Trace) → Shows a s b → Shows b t c → Shows a (joined s t) c
+pub Shows-trans : (a b c : Outside) (s t : Trace) → Shows a s b → Shows b t c → Shows a (followed_by s t) c
 Shows-trans a b c s t p q = record {
   calls = Gains-trans a.calls b.calls c.calls s.calls t.calls p.calls q.calls;
   moments = Gains-trans a.moments b.moments c.moments s.moments t.moments p.moments q.moments;
@@ -103,21 +103,21 @@ module _ {V : Type 0} (takes : V → Told → V → Type 0) (v w : V) (o p : Out
 
 module _ {V : Type 0} (takes : V → Told → V → Type 0) (o : OutletSeen) (router : State) (lost : ℕ) (stream new_stream : Stream) (before after : Option (List ℕ)) (now : ℕ) (happening : Happening) (told : Gains before after (now ∷ [])) where
   pub Acts-moved : (u v w : V) (p : OutletSeen) (answer : Answer) (new_router : State) → Moves router happening answer new_router
-      → WasTold takes u (heard happening answer) v → CarriesOut takes v w o answer p
+      → WasTold takes u (arrival_told happening answer) v → CarriesOut takes v w o answer p
       → ActsTold takes u w (WithStream new_stream happening now) (around o router lost stream before) (around p new_router lost new_stream after)
   Acts-moved u v w p answer new_router moves hears out = record {
     acts = record {
-      trace = carried (heard happening answer) now answer out.hands.sends;
+      trace = carried (arrival_told happening answer) now answer out.hands.sends;
       does = inl (record {
         answer = answer;
         moves = moves;
-        carries = Carries-out takes v w o p answer out (heard happening answer) now _ refl refl;
+        carries = Carries-out takes v w o p answer out (arrival_told happening answer) now _ refl refl;
         lost_memory = refl;
         stream = refl;
       });
-      shows = Shows-carried takes v w o p answer out (heard happening answer) lost lost router new_router stream new_stream before after now told;
+      shows = Shows-carried takes v w o p answer out (arrival_told happening answer) lost lost router new_router stream new_stream before after now told;
     };
-    told = WasTold-append takes u (heard happening answer) v (sent out.hands.sends) w hears out.hands.told;
+    told = WasTold-append takes u (arrival_told happening answer) v (sent out.hands.sends) w hears out.hands.told;
   }
 
   pub Acts-lost : (v : V) (new_router : State) (new_lost : ℕ) → new_router ≡ router → new_lost ≡ counted lost 1
@@ -147,7 +147,7 @@ unused calls text =
 
 pub Started-carried : {V : Type 0} (takes : V → Told → V → Type 0) (v w : V) (config : Config) (stream : Stream) (calls : Option (List Call)) (before after text : Option (List ℕ)) (now : ℕ) (p : OutletSeen) (answer : Answer) (router : State)
     → Gains before after (now ∷ []) → RouterStarts config now answer router → CarriesOut takes v w (unused calls text) answer p → p.ended ≡ false
-    → Started config stream (fresh calls before text) (around p router 0 stream after)
+    → Started config stream (untouched calls before text) (around p router 0 stream after)
 Started-carried takes v w config stream calls before after text now p answer router told starts out on = record {
   trace = carried [] now answer out.hands.sends;
   comes_up = record {
@@ -174,7 +174,7 @@ Acts-ticks takes v w a b now word stream drawn it = record {
 }
 
 pub Acts-takes : {V : Type 0} (takes : V → Told → V → Type 0) (v w : V) (a b : Seen) (now : ℕ) (d : Datagram)
-    → ActsTold takes v w (WithStream a.machine.stream (Arrives (arrival now d)) now) a b → ActsTold takes v w (Takes d) a b
+    → ActsTold takes v w (WithStream a.machine.stream (Arrives (arrival now d)) now) a b → ActsTold takes v w (TakesArrival d) a b
 Acts-takes takes v w a b now d it =
     record { acts = record { trace = it.acts.trace; does = (now, it.acts.does); shows = it.acts.shows }; told = it.told }
 
@@ -213,7 +213,7 @@ gave-IsRecv (Some r) buffer = tt
 pub Turn-whole : (a b c d : Seen) (o : Option Received) (buffer : List ℕ) → a.machine.ended ≡ false → Listens (gave_call o buffer) a b → Acts (TakesReceived o buffer) b c
     → c.machine.ended ≡ false → Acts TicksOnce c d → Acts Turn a d
 Turn-whole a b c d o buffer going listens takes on ticks = record {
-  trace = joined (one_call (gave_call o buffer)) (joined takes.trace ticks.trace);
+  trace = followed_by (one_call (gave_call o buffer)) (followed_by takes.trace ticks.trace);
   does = record {
     going = going;
     call = gave_call o buffer;
@@ -231,19 +231,19 @@ Turn-whole a b c d o buffer going listens takes on ticks = record {
 pub Turn-refused : (a b c : Seen) (o : Option Received) (buffer : List ℕ) → a.machine.ended ≡ false → Listens (gave_call o buffer) a b → Acts (TakesReceived o buffer) b c
     → c.machine.ended ≡ true → Acts Turn a c
 Turn-refused a b c o buffer going listens takes on = record {
-  trace = joined (one_call (gave_call o buffer)) (joined takes.trace nothing);
+  trace = followed_by (one_call (gave_call o buffer)) (followed_by takes.trace no_step);
   does = record {
     going = going;
     call = gave_call o buffer;
     taken = takes.trace;
     middle = c.machine;
-    ticked = nothing;
+    ticked = no_step;
     takes_in = subst (λ m. TakesIn (gave_call o buffer) m takes.trace c.machine) listens.machine takes.does;
-    ticks = subst (λ e. TicksUnless e c.machine nothing c.machine) (sym on) (refl, refl);
+    ticks = subst (λ e. TicksUnless e c.machine no_step c.machine) (sym on) (refl, refl);
     trace = refl;
   };
   shows = Shows-trans a.outside b.outside c.outside _ _ (Shows-listens (gave_call o buffer) a b (gave-IsRecv o buffer) listens)
-      (Shows-trans b.outside c.outside c.outside _ _ takes.shows (Shows-nothing c.outside));
+      (Shows-trans b.outside c.outside c.outside _ _ takes.shows (Shows-no_step c.outside));
 }
 
 -- the same, with what a watcher is told
@@ -269,18 +269,18 @@ pub Turns-more : (m : Machine) (ts : List Trace) (k : Machine) (t : Trace) (n : 
 Turns-more m [] k t n p q = (n, subst (λ x. Turn x t n) p q, refl)
 Turns-more m (s ∷ ts) k t n p q = (p.0, p.1, Turns-more p.0 ts k t n p.2 q)
 
-joined-nothing : (t : Trace) → joined t nothing ≡ t
-joined-nothing t = simp append-nil
+followed_by-no_step : (t : Trace) → followed_by t no_step ≡ t
+followed_by-no_step t = simp append-nil
 
-joined-assoc : (a b c : Trace) → joined (joined a b) c ≡ joined a (joined b c)
-joined-assoc a b c = simp append_assoc
+followed_by-assoc : (a b c : Trace) → followed_by (followed_by a b) c ≡ followed_by a (followed_by b c)
+followed_by-assoc a b c = simp append_assoc
 
-all_joined-more : (ts : List Trace) (t : Trace) → all_joined (ts ++ t ∷ []) ≡ joined (all_joined ts) t
-all_joined-more [] t = joined-nothing t
-all_joined-more (s ∷ ts) t = ap (joined s) (all_joined-more ts t) ∙ sym (joined-assoc s (all_joined ts) t)
+all_joined-more : (ts : List Trace) (t : Trace) → all_joined (ts ++ t ∷ []) ≡ followed_by (all_joined ts) t
+all_joined-more [] t = followed_by-no_step t
+all_joined-more (s ∷ ts) t = ap (followed_by s) (all_joined-more ts t) ∙ sym (followed_by-assoc s (all_joined ts) t)
 
 pub Ran-none : (a : Seen) → Ran 0 a a
-Ran-none a = record { traces = []; count_is = refl; turns = refl; shows = Shows-nothing a.outside }
+Ran-none a = record { traces = []; count_is = refl; turns = refl; shows = Shows-no_step a.outside }
 
 pub Ran-more : (k : ℕ) (a b c : Seen) → Ran k a b → Acts Turn b c → Ran (k + 1) a c
 Ran-more k a b c ran turn = record {
@@ -294,9 +294,9 @@ Turns-append : (m : Machine) (ts : List Trace) (k : Machine) (us : List Trace) (
 Turns-append m [] k us n p q = subst (λ x. Turns x us n) p q
 Turns-append m (t ∷ ts) k us n p q = (p.0, p.1, Turns-append p.0 ts k us n p.2 q)
 
-all_joined-append : (ts us : List Trace) → all_joined (ts ++ us) ≡ joined (all_joined ts) (all_joined us)
+all_joined-append : (ts us : List Trace) → all_joined (ts ++ us) ≡ followed_by (all_joined ts) (all_joined us)
 all_joined-append [] us = refl
-all_joined-append (t ∷ ts) us = ap (joined t) (all_joined-append ts us) ∙ sym (joined-assoc t (all_joined ts) (all_joined us))
+all_joined-append (t ∷ ts) us = ap (followed_by t) (all_joined-append ts us) ∙ sym (followed_by-assoc t (all_joined ts) (all_joined us))
 
 -- turns, and then others
 pub Ran-trans : (j k : ℕ) (a b c : Seen) → Ran j a b → Ran k b c → Ran (j + k) a c

@@ -1,7 +1,7 @@
 -- Changes of the configuration of an engine's router, between its turns.
 use Rattle.std.specs.Prelude.{ℕ, ◌≡◌, List, [], ◌∷◌, Result, Ok, Err, Bool, true, false, unwrap_or}
 use Rattle.router_core.specs.Machine.{State, Reconfigures}
-use Rattle.router_core.specs.Reconfiguring.{change_fault}
+use Rattle.router_core.specs.Reconfiguring.{reconfigure_fault}
 use Rattle.router_core.specs.declared.reconfiguring.Change.{Change}
 use Rattle.router_core.specs.declared.reconfiguring.ReconfigureRefused.{ReconfigureRefused}
 use Rattle.router_core.specs.declared.reconfiguring.ReconfigureRefused.TheVariants as refusals
@@ -11,20 +11,20 @@ use Rattle.ripngd_engine.specs.declared.report.ChangeFault.{ChangeFault}
 use Rattle.ripngd_engine.specs.declared.report.ChangeFault.TheVariants.{Refused, Ended}
 
 -- the router was changed at the moment that the clock gave, and its answer was carried out
-abbrev pub ChangesOnce : Change → Machine → Trace → Machine → Type 0
-ChangesOnce c m t n = (now : ℕ) × Moved m (Reconfigures now c) now t n
+abbrev pub ReconfiguresOnce : Change → Machine → Trace → Machine → Type 0
+ReconfiguresOnce c m t n = (now : ℕ) × Moved m (Reconfigures now c) now t n
 
 -- a change was refused: it has used its moment, and left all else
-abbrev pub ChangesNothing : Machine → Trace → Machine → Type 0
-ChangesNothing m t n = (now : ℕ) × (t ≡ one_moment now) × (n ≡ m)
+abbrev pub ReconfiguresNothing : Machine → Trace → Machine → Type 0
+ReconfiguresNothing m t n = (now : ℕ) × (t ≡ one_moment now) × (n ≡ m)
 
 -- why a router refuses a change: the first reason against it, or want of memory
 abbrev pub why_refused : State → Change → ReconfigureRefused
-why_refused s c = unwrap_or (change_fault s.config s.table c) refusals.OutOfMemory
+why_refused s c = unwrap_or (reconfigure_fault s.config s.table c) refusals.OutOfMemory
 
 -- what a change of an engine that has not ended answers: Ok, and it goes on; why the router refused it; or that memory for
 -- the forwarding table was refused, after all else of the change was done
-abbrev pub ChangeAnswer : Change → Seen → Result (Unit {0}) ChangeFault → Seen → Type 0
-ChangeAnswer c a (Ok u) b = (b.machine.ended ≡ false) × Acts (ChangesOnce c) a b
-ChangeAnswer c a (Err (Refused why)) b = (b.machine.ended ≡ false) × (why ≡ why_refused a.machine.router c) × Acts ChangesNothing a b
-ChangeAnswer c a (Err Ended) b = (b.machine.ended ≡ true) × Acts (ChangesOnce c) a b
+abbrev pub ReconfigureAnswer : Change → Seen → Result (Unit {0}) ChangeFault → Seen → Type 0
+ReconfigureAnswer c a (Ok u) b = (b.machine.ended ≡ false) × Acts (ReconfiguresOnce c) a b
+ReconfigureAnswer c a (Err (Refused why)) b = (b.machine.ended ≡ false) × (why ≡ why_refused a.machine.router c) × Acts ReconfiguresNothing a b
+ReconfigureAnswer c a (Err Ended) b = (b.machine.ended ≡ true) × Acts (ReconfiguresOnce c) a b

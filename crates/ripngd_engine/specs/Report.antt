@@ -4,6 +4,6 @@ use Rattle.ripngd_engine.specs.declared.report.EngineFault.{EngineFault}
 use Rattle.ripngd_engine.specs.declared.report.EngineFault.TheVariants.{LinkFault, OutOfMemory}
 
 -- they never change (they are this project's choice)
-abbrev pub fault_number : EngineFault → ℕ
-fault_number (LinkFault done) = 1
-fault_number OutOfMemory = 2
+abbrev pub engine_fault_number : EngineFault → ℕ
+engine_fault_number (LinkFault done) = 1
+engine_fault_number OutOfMemory = 2

@@ -30,8 +30,8 @@ pub record Trace : Type 0 where
   pub told : List Told
 
 -- no step was made
-abbrev pub nothing : Trace
-nothing = record { calls = []; moments = []; changes = []; told = [] }
+abbrev pub no_step : Trace
+no_step = record { calls = []; moments = []; changes = []; told = [] }
 
 -- this call of the link, and nothing else
 abbrev pub one_call : Call → Trace
@@ -42,8 +42,8 @@ abbrev pub one_moment : ℕ → Trace
 one_moment now = record { calls = []; moments = now ∷ []; changes = []; told = [] }
 
 -- what was done first, and then
-abbrev pub joined : Trace → Trace → Trace
-joined a b =
+abbrev pub followed_by : Trace → Trace → Trace
+followed_by a b =
     record {
       calls = a.calls ++ b.calls;
       moments = a.moments ++ b.moments;
@@ -53,8 +53,8 @@ joined a b =
 
 -- all of these, one after the other
 abbrev pub all_joined : List Trace → Trace
-all_joined [] = nothing
-all_joined (t ∷ ts) = joined t (all_joined ts)
+all_joined [] = no_step
+all_joined (t ∷ ts) = followed_by t (all_joined ts)
 
 -- ---- a step
 -- datagrams that were handed to a link, each with whether it went out
@@ -77,11 +77,11 @@ abbrev pub arrived : Received → Arrived
 arrived x = record { moment = x.now; iface = x.iface; source = x.source; source_port = x.source_port }
 
 -- what a watcher is told of an answer before that: an arrival, with its fault and its notes
-abbrev pub heard : Happening → Answer → List Told
-heard (Arrives x) answer = Heard (arrived x) answer.fault answer.notes ∷ []
-heard (Ticks now word) answer = []
-heard (Restarts now) answer = []
-heard (Reconfigures now c) answer = []
+abbrev pub arrival_told : Happening → Answer → List Told
+arrival_told (Arrives x) answer = Heard (arrived x) answer.fault answer.notes ∷ []
+arrival_told (Ticks now word) answer = []
+arrival_told (Restarts now) answer = []
+arrival_told (Reconfigures now c) answer = []
 
 -- the count after so many more, which stays at the greatest u64
 abbrev pub counted : ℕ → ℕ → ℕ
@@ -103,7 +103,7 @@ pub record Carries (first : List Told) (now : ℕ) (answer : Answer) (old : Forw
 pub record Moved (m : Machine) (happening : Happening) (now : ℕ) (t : Trace) (n : Machine) : Type 0 where
   pub answer : Answer
   pub moves : Moves m.router happening answer n.router
-  pub carries : Carries (heard happening answer) now answer m.fib t n
+  pub carries : Carries (arrival_told happening answer) now answer m.fib t n
   pub lost_memory : n.lost_memory ≡ m.lost_memory
   pub stream : n.stream ≡ m.stream
 
@@ -142,13 +142,13 @@ arrival now d =
     }
 
 -- the arrival of a datagram, at the moment that the clock gave
-abbrev pub Takes : Datagram → Machine → Trace → Machine → Type 0
-Takes d m t n = (now : ℕ) × Step m (Arrives (arrival now d)) now t n
+abbrev pub TakesArrival : Datagram → Machine → Trace → Machine → Type 0
+TakesArrival d m t n = (now : ℕ) × Step m (Arrives (arrival now d)) now t n
 
 -- what follows what `recv` gave: an arrival, if it gave a datagram
 abbrev pub TakesIn : Call → Machine → Trace → Machine → Type 0
-TakesIn (Gave d) m t n = Takes d m t n
-TakesIn Silent m t n = (t ≡ nothing) × (n ≡ m)
+TakesIn (Gave d) m t n = TakesArrival d m t n
+TakesIn Silent m t n = (t ≡ no_step) × (n ≡ m)
 TakesIn RecvFailed m t n = ⊥
 TakesIn (Handed s went) m t n = ⊥
 
@@ -162,7 +162,7 @@ pub record TicksOnce (m : Machine) (t : Trace) (n : Machine) : Type 0 where
 
 -- nothing follows a step whose changes were refused for memory
 abbrev pub TicksUnless : Bool → Machine → Trace → Machine → Type 0
-TicksUnless ended m t n = MatchBool ended ((t ≡ nothing) × (n ≡ m)) (TicksOnce m t n)
+TicksUnless ended m t n = MatchBool ended ((t ≡ no_step) × (n ≡ m)) (TicksOnce m t n)
 
 -- one `recv`, an arrival if it gave a datagram, and then a tick
 pub record Turn (m : Machine) (t : Trace) (n : Machine) : Type 0 where
@@ -173,7 +173,7 @@ pub record Turn (m : Machine) (t : Trace) (n : Machine) : Type 0 where
   pub ticked : Trace
   pub takes_in : TakesIn call m taken middle
   pub ticks : TicksUnless middle.ended middle ticked n
-  pub trace : t ≡ joined (one_call call) (joined taken ticked)
+  pub trace : t ≡ followed_by (one_call call) (followed_by taken ticked)
 
 -- these turns, one after another
 abbrev pub Turns : Machine → List Trace → Machine → Type 0

@@ -59,8 +59,8 @@ seen stream text e log =
     }
 
 -- the outside before an engine starts
-abbrev pub fresh : Option (List Call) → Option (List ℕ) → Option (List ℕ) → Outside
-fresh calls moments text =
+abbrev pub untouched : Option (List Call) → Option (List ℕ) → Option (List ℕ) → Outside
+untouched calls moments text =
     record { calls = calls; moments = moments; text = text; lost_sends = 0; log_failed = false }
 
 -- the outside gained just this. A log that has failed is written no more; one that has not gained a line for each change
@@ -116,12 +116,12 @@ TurnsAnswer n a (Err (LinkFault done)) b = (b.machine.ended ≡ false) × (done 
 TurnsAnswer n a (Err OutOfMemory) b = (b.machine.ended ≡ true) × RanUntilRefused n a b
 
 -- what a watcher is told of the turns of such an answer
-abbrev pub told_of : (n : ℕ) (a : Seen) (result : Result (Unit {0}) EngineFault) (b : Seen) → TurnsAnswer n a result b → List Told
-told_of n a (Ok u) b answer = (all_joined answer.1.traces).told
-told_of n a (Err (LinkFault done)) b answer = (all_joined answer.2.ran.traces).told
-told_of n a (Err OutOfMemory) b answer = (all_joined answer.1.ran.traces).told
+abbrev pub told_in_turns : (n : ℕ) (a : Seen) (result : Result (Unit {0}) EngineFault) (b : Seen) → TurnsAnswer n a result b → List Told
+told_in_turns n a (Ok u) b answer = (all_joined answer.1.traces).told
+told_in_turns n a (Err (LinkFault done)) b answer = (all_joined answer.2.ran.traces).told
+told_in_turns n a (Err OutOfMemory) b answer = (all_joined answer.1.ran.traces).told
 
 -- such turns were made, and a watcher was told just what became of their arrivals and sends
 pub record TurnsWatched {V : Type 0} (takes : V → Told → V → Type 0) (v w : V) (n : ℕ) (a : Seen) (result : Result (Unit {0}) EngineFault) (b : Seen) : Type 0 where
   pub answer : TurnsAnswer n a result b
-  pub told : WasTold takes v (told_of n a result b answer) w
+  pub told : WasTold takes v (told_in_turns n a result b answer) w

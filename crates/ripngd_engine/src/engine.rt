@@ -3,7 +3,7 @@
 ghost use Rattle.std.specs.Prelude.{◌≡◌, true, false, Err, IfOk, OnErr, is_err, length};
 ghost use Rattle.router_core.specs.Changes.{forwards};
 ghost use Rattle.router_core.specs.Reconfiguring.{NamesInterface};
-ghost use Rattle.ripngd_engine.specs.Changing.{ChangeAnswer};
+ghost use Rattle.ripngd_engine.specs.Changing.{ReconfigureAnswer};
 
 use crate::clock::TimeSource;
 use crate::link::Link;
@@ -60,7 +60,7 @@ impl<S: RouteStore, L: Link, C: TimeSource, R: Rng + Drop> Model for Engine<S, L
 }
 
 impl<S: RouteStore, L: Link, C: TimeSource, R: Rng + Drop> Engine<S, L, C, R> {
-    ghost use Rattle.ripngd_engine.specs.Seen.{seen, fresh, Started, TurnsAnswer, TurnsWatched};
+    ghost use Rattle.ripngd_engine.specs.Seen.{seen, untouched, Started, TurnsAnswer, TurnsWatched};
 
     /// Starts a router over a link with as many interfaces: what it asks its neighbors is sent, and its routes are
     /// followed and logged. The log gets a line for each change of a route, in several writes; after one that fails it
@@ -79,7 +79,7 @@ impl<S: RouteStore, L: Link, C: TimeSource, R: Rng + Drop> Engine<S, L, C, R> {
     ) -> Result<Engine<S, L, C, R>, EngineFault>
         requires { L.interface_count link ≡ length config.interfaces }
         ensures ok { IfOk result (λ e. Started config (R.stream rng)
-            (fresh (L.calls link) (C.moments clock) (W.contents log.old)) (seen R.stream W.contents e log.new)) }
+            (untouched (L.calls link) (C.moments clock) (W.contents log.old)) (seen R.stream W.contents e log.new)) }
         ensures err { OnErr result (result ≡ Err EngineFault.OutOfMemory) }
     {
         let buffer = vec![in alloc; 0u8; BUFFER_LEN];
@@ -98,7 +98,7 @@ impl<S: RouteStore, L: Link, C: TimeSource, R: Rng + Drop> Engine<S, L, C, R> {
     ) -> Result<Engine<S, L, C, R>, EngineFault>
         requires { L.interface_count link ≡ length config.interfaces }
         ensures ok { IfOk result (λ e. Started config (R.stream rng)
-            (fresh (L.calls link) (C.moments clock) (W.contents log.old)) (seen R.stream W.contents e log.new)) }
+            (untouched (L.calls link) (C.moments clock) (W.contents log.old)) (seen R.stream W.contents e log.new)) }
         ensures err { OnErr result (result ≡ Err EngineFault.OutOfMemory) }
         ensures no_buffer { is_err buffer ≡ true → (is_err result ≡ true) × (log.new ≡ log.old) }
     {
@@ -184,7 +184,7 @@ impl<S: RouteStore, L: Link, C: TimeSource, R: Rng + Drop> Engine<S, L, C, R> {
     /// same and does nothing.
     pub fn reconfigure<W: Write>(&mut self, change: Change, log: &mut W) -> Result<(), ChangeFault>
         requires { NamesInterface self.old.router.config change }
-        ensures changes { self.old.ended ≡ false → ChangeAnswer change (seen R.stream W.contents self.old log.old) result
+        ensures changes { self.old.ended ≡ false → ReconfigureAnswer change (seen R.stream W.contents self.old log.old) result
             (seen R.stream W.contents self.new log.new) }
         ensures ended { self.old.ended ≡ true
             → (result ≡ Err ChangeFault.Ended) × (self.new ≡ self.old) × (log.new ≡ log.old) }

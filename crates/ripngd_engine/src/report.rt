@@ -1,7 +1,7 @@
 //! What an engine answers and reports.
 
 ghost use Rattle.std.specs.Prelude.{◌≡◌};
-ghost use Rattle.ripngd_engine.specs.Report.{fault_number};
+ghost use Rattle.ripngd_engine.specs.Report.{engine_fault_number};
 ghost use Rattle.ripngd_engine.specs.declared.report.EngineFault.TheVariants as fault;
 
 use router_core::ReconfigureRefused;
@@ -23,7 +23,7 @@ pub enum EngineFault {
 impl EngineFault {
     /// The number of the fault, 1 or 2.
     pub fn number(self) -> u8
-        ensures { result ≡ fault_number self }
+        ensures { result ≡ engine_fault_number self }
     {
         match self {
             Self::LinkFault { .. } => 1,

@@ -4,12 +4,12 @@ ghost use Rattle.std.specs.Prelude.{◌≡◌, ◌<◌, ◌≤◌, [], ◌∷◌
 ghost use Rattle.rand_core.specs.Stream.{next_u32};
 ghost use Rattle.ripngd_engine.specs.Telling.{Gains};
 ghost use Rattle.ripngd_engine.specs.Link.{recv_call, datagram_in};
-ghost use Rattle.ripngd_engine.specs.Run.{Takes, TicksOnce};
+ghost use Rattle.ripngd_engine.specs.Run.{TakesArrival, TicksOnce};
 ghost use Rattle.std.specs.Coded.{Coded-set, →_prop};
 ghost use Rattle.fib.specs.contracts.fib.Fib as forwarding;
 ghost use Rattle.router_core.specs.Changes.{forwards};
 ghost use Rattle.router_core.specs.Reconfiguring.{NamesInterface};
-ghost use Rattle.ripngd_engine.specs.Changing.{ChangeAnswer};
+ghost use Rattle.ripngd_engine.specs.Changing.{ReconfigureAnswer};
 ghost use Rattle.ripngd_engine.specs.declared.running.TurnFault.TheVariants.{NoLink, NoMemory};
 
 use crate::clock::TimeSource;
@@ -110,7 +110,7 @@ impl<S: RouteStore, L: Link, C: TimeSource, R: Rng + Drop> Running<S, L, C, R> {
         requires ended { self.old.outlet.ended ≡ false }
         requires interface { received.iface < length self.old.router.config.interfaces }
         requires within { received.len ≤ length buffer.now }
-        ensures acts { ActsTold V.takes watch.old watch.new (Takes (datagram_in received buffer.now)) (running_seen L.calls C.moments R.stream W.contents self.old log.old)
+        ensures acts { ActsTold V.takes watch.old watch.new (TakesArrival (datagram_in received buffer.now)) (running_seen L.calls C.moments R.stream W.contents self.old log.old)
             (running_seen L.calls C.moments R.stream W.contents self.new log.new) }
         ensures ended { self.new.outlet.ended ≡ is_err result }
     {
@@ -187,7 +187,7 @@ impl<S: RouteStore, L: Link, C: TimeSource, R: Rng + Drop> Running<S, L, C, R> {
     ) -> Result<(), ChangeFault>
         requires ended { self.old.outlet.ended ≡ false }
         requires named { NamesInterface self.old.router.config change }
-        ensures { ChangeAnswer change (running_seen L.calls C.moments R.stream W.contents self.old log.old) result
+        ensures { ReconfigureAnswer change (running_seen L.calls C.moments R.stream W.contents self.old log.old) result
             (running_seen L.calls C.moments R.stream W.contents self.new log.new) }
     {
         let now = self.clock.now();

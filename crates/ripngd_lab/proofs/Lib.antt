@@ -1,1 +1,1 @@
-pub mod Witnessing
+pub mod ScriptWatching

@@ -1,4 +1,4 @@
--- What the witness of a script is told beside what happens in the lab.
+-- What the watcher of a script is told beside what happens in the lab.
 use Rattle.std.specs.Prelude.{ℕ}
 
 -- of nothing that happens in the lab: the number of the script's next line; what a line prints, or why it ends the script. `Broken`

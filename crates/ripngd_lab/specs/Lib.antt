@@ -1,4 +1,4 @@
 pub mod Asides
 pub mod Expecting
 pub mod Losing
-pub mod Witnessing
+pub mod ScriptWatching

@@ -1,7 +1,7 @@
 //! Lines about routers that run.
 
 ghost use Rattle.std.specs.Prelude.{Some};
-ghost use Rattle.ripngd_lab.specs.Witnessing.{HasTold};
+ghost use Rattle.ripngd_lab.specs.ScriptWatching.{HasTold};
 
 use crate::doing::step;
 use crate::expecting::{Expected, Missed, meet};
@@ -39,7 +39,7 @@ impl Course {
     }
 }
 
-/// A line about routers that run. What a router answers is for the witness alone.
+/// A line about routers that run. What a router answers is for the watcher alone.
 pub fn run<V: Watch>(
     alloc: Global,
     lab: &mut Lab<TrieRoutes>,

@@ -1,7 +1,7 @@
-//! What a lab does, one way or another, while the witness of a script is told. What routers answer is for the witness alone.
+//! What a lab does, one way or another, while the watcher of a script is told. What routers answer is for the watcher alone.
 
 ghost use Rattle.std.specs.Prelude.{◌≡◌, All, Some, length};
-ghost use Rattle.ripngd_lab.specs.Witnessing.{HasTold};
+ghost use Rattle.ripngd_lab.specs.ScriptWatching.{HasTold};
 
 use crate::stop::Stop;
 use crate::watching::Watch;
@@ -11,7 +11,7 @@ use route_table::{Moment, TrieRoutes};
 /// An event happens.
 ///
 /// # Errors
-/// The event is refused; want of memory, or of the witness.
+/// The event is refused; want of memory, or of the watcher.
 pub fn step<V: Watch>(
     lab: &mut Lab<TrieRoutes>,
     event: &Event<'_>,
@@ -29,7 +29,7 @@ pub fn step<V: Watch>(
 /// All that was sent from a number on comes to each other interface of its link.
 ///
 /// # Errors
-/// Want of memory, or of the witness. What was done before it stays done.
+/// Want of memory, or of the watcher. What was done before it stays done.
 pub fn deliver_since<V: Watch>(
     lab: &mut Lab<TrieRoutes>,
     first: usize,
@@ -48,7 +48,7 @@ pub fn deliver_since<V: Watch>(
 /// Rounds are made.
 ///
 /// # Errors
-/// A regular update that is not due; want of memory, or of the witness. What was done before it stays done.
+/// A regular update that is not due; want of memory, or of the watcher. What was done before it stays done.
 pub fn run_rounds<V: Watch>(
     lab: &mut Lab<TrieRoutes>,
     rounds: &[Round<'_>],

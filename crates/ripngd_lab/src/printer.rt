@@ -1,4 +1,4 @@
-//! The witness of a script that prints what its lines ask for.
+//! The watcher of a script that prints what its lines ask for.
 
 ghost use Rattle.std.specs.Prelude.{⊤};
 

@@ -1,7 +1,7 @@
 //! Rounds: every router ticks, and what is sent then comes everywhere.
 
 ghost use Rattle.std.specs.Prelude.{◌≡◌, ℕ, All, IfOk, Some, length};
-ghost use Rattle.ripngd_lab.specs.Witnessing.{HasTold};
+ghost use Rattle.ripngd_lab.specs.ScriptWatching.{HasTold};
 
 use crate::doing::{deliver_since, run_rounds, step};
 use crate::outages::Outages;
@@ -24,7 +24,7 @@ type Ticks = (Moment, Vec<(Moment, u32)>);
 /// one moment. Silent routers do not tick, and nothing comes from or to them, or by a link that is cut.
 ///
 /// # Errors
-/// Want of memory, or of the witness. What was done before it stays done.
+/// Want of memory, or of the watcher. What was done before it stays done.
 pub fn make_round<V: Watch>(
     alloc: Global,
     lab: &mut Lab<TrieRoutes>,
@@ -120,7 +120,7 @@ pub fn moment_after(now: Moment, gap: u64, gaps: u64) -> Option<Moment> {
 /// these ticks sent is delivered as in one round alone.
 ///
 /// # Errors
-/// A regular update that is not due, want of memory, or of the witness. What was done before it stays done.
+/// A regular update that is not due, want of memory, or of the watcher. What was done before it stays done.
 pub fn make_rounds<V: Watch>(
     alloc: Global,
     lab: &mut Lab<TrieRoutes>,

@@ -2,7 +2,7 @@
 
 ghost use Rattle.std.specs.Prelude.{◌≡◌, ◌⊎◌, IfOk, None, OnErr, true};
 ghost use Rattle.ripngd_lab.specs.Asides.{Broken};
-ghost use Rattle.ripngd_lab.specs.Witnessing.{HasTold, StartsAt, has_failed, lab_in};
+ghost use Rattle.ripngd_lab.specs.ScriptWatching.{HasTold, StartsAt, has_failed, lab_in};
 
 use crate::context::Context;
 use crate::course::{Course, run};
@@ -88,7 +88,7 @@ impl Session {
     }
 }
 
-/// The routers of a network start at one moment, and the witness is told.
+/// The routers of a network start at one moment, and the watcher is told.
 fn begin_lab<V: Watch>(
     alloc: Global,
     nodes: Vec<Node>,

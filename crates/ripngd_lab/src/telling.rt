@@ -1,7 +1,7 @@
 //! What is sent comes to every other interface of its link, but for what is lost.
 
 ghost use Rattle.std.specs.Prelude.{Some};
-ghost use Rattle.ripngd_lab.specs.Witnessing.{HasTold};
+ghost use Rattle.ripngd_lab.specs.ScriptWatching.{HasTold};
 
 use crate::doing::step;
 use crate::outages::Outages;
@@ -29,7 +29,7 @@ pub struct Hearing<'a> {
 /// before, does not come, nor does anything from or to a silent router, or by a link that is cut.
 ///
 /// # Errors
-/// `NoSuchDatagram` where one is to be lost that is not among them; want of memory, or of the witness. What was done before it
+/// `NoSuchDatagram` where one is to be lost that is not among them; want of memory, or of the watcher. What was done before it
 /// stays done.
 pub fn hear<V: Watch>(
     alloc: Global,

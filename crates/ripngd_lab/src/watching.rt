@@ -10,7 +10,7 @@ use ripng_world::Lab;
 use route_table::{Moment, TrieRoutes};
 use std::io;
 
-/// A witness of a script. It is told of each thing as soon as that is done, in order; of events as a watcher of the lab.
+/// A watcher of a script. It is told of each thing as soon as that is done, in order; of events as a watcher of the lab.
 pub trait Watch: ripng_world::Watch<TrieRoutes, Fault = io::Error> {
     // What the start of a lab makes of it: how it was, the lab, the moment, and how it is then.
     ghost starts: { Self → LabValue → ℕ → Self → Type 0 };
@@ -25,7 +25,7 @@ pub trait Watch: ripng_world::Watch<TrieRoutes, Fault = io::Error> {
     /// The line `cold`: all routers have started at this moment.
     ///
     /// # Errors
-    /// Of what the witness writes to, or want of memory; so are those below.
+    /// Of what the watcher writes to, or want of memory; so are those below.
     fn started(&mut self, lab: &Lab<TrieRoutes>, now: Moment) -> io::Result<()>
         ensures starts { OnOk result (starts self.old lab.now now self.new) }
         ensures broken { OnErr result (notes self.old Broken self.new) };

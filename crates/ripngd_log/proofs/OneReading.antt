@@ -10,7 +10,7 @@ use Rattle.fib.specs.declared.change.Hop.TheVariants.{Direct, Via}
 use Rattle.fib.specs.declared.change.RouteChange.{RouteChange}
 use Rattle.fib.specs.declared.change.RouteChange.TheVariants.{Install, Withdraw}
 use Rattle.ripngd_engine.specs.Log.{hop_text, change_text, log_of}
-use Rattle.ripngd_log.specs.Reading.{IsHop, IsChange, IsInLine, IsLogOf, IsFirstBadLine}
+use Rattle.ripngd_log.specs.Reading.{IsWritableHop, IsWritableChange, IsInLine, IsLogOf, IsFirstBadLine}
 use Rattle.ripngd_log.proofs.WordTexts.{addr_in_word, decimal_in_word, prefix_in_word, change_in_line}
 
 abbrev pub Lacks : ℕ → List ℕ → Type 0
@@ -40,7 +40,7 @@ module _ (addr_reads : (a : ℕ) → a < 2 ^ 128 → Reads (written_addr a) a) (
   same_prefix : (p q : Prefix6) → IsPrefix p → IsPrefix q → written_prefix p ≡ written_prefix q → p ≡ q
   same_prefix p q h k e = one_prefix (written_prefix q) p q (subst (λ t. ReadsPrefix t p) e (prefix_reads p h)) (prefix_reads q k)
 
-  same_hop : (a b : Hop) → IsHop a → IsHop b → hop_text a ≡ hop_text b → a ≡ b
+  same_hop : (a b : Hop) → IsWritableHop a → IsWritableHop b → hop_text a ≡ hop_text b → a ≡ b
   same_hop Direct Direct h k e = refl
   same_hop Direct (Via j b) h k e = let first : ◌≡◌ {A = ℕ} 100 118 = ap (λ t. get_or t 0 0) e in absurd (omega (arith, first))
   same_hop (Via i a) Direct h k e = let first : ◌≡◌ {A = ℕ} 118 100 = ap (λ t. get_or t 0 0) e in absurd (omega (arith, first))
@@ -48,7 +48,7 @@ module _ (addr_reads : (a : ℕ) → a < 2 ^ 128 → Reads (written_addr a) a) (
       let parts = one_split 32 (written_addr a) (codes "iface " ++ decimal i) (written_addr b) (codes "iface " ++ decimal j) (addr_in_word a) (addr_in_word b) (ap (drop 4) e) in
       ap₂ Via (decimal_injective i j h.0 k.0 (ap (drop 6) parts.1)) (same_addr a b h.1 k.1 parts.0)
 
-  same_change : (c d : RouteChange) → IsChange c → IsChange d → change_text c ≡ change_text d → c ≡ d
+  same_change : (c d : RouteChange) → IsWritableChange c → IsWritableChange d → change_text c ≡ change_text d → c ≡ d
   same_change (Install p a m) (Install q b n) h k e =
       let first = one_split 32 (written_prefix p) (codes "metric " ++ (decimal m ++ (codes " " ++ hop_text a))) (written_prefix q) (codes "metric " ++ (decimal n ++ (codes " " ++ hop_text b))) (prefix_in_word p h.0) (prefix_in_word q k.0) (ap (drop 4) e) in
       let second = one_split 32 (decimal m) (hop_text a) (decimal n) (hop_text b) (decimal_in_word m (omega (arith, h.2))) (decimal_in_word n (omega (arith, k.2))) (ap (drop 7) first.1) in
@@ -64,30 +64,30 @@ module _ (addr_reads : (a : ℕ) → a < 2 ^ 128 → Reads (written_addr a) a) (
   front : (c : RouteChange) (cs : List RouteChange) (rest : List ℕ) → log_of (c ∷ cs) ++ rest ≡ change_text c ++ (10 ∷ (log_of cs ++ rest))
   front c cs rest = simp append_assoc refl
 
-  same_log : (cs ds : List RouteChange) (r s : List ℕ) → All IsChange cs → All IsChange ds → IsInLine r → IsInLine s → log_of cs ++ r ≡ log_of ds ++ s → cs ≡ ds
+  same_log : (cs ds : List RouteChange) (r s : List ℕ) → All IsWritableChange cs → All IsWritableChange ds → IsInLine r → IsInLine s → log_of cs ++ r ≡ log_of ds ++ s → cs ≡ ds
   same_log [] [] r s h k free other e = refl
   same_log [] (d ∷ ds) r s h k free other e = absurd (has_it 10 (change_text d) (log_of ds ++ s) (subst IsInLine (e ∙ front d ds s) free))
   same_log (c ∷ cs) [] r s h k free other e = absurd (has_it 10 (change_text c) (log_of cs ++ r) (subst IsInLine (sym e ∙ front c cs r) other))
   same_log (c ∷ cs) (d ∷ ds) r s h k free other e =
-      let is_c = All-head IsChange c cs h in
-      let is_d = All-head IsChange d ds k in
+      let is_c = All-head IsWritableChange c cs h in
+      let is_d = All-head IsWritableChange d ds k in
       let parts = one_split 10 (change_text c) (log_of cs ++ r) (change_text d) (log_of ds ++ s) (change_in_line c is_c) (change_in_line d is_d) (sym (front c cs r) ∙ e ∙ front d ds s) in
-      ap₂ ◌∷◌ (same_change c d is_c is_d parts.0) (same_log cs ds r s (All-tail IsChange c cs h) (All-tail IsChange d ds k) free other parts.1)
+      ap₂ ◌∷◌ (same_change c d is_c is_d parts.0) (same_log cs ds r s (All-tail IsWritableChange c cs h) (All-tail IsWritableChange d ds k) free other parts.1)
 
   pub one_reading : (text : List ℕ) (cs ds : List RouteChange) → IsLogOf text cs → IsLogOf text ds → cs ≡ ds
   one_reading text cs ds h k = same_log cs ds h.rest k.rest h.lawful k.lawful h.unended k.unended (sym h.spelled ∙ k.spelled)
 
-  no_log : (cs ds : List RouteChange) (bad after r : List ℕ) → All IsChange cs → All IsChange ds → IsInLine bad → ((d : RouteChange) → IsChange d → change_text d ≢ bad) → IsInLine r → log_of cs ++ (bad ++ (10 ∷ after)) ≢ log_of ds ++ r
+  no_log : (cs ds : List RouteChange) (bad after r : List ℕ) → All IsWritableChange cs → All IsWritableChange ds → IsInLine bad → ((d : RouteChange) → IsWritableChange d → change_text d ≢ bad) → IsInLine r → log_of cs ++ (bad ++ (10 ∷ after)) ≢ log_of ds ++ r
   no_log [] [] bad after r h k line none free e = has_it 10 bad after (subst IsInLine (sym e) free)
   no_log [] (d ∷ ds) bad after r h k line none free e =
-      let is_d = All-head IsChange d ds k in
+      let is_d = All-head IsWritableChange d ds k in
       none d is_d (sym (one_split 10 bad after (change_text d) (log_of ds ++ r) line (change_in_line d is_d) (e ∙ front d ds r)).0)
   no_log (c ∷ cs) [] bad after r h k line none free e = has_it 10 (change_text c) (log_of cs ++ (bad ++ (10 ∷ after))) (subst IsInLine (sym e ∙ front c cs _) free)
   no_log (c ∷ cs) (d ∷ ds) bad after r h k line none free e =
-      let is_c = All-head IsChange c cs h in
-      let is_d = All-head IsChange d ds k in
+      let is_c = All-head IsWritableChange c cs h in
+      let is_d = All-head IsWritableChange d ds k in
       let parts = one_split 10 (change_text c) (log_of cs ++ (bad ++ (10 ∷ after))) (change_text d) (log_of ds ++ r) (change_in_line c is_c) (change_in_line d is_d) (sym (front c cs (bad ++ (10 ∷ after))) ∙ e ∙ front d ds r) in
-      no_log cs ds bad after r (All-tail IsChange c cs h) (All-tail IsChange d ds k) line none free parts.1
+      no_log cs ds bad after r (All-tail IsWritableChange c cs h) (All-tail IsWritableChange d ds k) line none free parts.1
 
   pub no_reading : (text : List ℕ) (line : ℕ) (changes : List RouteChange) → IsFirstBadLine text line → ¬ (IsLogOf text changes)
   no_reading text line changes h k =

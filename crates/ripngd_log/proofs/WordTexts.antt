@@ -21,7 +21,7 @@ use Rattle.fib.specs.declared.change.Hop.TheVariants.{Direct, Via}
 use Rattle.fib.specs.declared.change.RouteChange.{RouteChange}
 use Rattle.fib.specs.declared.change.RouteChange.TheVariants.{Install, Withdraw}
 use Rattle.ripngd_engine.specs.Log.{hop_text, route_text, change_text}
-use Rattle.ripngd_log.specs.Reading.{IsHop, IsChange, IsInLine}
+use Rattle.ripngd_log.specs.Reading.{IsWritableHop, IsWritableChange, IsInLine}
 use Rattle.ripngd_log.specs.Words.{IsInWord}
 
 -- past the space and before the first byte that is not ASCII
@@ -90,30 +90,30 @@ literal : (xs : List ℕ) → list_all (λ b. nat_lt 31 b) xs ≡ true → list_
 literal xs low high k d lt =
     (ltb-true 31 _ (AllPass-from_list_all (λ b. nat_lt 31 b) xs low k d lt), ltb-true _ 128 (AllPass-from_list_all (λ b. nat_lt b 128) xs high k d lt))
 
-printable_hop : (hop : Hop) → IsHop hop → All IsPrintable (hop_text hop)
+printable_hop : (hop : Hop) → IsWritableHop hop → All IsPrintable (hop_text hop)
 printable_hop Direct h = literal (codes "direct") refl refl
 printable_hop (Via iface next_hop) h =
     All-append IsPrintable (codes "via ") _ (literal (codes "via ") refl refl)
     (All-append IsPrintable (written_addr next_hop) _ (printable _ (plain_addr next_hop))
     (All-append IsPrintable (codes " iface ") _ (literal (codes " iface ") refl refl) (printable _ (plain_decimal iface h.0))))
 
-printable_route : (p : Prefix6) (hop : Hop) (metric : ℕ) → IsPrefix p → IsHop hop → metric < 2 ^ 8 → All IsPrintable (route_text p hop metric)
+printable_route : (p : Prefix6) (hop : Hop) (metric : ℕ) → IsPrefix p → IsWritableHop hop → metric < 2 ^ 8 → All IsPrintable (route_text p hop metric)
 printable_route p hop metric is_prefix is_hop fits =
     All-append IsPrintable (written_prefix p) _ (printable _ (plain_prefix p is_prefix))
     (All-append IsPrintable (codes " metric ") _ (literal (codes " metric ") refl refl)
     (All-append IsPrintable (decimal metric) _ (printable _ (plain_decimal metric (omega arith)))
     (All-append IsPrintable (codes " ") _ (literal (codes " ") refl refl) (printable_hop hop is_hop))))
 
-printable_change : (c : RouteChange) → IsChange c → All IsPrintable (change_text c)
+printable_change : (c : RouteChange) → IsWritableChange c → All IsPrintable (change_text c)
 printable_change (Install p hop metric) h =
     All-append IsPrintable (codes "add ") _ (literal (codes "add ") refl refl) (printable_route p hop metric h.0 h.1 h.2)
 printable_change (Withdraw p) h =
     All-append IsPrintable (codes "del ") _ (literal (codes "del ") refl refl) (printable _ (plain_prefix p h))
 
-pub change_utf8 : (c : RouteChange) → IsChange c → IsUtf8 (change_text c)
+pub change_utf8 : (c : RouteChange) → IsWritableChange c → IsUtf8 (change_text c)
 change_utf8 c h = IsUtf8-from_ascii (change_text c) (IsAscii-from_all _ (All-weaker IsPrintable (λ b. b < 128) (λ b is. is.1) _ (printable_change c h)))
 
-pub change_in_line : (c : RouteChange) → IsChange c → IsInLine (change_text c)
+pub change_in_line : (c : RouteChange) → IsWritableChange c → IsInLine (change_text c)
 change_in_line c h = All-weaker IsPrintable (λ b. b ≢ 10) (λ b is same. omega (arith, is.0)) _ (printable_change c h)
 
 -- a literal word

@@ -13,14 +13,14 @@ use Rattle.ripngd_log.specs.declared.fault.LogFault.{LogFault}
 use Rattle.ripngd_log.specs.declared.fault.LogFault.TheVariants.{BadLine, OutOfMemory}
 
 -- a number of an interface of 64 bits, and an address of 128
-abbrev pub IsHop : Hop → Type 0
-IsHop Direct = Unit {0}
-IsHop (Via iface next_hop) = (iface < 2 ^ 64) × (next_hop < 2 ^ 128)
+abbrev pub IsWritableHop : Hop → Type 0
+IsWritableHop Direct = Unit {0}
+IsWritableHop (Via iface next_hop) = (iface < 2 ^ 64) × (next_hop < 2 ^ 128)
 
 -- a prefix whose bits past its length are zero, a hop, and a metric of one byte
-abbrev pub IsChange : RouteChange → Type 0
-IsChange (Install p hop metric) = IsPrefix p × IsHop hop × (metric < 2 ^ 8)
-IsChange (Withdraw p) = IsPrefix p
+abbrev pub IsWritableChange : RouteChange → Type 0
+IsWritableChange (Install p hop metric) = IsPrefix p × IsWritableHop hop × (metric < 2 ^ 8)
+IsWritableChange (Withdraw p) = IsPrefix p
 
 -- no byte is a line feed (10)
 abbrev pub IsInLine : List ℕ → Type 0
@@ -29,7 +29,7 @@ IsInLine text = All (λ b. b ≢ 10) text
 -- a line for each change, and the rest, which is of a line that has no end yet
 pub record IsLogOf (text : List ℕ) (changes : List RouteChange) : Type 0 where
   pub rest : List ℕ
-  pub lawful : All IsChange changes
+  pub lawful : All IsWritableChange changes
   pub spelled : text ≡ log_of changes ++ rest
   pub unended : IsInLine rest
 
@@ -44,23 +44,23 @@ pub record IsFirstBadLine (text : List ℕ) (line : ℕ) : Type 0 where
   pub before : List RouteChange
   pub bad : List ℕ
   pub after : List ℕ
-  pub lawful : All IsChange before
+  pub lawful : All IsWritableChange before
   pub spelled : text ≡ log_of before ++ bad ++ (10 ∷ after)
   pub is_line : IsInLine bad
   pub numbered : line ≡ length before + 1
-  pub no_change : (c : RouteChange) → IsChange c → change_text c ≢ bad
+  pub no_change : (c : RouteChange) → IsWritableChange c → change_text c ≢ bad
 
 -- what a refusal says of the text; want of memory says nothing
-abbrev pub Refuses : List ℕ → LogFault → Type 0
-Refuses text (BadLine line) = IsFirstBadLine text line
-Refuses text OutOfMemory = Unit {0}
+abbrev pub RefusesLog : List ℕ → LogFault → Type 0
+RefusesLog text (BadLine line) = IsFirstBadLine text line
+RefusesLog text OutOfMemory = Unit {0}
 
 -- the number of a refusal
-abbrev pub fault_number : LogFault → ℕ
-fault_number (BadLine line) = 1
-fault_number OutOfMemory = 2
+abbrev pub log_fault_number : LogFault → ℕ
+log_fault_number (BadLine line) = 1
+log_fault_number OutOfMemory = 2
 
 -- as the variant is spelled
-abbrev pub fault_name : LogFault → List ℕ
-fault_name (BadLine line) = codes "BadLine"
-fault_name OutOfMemory = codes "OutOfMemory"
+abbrev pub log_fault_name : LogFault → List ℕ
+log_fault_name (BadLine line) = codes "BadLine"
+log_fault_name OutOfMemory = codes "OutOfMemory"

@@ -3,7 +3,7 @@ use Rattle.std.specs.Prelude.{◌≡◌, ◌≢◌, ℕ, Bool, true, false, Opti
 use Rattle.std.specs.List.{All}
 use Rattle.fib.specs.declared.change.RouteChange.{RouteChange}
 use Rattle.ripngd_engine.specs.Log.{change_text}
-use Rattle.ripngd_log.specs.Reading.{IsChange}
+use Rattle.ripngd_log.specs.Reading.{IsWritableChange}
 
 -- no byte is a space (32)
 abbrev pub IsInWord : List ℕ → Type 0
@@ -15,14 +15,14 @@ CutsWord line first second = (word rest : List ℕ) → IsInWord word → line �
 
 -- the line is not that of a change
 abbrev pub IsOfNone : List ℕ → Type 0
-IsOfNone line = (c : RouteChange) → IsChange c → change_text c ≢ line
+IsOfNone line = (c : RouteChange) → IsWritableChange c → change_text c ≢ line
 
 -- the change that the line is of, or none where it is of none
 abbrev pub IsRead : List ℕ → Option RouteChange → Type 0
-IsRead line (Some c) = IsChange c × (change_text c ≡ line)
+IsRead line (Some c) = IsWritableChange c × (change_text c ≡ line)
 IsRead line None = IsOfNone line
 
 -- the line is that of a change, which comes after those that were there; or it is that of none
 abbrev pub PushesLine : List ℕ → Bool → List RouteChange → List RouteChange → Type 0
-PushesLine line true old new = (c : RouteChange) × IsChange c × (change_text c ≡ line) × (new ≡ old ++ c ∷ [])
+PushesLine line true old new = (c : RouteChange) × IsWritableChange c × (change_text c ≡ line) × (new ≡ old ++ c ∷ [])
 PushesLine line false old new = IsOfNone line × (new ≡ old)

@@ -1,7 +1,7 @@
 //! Refusals: why a log is not read.
 
 ghost use Rattle.std.specs.Prelude.{◌≡◌};
-ghost use Rattle.ripngd_log.specs.Reading.{fault_number, fault_name};
+ghost use Rattle.ripngd_log.specs.Reading.{log_fault_number, log_fault_name};
 ghost use Rattle.ripngd_log.specs.declared.fault.LogFault.TheVariants as fault;
 
 use std::alloc::AllocError;
@@ -22,7 +22,7 @@ pub enum LogFault {
 impl LogFault {
     /// The number of the refusal, 1 or 2.
     pub fn number(self) -> u8
-        ensures { result ≡ fault_number self }
+        ensures { result ≡ log_fault_number self }
     {
         match self {
             Self::BadLine { .. } => 1,
@@ -32,7 +32,7 @@ impl LogFault {
 
     /// The name of the refusal, as the variant is spelled.
     pub fn name(self) -> &'static str
-        ensures { result.now ≡ fault_name self }
+        ensures { result.now ≡ log_fault_name self }
     {
         match self {
             Self::BadLine { .. } => "BadLine",

@@ -6,7 +6,7 @@ ghost use Rattle.fib.specs.declared.change.Hop.{Hop};
 ghost use Rattle.fib.specs.declared.change.RouteChange.{RouteChange};
 ghost use Rattle.fib.specs.declared.change.RouteChange.TheVariants.{Install};
 ghost use Rattle.ripngd_engine.specs.Log.{hop_text, route_text, change_text};
-ghost use Rattle.ripngd_log.specs.Reading.{IsHop, IsChange};
+ghost use Rattle.ripngd_log.specs.Reading.{IsWritableHop, IsWritableChange};
 ghost use Rattle.ripngd_log.specs.Words.{IsRead, PushesLine};
 
 use crate::words::{addr_in, first_word, iface_in, metric_in, prefix_in};
@@ -18,8 +18,8 @@ use std::str;
 
 /// The hop that the text can be of.
 fn hop_in(text: &str) -> Option<Hop>
-    ensures lawful { IfSome result IsHop }
-    ensures found { (hop : Hop) → IsHop hop → text.now ≡ hop_text hop → result ≡ Some hop }
+    ensures lawful { IfSome result IsWritableHop }
+    ensures found { (hop : Hop) → IsWritableHop hop → text.now ≡ hop_text hop → result ≡ Some hop }
 {
     if text == "direct" {
         return Some(Hop::Direct);
@@ -35,8 +35,8 @@ fn hop_in(text: &str) -> Option<Hop>
 
 /// The entry that the text can be of.
 fn install_in(text: &str) -> Option<RouteChange>
-    ensures lawful { IfSome result IsChange }
-    ensures found { (p : Prefix6) (hop : Hop) (metric : ℕ) → IsPrefix p → IsHop hop → metric < 2 ^ 8 → text.now ≡ route_text p hop metric → result ≡ Some (Install p hop metric) }
+    ensures lawful { IfSome result IsWritableChange }
+    ensures found { (p : Prefix6) (hop : Hop) (metric : ℕ) → IsPrefix p → IsWritableHop hop → metric < 2 ^ 8 → text.now ≡ route_text p hop metric → result ≡ Some (Install p hop metric) }
 {
     let (prefix, text) = first_word(text);
     let (_, text) = first_word(text);
@@ -50,8 +50,8 @@ fn install_in(text: &str) -> Option<RouteChange>
 
 /// The change that the line can be of: it is read by the places of its words.
 fn change_in(line: &[u8]) -> Option<RouteChange>
-    ensures lawful { IfSome result IsChange }
-    ensures found { (c : RouteChange) → IsChange c → change_text c ≡ line.now → result ≡ Some c }
+    ensures lawful { IfSome result IsWritableChange }
+    ensures found { (c : RouteChange) → IsWritableChange c → change_text c ≡ line.now → result ≡ Some c }
 {
     let line = str::from_utf8(line).ok()?;
     let (word, text) = first_word(line);

@@ -4,7 +4,7 @@ ghost use Rattle.std.specs.Prelude.{List, IfOk, IfErr};
 ghost use Rattle.std.specs.FinMap as map;
 ghost use Rattle.fib.specs.declared.change.RouteChange.{RouteChange};
 ghost use Rattle.fib.specs.Forwarding.{Replays};
-ghost use Rattle.ripngd_log.specs.Reading.{IsLogOf, MakesTable, Refuses};
+ghost use Rattle.ripngd_log.specs.Reading.{IsLogOf, MakesTable, RefusesLog};
 
 use crate::cutting::first_line;
 use crate::fault::LogFault;
@@ -16,7 +16,7 @@ use std::alloc::Global;
 /// The changes of the lines that have an end.
 fn read_changes(alloc: Global, text: &[u8]) -> Result<Vec<RouteChange>, LogFault>
     ensures log { IfOk result (λ changes. IsLogOf text.now changes.items) }
-    ensures refused { IfErr result (Refuses text.now) }
+    ensures refused { IfErr result (RefusesLog text.now) }
 {
     let mut changes = Vec::new(alloc);
     let mut written = String::new(alloc);
@@ -45,7 +45,7 @@ fn read_changes(alloc: Global, text: &[u8]) -> Result<Vec<RouteChange>, LogFault
 pub fn read_log(alloc: Global, text: &[u8]) -> Result<Fib, LogFault>
     ensures table { IfOk result (MakesTable text.now) }
     ensures follows { IfOk result (λ table. (changes : List RouteChange) → IsLogOf text.now changes → Replays map.empty changes table) }
-    ensures refused { IfErr result (Refuses text.now) }
+    ensures refused { IfErr result (RefusesLog text.now) }
 {
     logs_are_read_one_way();
     let changes = read_changes(alloc, text)?;

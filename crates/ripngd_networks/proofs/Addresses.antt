@@ -8,7 +8,7 @@ use Rattle.router_core.specs.Config.{Config, has_address}
 use Rattle.router_core.specs.Faults.{fault, asker_reasons, ripng_port}
 use Rattle.router_core.specs.Machine.{State, Happening, Arrives, Ticks, Restarts, Reconfigures, Moves, Accepts, Refuses, Hears as RouterHears, Replies, ticked, is_regular_due, is_triggered_due}
 use Rattle.router_core.specs.Received.{Received}
-use Rattle.router_core.specs.Reconfiguring.{changed_config}
+use Rattle.router_core.specs.Reconfiguring.{reconfigured_config}
 use Rattle.router_core.specs.declared.answer.Answer.{Answer}
 use Rattle.router_core.specs.declared.arrival.Fault.{Fault}
 use Rattle.router_core.specs.declared.arrival.Fault.TheVariants.{Wire, NotRipngPort, NotLinkLocal, OwnAddress, HopLimit, EmptyRequest}
@@ -42,7 +42,7 @@ ticked_addresses old now word = by_due (is_regular_due old now) (is_triggered_du
     by_due false true = refl
     by_due false false = refl
 
-changed_addresses : (config : Config) (c : Change) → addresses_of (changed_config config c) ≡ addresses_of config
+changed_addresses : (config : Config) (c : Change) → addresses_of (reconfigured_config config c) ≡ addresses_of config
 changed_addresses config (Cost iface cost) = set_addresses config.interfaces iface cost
 changed_addresses config (Own p tag) = refl
 changed_addresses config (Disown p) = refl

@@ -63,4 +63,4 @@ cold_from n (node ∷ nodes) =
 pub cold_world : (net : Network) → (moments : List ℕ) × (w : World) × IsCold net moments w
 cold_world net =
     let cold = cold_from 0 net in
-    (cold.0, record { states = cold.1; sent = cold.2; changes = [] }, record { starts = cold.3; unchanged = refl })
+    (cold.0, record { states = cold.1; sent = cold.2; reconfigurations = [] }, record { starts = cold.3; unchanged = refl })

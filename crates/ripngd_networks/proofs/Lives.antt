@@ -3,9 +3,9 @@ use Rattle.std.proofs.Common.{◌≡◌, List, [], ◌∷◌, ◌++◌, Option, 
 use Rattle.std.specs.Prelude.{ℕ, Result}
 use Rattle.router_core.specs.Config.{Config}
 use Rattle.ripngd_engine.specs.Link.{Call, Gave, Silent, RecvFailed, Handed}
-use Rattle.ripngd_engine.specs.Run.{Machine, Trace, TakesIn, TicksOnce, TicksUnless, Turn, Turns, joined, all_joined, nothing, one_call}
+use Rattle.ripngd_engine.specs.Run.{Machine, Trace, TakesIn, TicksOnce, TicksUnless, Turn, Turns, followed_by, all_joined, no_step, one_call}
 use Rattle.router_core.specs.declared.reconfiguring.Change.{Change}
-use Rattle.ripngd_engine.specs.Changing.{ChangeAnswer, ChangesOnce}
+use Rattle.ripngd_engine.specs.Changing.{ReconfigureAnswer, ReconfiguresOnce}
 use Rattle.ripngd_engine.specs.Seen.{Acts, Seen, Shows, TurnsAnswer}
 use Rattle.ripngd_engine.specs.declared.report.ChangeFault.{ChangeFault}
 use Rattle.ripngd_engine.specs.declared.report.ChangeFault.TheVariants.{Refused, Ended}
@@ -14,15 +14,15 @@ use Rattle.ripngd_engine.specs.declared.report.EngineFault.TheVariants.{LinkFaul
 use Rattle.ripngd_engine.proofs.Steps.{Shows-trans, Shows-listens}
 use Rattle.ripngd_networks.specs.Daemons.{Deed, Listen, Tick, Reconfigure, Refuse, Hears, Lives, traces_of}
 
-joined-nothing : (t : Trace) → joined t nothing ≡ t
-joined-nothing t = simp append-nil
+followed_by-no_step : (t : Trace) → followed_by t no_step ≡ t
+followed_by-no_step t = simp append-nil
 
-joined-assoc : (a b c : Trace) → joined (joined a b) c ≡ joined a (joined b c)
-joined-assoc a b c = simp append_assoc
+followed_by-assoc : (a b c : Trace) → followed_by (followed_by a b) c ≡ followed_by a (followed_by b c)
+followed_by-assoc a b c = simp append_assoc
 
-all_joined-append : (ts us : List Trace) → all_joined (ts ++ us) ≡ joined (all_joined ts) (all_joined us)
+all_joined-append : (ts us : List Trace) → all_joined (ts ++ us) ≡ followed_by (all_joined ts) (all_joined us)
 all_joined-append [] us = refl
-all_joined-append (t ∷ ts) us = ap (joined t) (all_joined-append ts us) ∙ sym (joined-assoc t (all_joined ts) (all_joined us))
+all_joined-append (t ∷ ts) us = ap (followed_by t) (all_joined-append ts us) ∙ sym (followed_by-assoc t (all_joined ts) (all_joined us))
 
 pub traces_of-append : (xs ys : List Deed) → traces_of (xs ++ ys) ≡ traces_of xs ++ traces_of ys
 traces_of-append [] ys = refl
@@ -39,17 +39,17 @@ pub record Led (config : Config) (m : Machine) (t : Trace) (n : Machine) : Type 
   pub lives : Lives config (Some m) deeds (Some n)
   pub trace : all_joined (traces_of deeds) ≡ t
 
-led_on : (config : Config) (m k n : Machine) (s t : Trace) → Led config m s k → Led config k t n → Led config m (joined s t) n
+led_on : (config : Config) (m k n : Machine) (s t : Trace) → Led config m s k → Led config k t n → Led config m (followed_by s t) n
 led_on config m k n s t a b =
     record {
       deeds = a.deeds ++ b.deeds;
       lives = lives_on config (Some m) (Some k) (Some n) a.deeds b.deeds a.lives b.lives;
       trace = ap all_joined (traces_of-append a.deeds b.deeds) ∙ all_joined-append (traces_of a.deeds) (traces_of b.deeds)
-          ∙ ap (λ x. joined x (all_joined (traces_of b.deeds))) a.trace ∙ ap (joined s) b.trace;
+          ∙ ap (λ x. followed_by x (all_joined (traces_of b.deeds))) a.trace ∙ ap (followed_by s) b.trace;
     }
 
 -- what was given is taken in
-taken_in : (call : Call) (m : Machine) (t : Trace) (n : Machine) → TakesIn call m t n → Hears call m (joined (one_call call) t) n
+taken_in : (call : Call) (m : Machine) (t : Trace) (n : Machine) → TakesIn call m t n → Hears call m (followed_by (one_call call) t) n
 taken_in (Gave d) m t n takes = (t, takes, refl)
 taken_in Silent m t n takes = (t, takes, refl)
 taken_in RecvFailed m t n takes = absurd takes
@@ -59,19 +59,19 @@ taken_in (Handed o went) m t n takes = absurd takes
 ticked : (config : Config) (m : Machine) (t : Trace) (n : Machine) → TicksUnless m.ended m t n → Led config m t n
 ticked config m t n ticks = by_end m.ended refl ticks
   where
-    by_end : (b : Bool) → m.ended ≡ b → MatchBool b ((t ≡ nothing) × (n ≡ m)) (TicksOnce m t n) → Led config m t n
+    by_end : (b : Bool) → m.ended ≡ b → MatchBool b ((t ≡ no_step) × (n ≡ m)) (TicksOnce m t n) → Led config m t n
     by_end true is none = record { deeds = []; lives = ap Some none.1; trace = sym none.0 }
-    by_end false is once = record { deeds = record { act = Tick; trace = t } ∷ []; lives = (n, (is, once), refl); trace = joined-nothing t }
+    by_end false is once = record { deeds = record { act = Tick; trace = t } ∷ []; lives = (n, (is, once), refl); trace = followed_by-no_step t }
 
 turn_led : (config : Config) (m : Machine) (t : Trace) (n : Machine) → Turn m t n → Led config m t n
 turn_led config m t n turn =
-    let heard : Led config m (joined (one_call turn.call) turn.taken) turn.middle = record {
-      deeds = record { act = Listen turn.call; trace = joined (one_call turn.call) turn.taken } ∷ [];
+    let heard : Led config m (followed_by (one_call turn.call) turn.taken) turn.middle = record {
+      deeds = record { act = Listen turn.call; trace = followed_by (one_call turn.call) turn.taken } ∷ [];
       lives = (turn.middle, (turn.going, taken_in turn.call m turn.taken turn.middle turn.takes_in), refl);
-      trace = joined-nothing (joined (one_call turn.call) turn.taken);
+      trace = followed_by-no_step (followed_by (one_call turn.call) turn.taken);
     } in
-    subst (λ x. Led config m x n) (joined-assoc (one_call turn.call) turn.taken turn.ticked ∙ sym turn.trace)
-    (led_on config m turn.middle n (joined (one_call turn.call) turn.taken) turn.ticked heard (ticked config turn.middle turn.ticked n turn.ticks))
+    subst (λ x. Led config m x n) (followed_by-assoc (one_call turn.call) turn.taken turn.ticked ∙ sym turn.trace)
+    (led_on config m turn.middle n (followed_by (one_call turn.call) turn.taken) turn.ticked heard (ticked config turn.middle turn.ticked n turn.ticks))
 
 turns_led : (config : Config) (m : Machine) (ts : List Trace) (n : Machine) → Turns m ts n → Led config m (all_joined ts) n
 turns_led config m [] n turns = record { deeds = []; lives = ap Some turns; trace = refl }
@@ -96,24 +96,24 @@ answer_lives config count a (Err (LinkFault done)) b answer =
     let deaf : Led config until.middle.machine (one_call RecvFailed) b.machine = record {
       deeds = record { act = Listen RecvFailed; trace = one_call RecvFailed } ∷ [];
       lives = (b.machine, (ended, (refl, until.deaf.machine)), refl);
-      trace = joined-nothing (one_call RecvFailed);
+      trace = followed_by-no_step (one_call RecvFailed);
     } in
-    shown config a b (joined (all_joined until.ran.traces) (one_call RecvFailed))
+    shown config a b (followed_by (all_joined until.ran.traces) (one_call RecvFailed))
     (led_on config a.machine until.middle.machine b.machine (all_joined until.ran.traces) (one_call RecvFailed) (turns_led config a.machine until.ran.traces until.middle.machine until.ran.turns) deaf)
     (Shows-trans a.outside until.middle.outside b.outside (all_joined until.ran.traces) (one_call RecvFailed) until.ran.shows (Shows-listens RecvFailed until.middle b tt until.deaf))
 
 -- a change that was done
-changed : (config : Config) (c : Change) (a b : Seen) → a.machine.ended ≡ false → Acts (ChangesOnce c) a b → ShowsLife config a b
+changed : (config : Config) (c : Change) (a b : Seen) → a.machine.ended ≡ false → Acts (ReconfiguresOnce c) a b → ShowsLife config a b
 changed config c a b going acts =
     shown config a b acts.trace
-    (record { deeds = record { act = Reconfigure c; trace = acts.trace } ∷ []; lives = (b.machine, (going, acts.does), refl); trace = joined-nothing acts.trace })
+    (record { deeds = record { act = Reconfigure c; trace = acts.trace } ∷ []; lives = (b.machine, (going, acts.does), refl); trace = followed_by-no_step acts.trace })
     acts.shows
 
 -- and so is what a change of the configuration answers
-pub change_lives : (config : Config) (c : Change) (a : Seen) (result : Result (Unit {0}) ChangeFault) (b : Seen) → a.machine.ended ≡ false → ChangeAnswer c a result b → ShowsLife config a b
+pub change_lives : (config : Config) (c : Change) (a : Seen) (result : Result (Unit {0}) ChangeFault) (b : Seen) → a.machine.ended ≡ false → ReconfigureAnswer c a result b → ShowsLife config a b
 change_lives config c a (Ok u) b going answer = changed config c a b going answer.1
 change_lives config c a (Err Ended) b going answer = changed config c a b going answer.1
 change_lives config c a (Err (Refused why)) b going answer =
     shown config a b answer.2.trace
-    (record { deeds = record { act = Refuse c; trace = answer.2.trace } ∷ []; lives = (b.machine, (going, answer.2.does), refl); trace = joined-nothing answer.2.trace })
+    (record { deeds = record { act = Refuse c; trace = answer.2.trace } ∷ []; lives = (b.machine, (going, answer.2.does), refl); trace = followed_by-no_step answer.2.trace })
     answer.2.shows

@@ -18,7 +18,7 @@ use Rattle.ripng_world.proofs.ColdStates.{cold_states}
 use Rattle.ripng_world.proofs.Members.{At, at_left, at_right, at_from_contains, split_at}
 use Rattle.ripngd_engine.specs.Link.{Call, Datagram, Gave, Silent, RecvFailed, Handed}
 use Rattle.ripngd_engine.specs.Run.{Machine, Trace, Sends, Step, ComesUp, arrival, handed, datagrams_of}
-use Rattle.ripngd_networks.specs.Daemons.{Act, Start, Listen, Tick, Reconfigure, Refuse, Deed, Happened, Does, Goes, Hears, Lives, in_force, change_by, changes_by, own_deeds}
+use Rattle.ripngd_networks.specs.Daemons.{Act, Start, Listen, Tick, Reconfigure, Refuse, Deed, Happened, Does, Goes, Hears, Lives, in_force, reconfiguration_by, reconfigurations_by, own_deeds}
 use Rattle.ripngd_networks.specs.Links.{handed_in, handed_by, IsOfTheLink, IsOfAStranger, IsGiven, AreGiven, HaveRun, IsRunOf, all_handed}
 use Rattle.ripngd_networks.proofs.Addresses.{addresses_of, fault_same, moves_addresses}
 use Rattle.ripngd_networks.proofs.ColdWorlds.{cold_world}
@@ -62,7 +62,7 @@ record HasState (net : Network) (w : World) (router : ℕ) (node : Node) (daemon
 record Agrees (net : Network) (daemons : ℕ → Option Machine) (handed_over : List Sent) (done : List (ℕ × Change)) (w : World) : Type 0 where
   pub states : (router : ℕ) (node : Node) → slice_get net router ≡ Some node → HasState net w router node (daemons router)
   pub sent : (d : Sent) → At handed_over d → At w.sent d
-  pub changes : w.changes ≡ done
+  pub reconfigurations : w.reconfigurations ≡ done
 
 -- one daemon is now this
 abbrev with_daemon : (ℕ → Option Machine) → ℕ → Machine → ℕ → Option Machine
@@ -77,7 +77,7 @@ record GoesOn (net : Network) (w : World) (daemons : ℕ → Option Machine) (ha
 
 -- what one deed adds to the changes
 abbrev change_done : ℕ → Deed → List (ℕ × Change)
-change_done router deed = cons_option (change_by (record { router = router; deed = deed })) []
+change_done router deed = cons_option (reconfiguration_by (record { router = router; deed = deed })) []
 
 module _ (net : Network) (daemons : ℕ → Option Machine) (handed_over : List Sent) (done : List (ℕ × Change)) (w : World) (agrees : Agrees net daemons handed_over done w)
     (router : ℕ) (node : Node) (node_is : slice_get net router ≡ Some node) where
@@ -95,7 +95,7 @@ module _ (net : Network) (daemons : ℕ → Option Machine) (handed_over : List 
         record {
           states = slice_set w.states router n.router;
           sent = w.sent ++ map (sent_by router) answer.sends;
-          changes = w.changes ++ world.changes_by router happening;
+          reconfigurations = w.reconfigurations ++ world.reconfigurations_of router happening;
         }
 
     router_moves : RouterMoves w router happening answer moved_world
@@ -107,10 +107,10 @@ module _ (net : Network) (daemons : ℕ → Option Machine) (handed_over : List 
           moves = moves;
           states = refl;
           sent = refl;
-          changes = refl;
+          reconfigurations = refl;
         }
 
-    moved_agrees : Agrees net (with_daemon daemons router n) (handed_over ++ map (sent_by router) answer.sends) (done ++ world.changes_by router happening) moved_world
+    moved_agrees : Agrees net (with_daemon daemons router n) (handed_over ++ map (sent_by router) answer.sends) (done ++ world.reconfigurations_of router happening) moved_world
     moved_agrees =
         record {
           states = λ other other_node other_is. by_test other other_node other_is (router == other) refl;
@@ -118,7 +118,7 @@ module _ (net : Network) (daemons : ℕ → Option Machine) (handed_over : List 
             | inl a ↦ at_left w.sent (map (sent_by router) answer.sends) d (agrees.sent d a)
             | inr b ↦ at_right w.sent (map (sent_by router) answer.sends) d b
           ];
-          changes = ap (λ cs. cs ++ world.changes_by router happening) agrees.changes;
+          reconfigurations = ap (λ cs. cs ++ world.reconfigurations_of router happening) agrees.reconfigurations;
         }
       where
         by_test : (other : ℕ) (other_node : Node) → slice_get net other ≡ Some other_node → (b : Bool) → (router == other) ≡ b
@@ -148,7 +148,7 @@ module _ (net : Network) (daemons : ℕ → Option Machine) (handed_over : List 
             clash e = cc
 
     -- by an event, if that is it
-    moved_on : (deed : Deed) (e : Event) → world.changes_by router happening ≡ change_done router deed → Happens net w e answer moved_world
+    moved_on : (deed : Deed) (e : Event) → world.reconfigurations_of router happening ≡ change_done router deed → Happens net w e answer moved_world
         → handed_by (record { router = router; deed = deed }) ≡ map (sent_by router) answer.sends → Onward n deed
     moved_on deed e changed happens are =
         record {
@@ -156,7 +156,7 @@ module _ (net : Network) (daemons : ℕ → Option Machine) (handed_over : List 
           after = moved_world;
           run = (moved_world, answer, happens, refl);
           agrees = subst (λ cs. Agrees net (with_daemon daemons router n) (handed_over ++ handed_by (record { router = router; deed = deed })) (done ++ cs) moved_world) changed
-              (subst (λ hs. Agrees net (with_daemon daemons router n) (handed_over ++ hs) (done ++ world.changes_by router happening) moved_world) (sym are) moved_agrees);
+              (subst (λ hs. Agrees net (with_daemon daemons router n) (handed_over ++ hs) (done ++ world.reconfigurations_of router happening) moved_world) (sym are) moved_agrees);
         }
 
   -- nothing happened to the router
@@ -169,7 +169,7 @@ module _ (net : Network) (daemons : ℕ → Option Machine) (handed_over : List 
         agrees = record {
           states = λ other other_node other_is. by_test other other_node other_is (router == other) refl;
           sent = λ d at. agrees.sent d (subst (λ hs. At hs d) (ap (λ os. handed_over ++ map (sent_by router) os) silent ∙ append-nil handed_over) at);
-          changes = agrees.changes ∙ sym (append-nil done) ∙ ap (λ cs. done ++ cs) (sym unchanged);
+          reconfigurations = agrees.reconfigurations ∙ sym (append-nil done) ∙ ap (λ cs. done ++ cs) (sym unchanged);
         };
       }
     where
@@ -344,7 +344,7 @@ run_append net (e ∷ events) later w mid end first rest = (first.0, first.1, fi
 
 simulated : (net : Network) (order : List Happened) (daemons ends : ℕ → Option Machine) (handed_over : List Sent) (done : List (ℕ × Change)) (w : World)
     → Agrees net daemons handed_over done w → AllByRecursion (λ h. h.router < length net) order → LiveOn net order daemons ends → AreGiven net handed_over order
-    → GoesOn net w ends (handed_over ++ all_handed order) (done ++ changes_by order)
+    → GoesOn net w ends (handed_over ++ all_handed order) (done ++ reconfigurations_by order)
 simulated net [] daemons ends handed_over done w agrees known lives given =
     record {
       events = [];
@@ -353,7 +353,7 @@ simulated net [] daemons ends handed_over done w agrees known lives given =
       agrees = record {
         states = λ router node is. subst (λ o. HasState net w router node o) (sym (lives router node is)) (agrees.states router node is);
         sent = λ d at. agrees.sent d (subst (λ hs. At hs d) (append-nil handed_over) at);
-        changes = agrees.changes ∙ sym (append-nil done);
+        reconfigurations = agrees.reconfigurations ∙ sym (append-nil done);
       };
     }
 simulated net (h ∷ order) daemons ends handed_over done w agrees known lives given =
@@ -365,8 +365,8 @@ simulated net (h ∷ order) daemons ends handed_over done w agrees known lives g
       events = one.events ++ rest.events;
       after = rest.after;
       run = run_append net one.events rest.events w one.after rest.after one.run rest.run;
-      agrees = subst (λ cs. Agrees net ends (handed_over ++ all_handed (h ∷ order)) cs rest.after) (append_assoc done (change_done h.router h.deed) (changes_by order) ∙ ap (λ cs. done ++ cs) (joined_option (change_by h) (changes_by order)))
-          (subst (λ hs. Agrees net ends hs ((done ++ change_done h.router h.deed) ++ changes_by order) rest.after) (append_assoc handed_over (handed_by h) (all_handed order)) rest.agrees);
+      agrees = subst (λ cs. Agrees net ends (handed_over ++ all_handed (h ∷ order)) cs rest.after) (append_assoc done (change_done h.router h.deed) (reconfigurations_by order) ∙ ap (λ cs. done ++ cs) (joined_option (reconfiguration_by h) (reconfigurations_by order)))
+          (subst (λ hs. Agrees net ends hs ((done ++ change_done h.router h.deed) ++ reconfigurations_by order) rest.after) (append_assoc handed_over (handed_by h) (all_handed order)) rest.agrees);
     }
   where
     joined_option : {X : Type 0} (o : Option X) (xs : List X) → cons_option o [] ++ xs ≡ cons_option o xs
@@ -388,7 +388,7 @@ cold_agrees net moments w cold =
             agrees = tt;
           };
       sent = λ d at. absurd (None-Some d at.1);
-      changes = cold.unchanged;
+      reconfigurations = cold.unchanged;
     }
 
 -- what daemons did is a run of their network
@@ -403,7 +403,7 @@ run_of net order daemons ran =
       events = on.events;
       after = on.after;
       run = on.run;
-      changes = on.agrees.changes;
+      reconfigurations = on.agrees.reconfigurations;
       sent = λ d there. on.agrees.sent d (at_from_contains (all_handed order) d there);
       states = λ router m low up. let node = there_is net router low in let here = on.agrees.states router node.0 node.1 in
           here.state_is ∙ ap Some (subst (λ o. IsStateOf o here.state) up here.agrees);

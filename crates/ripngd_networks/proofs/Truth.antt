@@ -18,7 +18,7 @@ use Rattle.ripng_world.proofs.Each.{each_at_place}
 use Rattle.ripng_world.proofs.Growing.{backed_first}
 use Rattle.ripng_world.proofs.Running.{run_from_cold}
 use Rattle.ripngd_engine.specs.Run.{Machine}
-use Rattle.ripngd_networks.specs.Daemons.{Happened, Lives, changes_by, own_deeds}
+use Rattle.ripngd_networks.specs.Daemons.{Happened, Lives, reconfigurations_by, own_deeds}
 use Rattle.ripngd_networks.specs.Links.{HaveRun, IsRunOf, all_handed, past_of_daemons}
 use Rattle.ripngd_networks.proofs.Following.{life_follows}
 use Rattle.ripngd_networks.proofs.Running.{run_of, there_is}
@@ -36,7 +36,7 @@ module _ (net : Network) (order : List Happened) (daemons : ℕ → Option Machi
 
     -- all that was in force since the first starts
     same : past_of net run.after ≡ past_of_daemons net order
-    same = ap (λ cs. record { net = net; changes = cs }) run.changes
+    same = ap (λ cs. record { net = net; reconfigurations = cs }) run.reconfigurations
 
     pub route_backed : (router : ℕ) (m : Machine) (p : Prefix6) (r : RouteValue) → router < length net → daemons router ≡ Some m
         → map_of.get m.router.table p ≡ Some r → r.metric < infinity → IsBackedSince (past_of_daemons net order) router p r
@@ -48,11 +48,11 @@ module _ (net : Network) (order : List Happened) (daemons : ℕ → Option Machi
         → map_of.get m.router.table p ≡ Some r → r.metric < infinity → IsLeastSince (past_of_daemons net order) router p metric → metric ≤ r.metric
     route_least router m p r metric low up at below least = let b = route_backed router m p r low up at below in least.least r.metric r.tag b.0 b.1
 
-    pub route_backed_fixed : changes_by order ≡ [] → (router : ℕ) (m : Machine) (p : Prefix6) (r : RouteValue) → router < length net → daemons router ≡ Some m
+    pub route_backed_fixed : reconfigurations_by order ≡ [] → (router : ℕ) (m : Machine) (p : Prefix6) (r : RouteValue) → router < length net → daemons router ≡ Some m
         → map_of.get m.router.table p ≡ Some r → r.metric < infinity → IsBacked net router p r
     route_backed_fixed unchanged router m p r low up at below = backed_first (past_of_daemons net order) unchanged router p r (route_backed router m p r low up at below)
 
-    pub route_least_fixed : changes_by order ≡ [] → (router : ℕ) (m : Machine) (p : Prefix6) (r : RouteValue) (metric : ℕ) → router < length net → daemons router ≡ Some m
+    pub route_least_fixed : reconfigurations_by order ≡ [] → (router : ℕ) (m : Machine) (p : Prefix6) (r : RouteValue) (metric : ℕ) → router < length net → daemons router ≡ Some m
         → map_of.get m.router.table p ≡ Some r → r.metric < infinity → IsLeast net router p metric → metric ≤ r.metric
     route_least_fixed unchanged router m p r metric low up at below least =
         let b = route_backed_fixed unchanged router m p r low up at below in least.least r.metric r.tag b.0 b.1

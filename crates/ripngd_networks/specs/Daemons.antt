@@ -3,9 +3,9 @@ use Rattle.std.specs.Prelude.{◌≡◌, ℕ, ◌==◌, if◌then◌else◌, Lis
 use Rattle.rand_core.specs.Stream.{Stream}
 use Rattle.router_core.specs.Config.{Config}
 use Rattle.router_core.specs.declared.reconfiguring.Change.{Change}
-use Rattle.ripngd_engine.specs.Changing.{ChangesOnce, ChangesNothing}
+use Rattle.ripngd_engine.specs.Changing.{ReconfiguresOnce, ReconfiguresNothing}
 use Rattle.ripngd_engine.specs.Link.{Call, RecvFailed}
-use Rattle.ripngd_engine.specs.Run.{Machine, Trace, ComesUp, TakesIn, TicksOnce, joined, one_call}
+use Rattle.ripngd_engine.specs.Run.{Machine, Trace, ComesUp, TakesIn, TicksOnce, followed_by, one_call}
 
 -- a daemon comes up; it asks its link once, and takes in what that gave; it ticks; its configuration is changed, or the change
 -- is refused
@@ -17,9 +17,9 @@ pub data Act : Type 0 where
   Refuse : Change → Act
 
 -- the change that an act does, if it does one
-abbrev pub change_of : Act → Option Change
-change_of (Reconfigure c) = Some c
-change_of _ = None
+abbrev pub reconfiguration_of : Act → Option Change
+reconfiguration_of (Reconfigure c) = Some c
+reconfiguration_of _ = None
 
 -- an act, with what it did on the outside
 pub record Deed : Type 0 where
@@ -33,15 +33,15 @@ traces_of deeds = map (λ d. d.trace) deeds
 -- after this call of `recv` it takes in what was given; after one that failed, nothing
 abbrev pub Hears : Call → Machine → Trace → Machine → Type 0
 Hears RecvFailed m t n = (t ≡ one_call RecvFailed) × (n ≡ m)
-Hears call m t n = (taken : Trace) × TakesIn call m taken n × (t ≡ joined (one_call call) taken)
+Hears call m t n = (taken : Trace) × TakesIn call m taken n × (t ≡ followed_by (one_call call) taken)
 
 -- a daemon that runs does so. One that wanted memory for its forwarding table has ended
 abbrev pub Goes : Act → Machine → Trace → Machine → Type 0
 Goes Start m t n = ⊥
 Goes (Listen call) m t n = (m.ended ≡ false) × Hears call m t n
 Goes Tick m t n = (m.ended ≡ false) × TicksOnce m t n
-Goes (Reconfigure c) m t n = (m.ended ≡ false) × ChangesOnce c m t n
-Goes (Refuse c) m t n = (m.ended ≡ false) × ChangesNothing m t n
+Goes (Reconfigure c) m t n = (m.ended ≡ false) × ReconfiguresOnce c m t n
+Goes (Refuse c) m t n = (m.ended ≡ false) × ReconfiguresNothing m t n
 
 -- the configuration in force: that of the first start, or that of the daemon, as it was changed
 abbrev pub in_force : Config → Option Machine → Config
@@ -67,12 +67,12 @@ pub record Happened : Type 0 where
   pub deed : Deed
 
 -- the change that was done, if the deed is one
-abbrev pub change_by : Happened → Option (ℕ × Change)
-change_by h = option_map (λ c. (h.router, c)) (change_of h.deed.act)
+abbrev pub reconfiguration_by : Happened → Option (ℕ × Change)
+reconfiguration_by h = option_map (λ c. (h.router, c)) (reconfiguration_of h.deed.act)
 
 -- all changes that were done, each with its router, in order
-abbrev pub changes_by : List Happened → List (ℕ × Change)
-changes_by order = filter_map change_by order
+abbrev pub reconfigurations_by : List Happened → List (ℕ × Change)
+reconfigurations_by order = filter_map reconfiguration_by order
 
 -- the deeds of one router, in their order
 abbrev pub own_deeds : ℕ → List Happened → List Deed

@@ -11,7 +11,7 @@ use Rattle.ripng_world.specs.World.{World, Event, IsCold, WorldRun, address_at, 
 use Rattle.ripng_world.specs.declared.sent.Sent.{Sent}
 use Rattle.ripngd_engine.specs.Link.{Call, Datagram, Gave, Handed}
 use Rattle.ripngd_engine.specs.Run.{Machine, arrival}
-use Rattle.ripngd_networks.specs.Daemons.{Act, Listen, Happened, Lives, changes_by, own_deeds}
+use Rattle.ripngd_networks.specs.Daemons.{Act, Listen, Happened, Lives, reconfigurations_by, own_deeds}
 
 -- the datagram that a call handed to a link, if it is such a call
 abbrev pub handed_in : Call → Option Outgoing
@@ -63,7 +63,7 @@ all_handed order = flat_map handed_by order
 
 -- all that was in force in the network since the first starts
 abbrev pub past_of_daemons : Network → List Happened → Past
-past_of_daemons net order = record { net = net; changes = changes_by order }
+past_of_daemons net order = record { net = net; reconfigurations = reconfigurations_by order }
 
 -- a run of the network from a cold start, in which just these changes were done, that sends all that was handed over and leaves
 -- each router as its daemon is
@@ -74,6 +74,6 @@ pub record IsRunOf (net : Network) (order : List Happened) (daemons : ℕ → Op
   pub events : List Event
   pub after : World
   pub run : WorldRun net cold events after
-  pub changes : after.changes ≡ changes_by order
+  pub reconfigurations : after.reconfigurations ≡ reconfigurations_by order
   pub sent : (d : Sent) → Contains (all_handed order) d → (number : ℕ) × (slice_get after.sent number ≡ Some d)
   pub states : (router : ℕ) (m : Machine) → router < length net → daemons router ≡ Some m → slice_get after.states router ≡ Some m.router

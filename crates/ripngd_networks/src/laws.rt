@@ -14,12 +14,12 @@ ghost use Rattle.ripng_world.specs.Past.{IsBackedSince, IsLeastSince};
 ghost use Rattle.ripng_world.specs.TruthSince.{IsSoundDatagramSince};
 ghost use Rattle.ripng_world.specs.declared.sent.Sent.{Sent};
 ghost use Rattle.router_core.specs.declared.reconfiguring.Change.{Change};
-ghost use Rattle.ripngd_engine.specs.Changing.{ChangeAnswer};
+ghost use Rattle.ripngd_engine.specs.Changing.{ReconfigureAnswer};
 ghost use Rattle.ripngd_engine.specs.Run.{Machine, all_joined};
 ghost use Rattle.ripngd_engine.specs.Seen.{Seen, Outside, Shows, Started, TurnsAnswer};
 ghost use Rattle.ripngd_engine.specs.declared.report.EngineFault.{EngineFault};
 ghost use Rattle.ripngd_engine.specs.declared.report.ChangeFault.{ChangeFault};
-ghost use Rattle.ripngd_networks.specs.Daemons.{Deed, Start, Happened, Lives, changes_by, in_force, traces_of};
+ghost use Rattle.ripngd_networks.specs.Daemons.{Deed, Start, Happened, Lives, reconfigurations_by, in_force, traces_of};
 ghost use Rattle.ripngd_networks.specs.Links.{HaveRun, IsRunOf, all_handed, past_of_daemons};
 
 /// What the contracts of an engine say is a daemon's life: its start, whatever was before, its turns, those before a link
@@ -29,7 +29,7 @@ pub fn engines_live()
         → (deed : Deed) × (deed.act ≡ Start) × Lives config before (deed ∷ []) (Some b.machine) × Shows a deed.trace b.outside }
     ensures turns { (config : Config) (count : ℕ) (a : Seen) (result : Result (Unit {0}) EngineFault) (b : Seen) → TurnsAnswer count a result b
         → (deeds : List Deed) × Lives config (Some a.machine) deeds (Some b.machine) × Shows a.outside (all_joined (traces_of deeds)) b.outside }
-    ensures changes { (config : Config) (c : Change) (a : Seen) (result : Result (Unit {0}) ChangeFault) (b : Seen) → a.machine.ended ≡ false → ChangeAnswer c a result b
+    ensures reconfigurations { (config : Config) (c : Change) (a : Seen) (result : Result (Unit {0}) ChangeFault) (b : Seen) → a.machine.ended ≡ false → ReconfigureAnswer c a result b
         → (deeds : List Deed) × Lives config (Some a.machine) deeds (Some b.machine) × Shows a.outside (all_joined (traces_of deeds)) b.outside }
     ensures on { (config : Config) (a b c : Option Machine) (deeds later : List Deed)
         → Lives config a deeds b → Lives config b later c → Lives config a (deeds ++ later) c }
@@ -51,10 +51,10 @@ pub fn daemons_invent_no_distance()
     ensures least { (net : Network) (order : List Happened) (daemons : ℕ → Option Machine) → IsNetwork net → HaveRun net order daemons
         → (router : ℕ) (m : Machine) (p : Prefix6) (r : RouteValue) (metric : ℕ) → router < length net → daemons router ≡ Some m
         → map_of.get m.router.table p ≡ Some r → r.metric < infinity → IsLeastSince (past_of_daemons net order) router p metric → metric ≤ r.metric }
-    ensures backed_fixed { (net : Network) (order : List Happened) (daemons : ℕ → Option Machine) → IsNetwork net → HaveRun net order daemons → changes_by order ≡ []
+    ensures backed_fixed { (net : Network) (order : List Happened) (daemons : ℕ → Option Machine) → IsNetwork net → HaveRun net order daemons → reconfigurations_by order ≡ []
         → (router : ℕ) (m : Machine) (p : Prefix6) (r : RouteValue) → router < length net → daemons router ≡ Some m
         → map_of.get m.router.table p ≡ Some r → r.metric < infinity → IsBacked net router p r }
-    ensures least_fixed { (net : Network) (order : List Happened) (daemons : ℕ → Option Machine) → IsNetwork net → HaveRun net order daemons → changes_by order ≡ []
+    ensures least_fixed { (net : Network) (order : List Happened) (daemons : ℕ → Option Machine) → IsNetwork net → HaveRun net order daemons → reconfigurations_by order ≡ []
         → (router : ℕ) (m : Machine) (p : Prefix6) (r : RouteValue) (metric : ℕ) → router < length net → daemons router ≡ Some m
         → map_of.get m.router.table p ≡ Some r → r.metric < infinity → IsLeast net router p metric → metric ≤ r.metric }
     ensures forwards { (net : Network) (order : List Happened) (daemons : ℕ → Option Machine) → HaveRun net order daemons

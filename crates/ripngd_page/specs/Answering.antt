@@ -23,9 +23,9 @@ IsAskedAt path method asks.NotPost = ((path ≡ codes "/trace") ⊎ (path ≡ co
 IsAskedAt path method asks.OtherPath = (path ≢ codes "/") × (path ≢ codes "/trace") × (path ≢ codes "/show")
 
 -- what the head of a request asks at a port: nothing, where it is not welcome
-abbrev pub IsAsked : ℕ → Parts → Asked → Type 0
-IsAsked port head asks.Stranger = ¬ (IsWelcome port head)
-IsAsked port head asked = IsWelcome port head × IsAskedAt (uri_path head.uri) head.method asked
+abbrev pub IsRequested : ℕ → Parts → Asked → Type 0
+IsRequested port head asks.Stranger = ¬ (IsWelcome port head)
+IsRequested port head asked = IsWelcome port head × IsAskedAt (uri_path head.uri) head.method asked
 
 -- an answer is kept in no cache, and shown in no frame
 unfoldable pub unkept : List (List ℕ × List ℕ)
@@ -90,4 +90,4 @@ IsAnswer asks.OtherPath body r = IsTextAnswer 404 (codes "there is no such page\
 
 -- the response answers the request at a port
 abbrev pub Answers : ℕ → Request (List ℕ) → Response → Type 0
-Answers port request r = (asked : Asked) × IsAsked port (head_of request) asked × IsAnswer asked (body_of request) r
+Answers port request r = (asked : Asked) × IsRequested port (head_of request) asked × IsAnswer asked (body_of request) r

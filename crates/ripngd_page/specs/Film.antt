@@ -26,8 +26,8 @@ unfoldable pub script_element : List ℕ → List ℕ → List ℕ
 script_element name script = element_start name ++ (escaped false script ++ codes "</div>\n")
 
 -- the name of a script: the last part of its file's path; the path where it has none
-abbrev pub name_of : List ℕ → List ℕ
-name_of file = unwrap_or (path_file_name file) file
+abbrev pub script_name : List ℕ → List ℕ
+script_name file = unwrap_or (path_file_name file) file
 
 -- the film of a script of this name, with this trace
 abbrev pub film_text : List ℕ → List ℕ → List ℕ → List ℕ

@@ -3,7 +3,7 @@
 ghost use Rattle.std.specs.Prelude.{◌≡◌};
 ghost use Rattle.http.specs.Request.{head_of};
 ghost use Rattle.http_uri.specs.Uri.{uri_path};
-ghost use Rattle.ripngd_page.specs.Answering.{IsAsked, IsAskedAt};
+ghost use Rattle.ripngd_page.specs.Answering.{IsRequested, IsAskedAt};
 
 use crate::callers::Callers;
 use bytes::Bytes;
@@ -31,7 +31,7 @@ pub enum Asked {
 impl Asked {
     /// What a request asks for, by its fields, its method and its path.
     pub(crate) fn of(callers: &Callers, request: &Request<Bytes>) -> Asked
-        ensures { IsAsked callers.now.port (head_of request.now) result }
+        ensures { IsRequested callers.now.port (head_of request.now) result }
     {
         if !callers.is_welcome(request) {
             return Asked::Stranger;

@@ -2,7 +2,7 @@
 
 ghost use Rattle.std.specs.Prelude.{◌≡◌, ℕ, List, Err, IfOk, OnOk};
 ghost use Rattle.std.specs.Io.KnownBytes.{Appends};
-ghost use Rattle.ripngd_page.specs.Film.{before_name, element_start, film_text, name_of, script_element};
+ghost use Rattle.ripngd_page.specs.Film.{before_name, element_start, film_text, script_name, script_element};
 ghost use Rattle.ripngd_page.specs.Texts.{front_with, tail_text};
 
 use crate::escaping::write_escaped;
@@ -24,7 +24,7 @@ pub fn write_film<W: Write>(
     out: &mut W,
 ) -> Result<bool, PrintFault>
     ensures film { OnOk result ((trace : List ℕ)
-        × Appends (W.contents out.old) (W.contents out.new) (film_text (name_of file.now) script.now trace)) }
+        × Appends (W.contents out.old) (W.contents out.new) (film_text (script_name file.now) script.now trace)) }
     ensures out_of_memory { result ≡ Err PrintFault.OutOfMemory → out.new ≡ out.old }
 {
     let Ok(film) = Film::of(alloc, file, script) else {
@@ -47,7 +47,7 @@ struct Film {
 impl Film {
     /// The film of the script that a file holds. A write to memory fails for want of it alone.
     fn of(alloc: Global, file: &str, script: &[u8]) -> Result<Film, AllocError>
-        ensures { IfOk result (λ film. (trace : List ℕ) × (film.text.items ≡ film_text (name_of file.now) script.now trace)) }
+        ensures { IfOk result (λ film. (trace : List ℕ) × (film.text.items ≡ film_text (script_name file.now) script.now trace)) }
     {
         let mut trace = Vec::new(alloc);
         let Ok(done) = traced(alloc, script, &mut trace) else {
@@ -63,7 +63,7 @@ impl Film {
 
 /// The last part of a path; the path where it has none.
 fn name_of(file: &str) -> &str
-    ensures { result.now ≡ name_of file.now }
+    ensures { result.now ≡ script_name file.now }
 {
     Path::new(file).file_name().unwrap_or(file)
 }

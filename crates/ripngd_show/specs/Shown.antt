@@ -4,7 +4,7 @@ use Rattle.std.specs.List.{enumerate_from, flat_map}
 use Rattle.hex.specs.Hex.{decode_of}
 use Rattle.prefix6.specs.Written.{written_addr}
 use Rattle.ripng_wire.specs.Layout.{Spells, is_next_hop}
-use Rattle.ripng_wire.specs.Wire.{refusal_name, refusal_number, wire_fault}
+use Rattle.ripng_wire.specs.Wire.{wire_error_name, wire_error_number, wire_fault}
 use Rattle.ripng_wire.specs.declared.rte.Command.{Command}
 use Rattle.ripng_wire.specs.declared.rte.Command.TheVariants.{Request, Response}
 use Rattle.ripng_wire.specs.declared.rte.Rte.{Rte}
@@ -44,7 +44,7 @@ listing command entries = head_line command (length entries)
 -- `refused NR NAME`
 abbrev pub refusal_line : WireError → List ℕ
 refusal_line e =
-    codes "refused " ++ (decimal (refusal_number e) ++ (codes " " ++ (refusal_name e ++ newline)))
+    codes "refused " ++ (decimal (wire_error_number e) ++ (codes " " ++ (wire_error_name e ++ newline)))
 
 -- the text for some bytes, and whether they are a datagram
 abbrev pub IsBytesText : List ℕ → Bool → List ℕ → Type 0

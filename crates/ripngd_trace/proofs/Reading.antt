@@ -13,7 +13,7 @@ use Rattle.ripng_world.specs.Watching.{Told, telling}
 use Rattle.ripng_world.specs.World.{World, Event, Deliver, Stranger, Tick, Restart, Reconfigure, Happens, RouterMoves, arrival_of}
 use Rattle.ripng_world.proofs.Running.{get_map}
 use Rattle.ripngd_lab.specs.Asides.{Aside, NextLine, Prints, Broken}
-use Rattle.ripngd_lab.specs.Witnessing.{Telling, Starts, Does, Turns, Notes, TellsAll, FailsAtRest, FailsAtEvent, IsToldUntil, StartsAt}
+use Rattle.ripngd_lab.specs.ScriptWatching.{Telling, Starts, Does, Turns, Notes, TellsAll, FailsAtRest, FailsAtEvent, IsToldUntil, StartsAt}
 use Rattle.ripngd_trace.specs.Events.{Tells}
 use Rattle.ripngd_trace.specs.Reading.{AreWritten, IsTracedUntil, IsWritten, Line, StartLine, EventLine, PrintLine, RefusedLine, LostLine, Shown, Shows, TellsOf, TellsScript, read_line, tables_in, tables_of}
 use Rattle.ripngd_trace.specs.Records.{LeadsTo}

@@ -11,7 +11,7 @@ use Rattle.route_table.specs.Table.{Table}
 use Rattle.route_table.proofs.TableLaws.{None-Some, Some-same}
 use Rattle.router_core.specs.Machine.{State}
 use Rattle.ripngd_trace.specs.Reading.{Shown, Shows, with_records}
-use Rattle.ripngd_trace.specs.Records.{LeadsTo, route_record, with_routes, without}
+use Rattle.ripngd_trace.specs.Records.{LeadsTo, route_record, with_routes, taken_out}
 use Rattle.ripngd_trace.specs.declared.records.RouteRecord.{RouteRecord}
 use Rattle.ripngd_trace.specs.declared.records.RouterRecord.{RouterRecord}
 
@@ -40,7 +40,7 @@ shows_more shown t p r is q =
     by_tie true tie = ap (λ (x : Prefix6). Some (route_record x r)) (sym (tells_apart exact_prefixes q p tie))
     by_tie false tie = is q
 
-shows_without : (gone : List Prefix6) (shown : Shown) (t : Table) → Shows shown t → Shows (without shown gone) (without t gone)
+shows_without : (gone : List Prefix6) (shown : Shown) (t : Table) → Shows shown t → Shows (taken_out shown gone) (taken_out t gone)
 shows_without [] shown t is = is
 shows_without (p ∷ gone) shown t is = shows_without gone (map_of.remove shown p) (map_of.remove t p) (shows_less shown t p is)
 
@@ -50,18 +50,18 @@ shows_with (e ∷ es) shown t is = shows_with es (map_of.insert shown e.0 (route
 
 -- what leads from one table to another leads a reader there
 pub shows_led : (shown : Shown) (t t' : Table) (routes : List RouteRecord) (gone : List Prefix6) → Shows shown t → LeadsTo t routes gone t'
-    → Shows (with_records (without shown gone) routes) t'
+    → Shows (with_records (taken_out shown gone) routes) t'
 shows_led shown t t' routes gone is leads =
-    subst (λ (rs : List RouteRecord). Shows (with_records (without shown gone) rs) t') (sym leads.1)
-    (subst (Shows (with_records (without shown gone) (map (λ e. route_record e.0 e.1) leads.0))) leads.2
-    (shows_with leads.0 (without shown gone) (without t gone) (shows_without gone shown t is)))
+    subst (λ (rs : List RouteRecord). Shows (with_records (taken_out shown gone) rs) t') (sym leads.1)
+    (subst (Shows (with_records (taken_out shown gone) (map (λ e. route_record e.0 e.1) leads.0))) leads.2
+    (shows_with leads.0 (taken_out shown gone) (taken_out t gone) (shows_without gone shown t is)))
 
 -- ---- the tables of all routers
 
 -- one router has moved
 pub shows_set : (shown : List Shown) (tables : List Table) (i : ℕ) (t t' : Table) (routes : List RouteRecord) (gone : List Prefix6)
     → AllZip Shows shown tables → slice_get tables i ≡ Some t → LeadsTo t routes gone t'
-    → AllZip Shows (slice_set shown i (with_records (without (get_or shown i map_of.empty) gone) routes)) (slice_set tables i t')
+    → AllZip Shows (slice_set shown i (with_records (taken_out (get_or shown i map_of.empty) gone) routes)) (slice_set tables i t')
 shows_set [] [] i t t' routes gone is here leads = absurd (None-Some t here)
 shows_set [] (u ∷ us) i t t' routes gone is here leads = absurd is
 shows_set (x ∷ xs) [] i t t' routes gone is here leads = absurd is

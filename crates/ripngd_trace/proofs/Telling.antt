@@ -10,7 +10,7 @@ use Rattle.prefix6.proofs.PrefixLaws.{prefixes_total, exact_prefixes}
 use Rattle.route_table.specs.Route.{RouteValue}
 use Rattle.route_table.specs.Table.{Table}
 use Rattle.route_table.proofs.TableLaws.{all_entries, None-Some}
-use Rattle.ripngd_trace.specs.Records.{LeadsTo, with_routes, without}
+use Rattle.ripngd_trace.specs.Records.{LeadsTo, with_routes, taken_out}
 use Rattle.ripngd_trace.specs.declared.records.RouteRecord.{RouteRecord}
 
 -- ---- one after another
@@ -20,9 +20,9 @@ pub with_routes-push : (t : Table) (es : List (Prefix6 × RouteValue)) (p : Pref
 with_routes-push t [] p r = refl
 with_routes-push t (x ∷ es) p r = with_routes-push (map_of.insert t x.0 x.1) es p r
 
-pub without-push : (t : Table) (ps : List Prefix6) (p : Prefix6) → without t (ps ++ p ∷ []) ≡ map_of.remove (without t ps) p
-without-push t [] p = refl
-without-push t (x ∷ ps) p = without-push (map_of.remove t x) ps p
+pub taken_out-push : (t : Table) (ps : List Prefix6) (p : Prefix6) → taken_out t (ps ++ p ∷ []) ≡ map_of.remove (taken_out t ps) p
+taken_out-push t [] p = refl
+taken_out-push t (x ∷ ps) p = taken_out-push (map_of.remove t x) ps p
 
 -- ---- what is taken out
 
@@ -52,9 +52,9 @@ gone_on t k k' p r es before here fewer q none left = by_tie (eq_by_cmp prefix_c
 nothing_taken : (p q : Prefix6) → map_of.get (map_of.remove (map_of.empty {X = RouteValue} {R = prefix_cmp}) p) q ≡ map_of.get (map_of.empty {X = RouteValue} {R = prefix_cmp}) q
 nothing_taken p q = removed_elsewhere map_of.empty p q (map_of.get-empty prefix_cmp q) ∙ sym (map_of.get-empty prefix_cmp q)
 
-pub without_nothing : (ps : List Prefix6) → without {X = RouteValue} map_of.empty ps ≡ map_of.empty
+pub without_nothing : (ps : List Prefix6) → taken_out {X = RouteValue} map_of.empty ps ≡ map_of.empty
 without_nothing [] = refl
-without_nothing (p ∷ ps) = ap (λ t. without t ps) (map_of.same_map prefixes_total exact_prefixes _ _ (nothing_taken p)) ∙ without_nothing ps
+without_nothing (p ∷ ps) = ap (λ t. taken_out t ps) (map_of.same_map prefixes_total exact_prefixes _ _ (nothing_taken p)) ∙ without_nothing ps
 
 -- ---- what is put in
 
@@ -98,9 +98,9 @@ is_known t m gone = map_of.same_map prefixes_total exact_prefixes _ _ (λ q. by_
 
 -- ---- one step of what is told
 
-pub told_gone : (t k k' : Table) (ps ps' : List Prefix6) (p : Prefix6) → k' ≡ map_of.remove k p → ps' ≡ ps ++ p ∷ [] → k ≡ without t ps → k' ≡ without t ps'
+pub told_gone : (t k k' : Table) (ps ps' : List Prefix6) (p : Prefix6) → k' ≡ map_of.remove k p → ps' ≡ ps ++ p ∷ [] → k ≡ taken_out t ps → k' ≡ taken_out t ps'
 told_gone t k k' ps ps' p removed pushed before =
-    removed ∙ ap (λ m. map_of.remove m p) before ∙ sym (without-push t ps p) ∙ ap (without t) (sym pushed)
+    removed ∙ ap (λ m. map_of.remove m p) before ∙ sym (taken_out-push t ps p) ∙ ap (taken_out t) (sym pushed)
 
 pub told_news : (t k k' : Table) (es es' : List (Prefix6 × RouteValue)) (p : Prefix6) (r : RouteValue)
     → k' ≡ map_of.insert k p r → es' ≡ es ++ (p, r) ∷ [] → k ≡ with_routes t es → k' ≡ with_routes t es'

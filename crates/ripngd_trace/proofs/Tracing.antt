@@ -3,7 +3,7 @@ use Rattle.std.proofs.Common.{◌≡◌, ℕ, List, [], Option, None, subst₂, 
 use Rattle.ripng_world.specs.Labs.{LabValue}
 use Rattle.ripng_world.specs.Watching.{Told}
 use Rattle.ripngd_lab.specs.Asides.{Aside}
-use Rattle.ripngd_lab.specs.Witnessing.{IsTold, IsToldUntil}
+use Rattle.ripngd_lab.specs.ScriptWatching.{IsTold, IsToldUntil}
 use Rattle.ripngd_trace.specs.Reading.{IsTraced, IsTracedUntil}
 use Rattle.ripngd_trace.specs.Saying.{BreaksOff, Said, SaysAside, SaysEvent, SaysStart}
 use Rattle.ripngd_trace.specs.declared.tracer.Tracer.{Tracer}

@@ -8,10 +8,10 @@ use Rattle.router_core.specs.declared.answer.Answer.{Answer}
 use Rattle.ripng_world.specs.Labs.{LabValue}
 use Rattle.ripng_world.specs.Watching.{telling}
 use Rattle.ripng_world.specs.World.{World, Event, Happens}
-use Rattle.ripngd_lab.specs.Witnessing.{StartsAt}
+use Rattle.ripngd_lab.specs.ScriptWatching.{StartsAt}
 use Rattle.ripngd_trace.specs.Events.{Tells}
 use Rattle.ripngd_trace.specs.Lines.{WritesLess, WritesRecord}
-use Rattle.ripngd_trace.specs.Records.{route_record, without}
+use Rattle.ripngd_trace.specs.Records.{route_record, taken_out}
 use Rattle.ripngd_trace.specs.Starting.{TellsStart}
 use Rattle.ripngd_trace.specs.declared.records.EventRecord.{EventRecord}
 use Rattle.ripngd_trace.specs.declared.records.PrintRecord.{PrintRecord}
@@ -47,7 +47,7 @@ pub data Line : Type 0 where
 -- router that moved without what is gone and with the routes that are told; else what it had
 abbrev pub read_line : List Shown → Line → List Shown
 read_line shown (StartLine r) = map (λ router. with_records map_of.empty router.routes.items) r.routers.items
-read_line shown (EventLine r) = slice_set shown r.router (with_records (without (get_or shown r.router map_of.empty) r.gone.items) r.routes.items)
+read_line shown (EventLine r) = slice_set shown r.router (with_records (taken_out (get_or shown r.router map_of.empty) r.gone.items) r.routes.items)
 read_line shown (PrintLine r) = shown
 read_line shown (RefusedLine r) = shown
 read_line shown (LostLine r) = shown

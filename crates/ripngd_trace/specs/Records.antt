@@ -22,18 +22,18 @@ abbrev pub timers_in : State → Timers
 timers_in s = record { last = s.last; regular = s.regular; hold = s.hold; due = due_in s }
 
 -- where a route was learned, if it is not the router's own
-abbrev pub gateway_of : Origin → Option GatewayRecord
-gateway_of Own = None
-gateway_of (Learned iface from next_hop) = Some (record { iface = iface; from = from; next_hop = next_hop })
+abbrev pub gateway_record : Origin → Option GatewayRecord
+gateway_record Own = None
+gateway_record (Learned iface from next_hop) = Some (record { iface = iface; from = from; next_hop = next_hop })
 
 -- a route
 abbrev pub route_record : Prefix6 → RouteValue → RouteRecord
-route_record p r = record { prefix = p; metric = r.metric; tag = r.tag; gateway = gateway_of r.origin; until = deadline r; marked = r.changed }
+route_record p r = record { prefix = p; metric = r.metric; tag = r.tag; gateway = gateway_record r.origin; until = deadline r; marked = r.changed }
 
 -- a finite map once these prefixes are taken out
-abbrev pub without : {X : Type 0} → ByPrefix X → List Prefix6 → ByPrefix X
-without t [] = t
-without t (p ∷ ps) = without (map_of.remove t p) ps
+abbrev pub taken_out : {X : Type 0} → ByPrefix X → List Prefix6 → ByPrefix X
+taken_out t [] = t
+taken_out t (p ∷ ps) = taken_out (map_of.remove t p) ps
 
 -- a table once these routes are put in, one after another
 abbrev pub with_routes : Table → List (Prefix6 × RouteValue) → Table
@@ -43,4 +43,4 @@ with_routes t (e ∷ es) = with_routes (map_of.insert t e.0 e.1) es
 -- a reader who knows one table and is told these routes and what is gone has the other
 abbrev pub LeadsTo : Table → List RouteRecord → List Prefix6 → Table → Type 0
 LeadsTo known records gone table =
-    (routes : List (Prefix6 × RouteValue)) × (records ≡ map (λ e. route_record e.0 e.1) routes) × (with_routes (without known gone) routes ≡ table)
+    (routes : List (Prefix6 × RouteValue)) × (records ≡ map (λ e. route_record e.0 e.1) routes) × (with_routes (taken_out known gone) routes ≡ table)

@@ -2,7 +2,7 @@
 
 ghost use Rattle.std.specs.Prelude.{◌≡◌, [], None, Option};
 ghost use Rattle.ripng_world.specs.Labs.{LabValue};
-ghost use Rattle.ripngd_lab.specs.Witnessing.{IsTold, IsToldUntil};
+ghost use Rattle.ripngd_lab.specs.ScriptWatching.{IsTold, IsToldUntil};
 ghost use Rattle.ripngd_trace.specs.Reading.{IsTraced, IsTracedUntil};
 ghost use Rattle.ripngd_trace.specs.Saying.{BreaksOff, Said, SaysAside, SaysEvent, SaysStart};
 

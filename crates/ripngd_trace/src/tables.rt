@@ -6,7 +6,7 @@ ghost use Rattle.prefix6.specs.Prefix.{Prefix6};
 ghost use Rattle.route_table.specs.Due.{next_due};
 ghost use Rattle.route_table.specs.Route.{deadline};
 ghost use Rattle.route_table.specs.Table.{Table};
-ghost use Rattle.ripngd_trace.specs.Records.{LeadsTo, due_in, gateway_of, route_record, timers_in, with_routes, without};
+ghost use Rattle.ripngd_trace.specs.Records.{LeadsTo, due_in, gateway_record, route_record, timers_in, with_routes, taken_out};
 
 use crate::records::{DueRecord, GatewayRecord, RouteRecord, Timers};
 use prefix6::Prefix;
@@ -17,7 +17,7 @@ use std::alloc::{AllocError, Global};
 
 /// Where a route was learned, if it is not the router's own.
 fn gateway_of(origin: Origin) -> Option<GatewayRecord>
-    ensures { result ≡ gateway_of origin }
+    ensures { result ≡ gateway_record origin }
 {
     match origin {
         Origin::Own => None,
@@ -108,7 +108,7 @@ fn forget<S: RouteStore>(
     prefix: Prefix,
     gone: &mut Vec<Prefix>,
 ) -> Result<(), AllocError>
-    ensures listed { OnOk result ((t : Table) → S.table known.old ≡ without t gone.old.items → S.table known.new ≡ without t gone.new.items) }
+    ensures listed { OnOk result ((t : Table) → S.table known.old ≡ taken_out t gone.old.items → S.table known.new ≡ taken_out t gone.new.items) }
     ensures gone { OnOk result (map_of.get (S.table table.now) prefix ≡ None → map_of.get (S.table known.new) prefix ≡ None) }
     ensures fewer { OnOk result ((p : Prefix6) → map_of.get (S.table known.old) p ≡ None → map_of.get (S.table known.new) p ≡ None) }
 {
@@ -129,7 +129,7 @@ fn forget_all<S: RouteStore>(
     known: &mut S,
     table: &S,
 ) -> Result<Vec<Prefix>, AllocError>
-    ensures listed { IfOk result (λ gone. S.table known.new ≡ without (S.table known.old) gone.items) }
+    ensures listed { IfOk result (λ gone. S.table known.new ≡ taken_out (S.table known.old) gone.items) }
     ensures gone { OnOk result ((p : Prefix6) → map_of.get (S.table table.now) p ≡ None → map_of.get (S.table known.new) p ≡ None) }
 {
     let entries = routes_in(alloc, known)?;

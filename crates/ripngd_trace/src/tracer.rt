@@ -49,7 +49,7 @@ pub fn trace<W: Write>(alloc: Global, script: &[u8], out: &mut W) -> io::Result<
     outcome
 }
 
-/// The witness that writes the records.
+/// The watcher that writes the records.
 #[derive(Drop)]
 struct Tracer<'a, W: Write> {
     alloc: Global,

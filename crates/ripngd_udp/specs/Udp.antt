@@ -14,8 +14,8 @@ pub record LinkState : Type 0 where
   pub lost_arrivals : ℕ
 
 -- a link with so many interfaces that has lost nothing
-abbrev pub fresh : ℕ → LinkState
-fresh interfaces = record { interfaces = interfaces; failed_sends = 0; lost_arrivals = 0 }
+abbrev pub new_link : ℕ → LinkState
+new_link interfaces = record { interfaces = interfaces; failed_sends = 0; lost_arrivals = 0 }
 
 -- a port that is named is one of those that were asked for
 abbrev pub NamesPortOf : List ℕ → UdpError → Type 0

@@ -2,7 +2,7 @@
 //! 127.0.0.1, and each neighbor on its link one of its own.
 
 ghost use Rattle.std.specs.Prelude.{◌≡◌, ◌≤◌, IfErr, IfOk, length, vec_len};
-ghost use Rattle.ripngd_udp.specs.Udp.{NamesPortOf, fresh, link_number};
+ghost use Rattle.ripngd_udp.specs.Udp.{NamesPortOf, new_link, link_number};
 
 use crate::endpoint::Endpoint;
 use crate::sockets::{Sockets, wait_of};
@@ -76,7 +76,7 @@ impl<'a, R: Clock> Udp<'a, R> {
     where
         R: Net,
         requires { length ports.now ≡ vec_len peers }
-        ensures bound { IfOk result (λ link. link ≡ fresh (length ports.now)) }
+        ensures bound { IfOk result (λ link. link ≡ new_link (length ports.now)) }
         ensures refused { IfErr result (NamesPortOf ports.now) }
     {
         Udp::bind_by(rt, rt, alloc, ports, peers)
@@ -91,7 +91,7 @@ impl<'a, R: Clock> Udp<'a, R> {
         peers: Vec<Vec<Peer>>,
     ) -> Result<Udp<'a, R>, UdpError>
         requires { length ports.now ≡ vec_len peers }
-        ensures bound { IfOk result (λ link. link ≡ fresh (length ports.now)) }
+        ensures bound { IfOk result (λ link. link ≡ new_link (length ports.now)) }
         ensures refused { IfErr result (NamesPortOf ports.now) }
     {
         let wait = wait_of(ports.len());

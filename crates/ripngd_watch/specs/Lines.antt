@@ -12,18 +12,18 @@ use Rattle.ripngd_watch.specs.Counting.{Counted}
 use Rattle.ripngd_watch.specs.declared.lines.DebugLines.{DebugLines}
 
 -- `MOMENT iface I from ADDR port P`
-abbrev pub origin_text : Arrived → List ℕ
-origin_text a =
+abbrev pub arrival_text : Arrived → List ℕ
+arrival_text a =
     decimal a.moment ++ (codes " iface " ++ (decimal a.iface ++ (codes " from " ++ (written_addr a.source ++ (codes " port " ++ decimal a.source_port)))))
 
 -- `ORIGIN refused NR NAME`
 abbrev pub refusal_text : Arrived → Fault → List ℕ
-refusal_text a fault = origin_text a ++ (codes " refused " ++ (decimal (fault_number fault) ++ (codes " " ++ fault_name fault)))
+refusal_text a fault = arrival_text a ++ (codes " refused " ++ (decimal (fault_number fault) ++ (codes " " ++ fault_name fault)))
 
 -- `ORIGIN entry E noted NR NAME`
 abbrev pub note_text : Arrived → Note → List ℕ
 note_text a n =
-    origin_text a ++ (codes " entry " ++ (decimal n.entry ++ (codes " noted " ++ (decimal (note_number n.kind) ++ (codes " " ++ note_name n.kind)))))
+    arrival_text a ++ (codes " entry " ++ (decimal n.entry ++ (codes " noted " ++ (decimal (note_number n.kind) ++ (codes " " ++ note_name n.kind)))))
 
 -- a line for the fault, if there is one
 abbrev pub refusal_lines : Arrived → Option Fault → List ℕ

@@ -31,8 +31,8 @@ fault_lines counts faults =
     flat_map (λ f. count_line (codes "refused") (fault_number f) (fault_name f) (slice_index_or counts (fault_number f - 1) 0)) faults
 
 -- a line for each of these notes that was counted, `noted NR NAME N`
-abbrev pub note_lines : List ℕ → List NoteKind → List ℕ
-note_lines counts kinds =
+abbrev pub noted_lines : List ℕ → List NoteKind → List ℕ
+noted_lines counts kinds =
     flat_map (λ k. count_line (codes "noted") (note_number k) (note_name k) (slice_index_or counts (note_number k - 20) 0)) kinds
 
 -- `arrivals A sends S failed F`
@@ -42,4 +42,4 @@ totals_text c =
 
 -- the counts of all, and behind them the lines of the faults and of the notes
 abbrev pub counts_text : Counts → List ℕ
-counts_text c = totals_text c ++ (fault_lines c.faults every_fault ++ note_lines c.notes every_note)
+counts_text c = totals_text c ++ (fault_lines c.faults every_fault ++ noted_lines c.notes every_note)

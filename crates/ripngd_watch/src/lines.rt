@@ -3,7 +3,7 @@
 ghost use Rattle.std.specs.Prelude.{◌≡◌, true, false, Some};
 ghost use Rattle.std.specs.Io.KnownBytes.{Appends};
 ghost use Rattle.ripngd_watch.specs.Counting.{no_counts};
-ghost use Rattle.ripngd_watch.specs.Lines.{origin_text, refusal_text, note_text, refusal_lines, note_lines, Writes};
+ghost use Rattle.ripngd_watch.specs.Lines.{arrival_text, refusal_text, note_text, refusal_lines, note_lines, Writes};
 
 use crate::counts::Counts;
 use ripngd_engine::{Arrived, Watch};
@@ -16,7 +16,7 @@ use std::io::Write;
 struct Origin(Arrived);
 
 impl Display for Origin {
-    ghost output = { λ o. Some (origin_text o.0) };
+    ghost output = { λ o. Some (arrival_text o.0) };
 
     fn fmt<W: fmt::Write>(&self, f: &mut fmt::Formatter<W>) -> fmt::Result {
         let Arrived {

@@ -2,7 +2,7 @@
 
 ghost use Rattle.std.specs.Prelude.{Some};
 ghost use Rattle.std.specs.Fmt.{WritesOnOk};
-ghost use Rattle.ripngd_watch.specs.Printed.{count_line, counts_text, fault_lines, note_lines};
+ghost use Rattle.ripngd_watch.specs.Printed.{count_line, counts_text, fault_lines, noted_lines};
 
 use crate::counts::{Counts, place_of, place_of_note};
 use ripng_wire::WireError;
@@ -71,7 +71,7 @@ fn write_notes<W: fmt::Write>(
     kinds: &[NoteKind],
     counts: &[u64; 5],
 ) -> fmt::Result
-    ensures { WritesOnOk W.write_str_gives f.old result (note_lines counts.now kinds.now) f.new }
+    ensures { WritesOnOk W.write_str_gives f.old result (noted_lines counts.now kinds.now) f.new }
 {
     for kind in kinds {
         let count = counts[place_of_note(*kind)];

@@ -11,11 +11,11 @@ use Rattle.prefix6.proofs.PrefixLaws.{prefixes_total}
 use Rattle.prefix6.proofs.Parting.{itself_within, low_within, high_within, all_low, all_high, of_second, first_longer, second_longer, other_high, other_low}
 use Rattle.route_table.specs.Route.{RouteValue}
 use Rattle.route_table.specs.Place.{Entries}
-use Rattle.route_table.specs.Trie.{joined, AreParts, AreIn}
+use Rattle.route_table.specs.Trie.{in_turn, AreParts, AreIn}
 use Rattle.route_table.proofs.TrieLists.{Entry, later, before, behind, put_front, put_right}
 
 -- the entries of a fork lie in its prefix
-pub are_in : (p : Prefix6) (own low high : Entries) → AreParts p own low high → 0 < length (joined own low high) → AreIn p (joined own low high)
+pub are_in : (p : Prefix6) (own low high : Entries) → AreParts p own low high → 0 < length (in_turn own low high) → AreIn p (in_turn own low high)
 are_in p own low high parts some = record {
   sorted = parts.sorted;
   some = some;
@@ -57,13 +57,13 @@ module _ (q k : Prefix6) (v : RouteValue) (es : Entries) (held : AreIn q es) (m 
     after_new : All (λ e. prefix_cmp m e.0 ≡ Less) es → (k, v) ∷ es ≡ put prefix_cmp k v es
     after_new all = sym (put_front k v es (subst (λ x. All (λ (e : Entry). prefix_cmp x e.0 ≡ Less) es) is all))
 
-    pub above_low : q.addr < middle m → joined ((k, v) ∷ []) es [] ≡ put prefix_cmp k v es
+    pub above_low : q.addr < middle m → in_turn ((k, v) ∷ []) es [] ≡ put prefix_cmp k v es
     above_low less = ap (λ l. (k, v) ∷ l) (append-nil es) ∙ after_new (λ i d lt. later m _ (lows less i d lt).longer (lows less i d lt).from)
 
     pub above_low_parts : q.addr < middle m → AreParts m ((k, v) ∷ []) es []
     above_low_parts less = record { sorted = sorted_put _ (above_low less); at_prefix = at_new; lower = lows less; upper = All-nil (λ (e : Entry). IsHigh m e.0) }
 
-    pub above_high : middle m ≤ q.addr → joined ((k, v) ∷ []) [] es ≡ put prefix_cmp k v es
+    pub above_high : middle m ≤ q.addr → in_turn ((k, v) ∷ []) [] es ≡ put prefix_cmp k v es
     above_high ge = after_new (λ i d lt. later m _ (highs ge i d lt).longer (omega (arith, (highs ge i d lt).from)))
 
     pub above_high_parts : middle m ≤ q.addr → AreParts m ((k, v) ∷ []) [] es
@@ -81,7 +81,7 @@ module _ (q k : Prefix6) (v : RouteValue) (es : Entries) (held : AreIn q es) (m 
       old_high : middle m ≤ q.addr
       old_high = other_high q k m meet q_is k_is other outside differ less
 
-      pub beside_low : joined [] ((k, v) ∷ []) es ≡ put prefix_cmp k v es
+      pub beside_low : in_turn [] ((k, v) ∷ []) es ≡ put prefix_cmp k v es
       beside_low = sym (put_front k v es (λ i d lt. before k _ (omega (arith, less, (highs old_high i d lt).from))))
 
       pub beside_low_parts : AreParts m [] ((k, v) ∷ []) es
@@ -96,7 +96,7 @@ module _ (q k : Prefix6) (v : RouteValue) (es : Entries) (held : AreIn q es) (m 
       old_low : q.addr < middle m
       old_low = other_low q k m meet q_is k_is other outside differ ge
 
-      pub beside_high : joined [] es ((k, v) ∷ []) ≡ put prefix_cmp k v es
+      pub beside_high : in_turn [] es ((k, v) ∷ []) ≡ put prefix_cmp k v es
       beside_high = sym (ap (put prefix_cmp k v) (sym (append-nil es)) ∙ put_right k v es [] (λ i d lt. behind k _ (omega (arith, ge, (lows old_low i d lt).to))))
 
       pub beside_high_parts : AreParts m [] es ((k, v) ∷ [])

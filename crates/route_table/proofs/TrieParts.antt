@@ -13,7 +13,7 @@ use Rattle.prefix6.specs.Halves.{IsLow, IsHigh, middle}
 use Rattle.prefix6.proofs.PrefixLaws.{prefixes_total}
 use Rattle.route_table.specs.Route.{RouteValue}
 use Rattle.route_table.specs.Place.{Entries}
-use Rattle.route_table.specs.Trie.{owned, own_value, joined, without, AreParts}
+use Rattle.route_table.specs.Trie.{owned, own_value, in_turn, without, AreParts}
 use Rattle.route_table.proofs.TrieLists.{Entry, itself, less_not_self, later, before, behind, turned, same_addr, find-append, find_none, found, put_right, put_left, put_front, All-put, without_append, without_none, without_all}
 
 -- a longer prefix is another
@@ -43,7 +43,7 @@ module _ (p : Prefix6) (own low high : Entries) (parts : AreParts p own low high
 
     -- ---- what is found
     -- a prefix that is no longer than the fork's own may only be that
-    pub find_short : k.len ≤ p.len → find prefix_cmp k own ≡ find prefix_cmp k (joined own low high)
+    pub find_short : k.len ≤ p.len → find prefix_cmp k own ≡ find prefix_cmp k (in_turn own low high)
     find_short short =
         sym (find-append k own (low ++ high)
         ∙ ap (option_or (find prefix_cmp k own)) (find_none k (low ++ high) (All-append (λ (e : Entry). e.0 ≢ k) low high
@@ -52,21 +52,21 @@ module _ (p : Prefix6) (own low high : Entries) (parts : AreParts p own low high
         ∙ or_nothing _)
 
     module _ (other : p ≢ k) where
-      parted : find prefix_cmp k (joined own low high) ≡ option_or (find prefix_cmp k low) (find prefix_cmp k high)
+      parted : find prefix_cmp k (in_turn own low high) ≡ option_or (find prefix_cmp k low) (find prefix_cmp k high)
       parted = find-append k own (low ++ high) ∙ ap (λ o. option_or o (find prefix_cmp k (low ++ high))) (find_none k own (own_other other)) ∙ find-append k low high
 
       or_none : (o : Option RouteValue) → option_or o None ≡ o
       or_none None = refl
       or_none (Some x) = refl
 
-      pub find_low : k.addr < middle p → find prefix_cmp k low ≡ find prefix_cmp k (joined own low high)
+      pub find_low : k.addr < middle p → find prefix_cmp k low ≡ find prefix_cmp k (in_turn own low high)
       find_low less = sym (parted ∙ ap (option_or (find prefix_cmp k low)) (find_none k high (high_other less)) ∙ or_none _)
 
-      pub find_high : middle p ≤ k.addr → find prefix_cmp k high ≡ find prefix_cmp k (joined own low high)
+      pub find_high : middle p ≤ k.addr → find prefix_cmp k high ≡ find prefix_cmp k (in_turn own low high)
       find_high ge = sym (parted ∙ ap (λ o. option_or o (find prefix_cmp k high)) (find_none k low (low_other ge)))
 
       -- where a prefix that is found lies
-      module _ (some : IsSome (find prefix_cmp k (joined own low high))) where
+      module _ (some : IsSome (find prefix_cmp k (in_turn own low high))) where
         pub low_some : k.addr < middle p → IsSome (find prefix_cmp k low)
         low_some less = subst IsSome (sym (find_low less)) some
 
@@ -84,17 +84,17 @@ module _ (p : Prefix6) (own low high : Entries) (parts : AreParts p own low high
       own_behind : p.len < k.len → p.addr ≤ k.addr → All (λ e. prefix_cmp k e.0 ≡ Greater) own
       own_behind longer from i d lt = ap (prefix_cmp k) (parts.at_prefix i d lt) ∙ turned p k Less (later p k longer from)
 
-      pub put_low : IsLow p k → joined own (put prefix_cmp k v low) high ≡ put prefix_cmp k v (joined own low high)
+      pub put_low : IsLow p k → in_turn own (put prefix_cmp k v low) high ≡ put prefix_cmp k v (in_turn own low high)
       put_low is = sym (put_right k v own (low ++ high) (own_behind is.longer is.from)
           ∙ ap (λ l. own ++ l) (put_left k v low high (λ i d lt. before k _ (omega (arith, is.to, (parts.upper i d lt).from)))))
 
-      pub put_high : IsHigh p k → joined own low (put prefix_cmp k v high) ≡ put prefix_cmp k v (joined own low high)
+      pub put_high : IsHigh p k → in_turn own low (put prefix_cmp k v high) ≡ put prefix_cmp k v (in_turn own low high)
       put_high is = sym (put_right k v own (low ++ high) (own_behind is.longer (omega (arith, is.from)))
           ∙ ap (λ l. own ++ l) (put_right k v low high (λ i d lt. behind k _ (omega (arith, is.from, (parts.lower i d lt).to)))))
 
       pub low_parts : IsLow p k → (low' : Entries) → low' ≡ put prefix_cmp k v low → AreParts p own low' high
       low_parts is low' e = record {
-        sorted = subst (λ l. T (is_sorted prefix_cmp l)) (sym (put_low is) ∙ ap (λ l. joined own l high) (sym e)) (is_sorted-put prefix_cmp prefixes_total k v _ parts.sorted);
+        sorted = subst (λ l. T (is_sorted prefix_cmp l)) (sym (put_low is) ∙ ap (λ l. in_turn own l high) (sym e)) (is_sorted-put prefix_cmp prefixes_total k v _ parts.sorted);
         at_prefix = parts.at_prefix;
         lower = subst (All (λ e. IsLow p e.0)) (sym e) (All-put (IsLow p) k v low is parts.lower);
         upper = parts.upper;
@@ -102,20 +102,20 @@ module _ (p : Prefix6) (own low high : Entries) (parts : AreParts p own low high
 
       pub high_parts : IsHigh p k → (high' : Entries) → high' ≡ put prefix_cmp k v high → AreParts p own low high'
       high_parts is high' e = record {
-        sorted = subst (λ l. T (is_sorted prefix_cmp l)) (sym (put_high is) ∙ ap (λ l. joined own low l) (sym e)) (is_sorted-put prefix_cmp prefixes_total k v _ parts.sorted);
+        sorted = subst (λ l. T (is_sorted prefix_cmp l)) (sym (put_high is) ∙ ap (λ l. in_turn own low l) (sym e)) (is_sorted-put prefix_cmp prefixes_total k v _ parts.sorted);
         at_prefix = parts.at_prefix;
         lower = parts.lower;
         upper = subst (All (λ e. IsHigh p e.0)) (sym e) (All-put (IsHigh p) k v high is parts.upper);
       }
 
     -- ---- what is taken out
-    pub own_goes : k ≡ p → joined [] low high ≡ without k (joined own low high)
+    pub own_goes : k ≡ p → in_turn [] low high ≡ without k (in_turn own low high)
     own_goes is = rw is (sym (without_append p own (low ++ high)
         ∙ ap (λ l. l ++ without p (low ++ high)) (without_all p own parts.at_prefix)
         ∙ without_none p (low ++ high) (λ i d lt e. less_not_self p (subst (λ z. prefix_cmp p z ≡ Less) e (above i d lt)))))
 
     module _ (other : p ≢ k) where
-      own_stays : without k (joined own low high) ≡ joined own (without k low) (without k high)
+      own_stays : without k (in_turn own low high) ≡ in_turn own (without k low) (without k high)
       own_stays = without_append k own (low ++ high)
           ∙ ap (λ l. l ++ without k (low ++ high)) (without_none k own (own_other other))
           ∙ ap (λ l. own ++ l) (without_append k low high)
@@ -126,14 +126,14 @@ module _ (p : Prefix6) (own low high : Entries) (parts : AreParts p own low high
       low_stays : middle p ≤ k.addr → without k low ≡ low
       low_stays ge = without_none k low (low_other ge)
 
-      pub low_goes : k.addr < middle p → (low' : Entries) → low' ≡ without k low → joined own low' high ≡ without k (joined own low high)
-      low_goes less low' e = ap (λ l. joined own l high) e ∙ sym (own_stays ∙ ap (λ l. joined own (without k low) l) (high_stays less))
+      pub low_goes : k.addr < middle p → (low' : Entries) → low' ≡ without k low → in_turn own low' high ≡ without k (in_turn own low high)
+      low_goes less low' e = ap (λ l. in_turn own l high) e ∙ sym (own_stays ∙ ap (λ l. in_turn own (without k low) l) (high_stays less))
 
-      pub high_goes : middle p ≤ k.addr → (high' : Entries) → high' ≡ without k high → joined own low high' ≡ without k (joined own low high)
-      high_goes ge high' e = ap (λ l. joined own low l) e ∙ sym (own_stays ∙ ap (λ l. joined own l (without k high)) (low_stays ge))
+      pub high_goes : middle p ≤ k.addr → (high' : Entries) → high' ≡ without k high → in_turn own low high' ≡ without k (in_turn own low high)
+      high_goes ge high' e = ap (λ l. in_turn own low l) e ∙ sym (own_stays ∙ ap (λ l. in_turn own l (without k high)) (low_stays ge))
 
-      sorted_without : (l : Entries) → l ≡ without k (joined own low high) → T (is_sorted prefix_cmp l)
-      sorted_without l e = subst (λ x. T (is_sorted prefix_cmp x)) (sym e) (is_sorted-where_key {X = RouteValue} prefix_cmp _ (joined own low high) parts.sorted)
+      sorted_without : (l : Entries) → l ≡ without k (in_turn own low high) → T (is_sorted prefix_cmp l)
+      sorted_without l e = subst (λ x. T (is_sorted prefix_cmp x)) (sym e) (is_sorted-where_key {X = RouteValue} prefix_cmp _ (in_turn own low high) parts.sorted)
 
       pub parts_low : k.addr < middle p → (low' : Entries) → low' ≡ without k low → AreParts p own low' high
       parts_low less low' e = record {
@@ -154,7 +154,7 @@ module _ (p : Prefix6) (own low high : Entries) (parts : AreParts p own low high
     -- a fork whose own route goes
     pub parts_own : k ≡ p → AreParts p [] low high
     parts_own is = record {
-      sorted = subst (λ x. T (is_sorted prefix_cmp x)) (sym (own_goes is)) (is_sorted-where_key {X = RouteValue} prefix_cmp _ (joined own low high) parts.sorted);
+      sorted = subst (λ x. T (is_sorted prefix_cmp x)) (sym (own_goes is)) (is_sorted-where_key {X = RouteValue} prefix_cmp _ (in_turn own low high) parts.sorted);
       at_prefix = All-nil (λ (e : Entry). e.0 ≡ p);
       lower = parts.lower;
       upper = parts.upper;
@@ -162,18 +162,18 @@ module _ (p : Prefix6) (own low high : Entries) (parts : AreParts p own low high
 
 -- ---- at a fork's own prefix
 module _ (p : Prefix6) (o : Option (Box Entry Global)) (low high : Entries) (parts : AreParts p (owned o) low high) where
-  pub find_own : own_value o ≡ find prefix_cmp p (joined (owned o) low high)
+  pub find_own : own_value o ≡ find prefix_cmp p (in_turn (owned o) low high)
   find_own = go o parts
     where
-      go : (o : Option (Box Entry Global)) → AreParts p (owned o) low high → own_value o ≡ find prefix_cmp p (joined (owned o) low high)
+      go : (o : Option (Box Entry Global)) → AreParts p (owned o) low high → own_value o ≡ find prefix_cmp p (in_turn (owned o) low high)
       go None n = sym (find_none p (low ++ high) (λ i d lt e. less_not_self p (subst (λ z. prefix_cmp p z ≡ Less) e (above p [] low high n i d lt))))
       go (Some x) n = sym (ap (λ b. cond b (Some x.value.1) (find prefix_cmp p (low ++ high))) (ap (eq_by_cmp prefix_cmp p) (n.at_prefix 0 x.value (omega arith)) ∙ itself p))
 
   module _ (k : Prefix6) (v : RouteValue) (is : k ≡ p) where
-    pub put_own : (k, v) ∷ (low ++ high) ≡ put prefix_cmp k v (joined (owned o) low high)
+    pub put_own : (k, v) ∷ (low ++ high) ≡ put prefix_cmp k v (in_turn (owned o) low high)
     put_own = rw is (go o parts)
       where
-        go : (o : Option (Box Entry Global)) → AreParts p (owned o) low high → (p, v) ∷ (low ++ high) ≡ put prefix_cmp p v (joined (owned o) low high)
+        go : (o : Option (Box Entry Global)) → AreParts p (owned o) low high → (p, v) ∷ (low ++ high) ≡ put prefix_cmp p v (in_turn (owned o) low high)
         go None n = sym (put_front p v (low ++ high) (above p [] low high n))
         go (Some x) n =
             let here : x.value.0 ≡ p = n.at_prefix 0 x.value (omega arith) in

@@ -16,7 +16,7 @@ use Rattle.route_table.specs.Route.{RouteValue}
 use Rattle.route_table.specs.Place.{Entries}
 use Rattle.route_table.specs.Table.{is_past}
 use Rattle.route_table.specs.Due.{first_where}
-use Rattle.route_table.specs.Trie.{joined, AreParts}
+use Rattle.route_table.specs.Trie.{in_turn, AreParts}
 use Rattle.route_table.proofs.TrieLists.{Entry, first_append, first_fails, first_same}
 use Rattle.route_table.proofs.TrieParts.{above}
 
@@ -60,22 +60,22 @@ module _ (t : RouteValue → Bool) where
 
   module _ (p : Prefix6) (own low high : Entries) (parts : AreParts p own low high) (a : Prefix6) where
     -- before the fork's own prefix
-    pub past_none : is_past (Some a) p ≡ true → first_where t None (joined own low high) ≡ first_where t (Some a) (joined own low high)
-    past_none h = all_past a (joined own low high) (All-append (λ (e : Entry). is_past (Some a) e.0 ≡ true) own (low ++ high)
+    pub past_none : is_past (Some a) p ≡ true → first_where t None (in_turn own low high) ≡ first_where t (Some a) (in_turn own low high)
+    past_none h = all_past a (in_turn own low high) (All-append (λ (e : Entry). is_past (Some a) e.0 ≡ true) own (low ++ high)
         (λ i d lt. ap (is_past (Some a)) (parts.at_prefix i d lt) ∙ h)
         (λ i d lt. ap is_lt (prefixes_total.trans a p _ (is_less _ h) (above p own low high parts i d lt))))
 
     module _ (h : is_past (Some a) p ≡ false) where
-      below_own : first_where t (Some a) (low ++ high) ≡ first_where t (Some a) (joined own low high)
+      below_own : first_where t (Some a) (low ++ high) ≡ first_where t (Some a) (in_turn own low high)
       below_own = in_second (Some a) own (low ++ high) (none_past a own (λ i d lt. ap (is_past (Some a)) (parts.at_prefix i d lt) ∙ h))
 
       -- from the upper half on
-      pub past_lower : middle p ≤ a.addr → first_where t (Some a) high ≡ first_where t (Some a) (joined own low high)
+      pub past_lower : middle p ≤ a.addr → first_where t (Some a) high ≡ first_where t (Some a) (in_turn own low high)
       past_lower ge = in_second (Some a) low high (none_past a low (λ i d lt. past_all a _ (omega (arith, (parts.lower i d lt).to)))) ∙ below_own
 
       -- in the lower half
-      pub in_lower : (e : Entry) → Some e ≡ first_where t (Some a) low → Some e ≡ first_where t (Some a) (joined own low high)
+      pub in_lower : (e : Entry) → Some e ≡ first_where t (Some a) low → Some e ≡ first_where t (Some a) (in_turn own low high)
       in_lower e is = in_first (Some a) low high e is ∙ below_own
 
-      pub past_lower_half : a.addr < middle p → None ≡ first_where t (Some a) low → first_where t None high ≡ first_where t (Some a) (joined own low high)
+      pub past_lower_half : a.addr < middle p → None ≡ first_where t (Some a) low → first_where t None high ≡ first_where t (Some a) (in_turn own low high)
       past_lower_half less is = all_past a high (λ i d lt. before_all a _ (omega (arith, (parts.upper i d lt).from))) ∙ in_second (Some a) low high is ∙ below_own

@@ -16,8 +16,8 @@ abbrev pub both : SummaryValue → SummaryValue → SummaryValue
 both a b = record { due = earlier a.due b.due; changed = a.changed || b.changed }
 
 -- of no routes
-abbrev pub nothing : SummaryValue
-nothing = record { due = None; changed = false }
+abbrev pub no_routes : SummaryValue
+no_routes = record { due = None; changed = false }
 
 -- of one route
 abbrev pub summary_of_route : RouteValue → SummaryValue
@@ -25,7 +25,7 @@ summary_of_route r = record { due = deadline r; changed = r.changed }
 
 -- the summary of several routes
 abbrev pub summary_of : List (Prefix6 × RouteValue) → SummaryValue
-summary_of [] = nothing
+summary_of [] = no_routes
 summary_of (e ∷ es) = both (summary_of_route e.1) (summary_of es)
 
 -- a deadline that may be missing, packed into a number and whether it counts

@@ -42,11 +42,11 @@ abbrev pub first_past : Option Prefix6 → Table → Option (Prefix6 × RouteVal
 first_past after table = find (λ e. is_past after e.0) (map.entries table)
 
 -- the number of a refusal
-abbrev pub refusal_number : AddRefused → ℕ
-refusal_number Full = 1
-refusal_number NoMemory = 2
+abbrev pub add_refused_number : AddRefused → ℕ
+add_refused_number Full = 1
+add_refused_number NoMemory = 2
 
 -- the name of a refusal
-abbrev pub refusal_name : AddRefused → List ℕ
-refusal_name Full = codes "Full"
-refusal_name NoMemory = codes "NoMemory"
+abbrev pub add_refused_name : AddRefused → List ℕ
+add_refused_name Full = codes "Full"
+add_refused_name NoMemory = codes "NoMemory"

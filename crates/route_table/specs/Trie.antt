@@ -34,12 +34,12 @@ abbrev pub without : Prefix6 → Entries → Entries
 without p = where_key prefix_cmp (λ q. not (eq_by_cmp prefix_cmp p q))
 
 -- a fork's entries in order: its own, then those of its lower and of its upper half
-abbrev pub joined : Entries → Entries → Entries → Entries
-joined own low high = own ++ (low ++ high)
+abbrev pub in_turn : Entries → Entries → Entries → Entries
+in_turn own low high = own ++ (low ++ high)
 
 -- the entries of a fork, by what hangs at it
-abbrev pub entries_of : Option (Box (Prefix6 × RouteValue) Global) → Link → Link → Entries
-entries_of own low high = joined (owned own) (linked low) (linked high)
+abbrev pub fork_entries : Option (Box (Prefix6 × RouteValue) Global) → Link → Link → Entries
+fork_entries own low high = in_turn (owned own) (linked low) (linked high)
 
 -- what hangs at a link has a route
 abbrev pub HasEntries : Link → Type 0
@@ -49,7 +49,7 @@ HasEntries (Fork fork) = 0 < length fork.value
 
 -- entries that are apart as those of a fork: at its prefix, and under the next bit 0 and 1
 pub record AreParts (p : Prefix6) (own low high : Entries) : Type 0 where
-  pub sorted : T (is_sorted prefix_cmp (joined own low high))
+  pub sorted : T (is_sorted prefix_cmp (in_turn own low high))
   pub at_prefix : All (λ e. e.0 ≡ p) own
   pub lower : All (λ e. IsLow p e.0) low
   pub upper : All (λ e. IsHigh p e.0) high
@@ -65,7 +65,7 @@ pub record IsFork (p : Prefix6) (s : SummaryValue) (own : Option (Box (Prefix6 �
   pub shared : AreShared (owned own) (linked low) (linked high)
   pub low_some : HasEntries low
   pub high_some : HasEntries high
-  pub summed : s ≡ summary_of (entries_of own low high)
+  pub summed : s ≡ summary_of (fork_entries own low high)
 
 -- entries that all lie in a prefix, as those of a fork in its own
 pub record AreIn (p : Prefix6) (es : Entries) : Type 0 where

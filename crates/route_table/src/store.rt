@@ -2,7 +2,7 @@
 
 ghost use Rattle.std.specs.Prelude.{◌≡◌, ◌≤◌, ◌+◌, ◌++◌, ◌↔◌, None, IsTrue, IsSome, OnOk, OnErr, vec_len, vec_capacity};
 ghost use Rattle.std.specs.FinMap as map;
-ghost use Rattle.route_table.specs.Table.{Table, table_limit, first_past, refusal_name, refusal_number};
+ghost use Rattle.route_table.specs.Table.{Table, table_limit, first_past, add_refused_name, add_refused_number};
 ghost use Rattle.route_table.specs.Due.{first_due, first_changed, next_due};
 
 use crate::moment::{Deadline, Moment};
@@ -29,14 +29,14 @@ pub enum AddRefused {
 impl AddRefused {
     /// The number of the refusal, 1 or 2.
     pub fn number(self) -> u8
-        ensures { result ≡ refusal_number self }
+        ensures { result ≡ add_refused_number self }
     {
         self as u8
     }
 
     /// The name of the refusal, one word.
     pub fn name(self) -> &'static str
-        ensures { result.now ≡ refusal_name self }
+        ensures { result.now ≡ add_refused_name self }
     {
         match self {
             AddRefused::Full => "Full",

@@ -2,7 +2,7 @@
 
 ghost use Rattle.std.specs.Prelude.{◌≡◌, ◌↔◌, false, IsTrue, Option};
 ghost use Rattle.route_table.specs.Due.{is_reached};
-ghost use Rattle.route_table.specs.Summary.{both, nothing, summary_of_route};
+ghost use Rattle.route_table.specs.Summary.{both, no_routes, summary_of_route};
 
 use crate::moment::Deadline;
 use crate::route::Route;
@@ -41,7 +41,7 @@ impl Model for Summary {
 impl Summary {
     /// The summary of no routes.
     pub fn nothing() -> Summary
-        ensures { result ≡ nothing }
+        ensures { result ≡ no_routes }
     {
         Summary {
             due_ms: 0,

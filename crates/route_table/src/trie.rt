@@ -13,7 +13,7 @@ ghost use Rattle.prefix6.specs.Prefix.{Prefix6, prefix_cmp};
 ghost use Rattle.route_table.specs.Due.{first_where, least_deadline};
 ghost use Rattle.route_table.specs.Route.{RouteValue};
 ghost use Rattle.route_table.specs.Summary.{summary_of, meets};
-ghost use Rattle.route_table.specs.Trie.{linked, owned, entries_of, AreParts, AreShared, HasEntries};
+ghost use Rattle.route_table.specs.Trie.{linked, owned, fork_entries, AreParts, AreShared, HasEntries};
 
 mod changing;
 
@@ -58,9 +58,9 @@ impl Model for Fork {
 
     ghost coded = { Prim.hlevel (codes, the_prefix.the_row.coded, the_route.the_row.coded) };
 
-    ghost use Rattle.route_table.specs.Trie.{entries_of, IsFork};
+    ghost use Rattle.route_table.specs.Trie.{fork_entries, IsFork};
 
-    ghost view = { λ f. entries_of f.own f.low f.high };
+    ghost view = { λ f. fork_entries f.own f.low f.high };
 
     ghost invariant = { λ f. IsFork f.prefix f.summary f.own f.low f.high };
 
@@ -91,7 +91,7 @@ impl Fork {
         requires shared { AreShared (owned own) (linked low) (linked high) }
         requires low_some { HasEntries low }
         requires high_some { HasEntries high }
-        ensures { result ≡ entries_of own low high }
+        ensures { result ≡ fork_entries own low high }
     {
         let summary = summary_of_parts(&own, &low, &high);
         Fork {
@@ -134,7 +134,7 @@ impl Link {
 
 /// The summary of a fork of these parts.
 fn summary_of_parts(own: &Option<Box<Entry>>, low: &Link, high: &Link) -> Summary
-    ensures { result ≡ summary_of (entries_of own.now low.now high.now) }
+    ensures { result ≡ summary_of (fork_entries own.now low.now high.now) }
 {
     let below = low.summary().and(high.summary());
     match own {
@@ -333,8 +333,8 @@ fn renew(
     low: &Link,
     high: &Link,
 ) -> bool
-    requires { changed ≡ false → summary.old ≡ summary_of (entries_of own.now low.now high.now) }
-    ensures summed { summary.new ≡ summary_of (entries_of own.now low.now high.now) }
+    requires { changed ≡ false → summary.old ≡ summary_of (fork_entries own.now low.now high.now) }
+    ensures summed { summary.new ≡ summary_of (fork_entries own.now low.now high.now) }
     ensures kept { result ≡ false → summary.new ≡ summary.old }
 {
     if changed {
@@ -347,7 +347,7 @@ fn renew(
 /// Sums a fork of these parts up anew, which few forks on the way up need. Says whether its summary is another now.
 #[inline(never)]
 fn sum_up(summary: &mut Summary, own: &Option<Box<Entry>>, low: &Link, high: &Link) -> bool
-    ensures summed { summary.new ≡ summary_of (entries_of own.now low.now high.now) }
+    ensures summed { summary.new ≡ summary_of (fork_entries own.now low.now high.now) }
     ensures kept { result ≡ false → summary.new ≡ summary.old }
 {
     summary.set(summary_of_parts(own, low, high))

@@ -14,7 +14,7 @@ use Rattle.route_table.proofs.TableLaws.{None-Some, Some-same}
 use Rattle.route_table.proofs.TableSteps.{with_value-same}
 use Rattle.router_core.specs.Config.{Config, IsConfig, config_reasons, reasons_of_each, interface_reasons, prefix_reasons, has_address, has_prefix, is_usable_cost}
 use Rattle.router_core.specs.Owning.{OwnsOnce}
-use Rattle.router_core.specs.Reconfiguring.{change_fault, change_reasons, changed_config, given_up, with_cost, without_prefix}
+use Rattle.router_core.specs.Reconfiguring.{reconfigure_fault, reconfigure_reasons, reconfigured_config, disowned, with_cost, without_prefix}
 use Rattle.router_core.specs.declared.config.ConfigRefused.{ConfigRefused}
 use Rattle.router_core.specs.declared.config.Interface.{Interface}
 use Rattle.router_core.specs.Config.{interface_limit, owned_limit}
@@ -222,15 +222,15 @@ undone (t ∷ ts) p tag new itself =
     ∙ ap (λ us. t ∷ us) (undone ts p tag (or_right (same_prefix t.0 p) (has_prefix ts p) new) itself)
 
 -- where nothing refuses that a prefix is owned, it is not owned yet
-pub not_owned : (c : Config) (table : Table) (p : Prefix6) (tag : ℕ) → change_fault c table (Own p tag) ≡ None → has_prefix c.prefixes p ≡ false
-not_owned c table p tag allowed = (each_passes (change_reasons c table (Own p tag)) allowed).1.0
+pub not_owned : (c : Config) (table : Table) (p : Prefix6) (tag : ℕ) → reconfigure_fault c table (Own p tag) ≡ None → has_prefix c.prefixes p ≡ false
+not_owned c table p tag allowed = (each_passes (reconfigure_reasons c table (Own p tag)) allowed).1.0
 
 -- the configuration is as before it was owned
-pub undone_config : (c : Config) (table : Table) (p : Prefix6) (tag : ℕ) → change_fault c table (Own p tag) ≡ None
-    → changed_config (changed_config c (Own p tag)) (Disown p) ≡ c
+pub undone_config : (c : Config) (table : Table) (p : Prefix6) (tag : ℕ) → reconfigure_fault c table (Own p tag) ≡ None
+    → reconfigured_config (reconfigured_config c (Own p tag)) (Disown p) ≡ c
 undone_config c table p tag allowed =
     ap (λ ts. record c { prefixes = ts }) (undone c.prefixes p tag (not_owned c table p tag allowed) (same_prefix-itself p))
 
 -- there is no route to give up
-pub none_given_up : (now : ℕ) (table : Table) (p : Prefix6) → map_of.get table p ≡ None → with_value table p (given_up now (map_of.get table p)) ≡ table
-none_given_up now table p none = ap (λ o. with_value table p (given_up now o)) none ∙ with_value-same table p None none
+pub none_given_up : (now : ℕ) (table : Table) (p : Prefix6) → map_of.get table p ≡ None → with_value table p (disowned now (map_of.get table p)) ≡ table
+none_given_up now table p none = ap (λ o. with_value table p (disowned now o)) none ∙ with_value-same table p None none

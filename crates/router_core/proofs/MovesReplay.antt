@@ -18,7 +18,7 @@ use Rattle.router_core.specs.Hearing.{Hearing}
 use Rattle.router_core.specs.Received.{Received}
 use Rattle.router_core.specs.Faults.{fault}
 use Rattle.router_core.specs.Machine.{State, Happening, Arrives, Ticks, Restarts, Reconfigures, Moves, Accepts, Refuses, Hears, Replies, ticked, owned_table, is_regular_due, is_triggered_due, forwards_before, gateway_of}
-use Rattle.router_core.specs.Reconfiguring.{changed_table, changes_of_change, gained, given_up}
+use Rattle.router_core.specs.Reconfiguring.{reconfigured_table, changes_of_reconfiguring, newly_owned, disowned}
 use Rattle.router_core.specs.declared.answer.Answer.{Answer}
 use Rattle.router_core.specs.declared.reconfiguring.Change.{Change}
 use Rattle.router_core.specs.declared.reconfiguring.Change.TheVariants.{Cost, Own, Disown}
@@ -104,10 +104,10 @@ module _ (table : Table) (p : Prefix6) (o : Option RouteValue) where
       ∙ left_by q (same_forward (option_and_then forward (map_of.get table p)) (option_and_then forward o)) refl (same_prefix p q) refl
       ∙ ap (unwrap_or (option_map forward_of (last_change (cons_option (change p (map_of.get table p) o) []) q))) (sym (get-map_values forward table q))
 
-pub change_replays : (now : ℕ) (table : Table) (c : Change) → Replays (forwards table) (changes_of_change now table c) (forwards (changed_table now table c))
+pub change_replays : (now : ℕ) (table : Table) (c : Change) → Replays (forwards table) (changes_of_reconfiguring now table c) (forwards (reconfigured_table now table c))
 change_replays now table (Cost iface cost) = nothing (forwards table)
-change_replays now table (Own p tag) = one_replays table p (Some (gained tag))
-change_replays now table (Disown p) = one_replays table p (given_up now (map_of.get table p))
+change_replays now table (Own p tag) = one_replays table p (Some (newly_owned tag))
+change_replays now table (Disown p) = one_replays table p (disowned now (map_of.get table p))
 
 pub moves_replay : (old new : State) (happening : Happening) (answer : Answer) → Moves old happening answer new → Replays (forwards_before old happening) answer.changes (forwards new.table)
 moves_replay old new (Arrives x) answer moves = arrived old new (max old.last x.now) x answer (fault old.config x) moves
@@ -120,5 +120,5 @@ moves_replay old new (Restarts now) answer moves =
     (subst (λ (t : Table). Replays map_of.empty (changes_of_start (owned_table old.config)) (forwards t)) (sym (ap (λ (s : State). s.table) moves.state)) (starting_replays (owned_table old.config)))
 moves_replay old new (Reconfigures now c) answer moves =
     subst (λ (cs : List RouteChange). Replays (forwards old.table) cs (forwards new.table)) (sym moves.answer_is.changes_are)
-    (subst (λ (t : Table). Replays (forwards old.table) (changes_of_change (max old.last now) old.table c) (forwards t)) (sym (ap (λ (s : State). s.table) moves.state))
+    (subst (λ (t : Table). Replays (forwards old.table) (changes_of_reconfiguring (max old.last now) old.table c) (forwards t)) (sym (ap (λ (s : State). s.table) moves.state))
     (change_replays (max old.last now) old.table c))

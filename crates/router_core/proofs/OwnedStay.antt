@@ -18,7 +18,7 @@ use Rattle.router_core.specs.Hearing.{Hearing, Heard, is_refused}
 use Rattle.router_core.specs.Ageing.{aged, aged_by_clock, aged_table, without_mark, unmarked}
 use Rattle.router_core.specs.Received.{Received}
 use Rattle.router_core.specs.Faults.{fault}
-use Rattle.router_core.specs.Reconfiguring.{change_fault, changed_config, changed_table, gained, given_up}
+use Rattle.router_core.specs.Reconfiguring.{reconfigure_fault, reconfigured_config, reconfigured_table, newly_owned, disowned}
 use Rattle.router_core.specs.Machine.{State, Happening, Arrives, Ticks, Restarts, Reconfigures, Moves, Accepts, Hears, Replies, Refuses, Starts, owned_table, ticked, is_regular_due, is_triggered_due}
 use Rattle.router_core.specs.Owning.{owned_route, IsOwnRoute, HasOwnRoute, OwnsOnce, HoldsOwned}
 use Rattle.router_core.specs.declared.answer.Answer.{Answer}
@@ -154,7 +154,7 @@ once_filtered test (t ∷ ts) once = by_test (test t) (once_filtered test ts onc
     by_test true rest = (each_passing (λ u. same_prefix t.0 u.0 ≡ false) (λ u. same_prefix t.0 u.0 ≡ false) test (λ u apart is. apart) ts once.0, rest)
     by_test false rest = rest
 
-not_owned_before : (config : Config) (table : Table) (p : Prefix6) (tag : ℕ) → change_fault config table (Own p tag) ≡ None → has_prefix config.prefixes p ≡ false
+not_owned_before : (config : Config) (table : Table) (p : Prefix6) (tag : ℕ) → reconfigure_fault config table (Own p tag) ≡ None → has_prefix config.prefixes p ≡ false
 not_owned_before config table p tag allowed = by_tests (is_routable p) (has_prefix config.prefixes p) (nat_le owned_limit (length config.prefixes)) (is_none (map_of.get table p) && nat_le table_limit (map_of.len table)) allowed
   where
     by_tests : (a b c d : Bool) → cond (not a) (Some refused.PrefixNotAllowed) (cond b (Some refused.AlreadyOwned) (cond c (Some refused.OwnedFull) (cond d (Some refused.TableFull) None))) ≡ None → b ≡ false
@@ -165,23 +165,23 @@ not_owned_before config table p tag allowed = by_tests (is_routable p) (has_pref
 elsewhere : (table : Table) (p : Prefix6) (o : Option RouteValue) (q : Prefix6) → same_prefix p q ≡ false → map_of.get (with_value table p o) q ≡ map_of.get table q
 elsewhere table p o q other = get-with_value table p o q ∙ ap (λ b. cond b o (map_of.get table q)) (sym (same_as_key p q) ∙ other)
 
-changed_owned : (now : ℕ) (config : Config) (table : Table) (change : Change) → change_fault config table change ≡ None
-    → HoldsOwned config table → HoldsOwned (changed_config config change) (changed_table now table change)
+changed_owned : (now : ℕ) (config : Config) (table : Table) (change : Change) → reconfigure_fault config table change ≡ None
+    → HoldsOwned config table → HoldsOwned (reconfigured_config config change) (reconfigured_table now table change)
 changed_owned now config table (Cost iface cost) allowed h = record { once = h.once; held = h.held }
 changed_owned now config table (Own p tag) allowed h =
     let apart = not_among config.prefixes p (not_owned_before config table p tag allowed) in
     record {
       once = once_more config.prefixes p tag h.once apart;
-      held = each_append (HasOwnRoute (changed_table now table (Own p tag))) config.prefixes ((p, tag) ∷ [])
-          (each_both (HasOwnRoute (changed_table now table (Own p tag))) (HasOwnRoute table) (λ t. same_prefix t.0 p ≡ false)
-          (λ t own other. (own.0, elsewhere table p (Some (gained tag)) t.0 (other_way p t.0 other) ∙ own.1, own.2)) config.prefixes h.held apart)
-          ((gained tag, get-with_value_here table p (Some (gained tag)), record { tag_is = refl; metric = refl; origin = refl; clock = refl }), tt);
+      held = each_append (HasOwnRoute (reconfigured_table now table (Own p tag))) config.prefixes ((p, tag) ∷ [])
+          (each_both (HasOwnRoute (reconfigured_table now table (Own p tag))) (HasOwnRoute table) (λ t. same_prefix t.0 p ≡ false)
+          (λ t own other. (own.0, elsewhere table p (Some (newly_owned tag)) t.0 (other_way p t.0 other) ∙ own.1, own.2)) config.prefixes h.held apart)
+          ((newly_owned tag, get-with_value_here table p (Some (newly_owned tag)), record { tag_is = refl; metric = refl; origin = refl; clock = refl }), tt);
     }
 changed_owned now config table (Disown p) allowed h =
     record {
       once = once_filtered (λ t. not (same_prefix t.0 p)) config.prefixes h.once;
-      held = each_passing (HasOwnRoute (changed_table now table (Disown p))) (HasOwnRoute table) (λ t. not (same_prefix t.0 p))
-          (λ t own is. (own.0, elsewhere table p (given_up now (map_of.get table p)) t.0 (other_way p t.0 (negated (same_prefix t.0 p) is)) ∙ own.1, own.2)) config.prefixes h.held;
+      held = each_passing (HasOwnRoute (reconfigured_table now table (Disown p))) (HasOwnRoute table) (λ t. not (same_prefix t.0 p))
+          (λ t own is. (own.0, elsewhere table p (disowned now (map_of.get table p)) t.0 (other_way p t.0 (negated (same_prefix t.0 p) is)) ∙ own.1, own.2)) config.prefixes h.held;
     }
   where
     negated : (b : Bool) → not b ≡ true → b ≡ false

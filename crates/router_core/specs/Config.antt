@@ -97,25 +97,25 @@ pub record IsConfig (c : Config) : Type 0 where
   pub prefixes : All (λ t. IsPrefix t.0) c.prefixes
 
 -- the number of a refusal
-abbrev pub refused_number : ConfigRefused → ℕ
-refused_number NoInterface = 1
-refused_number TooManyInterfaces = 2
-refused_number AddressNotLinkLocal = 3
-refused_number AddressTwice = 4
-refused_number BadCost = 5
-refused_number BadMtu = 6
-refused_number TooManyPrefixes = 7
-refused_number PrefixTwice = 8
-refused_number PrefixNotAllowed = 9
+abbrev pub config_refused_number : ConfigRefused → ℕ
+config_refused_number NoInterface = 1
+config_refused_number TooManyInterfaces = 2
+config_refused_number AddressNotLinkLocal = 3
+config_refused_number AddressTwice = 4
+config_refused_number BadCost = 5
+config_refused_number BadMtu = 6
+config_refused_number TooManyPrefixes = 7
+config_refused_number PrefixTwice = 8
+config_refused_number PrefixNotAllowed = 9
 
 -- the name of a refusal
-abbrev pub refused_name : ConfigRefused → List ℕ
-refused_name NoInterface = codes "NoInterface"
-refused_name TooManyInterfaces = codes "TooManyInterfaces"
-refused_name AddressNotLinkLocal = codes "AddressNotLinkLocal"
-refused_name AddressTwice = codes "AddressTwice"
-refused_name BadCost = codes "BadCost"
-refused_name BadMtu = codes "BadMtu"
-refused_name TooManyPrefixes = codes "TooManyPrefixes"
-refused_name PrefixTwice = codes "PrefixTwice"
-refused_name PrefixNotAllowed = codes "PrefixNotAllowed"
+abbrev pub config_refused_name : ConfigRefused → List ℕ
+config_refused_name NoInterface = codes "NoInterface"
+config_refused_name TooManyInterfaces = codes "TooManyInterfaces"
+config_refused_name AddressNotLinkLocal = codes "AddressNotLinkLocal"
+config_refused_name AddressTwice = codes "AddressTwice"
+config_refused_name BadCost = codes "BadCost"
+config_refused_name BadMtu = codes "BadMtu"
+config_refused_name TooManyPrefixes = codes "TooManyPrefixes"
+config_refused_name PrefixTwice = codes "PrefixTwice"
+config_refused_name PrefixNotAllowed = codes "PrefixNotAllowed"

@@ -1,7 +1,7 @@
 -- Which arrivals are refused (RFC 2080, 2.4.1 and 2.4.2).
 use Rattle.std.specs.Prelude.{ℕ, ◌==◌, ◌&&◌, ◌||◌, not, Bool, if◌then◌else◌, List, [], ◌∷◌, ◌++◌, map, length, codes, Option}
 use Rattle.prefix6.specs.Addr.{is_link_local, is_multicast, is_unspecified}
-use Rattle.ripng_wire.specs.Wire.{first_reason, wire_reasons, is_response, refusal_name, refusal_number}
+use Rattle.ripng_wire.specs.Wire.{first_reason, wire_reasons, is_response, wire_error_name, wire_error_number}
 use Rattle.router_core.specs.Config.{Config, is_own_address}
 use Rattle.router_core.specs.Received.{Received}
 use Rattle.router_core.specs.declared.arrival.Fault.{Fault}
@@ -42,7 +42,7 @@ fault config x = first_reason (map (λ t. (t.0, Wire t.1)) (wire_reasons x.bytes
 
 -- the number of a fault
 abbrev pub fault_number : Fault → ℕ
-fault_number (Wire why) = refusal_number why
+fault_number (Wire why) = wire_error_number why
 fault_number NotRipngPort = 7
 fault_number NotLinkLocal = 8
 fault_number OwnAddress = 9
@@ -52,7 +52,7 @@ fault_number BadSource = 12
 
 -- the name of a fault
 abbrev pub fault_name : Fault → List ℕ
-fault_name (Wire why) = refusal_name why
+fault_name (Wire why) = wire_error_name why
 fault_name NotRipngPort = codes "NotRipngPort"
 fault_name NotLinkLocal = codes "NotLinkLocal"
 fault_name OwnAddress = codes "OwnAddress"

@@ -18,7 +18,7 @@ use Rattle.router_core.specs.Output.{Message, AreSpelled, start_messages, update
 use Rattle.fib.specs.Forwarding.{Forwarding}
 use Rattle.router_core.specs.Changes.{forwards, changes_of_start, changes_of_ageing, changes_of_hearing}
 use Rattle.router_core.specs.Owning.{owned_route}
-use Rattle.router_core.specs.Reconfiguring.{IsNamed, change_fault, changed_config, changed_table, changes_of_change}
+use Rattle.router_core.specs.Reconfiguring.{IsNamed, reconfigure_fault, reconfigured_config, reconfigured_table, changes_of_reconfiguring}
 use Rattle.router_core.specs.declared.answer.Answer.{Answer}
 use Rattle.router_core.specs.declared.arrival.Fault.{Fault}
 use Rattle.router_core.specs.declared.answer.Note.{Note}
@@ -125,14 +125,14 @@ pub record Updates (old : State) (now word : ℕ) (answer : Answer) (new : State
 -- the state after a change of the configuration
 abbrev pub reconfigured : State → ℕ → Change → State
 reconfigured old now c =
-    record old { config = changed_config old.config c; table = changed_table now old.table c; last = now }
+    record old { config = reconfigured_config old.config c; table = reconfigured_table now old.table c; last = now }
 
 -- a change of the configuration is done, and nothing is sent
 pub record Obeys (old : State) (now : ℕ) (c : Change) (answer : Answer) (new : State) : Type 0 where
   pub named : IsNamed old.config c
-  pub allowed : change_fault old.config old.table c ≡ None
+  pub allowed : reconfigure_fault old.config old.table c ≡ None
   pub state : new ≡ reconfigured old now c
-  pub answer_is : IsAnswer [] (changes_of_change now old.table c) [] answer
+  pub answer_is : IsAnswer [] (changes_of_reconfiguring now old.table c) [] answer
 
 -- the router may answer so, and is then so. Time does not go back, but at a restart
 abbrev pub Moves : State → Happening → Answer → State → Type 0

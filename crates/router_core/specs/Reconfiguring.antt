@@ -32,19 +32,19 @@ IsNamed config (Disown p) = IsPrefix p
 -- ---- which changes are refused: each reason stands with whether it applies
 
 -- why a change is refused, in order
-abbrev pub change_reasons : Config → Table → Change → List (Bool × ReconfigureRefused)
-change_reasons config table (Cost iface cost) = (not (is_usable_cost cost), BadCost) ∷ []
-change_reasons config table (Own p tag) =
+abbrev pub reconfigure_reasons : Config → Table → Change → List (Bool × ReconfigureRefused)
+reconfigure_reasons config table (Cost iface cost) = (not (is_usable_cost cost), BadCost) ∷ []
+reconfigure_reasons config table (Own p tag) =
     (not (is_routable p), PrefixNotAllowed)
     ∷ (has_prefix config.prefixes p, AlreadyOwned)
     ∷ (nat_le owned_limit (length config.prefixes), OwnedFull)
     ∷ (is_none (map_of.get table p) && nat_le table_limit (map_of.len table), TableFull)
     ∷ []
-change_reasons config table (Disown p) = (not (has_prefix config.prefixes p), NotOwned) ∷ []
+reconfigure_reasons config table (Disown p) = (not (has_prefix config.prefixes p), NotOwned) ∷ []
 
 -- the first reason that applies
-abbrev pub change_fault : Config → Table → Change → Option ReconfigureRefused
-change_fault config table c = first_reason (change_reasons config table c)
+abbrev pub reconfigure_fault : Config → Table → Change → Option ReconfigureRefused
+reconfigure_fault config table c = first_reason (reconfigure_reasons config table c)
 
 -- ---- what a change does
 
@@ -58,30 +58,30 @@ abbrev pub without_prefix : List (Prefix6 × ℕ) → Prefix6 → List (Prefix6 
 without_prefix owned p = filter (λ t. not (same_prefix t.0 p)) owned
 
 -- the configuration after a change
-abbrev pub changed_config : Config → Change → Config
-changed_config config (Cost iface cost) = record config { interfaces = with_cost config.interfaces iface cost }
-changed_config config (Own p tag) = record config { prefixes = config.prefixes ++ (p, tag) ∷ [] }
-changed_config config (Disown p) = record config { prefixes = without_prefix config.prefixes p }
+abbrev pub reconfigured_config : Config → Change → Config
+reconfigured_config config (Cost iface cost) = record config { interfaces = with_cost config.interfaces iface cost }
+reconfigured_config config (Own p tag) = record config { prefixes = config.prefixes ++ (p, tag) ∷ [] }
+reconfigured_config config (Disown p) = record config { prefixes = without_prefix config.prefixes p }
 
 -- the route to a prefix that is owned from now on
-abbrev pub gained : ℕ → RouteValue
-gained tag = record (owned_route tag) { changed = true }
+abbrev pub newly_owned : ℕ → RouteValue
+newly_owned tag = record (owned_route tag) { changed = true }
 
 -- the route, if any, to a prefix that is owned no longer
-abbrev pub given_up : ℕ → Option RouteValue → Option RouteValue
-given_up now old = option_map (lost now) old
+abbrev pub disowned : ℕ → Option RouteValue → Option RouteValue
+disowned now old = option_map (lost now) old
 
 -- a new cost holds for later offers alone
-abbrev pub changed_table : ℕ → Table → Change → Table
-changed_table now table (Cost iface cost) = table
-changed_table now table (Own p tag) = with_value table p (Some (gained tag))
-changed_table now table (Disown p) = with_value table p (given_up now (map_of.get table p))
+abbrev pub reconfigured_table : ℕ → Table → Change → Table
+reconfigured_table now table (Cost iface cost) = table
+reconfigured_table now table (Own p tag) = with_value table p (Some (newly_owned tag))
+reconfigured_table now table (Disown p) = with_value table p (disowned now (map_of.get table p))
 
 -- the changes of forwarding
-abbrev pub changes_of_change : ℕ → Table → Change → List RouteChange
-changes_of_change now table (Cost iface cost) = []
-changes_of_change now table (Own p tag) = cons_option (change p (map_of.get table p) (Some (gained tag))) []
-changes_of_change now table (Disown p) = cons_option (change p (map_of.get table p) (given_up now (map_of.get table p))) []
+abbrev pub changes_of_reconfiguring : ℕ → Table → Change → List RouteChange
+changes_of_reconfiguring now table (Cost iface cost) = []
+changes_of_reconfiguring now table (Own p tag) = cons_option (change p (map_of.get table p) (Some (newly_owned tag))) []
+changes_of_reconfiguring now table (Disown p) = cons_option (change p (map_of.get table p) (disowned now (map_of.get table p))) []
 
 -- ---- refusals as numbers and names
 

@@ -4,8 +4,8 @@ ghost use Rattle.std.specs.Prelude.{◌≡◌, ◌<◌, true, false, not, All, B
 ghost use Rattle.std.specs.Result.{result_err};
 ghost use Rattle.prefix6.specs.Prefix.{IsPrefix, is_routable, same_prefix};
 ghost use Rattle.ripng_wire.specs.Wire.{first_reason};
-ghost use Rattle.router_core.specs.Config.{IsConfig, config, config_fault, reasons_of_each, interface_reasons, prefix_reasons, is_own_address, has_address, has_prefix, is_usable_cost, is_usable_mtu, refused_name, refused_number};
-ghost use Rattle.router_core.specs.Reconfiguring.{changed_config};
+ghost use Rattle.router_core.specs.Config.{IsConfig, config, config_fault, reasons_of_each, interface_reasons, prefix_reasons, is_own_address, has_address, has_prefix, is_usable_cost, is_usable_mtu, config_refused_name, config_refused_number};
+ghost use Rattle.router_core.specs.Reconfiguring.{reconfigured_config};
 
 use crate::reconfiguring::Change;
 use prefix6::{Addr6, Prefix};
@@ -64,14 +64,14 @@ pub enum ConfigRefused {
 impl ConfigRefused {
     /// The number of the refusal, 1 to 9.
     pub fn number(self) -> u8
-        ensures { result ≡ refused_number self }
+        ensures { result ≡ config_refused_number self }
     {
         self as u8
     }
 
     /// The name of the refusal, one word.
     pub fn name(self) -> &'static str
-        ensures { result.now ≡ refused_name self }
+        ensures { result.now ≡ config_refused_name self }
     {
         match self {
             ConfigRefused::NoInterface => "NoInterface",
@@ -279,7 +279,7 @@ impl RouterConfig {
     pub(crate) fn set_cost(&mut self, iface: usize, cost: u8)
         requires there { iface < length self.old.interfaces }
         requires usable { is_usable_cost cost ≡ true }
-        ensures { self.new ≡ changed_config self.old (Change.Cost iface cost) }
+        ensures { self.new ≡ reconfigured_config self.old (Change.Cost iface cost) }
     {
         self.interfaces[iface].cost = cost;
     }
@@ -293,7 +293,7 @@ impl RouterConfig {
         requires routable { is_routable prefix ≡ true }
         requires new { has_prefix self.old.prefixes prefix ≡ false }
         requires room { length self.old.prefixes < OWNED_LIMIT }
-        ensures done { OnOk result (self.new ≡ changed_config self.old (Change.Own prefix tag)) }
+        ensures done { OnOk result (self.new ≡ reconfigured_config self.old (Change.Own prefix tag)) }
         ensures err { OnErr result (self.new ≡ self.old) }
     {
         self.prefixes.push((prefix, tag))?;
@@ -302,7 +302,7 @@ impl RouterConfig {
 
     /// A prefix is owned no longer.
     pub(crate) fn disown(&mut self, prefix: Prefix)
-        ensures { self.new ≡ changed_config self.old (Change.Disown prefix) }
+        ensures { self.new ≡ reconfigured_config self.old (Change.Disown prefix) }
     {
         let (addr, len) = (prefix.addr(), prefix.len());
         self.prefixes

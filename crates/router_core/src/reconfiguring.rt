@@ -3,7 +3,7 @@
 ghost use Rattle.std.specs.Prelude.{◌≡◌, OnOk};
 ghost use Rattle.std.specs.Result.{result_err};
 ghost use Rattle.prefix6.specs.Prefix.{IsPrefix};
-ghost use Rattle.router_core.specs.Reconfiguring.{IsNamed, NamesInterface, change_fault, reconfigure_name, reconfigure_number};
+ghost use Rattle.router_core.specs.Reconfiguring.{IsNamed, NamesInterface, reconfigure_fault, reconfigure_name, reconfigure_number};
 
 use crate::config::{OWNED_LIMIT, RouterConfig, is_usable_cost};
 use prefix6::Prefix;
@@ -91,7 +91,7 @@ fn check_own<S: RouteStore>(
     prefix: Prefix,
     tag: u16,
 ) -> Result<(), ReconfigureRefused>
-    ensures fault { result_err result ≡ change_fault config.now (S.table store.now) (Change.Own prefix tag) }
+    ensures fault { result_err result ≡ reconfigure_fault config.now (S.table store.now) (Change.Own prefix tag) }
     ensures prefix { OnOk result (IsPrefix prefix) }
 {
     if !prefix.is_routable() {
@@ -113,7 +113,7 @@ pub fn check<S: RouteStore>(
     store: &S,
     change: &Change,
 ) -> Result<(), ReconfigureRefused>
-    ensures fault { result_err result ≡ change_fault config.now (S.table store.now) change.now }
+    ensures fault { result_err result ≡ reconfigure_fault config.now (S.table store.now) change.now }
     ensures named { OnOk result (NamesInterface config.now change.now → IsNamed config.now change.now) }
 {
     match *change {

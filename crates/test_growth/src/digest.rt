@@ -203,6 +203,6 @@ impl Digest {
             self.destination(sent.to);
             self.bytes(sent.bytes.as_slice());
         }
-        self.number(lab.changes_done().len() as u64);
+        self.number(lab.reconfigurations().len() as u64);
     }
 }

@@ -252,7 +252,7 @@ fn a_change_is_refused(rt: HostRuntime) -> Result<(), Fail> {
     ] {
         assert_eq!(rt; lab.step(&event).err(), Some(refusal));
     }
-    assert!(rt; lab.changes_done().is_empty());
+    assert!(rt; lab.reconfigurations().is_empty());
     Ok(())
 }
 
@@ -279,7 +279,7 @@ fn changes_are_listed_as_they_are_done(rt: HostRuntime) -> Result<(), Fail> {
             },
         ),
     ];
-    assert!(rt; lab.changes_done() == done.as_slice());
+    assert!(rt; lab.reconfigurations() == done.as_slice());
     let router = lab.router(1).ok_or("a router")?;
     let route = router.routes().get(&prefix()?).ok_or("a route")?;
     assert_eq!(rt; (route.metric(), route.tag()), (1, 5));

@@ -148,7 +148,7 @@ impl<S: RouteStore> Lab<S> {
     /// order from the first on.
     pub fn deliver_since(&mut self, first: usize, now: Moment) -> Result<(), AllocError>
         ensures network { self.new.network ≡ self.old.network }
-        ensures changes { self.new.world.changes ≡ self.old.world.changes }
+        ensures reconfigurations { self.new.world.reconfigurations ≡ self.old.world.reconfigurations }
         ensures delivered { OnOk result (WorldRun self.old.network self.old.world (deliveries_since self.old.network first self.old.world.sent now) self.new.world) }
         ensures stopped { OnErr result (StopForMemory self.old.network self.old.world (deliveries_since self.old.network first self.old.world.sent now) self.new.world) }
         ensures backed { AreRoutesBackedSince self.new.network self.new.world }
@@ -175,7 +175,7 @@ impl<S: RouteStore> Lab<S> {
         ensures told { OnOk result (WatchedRun V.takes heard self.old.network (self.old.world, watch.old) (deliveries_since self.old.network first self.old.world.sent now) (self.new.world, watch.new)) }
         ensures told_in_part { IfErr result (λ why. WatchedInPart V.takes V.fails (failures why) self.old.network (self.old.world, watch.old) (deliveries_since self.old.network first self.old.world.sent now) (self.new.world, watch.new)) }
         ensures network { self.new.network ≡ self.old.network }
-        ensures changes { self.new.world.changes ≡ self.old.world.changes }
+        ensures reconfigurations { self.new.world.reconfigurations ≡ self.old.world.reconfigurations }
         ensures delivered { OnOk result (WorldRun self.old.network self.old.world (deliveries_since self.old.network first self.old.world.sent now) self.new.world) }
         ensures stopped { IfErr result (λ why. StopAt self.old.network self.old.world (deliveries_since self.old.network first self.old.world.sent now) why self.new.world) }
         ensures backed { AreRoutesBackedSince self.new.network self.new.world }

@@ -133,7 +133,7 @@ impl<S: RouteStore> Lab<S> {
     pub fn run_rounds(&mut self, rounds: &[Round<'_>]) -> Result<(), RoundsRefused>
         requires { All (λ r. length r.ticks ≡ length self.old.network) rounds.now }
         ensures network { self.new.network ≡ self.old.network }
-        ensures changes { self.new.world.changes ≡ self.old.world.changes }
+        ensures reconfigurations { self.new.world.reconfigurations ≡ self.old.world.reconfigurations }
         ensures made { OnOk result (AreAllMade self.old.network self.old.world rounds.entry.now self.new.world) }
         ensures converges { OnOk result (Converges self.old.network self.old.world rounds.entry.now self.new.world) }
         ensures heals { OnOk result (Heals self.old.network self.old.world rounds.entry.now self.new.world) }
@@ -160,7 +160,7 @@ impl<S: RouteStore> Lab<S> {
     ) -> Result<(), Stopped<RoundsRefused, V::Fault>>
         requires { All (λ r. length r.ticks ≡ length self.old.network) rounds.now }
         ensures network { self.new.network ≡ self.old.network }
-        ensures changes { self.new.world.changes ≡ self.old.world.changes }
+        ensures reconfigurations { self.new.world.reconfigurations ≡ self.old.world.reconfigurations }
         ensures made { OnOk result (AreAllMade self.old.network self.old.world rounds.entry.now self.new.world) }
         ensures converges { OnOk result (Converges self.old.network self.old.world rounds.entry.now self.new.world) }
         ensures heals { OnOk result (Heals self.old.network self.old.world rounds.entry.now self.new.world) }

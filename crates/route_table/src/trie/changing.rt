@@ -4,7 +4,7 @@ ghost use Rattle.std.specs.Prelude.{◌≡◌, ◌≢◌, [], ◌∷◌, IfOk};
 ghost use Rattle.std.specs.FinMap.Entries.{put};
 ghost use Rattle.prefix6.specs.Prefix.{prefix_cmp};
 ghost use Rattle.prefix6.specs.Halves.{IsUnder};
-ghost use Rattle.route_table.specs.Trie.{linked, owned, entries_of, without, AreParts, HasEntries, AreIn};
+ghost use Rattle.route_table.specs.Trie.{linked, owned, fork_entries, without, AreParts, HasEntries, AreIn};
 
 use super::{Entry, Fork, Link};
 use crate::route::Route;
@@ -148,7 +148,7 @@ fn closed(
     requires low_some { HasEntries low }
     requires high_some { HasEntries high }
     ensures some { HasEntries result }
-    ensures kept { linked result ≡ entries_of own low high }
+    ensures kept { linked result ≡ fork_entries own low high }
 {
     if low.is_empty() && high.is_empty() {
         return match own {

@@ -6,7 +6,7 @@ ghost use Rattle.fib.specs.Forwarding.{Replays};
 ghost use Rattle.prefix6.specs.Prefix.{IsPrefix};
 ghost use Rattle.router_core.specs.Changes.{change, forwards};
 ghost use Rattle.router_core.specs.Machine.{Happening, Moves};
-ghost use Rattle.router_core.specs.Reconfiguring.{IsNamed, NamesInterface, change_fault, changed_config, changed_table, changes_of_change};
+ghost use Rattle.router_core.specs.Reconfiguring.{IsNamed, NamesInterface, reconfigure_fault, reconfigured_config, reconfigured_table, changes_of_reconfiguring};
 
 use super::{Router, answer_of};
 use crate::answer::Answer;
@@ -39,12 +39,12 @@ impl<S: RouteStore> Router<S> {
     /// The prefix is owned from now on: the changes of forwarding.
     fn own(&mut self, prefix: Prefix, tag: u16) -> Result<Vec<RouteChange>, AllocError>
         requires prefix { IsPrefix prefix }
-        requires allowed { change_fault self.old.config self.old.table (Change.Own prefix tag) ≡ None }
+        requires allowed { reconfigure_fault self.old.config self.old.table (Change.Own prefix tag) ≡ None }
         ensures done { OnOk result (self.new ≡ record self.old {
-          config = changed_config self.old.config (Change.Own prefix tag);
-          table = changed_table self.old.last self.old.table (Change.Own prefix tag);
+          config = reconfigured_config self.old.config (Change.Own prefix tag);
+          table = reconfigured_table self.old.last self.old.table (Change.Own prefix tag);
         }) }
-        ensures changes { IfOk result (λ v. v.items ≡ changes_of_change self.old.last self.old.table (Change.Own prefix tag)) }
+        ensures changes { IfOk result (λ v. v.items ≡ changes_of_reconfiguring self.old.last self.old.table (Change.Own prefix tag)) }
         ensures err { OnErr result (self.new ≡ self.old) }
     {
         let old = self.store.get(&prefix);
@@ -64,10 +64,10 @@ impl<S: RouteStore> Router<S> {
     /// The prefix is owned no longer: the changes of forwarding.
     fn disown(&mut self, prefix: Prefix, now: Moment) -> Result<Vec<RouteChange>, AllocError>
         ensures done { OnOk result (self.new ≡ record self.old {
-          config = changed_config self.old.config (Change.Disown prefix);
-          table = changed_table now self.old.table (Change.Disown prefix);
+          config = reconfigured_config self.old.config (Change.Disown prefix);
+          table = reconfigured_table now self.old.table (Change.Disown prefix);
         }) }
-        ensures changes { IfOk result (λ v. v.items ≡ changes_of_change now self.old.table (Change.Disown prefix)) }
+        ensures changes { IfOk result (λ v. v.items ≡ changes_of_reconfiguring now self.old.table (Change.Disown prefix)) }
         ensures err { OnErr result (self.new ≡ self.old) }
     {
         let Some(route) = self.store.get(&prefix) else {
@@ -84,12 +84,12 @@ impl<S: RouteStore> Router<S> {
     /// What a change that is not refused does: the changes of forwarding.
     fn obey(&mut self, change: Change, now: Moment) -> Result<Vec<RouteChange>, AllocError>
         requires named { IsNamed self.old.config change }
-        requires allowed { change_fault self.old.config self.old.table change ≡ None }
+        requires allowed { reconfigure_fault self.old.config self.old.table change ≡ None }
         ensures done { OnOk result (self.new ≡ record self.old {
-          config = changed_config self.old.config change;
-          table = changed_table now self.old.table change;
+          config = reconfigured_config self.old.config change;
+          table = reconfigured_table now self.old.table change;
         }) }
-        ensures changes { IfOk result (λ v. v.items ≡ changes_of_change now self.old.table change) }
+        ensures changes { IfOk result (λ v. v.items ≡ changes_of_reconfiguring now self.old.table change) }
         ensures err { OnErr result (self.new ≡ self.old) }
         ensures cost_is_free { (iface cost : ℕ) → change ≡ Change.Cost iface cost → IsOk result }
     {
@@ -111,13 +111,13 @@ impl<S: RouteStore> Router<S> {
     pub fn reconfigure(&mut self, now: Moment, change: Change) -> Result<Answer, ReconfigureRefused>
         requires { NamesInterface self.old.config change }
         ensures moves { IfOk result (λ answer. Moves self.old (Happening.Reconfigures now change) answer self.new) }
-        ensures refused { IfErr result (λ why. why ≡ unwrap_or (change_fault self.old.config self.old.table change) ReconfigureRefused.OutOfMemory) }
+        ensures refused { IfErr result (λ why. why ≡ unwrap_or (reconfigure_fault self.old.config self.old.table change) ReconfigureRefused.OutOfMemory) }
         ensures err { OnErr result (self.new ≡ self.old) }
         ensures sends { IfOk result (λ answer. answer.sends ≡ []) }
         ensures interfaces { length self.new.config.interfaces ≡ length self.old.config.interfaces }
         ensures replays { IfOk result (λ answer. Replays (forwards self.old.table) answer.changes (forwards self.new.table)) }
         ensures cost_is_free { (iface cost : ℕ) → change ≡ Change.Cost iface cost
-            → change_fault self.old.config self.old.table change ≡ None → IsOk result }
+            → reconfigure_fault self.old.config self.old.table change ≡ None → IsOk result }
     {
         let now = self.effective(now);
         check(&self.config, &self.store, &change)?;

@@ -140,6 +140,6 @@ fn rounds_are_refused(rt: HostRuntime) -> Result<(), Fail> {
     assert_eq!(rt; lab.run_rounds(&rounds), Err(refusal));
     assert_eq!(rt; (refusal.number(), refusal.name()), (41, "NoRegularUpdate"));
     assert_eq!(rt; metrics(&lab)?, [1, 2, 0, 10]);
-    assert!(rt; lab.changes_done().is_empty());
+    assert!(rt; lab.reconfigurations().is_empty());
     Ok(())
 }

@@ -8,47 +8,47 @@ use Rattle.ripng_world.proofs.moving.happen.Goals as goal
 
 pub returns-in_ok-deliver-in-Deliver-clause-moves : goal.returns-in_ok-deliver-in-Deliver-clause-moves
 returns-in_ok-deliver-in-Deliver-clause-moves g c =
-    subst (λ e. MoveStations c.args.stations.now c.args.sent.now.items c.args.changes.now.items (event_of e) c.in_ok-deliver-in-Deliver.field-0 c.deliver.new.stations)
-    (sym c.in-Deliver.is) (c.in_ok-deliver-in-Deliver.ensures.moves c.args.changes.now.items)
+    subst (λ e. MoveStations c.args.stations.now c.args.sent.now.items c.args.reconfigurations.now.items (event_of e) c.in_ok-deliver-in-Deliver.field-0 c.deliver.new.stations)
+    (sym c.in-Deliver.is) (c.in_ok-deliver-in-Deliver.ensures.moves c.args.reconfigurations.now.items)
 
 pub returns-in_ok-intrude-in-Stranger-clause-moves : goal.returns-in_ok-intrude-in-Stranger-clause-moves
 returns-in_ok-intrude-in-Stranger-clause-moves g c =
-    subst (λ e. MoveStations c.args.stations.now c.args.sent.now.items c.args.changes.now.items (event_of e) c.in_ok-intrude-in-Stranger.field-0 c.intrude.new.stations)
-    (sym c.in-Stranger.is) (c.in_ok-intrude-in-Stranger.ensures.moves c.args.changes.now.items)
+    subst (λ e. MoveStations c.args.stations.now c.args.sent.now.items c.args.reconfigurations.now.items (event_of e) c.in_ok-intrude-in-Stranger.field-0 c.intrude.new.stations)
+    (sym c.in-Stranger.is) (c.in_ok-intrude-in-Stranger.ensures.moves c.args.reconfigurations.now.items)
 
 pub returns-in_ok-tick-in-Tick-clause-moves : goal.returns-in_ok-tick-in-Tick-clause-moves
 returns-in_ok-tick-in-Tick-clause-moves g c =
-    subst (λ e. MoveStations c.args.stations.now c.args.sent.now.items c.args.changes.now.items (event_of e) c.in_ok-tick-in-Tick.field-0 c.tick.new.stations)
-    (sym c.in-Tick.is) (c.in_ok-tick-in-Tick.ensures.moves c.args.changes.now.items)
+    subst (λ e. MoveStations c.args.stations.now c.args.sent.now.items c.args.reconfigurations.now.items (event_of e) c.in_ok-tick-in-Tick.field-0 c.tick.new.stations)
+    (sym c.in-Tick.is) (c.in_ok-tick-in-Tick.ensures.moves c.args.reconfigurations.now.items)
 
 pub returns-in_ok-restart-in-Restart-clause-moves : goal.returns-in_ok-restart-in-Restart-clause-moves
 returns-in_ok-restart-in-Restart-clause-moves g c =
-    subst (λ e. MoveStations c.args.stations.now c.args.sent.now.items c.args.changes.now.items (event_of e) c.in_ok-restart-in-Restart.field-0 c.restart.new.stations)
-    (sym c.in-Restart.is) (c.in_ok-restart-in-Restart.ensures.moves c.args.changes.now.items)
+    subst (λ e. MoveStations c.args.stations.now c.args.sent.now.items c.args.reconfigurations.now.items (event_of e) c.in_ok-restart-in-Restart.field-0 c.restart.new.stations)
+    (sym c.in-Restart.is) (c.in_ok-restart-in-Restart.ensures.moves c.args.reconfigurations.now.items)
 
 pub returns-in-Reconfigure-clause-refused : goal.returns-in-Reconfigure-clause-refused
 returns-in-Reconfigure-clause-refused g c =
     IfErr-weaker c.reconfigure.result _ _
     (λ why refused.
-    subst (λ e. IsRefusal (lab_of c.args.stations.now c.args.sent.now.items c.args.changes.now.items) (event_of e) why) (sym c.in-Reconfigure.is) (refused c.args.sent.now.items))
+    subst (λ e. IsRefusal (lab_of c.args.stations.now c.args.sent.now.items c.args.reconfigurations.now.items) (event_of e) why) (sym c.in-Reconfigure.is) (refused c.args.sent.now.items))
     c.reconfigure.ensures.refused
 
 -- what is asked of each kind of event
 
 pub deliver-requires : goal.deliver-requires
-deliver-requires g c = subst (λ e. event_fault (lab_of c.args.stations.now c.args.sent.now.items c.args.changes.now.items) (event_of e) ≡ None) c.in-Deliver.is c.requires
+deliver-requires g c = subst (λ e. event_fault (lab_of c.args.stations.now c.args.sent.now.items c.args.reconfigurations.now.items) (event_of e) ≡ None) c.in-Deliver.is c.requires
 
 pub intrude-requires : goal.intrude-requires
-intrude-requires g c = subst (λ e. event_fault (lab_of c.args.stations.now c.args.sent.now.items c.args.changes.now.items) (event_of e) ≡ None) c.in-Stranger.is c.requires
+intrude-requires g c = subst (λ e. event_fault (lab_of c.args.stations.now c.args.sent.now.items c.args.reconfigurations.now.items) (event_of e) ≡ None) c.in-Stranger.is c.requires
 
 pub tick-requires : goal.tick-requires
-tick-requires g c = router_within c.args.stations.now c.in-Tick.router (subst (λ e. event_fault (lab_of c.args.stations.now c.args.sent.now.items c.args.changes.now.items) (event_of e) ≡ None) c.in-Tick.is c.requires)
+tick-requires g c = router_within c.args.stations.now c.in-Tick.router (subst (λ e. event_fault (lab_of c.args.stations.now c.args.sent.now.items c.args.reconfigurations.now.items) (event_of e) ≡ None) c.in-Tick.is c.requires)
 
 pub restart-requires : goal.restart-requires
-restart-requires g c = router_within c.args.stations.now c.in-Restart.router (subst (λ e. event_fault (lab_of c.args.stations.now c.args.sent.now.items c.args.changes.now.items) (event_of e) ≡ None) c.in-Restart.is c.requires)
+restart-requires g c = router_within c.args.stations.now c.in-Restart.router (subst (λ e. event_fault (lab_of c.args.stations.now c.args.sent.now.items c.args.reconfigurations.now.items) (event_of e) ≡ None) c.in-Restart.is c.requires)
 
 pub reconfigure-requires : goal.reconfigure-requires
-reconfigure-requires g c = subst (λ e. event_fault (lab_of c.args.stations.now c.args.sent.now.items c.args.changes.now.items) (event_of e) ≡ None) c.in-Reconfigure.is c.requires
+reconfigure-requires g c = subst (λ e. event_fault (lab_of c.args.stations.now c.args.sent.now.items c.args.reconfigurations.now.items) (event_of e) ≡ None) c.in-Reconfigure.is c.requires
 
 -- no router moves for want of memory
 

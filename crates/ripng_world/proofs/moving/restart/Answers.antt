@@ -12,8 +12,8 @@ returns-clause-moves g c =
     let router = c.args.router in
     let old = get_or stations router c.index-stations-router-2.result in
     let here = slice_get-get_or stations router c.index-stations-router-2.result c.requires in
-    IfOk-weaker c.restart.result _ _ (λ answer moves changes. record {
-      happens = router_moves stations router old c.restart.new.self here c.restart.ensures.node c.args.sent.now.items changes (Happening.Restarts c.args.now) answer moves;
+    IfOk-weaker c.restart.result _ _ (λ answer moves reconfigurations. record {
+      happens = router_moves stations router old c.restart.new.self here c.restart.ensures.node c.args.sent.now.items reconfigurations (Happening.Restarts c.args.now) answer moves;
       network = network_kept stations router old c.restart.new.self here c.restart.ensures.node;
     }) c.restart.ensures.moves
 

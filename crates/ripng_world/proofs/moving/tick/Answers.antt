@@ -13,8 +13,8 @@ returns-clause-moves g c =
     let router = c.args.router in
     let old = get_or stations router c.index-stations-router-2.result in
     let here = slice_get-get_or stations router c.index-stations-router-2.result c.requires in
-    IfOk-weaker c.tick.result _ _ (λ answer moves changes. record {
-      happens = router_moves stations router old c.tick.new.self here c.tick.ensures.node c.args.sent.now.items changes (Happening.Ticks c.args.now c.args.word) answer moves;
+    IfOk-weaker c.tick.result _ _ (λ answer moves reconfigurations. record {
+      happens = router_moves stations router old c.tick.new.self here c.tick.ensures.node c.args.sent.now.items reconfigurations (Happening.Ticks c.args.now c.args.word) answer moves;
       network = network_kept stations router old c.tick.new.self here c.tick.ensures.node;
     }) c.tick.ensures.moves
 

@@ -16,21 +16,21 @@ offset_bounds-stations-router g c =
     omega arith
 
 pub returns-then-is_heard : goal.returns-then-is_heard
-returns-then-is_heard g c = λ changes.
+returns-then-is_heard g c = λ reconfigurations.
     let stations = c.args.stations.now in
     let router = c.args.router in
     let x = c.args.arrival.now in
     let s = c.index-stations-router.result in
     let there = stranger_there stations router x _ c.arrival.view_is c.in_ok-check_interface.ensures.fault in
     let here = slice_get-get_or stations router s (there_within stations c.args.sent.now router x.iface there) ∙ ap Some (sym c.index-stations-router.is) in
-    stranger_tested stations c.args.sent.now changes router x s true there here (ap (λ (t : State). is_heard t x) (sym c.router.ensures) ∙ sym c.if-is_heard.ensures)
+    stranger_tested stations c.args.sent.now reconfigurations router x s true there here (ap (λ (t : State). is_heard t x) (sym c.router.ensures) ∙ sym c.if-is_heard.ensures)
 
 pub returns-else-is_heard : goal.returns-else-is_heard
-returns-else-is_heard g c = λ changes.
+returns-else-is_heard g c = λ reconfigurations.
     let stations = c.args.stations.now in
     let router = c.args.router in
     let x = c.args.arrival.now in
     let s = c.index-stations-router.result in
     let there = stranger_there stations router x _ c.arrival.view_is c.in_ok-check_interface.ensures.fault in
     let here = slice_get-get_or stations router s (there_within stations c.args.sent.now router x.iface there) ∙ ap Some (sym c.index-stations-router.is) in
-    stranger_tested stations c.args.sent.now changes router x s false there here (ap (λ (t : State). is_heard t x) (sym c.router.ensures) ∙ sym c.if-is_heard.ensures)
+    stranger_tested stations c.args.sent.now reconfigurations router x s false there here (ap (λ (t : State). is_heard t x) (sym c.router.ensures) ∙ sym c.if-is_heard.ensures)

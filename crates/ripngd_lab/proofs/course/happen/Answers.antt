@@ -1,5 +1,5 @@
 use Rattle.std.proofs.Common.{Some}
-use Rattle.ripngd_lab.proofs.Witnessing.{untold, has_told}
+use Rattle.ripngd_lab.proofs.ScriptWatching.{untold, has_told}
 use Rattle.ripngd_lab.proofs.course.happen.Goals as goal
 
 pub returns-in_err-check_event : goal.returns-in_err-check_event

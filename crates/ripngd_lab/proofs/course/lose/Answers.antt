@@ -1,7 +1,7 @@
 use Rattle.std.proofs.Common.{Some, Err}
 use Rattle.ripngd_lab.specs.declared.stop.Refusal.TheVariants.{DatagramLost}
 use Rattle.ripngd_lab.specs.declared.stop.Stop.TheVariants.{Refused}
-use Rattle.ripngd_lab.proofs.Witnessing.{untold, has_told, fault_told, noted}
+use Rattle.ripngd_lab.proofs.ScriptWatching.{untold, has_told, fault_told, noted}
 use Rattle.ripngd_lab.proofs.course.lose.Goals as goal
 
 pub returns-in_err-check_datagram : goal.returns-in_err-check_datagram

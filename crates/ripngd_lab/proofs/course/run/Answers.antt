@@ -1,5 +1,5 @@
 use Rattle.std.proofs.Common.{Some}
-use Rattle.ripngd_lab.proofs.Witnessing.{untold, has_told, fault_told, noted}
+use Rattle.ripngd_lab.proofs.ScriptWatching.{untold, has_told, fault_told, noted}
 use Rattle.ripngd_lab.proofs.course.run.Goals as goal
 
 pub returns-in_err-said-in-Say : goal.returns-in_err-said-in-Say

@@ -1,5 +1,5 @@
 use Rattle.std.proofs.Common.{Some}
-use Rattle.ripngd_lab.proofs.Witnessing.{untold, has_told, has_told_on}
+use Rattle.ripngd_lab.proofs.ScriptWatching.{untold, has_told, has_told_on}
 use Rattle.ripngd_lab.proofs.course.steer.Goals as goal
 
 pub returns-in_ok-step-in-Tell : goal.returns-in_ok-step-in-Tell

@@ -1,7 +1,7 @@
 use Rattle.std.proofs.Common.{Some, Err, ap}
 use Rattle.ripng_world.specs.Delivering.{deliveries_since}
 use Rattle.ripng_world.specs.Watching.{failures, heard}
-use Rattle.ripngd_lab.proofs.Witnessing.{has_told, lab_told, part_none, part_one}
+use Rattle.ripngd_lab.proofs.ScriptWatching.{has_told, lab_told, part_none, part_one}
 use Rattle.ripngd_lab.proofs.doing.deliver_since.Goals as goal
 
 pub returns-in-Ok : goal.returns-in-Ok

@@ -1,6 +1,6 @@
 use Rattle.std.proofs.Common.{Some, Err, ap}
 use Rattle.ripng_world.specs.Watching.{failures}
-use Rattle.ripngd_lab.proofs.Witnessing.{has_told, rounds_told, rounds_none, rounds_one}
+use Rattle.ripngd_lab.proofs.ScriptWatching.{has_told, rounds_told, rounds_none, rounds_one}
 use Rattle.ripngd_lab.proofs.doing.run_rounds.Goals as goal
 
 pub returns-in-Ok : goal.returns-in-Ok

@@ -1,9 +1,9 @@
 use Rattle.std.proofs.Common.{◌∷◌, [], Some, Result, ap, refl, sym, subst}
 use Rattle.ripng_world.specs.Events.{event_of}
 use Rattle.ripng_world.specs.Watching.{failures}
-use Rattle.ripngd_lab.specs.Witnessing.{HasTold}
+use Rattle.ripngd_lab.specs.ScriptWatching.{HasTold}
 use Rattle.ripngd_lab.specs.declared.stop.Stop.{Stop}
-use Rattle.ripngd_lab.proofs.Witnessing.{has_told, part_none, part_one, step_told}
+use Rattle.ripngd_lab.proofs.ScriptWatching.{has_told, part_none, part_one, step_told}
 use Rattle.ripngd_lab.proofs.doing.step.Goals.{in-Ok, in-Err-Refused, in-Err-Failed}
 use Rattle.ripngd_lab.proofs.doing.step.Goals as goal
 

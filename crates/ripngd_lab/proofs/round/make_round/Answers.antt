@@ -1,5 +1,5 @@
 use Rattle.std.proofs.Common.{Some}
-use Rattle.ripngd_lab.proofs.Witnessing.{has_told_on}
+use Rattle.ripngd_lab.proofs.ScriptWatching.{has_told_on}
 use Rattle.ripngd_lab.proofs.round.make_round.Goals as goal
 
 pub returns : goal.returns

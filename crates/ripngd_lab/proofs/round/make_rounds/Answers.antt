@@ -1,5 +1,5 @@
 use Rattle.std.proofs.Common.{◌≡◌, ℕ, All, Some, length, sym, subst}
-use Rattle.ripngd_lab.proofs.Witnessing.{untold, has_told}
+use Rattle.ripngd_lab.proofs.ScriptWatching.{untold, has_told}
 use Rattle.ripngd_lab.proofs.round.make_rounds.Goals as goal
 
 pub run_rounds-requires : goal.run_rounds-requires

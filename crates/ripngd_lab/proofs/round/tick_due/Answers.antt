@@ -1,5 +1,5 @@
 use Rattle.std.proofs.Common.{Some, Err}
-use Rattle.ripngd_lab.proofs.Witnessing.{untold, told_on, has_told, handed_on}
+use Rattle.ripngd_lab.proofs.ScriptWatching.{untold, told_on, has_told, handed_on}
 use Rattle.ripngd_lab.proofs.round.tick_due.Goals as goal
 
 pub loop-router-init : goal.loop-router-init

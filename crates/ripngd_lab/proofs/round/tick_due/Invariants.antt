@@ -1,5 +1,5 @@
 use Rattle.std.proofs.Common.{Some}
-use Rattle.ripngd_lab.specs.Witnessing.{IsTold}
+use Rattle.ripngd_lab.specs.ScriptWatching.{IsTold}
 use Rattle.ripngd_lab.proofs.round.tick_due.Given as goal
 
 abbrev pub invariant-loop-router : goal.invariant-loop-router

@@ -1,5 +1,5 @@
-use Rattle.ripngd_lab.specs.Witnessing.{lab_in}
-use Rattle.ripngd_lab.proofs.Witnessing.{untold, has_told}
+use Rattle.ripngd_lab.specs.ScriptWatching.{lab_in}
+use Rattle.ripngd_lab.proofs.ScriptWatching.{untold, has_told}
 use Rattle.ripngd_lab.proofs.script.run_line.Goals as goal
 
 -- src/script.rt:82:16

@@ -1,6 +1,6 @@
 use Rattle.std.proofs.Common.{ap, sym}
-use Rattle.ripngd_lab.specs.Witnessing.{lab_in}
-use Rattle.ripngd_lab.proofs.Witnessing.{told_from, untold_as}
+use Rattle.ripngd_lab.specs.ScriptWatching.{lab_in}
+use Rattle.ripngd_lab.proofs.ScriptWatching.{told_from, untold_as}
 use Rattle.ripngd_lab.proofs.script.run_words.Goals as goal
 
 pub returns-in_err-line : goal.returns-in_err-line

@@ -1,6 +1,6 @@
 use Rattle.std.proofs.Common.{None, false, true, ap}
-use Rattle.ripngd_lab.specs.Witnessing.{is_failure, lab_in}
-use Rattle.ripngd_lab.proofs.Witnessing.{told_on, noted_on, turned_on, line_ends, on_fault}
+use Rattle.ripngd_lab.specs.ScriptWatching.{is_failure, lab_in}
+use Rattle.ripngd_lab.proofs.ScriptWatching.{told_on, noted_on, turned_on, line_ends, on_fault}
 use Rattle.ripngd_lab.proofs.script.watched.Goals as goal
 
 pub loop-rest-preserved : goal.loop-rest-preserved

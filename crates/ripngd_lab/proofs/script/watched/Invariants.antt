@@ -1,5 +1,5 @@
 use Rattle.std.proofs.Common.{◌+◌, None, Some, Option, Bor, List, ℕ, length}
-use Rattle.ripngd_lab.specs.Witnessing.{IsTold, lab_in}
+use Rattle.ripngd_lab.specs.ScriptWatching.{IsTold, lab_in}
 use Rattle.ripngd_lab.proofs.script.watched.Given as goal
 
 abbrev pub invariant-loop-rest : goal.invariant-loop-rest

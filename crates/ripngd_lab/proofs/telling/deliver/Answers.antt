@@ -1,5 +1,5 @@
 use Rattle.std.proofs.Common.{Some}
-use Rattle.ripngd_lab.proofs.Witnessing.{untold, told_on, has_told, handed_on}
+use Rattle.ripngd_lab.proofs.ScriptWatching.{untold, told_on, has_told, handed_on}
 use Rattle.ripngd_lab.proofs.telling.deliver.Goals as goal
 
 pub returns-in_err-router-items : goal.returns-in_err-router-items

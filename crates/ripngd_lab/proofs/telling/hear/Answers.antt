@@ -1,5 +1,5 @@
 use Rattle.std.proofs.Common.{Some, Err}
-use Rattle.ripngd_lab.proofs.Witnessing.{untold, told_on, has_told, handed_on}
+use Rattle.ripngd_lab.proofs.ScriptWatching.{untold, told_on, has_told, handed_on}
 use Rattle.ripngd_lab.proofs.telling.hear.Goals as goal
 
 pub returns-then-not-are_below : goal.returns-then-not-are_below

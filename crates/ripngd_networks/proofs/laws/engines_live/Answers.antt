@@ -10,8 +10,8 @@ returns-clause-start c = λ config stream a b before started.
 pub returns-clause-turns : goal.returns-clause-turns
 returns-clause-turns c = answer_lives
 
-pub returns-clause-changes : goal.returns-clause-changes
-returns-clause-changes c = change_lives
+pub returns-clause-reconfigurations : goal.returns-clause-reconfigurations
+returns-clause-reconfigurations c = change_lives
 
 pub returns-clause-on : goal.returns-clause-on
 returns-clause-on c = lives_on

@@ -4,13 +4,13 @@ use Rattle.std.specs.FinMap.{find}
 use Rattle.std.proofs.lemmas.List.{drop_more, drop_all}
 use Rattle.prefix6.specs.Prefix.{Prefix6, prefix_cmp}
 use Rattle.route_table.specs.Route.{RouteValue}
-use Rattle.ripngd_trace.specs.Records.{without}
+use Rattle.ripngd_trace.specs.Records.{taken_out}
 use Rattle.ripngd_trace.proofs.Telling.{gone_on}
 use Rattle.ripngd_trace.proofs.tables.forget_all.Goals as goal
 
 pub loop-entry-init : goal.loop-entry-init
 loop-entry-init g c = record {
-  listed = sym (ap (without (g.S.RouteStore.table c.args.known.now)) c.new-gone.ensures.items);
+  listed = sym (ap (taken_out (g.S.RouteStore.table c.args.known.now)) c.new-gone.ensures.items);
   gone = λ p none left. map_of.get-entries _ p ∙ left;
 }
 

@@ -25,8 +25,8 @@ returns-clause-stopped g c =
     (λ why. stop_at g.V.Watch.takes g.V.Watch.fails why c.args.self.now.network (deliveries_since c.args.self.now.network c.args.first c.args.self.now.world.sent c.args.now) (c.args.self.now.world, c.args.watch.now) (c.deliver_each-outcome.new.self.world, c.deliver_each-outcome.new.watch))
     c.deliver_each-outcome.ensures.stopped
 
-pub returns-clause-changes : goal.returns-clause-changes
-returns-clause-changes g c =
+pub returns-clause-reconfigurations : goal.returns-clause-reconfigurations
+returns-clause-reconfigurations g c =
     let net = c.args.self.now.network in
     since_still net (pairs_since net c.args.first c.args.self.now.world.sent) c.args.now c.args.self.now.world c.deliver_each-outcome.new.self.world c.deliver_each-outcome.result
     (returns-clause-delivered g c) (returns-clause-stopped g c)

@@ -9,8 +9,8 @@ use Rattle.ripng_world.proofs.Healed.{heals_asked}
 use Rattle.ripng_world.proofs.LabRuns.{backed, least, truth, fixed}
 use Rattle.ripng_world.proofs.lab.Lab.run_rounds_watched.Goals as goal
 
-pub returns-clause-changes : goal.returns-clause-changes
-returns-clause-changes g c =
+pub returns-clause-reconfigurations : goal.returns-clause-reconfigurations
+returns-clause-reconfigurations g c =
     rounds_still c.args.self.now.network g.V.Watch.takes c.args.rounds.now (c.args.self.now.world, c.args.watch.now) (c.make_rounds-outcome.new.self.world, c.make_rounds-outcome.new.watch) c.make_rounds-outcome.result c.make_rounds-outcome.ensures.made c.make_rounds-outcome.ensures.refused
 
 pub returns-clause-made : goal.returns-clause-made

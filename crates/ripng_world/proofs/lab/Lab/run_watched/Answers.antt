@@ -15,7 +15,7 @@ loop-done-init g c =
     record {
       told = refl;
       network = refl;
-      changes = sym (append-nil c.args.self.now.world.changes);
+      reconfigurations = sym (append-nil c.args.self.now.world.reconfigurations);
       backed = rw (← c.self.view_is) (backed _ _ c.self.invariant);
       least = rw (← c.self.view_is) (least _ _ c.self.invariant);
       truth = rw (← c.self.view_is) (truth _ _ c.self.invariant);
@@ -43,8 +43,8 @@ returns-in-Err-clause-told g c = rw c.failures.ensures (told_until g c)
 pub returns-in-Err-clause-done : goal.returns-in-Err-clause-done
 returns-in-Err-clause-done g c = rw c.failures.ensures (done_until g c)
 
-pub returns-in-Err-clause-changes : goal.returns-in-Err-clause-changes
-returns-in-Err-clause-changes g c =
+pub returns-in-Err-clause-reconfigurations : goal.returns-in-Err-clause-reconfigurations
+returns-in-Err-clause-reconfigurations g c =
     rw c.failures.ensures
     (done_from c.args.self.now.network (take (c.loop-done.done + failures c.in-Err.stopped) (map event_of c.args.events.now)) c.args.self.now.world c.step_watched.new.self.world (done_until g c))
 
@@ -74,7 +74,7 @@ loop-done-preserved g c =
     record {
       told = told;
       network = c.step_watched.ensures.network ∙ c.loop-done.invariant.network;
-      changes = done_from net (take (c.loop-done.done + 1) (map event_of events)) c.args.self.now.world c.step_watched.new.self.world
+      reconfigurations = done_from net (take (c.loop-done.done + 1) (map event_of events)) c.args.self.now.world c.step_watched.new.self.world
           (watched_run g.V.Watch.takes any net (take (c.loop-done.done + 1) (map event_of events)) start after told);
       backed = c.step_watched.ensures.backed;
       least = c.step_watched.ensures.least;

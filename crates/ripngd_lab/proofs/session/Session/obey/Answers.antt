@@ -1,7 +1,7 @@
 use Rattle.std.proofs.Common.{None, Some, Option, ap, sym, subst}
 use Rattle.ripng_world.specs.Labs.{LabValue}
-use Rattle.ripngd_lab.specs.Witnessing.{IsTold, lab_in}
-use Rattle.ripngd_lab.proofs.Witnessing.{not_begun, told_from, untold_as, started}
+use Rattle.ripngd_lab.specs.ScriptWatching.{IsTold, lab_in}
+use Rattle.ripngd_lab.proofs.ScriptWatching.{not_begun, told_from, untold_as, started}
 use Rattle.ripngd_lab.proofs.session.Session.obey.Goals as goal
 
 pub returns-in_err-begin_lab-in-Cold : goal.returns-in_err-begin_lab-in-Cold

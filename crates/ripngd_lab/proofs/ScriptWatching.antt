@@ -1,16 +1,16 @@
--- What a witness is told, one thing after another.
+-- What a watcher is told, one thing after another.
 use Rattle.std.specs.Prelude.{⊤}
 use Rattle.std.proofs.Common.{◌≡◌, ◌⊎◌, inl, inr, ℕ, List, [], ◌∷◌, ◌++◌, arith, length, Bool, true, false, Option, Some, None, Result, Ok, Err, IsErrAnd, OnErr, refl, ap, sym, subst}
 use Rattle.router_core.specs.declared.answer.Answer.{Answer}
 use Rattle.ripng_world.specs.Asked.{Asked}
 use Rattle.ripng_world.specs.Labs.{LabValue, HappensGiving}
 use Rattle.ripng_world.specs.Network.{Network}
-use Rattle.ripng_world.specs.Rounds.{events_of}
+use Rattle.ripng_world.specs.Rounds.{events_of_rounds}
 use Rattle.ripng_world.specs.Watching.{Told, WatchedRun, WatchedUntil, WatchedInPart, AreMadeTold, RoundsToldInPart, any, telling}
 use Rattle.ripng_world.specs.World.{World, Event, Happens}
 use Rattle.ripng_world.proofs.Watched.{given_told}
 use Rattle.ripngd_lab.specs.Asides.{Aside, NextLine, Prints, Broken}
-use Rattle.ripngd_lab.specs.Witnessing.{Telling, Starts, Does, Turns, Notes, StartsAt, TellsAll, IsTold, FailsAtEvent, IsToldUntil, IsToldUnless, HasTold, is_failure, has_failed}
+use Rattle.ripngd_lab.specs.ScriptWatching.{Telling, Starts, Does, Turns, Notes, StartsAt, TellsAll, IsTold, FailsAtEvent, IsToldUntil, IsToldUnless, HasTold, is_failure, has_failed}
 use Rattle.ripngd_lab.specs.declared.stop.Stop.{Stop}
 use Rattle.ripngd_lab.specs.declared.stop.Stop.TheVariants.{Refused, Unmet, Failed}
 use Rattle.std.specs.declared.io.Error.{Error}
@@ -35,7 +35,7 @@ module _ {V : Type 0} (st : V → LabValue → ℕ → V → Type 0) (t f : V �
   pub told_until : (s s' : Option LabValue × V) → IsTold st t n s s' → IsToldUntil st t f n s s'
   told_until s s' told = (s', told, inl (refl, inl refl))
 
-  -- memory or the witness failed, and nothing happened
+  -- memory or the watcher failed, and nothing happened
   pub failed_still : (lab : Option LabValue) (v v' : V) → (v' ≡ v) ⊎ n v Broken v' → IsToldUntil st t f n (lab, v) (lab, v')
   failed_still lab v v' why = ((lab, v), untold (lab, v), inl (refl, why))
 
@@ -62,7 +62,7 @@ module _ {V : Type 0} (st : V → LabValue → ℕ → V → Type 0) (t f : V �
   pub line_ends : (b : Bool) (k : Stop) (s mid s' : Option LabValue × V) → is_failure k ≡ b → IsTold st t n s mid → HasTold {X = ⊤} (Err k) st t f n mid s' → IsToldUnless b st t f n s s'
   line_ends b k s mid s' is first told = subst (λ (a : Bool). IsToldUnless a st t f n s s') is (unless_on (is_failure k) s mid s' first told)
 
-  -- the witness fails after all that was told
+  -- the watcher fails after all that was told
   pub on_fault : {X : Type 0} (r : Result X Error) (s : Option LabValue × V) (lab : Option LabValue) (v v' : V) → IsTold st t n s (lab, v) → n v Broken v'
       → OnErr r ((end : Option LabValue) × IsToldUntil st t f n s (end, v'))
   on_fault (Ok x) s lab v v' told broken = tt
@@ -77,12 +77,12 @@ module _ {V : Type 0} (st : V → LabValue → ℕ → V → Type 0) (t f : V �
       → HasTold r st t f n s s'
   handed_on r from s mid s' is first told = handed r from s s' is (has_told_on (Err from) s mid s' first told)
 
-  -- the witness fails where nothing happens
+  -- the watcher fails where nothing happens
   pub fault_told : (r : Result ⊤ Stop) (error : Error) (lab : Option LabValue) (v v' : V) → IsErrAnd r (λ e. e ≡ Failed error) → n v Broken v' → HasTold r st t f n (lab, v) (lab, v')
   fault_told (Ok x) error lab v v' is broken = absurd is
   fault_told (Err e) error lab v v' is broken = subst (λ (b : Bool). IsToldUnless b st t f n (lab, v) (lab, v')) (sym (ap is_failure is)) (failed_still lab v v' (inr broken))
 
-  -- a lab did not start: the witness was told nothing, or failed at that
+  -- a lab did not start: the watcher was told nothing, or failed at that
   pub not_begun : (r : Result ⊤ Stop) (from : Stop) (lab : Option LabValue) (v v' : V) → IsErrAnd r (λ e. e ≡ from) → (v' ≡ v) ⊎ ((is_failure from ≡ true) × n v Broken v')
       → HasTold r st t f n (lab, v) (lab, v')
   not_begun r from lab v v' is why = handed r from (lab, v) (lab, v') is (by why)
@@ -203,7 +203,7 @@ module _ {V : Type 0} (st : V → LabValue → ℕ → V → Type 0) (t f : V �
   -- rounds
   pub rounds_told : (lab lab' : LabValue) (asked : List Asked) (v v' : V) → lab'.network ≡ lab.network → AreMadeTold t lab.network (lab.world, v) asked (lab'.world, v')
       → IsTold st t n (Some lab, v) (Some lab', v')
-  rounds_told lab lab' asked v v' same made = lab_told lab lab' (events_of made.0) v v' any same made.2
+  rounds_told lab lab' asked v v' same made = lab_told lab lab' (events_of_rounds made.0) v v' any same made.2
 
   pub rounds_none : (lab lab' : LabValue) (asked : List Asked) (v v' : V) (k : ℕ) → k ≡ 0 → lab'.network ≡ lab.network → RoundsToldInPart t f k lab.network (lab.world, v) asked (lab'.world, v')
       → IsTold st t n (Some lab, v) (Some lab', v')
@@ -211,7 +211,7 @@ module _ {V : Type 0} (st : V → LabValue → ℕ → V → Type 0) (t f : V �
       let p = subst (λ (m : ℕ). RoundsToldInPart t f m lab.network (lab.world, v) asked (lab'.world, v')) few stops in
       subst (λ (net : Network). IsTold st t n (Some lab, v) (Some (record { network = net; world = lab'.world }), v')) (sym same)
       (told_on (Some lab, v) (Some (record { network = lab.network; world = p.begin.0 }), p.begin.1) (Some (record { network = lab.network; world = lab'.world }), v')
-      (run_told lab.network (events_of p.told.0) lab.world p.begin.0 v p.begin.1 any p.told.2)
+      (run_told lab.network (events_of_rounds p.told.0) lab.world p.begin.0 v p.begin.1 any p.told.2)
       (until_none lab.network p.in_part.events p.begin.0 lab'.world p.begin.1 v' p.in_part.run))
 
   pub rounds_one : (lab lab' : LabValue) (asked : List Asked) (v v' : V) (k : ℕ) → k ≡ 1 → lab'.network ≡ lab.network → RoundsToldInPart t f k lab.network (lab.world, v) asked (lab'.world, v')
@@ -220,5 +220,5 @@ module _ {V : Type 0} (st : V → LabValue → ℕ → V → Type 0) (t f : V �
       let p = subst (λ (m : ℕ). RoundsToldInPart t f m lab.network (lab.world, v) asked (lab'.world, v')) few stops in
       subst (λ (net : Network). IsToldUntil st t f n (Some lab, v) (Some (record { network = net; world = lab'.world }), v')) (sym same)
       (until_on (Some lab, v) (Some (record { network = lab.network; world = p.begin.0 }), p.begin.1) (Some (record { network = lab.network; world = lab'.world }), v')
-      (run_told lab.network (events_of p.told.0) lab.world p.begin.0 v p.begin.1 any p.told.2)
+      (run_told lab.network (events_of_rounds p.told.0) lab.world p.begin.0 v p.begin.1 any p.told.2)
       (until_one lab.network p.in_part.events p.begin.0 lab'.world p.begin.1 v' p.in_part.run))

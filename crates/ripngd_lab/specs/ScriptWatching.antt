@@ -1,4 +1,4 @@
--- What the witness of a script is told: the start of a lab, and then just the run that is done, event by event.
+-- What the watcher of a script is told: the start of a lab, and then just the run that is done, event by event.
 use Rattle.std.specs.Prelude.{◌≡◌, ◌⊎◌, ℕ, Bool, true, false, List, [], ◌∷◌, Option, Some, None, Result, Ok, Err}
 use Rattle.std.specs.List.{AllByRecursion}
 use Rattle.router_core.specs.declared.answer.Answer.{Answer}
@@ -11,7 +11,7 @@ use Rattle.ripngd_lab.specs.declared.session.Stage.TheVariants.{Listing, Running
 use Rattle.ripngd_lab.specs.declared.stop.Stop.{Stop}
 use Rattle.ripngd_lab.specs.declared.stop.Stop.TheVariants.{Refused, Unmet, Failed}
 
--- what a witness is told: that all routers have started, at one moment; that an event was done, with its answer; the number of
+-- what a watcher is told: that all routers have started, at one moment; that an event was done, with its answer; the number of
 -- the script's next line; or what a line prints, or why it ends the script
 pub data Telling : Type 0 where
   Starts : (now : ℕ) → Telling
@@ -38,7 +38,7 @@ abbrev pub TellsAll : {V : Type 0} → (V → LabValue → ℕ → V → Type 0)
 TellsAll starts takes notes s [] s' = s' ≡ s
 TellsAll {V} starts takes notes s (t ∷ ts) s' = (mid : Option LabValue × V) × Tells starts takes notes t s mid × TellsAll starts takes notes mid ts s'
 
--- of all that happens in the lab the witness is told, and of nothing else
+-- of all that happens in the lab the watcher is told, and of nothing else
 abbrev pub IsTold : {V : Type 0} → (V → LabValue → ℕ → V → Type 0) → (V → Told → V → Type 0) → (V → Aside → V → Type 0) → Option LabValue × V → Option LabValue × V → Type 0
 IsTold starts takes notes s s' = (ts : List Telling) × TellsAll starts takes notes s ts s'
 
@@ -52,12 +52,12 @@ FailsAtEvent fails s s' =
     (lab : LabValue) × (s.0 ≡ Some lab) × (lab' : LabValue) × (s'.0 ≡ Some lab') × (lab'.network ≡ lab.network)
     × (e : Event) × (answer : Answer) × Happens lab.network lab.world e answer lab'.world × fails s.1 (telling lab.network lab.world e answer lab'.world) s'.1
 
--- the same up to where memory or the witness failed: where nothing happened, or at an event, which stays done
+-- the same up to where memory or the watcher failed: where nothing happened, or at an event, which stays done
 abbrev pub IsToldUntil : {V : Type 0} → (V → LabValue → ℕ → V → Type 0) → (V → Told → V → Type 0) → (V → Told → V → Type 0) → (V → Aside → V → Type 0) → Option LabValue × V → Option LabValue × V → Type 0
 IsToldUntil {V} starts takes fails notes s s' =
     (before : Option LabValue × V) × IsTold starts takes notes s before × (FailsAtRest notes before s' ⊎ FailsAtEvent fails before s')
 
--- whether a script ends because memory or the witness failed
+-- whether a script ends because memory or the watcher failed
 abbrev pub is_failure : Stop → Bool
 is_failure (Refused why) = false
 is_failure (Unmet unmet) = false
