@@ -2,5 +2,12 @@ mod Addresses
 mod Lives
 mod Following
 mod ColdWorlds
+mod Deeds
 mod Running
 mod Truth
+mod Winding
+mod Paced
+mod PacedPhases
+mod Pairs
+mod History
+mod Healing

@@ -22,17 +22,21 @@ handed_in _ = None
 abbrev pub handed_by : Happened → List Sent
 handed_by h = map (sent_by h.router) (filter_map handed_in h.deed.trace.calls)
 
--- the datagram was handed over before on that link, and comes as it is: with the address of the interface that sent it, from
--- the port of RIPng (RFC 2080, 2.1), with hop limit 255, and to the group exactly if it was sent to it (RFC 2080, 2.5)
-pub record IsOfTheLink (net : Network) (handed : List Sent) (router : ℕ) (d : Datagram) : Type 0 where
-  pub sent : Sent
-  pub before : Contains handed sent
+-- a datagram that was handed to a link comes from it as it is: with the address of the interface that sent it, from the port of
+-- RIPng (RFC 2080, 2.1), with hop limit 255, and to the group exactly if it was sent to it (RFC 2080, 2.5)
+pub record IsCopyOf (net : Network) (sent : Sent) (router : ℕ) (d : Datagram) : Type 0 where
   pub linked : AreLinked net sent.router sent.iface router d.iface
   pub source : d.source ≡ address_at net sent.router sent.iface
   pub port : d.source_port ≡ 521
   pub hops : d.hop_limit ≡ 255
   pub to : d.to_group ≡ is_to_group sent.to
   pub bytes : d.bytes ≡ sent.bytes
+
+-- such a datagram was handed over before
+pub record IsOfTheLink (net : Network) (handed : List Sent) (router : ℕ) (d : Datagram) : Type 0 where
+  pub sent : Sent
+  pub before : Contains handed sent
+  pub copy : IsCopyOf net sent router d
 
 -- or it is a stranger's: no Response, or one that the router refuses (RFC 2080, 2.4.2), at an interface that it has
 pub record IsOfAStranger (config : Config) (d : Datagram) : Type 0 where
