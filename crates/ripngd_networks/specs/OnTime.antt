@@ -93,7 +93,7 @@ pub record GoOn (net : Network) (before : List Happened) (daemons : ℕ → Opti
   -- each ticks every half second
   pub ticks : (router from : ℕ) → router < length net → start ≤ from → from + 500 ≤ end → IsTickIn history router from (from + 500)
   -- each keeps time
-  pub clocks : (router : ℕ) → router < length net → KeepsTime history start router (daemons router)
+  pub clocks : (router : ℕ) → KeepsTime history start router (daemons router)
   -- none loses a step for memory: it counts no more such steps, and could
   pub lossless : (router : ℕ) (m n : Machine) → daemons router ≡ Some m → daemons' router ≡ Some n → (n.lost_memory ≡ m.lost_memory) × (m.lost_memory < 2 ^ 64 - 1)
   -- and no new route wants for memory
