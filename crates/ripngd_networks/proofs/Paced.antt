@@ -105,11 +105,12 @@ module _ (net : Network) (behind bound router : ℕ) where
     where
       more : (a b : ℕ) → b ≤ max a b
       more a b = omega arith
-  due_in (x ∷ xs) t ys w w' takes all s is wound now word ticks late = by next.due
+  due_in (x ∷ xs) t ys w w' takes all s is wound now word ticks late =
+      let next : IsStateThen w x.step.after x.step.event behind bound router s =
+      state_then net w x.step.after x.step.event x.step.answer behind bound router s takes.0 takes.1 is wound all.0 in
+      by next.due
+      (λ same. due_in xs t ys x.step.after w' takes.3 all.1 next.state next.state_is next.wound now word ticks (subst (λ n. n ≤ now) (sym same) late))
     where
-      next : IsStateThen w x.step.after x.step.event behind bound router s
-      next = state_then net w x.step.after x.step.event x.step.answer behind bound router s takes.0 takes.1 is wound all.0
-
       first : (e : Event) → x.step.event ≡ e → router_of e ≡ router → IsDueTick w e → IsDueIn w (x ∷ xs ++ t ∷ ys) router
       first (Tick to n v) event_is same due =
           record {
@@ -124,9 +125,8 @@ module _ (net : Network) (behind bound router : ℕ) where
           }
       first e event_is same due = absurd due
 
-      rest : next.state.regular ≡ s.regular → IsDueIn w (x ∷ xs ++ t ∷ ys) router
-      rest same =
-          let r = due_in xs t ys x.step.after w' takes.3 all.1 next.state next.state_is next.wound now word ticks (subst (λ n. n ≤ now) (sym same) late) in
+      rest : IsDueIn x.step.after (xs ++ t ∷ ys) router → IsDueIn w (x ∷ xs ++ t ∷ ys) router
+      rest r =
           record {
             before = x ∷ r.before;
             tick = r.tick;
@@ -138,9 +138,9 @@ module _ (net : Network) (behind bound router : ℕ) where
             due = r.due;
           }
 
-      by : ((router_of x.step.event ≡ router) × IsDueTick w x.step.event) ⊎ (next.state.regular ≡ s.regular) → IsDueIn w (x ∷ xs ++ t ∷ ys) router
-      by (inl due) = first x.step.event refl due.0 due.1
-      by (inr same) = rest same
+      by : {n : ℕ} → ((router_of x.step.event ≡ router) × IsDueTick w x.step.event) ⊎ (n ≡ s.regular) → (n ≡ s.regular → IsDueIn x.step.after (xs ++ t ∷ ys) router) → IsDueIn w (x ∷ xs ++ t ∷ ys) router
+      by (inl due) later = first x.step.event refl due.0 due.1
+      by (inr same) later = rest (later same)
 
 -- ---- updates are punctual
 
@@ -213,7 +213,7 @@ module _ (net : Network) (w : World) (all : List Timed) (start end : ℕ) (w' : 
         (reached (reached w (untimed first.early)) (untimed second.early))
         (subst (λ zs. Takes net (reached w (untimed first.early)) (untimed zs) (reached (reached w (untimed first.early)) (untimed second.early))) b.1
         (takes_first net (untimed second.early) (untimed second.late) (reached w (untimed first.early)) w' takes_second))
-        (first_all a.0 (k.tick ∷ b.0) (subst (AllByRecursion (InTime net (paced.behind router) (from + 46_000) router)) b.1
+        (first_all (InTime net (paced.behind router) (from + 46_000) router) a.0 (k.tick ∷ b.0) (subst (AllByRecursion (InTime net (paced.behind router) (from + 46_000) router)) b.1
         (in_time_before router (from + 46_000) second.early second.late first.early whole second.before)))
         set_at.state set_at.state_is (more (paced.behind router) set_at.state.last from set_at.wound.0, set_at.wound.1) k.now k.word k.ticks
         (reached_due (paced.behind router) set_at.state.last set_at.state.regular from k.now k.tick.at set_at.wound.0 set_at.wound.1 k.not_before moment.1))
@@ -230,9 +230,9 @@ module _ (net : Network) (w : World) (all : List Timed) (start end : ℕ) (w' : 
         reached_due : (c l r f n t : ℕ) → c + l ≤ f → r ≤ l + 45_000 → f + 45_500 ≤ t → t < c + n + 500 → r ≤ n
         reached_due c l r f n t e g h i = omega arith
 
-        first_all : {P : Timed → Type 0} (xs ys : List Timed) → AllByRecursion P (xs ++ ys) → AllByRecursion P xs
-        first_all [] ys all = tt
-        first_all (x ∷ xs) ys all = (all.0, first_all xs ys all.1)
+        first_all : (P : Timed → Type 0) (xs ys : List Timed) → AllByRecursion P (xs ++ ys) → AllByRecursion P xs
+        first_all P [] ys all = tt
+        first_all P (x ∷ xs) ys all = (all.0, first_all P xs ys all.1)
 
     -- a router's regular updates begin less than 46 seconds apart, and are heard less than 13 seconds later
     pub punctual : IsPunctual net w all router from

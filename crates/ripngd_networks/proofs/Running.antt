@@ -17,6 +17,7 @@ use Rattle.ripngd_engine.specs.Run.{Machine}
 use Rattle.ripngd_networks.specs.Daemons.{Act, Start, Listen, Tick, Reconfigure, Refuse, Deed, Happened, Does, Lives, reconfiguration_by, reconfigurations_by, own_deeds}
 use Rattle.ripngd_networks.specs.Links.{handed_by, IsOfTheLink, IsOfAStranger, IsGiven, AreGiven, HaveRun, IsRunOf, all_handed}
 use Rattle.ripngd_networks.specs.OnTime.{IsNumbered}
+use Rattle.ripngd_networks.proofs.Addresses.{addresses_of}
 use Rattle.ripngd_networks.proofs.ColdWorlds.{cold_world}
 use Rattle.ripngd_networks.proofs.Deeds.{Agrees, HasState, IsStateOf, IsStepOf, StepsOn, change_done, done_on, with_daemon, world_after}
 
