@@ -9,5 +9,8 @@ mod Winding
 mod Paced
 mod PacedPhases
 mod Pairs
+mod Lossless
+mod Events
+mod Places
 mod History
 mod Healing

@@ -144,7 +144,7 @@ steps_are (p ∷ ps) = by p.step ∙ ap (cons_option p.step) (steps_are ps)
     by None = refl
     by (Some s) = refl
 
-reached_first : (w : World) (p : Paired) (rest : List Timed) → reached w (untimed (cons_option (timed p) rest)) ≡ reached (world_after w p.step) (untimed rest)
+pub reached_first : (w : World) (p : Paired) (rest : List Timed) → reached w (untimed (cons_option (timed p) rest)) ≡ reached (world_after w p.step) (untimed rest)
 reached_first w p rest = by p.step
   where
     by : (o : Option Step) → reached w (untimed (cons_option (option_map (timed_when p.dated.at) o) rest)) ≡ reached (world_after w o) (untimed rest)
