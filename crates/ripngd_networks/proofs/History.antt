@@ -85,7 +85,7 @@ module _ (net : Network) (before : List Happened) (daemons : ℕ → Option Mach
 
   -- ---- clocks
 
-  moments : (t : Timed) → Contains (history_of (pairs net before daemons history start end daemons' go first done w agrees).pairs) t
+  pub moments : (t : Timed) → Contains (history_of (pairs net before daemons history start end daemons' go first done w agrees).pairs) t
       → ((go.clocks (router_of t.step.event)).behind + moment_of t.step.event ≤ t.at) × (t.at < (go.clocks (router_of t.step.event)).behind + moment_of t.step.event + 500)
   moments t c =
       let s = cut_here (history_of all) t (at_from_contains (history_of all) t c) in
@@ -105,7 +105,7 @@ module _ (net : Network) (before : List Happened) (daemons : ℕ → Option Mach
 
   -- ---- daemons tick
 
-  ticks : (router from : ℕ) → router < length net → start ≤ from → from + 500 ≤ end
+  pub ticks : (router from : ℕ) → router < length net → start ≤ from → from + 500 ≤ end
       → IsTickAt (history_of (pairs net before daemons history start end daemons' go first done w agrees).pairs) router from (from + 500)
   ticks router from low begun room =
       let t = go.ticks router from low begun room in
@@ -124,7 +124,7 @@ module _ (net : Network) (before : List Happened) (daemons : ℕ → Option Mach
       }
 
   -- so each daemon was up at first
-  set : start + 500 ≤ end → ((router : ℕ) (m : Machine) → router < length net → daemons router ≡ Some m → m.router.regular ≤ m.router.last + 45_000)
+  pub set : start + 500 ≤ end → ((router : ℕ) (m : Machine) → router < length net → daemons router ≡ Some m → m.router.regular ≤ m.router.last + 45_000)
       → (router : ℕ) → router < length net → IsSetBy w (go.clocks router).behind start router
   set room wound router low =
       let t = go.ticks router start low (le_refl start) room in
@@ -226,14 +226,14 @@ module _ (net : Network) (before : List Happened) (daemons : ℕ → Option Mach
             same_delivery : (i j r s f g n : ℕ) → i ≡ j → r ≡ s → f ≡ g → world.Deliver i r f n ≡ world.Deliver j s g n
             same_delivery i j r s f g n e h l = cc
 
-    updates : (b : List Timed) (t : Timed) (a : List Timed) → history_of (pairs net before daemons history start end daemons' go first done w agrees).pairs ≡ b ++ t ∷ a
+    pub updates : (b : List Timed) (t : Timed) (a : List Timed) → history_of (pairs net before daemons history start end daemons' go first done w agrees).pairs ≡ b ++ t ∷ a
         → (router now word : ℕ) → t.step.event ≡ world.Tick router now word → IsDueTick (reached w (untimed b)) (world.Tick router now word) → t.at + 13_000 ≤ end
         → ComeInTime net (reached w (untimed b)) t a
     updates b t a parts router now word ticked due room =
         λ datagram other iface d late sent_is linked elsewhere. delivery b t a (step_there b t a parts) router now word ticked due room datagram other iface d late sent_is linked elsewhere
 
     -- nothing old comes
-    recent : (old new : List Timed) (t : Timed) (a : List Timed) → history_of (pairs net before daemons history start end daemons' go first done w agrees).pairs ≡ (old ++ new) ++ t ∷ a
+    pub recent : (old new : List Timed) (t : Timed) (a : List Timed) → history_of (pairs net before daemons history start end daemons' go first done w agrees).pairs ≡ (old ++ new) ++ t ∷ a
         → start + 13_000 ≤ t.at → AllByRecursion (λ s. s.at + 13_000 ≤ t.at) old
         → (datagram router iface now : ℕ) → t.step.event ≡ world.Deliver datagram router iface now → length (reached w (untimed old)).sent ≤ datagram
     recent old new t a parts far long_ago datagram router iface now event = by (step_there (old ++ new) t a parts)

@@ -136,7 +136,7 @@ pub record AreOnTime (net : Network) (before : List Happened) (daemons : ℕ →
   pub recent : (old new : List Dated) (t : Dated) (b : List Dated) → history ≡ (old ++ new) ++ t ∷ b → start + 13_000 ≤ t.at → AllByRecursion (λ s. s.at + 13_000 ≤ t.at) old
       → (number : ℕ) → t.number ≡ Some number → length (all_handed (before ++ undated old)) ≤ number
   -- nothing comes after what was handed over by a later deed from there: if it was handed over by then, so was what came before it
-  pub in_order : (a b c : List Dated) (s t : Dated) → history ≡ a ++ s ∷ b ++ t ∷ c → (router : ℕ) (d e : Datagram) (new old : ℕ) → Gives s router d new → Gives t router e old
+  pub in_order : (a b c : List Dated) (s t : Dated) → history ≡ a ++ s ∷ (b ++ t ∷ c) → (router : ℕ) (d e : Datagram) (new old : ℕ) → Gives s router d new → Gives t router e old
       → d.iface ≡ e.iface → d.source ≡ e.source → (early late : List Happened) → undated history ≡ early ++ late
       → old < length (all_handed (before ++ early)) → new < length (all_handed (before ++ early))
 
