@@ -75,6 +75,10 @@ module _ (net : Network) (before : List Happened) (daemons : ℕ → Option Mach
   abbrev w : World
   w = simulation.after
 
+  -- its deeds, with their steps
+  abbrev pairing : IsPairing net simulation.cold.sent daemons' history daemons (all_handed before) (reconfigurations_by before) simulation.after
+  pairing = pairs net before daemons history start end daemons' go simulation.cold.sent (reconfigurations_by before) simulation.after simulation.agrees
+
   abbrev all : List Paired
   all = (pairs net before daemons history start end daemons' go simulation.cold.sent (reconfigurations_by before) simulation.after simulation.agrees).pairs
 
@@ -97,9 +101,6 @@ module _ (net : Network) (before : List Happened) (daemons : ℕ → Option Mach
         in_order = in_order net before daemons history start end daemons' go simulation.cold.sent (reconfigurations_by before) simulation.after simulation.agrees on_time;
       }
     where
-      abbrev pairing : IsPairing net simulation.cold.sent daemons' history daemons (all_handed before) (reconfigurations_by before) simulation.after
-      pairing = pairs net before daemons history start end daemons' go simulation.cold.sent (reconfigurations_by before) simulation.after simulation.agrees
-
       same : (n : ℕ) → n ≤ n
       same n = omega arith
 

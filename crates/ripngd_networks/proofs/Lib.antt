@@ -13,4 +13,7 @@ mod Lossless
 mod Events
 mod Places
 mod History
+mod InOrder
+mod Starting
 mod Healing
+mod Staying

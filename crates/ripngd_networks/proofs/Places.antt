@@ -9,7 +9,7 @@ use Rattle.router_core.specs.declared.answer.NoteKind.TheVariants.{NoMemory}
 use Rattle.router_core.specs.declared.arrival.Fault.{Fault}
 use Rattle.router_core.specs.declared.reconfiguring.Change.{Change}
 use Rattle.ripng_world.specs.declared.sent.Sent.{Sent}
-use Rattle.ripng_world.specs.Network.{Network, config_of}
+use Rattle.ripng_world.specs.Network.{Network, Node, config_of}
 use Rattle.ripng_world.specs.World as world
 use Rattle.ripng_world.specs.World.{World}
 use Rattle.ripng_world.proofs.Each.{each_at_place}
@@ -44,13 +44,19 @@ pub happen_first : (start : ℕ) (xs ys : List Dated) → HappenFrom start (xs +
 happen_first start [] ys is = tt
 happen_first start (x ∷ xs) ys is = (is.0, happen_first x.at xs ys is.1)
 
-plain_deeds : (ts : List Dated) → AllByRecursion (λ t. IsPlain t.happened.deed.act) ts → AllByRecursion (λ h. IsPlain h.deed.act) (undated ts)
+pub plain_deeds : (ts : List Dated) → AllByRecursion (λ t. IsPlain t.happened.deed.act) ts → AllByRecursion (λ h. IsPlain h.deed.act) (undated ts)
 plain_deeds [] all = tt
 plain_deeds (t ∷ ts) all = (all.0, plain_deeds ts all.1)
 
 each_by_place : (P : Paired → Type 0) (ps : List Paired) → ((p : Paired) → At ps p → P p) → AllByRecursion P ps
 each_by_place P [] each = tt
 each_by_place P (p ∷ ps) each = (each p (0, refl), each_by_place P ps (λ q a. each q (suc a.0, a.1)))
+
+-- a router of the network
+is_there : (net : Network) (router : ℕ) (node : Node) → slice_get net router ≡ Some node → router < length net
+is_there [] router node is = absurd (None-Some node is)
+is_there (n ∷ net) zero node is = omega arith
+is_there (n ∷ net) (suc router) node is = let l = is_there net router node is in omega (arith, l)
 
 -- where a deed stands
 pub record IsLocated (ps : List Paired) (t : Dated) : Type 0 where
@@ -204,7 +210,7 @@ module _ (net : Network) (before : List Happened) (daemons : ℕ → Option Mach
         subst (λ b. Lives (config_of k.pair.node) (cond b (Some k.pair.after) (k.now router)) (own_deeds router (deeds_of ys)) (daemons' router)) (eq-eqb router router refl)
             (k.pair.later router k.pair.node k.pair.node_is) in
         let ended = lives_to (config_of k.pair.node) (own_deeds router (deeds_of ys)) k.pair.after (daemons' router) (plain_after router) later in
-        let counts = go.lossless router up.at_first ended.end up.first_is ended.is_up in
+        let counts = go.lossless router up.at_first ended.end (is_there net router k.pair.node k.pair.node_is) up.first_is ended.is_up in
         none_lost up.at_first.lost_memory up.daemon.lost_memory k.pair.after.lost_memory ended.end.lost_memory (2 ^ 64 - 1) up.fewer
         (subst (λ o. HasLost o k.pair.after) up.daemon_is lost) ended.more counts.0 counts.1
 
