@@ -20,7 +20,7 @@ use Rattle.ripng_phases.specs.Phases.{reached}
 use Rattle.ripng_phases.proofs.Settled.{takes_keep}
 use Rattle.ripngd_engine.specs.Run.{Machine}
 use Rattle.ripngd_networks.specs.Daemons.{Happened, Lives, own_deeds, reconfigurations_by}
-use Rattle.ripngd_networks.specs.Links.{HaveRun, all_handed, past_of_daemons}
+use Rattle.ripngd_networks.specs.Links.{LiveOn, HaveRun, all_handed, past_of_daemons}
 use Rattle.ripngd_networks.specs.OnTime.{AreOnTime, Dated, ForwardsLeast, GoOn, HappenFrom, undated}
 use Rattle.ripngd_networks.proofs.Deeds.{Agrees, IsStateOf}
 use Rattle.ripngd_networks.proofs.Following.{Follows, IfUp, life_follows}
@@ -30,7 +30,7 @@ use Rattle.ripngd_networks.proofs.Paced.{IsPaced}
 use Rattle.ripngd_networks.proofs.PacedPhases.{heals_when_paced}
 use Rattle.ripngd_networks.proofs.Pairs.{ArePairs, IsPairing, Paired, all_timed, deeds_of, happen_on, history_of, point}
 use Rattle.ripngd_networks.proofs.Places.{pairs, takes}
-use Rattle.ripngd_networks.proofs.Running.{IsSimulated, LiveOn, agrees_end, simulated_from_cold, there_is}
+use Rattle.ripngd_networks.proofs.Running.{IsSimulated, agrees_end, simulated_from_cold, there_is}
 use Rattle.ripngd_networks.proofs.Starting.{all_set}
 use Rattle.ripngd_networks.proofs.Truth.{follows}
 

@@ -46,7 +46,7 @@ module _ (net : Network) (before : List Happened) (daemons : ℕ → Option Mach
           let g = gift_of (length first) h.router h.deed.act p.dated.number h.deed.trace s.event s.answer datagram router iface now step.1 event in
           let copy : IsNumbered net (all_handed before ++ all_handed (deeds_of xs)) h.router (config_of k.pair.node) (Listen (Gave g.received)) (Some g.place) =
           subst (λ o. IsNumbered net (all_handed before ++ all_handed (deeds_of xs)) h.router (config_of k.pair.node) (Listen (Gave g.received)) o) g.number_is
-              (subst (λ a. IsNumbered net (all_handed before ++ all_handed (deeds_of xs)) h.router (config_of k.pair.node) a p.dated.number) g.gave k.pair.given) in
+          (subst (λ a. IsNumbered net (all_handed before ++ all_handed (deeds_of xs)) h.router (config_of k.pair.node) a p.dated.number) g.gave k.pair.given) in
           let whole : (reached w (untimed (history_of (pairs net before daemons history start end daemons' go first done w agrees).pairs))).sent ≡ first ++ ((all_handed before ++ all_handed (deeds_of xs)) ++ all_handed (deeds_of (p ∷ ys))) =
           sent_by_then net before daemons history start end daemons' go first done w agrees all [] (sym (append-nil all))
           ∙ ap (λ ds. first ++ ds) (ap (λ ps. all_handed (before ++ deeds_of ps)) parts ∙ handed_parts xs (p ∷ ys)) in

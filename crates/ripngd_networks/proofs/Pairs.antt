@@ -11,10 +11,10 @@ use Rattle.ripng_phases.specs.Minutes.{Timed, AreFrom, untimed}
 use Rattle.ripng_phases.specs.Phases.{Step, reached}
 use Rattle.ripngd_engine.specs.Run.{Machine}
 use Rattle.ripngd_networks.specs.Daemons.{Happened, Does, Lives, own_deeds}
-use Rattle.ripngd_networks.specs.Links.{handed_by, all_handed}
+use Rattle.ripngd_networks.specs.Links.{LiveOn, handed_by, all_handed}
 use Rattle.ripngd_networks.specs.OnTime.{Dated, HappenFrom, IsNumbered, AreNumbered, undated}
 use Rattle.ripngd_networks.proofs.Deeds.{Agrees, IsStepOf, change_done, done_on, with_daemon, world_after}
-use Rattle.ripngd_networks.proofs.Running.{LiveOn, lives_later, there_is}
+use Rattle.ripngd_networks.proofs.Running.{lives_later, there_is}
 
 -- ---- lists, of which some items count
 

@@ -22,13 +22,12 @@ use Rattle.ripngd_engine.specs.Run.{Machine}
 use Rattle.ripngd_engine.specs.Watch.{Told, Heard}
 use Rattle.ripngd_engine.specs.declared.watch.Arrived.{Arrived}
 use Rattle.ripngd_networks.specs.Daemons.{Listen, Tick, Happened, Lives, own_deeds}
-use Rattle.ripngd_networks.specs.Links.{handed_by, all_handed}
+use Rattle.ripngd_networks.specs.Links.{LiveOn, handed_by, all_handed}
 use Rattle.ripngd_networks.specs.OnTime.{Dated, GoOn, HappenFrom, IsPlain, undated}
 use Rattle.ripngd_networks.proofs.Deeds.{Agrees, HasLost, IsHeard, IsEventOf, IsIdle, IsStepOf, change_done, with_daemon, world_after}
 use Rattle.ripngd_networks.proofs.Events.{IsPlainEvent, plain_event}
 use Rattle.ripngd_networks.proofs.Lossless.{ArePlain, does_from, lives_from, lives_to, none_lost, plain_own}
 use Rattle.ripngd_networks.proofs.Pairs.{ArePairs, IsPair, IsPairing, Paired, agrees_here, all_handed_on, dated_of, dated_on, deeds_of, filter_on, history_of, pairing, point, timed, timed_when, undated_on}
-use Rattle.ripngd_networks.proofs.Running.{LiveOn}
 
 -- ---- lists
 
@@ -208,7 +207,7 @@ module _ (net : Network) (before : List Happened) (daemons : ℕ → Option Mach
         let up = up_here k in
         let later : Lives (config_of k.pair.node) (Some k.pair.after) (own_deeds router (deeds_of ys)) (daemons' router) =
         subst (λ b. Lives (config_of k.pair.node) (cond b (Some k.pair.after) (k.now router)) (own_deeds router (deeds_of ys)) (daemons' router)) (eq-eqb router router refl)
-            (k.pair.later router k.pair.node k.pair.node_is) in
+        (k.pair.later router k.pair.node k.pair.node_is) in
         let ended = lives_to (config_of k.pair.node) (own_deeds router (deeds_of ys)) k.pair.after (daemons' router) (plain_after router) later in
         let counts = go.lossless router up.at_first ended.end (is_there net router k.pair.node k.pair.node_is) up.first_is ended.is_up in
         none_lost up.at_first.lost_memory up.daemon.lost_memory k.pair.after.lost_memory ended.end.lost_memory (2 ^ 64 - 1) up.fewer
@@ -251,8 +250,8 @@ module _ (net : Network) (before : List Happened) (daemons : ℕ → Option Mach
         of_step k None is none = absurd (not_lost k (subst (λ a. IsIdle (k.now router) a k.pair.after) gave none))
         of_step k (Some s) is some =
             let e =
-                subst (λ o. IsEventOf (length first) router (Listen (Gave d)) o p.dated.happened.deed.trace s.event s.answer) number_is
-                (subst (λ a. IsEventOf (length first) router a p.dated.number p.dated.happened.deed.trace s.event s.answer) gave some.1) in
+            subst (λ o. IsEventOf (length first) router (Listen (Gave d)) o p.dated.happened.deed.trace s.event s.answer) number_is
+            (subst (λ a. IsEventOf (length first) router a p.dated.number p.dated.happened.deed.trace s.event s.answer) gave some.1) in
             record { step = s; step_is = is; now = e.0; event = e.1 }
 
         by : IsPlace xs p ys → IsDeliveredHere (length first + number) d.iface

@@ -15,15 +15,11 @@ use Rattle.ripng_phases.specs.Phases as phases
 use Rattle.ripngd_engine.specs.Link.{Gave, Silent, RecvFailed, Handed}
 use Rattle.ripngd_engine.specs.Run.{Machine}
 use Rattle.ripngd_networks.specs.Daemons.{Act, Start, Listen, Tick, Reconfigure, Refuse, Deed, Happened, Does, Lives, reconfiguration_by, reconfigurations_by, own_deeds}
-use Rattle.ripngd_networks.specs.Links.{handed_by, IsOfTheLink, IsOfAStranger, IsGiven, AreGiven, HaveRun, IsRunOf, all_handed}
+use Rattle.ripngd_networks.specs.Links.{handed_by, IsOfTheLink, IsOfAStranger, IsGiven, AreGiven, HaveRun, IsRunOf, LiveOn, all_handed}
 use Rattle.ripngd_networks.specs.OnTime.{IsNumbered}
 use Rattle.ripngd_networks.proofs.Addresses.{addresses_of}
 use Rattle.ripngd_networks.proofs.ColdWorlds.{cold_world}
 use Rattle.ripngd_networks.proofs.Deeds.{Agrees, HasState, IsStateOf, IsStepOf, StepsOn, change_done, done_on, with_daemon, world_after}
-
--- the rest of each router's life, from what its daemon is
-abbrev pub LiveOn : Network → List Happened → (ℕ → Option Machine) → (ℕ → Option Machine) → Type 0
-LiveOn net order daemons ends = (router : ℕ) (node : Node) → slice_get net router ≡ Some node → Lives (config_of node) (daemons router) (own_deeds router order) (ends router)
 
 pub there_is : {X : Type 0} (xs : List X) (i : ℕ) → i < length xs → (x : X) × (slice_get xs i ≡ Some x)
 there_is [] i low = absurd (omega (arith, low))

@@ -10,12 +10,12 @@ use Rattle.ripng_phases.proofs.Along.{contains_from}
 use Rattle.ripngd_engine.specs.Link.{Datagram}
 use Rattle.ripngd_engine.specs.Run.{Machine}
 use Rattle.ripngd_networks.specs.Daemons.{Happened, Lives, own_deeds}
-use Rattle.ripngd_networks.specs.Links.{handed_by, all_handed}
+use Rattle.ripngd_networks.specs.Links.{LiveOn, handed_by, all_handed}
 use Rattle.ripngd_networks.specs.OnTime.{AreNumbered, AreOnTime, Comes, Dated, GoOn, Gives, HappenFrom, IsPlain, IsRegular, IsTickIn, KeepsTime, undated}
 use Rattle.ripngd_networks.proofs.Lossless.{lives_from, lives_to, plain_own}
 use Rattle.ripngd_networks.proofs.Pairs.{undated_on}
 use Rattle.ripngd_networks.proofs.Places.{all_left, all_right, happen_first, plain_deeds}
-use Rattle.ripngd_networks.proofs.Running.{LiveOn, there_is}
+use Rattle.ripngd_networks.proofs.Running.{there_is}
 
 numbered_first : (net : Network) (handed : List Sent) (xs ys : List Dated) → AreNumbered net handed (xs ++ ys) → AreNumbered net handed xs
 numbered_first net handed [] ys are = tt

@@ -54,11 +54,16 @@ AreGiven net handed [] = ⊤
 AreGiven net handed (h ∷ order) =
     ((node : Node) → slice_get net h.router ≡ Some node → IsGiven net handed h.router (config_of node) h.deed.act) × AreGiven net (handed ++ handed_by h) order
 
+-- the deeds lead each daemon of a network from what it was, or from none, to what it is
+abbrev pub LiveOn : Network → List Happened → (ℕ → Option Machine) → (ℕ → Option Machine) → Type 0
+LiveOn net order daemons daemons' =
+    (router : ℕ) (node : Node) → slice_get net router ≡ Some node → Lives (config_of node) (daemons router) (own_deeds router order) (daemons' router)
+
 -- a network of daemons ran: all their deeds in an order in which they happened, of which each daemon's own are its life, from
 -- no daemon at all on, over such links
 pub record HaveRun (net : Network) (order : List Happened) (daemons : ℕ → Option Machine) : Type 0 where
   pub known : AllByRecursion (λ h. h.router < length net) order
-  pub lives : (router : ℕ) (node : Node) → slice_get net router ≡ Some node → Lives (config_of node) None (own_deeds router order) (daemons router)
+  pub lives : LiveOn net order (λ router. None) daemons
   pub given : AreGiven net [] order
 
 -- all that the deeds handed over, in order

@@ -25,7 +25,7 @@ use Rattle.ripngd_engine.specs.Run.{Machine}
 use Rattle.ripngd_engine.specs.Watch.{Heard}
 use Rattle.ripngd_engine.specs.declared.watch.Arrived.{Arrived}
 use Rattle.ripngd_networks.specs.Daemons.{Act, Start, Listen, Tick, Reconfigure, Happened, Lives, own_deeds}
-use Rattle.ripngd_networks.specs.Links.{IsCopyOf, IsOfAStranger, handed_by, all_handed}
+use Rattle.ripngd_networks.specs.Links.{IsCopyOf, IsOfAStranger, LiveOn, handed_by, all_handed}
 
 -- ---- deeds by the true clock
 
@@ -84,7 +84,7 @@ pub record KeepsTime (history : List Dated) (start router : ℕ) (daemon : Optio
 -- from one moment until another the daemons of a network, which had done this before, go on
 pub record GoOn (net : Network) (before : List Happened) (daemons : ℕ → Option Machine) (history : List Dated) (start end : ℕ) (daemons' : ℕ → Option Machine) : Type 0 where
   pub known : AllByRecursion (λ t. t.happened.router < length net) history
-  pub lives : (router : ℕ) (node : Node) → slice_get net router ≡ Some node → Lives (config_of node) (daemons router) (own_deeds router (undated history)) (daemons' router)
+  pub lives : LiveOn net (undated history) daemons daemons'
   pub given : AreNumbered net (all_handed before) history
   pub in_time : HappenFrom start history
   pub ended : AllByRecursion (λ t. t.at < end) history
