@@ -24,37 +24,7 @@ use Rattle.ripngd_networks.specs.Daemons.{Act, Start, Listen, Tick, Reconfigure,
 use Rattle.ripngd_networks.specs.Links.{handed_in, handed_by, IsCopyOf, IsOfAStranger}
 use Rattle.ripngd_networks.specs.OnTime.{IsNumbered}
 use Rattle.ripngd_networks.proofs.Addresses.{addresses_of, fault_same, moves_addresses}
-
--- ---- what a deed handed over
-
-handed_back : (sends : Sends) → filter_map handed_in (handed sends) ≡ datagrams_of sends
-handed_back [] = refl
-handed_back (s ∷ sends) = ap (λ os. s.0 ∷ os) (handed_back sends)
-
--- ---- lists
-
-set_here : {X : Type 0} (xs : List X) (i : ℕ) (old new : X) → slice_get xs i ≡ Some old → slice_get (slice_set xs i new) i ≡ Some new
-set_here [] i old new is = absurd (None-Some old is)
-set_here (x ∷ xs) zero old new is = refl
-set_here (x ∷ xs) (suc i) old new is = set_here xs i old new is
-
-set_elsewhere : {X : Type 0} (xs : List X) (i j : ℕ) (new : X) → i ≢ j → slice_get (slice_set xs i new) j ≡ slice_get xs j
-set_elsewhere [] i j new other = refl
-set_elsewhere (x ∷ xs) zero zero new other = absurd (other refl)
-set_elsewhere (x ∷ xs) zero (suc j) new other = refl
-set_elsewhere (x ∷ xs) (suc i) zero new other = refl
-set_elsewhere (x ∷ xs) (suc i) (suc j) new other = set_elsewhere xs i j new (λ e. other (ap suc e))
-
--- what stands behind a first part
-pub get_behind : {X : Type 0} (xs ys : List X) (i : ℕ) → slice_get (xs ++ ys) (length xs + i) ≡ slice_get ys i
-get_behind [] ys i = ap (slice_get ys) (none i)
-  where
-    none : (i : ℕ) → 0 + i ≡ i
-    none i = omega arith
-get_behind (x ∷ xs) ys i = ap (slice_get (x ∷ (xs ++ ys))) (past (length xs) i) ∙ get_behind xs ys i
-  where
-    past : (n i : ℕ) → suc n + i ≡ suc (n + i)
-    past n i = omega arith
+use Rattle.ripngd_networks.proofs.Sends.{get_behind, handed_back, set_elsewhere, set_here}
 
 -- ---- a world that is as the daemons are
 

@@ -24,7 +24,7 @@ use Rattle.ripngd_networks.specs.Links.{LiveOn, HaveRun, all_handed, past_of_dae
 use Rattle.ripngd_networks.specs.OnTime.{AreOnTime, Dated, ForwardsLeast, GoOn, HappenFrom, undated}
 use Rattle.ripngd_networks.proofs.Deeds.{Agrees, IsStateOf}
 use Rattle.ripngd_networks.proofs.Following.{Follows, IfUp, life_follows}
-use Rattle.ripngd_networks.proofs.History.{moments, recent, set, ticks, updates}
+use Rattle.ripngd_networks.proofs.History.{moments, recent, set, ticks, up_then, updates}
 use Rattle.ripngd_networks.proofs.InOrder.{in_order}
 use Rattle.ripngd_networks.proofs.Paced.{IsPaced}
 use Rattle.ripngd_networks.proofs.PacedPhases.{heals_when_paced}
@@ -80,13 +80,13 @@ module _ (net : Network) (before : List Happened) (daemons : ℕ → Option Mach
   pairing = pairs net before daemons history start end daemons' go simulation.cold.sent (reconfigurations_by before) simulation.after simulation.agrees
 
   abbrev all : List Paired
-  all = (pairs net before daemons history start end daemons' go simulation.cold.sent (reconfigurations_by before) simulation.after simulation.agrees).pairs
+  all = pairing.pairs
 
   abbrev w' : World
-  w' = reached simulation.after (untimed (history_of (pairs net before daemons history start end daemons' go simulation.cold.sent (reconfigurations_by before) simulation.after simulation.agrees).pairs))
+  w' = reached simulation.after (untimed (history_of pairing.pairs))
 
-  paced : IsPaced net simulation.after (history_of (pairs net before daemons history start end daemons' go simulation.cold.sent (reconfigurations_by before) simulation.after simulation.agrees).pairs) start end
-      (reached simulation.after (untimed (history_of (pairs net before daemons history start end daemons' go simulation.cold.sent (reconfigurations_by before) simulation.after simulation.agrees).pairs)))
+  paced : IsPaced net simulation.after (history_of pairing.pairs) start end
+      (reached simulation.after (untimed (history_of pairing.pairs)))
   paced =
       record {
         takes = takes net before daemons history start end daemons' go simulation.cold.sent (reconfigurations_by before) simulation.after simulation.agrees;
@@ -120,12 +120,19 @@ module _ (net : Network) (before : List Happened) (daemons : ℕ → Option Mach
       (heals_when_paced net simulation.moments simulation.events (history_of all) start end simulation.cold simulation.after w' is_net noisy simulation.is_cold simulation.run
       (subst FitsTablesSince (sym past_is) fits) paced late)
 
+  -- each daemon is up
+  pub daemon_up : (router : ℕ) → router < length net → (m : Machine) × (daemons' router ≡ Some m)
+  daemon_up = up_then net before daemons history start end daemons' go simulation.cold.sent (reconfigurations_by before) simulation.after simulation.agrees (short start end late)
+    where
+      short : (s e : ℕ) → s + 28 * 60_000 ≤ e → s + 500 ≤ e
+      short s e f = omega arith
+
   -- each daemon is as its router in the world
   pub daemon_healed : (router : ℕ) (m : Machine) → router < length net → daemons' router ≡ Some m → IsHealed (network_now (past_of_daemons net before)) router m.router.table
   daemon_healed router m low up =
       let x = point net simulation.cold.sent daemons' all [] daemons (all_handed before) (reconfigurations_by before) simulation.after
       (subst (ArePairs net simulation.cold.sent daemons' daemons (all_handed before) (reconfigurations_by before) simulation.after) (sym (append-nil all))
-      (pairs net before daemons history start end daemons' go simulation.cold.sent (reconfigurations_by before) simulation.after simulation.agrees).are) in
+      pairing.are) in
       let agrees = agrees_end net simulation.cold.sent x.now daemons' (all_handed before ++ all_handed (deeds_of all)) x.changed w' x.are.0 x.are.1 in
       let node = there_is net router low in
       let h = agrees.states router node.0 node.1 in

@@ -19,12 +19,13 @@ use Rattle.ripngd_engine.specs.Run.{Machine}
 use Rattle.ripngd_networks.specs.Daemons.{Listen, Tick, Happened, Lives, own_deeds}
 use Rattle.ripngd_networks.specs.Links.{handed_by, all_handed, IsCopyOf}
 use Rattle.ripngd_networks.specs.OnTime.{AreOnTime, Comes, Dated, GoOn, Gives, HappenFrom, IsNumbered, IsRegular, KeepsTime, undated}
-use Rattle.ripngd_networks.proofs.Deeds.{Agrees, IsEventOf, IsStateOf, IsStepOf, get_behind, world_after}
+use Rattle.ripngd_networks.proofs.Deeds.{Agrees, IsEventOf, IsStateOf, IsStepOf, world_after}
 use Rattle.ripngd_networks.proofs.Events.{IsGift, IsOwnTick, gift_of, plain_event, tick_of}
 use Rattle.ripngd_networks.proofs.Paced.{ComeInTime, IsPaced, IsSetBy, IsTickAt}
 use Rattle.ripngd_networks.proofs.Pairs.{IsHalved, IsOld, IsSplit, Paired, all_handed_on, all_timed, dated_of, dated_on, deeds_of, halve, happen_on, history_of, old_deeds, split_filter, stepped, steps_are, timed, timed_when, undated_on}
-use Rattle.ripngd_networks.proofs.Places.{IsLocated, IsPlace, IsUp, count_by_then, dated_split, delivered_here, happen_first, in_history, located, pairs, place_at, plain_here, sent_by_then, takes, tick_here, timed_is, timed_split, up_here}
+use Rattle.ripngd_networks.proofs.Places.{IsLocated, IsPlace, IsUp, after_all, count_by_then, dated_split, delivered_here, happen_first, in_history, located, pairs, place_at, plain_here, sent_by_then, takes, tick_here, timed_is, timed_split, up_here}
 use Rattle.ripngd_networks.proofs.Running.{there_is}
+use Rattle.ripngd_networks.proofs.Sends.{get_behind}
 
 -- what stands behind a first part
 behind_part : (xs ys : List Sent) (i : ℕ) (x : Sent) → length xs ≤ i → slice_get (xs ++ ys) i ≡ Some x → (k : ℕ) × (i ≡ length xs + k) × (slice_get ys k ≡ Some x)
@@ -54,7 +55,7 @@ module _ (net : Network) (before : List Happened) (daemons : ℕ → Option Mach
     pub xs : List Paired
     pub p : Paired
     pub ys : List Paired
-    pub parts : (pairs net before daemons history start end daemons' go first done w agrees).pairs ≡ xs ++ p ∷ ys
+    pub parts : all ≡ xs ++ p ∷ ys
     pub before_is : history_of xs ≡ b
     pub step_is : p.step ≡ Some t.step
     pub at_is : p.dated.at ≡ t.at
@@ -63,7 +64,7 @@ module _ (net : Network) (before : List Happened) (daemons : ℕ → Option Mach
     pub happens : Happens net (reached w (untimed (history_of xs))) t.step.event t.step.answer t.step.after
     pub event : IsEventOf (length first) p.dated.happened.router p.dated.happened.deed.act p.dated.number p.dated.happened.deed.trace t.step.event t.step.answer
 
-  step_there : (b : List Timed) (t : Timed) (a : List Timed) → history_of (pairs net before daemons history start end daemons' go first done w agrees).pairs ≡ b ++ t ∷ a → IsStepThere b t a
+  step_there : (b : List Timed) (t : Timed) (a : List Timed) → history_of all ≡ b ++ t ∷ a → IsStepThere b t a
   step_there b t a is =
       let q = split_filter Paired Timed timed all b t a is in
       let ti = timed_is q.here t q.here_is in
@@ -85,7 +86,7 @@ module _ (net : Network) (before : List Happened) (daemons : ℕ → Option Mach
 
   -- ---- clocks
 
-  pub moments : (t : Timed) → Contains (history_of (pairs net before daemons history start end daemons' go first done w agrees).pairs) t
+  pub moments : (t : Timed) → Contains (history_of all) t
       → ((go.clocks (router_of t.step.event)).behind + moment_of t.step.event ≤ t.at) × (t.at < (go.clocks (router_of t.step.event)).behind + moment_of t.step.event + 500)
   moments t c =
       let s = cut_here (history_of all) t (at_from_contains (history_of all) t c) in
@@ -106,7 +107,7 @@ module _ (net : Network) (before : List Happened) (daemons : ℕ → Option Mach
   -- ---- daemons tick
 
   pub ticks : (router from : ℕ) → router < length net → start ≤ from → from + 500 ≤ end
-      → IsTickAt (history_of (pairs net before daemons history start end daemons' go first done w agrees).pairs) router from (from + 500)
+      → IsTickAt (history_of all) router from (from + 500)
   ticks router from low begun room =
       let t = go.ticks router from low begun room in
       let l = located all t.tick (subst (λ ts. Contains ts t.tick) (sym (pairs net before daemons history start end daemons' go first done w agrees).dated_are) t.stands) in
@@ -141,6 +142,15 @@ module _ (net : Network) (before : List Happened) (daemons : ℕ → Option Mach
         wound = subst (λ (s : State). ((go.clocks router).behind + s.last ≤ start) × (s.regular ≤ s.last + 45_000)) (sym same)
             ((go.clocks router).before up.at_first first_is, wound router up.at_first low first_is);
       }
+
+  -- and at the end
+  pub up_then : start + 500 ≤ end → (router : ℕ) → router < length net → (m : Machine) × (daemons' router ≡ Some m)
+  up_then room router low =
+      let t = go.ticks router start low (le_refl start) room in
+      let l = located all t.tick (subst (λ ts. Contains ts t.tick) (sym (pairs net before daemons history start end daemons' go first done w agrees).dated_are) t.stands) in
+      let k = place_at net before daemons history start end daemons' go first done w agrees l.before l.here l.after l.parts in
+      let up = after_all net before daemons history start end daemons' go first done w agrees l.before l.here l.after l.parts k in
+      (up.end, ap daemons' (sym (ap (λ (d : Dated). d.happened.router) l.dated_is ∙ t.router_is)) ∙ up.is_up)
 
   -- ---- links
 
@@ -207,7 +217,7 @@ module _ (net : Network) (before : List Happened) (daemons : ℕ → Option Mach
         delivery : IsPromptDelivery a (t.at + 13_000) datagram other iface
         delivery =
             let l = located k.ys comes.given comes.stands in
-            let parts : (pairs net before daemons history start end daemons' go first done w agrees).pairs ≡ (k.xs ++ k.p ∷ l.before) ++ l.here ∷ l.after =
+            let parts : all ≡ (k.xs ++ k.p ∷ l.before) ++ l.here ∷ l.after =
             k.parts ∙ ap (λ zs. k.xs ++ k.p ∷ zs) l.parts ∙ sym (append_assoc k.xs (k.p ∷ l.before) (l.here ∷ l.after)) in
             let gives = subst (λ (z : Dated). Gives z other comes.datagram (length (all_handed (before ++ undated (dated_of k.xs))) + slot.0)) (sym l.dated_is) comes.gives in
             let g = delivered_here net before daemons history start end daemons' go first done w agrees (k.xs ++ k.p ∷ l.before) l.here l.after parts comes.datagram
@@ -226,14 +236,14 @@ module _ (net : Network) (before : List Happened) (daemons : ℕ → Option Mach
             same_delivery : (i j r s f g n : ℕ) → i ≡ j → r ≡ s → f ≡ g → world.Deliver i r f n ≡ world.Deliver j s g n
             same_delivery i j r s f g n e h l = cc
 
-    pub updates : (b : List Timed) (t : Timed) (a : List Timed) → history_of (pairs net before daemons history start end daemons' go first done w agrees).pairs ≡ b ++ t ∷ a
+    pub updates : (b : List Timed) (t : Timed) (a : List Timed) → history_of all ≡ b ++ t ∷ a
         → (router now word : ℕ) → t.step.event ≡ world.Tick router now word → IsDueTick (reached w (untimed b)) (world.Tick router now word) → t.at + 13_000 ≤ end
         → ComeInTime net (reached w (untimed b)) t a
     updates b t a parts router now word ticked due room =
         λ datagram other iface d late sent_is linked elsewhere. delivery b t a (step_there b t a parts) router now word ticked due room datagram other iface d late sent_is linked elsewhere
 
     -- nothing old comes
-    pub recent : (old new : List Timed) (t : Timed) (a : List Timed) → history_of (pairs net before daemons history start end daemons' go first done w agrees).pairs ≡ (old ++ new) ++ t ∷ a
+    pub recent : (old new : List Timed) (t : Timed) (a : List Timed) → history_of all ≡ (old ++ new) ++ t ∷ a
         → start + 13_000 ≤ t.at → AllByRecursion (λ s. s.at + 13_000 ≤ t.at) old
         → (datagram router iface now : ℕ) → t.step.event ≡ world.Deliver datagram router iface now → length (reached w (untimed old)).sent ≤ datagram
     recent old new t a parts far long_ago datagram router iface now event = by (step_there (old ++ new) t a parts)
@@ -251,7 +261,7 @@ module _ (net : Network) (before : List Happened) (daemons : ℕ → Option Mach
             (split ∙ ap (λ ts. ts ++ k.p.dated ∷ dated_of k.ys) (ap dated_of o.parts ∙ dated_on o.before o.after))
             (subst (λ n. start + 13_000 ≤ n) (sym k.at_is) far)
             (subst (λ n. AllByRecursion (λ (s : Dated). s.at + 13_000 ≤ n) (dated_of o.before)) (sym k.at_is) o.old_are) g.place g.number_is in
-            let whole : (pairs net before daemons history start end daemons' go first done w agrees).pairs ≡ o.before ++ (o.after ++ k.p ∷ k.ys) =
+            let whole : all ≡ o.before ++ (o.after ++ k.p ∷ k.ys) =
             k.parts ∙ ap (λ zs. zs ++ k.p ∷ k.ys) o.parts ∙ append_assoc o.before o.after (k.p ∷ k.ys) in
             let count = ap (λ bs. length (reached w (untimed bs)).sent) (sym o.before_is) ∙ count_by_then net before daemons history start end daemons' go first done w agrees o.before (o.after ++ k.p ∷ k.ys) whole in
             enough (length (reached w (untimed old)).sent) (length first) (length (all_handed (before ++ deeds_of o.before))) g.place datagram count g.datagram_is le

@@ -14,10 +14,11 @@ use Rattle.ripngd_engine.specs.Run.{Machine}
 use Rattle.ripngd_networks.specs.Daemons.{Listen, Happened}
 use Rattle.ripngd_networks.specs.Links.{IsCopyOf, all_handed}
 use Rattle.ripngd_networks.specs.OnTime.{AreOnTime, Dated, GoOn, IsNumbered, undated}
-use Rattle.ripngd_networks.proofs.Deeds.{Agrees, IsEventOf, IsStepOf, get_behind}
+use Rattle.ripngd_networks.proofs.Deeds.{Agrees, IsEventOf, IsStepOf}
 use Rattle.ripngd_networks.proofs.Events.{IsGift, gift_of}
 use Rattle.ripngd_networks.proofs.Pairs.{IsHalved, IsSplit, Paired, all_handed_on, dated_of, dated_on, deeds_of, halve, history_of, split_filter, stepped, steps_are, undated_on}
 use Rattle.ripngd_networks.proofs.Places.{IsPlace, count_by_then, dated_split, pairs, place_at, sent_by_then}
+use Rattle.ripngd_networks.proofs.Sends.{get_behind}
 
 module _ (net : Network) (before : List Happened) (daemons : ℕ → Option Machine) (history : List Dated) (start end : ℕ) (daemons' : ℕ → Option Machine)
     (go : GoOn net before daemons history start end daemons') (first : List Sent) (done : List (ℕ × Change)) (w : World) (agrees : Agrees net first daemons (all_handed before) done w) where
@@ -25,16 +26,16 @@ module _ (net : Network) (before : List Happened) (daemons : ℕ → Option Mach
   all = (pairs net before daemons history start end daemons' go first done w agrees).pairs
 
   abbrev last : World
-  last = reached w (untimed (history_of (pairs net before daemons history start end daemons' go first done w agrees).pairs))
+  last = reached w (untimed (history_of all))
 
   -- a delivery, what it delivers, and from where
   record IsDelivery (p : Paired) (s : Step) (datagram router iface : ℕ) : Type 0 where
     pub gift : IsGift (length first) p.dated.happened.router p.dated.happened.deed.act p.dated.number datagram router iface
     pub sent : Sent
-    pub sent_is : slice_get (reached w (untimed (history_of (pairs net before daemons history start end daemons' go first done w agrees).pairs))).sent datagram ≡ Some sent
+    pub sent_is : slice_get (reached w (untimed (history_of all))).sent datagram ≡ Some sent
     pub source : gift.received.source ≡ address_at net sent.router sent.iface
 
-  delivery : (xs : List Paired) (p : Paired) (ys : List Paired) → (pairs net before daemons history start end daemons' go first done w agrees).pairs ≡ xs ++ p ∷ ys
+  delivery : (xs : List Paired) (p : Paired) (ys : List Paired) → all ≡ xs ++ p ∷ ys
       → (s : Step) → p.step ≡ Some s → (datagram router iface now : ℕ) → s.event ≡ world.Deliver datagram router iface now → IsDelivery p s datagram router iface
   delivery xs p ys parts s is datagram router iface now event =
       by (place_at net before daemons history start end daemons' go first done w agrees xs p ys parts)
@@ -47,7 +48,7 @@ module _ (net : Network) (before : List Happened) (daemons : ℕ → Option Mach
           let copy : IsNumbered net (all_handed before ++ all_handed (deeds_of xs)) h.router (config_of k.pair.node) (Listen (Gave g.received)) (Some g.place) =
           subst (λ o. IsNumbered net (all_handed before ++ all_handed (deeds_of xs)) h.router (config_of k.pair.node) (Listen (Gave g.received)) o) g.number_is
           (subst (λ a. IsNumbered net (all_handed before ++ all_handed (deeds_of xs)) h.router (config_of k.pair.node) a p.dated.number) g.gave k.pair.given) in
-          let whole : (reached w (untimed (history_of (pairs net before daemons history start end daemons' go first done w agrees).pairs))).sent ≡ first ++ ((all_handed before ++ all_handed (deeds_of xs)) ++ all_handed (deeds_of (p ∷ ys))) =
+          let whole : (reached w (untimed (history_of all))).sent ≡ first ++ ((all_handed before ++ all_handed (deeds_of xs)) ++ all_handed (deeds_of (p ∷ ys))) =
           sent_by_then net before daemons history start end daemons' go first done w agrees all [] (sym (append-nil all))
           ∙ ap (λ ds. first ++ ds) (ap (λ ps. all_handed (before ++ deeds_of ps)) parts ∙ handed_parts xs (p ∷ ys)) in
           record {
@@ -65,8 +66,8 @@ module _ (net : Network) (before : List Happened) (daemons : ℕ → Option Mach
               ∙ sym (append_assoc (all_handed before) (all_handed (deeds_of cs)) (all_handed (deeds_of bs)))
 
   pub in_order : AreOnTime net before daemons history start end
-      → IsOvertaken (IsCount w (untimed (history_of (pairs net before daemons history start end daemons' go first done w agrees).pairs))) w
-      (untimed (history_of (pairs net before daemons history start end daemons' go first done w agrees).pairs)) → ⊥
+      → IsOvertaken (IsCount w (untimed (history_of all))) w
+      (untimed (history_of all)) → ⊥
   in_order on_time o =
       let qa = split_filter Paired Step stepped all o.before o.later (o.between ++ o.earlier ∷ o.after) (sym (steps_are all) ∙ o.parts ∙ append_assoc o.before (o.later ∷ o.between) (o.earlier ∷ o.after)) in
       let qb = split_filter Paired Step stepped qa.after o.between o.earlier o.after qa.after_is in
@@ -75,7 +76,7 @@ module _ (net : Network) (before : List Happened) (daemons : ℕ → Option Mach
       (delivery (qa.before ++ qa.here ∷ qb.before) qb.here qb.after
       (qa.parts ∙ ap (λ zs. qa.before ++ qa.here ∷ zs) qb.parts ∙ sym (append_assoc qa.before (qa.here ∷ qb.before) (qb.here ∷ qb.after))) o.earlier qb.here_is o.old o.router o.iface o.moment o.second)
     where
-      count : IsHalved Paired Step stepped (pairs net before daemons history start end daemons' go first done w agrees).pairs o.counted.before o.counted.after
+      count : IsHalved Paired Step stepped all o.counted.before o.counted.after
       count = halve Paired Step stepped all o.counted.before o.counted.after (sym (steps_are all) ∙ o.counted.parts)
 
       count_is : o.count ≡ length first + length (all_handed (before ++ deeds_of count.before))
@@ -89,7 +90,7 @@ module _ (net : Network) (before : List Happened) (daemons : ℕ → Option Mach
       no : (c n d k l : ℕ) → n ≡ c + l → d ≡ c + k → n ≤ d → k < l → ⊥
       no c n d k l e f g h = omega arith
 
-      both : (xs : List Paired) (s : Paired) (ys : List Paired) (t : Paired) (zs : List Paired) → (pairs net before daemons history start end daemons' go first done w agrees).pairs ≡ xs ++ s ∷ (ys ++ t ∷ zs)
+      both : (xs : List Paired) (s : Paired) (ys : List Paired) (t : Paired) (zs : List Paired) → all ≡ xs ++ s ∷ (ys ++ t ∷ zs)
           → IsDelivery s o.later o.new o.router o.iface → IsDelivery t o.earlier o.old o.router o.iface → ⊥
       both xs s ys t zs parts a b =
           let one = Some-same a.sent o.new_sent (sym a.sent_is ∙ o.new_is) in

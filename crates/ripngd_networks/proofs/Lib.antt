@@ -2,6 +2,7 @@ mod Addresses
 mod Lives
 mod Following
 mod ColdWorlds
+mod Sends
 mod Deeds
 mod Running
 mod Truth

@@ -26,7 +26,7 @@ use Rattle.ripngd_networks.specs.Links.{LiveOn, handed_by, all_handed}
 use Rattle.ripngd_networks.specs.OnTime.{Dated, GoOn, HappenFrom, IsPlain, undated}
 use Rattle.ripngd_networks.proofs.Deeds.{Agrees, HasLost, IsHeard, IsEventOf, IsIdle, IsStepOf, change_done, with_daemon, world_after}
 use Rattle.ripngd_networks.proofs.Events.{IsPlainEvent, plain_event}
-use Rattle.ripngd_networks.proofs.Lossless.{ArePlain, does_from, lives_from, lives_to, none_lost, plain_own}
+use Rattle.ripngd_networks.proofs.Lossless.{ArePlain, IsAfter, does_from, lives_from, lives_to, none_lost, plain_own}
 use Rattle.ripngd_networks.proofs.Pairs.{ArePairs, IsPair, IsPairing, Paired, agrees_here, all_handed_on, dated_of, dated_on, deeds_of, filter_on, history_of, pairing, point, timed, timed_when, undated_on}
 
 -- ---- lists
@@ -201,14 +201,18 @@ module _ (net : Network) (before : List Happened) (daemons : ℕ → Option Mach
         let was = lives_from (config_of k.pair.node) (own_deeds router (deeds_of xs)) (daemons router) now.was (plain_before router) lived in
         record { daemon = now.was; daemon_is = now.was_up; lived = lived; at_first = was.was; first_is = was.was_up; fewer = was.fewer }
 
+    -- what it is at the end
+    pub after_all : (k : IsPlace xs p ys) → IsAfter k.pair.after (daemons' router)
+    after_all k =
+        lives_to (config_of k.pair.node) (own_deeds router (deeds_of ys)) k.pair.after (daemons' router) (plain_after router)
+        (subst (λ b. Lives (config_of k.pair.node) (cond b (Some k.pair.after) (k.now router)) (own_deeds router (deeds_of ys)) (daemons' router)) (eq-eqb router router refl)
+        (k.pair.later router k.pair.node k.pair.node_is))
+
     -- its step was not lost
     not_lost : (k : IsPlace xs p ys) → HasLost (k.now router) k.pair.after → ⊥
     not_lost k lost =
         let up = up_here k in
-        let later : Lives (config_of k.pair.node) (Some k.pair.after) (own_deeds router (deeds_of ys)) (daemons' router) =
-        subst (λ b. Lives (config_of k.pair.node) (cond b (Some k.pair.after) (k.now router)) (own_deeds router (deeds_of ys)) (daemons' router)) (eq-eqb router router refl)
-        (k.pair.later router k.pair.node k.pair.node_is) in
-        let ended = lives_to (config_of k.pair.node) (own_deeds router (deeds_of ys)) k.pair.after (daemons' router) (plain_after router) later in
+        let ended = after_all k in
         let counts = go.lossless router up.at_first ended.end (is_there net router k.pair.node k.pair.node_is) up.first_is ended.is_up in
         none_lost up.at_first.lost_memory up.daemon.lost_memory k.pair.after.lost_memory ended.end.lost_memory (2 ^ 64 - 1) up.fewer
         (subst (λ o. HasLost o k.pair.after) up.daemon_is lost) ended.more counts.0 counts.1

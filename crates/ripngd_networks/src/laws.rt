@@ -85,6 +85,10 @@ pub fn daemons_heal()
         → GoOn net before daemons history start stop daemons' → AreOnTime net before daemons history start stop → start + 28 * 60_000 ≤ stop
         → (router : ℕ) (m : Machine) → router < length net → daemons' router ≡ Some m → m.ended ≡ false
         → ForwardsLeast (network_now (past_of_daemons net before)) router m.fib }
+    ensures up { (net : Network) (before : List Happened) (daemons daemons' : ℕ → Option Machine) (history : List Dated) (start stop : ℕ)
+        → IsNetwork net → IsNeverQuiet net → HaveRun net before daemons → FitsTablesSince (past_of_daemons net before)
+        → GoOn net before daemons history start stop daemons' → AreOnTime net before daemons history start stop → start + 28 * 60_000 ≤ stop
+        → (router : ℕ) → router < length net → (m : Machine) × (daemons' router ≡ Some m) }
     ensures stays { (net : Network) (before : List Happened) (daemons now daemons' : ℕ → Option Machine) (early late : List Dated) (start until stop : ℕ)
         → IsNetwork net → IsNeverQuiet net → HaveRun net before daemons → FitsTablesSince (past_of_daemons net before)
         → GoOn net before daemons (early ++ late) start stop daemons' → AreOnTime net before daemons (early ++ late) start stop
