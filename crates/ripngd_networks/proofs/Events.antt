@@ -1,5 +1,5 @@
 -- What the event of a deed says of the deed.
-use Rattle.std.proofs.Common.{◌≡◌, ◌≢◌, ◌⊎◌, inl, inr, ℕ, ◌+◌, List, [], ◌∷◌, All, Option, Some, None, refl, ap, sym, subst, ◌∙◌}
+use Rattle.std.proofs.Common.{◌≡◌, ◌⊎◌, inl, inr, ℕ, ◌+◌, [], ◌∷◌, Option, Some, None, refl, ap, sym, subst, ◌∙◌}
 use Rattle.router_core.specs.declared.answer.Answer.{Answer}
 use Rattle.ripng_world.specs.Rounds.{moment_of, router_of}
 use Rattle.ripng_world.specs.World as world
@@ -9,7 +9,7 @@ use Rattle.ripngd_engine.specs.Link.{Datagram, Gave, Silent, RecvFailed, Handed}
 use Rattle.ripngd_engine.specs.Run.{Trace, arrival}
 use Rattle.ripngd_networks.specs.Daemons.{Act, Start, Listen, Tick, Reconfigure, Refuse}
 use Rattle.ripngd_networks.specs.OnTime.{IsPlain}
-use Rattle.ripngd_networks.proofs.Deeds.{IsEventOf, IsHeard, IsTicked}
+use Rattle.ripngd_networks.proofs.Deeds.{IsEventOf, IsHeard}
 
 -- the event of a plain deed is ordinary, of its router, and at its moment; and it noted nothing, or a watcher was told its notes
 pub record IsPlainEvent (router : ℕ) (trace : Trace) (e : Event) (answer : Answer) : Type 0 where

@@ -1,5 +1,5 @@
 -- Networks of daemons heal: what they did on time is a paced history, which heals the model.
-use Rattle.std.proofs.Common.{◌≡◌, ℕ, ◌+◌, ◌*◌, ◌<◌, ◌≤◌, Bool, true, false, cond, nat_lt, List, [], ◌∷◌, ◌++◌, length, Option, Some, None, option_and_then, slice_get, refl, ap, sym, subst, ◌∙◌, append-nil, arith}
+use Rattle.std.proofs.Common.{◌≡◌, ℕ, ◌+◌, ◌*◌, ◌<◌, ◌≤◌, Bool, true, false, cond, nat_lt, List, [], ◌++◌, length, Option, Some, None, option_and_then, refl, ap, sym, subst, ◌∙◌, append-nil, arith}
 use Rattle.std.specs.FinMap as map_of
 use Rattle.std.specs.List.{AllByRecursion}
 use Rattle.std.proofs.lemmas.Bool.{lt-ltb, ltb-true}
@@ -20,9 +20,9 @@ use Rattle.ripng_phases.specs.Phases.{reached}
 use Rattle.ripng_phases.proofs.Settled.{takes_keep}
 use Rattle.ripngd_engine.specs.Run.{Machine}
 use Rattle.ripngd_networks.specs.Daemons.{Happened, Lives, own_deeds, reconfigurations_by}
-use Rattle.ripngd_networks.specs.Links.{LiveOn, HaveRun, all_handed, past_of_daemons}
+use Rattle.ripngd_networks.specs.Links.{HaveRun, all_handed, past_of_daemons}
 use Rattle.ripngd_networks.specs.OnTime.{AreOnTime, Dated, ForwardsLeast, GoOn, HappenFrom, undated}
-use Rattle.ripngd_networks.proofs.Deeds.{Agrees, IsStateOf}
+use Rattle.ripngd_networks.proofs.Deeds.{IsStateOf}
 use Rattle.ripngd_networks.proofs.Following.{Follows, IfUp, life_follows}
 use Rattle.ripngd_networks.proofs.History.{moments, recent, set, ticks, up_then, updates}
 use Rattle.ripngd_networks.proofs.InOrder.{in_order}

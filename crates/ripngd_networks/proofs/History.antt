@@ -1,29 +1,27 @@
 -- What daemons did by a true clock is a paced history of the model.
-use Rattle.std.proofs.Common.{◌≡◌, ◌≢◌, ◌⊎◌, inl, inr, ℕ, zero, suc, ◌+◌, ◌-◌, max, ◌<◌, ◌≤◌, List, [], ◌∷◌, ◌++◌, filter_map, length, Contains, Option, Some, None, slice_get, refl, ap, ap₂, sym, subst, ◌∙◌, append_assoc, append-nil, arith, length-append, le_refl, le_trans}
+use Rattle.std.proofs.Common.{◌≡◌, ◌≢◌, ◌⊎◌, ℕ, zero, suc, ◌+◌, ◌-◌, max, ◌<◌, ◌≤◌, List, [], ◌∷◌, ◌++◌, length, Contains, Option, Some, slice_get, refl, ap, sym, subst, ◌∙◌, append_assoc, arith, length-append, le_refl}
 use Rattle.std.specs.List.{AllByRecursion}
 use Rattle.route_table.proofs.TableLaws.{Some-same, None-Some}
 use Rattle.router_core.specs.Machine.{State}
 use Rattle.router_core.specs.declared.reconfiguring.Change.{Change}
 use Rattle.ripng_world.specs.declared.sent.Sent.{Sent}
-use Rattle.ripng_world.specs.Network.{Network, AreLinked, config_of}
+use Rattle.ripng_world.specs.Network.{Network, AreLinked}
 use Rattle.ripng_world.specs.Rounds.{IsDueTick, moment_of, router_of}
 use Rattle.ripng_world.specs.World as world
-use Rattle.ripng_world.specs.World.{World, Happens, address_at}
-use Rattle.ripng_world.proofs.Members.{At, at_from_contains, at_right, get_left}
-use Rattle.ripng_phases.specs.Minutes.{Timed, AreFrom, IsPromptDelivery, untimed}
-use Rattle.ripng_phases.specs.Phases.{Step, Takes, IsCount, IsOvertaken, reached}
+use Rattle.ripng_world.specs.World.{World, Happens}
+use Rattle.ripng_world.proofs.Members.{At, at_from_contains}
+use Rattle.ripng_phases.specs.Minutes.{Timed, IsPromptDelivery, untimed}
+use Rattle.ripng_phases.specs.Phases.{reached}
 use Rattle.ripng_phases.proofs.Along.{contains_from}
-use Rattle.ripng_phases.proofs.Cutting.{AreBefore}
-use Rattle.ripngd_engine.specs.Link.{Datagram, Gave}
 use Rattle.ripngd_engine.specs.Run.{Machine}
-use Rattle.ripngd_networks.specs.Daemons.{Listen, Tick, Happened, Lives, own_deeds}
-use Rattle.ripngd_networks.specs.Links.{handed_by, all_handed, IsCopyOf}
-use Rattle.ripngd_networks.specs.OnTime.{AreOnTime, Comes, Dated, GoOn, Gives, HappenFrom, IsNumbered, IsRegular, KeepsTime, undated}
+use Rattle.ripngd_networks.specs.Daemons.{Happened}
+use Rattle.ripngd_networks.specs.Links.{handed_by, all_handed}
+use Rattle.ripngd_networks.specs.OnTime.{AreOnTime, Comes, Dated, GoOn, Gives, HappenFrom, IsRegular, undated}
 use Rattle.ripngd_networks.proofs.Deeds.{Agrees, IsEventOf, IsStateOf, IsStepOf, world_after}
-use Rattle.ripngd_networks.proofs.Events.{IsGift, IsOwnTick, gift_of, plain_event, tick_of}
-use Rattle.ripngd_networks.proofs.Paced.{ComeInTime, IsPaced, IsSetBy, IsTickAt}
-use Rattle.ripngd_networks.proofs.Pairs.{IsHalved, IsOld, IsSplit, Paired, all_handed_on, all_timed, dated_of, dated_on, deeds_of, halve, happen_on, history_of, old_deeds, split_filter, stepped, steps_are, timed, timed_when, undated_on}
-use Rattle.ripngd_networks.proofs.Places.{IsLocated, IsPlace, IsUp, after_all, count_by_then, dated_split, delivered_here, happen_first, in_history, located, pairs, place_at, plain_here, sent_by_then, takes, tick_here, timed_is, timed_split, up_here}
+use Rattle.ripngd_networks.proofs.Events.{IsOwnTick, gift_of, plain_event, tick_of}
+use Rattle.ripngd_networks.proofs.Paced.{ComeInTime, IsSetBy, IsTickAt}
+use Rattle.ripngd_networks.proofs.Pairs.{Paired, all_handed_on, dated_of, dated_on, deeds_of, history_of, old_deeds, split_filter, timed, timed_when}
+use Rattle.ripngd_networks.proofs.Places.{IsPlace, after_all, count_by_then, dated_split, delivered_here, happen_first, in_history, located, pairs, place_at, plain_here, tick_here, timed_is, timed_split, up_here}
 use Rattle.ripngd_networks.proofs.Running.{there_is}
 use Rattle.ripngd_networks.proofs.Sends.{get_behind}
 

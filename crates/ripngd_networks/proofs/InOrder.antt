@@ -1,5 +1,5 @@
 -- Links that keep order keep it in the model.
-use Rattle.std.proofs.Common.{◌≡◌, ℕ, ◌+◌, ◌<◌, ◌≤◌, List, [], ◌∷◌, ◌++◌, filter_map, length, Option, Some, slice_get, refl, ap, ap₂, sym, subst, ◌∙◌, append_assoc, append-nil, arith}
+use Rattle.std.proofs.Common.{◌≡◌, ℕ, ◌+◌, ◌<◌, ◌≤◌, List, [], ◌∷◌, ◌++◌, length, Option, Some, slice_get, ap, ap₂, sym, subst, ◌∙◌, append_assoc, append-nil, arith}
 use Rattle.route_table.proofs.TableLaws.{Some-same}
 use Rattle.router_core.specs.declared.reconfiguring.Change.{Change}
 use Rattle.ripng_world.specs.declared.sent.Sent.{Sent}
@@ -9,14 +9,14 @@ use Rattle.ripng_world.specs.World.{World, address_at}
 use Rattle.ripng_world.proofs.Members.{get_left}
 use Rattle.ripng_phases.specs.Minutes.{untimed}
 use Rattle.ripng_phases.specs.Phases.{Step, IsCount, IsOvertaken, reached}
-use Rattle.ripngd_engine.specs.Link.{Datagram, Gave}
+use Rattle.ripngd_engine.specs.Link.{Gave}
 use Rattle.ripngd_engine.specs.Run.{Machine}
 use Rattle.ripngd_networks.specs.Daemons.{Listen, Happened}
-use Rattle.ripngd_networks.specs.Links.{IsCopyOf, all_handed}
+use Rattle.ripngd_networks.specs.Links.{all_handed}
 use Rattle.ripngd_networks.specs.OnTime.{AreOnTime, Dated, GoOn, IsNumbered, undated}
-use Rattle.ripngd_networks.proofs.Deeds.{Agrees, IsEventOf, IsStepOf}
+use Rattle.ripngd_networks.proofs.Deeds.{Agrees, IsStepOf}
 use Rattle.ripngd_networks.proofs.Events.{IsGift, gift_of}
-use Rattle.ripngd_networks.proofs.Pairs.{IsHalved, IsSplit, Paired, all_handed_on, dated_of, dated_on, deeds_of, halve, history_of, split_filter, stepped, steps_are, undated_on}
+use Rattle.ripngd_networks.proofs.Pairs.{IsHalved, Paired, all_handed_on, dated_of, dated_on, deeds_of, halve, history_of, split_filter, stepped, steps_are, undated_on}
 use Rattle.ripngd_networks.proofs.Places.{IsPlace, count_by_then, dated_split, pairs, place_at, sent_by_then}
 use Rattle.ripngd_networks.proofs.Sends.{get_behind}
 

@@ -1,12 +1,11 @@
 -- A daemon that counts no more lost steps at the end than at first has lost none.
-use Rattle.std.proofs.Common.{◌≡◌, inl, inr, ℕ, ◌+◌, ◌<◌, ◌≤◌, ◌==◌, max, min, Bool, true, false, cond, List, [], ◌∷◌, ◌++◌, filter_map, Option, Some, None, slice_get, refl, ap, sym, subst, ◌∙◌, arith, le_refl, le_trans}
+use Rattle.std.proofs.Common.{◌≡◌, inl, inr, ℕ, ◌+◌, ◌<◌, ◌≤◌, ◌==◌, max, min, Bool, true, false, cond, List, [], ◌∷◌, Option, Some, None, refl, ap, sym, subst, arith, le_refl, le_trans}
 use Rattle.std.specs.List.{AllByRecursion, cons_option}
-use Rattle.std.proofs.lemmas.Bool.{eq-eqb}
 use Rattle.route_table.proofs.TableLaws.{Some-same}
 use Rattle.router_core.specs.Config.{Config}
 use Rattle.router_core.specs.Machine.{Happening, Arrives, Ticks}
 use Rattle.ripngd_engine.specs.Link.{Call, Gave, Silent, RecvFailed, Handed}
-use Rattle.ripngd_engine.specs.Run.{Machine, Trace, Step, arrival, counted}
+use Rattle.ripngd_engine.specs.Run.{Machine, Trace, Step, arrival}
 use Rattle.ripngd_networks.specs.Daemons.{Act, Start, Listen, Tick, Reconfigure, Refuse, Deed, Happened, Does, Hears, Lives, own_deeds}
 use Rattle.ripngd_networks.specs.OnTime.{IsPlain}
 

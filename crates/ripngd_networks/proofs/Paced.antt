@@ -1,18 +1,17 @@
 -- Histories of the model in which every router ticks every half second by a clock that keeps time: its regular updates come in time.
-use Rattle.std.proofs.Common.{◌≡◌, ◌≢◌, ◌⊎◌, inl, inr, ℕ, ◌+◌, max, ◌<◌, ◌≤◌, List, [], ◌∷◌, ◌++◌, length, Contains, Option, Some, slice_get, refl, ap, sym, subst, ◌∙◌, arith, append_assoc, le_refl, le_trans}
+use Rattle.std.proofs.Common.{◌≡◌, ◌≢◌, ◌⊎◌, inl, inr, ℕ, ◌+◌, max, ◌<◌, ◌≤◌, List, [], ◌∷◌, ◌++◌, length, Contains, Some, slice_get, refl, ap, sym, subst, ◌∙◌, arith, append_assoc, le_refl, le_trans}
 use Rattle.std.specs.List.{AllByRecursion}
-use Rattle.route_table.proofs.TableLaws.{Some-same}
 use Rattle.router_core.specs.Machine.{State}
 use Rattle.ripng_world.specs.Network.{Network, AreLinked}
 use Rattle.ripng_world.specs.Rounds.{IsDueTick, moment_of, router_of}
 use Rattle.ripng_world.specs.World.{World, Event, Deliver, Tick}
 use Rattle.ripng_world.specs.declared.sent.Sent.{Sent}
-use Rattle.ripng_world.proofs.Members.{At, at_from_contains, at_left, at_right}
+use Rattle.ripng_world.proofs.Members.{At, at_right}
 use Rattle.ripng_phases.specs.Minutes.{Timed, AreFrom, IsPromptDelivery, untimed}
-use Rattle.ripng_phases.specs.Phases.{Step, Takes, IsCount, IsOvertaken, IsOrdinary, reached}
+use Rattle.ripng_phases.specs.Phases.{Takes, IsCount, IsOvertaken, reached}
 use Rattle.ripng_phases.proofs.Along.{contains_from}
-use Rattle.ripng_phases.proofs.Cutting.{AreBefore, AreNotBefore, IsCut, untimed_on, from_all, cut_at, all_here, in_early, in_late}
-use Rattle.ripng_phases.proofs.Runs.{takes_first, takes_rest, takes_reached, reached_on}
+use Rattle.ripng_phases.proofs.Cutting.{AreBefore, IsCut, untimed_on, from_all, cut_at, all_here, in_early, in_late}
+use Rattle.ripng_phases.proofs.Runs.{takes_first, takes_rest, reached_on}
 use Rattle.ripngd_networks.proofs.Winding.{IsWoundBy, IsStateThen, state_then}
 
 -- a router ticks, from one moment on and before another

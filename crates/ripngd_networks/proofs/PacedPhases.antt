@@ -1,5 +1,5 @@
 -- A paced history, cut each 59 seconds, is phases, and so it heals the network in 28 minutes.
-use Rattle.std.proofs.Common.{◌≡◌, ◌⊎◌, inl, inr, ℕ, zero, suc, ◌+◌, ◌-◌, ◌*◌, ◌/◌, ◌%◌, ◌<◌, ◌≤◌, List, [], ◌∷◌, ◌++◌, length, Contains, refl, ap, sym, subst, ◌∙◌, arith, append_assoc, append-nil, le_refl}
+use Rattle.std.proofs.Common.{◌≡◌, inl, inr, ℕ, zero, suc, ◌+◌, ◌-◌, ◌*◌, ◌/◌, ◌%◌, ◌<◌, ◌≤◌, List, [], ◌∷◌, ◌++◌, length, Contains, refl, ap, sym, subst, ◌∙◌, arith, append_assoc, append-nil, le_refl}
 use Rattle.std.specs.List.{AllByRecursion}
 use Rattle.router_core.specs.Timers.{garbage_time}
 use Rattle.ripng_world.specs.Convergence.{IsNeverQuiet}

@@ -1,5 +1,5 @@
 -- Deeds by the true clock, each with the step of the world that it is, if it is one.
-use Rattle.std.proofs.Common.{◌≡◌, ℕ, ◌+◌, ◌<◌, ◌≤◌, ◌==◌, max, min, Bool, true, false, cond, List, [], ◌∷◌, ◌++◌, map, filter_map, flat_map, length, Option, Some, None, option_map, slice_get, refl, ap, sym, subst, ◌∙◌, append-nil, append_assoc, arith}
+use Rattle.std.proofs.Common.{◌≡◌, ℕ, ◌+◌, ◌<◌, ◌≤◌, ◌==◌, Bool, true, false, cond, List, [], ◌∷◌, ◌++◌, map, filter_map, length, Option, Some, None, option_map, slice_get, refl, ap, sym, subst, ◌∙◌, append-nil, append_assoc, arith}
 use Rattle.std.specs.List.{AllByRecursion, cons_option}
 use Rattle.std.proofs.lemmas.Bool.{eqb-true}
 use Rattle.route_table.proofs.TableLaws.{Some-same}

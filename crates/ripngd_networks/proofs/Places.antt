@@ -1,5 +1,5 @@
 -- Where a deed stands among those of a history, and what is known there.
-use Rattle.std.proofs.Common.{◌≡◌, ◌≢◌, ◌⊎◌, inl, inr, ℕ, zero, suc, ◌+◌, ◌-◌, ◌^◌, ◌<◌, ◌≤◌, cond, List, [], ◌∷◌, ◌++◌, map, filter_map, length, All, Contains, Option, Some, None, option_map, slice_get, refl, ap, sym, subst, ◌∙◌, append_assoc, append-nil, arith, length-append}
+use Rattle.std.proofs.Common.{◌≡◌, ◌≢◌, ◌⊎◌, inl, inr, ℕ, zero, suc, ◌+◌, ◌-◌, ◌^◌, ◌<◌, ◌≤◌, cond, List, [], ◌∷◌, ◌++◌, length, All, Contains, Option, Some, None, option_map, slice_get, refl, ap, sym, subst, ◌∙◌, arith, length-append}
 use Rattle.std.specs.List.{AllByRecursion, cons_option}
 use Rattle.std.proofs.lemmas.Bool.{eq-eqb}
 use Rattle.std.proofs.lemmas.List.Elements.{All-nil}
@@ -27,7 +27,7 @@ use Rattle.ripngd_networks.specs.OnTime.{Dated, GoOn, HappenFrom, IsPlain, undat
 use Rattle.ripngd_networks.proofs.Deeds.{Agrees, HasLost, IsHeard, IsEventOf, IsIdle, IsStepOf, change_done, with_daemon, world_after}
 use Rattle.ripngd_networks.proofs.Events.{IsPlainEvent, plain_event}
 use Rattle.ripngd_networks.proofs.Lossless.{ArePlain, IsAfter, does_from, lives_from, lives_to, none_lost, plain_own}
-use Rattle.ripngd_networks.proofs.Pairs.{ArePairs, IsPair, IsPairing, Paired, agrees_here, all_handed_on, dated_of, dated_on, deeds_of, filter_on, history_of, pairing, point, timed, timed_when, undated_on}
+use Rattle.ripngd_networks.proofs.Pairs.{ArePairs, IsPair, IsPairing, Paired, agrees_here, all_handed_on, dated_of, dated_on, deeds_of, filter_on, history_of, pairing, point, timed, timed_when}
 
 -- ---- lists
 

@@ -1,5 +1,5 @@
 -- Networks of daemons run as networks do: their deeds, one after another, are a run of the world.
-use Rattle.std.proofs.Common.{◌≡◌, inl, inr, ◌⊎◌, ℕ, zero, suc, ◌<◌, ◌==◌, Bool, true, false, cond, List, [], ◌∷◌, ◌++◌, filter_map, length, Option, Some, None, slice_get, refl, ap, sym, subst, ◌∙◌, append-nil, append_assoc, arith}
+use Rattle.std.proofs.Common.{◌≡◌, inl, inr, ◌⊎◌, ℕ, zero, suc, ◌<◌, ◌==◌, Bool, true, false, cond, List, [], ◌∷◌, ◌++◌, length, Option, Some, None, slice_get, refl, ap, sym, subst, ◌∙◌, append-nil, append_assoc, arith}
 use Rattle.std.specs.List.{AllByRecursion, cons_option}
 use Rattle.std.proofs.lemmas.Bool.{eq-eqb, eqb-true}
 use Rattle.route_table.proofs.TableLaws.{Some-same}
@@ -19,7 +19,7 @@ use Rattle.ripngd_networks.specs.Links.{handed_by, IsOfTheLink, IsOfAStranger, I
 use Rattle.ripngd_networks.specs.OnTime.{IsNumbered}
 use Rattle.ripngd_networks.proofs.Addresses.{addresses_of}
 use Rattle.ripngd_networks.proofs.ColdWorlds.{cold_world}
-use Rattle.ripngd_networks.proofs.Deeds.{Agrees, HasState, IsStateOf, IsStepOf, StepsOn, change_done, done_on, with_daemon, world_after}
+use Rattle.ripngd_networks.proofs.Deeds.{Agrees, HasState, IsStateOf, IsStepOf, change_done, done_on, with_daemon, world_after}
 
 pub there_is : {X : Type 0} (xs : List X) (i : ℕ) → i < length xs → (x : X) × (slice_get xs i ≡ Some x)
 there_is [] i low = absurd (omega (arith, low))

@@ -1,5 +1,5 @@
 -- Daemons that go on until a moment went on until each before it, and so did their links.
-use Rattle.std.proofs.Common.{◌≡◌, ◌≢◌, ◌⊎◌, inl, inr, ℕ, ◌+◌, ◌-◌, ◌^◌, ◌<◌, ◌≤◌, List, [], ◌∷◌, ◌++◌, length, Contains, Option, Some, slice_get, refl, ap, sym, subst, ◌∙◌, append_assoc, arith, le_trans}
+use Rattle.std.proofs.Common.{◌≡◌, ◌≢◌, ◌⊎◌, inl, inr, ℕ, ◌+◌, ◌-◌, ◌^◌, ◌<◌, ◌≤◌, List, [], ◌∷◌, ◌++◌, length, Contains, Option, Some, slice_get, ap, sym, subst, ◌∙◌, append_assoc, arith, le_trans}
 use Rattle.std.specs.List.{AllByRecursion}
 use Rattle.route_table.proofs.TableLaws.{Some-same}
 use Rattle.ripng_world.specs.declared.sent.Sent.{Sent}
@@ -11,7 +11,7 @@ use Rattle.ripngd_engine.specs.Link.{Datagram}
 use Rattle.ripngd_engine.specs.Run.{Machine}
 use Rattle.ripngd_networks.specs.Daemons.{Happened, Lives, own_deeds}
 use Rattle.ripngd_networks.specs.Links.{LiveOn, handed_by, all_handed}
-use Rattle.ripngd_networks.specs.OnTime.{AreNumbered, AreOnTime, Comes, Dated, GoOn, Gives, HappenFrom, IsPlain, IsRegular, IsTickIn, KeepsTime, undated}
+use Rattle.ripngd_networks.specs.OnTime.{AreNumbered, AreOnTime, Comes, Dated, GoOn, Gives, HappenFrom, IsPlain, IsRegular, IsTickIn, undated}
 use Rattle.ripngd_networks.proofs.Lossless.{lives_from, lives_to, plain_own}
 use Rattle.ripngd_networks.proofs.Pairs.{undated_on}
 use Rattle.ripngd_networks.proofs.Places.{all_left, all_right, happen_first, plain_deeds}

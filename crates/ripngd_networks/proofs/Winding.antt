@@ -1,7 +1,6 @@
 -- A router's next regular update is due 45 seconds after its last step at the latest, and only a regular update puts it off.
-use Rattle.std.proofs.Common.{◌≡◌, ◌⊎◌, inl, inr, ℕ, ◌+◌, ◌%◌, max, ◌<◌, ◌≤◌, ◌==◌, Bool, true, false, cond, MatchBool, MatchOption, List, [], ◌∷◌, ◌++◌, Option, Some, None, slice_get, slice_set, refl, ap, sym, subst, ◌∙◌, arith}
+use Rattle.std.proofs.Common.{◌≡◌, ◌⊎◌, inl, inr, ℕ, ◌+◌, ◌%◌, max, ◌<◌, ◌≤◌, Bool, true, false, cond, MatchBool, MatchOption, List, Option, Some, None, slice_get, slice_set, refl, ap, sym, subst, ◌∙◌, arith}
 use Rattle.std.proofs.lemmas.Bool.Decides.{nat_tests}
-use Rattle.route_table.proofs.TableLaws.{Some-same}
 use Rattle.ripng_wire.specs.Wire.{is_response}
 use Rattle.router_core.specs.Ageing.{aged_table, unmarked}
 use Rattle.router_core.specs.Faults.{fault}
@@ -14,7 +13,7 @@ use Rattle.ripng_world.specs.Rounds.{IsDueTick, moment_of, router_of}
 use Rattle.ripng_world.specs.World.{World, Event, Deliver, Stranger, Tick, Restart, Reconfigure, RouterMoves, Happens, arrival_of}
 use Rattle.ripng_world.proofs.RoundNeighbors.{state_after}
 use Rattle.ripng_phases.specs.Phases.{IsOrdinary}
-use Rattle.ripng_phases.proofs.Later.{arrived_later, ticked_later}
+use Rattle.ripng_phases.proofs.Later.{arrived_later}
 
 -- ---- one move
 
