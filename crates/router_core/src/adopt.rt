@@ -1,6 +1,6 @@
 //! What an offer makes of the route to its prefix: the rules of adoption (RFC 2080, section 2.4.2).
 
-ghost use Rattle.std.specs.Prelude.{◌≡◌, ◌≤◌, ◌<◌};
+ghost use Rattle.std.specs.Prelude.{◌≡◌, ◌≤◌, ◌<◌, None};
 ghost use Rattle.route_table.specs.Route.{infinity};
 ghost use Rattle.route_table.specs.declared.route.Clock.TheVariants.{Live};
 ghost use Rattle.router_core.specs.Adoption.{metric_through, is_reachable, taken, refreshed, is_through, is_repeated, is_preferred, adopted_by_clock, adopted};
@@ -140,7 +140,8 @@ impl Gateway {
         }
     }
 
-    fn adopt_by_clock(&self, offer: &Offer, route: Route) -> Route
+    /// The route after the offer, where there was one.
+    pub fn adopt_by_clock(&self, offer: &Offer, route: Route) -> Route
         ensures { result ≡ adopted_by_clock self.now offer.now route route.clock }
     {
         let clock = route.clock();
@@ -157,19 +158,14 @@ impl Gateway {
         }
     }
 
-    /// The route, if any, after the offer.
-    pub fn adopt(&self, old: Option<Route>, offer: &Offer) -> Option<Route>
-        ensures { result ≡ adopted self.now old offer.now }
+    /// The first route to a prefix, if the offer makes one.
+    pub fn adopt_first(&self, offer: &Offer) -> Option<Route>
+        ensures { result ≡ adopted self.now None offer.now }
     {
-        match old {
-            Some(route) => Some(self.adopt_by_clock(offer, route)),
-            None => {
-                if self.metric_through(offer) < INFINITY {
-                    Some(self.take(offer))
-                } else {
-                    None
-                }
-            }
+        if self.metric_through(offer) < INFINITY {
+            Some(self.take(offer))
+        } else {
+            None
         }
     }
 }
