@@ -15,4 +15,5 @@ pub mod TrieTable
 pub mod NextDue
 pub mod FirstDue
 pub mod SortedDue
+pub mod SortedMarks
 pub mod WalksWhere

@@ -204,7 +204,7 @@ impl RouteStore for SortedRoutes {
         };
         let before = self.routes[at].1;
         let after = make(before);
-        self.routes[at].1 = after;
+        self.routes[at] = (*prefix, after);
         Some((before, after))
     }
 

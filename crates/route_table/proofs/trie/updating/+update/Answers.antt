@@ -34,7 +34,7 @@ update-changed-requires g t c =
     let f = c.fork.inside in
     let k = c.args.key.now in
     let whole : linked c.args.link.now ≡ fork_entries f.own f.low f.high = ap linked c.in-Fork.is ∙ sym (c.fork.view_is ∙ c.deref_mut-fork.ensures.value) in
-    (omega (arith, c.decreases, ap length whole, fewer_low f.prefix f.summary f.own f.low f.high c.fork.invariant (subst (λ l. 0 < length l) (sym (c.fork.view_is ∙ c.deref_mut-fork.ensures.value)) (subst HasEntries c.in-Fork.is c.requires.some))), TODO)
+    λ κs within. (omega (arith, c.decreases, ap length whole, fewer_low f.prefix f.summary f.own f.low f.high c.fork.invariant (subst (λ l. 0 < length l) (sym (c.fork.view_is ∙ c.deref_mut-fork.ensures.value)) (subst HasEntries c.in-Fork.is c.requires.some))), (within, (c.requires.callable, (c.requires.untold, c.fork.invariant.low_some))))
 
 pub invariant_of-fork-then-is_before_middle : goal.invariant_of-fork-then-is_before_middle
 invariant_of-fork-then-is_before_middle g t c =
@@ -57,12 +57,12 @@ returns-then-is_before_middle-clause-after g t c =
     let whole : linked c.args.link.now ≡ fork_entries f.own f.low f.high = ap linked c.in-Fork.is ∙ sym (c.fork.view_is ∙ c.deref_mut-fork.ensures.value) in
     low_after f.prefix f.summary f.own f.low f.high c.fork.invariant k c.update-changed.new.made c.update-changed.ensures.before c.update-changed.new.link c.update-changed.ensures.after ∙ ap (entries_with k c.update-changed.new.made) (sym whole)
 
-pub update-changed-else-is_before_middle-requires : goal.update-changed-else-is_before_middle-requires
-update-changed-else-is_before_middle-requires g t c =
+pub update-changed-requires-else-is_before_middle : goal.update-changed-requires-else-is_before_middle
+update-changed-requires-else-is_before_middle g t c =
     let f = c.fork.inside in
     let k = c.args.key.now in
     let whole : linked c.args.link.now ≡ fork_entries f.own f.low f.high = ap linked c.in-Fork.is ∙ sym (c.fork.view_is ∙ c.deref_mut-fork.ensures.value) in
-    (omega (arith, c.decreases, ap length whole, fewer_high f.prefix f.summary f.own f.low f.high c.fork.invariant (subst (λ l. 0 < length l) (sym (c.fork.view_is ∙ c.deref_mut-fork.ensures.value)) (subst HasEntries c.in-Fork.is c.requires.some))), TODO)
+    λ κs within. (omega (arith, c.decreases, ap length whole, fewer_high f.prefix f.summary f.own f.low f.high c.fork.invariant (subst (λ l. 0 < length l) (sym (c.fork.view_is ∙ c.deref_mut-fork.ensures.value)) (subst HasEntries c.in-Fork.is c.requires.some))), (within, (c.requires.callable, (c.requires.untold, c.fork.invariant.high_some))))
 
 pub invariant_of-fork-else-is_before_middle : goal.invariant_of-fork-else-is_before_middle
 invariant_of-fork-else-is_before_middle g t c =
