@@ -1,5 +1,5 @@
 -- A list of entries in which one mark after the other is taken.
-use Rattle.std.proofs.Common.{◌≡◌, ℕ, zero, suc, ◌+◌, ◌<◌, [], ◌∷◌, ◌++◌, length, take, drop, slice_set, slice_index_or, refl, sym, ap, ◌∙◌, arith}
+use Rattle.std.proofs.Common.{◌≡◌, ℕ, zero, suc, ◌+◌, ◌<◌, false, [], ◌∷◌, ◌++◌, length, take, drop, slice_set, slice_index_or, refl, sym, ap, ◌∙◌, arith}
 use Rattle.std.proofs.lemmas.List.{append-nil, take_all}
 use Rattle.std.proofs.Math.ListN.{drop_of_length-le}
 use Rattle.route_table.specs.Due.{without_mark}
@@ -9,7 +9,7 @@ use Rattle.route_table.proofs.TrieLists.{Entry}
 use Rattle.route_table.proofs.TrieMarks.{plain_length}
 
 -- the first i marks are taken
-abbrev plain_before : ℕ → Entries → Entries
+abbrev pub plain_before : ℕ → Entries → Entries
 plain_before i es = map_entries without_mark (take i es) ++ drop i es
 
 one_more : (i : ℕ) → suc i + 1 ≡ suc (i + 1)
@@ -26,6 +26,6 @@ plain_next (e ∷ es) (suc i) d lt = ap (λ l. (e.0, record e.1 { changed = fals
 pub written_back : (n : ℕ) (new old : Entries) → n ≡ length old → new ≡ map_entries without_mark old → take n (new ++ drop (length new) old) ≡ new
 written_back n new old counted is =
     let same : length new ≡ length old = ap length is ∙ plain_length old in
-    ap (λ l. take n (new ++ l)) (drop_of_length-le old (length new) (omega (arith, same)))
+    ap (λ l. take n (new ++ l)) (drop_of_length-le old (omega (arith, same)))
     ∙ ap (take n) (append-nil new)
     ∙ take_all n new (omega (arith, same, counted))
