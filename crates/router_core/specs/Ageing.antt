@@ -5,7 +5,6 @@ use Rattle.route_table.specs.Table.{Table, map_values}
 use Rattle.route_table.specs.declared.route.Clock.{Clock}
 use Rattle.route_table.specs.declared.route.Clock.TheVariants.{Fixed, Live, Dying}
 use Rattle.router_core.specs.Adoption.{lost}
-
 -- the mark of a route, and those of a table, taken
 pub use Rattle.route_table.specs.Due.{without_mark, unmarked}
 
