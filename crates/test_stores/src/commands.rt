@@ -61,7 +61,11 @@ fn a_trie_answers_as_a_sorted_vector(rt: HostRuntime) -> Result<(), Fail> {
             let other = sorted.update(&prefix, |held| route.with_mark(held.is_changed()));
             assert_eq!(rt; one, other, "update, turn {turn}");
             assert_eq!(rt; one.map(|made| made.0), present, "before, turn {turn}");
-            assert_eq!(rt; one.map(|made| made.1), trie.get(&prefix), "after, turn {turn}");
+            assert_eq!(rt;
+                one.map(|made| made.1),
+                trie.get(&prefix),
+                "after, turn {turn}"
+            );
             updated = updated.saturating_add(u32::from(one.is_some()));
         }
         if trie.get(&prefix).is_none() && sorted.get(&prefix).is_none() {
@@ -98,7 +102,7 @@ fn a_trie_answers_as_a_sorted_vector(rt: HostRuntime) -> Result<(), Fail> {
                 "walk_changed, turn {turn}"
             );
         }
-        if turn % 500 == 0 {
+        if turn % 500 == 499 {
             assert!(rt; trie.walk_changed(None).is_some(), "marks, turn {turn}");
             trie.unmark();
             sorted.unmark();

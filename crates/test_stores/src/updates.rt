@@ -3,6 +3,7 @@
 use prefix6::{Addr6, Prefix};
 use route_table::{Moment, Origin, Route, RouteStore, SortedRoutes, TrieRoutes};
 use std::alloc::Global;
+use std::process::Abort;
 use std::test::Fail;
 
 /// `2001:db8:n::/48`, or for 0 `2001:db8::/32`, which they lie in.
@@ -48,17 +49,26 @@ fn updates<S: RouteStore>(rt: &impl Abort, alloc: Global) -> Result<(), Fail> {
     assert_eq!(rt; (store.len(), store.get(&third)), (5, Some(after)));
 
     // The prefix above them all is the first to be due, until it lives longer.
-    assert_eq!(rt; store.next_due().map(|due| (due.0.ms(), due.1)), Some((10_000, whole)));
+    assert_eq!(rt;
+        store.next_due().map(|due| (due.0.ms(), due.1)),
+        Some((10_000, whole))
+    );
     let _ = store.update(&whole, |_| after.with_mark(false));
     assert_eq!(rt; store.get(&whole), Some(after.with_mark(false)));
-    assert_eq!(rt; store.next_due().map(|due| (due.0.ms(), due.1)), Some((11_000, site(1).ok_or("a prefix")?)));
+    assert_eq!(rt;
+        store.next_due().map(|due| (due.0.ms(), due.1)),
+        Some((11_000, site(1).ok_or("a prefix")?))
+    );
     assert_eq!(rt; store.walk_changed(None).map(|entry| entry.0), site(1));
 
     // To none of these is there a route.
     for (number, len) in [(9u128, 48u8), (3, 49), (3, 47), (0, 31), (0, 48)] {
-        let absent = Prefix::new(Addr6::from_bits((0x2001_0db8u128 << 96) + (number << 80)), len)
-            .ok()
-            .ok_or("a prefix")?;
+        let absent = Prefix::new(
+            Addr6::from_bits((0x2001_0db8u128 << 96) + (number << 80)),
+            len,
+        )
+        .ok()
+        .ok_or("a prefix")?;
         assert_eq!(rt; store.update(&absent, |held| held.with_mark(true)), None);
         assert_eq!(rt; (store.len(), store.get(&absent)), (5, None));
     }
