@@ -11,7 +11,7 @@ use route_table::{Clock, Deadline, INFINITY, Moment, Origin, Route};
 use std::marker::Model;
 
 /// From where offers come, what the way there costs, and when they come.
-#[derive(Drop)]
+#[derive(Clone, Copy)]
 pub struct Gateway {
     /// The interface of arrival.
     pub iface: usize,
@@ -32,6 +32,8 @@ impl Model for Gateway {
     ghost view = { λ g. record { iface = g.iface; cost = g.cost; from = g.from; moment = g.moment } };
 
     ghost invariant = { λ g. g.cost < infinity };
+
+    ghost inverse = { λ v. record { iface = v.iface; cost = v.cost; from = v.from; moment = v.moment } };
 }
 
 /// A route that a neighbor offers.
@@ -59,7 +61,7 @@ impl Model for Offer {
 
 impl Gateway {
     /// The metric of the offer here.
-    fn metric_through(&self, offer: &Offer) -> u8
+    pub fn metric_through(&self, offer: &Offer) -> u8
         ensures value { result ≡ metric_through self.now offer.now }
         ensures positive { 1 ≤ result }
         ensures in_range { result ≤ infinity }
@@ -86,7 +88,7 @@ impl Gateway {
     }
 
     /// Whether a route is through this gateway.
-    fn is_through(&self, origin: Origin) -> bool
+    pub fn is_through(&self, origin: Origin) -> bool
         ensures { result ≡ is_through self.now origin }
     {
         match origin {
