@@ -30,7 +30,9 @@ pub use arrival::{Arrival, Fault, MAX_HOP_LIMIT, RIPNG_PORT};
 pub use config::{
     ConfigRefused, INTERFACE_LIMIT, Interface, LEAST_MTU, MOST_MTU, OWNED_LIMIT, RouterConfig,
 };
-pub use laws::{adopted_by_row, changes_replay, held_is_size, owned_routes_stay, pieces_join, start_replays};
+pub use laws::{
+    adopted_by_row, changes_replay, held_is_size, owned_routes_stay, pieces_join, start_replays,
+};
 pub use listed::Listed;
 pub use offered::Offered;
 pub use reason::Reason;

@@ -94,7 +94,7 @@ pub fn all_offered(
 ) -> Result<Vec<Offered>, AllocError>
     ensures { IfOk result (λ v. v.items ≡ all_offered config.now gateway.now entries.entry) }
 {
-    let mut all = Vec::new(alloc);
+    let mut all = Vec::with_capacity(alloc, entries.len())?;
     let mut next_hop = gateway.from;
     for (place, entry) in entries.enumerate() {
         if entry.metric == NEXT_HOP_METRIC {

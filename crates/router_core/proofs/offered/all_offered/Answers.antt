@@ -1,6 +1,7 @@
 use Rattle.std.proofs.Common.{rules, ◌≡◌, ◌+◌, ◌++◌, [], ◌∷◌, true, false, drop, Some, None, slice_get, sym, ap, ap₂, ◌∙◌, arith}
 use Rattle.std.proofs.lemmas.Bool.Decides.{nat_tests}
 use Rattle.ripng_wire.specs.Layout.{is_next_hop}
+use Rattle.router_core.specs.Adoption.{Gateway}
 use Rattle.router_core.specs.Offering.{Offered, offered_at}
 use Rattle.router_core.specs.Offers.{Offer, flaw, next_hop_at, usable_hop}
 use Rattle.router_core.proofs.HearingLoop.{next_hop_set, next_hop_kept, first_left, none_left}
@@ -18,7 +19,7 @@ loop-place-init c =
       left = ap (λ k. drop k c.args.entries) count ∙ sym (ap (λ s. s.iter) iterator ∙ items.source);
       within = omega (arith, count);
       hop = ap (λ x. x.from) c.gateway.view_is ∙ sym (ap (next_hop_at c.args.config.now c.args.gateway.now.from c.args.entries) count);
-      made = c.new-all.ensures.items ∙ sym (ap (offered_before c.args.config.now c.args.gateway.now c.args.entries) count);
+      made = c.in_ok-all.ensures.items ∙ sym (ap (offered_before c.args.config.now c.args.gateway.now c.args.entries) count);
     }
 
 pub loop-place-preserved-then-entry : goal.loop-place-preserved-then-entry
@@ -79,7 +80,8 @@ loop-place-preserved c =
       made = c.in_ok-push.ensures.items
           ∙ ap₂ (λ l (o : Offered). l ++ o ∷ [])
           (inv.made ∙ ap (offered_before c.args.config.now c.args.gateway.now c.args.entries) (sym steps.1))
-          (ap₂ (λ p h. record { gateway = g; prefix = p; offer = record { metric = e.metric; tag = e.tag; next_hop = h; place = c.in-Some.place } }) c.in-Ok.ensures.prefix hop_is)
+          (ap (λ (x : Gateway). record { gateway = x; prefix = c.in-Ok.prefix; offer = record { metric = e.metric; tag = e.tag; next_hop = c.loop-place.next_hop; place = c.in-Some.place } }) c.gateway.view_is
+          ∙ ap₂ (λ p h. record { gateway = g; prefix = p; offer = record { metric = e.metric; tag = e.tag; next_hop = h; place = c.in-Some.place } }) c.in-Ok.ensures.prefix hop_is)
           ∙ sym (ap (offered_before c.args.config.now c.args.gateway.now c.args.entries) more ∙ offered-next c.args.config.now c.args.gateway.now c.args.entries c.in-Some.place c.in-Some.entry found not_hop (sym c.in-Ok.ensures.flaw));
     }
 
