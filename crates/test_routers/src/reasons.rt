@@ -40,7 +40,8 @@ pub fn explain<S: RouteStore>(
         let prefix = offer.prefix();
         let held = held_after(router.routes().get(&prefix), &offers[..number], prefix);
         let reason = offer.reason_of(held);
-        writeln!(out,
+        writeln!(
+            out,
             "{} {prefix} metric {} tag {} by {}: {} {}",
             offer.place(),
             offer.metric(),
