@@ -1,0 +1,141 @@
+"""A link of the router: its neighbors, each with a port of its own on 127.0.0.1, and what goes between them and the router."""
+
+import asyncio
+import collections
+import ipaddress
+import socket
+
+from wire import GROUP, LONGEST, fault_of, make_room
+
+LOOPBACK = "127.0.0.1"
+# So many datagrams of a neighbor wait until the router knows it; so many withdrawals are in a datagram of 1,280 bytes.
+WAITING, WITHDRAWALS = 256, 61
+
+
+def loopback_port():
+    """A socket at a port of 127.0.0.1 that nobody has."""
+    sock = socket.socket(socket.AF_INET, socket.SOCK_DGRAM)
+    make_room(sock)
+    sock.bind((LOOPBACK, 0))
+    return sock
+
+
+class Neighbor:
+    """A router on the link: its port, whether the router knows it, and what waits until then."""
+
+    def __init__(self):
+        self.socket, self.known, self.waiting = loopback_port(), False, []
+
+
+class Relay:
+    """What goes between one link and the router's interface of that number, and counts of it."""
+
+    def __init__(self, link, wire, router):
+        self.link, self.wire, self.router = link, wire, router
+        self.device, self.number, self.local_port, self.group = None, None, 0, None
+        # In the order in which they were heard last.
+        self.neighbors, self.counts = collections.OrderedDict(), collections.Counter()
+
+    @property
+    def up(self):
+        return bool(self.device and self.device.carrier and self.device.link_local)
+
+    def attach(self, number, local_port):
+        """A router starts that has this link as the interface of that number, at that port; answers the port of its group."""
+        self.number, self.local_port, self.group = number, local_port, loopback_port()
+        self.listen(self.group, GROUP)
+        return self.group.getsockname()[1]
+
+    def detach(self):
+        """The router has ended."""
+        while self.neighbors:
+            self.forget(next(iter(self.neighbors)))
+        self.close(self.group)
+        self.number = self.group = None
+
+    def listen(self, sock, to):
+        sock.connect((LOOPBACK, self.local_port))
+        asyncio.get_running_loop().add_reader(sock, self.send, sock, to)
+
+    def close(self, sock):
+        asyncio.get_running_loop().remove_reader(sock)
+        sock.close()
+
+    def forget(self, address):
+        self.close(self.neighbors.pop(address).socket)
+
+    def send(self, sock, to):
+        """Sends on the link what the router has sent, to the group or to a neighbor."""
+        try:
+            data = sock.recv(LONGEST)
+            if self.up:
+                self.wire.send(data, self.device, to)
+            self.counts["sent" if self.up else "not sent: no carrier"] += 1
+        except ConnectionRefusedError:  # the router is not there
+            pass
+        except OSError as fault:
+            self.counts[f"not sent: {fault.strerror}"] += 1
+
+    def take(self, data, source, port, to, hops):
+        """A datagram that came on the link is for the router, or counted with why it is not."""
+        fault = fault_of(self.device, source, port, to, hops) or (None if self.router.ready else "router not up")
+        neighbor = None if fault else self.neighbor(source)
+        if neighbor and neighbor.known:
+            self.hand_over(neighbor, data)
+        elif neighbor and len(neighbor.waiting) < WAITING:
+            neighbor.waiting.append(data)
+        else:
+            self.counts[f"dropped: {fault or 'too much at once'}"] += 1
+
+    def hand_over(self, neighbor, data):
+        try:
+            neighbor.socket.send(data)
+            self.counts["taken"] += 1
+        except OSError:
+            self.counts["dropped: router not up"] += 1
+
+    def neighbor(self, source):
+        """The neighbor of that address, or a new one, if there is room; the one that was silent longest goes for it."""
+        if source not in self.neighbors:
+            if self.router.is_busy():
+                return None
+            if len(self.neighbors) >= self.link.peers:
+                silent = next(iter(self.neighbors))
+                self.forget(silent)
+                self.counts["neighbors let go"] += 1
+                asyncio.ensure_future(self.router.tell(f"unpeer {self.number} {silent}"))
+            self.neighbors[source] = neighbor = Neighbor()
+            self.listen(neighbor.socket, source)
+            asyncio.ensure_future(self.meet(source, neighbor))
+        self.neighbors.move_to_end(source)
+        return self.neighbors[source]
+
+    async def meet(self, source, neighbor):
+        """Makes the neighbor known to the router."""
+        port = neighbor.socket.getsockname()[1]
+        _, verdict = await self.router.tell(f"peer {self.number} {source} {port}")
+        if self.neighbors.get(source) is not neighbor:
+            return
+        neighbor.known = verdict == "ok"
+        if not neighbor.known:
+            return self.forget(source)
+        for data in neighbor.waiting:
+            self.hand_over(neighbor, data)
+        neighbor.waiting = []
+
+    async def withdraw(self):
+        """The link has no carrier: in its neighbors' stead the router is told metric 16 of each route through them."""
+        routes, _ = await self.router.tell("routes") if self.router.ready else ([], "")
+        lost = collections.defaultdict(list)
+        for words in map(str.split, routes):
+            if "live" in words and words[words.index("iface") + 1] == str(self.number):
+                lost[ipaddress.IPv6Address(words[words.index("from") + 1])].append(withdrawal(words))
+        for source in lost.keys() & self.neighbors.keys():
+            for at in range(0, len(lost[source]), WITHDRAWALS):
+                self.hand_over(self.neighbors[source], b"\2\1\0\0" + b"".join(lost[source][at : at + WITHDRAWALS]))
+
+
+def withdrawal(words):
+    """The entry of a Response that tells a route, as a line of `ctl routes` has it, with metric 16."""
+    prefix, tag = ipaddress.IPv6Network(words[0]), int(words[words.index("tag") + 1])
+    return prefix.network_address.packed + tag.to_bytes(2, "big") + bytes((prefix.prefixlen, 16))
