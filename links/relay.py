@@ -10,6 +10,8 @@ from wire import GROUP, LONGEST, fault_of, make_room
 LOOPBACK = "127.0.0.1"
 # So many datagrams of a neighbor wait until the router knows it; so many withdrawals are in a datagram of 1,280 bytes.
 WAITING, WITHDRAWALS = 256, 61
+# Seconds from one datagram on a link to the next: FRR's socket holds no more than seven of an update.
+GAP = 0.002
 
 
 def loopback_port():
@@ -43,6 +45,7 @@ class Relay:
     def attach(self, number, local_port):
         """A router starts that has this link as the interface of that number, at that port; answers the port of its group."""
         self.number, self.local_port, self.group = number, local_port, loopback_port()
+        self.group.connect((LOOPBACK, local_port))
         self.listen(self.group, GROUP)
         return self.group.getsockname()[1]
 
@@ -54,8 +57,9 @@ class Relay:
         self.number = self.group = None
 
     def listen(self, sock, to):
-        sock.connect((LOOPBACK, self.local_port))
-        asyncio.get_running_loop().add_reader(sock, self.send, sock, to)
+        """Sends what comes there, from now on; nothing of a socket that was closed meanwhile."""
+        if sock.fileno() >= 0:
+            asyncio.get_running_loop().add_reader(sock, self.send, sock, to)
 
     def close(self, sock):
         asyncio.get_running_loop().remove_reader(sock)
@@ -65,7 +69,10 @@ class Relay:
         self.close(self.neighbors.pop(address).socket)
 
     def send(self, sock, to):
-        """Sends on the link what the router has sent, to the group or to a neighbor."""
+        """Sends on the link what the router has sent, to the group or to a neighbor, and then pauses."""
+        loop = asyncio.get_running_loop()
+        loop.remove_reader(sock)
+        loop.call_later(GAP, self.listen, sock, to)
         try:
             data = sock.recv(LONGEST)
             if self.up:
@@ -105,6 +112,7 @@ class Relay:
                 self.counts["neighbors let go"] += 1
                 asyncio.ensure_future(self.router.tell(f"unpeer {self.number} {silent}"))
             self.neighbors[source] = neighbor = Neighbor()
+            neighbor.socket.connect((LOOPBACK, self.local_port))
             self.listen(neighbor.socket, source)
             asyncio.ensure_future(self.meet(source, neighbor))
         self.neighbors.move_to_end(source)
