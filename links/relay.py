@@ -5,11 +5,12 @@ import collections
 import ipaddress
 import socket
 
+from router import spawn
 from wire import GROUP, LONGEST, fault_of, make_room
 
 LOOPBACK = "127.0.0.1"
-# So many datagrams of a neighbor wait until the router knows it; so many withdrawals are in a datagram of 1,280 bytes.
-WAITING, WITHDRAWALS = 256, 61
+# Bytes of a neighbor that wait until the router knows it; withdrawals in a datagram of 1,280 bytes.
+WAITING, WITHDRAWALS = 1 << 19, 61
 # Seconds from one datagram on a link to the next: FRR's socket holds no more than seven of an update.
 GAP = 0.002
 
@@ -89,7 +90,7 @@ class Relay:
         neighbor = None if fault else self.neighbor(source)
         if neighbor and neighbor.known:
             self.hand_over(neighbor, data)
-        elif neighbor and len(neighbor.waiting) < WAITING:
+        elif neighbor and sum(map(len, neighbor.waiting)) < WAITING:
             neighbor.waiting.append(data)
         else:
             self.counts[f"dropped: {fault or 'too much at once'}"] += 1
@@ -110,11 +111,11 @@ class Relay:
                 silent = next(iter(self.neighbors))
                 self.forget(silent)
                 self.counts["neighbors let go"] += 1
-                asyncio.ensure_future(self.router.tell(f"unpeer {self.number} {silent}"))
+                spawn(self.router.tell(f"unpeer {self.number} {silent}"))
             self.neighbors[source] = neighbor = Neighbor()
             neighbor.socket.connect((LOOPBACK, self.local_port))
             self.listen(neighbor.socket, source)
-            asyncio.ensure_future(self.meet(source, neighbor))
+            spawn(self.meet(source, neighbor))
         self.neighbors.move_to_end(source)
         return self.neighbors[source]
 
@@ -138,9 +139,11 @@ class Relay:
         for words in map(str.split, routes):
             if "live" in words and words[words.index("iface") + 1] == str(self.number):
                 lost[ipaddress.IPv6Address(words[words.index("from") + 1])].append(withdrawal(words))
-        for source in lost.keys() & self.neighbors.keys():
-            for at in range(0, len(lost[source]), WITHDRAWALS):
-                self.hand_over(self.neighbors[source], b"\2\1\0\0" + b"".join(lost[source][at : at + WITHDRAWALS]))
+        for source, entries in lost.items():
+            for at in range(0, len(entries), WITHDRAWALS):
+                if source in self.neighbors and not self.up:
+                    self.hand_over(self.neighbors[source], b"\2\1\0\0" + b"".join(entries[at : at + WITHDRAWALS]))
+                    await asyncio.sleep(GAP)
 
 
 def withdrawal(words):

@@ -29,6 +29,12 @@ def configuration(interfaces, owned):
     return "\n".join(lines) + "\n"
 
 
+def spawn(coroutine, running=set()):
+    """Lets a coroutine run beside all others; it is kept until it has ended."""
+    running.add(task := asyncio.ensure_future(coroutine))
+    task.add_done_callback(running.discard)
+
+
 class Router:
     """A process `ripngd run`, and one command at a time to it."""
 

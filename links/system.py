@@ -54,10 +54,12 @@ class Kernel:
         """Each prefix gets the gateway and device that it is given, or no route. An old one goes just before a new one comes."""
         lines = []
         for prefix, hop in changes.items():
-            if old := self.held.pop(prefix, None):
+            old = self.held.pop(prefix, None)
+            if old and old != hop:
                 lines.append(f"route del {prefix} {old} metric {self.priority} {self.own}")
             if hop:
                 self.held[prefix] = hop
+            if hop and old != hop:
                 lines.append(f"route add {prefix} {hop} metric {self.priority} {self.own}")
         for number in self.batch(lines):
             verb, prefix = lines[number - 1].split()[1:3]

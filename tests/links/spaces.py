@@ -6,6 +6,7 @@ import os
 import pathlib
 import re
 import shutil
+import signal
 import subprocess
 import sys
 import time
@@ -165,15 +166,14 @@ class Ours:
         return self.space.routes("proto", str(PROTOCOL))
 
     def counts(self):
-        """What the companion has counted, by its words: `to-b sent`."""
-        before = self.space.text("companion").count("ripngd-links: kernel has") + self.space.text("companion").count("counted")
-        self.process.send_signal(10)
-        said = until(5, "the counts", lambda: self.counted(before))
-        return {words: int(number) for words, number in re.findall(r"^ripngd-links: (to-\S+ .*) (\d+)$", said, re.M)}
-
-    def counted(self, before):
+        """What the companion has counted, by its words: `to-b sent`, `kernel refused`."""
+        before = self.space.text("companion").count("ripngd-links: kernel ")
+        self.process.send_signal(signal.SIGUSR1)
+        until(5, "the counts", lambda: self.space.text("companion").count("ripngd-links: kernel ") > before)
         text = self.space.text("companion")
-        return text if text.count("ripngd-links: kernel has") > before else ""
+        found = re.findall(r"^ripngd-links: (to-\S+ .*) (\d+)$", text, re.M)
+        found += [("kernel refused", number) for number in re.findall(r"^ripngd-links: kernel has \d+, refused (\d+)$", text, re.M)]
+        return {words: int(number) for words, number in found}
 
     def refused(self):
         """What the router has refused, by name."""
