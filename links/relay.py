@@ -11,6 +11,8 @@ from wire import GROUP, LONGEST, fault_of, make_room
 LOOPBACK = "127.0.0.1"
 # Bytes of a neighbor that wait until the router knows it; withdrawals in a datagram of 1,280 bytes.
 WAITING, WITHDRAWALS = 1 << 19, 61
+# Asks for a whole table (RFC 2080 section 2.4.1).
+REQUEST = b"\1\1" + bytes(21) + b"\x10"
 # Seconds from one datagram on a link to the next: FRR's socket holds no more than seven of an update.
 GAP = 0.002
 
@@ -131,6 +133,11 @@ class Relay:
         for data in neighbor.waiting:
             self.hand_over(neighbor, data)
         neighbor.waiting = []
+
+    def ask(self):
+        """The link has a carrier again: its neighbors are asked for their tables, as by a router that starts."""
+        if self.number is not None:
+            self.wire.send(REQUEST, self.device, GROUP)
 
     async def withdraw(self):
         """The link has no carrier: in its neighbors' stead the router is told metric 16 of each route through them."""

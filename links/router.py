@@ -4,6 +4,7 @@ import asyncio
 import os
 import socket
 import subprocess
+import sys
 
 from privilege import leave
 from table import Fault
@@ -27,6 +28,10 @@ def configuration(interfaces, owned):
     for prefix, tag in owned.items():
         lines += ["", "[[prefix]]", f'prefix = "{prefix}"', f"tag = {tag}"]
     return "\n".join(lines) + "\n"
+
+
+def say(text):
+    print(f"ripngd-links: {text}", file=sys.stderr, flush=True)
 
 
 def spawn(coroutine, running=set()):
@@ -83,6 +88,8 @@ class Router:
             lines, verdict = [], "no whole answer"
         finally:
             self.waiting -= 1
+        if verdict != "ok":
+            say(f"{command}: {verdict}")
         return lines, verdict
 
     async def stop(self):

@@ -40,9 +40,8 @@ class Kernel:
     """The routes of one table that have one protocol number. No other is touched: none is replaced, and each that is taken away
     is named by table, protocol number, priority, gateway and device."""
 
-    def __init__(self, table, protocol, priority):
-        self.own = f"table {table} proto {protocol}"
-        self.priority = priority
+    def __init__(self, table, protocol, priority, is_used):
+        self.own, self.priority, self.is_used = f"table {table} proto {protocol}", priority, is_used
         self.held, self.refused = {}, 0
 
     def clear(self):
@@ -69,7 +68,9 @@ class Kernel:
 
     def batch(self, lines):
         """Has `ip` do the lines, with the one capability; answers the numbers of those that the kernel refused."""
+        if not lines or not self.is_used:
+            return []
         text = "".join(line + "\n" for line in lines).encode()
         words = ["ip", "-6", "-force", "-batch", "-"]
-        said = subprocess.run(words, input=text, capture_output=True, preexec_fn=hand_on).stderr.decode() if lines else ""
+        said = subprocess.run(words, input=text, capture_output=True, preexec_fn=hand_on).stderr.decode()
         return [int(line.rsplit(":", 1)[1]) for line in said.splitlines() if line.startswith("Command failed -:")]

@@ -1,75 +1,44 @@
 """The companion's table: a TOML text that says which links of the system are the router's, and what it owns."""
 
 import tomllib
-from dataclasses import dataclass, field
 from ipaddress import IPv6Network
+from types import SimpleNamespace
 
 
 class Fault(Exception):
     """What is wrong with a table, or with what it names; it ends the companion."""
 
 
-@dataclass
-class Link:
-    """A device of the system. On the link of a stub no RIPng is spoken."""
-
-    device: str
-    cost: int = 1
-    peers: int = 64
-    own: bool = True
-    tag: int = 0
-    stub: bool = False
+# The keys of each table, with what holds where one is left out, or the kind of value of one that has to be there.
+TABLE = {"user": str, "program": "ripngd", "folder": "/run/ripngd-links", "table": 254, "protocol": 152, "priority": 521}
+TABLE |= {"link": [], "prefix": []}
+LINK = {"device": str, "cost": 1, "peers": 64, "own": True, "tag": 0, "stub": False}
+PREFIX = {"prefix": str, "tag": 0}
+NUMBERS = {"cost": 15, "peers": 1024, "tag": 65535, "table": 2**32 - 1, "protocol": 255, "priority": 2**32 - 1}
+LEAST = {"tag": 0, "protocol": 5}
 
 
-@dataclass
-class Owned:
-    """A prefix that is always the router's own."""
-
-    prefix: str
-    tag: int = 0
-
-
-@dataclass
-class Table:
-    """All of it, with what holds where a key is left out."""
-
-    user: str
-    program: str = "ripngd"
-    folder: str = "/run/ripngd-links"
-    table: int = 254
-    protocol: int = 152
-    priority: int = 521
-    link: list = field(default_factory=list)
-    prefix: list = field(default_factory=list)
-
-
-NUMBER = 2**32 - 1
-RANGES = {"cost": (1, 15), "peers": (1, 1024), "tag": (0, 65535), "table": (1, NUMBER), "protocol": (5, 255), "priority": (1, NUMBER)}
-
-
-def made(kind, words, place=""):
-    """A record of that kind, of a table of TOML."""
-    fields = kind.__dataclass_fields__
+def made(keys, words, place=""):
+    """A table of TOML with those keys."""
     for key, value in words.items():
-        if key not in fields:
+        if key not in keys:
             raise Fault(f"{place}{key} is no key")
-        if type(value) is not fields[key].type:
+        if type(value) is not (keys[key] if isinstance(keys[key], type) else type(keys[key])):
             raise Fault(f"{place}{key} is of another kind")
-        if key in RANGES and not RANGES[key][0] <= value <= RANGES[key][1]:
-            raise Fault(f"{place}{key} is not from {RANGES[key][0]} to {RANGES[key][1]}")
-    try:
-        return kind(**words)
-    except TypeError as fault:
-        raise Fault(f"{place}{str(fault).split(chr(39))[1]} is wanting") from None
+        if key in NUMBERS and not LEAST.get(key, 1) <= value <= NUMBERS[key]:
+            raise Fault(f"{place}{key} is not from {LEAST.get(key, 1)} to {NUMBERS[key]}")
+    if wanting := [key for key in keys if isinstance(keys[key], type) and key not in words]:
+        raise Fault(f"{place}{wanting[0]} is wanting")
+    return SimpleNamespace(**keys | words)
 
 
 def read(path):
     """The table of a file, or a fault."""
     try:
         with open(path, "rb") as file:
-            table = made(Table, tomllib.load(file))
-        table.link = [made(Link, words, f"link[{number}].") for number, words in enumerate(table.link)]
-        table.prefix = [made(Owned, words, f"prefix[{number}].") for number, words in enumerate(table.prefix)]
+            table = made(TABLE, tomllib.load(file))
+        table.link = [made(LINK, words, f"link[{number}].") for number, words in enumerate(table.link)]
+        table.prefix = [made(PREFIX, words, f"prefix[{number}].") for number, words in enumerate(table.prefix)]
         for owned in table.prefix:
             owned.prefix = str(IPv6Network(owned.prefix, strict=False))
     except (OSError, ValueError, AttributeError) as fault:

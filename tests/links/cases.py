@@ -186,14 +186,14 @@ def many_neighbors(net):
     until(20, "the router is up", lambda: ours.table())
     for number in range(1, 6):
         s.ip("address", "add", f"fe80::{number}/64", "dev", "to-o", "nodad")
-    for number in (1, 2, 3, 4, 5, 1, 5):
+    for number in (1, 2, 3, 1, 4, 1, 5, 2):
         same("the answer", s.do(sys.executable, HERE / "stranger.py", "to-o", "request", f"fe80::{number}").strip(), "255 2001:db8:2::/48")
     same("how many were let go", ours.counts().get("to-s neighbors let go"), 3)
 
 
 def others_routes(space):
     told = space.ip("-6", "route", "show", "table", "all").splitlines()
-    return sorted(line for line in told if "proto 152" not in line or "table 100" in line)
+    return sorted(line for line in told if "proto static" in line or "table 100" in line)
 
 
 def a_killed_companion(net):
@@ -208,12 +208,13 @@ def a_killed_companion(net):
         "2001:db8:78::/48 dev to-b proto 152 table 100",
     ):
         o.ip("-6", "route", "add", *words.split())
+    before = others_routes(o)
     bird = Bird(b, {"to-o": 1}, owned["b"])
     ours = Ours(o, PROGRAM, {"to-b": {}}, owned["o"])
     wanted = least([("b", 1, "o", 1)], owned)
     until(REGULAR, "the routes are learned", lambda: ours.table() == wanted["o"] and bird.table() == wanted["b"])
     until(5, "the kernel has the one that has room", lambda: set(ours.kernel()) == {"2001:db8:1::/48"})
-    before = others_routes(o)
+    same("routes of others", others_routes(o), before)
     same("how many the kernel refused", ours.counts()["kernel refused"], 1)
     children = ours.children()
     ours.end(signal.SIGKILL)
@@ -276,11 +277,16 @@ def addresses_come_and_go(net):
     until(TRIGGERED, "a carrier is told", lambda: bird.table() == base | {"2001:db8:5::/64": 2})
     o.ip("address", "del", "2001:db8:5::1/64", "dev", "to-h")
     until(TRIGGERED, "an address that is gone is told", lambda: bird.table() == base)
+    o.do("sysctl", "-qw", "net.ipv6.conf.to-b.accept_dad=0")
+    o.do("ip", "-batch", "-", input="link set to-b down\nlink set to-b up\n")
+    until(TRIGGERED, "a link that blinked is used", lambda: set(ours.kernel()) == {"2001:db8:1::/48"} and bird.table() == base)
     o.ip("link", "del", "to-b")
     until(TRIGGERED, "nothing is reached", lambda: ours.table() == {"2001:db8:2::/48": 1} and not ours.kernel())
     net.cable(b, o)
     until(REGULAR, "the new cable is used", lambda: bird.table() == base and ours.table() == {"2001:db8:1::/48": 2, "2001:db8:2::/48": 1})
     until(5, "so it is in the kernel", lambda: set(ours.kernel()) == {"2001:db8:1::/48"})
+    [address] = [words.split()[1].split("/")[0] for words in o.ip("-6", "address", "show", "dev", "to-b", "scope", "link").splitlines() if "inet6" in words]
+    same("whether the router has the link's address", f'address = "{address}"' in (ours.run / "router.toml").read_text(), True)
 
 
 def status(pid, key):

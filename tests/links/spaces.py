@@ -213,7 +213,7 @@ class Bird:
 
     def table(self):
         found, prefix = {}, None
-        for line in self.ask("show", "route", "all").splitlines():
+        for line in self.ask("show", "route", "primary", "all").splitlines():
             if "/" in line.split(" ")[0]:
                 prefix = line.split()[0]
                 found.setdefault(prefix, 1)
