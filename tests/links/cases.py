@@ -2,6 +2,7 @@
 """The cases of tests/links.sh: `cases.py PROGRAM [NAME..]`. They run side by side, each in name spaces of its own."""
 
 import concurrent.futures
+import os
 import pathlib
 import signal
 import subprocess
@@ -9,7 +10,7 @@ import sys
 import tempfile
 import time
 
-from spaces import HERE, INFINITY, Bird, Frr, Net, Ours, Wrong, same, until
+from spaces import COMPANION, HERE, INFINITY, ROOT, Bird, Frr, Net, Ours, Wrong, same, until
 
 PROGRAM = None
 # Seconds within which regular updates, up to 45 s apart, and triggered ones, up to 5 s apart, have told all.
@@ -142,6 +143,9 @@ def a_lossy_cable(net):
         same("what differs on a cable that is good again", differing(routers, least(cables, owned)), {})
 
 
+# As a unit of systemd starts it: no root, and two capabilities.
+AS_BY_A_UNIT = ["setpriv", "--reuid=65534", "--regid=65534", "--clear-groups"]
+AS_BY_A_UNIT += [f"--{kind}-caps=+net_admin,+net_bind_service" for kind in ("inh", "ambient")]
 STRANGE = {
     "rubbish": ({"Short": 5, "Ragged": 5, "BadCommand": 5, "BadVersion": 5, "NotZero": 5}, {"taken": 25}),
     "hop-limit": ({}, {"dropped: hop limit not 255": 10}),
@@ -289,6 +293,22 @@ def addresses_come_and_go(net):
     same("whether the router has the link's address", f'address = "{address}"' in (ours.run / "router.toml").read_text(), True)
 
 
+def the_page(net):
+    """What README shows: BIRD by links/bird.sh, and a route of its in the kernel."""
+    here, folder = net.space("h"), net.folder / "run"
+    folder.mkdir()
+    (folder / "ripngd").symlink_to(PROGRAM)
+    words = ["env", f"SPACE={net.name}-bird", ROOT / "links/bird.sh"]
+    here.do(*words)
+    net.spaces.append(f"{net.name}-bird")
+    try:
+        found = [f"RUNTIME_DIRECTORY={folder}", f"PATH={folder}:{os.environ['PATH']}"]
+        here.start("companion", "env", *found, sys.executable, COMPANION, ROOT / "links/bird.toml")
+        until(TRIGGERED, "the route is there", lambda: set(here.routes("proto", "152")) == {"2001:db8:b::/48"})
+    finally:
+        here.do(*words, "down", check=False)
+
+
 def status(pid, key):
     [line] = [line for line in pathlib.Path(f"/proc/{pid}/status").read_text().splitlines() if line.startswith(key + ":")]
     return line.split()[1]
@@ -296,27 +316,29 @@ def status(pid, key):
 
 def no_privilege(net):
     """The companion keeps CAP_NET_ADMIN alone, and nothing where it leaves the kernel alone; the router has nothing in either case."""
-    b, o, p = (net.space(name) for name in "bop")
-    net.cable(b, o)
-    net.cable(b, p)
-    bird = Bird(b, {"to-o": 1, "to-p": 1}, ["2001:db8:1::/48"])
-    ours = Ours(o, PROGRAM, {"to-b": {}})
-    other = Ours(p, PROGRAM, {"to-b": {}}, ["2001:db8:4::/48"], words=["--no-kernel"])
-    until(REGULAR, "both have learned", lambda: other.table() == {"2001:db8:1::/48": 2, "2001:db8:4::/48": 1} and "2001:db8:4::/48" in ours.table())
-    same("the kernel that is left alone", other.kernel(), {})
-    until(5, "the other kernel", lambda: len(ours.kernel()) == 2)
-    same("BIRD's table", bird.table(), {"2001:db8:1::/48": 1, "2001:db8:4::/48": 2})
-    for router, kept in ((ours, 1 << 12), (other, 0)):
+    spaces = {name: net.space(name) for name in "bopq"}
+    for name in "opq":
+        net.cable(spaces["b"], spaces[name])
+    Bird(spaces["b"], {"to-o": 1, "to-p": 1, "to-q": 1}, ["2001:db8:1::/48"])
+    routers = {
+        "started by root": Ours(spaces["o"], PROGRAM, {"to-b": {}}, ["2001:db8:2::/48"]),
+        "with --no-kernel": Ours(spaces["p"], PROGRAM, {"to-b": {}}, ["2001:db8:3::/48"], words=["--no-kernel"]),
+        "started as by a unit": Ours(spaces["q"], PROGRAM, {"to-b": {}}, ["2001:db8:4::/48"], by=AS_BY_A_UNIT),
+    }
+    for name, router in routers.items():
+        until(REGULAR, f"one {name} has learned", lambda: len(router.table()) == 4)
+        wanted, kept = (0, 0) if name == "with --no-kernel" else (3, 1 << 12)
+        until(5, f"the kernel of one {name} has {wanted}", lambda: len(router.kernel()) == wanted)
         for pid in [router.process.pid, *router.children()]:
             mine = pid == router.process.pid
-            for key in ("CapEff", "CapPrm", "CapBnd", "CapAmb", "CapInh"):
-                most = kept if mine and key != "CapAmb" or key == "CapBnd" else 0
-                same(f"{key} of {'the companion' if mine else 'a child'}", int(status(pid, key), 16), most)
-            same("its user is root", status(pid, "Uid") == "0", False)
-            same("NoNewPrivs", status(pid, "NoNewPrivs"), "1")
+            for key in ("CapEff", "CapPrm", "CapInh", "CapAmb"):
+                same(f"{key} of process {pid} {name}", int(status(pid, key), 16), kept if mine and key != "CapAmb" else 0)
+            same(f"whether root has process {pid} {name}", status(pid, "Uid") == "0", False)
+            same(f"NoNewPrivs of process {pid} {name}", status(pid, "NoNewPrivs"), "1")
 
 
-CASES = [a_line, a_ring, a_lossy_cable, a_stranger, many_neighbors, a_killed_companion, many_routes, addresses_come_and_go, no_privilege]
+CASES = [a_line, a_ring, a_lossy_cable, a_stranger, many_neighbors, a_killed_companion, many_routes, addresses_come_and_go]
+CASES += [the_page, no_privilege]
 
 
 def play(case, folder):

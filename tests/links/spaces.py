@@ -60,7 +60,7 @@ class Net:
                 process.kill()
                 process.wait()
         for space in self.spaces:
-            subprocess.run(["ip", "netns", "del", space], check=False)
+            subprocess.run(["ip", "netns", "del", space], stderr=subprocess.DEVNULL, check=False)
 
     def space(self, name):
         full = f"{self.name}-{name}"
@@ -132,10 +132,10 @@ class Space:
 class Ours:
     """This router with its companion."""
 
-    def __init__(self, space, program, links, prefixes=(), more="", words=()):
-        self.space, self.program = space, program
+    def __init__(self, space, program, links, prefixes=(), words=(), by=()):
+        self.space, self.program, self.by = space, program, by
         self.config, self.run, self.words = space.folder / "links.toml", space.folder / "run", words
-        lines = ['user = "nobody"', f'program = "{program}"', f'folder = "{self.run}"', more]
+        lines = ['user = "nobody"', f'program = "{program}"', f'folder = "{self.run}"']
         for device, keys in links.items():
             lines += ["[[link]]", f'device = "{device}"', *(f"{key} = {json.dumps(value)}" for key, value in keys.items())]
         lines += [f'[[prefix]]\nprefix = "{prefix}"\ntag = 9' for prefix in prefixes]
@@ -143,7 +143,7 @@ class Ours:
         self.start()
 
     def start(self):
-        self.process = self.space.start("companion", sys.executable, COMPANION, *self.words, self.config)
+        self.process = self.space.start("companion", *self.by, sys.executable, COMPANION, *self.words, self.config)
 
     def end(self, signal):
         self.process.send_signal(signal)
