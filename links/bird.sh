@@ -1,9 +1,9 @@
 #!/usr/bin/env bash
-# A neighbor to try ripngd-links with: BIRD in a name space of this machine, at the other end of a cable that is `ripng0` here.
+# A neighbor to try ripngd-links with: BIRD in a name space of this machine, at the other end of a cable, `ripng0`.
 #
 #     links/bird.sh [up|down]
 #
-# BIRD owns 2001:db8:b::/48. Needs root, iproute2 and BIRD 2 (packages of the system). `SPACE=NAME` names the name space.
+# BIRD owns 2001:db8:b::/48. Needs root, iproute2 and BIRD 2 (packages of the system). SPACE=NAME names the name space.
 set -eu
 
 space=${SPACE:-ripngd-bird}

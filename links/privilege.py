@@ -1,4 +1,4 @@
-"""What a process may do: the companion CAP_NET_ADMIN alone once its sockets are open, `ip` the same, the router nothing."""
+"""What a process may do: the companion and `ip` CAP_NET_ADMIN once all sockets are open, the router nothing."""
 
 import ctypes
 import os
@@ -7,7 +7,7 @@ import signal
 import struct
 
 NET_ADMIN = 12
-# Of prctl(2): PR_SET_PDEATHSIG, PR_SET_KEEPCAPS, PR_CAPBSET_DROP, PR_SET_NO_NEW_PRIVS, PR_CAP_AMBIENT with its two commands.
+# Of prctl(2): PR_SET_PDEATHSIG, PR_SET_KEEPCAPS, PR_CAPBSET_DROP, PR_SET_NO_NEW_PRIVS, PR_CAP_AMBIENT and two more.
 DEATH_SIGNAL, KEEP, DROP_BOUND, NO_NEW_PRIVILEGES, AMBIENT, RAISE, CLEAR_ALL = 1, 8, 24, 38, 47, 2, 4
 VERSION_3 = 0x20080522
 libc, parent = ctypes.CDLL(None, use_errno=True), os.getpid()
@@ -18,7 +18,7 @@ def prctl(*words):
 
 
 def keep(*capabilities):
-    """Just these are permitted, effective and inheritable; a program that is started gets none, since none is ambient."""
+    """Just these are permitted, effective and inheritable. A program that is started gets none: none is ambient."""
     bits = sum(1 << capability for capability in capabilities)
     prctl(AMBIENT, CLEAR_ALL)
     if libc.capset(struct.pack("=Ii", VERSION_3, 0), struct.pack("=6I", bits, bits, bits, 0, 0, 0)) != 0:
@@ -45,7 +45,7 @@ def hand_on():
 
 
 def leave():
-    """What any other child does before all else: it keeps nothing, and ends where its parent does, however that ends."""
+    """What any other child does first: it keeps nothing, and ends where the companion does, however that ends."""
     keep()
     prctl(DEATH_SIGNAL, signal.SIGTERM)
     if os.getppid() != parent:

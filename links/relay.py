@@ -1,4 +1,4 @@
-"""A link of the router: its neighbors, each with a port of its own on 127.0.0.1, and what goes between them and the router."""
+"""A link of the router: what goes between its neighbors, each with a port of its own on 127.0.0.1, and the router."""
 
 import asyncio
 import collections
@@ -46,7 +46,7 @@ class Relay:
         return bool(self.device and self.device.carrier and self.device.link_local)
 
     def attach(self, number, local_port):
-        """A router starts that has this link as the interface of that number, at that port; answers the port of its group."""
+        """A router starts that has this link at that number and port; answers the port for its group."""
         self.number, self.local_port, self.group = number, local_port, loopback_port()
         self.group.connect((LOOPBACK, local_port))
         self.listen(self.group, GROUP)

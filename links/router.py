@@ -24,7 +24,7 @@ def configuration(interfaces, owned):
     """A configuration of interfaces, as their keys and values, and of owned prefixes with their tags."""
     lines = [f"seed = {int.from_bytes(os.urandom(8), 'big') >> 1}"]
     for interface in interfaces:
-        lines += ["", "[[interface]]", *(f'{key} = "{value}"' if key == "address" else f"{key} = {value}" for key, value in interface.items())]
+        lines += ["", "[[interface]]", *(f"{key} = {value}" for key, value in interface.items())]
     for prefix, tag in owned.items():
         lines += ["", "[[prefix]]", f'prefix = "{prefix}"', f"tag = {tag}"]
     return "\n".join(lines) + "\n"
@@ -44,11 +44,11 @@ class Router:
     """A process `ripngd run`, and one command at a time to it."""
 
     def __init__(self, program, folder):
-        self.program, self.config, self.control = program, os.path.join(folder, "router.toml"), os.path.join(folder, "control")
+        self.program, self.config, self.control = program, f"{folder}/router.toml", f"{folder}/control"
         self.process, self.ready, self.waiting, self.turn = None, False, 0, asyncio.Lock()
 
     async def live(self, text, debug, changed, said):
-        """Runs the process to its end, and answers its status. `changed` is given the lines of its log, `said` the others."""
+        """Runs the process, and answers its status. `changed` is given the lines of its log, `said` all others."""
         with open(os.open(self.config, os.O_WRONLY | os.O_CREAT | os.O_TRUNC, 0o600), "w") as file:
             file.write(text)
         words = [self.program, "run", *["-d"] * debug, "-R", "-", "--control", self.control, self.config]

@@ -2,16 +2,17 @@
 
 import json
 import subprocess
-from ipaddress import IPv6Address, IPv6Interface
+from ipaddress import IPv6Address, IPv6Network
 from typing import NamedTuple
 
 from privilege import hand_on
 
+UNSURE = {"tentative", "dadfailed"}
 WATCH = ["ip", "-o", "monitor", "link", "address"]
 
 
 class Device(NamedTuple):
-    """A device: whether it has a carrier, its link-local address, all of its addresses, the prefixes of its global ones."""
+    """A device: its link-local address, all of its addresses, the prefixes of its global ones, and more."""
 
     index: int
     carrier: bool
@@ -28,17 +29,18 @@ def devices():
 
 
 def device(entry):
-    usable = [one for one in entry["addr_info"] if one["family"] == "inet6" and not {"tentative", "dadfailed"} & one.keys()]
-    near = [IPv6Address(one["local"]) for one in usable if one["scope"] == "link"]
-    far = [IPv6Interface(f"{one.get('address', one['local'])}/{one['prefixlen']}").network for one in usable if one["scope"] == "global"]
+    told = [one for one in entry["addr_info"] if one["family"] == "inet6" and not UNSURE & one.keys()]
+    near = [IPv6Address(one["local"]) for one in told if one["scope"] == "link"]
+    far = [(one.get("address", one["local"]), one["prefixlen"]) for one in told if one["scope"] == "global"]
     carrier = {"UP", "LOWER_UP"} <= set(entry["flags"])
-    addresses = frozenset(IPv6Address(one["local"]) for one in usable)
-    return Device(entry["ifindex"], carrier, entry["mtu"], near[0] if near else None, addresses, frozenset(far))
+    addresses = frozenset(IPv6Address(one["local"]) for one in told)
+    prefixes = frozenset(IPv6Network(prefix, strict=False) for prefix in far)
+    return Device(entry["ifindex"], carrier, entry["mtu"], near[0] if near else None, addresses, prefixes)
 
 
 class Kernel:
-    """The routes of one table that have one protocol number. No other is touched: none is replaced, and each that is taken away
-    is named by table, protocol number, priority, gateway and device."""
+    """The routes of one table that have one protocol number. No other is touched: none is replaced, and each that is
+    taken away is named by table, protocol number, priority, gateway and device."""
 
     def __init__(self, table, protocol, priority, is_used):
         self.own, self.priority, self.is_used = f"table {table} proto {protocol}", priority, is_used
@@ -50,9 +52,9 @@ class Kernel:
         self.batch([f"route flush {self.own}"])
 
     def change(self, changes):
-        """Each prefix gets the gateway and device that it is given, or no route. An old one goes just before a new one comes."""
+        """Each prefix gets the gateway and device that it is given, or no route; an old route goes just before."""
         lines = []
-        for prefix, hop in changes.items():
+        for prefix, hop in changes.items() if self.is_used else ():
             old = self.held.pop(prefix, None)
             if old and old != hop:
                 lines.append(f"route del {prefix} {old} metric {self.priority} {self.own}")

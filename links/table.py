@@ -10,8 +10,8 @@ class Fault(Exception):
 
 
 # The keys of each table, with what holds where one is left out, or the kind of value of one that has to be there.
-TABLE = {"user": str, "program": "ripngd", "folder": "/run/ripngd-links", "table": 254, "protocol": 152, "priority": 521}
-TABLE |= {"link": [], "prefix": []}
+TABLE = {"user": str, "program": "ripngd", "folder": "/run/ripngd-links", "link": [], "prefix": []}
+TABLE |= {"table": 254, "protocol": 152, "priority": 521}
 LINK = {"device": str, "cost": 1, "peers": 64, "own": True, "tag": 0, "stub": False}
 PREFIX = {"prefix": str, "tag": 0}
 NUMBERS = {"cost": 15, "peers": 1024, "tag": 65535, "table": 2**32 - 1, "protocol": 255, "priority": 2**32 - 1}

@@ -49,14 +49,15 @@ class Wire:
         self.socket.setsockopt(socket.IPPROTO_IPV6, socket.IPV6_JOIN_GROUP, request)
 
     def receive(self):
-        """The next datagram, as its device's index, bytes, source, port, destination and hop limit; None where none is there."""
+        """The next datagram, as its device's index, bytes, source, port, destination and hop limit; or None."""
         try:
             data, told, _, (source, port, *_) = self.socket.recvmsg(LONGEST, 128)
         except BlockingIOError:
             return None
         found = {kind: value for _, kind, value in told}
         to, index = struct.unpack("@16sI", found[socket.IPV6_PKTINFO])
-        return index, data, IPv6Address(source), port, IPv6Address(to), struct.unpack("@i", found[socket.IPV6_HOPLIMIT])[0]
+        hops = struct.unpack("@i", found[socket.IPV6_HOPLIMIT])[0]
+        return index, data, IPv6Address(source), port, IPv6Address(to), hops
 
     def send(self, data, device, to):
         """Sends from the link-local address of the device, with hop limit 255."""

@@ -1,5 +1,5 @@
-"""Name spaces and cables of a case, and the routers in them: this one with its companion, BIRD, FRR. Each is asked for its table in
-the same words: a dict of prefixes and metrics, without those of metric 16."""
+"""Name spaces and cables of a case, and the routers in them: this one with its companion, BIRD, FRR. Each is asked for
+its table in the same words: a dict of prefixes and metrics, without those of metric 16."""
 
 import json
 import os
@@ -74,14 +74,14 @@ class Net:
     def cable(self, one, other):
         """A pair of virtual interfaces, each named for the space at its other end."""
         ends = (f"to-{other.name}", f"to-{one.name}")
-        made = ["ip", "link", "add", ends[0], "netns", one.full, "type", "veth", "peer", "name", ends[1], "netns", other.full]
-        subprocess.run(made, check=True)
+        other_end = ["peer", "name", ends[1], "netns", other.full]
+        subprocess.run(["ip", "link", "add", ends[0], "netns", one.full, "type", "veth", *other_end], check=True)
         one.ip("link", "set", ends[0], "up")
         other.ip("link", "set", ends[1], "up")
         return ends
 
     def lossy_cable(self, one, other, thirds):
-        """The same by way of a name space in which a third of all frames is lost, or as many thirds as the file says."""
+        """The same by way of a name space in which as many thirds of all frames are lost as the file says."""
         middle = self.space(f"w{len(self.spaces)}")
         for end in (one, other):
             self.cable(end, middle)
@@ -126,7 +126,7 @@ class Space:
     def routes(self, *words):
         """Lines of the kernel's table, by prefix."""
         told = json.loads(self.ip("-j", "-6", "route", "show", *words) or "[]")
-        return {("::/0" if one["dst"] == "default" else one["dst"] + ("" if "/" in one["dst"] else "/128")): one for one in told}
+        return {one["dst"] if "/" in one["dst"] else one["dst"] + "/128": one for one in told}
 
 
 class Ours:
@@ -137,7 +137,8 @@ class Ours:
         self.config, self.run, self.words = space.folder / "links.toml", space.folder / "run", words
         lines = ['user = "nobody"', f'program = "{program}"', f'folder = "{self.run}"']
         for device, keys in links.items():
-            lines += ["[[link]]", f'device = "{device}"', *(f"{key} = {json.dumps(value)}" for key, value in keys.items())]
+            lines += ["[[link]]", f'device = "{device}"']
+            lines += [f"{key} = {json.dumps(value)}" for key, value in keys.items()]
         lines += [f'[[prefix]]\nprefix = "{prefix}"\ntag = 9' for prefix in prefixes]
         self.config.write_text("\n".join(lines) + "\n")
         self.start()
@@ -152,7 +153,8 @@ class Ours:
 
     def ctl(self, *words):
         """The lines that `ctl` prints; none while the router is not there."""
-        done = subprocess.run([self.program, "ctl", self.run / "control", *words], capture_output=True, text=True, check=False)
+        words = [self.program, "ctl", self.run / "control", *words]
+        done = subprocess.run(words, capture_output=True, text=True, check=False)
         return done.stdout.splitlines() if done.returncode == 0 else []
 
     def routes(self):
@@ -171,9 +173,8 @@ class Ours:
         self.process.send_signal(signal.SIGUSR1)
         until(5, "the counts", lambda: self.space.text("companion").count("ripngd-links: kernel ") > before)
         text = self.space.text("companion")
-        found = re.findall(r"^ripngd-links: (to-\S+ .*) (\d+)$", text, re.M)
-        found += [("kernel refused", number) for number in re.findall(r"^ripngd-links: kernel has \d+, refused (\d+)$", text, re.M)]
-        return {words: int(number) for words, number in found}
+        found = re.findall(r"^ripngd-links: (to-\S+ .*|kernel has \d+, refused) (\d+)$", text, re.M)
+        return {re.sub("has .* ", "", words): int(number) for words, number in found}
 
     def refused(self):
         """What the router has refused, by name."""
@@ -181,21 +182,23 @@ class Ours:
         return {words[2]: int(words[3]) for words in found if words[0] in ("refused", "noted")}
 
     def children(self):
-        return [int(pid) for pid in subprocess.run(["pgrep", "-P", str(self.process.pid)], capture_output=True, text=True).stdout.split()]
+        told = subprocess.run(["pgrep", "-P", str(self.process.pid)], capture_output=True, text=True, check=False)
+        return [int(pid) for pid in told.stdout.split()]
 
 
 class Bird:
     """BIRD 2, as RIPng and with its routes in the kernel."""
 
-    def __init__(self, space, links, prefixes=(), update=30, timers=""):
-        self.space, self.links, self.update, self.timers = space, links, update, timers
+    def __init__(self, space, links, prefixes=(), update=30):
+        self.space, self.links, self.update = space, links, update
         self.config, self.control = space.folder / "bird.conf", space.folder / "bird.ctl"
         self.write(prefixes)
         space.start("bird", "bird", "-f", "-c", self.config, "-s", self.control, "-P", space.folder / "bird.pid")
 
     def write(self, prefixes):
         static = "".join(f"  route {prefix} unreachable;\n" for prefix in prefixes)
-        ports = "".join(f'  interface "{device}" {{ metric {cost}; update time {self.update}; {self.timers} }};\n' for device, cost in self.links.items())
+        keys = {device: f"metric {cost}; update time {self.update};" for device, cost in self.links.items()}
+        ports = "".join(f'  interface "{device}" {{ {words} }};\n' for device, words in keys.items())
         self.config.write_text(
             "router id 192.0.2.1;\nprotocol device { scan time 1; }\n"
             f"protocol static own {{ ipv6;\n{static}}}\n"
@@ -233,7 +236,7 @@ class Frr:
         self.sockets = space.folder / "vty"
         self.sockets.mkdir()
         shutil.chown(self.sockets, "frr", "frr")
-        ripng = "".join(f" network {device}\n" for device in links) + "".join(f" route {prefix}\n" for prefix in prefixes)
+        ripng = "".join([f" network {device}\n" for device in links] + [f" route {prefix}\n" for prefix in prefixes])
         self.daemon("zebra", "hostname frr\n")
         until(20, "zebra is up", lambda: (self.sockets / "zserv").exists())
         self.daemon("ripngd", f"hostname frr\nrouter ripng\n{ripng}")
@@ -242,8 +245,8 @@ class Frr:
         path = self.sockets / f"{name}.conf"
         path.write_text(config)
         shutil.chown(path, "frr", "frr")
-        words = ["-f", path, "-i", self.sockets / f"{name}.pid", "-z", self.sockets / "zserv", "--vty_socket", self.sockets, "-P", "0"]
-        self.space.start(name, FRR / name, *words)
+        words = ["-f", path, "-i", self.sockets / f"{name}.pid", "-z", self.sockets / "zserv"]
+        self.space.start(name, FRR / name, *words, "--vty_socket", self.sockets, "-P", "0")
 
     def ask(self, words):
         return self.space.do("vtysh", "--vty_socket", self.sockets, "-c", words, check=False)

@@ -1,5 +1,5 @@
 #!/usr/bin/env python3
-"""What a neighbor sends on a link: `stranger.py DEVICE KIND [SOURCE]`, each of KIND five times; of `request` it prints the answer."""
+"""What somebody sends on a link: `stranger.py DEVICE KIND [SOURCE]`, five times; of `request` it prints the answer."""
 
 import ipaddress
 import socket
@@ -28,8 +28,8 @@ def answer(sock):
     sock.settimeout(5)
     data, told, _, (_, port, *_) = sock.recvmsg(65535, 128)
     hops = struct.unpack("@i", told[0][2])[0]
-    entries = [data[at : at + 20] for at in range(4, len(data), 20)]
-    return " ".join([str(hops), *(f"{ipaddress.IPv6Address(entry[:16])}/{entry[18]}" for entry in entries)]) if port == PORT else "from no router"
+    prefixes = [f"{ipaddress.IPv6Address(data[at : at + 16])}/{data[at + 18]}" for at in range(4, len(data), 20)]
+    return " ".join([str(hops), *prefixes]) if port == PORT else f"from port {port}"
 
 
 def main():

@@ -1,8 +1,8 @@
 #!/usr/bin/env python3
-"""A cable that loses: `wire.py DEVICE DEVICE FILE` carries frames between two devices, and loses as many thirds of them as FILE says.
+"""A cable that loses: `wire.py DEVICE DEVICE FILE` carries frames between two devices, but as many thirds as FILE says.
 
-The kernel's netem does the same where it was built with it. A frame goes out as it came in, with what the kernel says of its
-checksum (PACKET_VNET_HDR)."""
+The kernel's netem does the same where it was built with it. A frame goes out as it came in, with what the kernel says
+of its checksum (PACKET_VNET_HDR)."""
 
 import pathlib
 import random

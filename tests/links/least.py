@@ -1,0 +1,37 @@
+"""The least costs of a network by plain computation, and how long a network may take to have them."""
+
+from spaces import INFINITY, until
+
+# Seconds within which regular updates, up to 45 s apart, and triggered ones, up to 5 s apart, have told all.
+REGULAR, TRIGGERED, GARBAGE = 100, 30, 170
+
+
+def least(cables, owned):
+    """Each router's metrics: a cable is a router, what the cable costs there, and the same of its other end."""
+    tables = {router: dict.fromkeys(prefixes, 1) for router, prefixes in owned.items()}
+    for _ in range(INFINITY):
+        for one, cost, other, cost_there in cables:
+            for here, added, there in ((one, cost, other), (other, cost_there, one)):
+                for prefix, metric in tables[there].items():
+                    if metric + added < tables[here].get(prefix, INFINITY):
+                        tables[here][prefix] = metric + added
+    return tables
+
+
+def differing(routers, wanted):
+    """The tables that are not as they are wanted."""
+    found = {name: router.table() for name, router in routers.items()}
+    return {name: table for name, table in found.items() if table != wanted[name]}
+
+
+def settle(routers, wanted, seconds=REGULAR):
+    """Waits until each router has these metrics, and its kernel just the prefixes that are learned."""
+
+    def what():
+        found = differing(routers, wanted)
+        return "; ".join(f"{name} has {table} and not {wanted[name]}" for name, table in found.items())[:600]
+
+    until(seconds, what, lambda: not differing(routers, wanted))
+    for name, router in routers.items():
+        learned = {prefix for prefix, metric in wanted[name].items() if metric > 1}
+        until(5, lambda: f"the kernel of {name} is right", lambda: set(router.kernel()) == learned)
