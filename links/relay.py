@@ -105,25 +105,24 @@ class Relay:
             self.counts["dropped: router not up"] += 1
 
     def neighbor(self, source):
-        """The neighbor of that address, or a new one, if there is room; the one that was silent longest goes for it."""
+        """The neighbor of that address, or a new one; the one silent longest goes for it, if the router knows it."""
         if source not in self.neighbors:
-            if self.router.is_busy():
-                return None
             if len(self.neighbors) >= self.link.peers:
                 silent = next(iter(self.neighbors))
+                if not self.neighbors[silent].known:
+                    return None
                 self.forget(silent)
                 self.counts["neighbors let go"] += 1
                 spawn(self.router.tell(f"unpeer {self.number} {silent}"))
             self.neighbors[source] = neighbor = Neighbor()
             neighbor.socket.connect((LOOPBACK, self.local_port))
             self.listen(neighbor.socket, source)
-            spawn(self.meet(source, neighbor))
+            spawn(self.meet(source, neighbor, neighbor.socket.getsockname()[1]))
         self.neighbors.move_to_end(source)
         return self.neighbors[source]
 
-    async def meet(self, source, neighbor):
+    async def meet(self, source, neighbor, port):
         """Makes the neighbor known to the router."""
-        port = neighbor.socket.getsockname()[1]
         _, verdict = await self.router.tell(f"peer {self.number} {source} {port}")
         if self.neighbors.get(source) is not neighbor:
             return

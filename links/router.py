@@ -9,8 +9,8 @@ import sys
 from privilege import leave
 from table import Fault
 
-# Seconds that an answer may take, and commands that may wait.
-PATIENCE, WAITING = 10, 256
+# Seconds that an answer may take.
+PATIENCE = 10
 
 
 def free_port():
@@ -45,7 +45,7 @@ class Router:
 
     def __init__(self, program, folder):
         self.program, self.config, self.control = program, f"{folder}/router.toml", f"{folder}/control"
-        self.process, self.ready, self.waiting, self.turn = None, False, 0, asyncio.Lock()
+        self.process, self.ready, self.turn = None, False, asyncio.Lock()
 
     async def live(self, text, debug, changed, said):
         """Runs the process, and answers its status. `changed` is given the lines of its log, `said` all others."""
@@ -70,12 +70,8 @@ class Router:
             *lines, rest = (rest + data).split(b"\n")
             heard([line.decode(errors="replace") for line in lines])
 
-    def is_busy(self):
-        return self.waiting >= WAITING
-
     async def tell(self, command):
         """The lines of the answer to a command of `ctl`, and the last one, which is `ok` or says what was refused."""
-        self.waiting += 1
         try:
             async with self.turn, asyncio.timeout(PATIENCE):
                 reader, writer = await asyncio.open_unix_connection(self.control)
@@ -86,8 +82,6 @@ class Router:
                     writer.close()
         except (OSError, ValueError):
             lines, verdict = [], "no whole answer"
-        finally:
-            self.waiting -= 1
         if verdict != "ok":
             say(f"{command}: {verdict}")
         return lines, verdict

@@ -71,6 +71,28 @@ def many_neighbors(net, program):
     same("how many were let go", ours.counts().get("to-s neighbors let go"), 3)
 
 
+def a_flood(net, program):
+    """Three thousand made-up neighbors: no more stay than have room, and other links and later neighbors are served."""
+    b, o, s = (net.space(name) for name in "bos")
+    net.cable(b, o)
+    net.cable(o, s)
+    ours = Ours(o, program, {"to-b": {}, "to-s": {"peers": 8}}, ["2001:db8:2::/48"])
+    bird = Bird(b, {"to-o": 1}, ["2001:db8:1::/48"])
+    until(REGULAR, "BIRD has learned", lambda: "2001:db8:2::/48" in bird.table())
+    before = len(list(pathlib.Path(f"/proc/{ours.process.pid}/fd").iterdir()))
+    stranger(s, "flood")
+    bird.own(["2001:db8:1::/48", "2001:db8:10::/48"])
+    until(TRIGGERED, "BIRD's new prefix is learned", lambda: ours.table().get("2001:db8:10::/48") == 2)
+    until(TRIGGERED, "one of the flood is learned, and told", lambda: bird.table().get("2001:db8:bad::/48") == 3)
+    counts = ours.counts()
+    heard = [counts.get(f"to-s {what}", 0) for what in ("taken", "dropped: too much at once")]
+    same("what became of the flood", (sum(heard), heard[0] > 0, heard[1] > 0), (3000, True, True))
+    more = len(list(pathlib.Path(f"/proc/{ours.process.pid}/fd").iterdir())) - before
+    same("whether it has no more sockets than neighbors have room", more <= 8, True)
+    answer = "255 " + " ".join(f"2001:db8:{name}::/48" for name in ("1", "2", "10", "bad"))
+    same("the answer to a later neighbor", stranger(s, "request"), answer)
+
+
 OTHERS = (
     "2001:db8:77::/48 dev to-b proto static",
     "2001:db8:1::/48 dev to-b proto static metric 100",

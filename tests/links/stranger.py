@@ -1,12 +1,14 @@
 #!/usr/bin/env python3
-"""What somebody sends on a link: `stranger.py DEVICE KIND [SOURCE]`, five times; of `request` it prints the answer."""
+"""What somebody sends on a link: `stranger.py DEVICE KIND [SOURCE]`, five times; of `request` it prints the answer, and
+`flood` sends 3,000 Responses, each from another link-local address."""
 
 import ipaddress
+import os
 import socket
 import struct
 import sys
 
-GROUP, PORT, TIMES = "ff02::9", 521, 5
+GROUP, PORT, TIMES, FLOOD = "ff02::9", 521, 5, 3000
 ENTRY = ipaddress.IPv6Address("2001:db8:bad::").packed + struct.pack("!HBB", 0, 48, 1)
 RESPONSE = b"\2\1\0\0" + ENTRY
 REQUEST = b"\1\1\0\0" + bytes(19) + b"\x10"
@@ -32,8 +34,33 @@ def answer(sock):
     return " ".join([str(hops), *prefixes]) if port == PORT else f"from port {port}"
 
 
+def checksum(data):
+    """The checksum of the Internet, of an even number of bytes."""
+    total = sum(struct.unpack(f"!{len(data) // 2}H", data))
+    return 0xFFFF - total % 0xFFFF
+
+
+def frame(source):
+    """A Response to the group from that address, as it goes over a cable."""
+    group = ipaddress.IPv6Address(GROUP).packed
+    head = struct.pack("!HHH", PORT, PORT, 8 + len(RESPONSE))
+    whole = struct.pack("!IxxxB", 8 + len(RESPONSE), socket.IPPROTO_UDP) + head + b"\0\0" + RESPONSE
+    udp = head + struct.pack("!H", checksum(source + group + whole)) + RESPONSE
+    ethernet = bytes.fromhex("333300000009 020000000001 86dd")
+    return ethernet + struct.pack("!IHBB", 6 << 28, len(udp), socket.IPPROTO_UDP, 255) + source + group + udp
+
+
+def flood(device):
+    sock = socket.socket(socket.AF_PACKET, socket.SOCK_RAW)
+    sock.bind((device, 0))
+    for _ in range(FLOOD):
+        sock.send(frame(b"\xfe\x80" + bytes(6) + os.urandom(8)))
+
+
 def main():
     device, kind, source = (*sys.argv[1:], "::")[:3]
+    if kind == "flood":
+        return flood(device)
     index = socket.if_nametoindex(device)
     group = (GROUP, PORT, 0, index)
     sock = {
