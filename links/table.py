@@ -14,7 +14,7 @@ TABLE = {"user": str, "program": "ripngd", "folder": "/run/ripngd-links", "link"
 TABLE |= {"table": 254, "protocol": 152, "priority": 521}
 LINK = {"device": str, "cost": 1, "peers": 64, "own": True, "tag": 0, "stub": False}
 PREFIX = {"prefix": str, "tag": 0}
-NUMBERS = {"cost": 15, "peers": 1024, "tag": 65535, "table": 2**32 - 1, "protocol": 255, "priority": 2**32 - 1}
+NUMBERS = {"cost": 15, "peers": 256, "tag": 65535, "table": 2**32 - 1, "protocol": 255, "priority": 2**32 - 1}
 LEAST = {"tag": 0, "protocol": 5}
 
 

@@ -169,8 +169,10 @@ def links_come_and_go(net, program):
     b, o = net.space("b"), net.space("o")
     net.cable(b, o)
     owned, cables = {"b": ["2001:db8:1::/48"], "o": ["2001:db8:2::/48"]}, [("b", 1, "o", 1)]
-    routers = {"b": Bird(b, {"to-o": 1}, owned["b"]), "o": Ours(o, program, {"to-b": {}}, owned["o"])}
-    ours = routers["o"]
+    # Its updates are so far apart that a link which is there again has to be asked.
+    bird = Bird(b, {"to-o": 1}, owned["b"], update=120)
+    ours = Ours(o, program, {"to-b": {}}, owned["o"])
+    routers = {"b": bird, "o": ours}
     settle(routers, least(cables, owned))
     o.do("sysctl", "-qw", "net.ipv6.conf.to-b.accept_dad=0")
     o.do("ip", "-batch", "-", input="link set to-b down\nlink set to-b up\n")

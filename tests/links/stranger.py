@@ -1,12 +1,13 @@
 #!/usr/bin/env python3
-"""What somebody sends on a link: `stranger.py DEVICE KIND [SOURCE]`, five times; of `request` it prints the answer, and
-`flood` sends 3,000 Responses, each from another link-local address."""
+"""What somebody sends on a link: `stranger.py DEVICE KIND [SOURCE [TIMES]]`, five times; of `request` it prints the
+answer, and `flood` sends 3,000 Responses, each from another link-local address."""
 
 import ipaddress
 import os
 import socket
 import struct
 import sys
+import time
 
 GROUP, PORT, TIMES, FLOOD = "ff02::9", 521, 5, 3000
 ENTRY = ipaddress.IPv6Address("2001:db8:bad::").packed + struct.pack("!HBB", 0, 48, 1)
@@ -58,7 +59,7 @@ def flood(device):
 
 
 def main():
-    device, kind, source = (*sys.argv[1:], "::")[:3]
+    device, kind, source, times = sys.argv[1:] + ["::", TIMES][len(sys.argv) - 3 :]
     if kind == "flood":
         return flood(device)
     index = socket.if_nametoindex(device)
@@ -71,9 +72,11 @@ def main():
     if kind == "request":
         sock.sendto(REQUEST, group)
         return print(answer(sock))
-    for _ in range(TIMES):
-        for data in {"rubbish": RUBBISH, "neighbor": (RESPONSE,)}.get(kind, (RESPONSE, REQUEST)):
+    sent = {"rubbish": RUBBISH, "neighbor": (RESPONSE,), "responses": (RESPONSE,), "requests": (REQUEST,)}
+    for _ in range(int(times)):
+        for data in sent.get(kind, (RESPONSE, REQUEST)):
             sock.sendto(data, group)
+            time.sleep(0.0005)
 
 
 if __name__ == "__main__":
