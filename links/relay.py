@@ -5,7 +5,7 @@ import collections
 import ipaddress
 import socket
 
-from router import spawn
+from router import say, spawn
 from wire import GROUP, LONGEST, fault_of, make_room
 
 LOOPBACK = "127.0.0.1"
@@ -72,19 +72,25 @@ class Relay:
         self.close(self.neighbors.pop(address).socket)
 
     def send(self, sock, to):
-        """Sends on the link what the router has sent, to the group or to a neighbor, and then pauses."""
+        """Takes what the router has sent, to the group or to a neighbor, and then pauses."""
         loop = asyncio.get_running_loop()
         loop.remove_reader(sock)
         loop.call_later(GAP, self.listen, sock, to)
         try:
             data = sock.recv(LONGEST)
+        except OSError:  # nothing is there, or the router is not
+            return
+        self.transmit(data, to)
+
+    def transmit(self, data, to):
+        """Sends on the link."""
+        what = "sent" if self.up else "not sent: no carrier"
+        try:
             if self.up:
                 self.wire.send(data, self.device, to)
-            self.counts["sent" if self.up else "not sent: no carrier"] += 1
-        except ConnectionRefusedError:  # the router is not there
-            pass
         except OSError as fault:
-            self.counts[f"not sent: {fault.strerror}"] += 1
+            what = f"not sent: {fault.strerror}"
+        self.counts[what] += 1
 
     def take(self, data, source, port, to, hops):
         """A datagram that came on the link is for the router, or counted with why it is not."""
@@ -133,10 +139,14 @@ class Relay:
             self.hand_over(neighbor, data)
         neighbor.waiting = []
 
-    def ask(self):
-        """The link has a carrier again: its neighbors are asked for their tables, as by a router that starts."""
+    def join(self):
+        """The link has a carrier: it is heard, and asked for its neighbors' tables, as by a router that starts."""
+        try:
+            self.wire.join(self.device.index)
+        except OSError as fault:
+            say(f"{self.link.device} is not heard: {fault.strerror}")
         if self.number is not None:
-            self.wire.send(REQUEST, self.device, GROUP)
+            self.transmit(REQUEST, GROUP)
 
     async def withdraw(self):
         """The link has no carrier: in its neighbors' stead the router is told metric 16 of each route through them."""

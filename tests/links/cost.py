@@ -1,6 +1,6 @@
 #!/usr/bin/env python3
-"""What the companion costs: `cost.py PROGRAM [DATAGRAMS]` prints its processor time for a datagram that goes from a link
-to the router, and for one that is answered, so for one each way. Needs a machine with nothing else to do."""
+"""What the companion costs: `cost.py PROGRAM [DATAGRAMS]` prints its processor time for a datagram from a link to the
+router, and for one that is answered, so for one each way. Needs a machine with nothing else to do."""
 
 import pathlib
 import sys
