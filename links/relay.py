@@ -2,8 +2,9 @@
 
 import asyncio
 import collections
-import ipaddress
+import re
 import socket
+from ipaddress import IPv6Address
 
 from router import say, spawn
 from wire import GROUP, LONGEST, fault_of, make_room
@@ -11,6 +12,8 @@ from wire import GROUP, LONGEST, fault_of, make_room
 LOOPBACK = "127.0.0.1"
 # Bytes of a neighbor that wait until the router knows it; withdrawals in a datagram of 1,280 bytes.
 WAITING, WITHDRAWALS = 1 << 19, 61
+# A line of `ctl routes`.
+LEARNED = re.compile(r"(\S+)/(\d+) metric \d+ tag (\d+) via \S+ iface (\d+) from (\S+) live .*")
 # Asks for a whole table (RFC 2080 section 2.4.1).
 REQUEST = b"\1\1" + bytes(21) + b"\x10"
 # Seconds from one datagram on a link to the next: FRR's socket holds no more than seven of an update.
@@ -152,17 +155,13 @@ class Relay:
         """The link has no carrier: in its neighbors' stead the router is told metric 16 of each route through them."""
         routes, _ = await self.router.tell("routes") if self.router.ready else ([], "")
         lost = collections.defaultdict(list)
-        for words in map(str.split, routes):
-            if "live" in words and words[words.index("iface") + 1] == str(self.number):
-                lost[ipaddress.IPv6Address(words[words.index("from") + 1])].append(withdrawal(words))
+        for found in filter(None, map(LEARNED.fullmatch, routes)):
+            prefix, length, tag, number, source = found.groups()
+            if int(number) == self.number:
+                entry = IPv6Address(prefix).packed + int(tag).to_bytes(2, "big") + bytes((int(length), 16))
+                lost[IPv6Address(source)].append(entry)
         for source, entries in lost.items():
             for at in range(0, len(entries), WITHDRAWALS):
                 if source in self.neighbors and not self.up:
                     self.hand_over(self.neighbors[source], b"\2\1\0\0" + b"".join(entries[at : at + WITHDRAWALS]))
                     await asyncio.sleep(GAP)
-
-
-def withdrawal(words):
-    """The entry of a Response that tells a route, as a line of `ctl routes` has it, with metric 16."""
-    prefix, tag = ipaddress.IPv6Network(words[0]), int(words[words.index("tag") + 1])
-    return prefix.network_address.packed + tag.to_bytes(2, "big") + bytes((prefix.prefixlen, 16))

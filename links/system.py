@@ -3,23 +3,12 @@
 import json
 import subprocess
 from ipaddress import IPv6Address, IPv6Network
-from typing import NamedTuple
+from types import SimpleNamespace
 
 from privilege import hand_on
 
 UNSURE = {"tentative", "dadfailed"}
 WATCH = ["ip", "-o", "monitor", "link", "address"]
-
-
-class Device(NamedTuple):
-    """A device: its link-local address, all of its addresses, the prefixes of its global ones, and more."""
-
-    index: int
-    carrier: bool
-    mtu: int
-    link_local: IPv6Address | None
-    addresses: frozenset
-    prefixes: frozenset
 
 
 def devices():
@@ -29,13 +18,18 @@ def devices():
 
 
 def device(entry):
+    """A device: its link-local address, all of its addresses, the prefixes of its global ones, and more."""
     told = [one for one in entry["addr_info"] if one["family"] == "inet6" and not UNSURE & one.keys()]
     near = [IPv6Address(one["local"]) for one in told if one["scope"] == "link"]
     far = [(one.get("address", one["local"]), one["prefixlen"]) for one in told if one["scope"] == "global"]
-    carrier = {"UP", "LOWER_UP"} <= set(entry["flags"])
-    addresses = frozenset(IPv6Address(one["local"]) for one in told)
-    prefixes = frozenset(IPv6Network(prefix, strict=False) for prefix in far)
-    return Device(entry["ifindex"], carrier, entry["mtu"], near[0] if near else None, addresses, prefixes)
+    return SimpleNamespace(
+        index=entry["ifindex"],
+        carrier={"UP", "LOWER_UP"} <= set(entry["flags"]),
+        mtu=entry["mtu"],
+        link_local=near[0] if near else None,
+        addresses={IPv6Address(one["local"]) for one in told},
+        prefixes={IPv6Network(prefix, strict=False) for prefix in far},
+    )
 
 
 class Kernel:
