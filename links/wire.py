@@ -4,6 +4,8 @@ import socket
 import struct
 from ipaddress import IPv6Address
 
+from table import Fault
+
 PORT, HOPS = 521, 255
 GROUP = IPv6Address("ff02::9")
 # Of the kernel's headers: IPV6_MULTICAST_ALL and SO_RCVBUFFORCE.
@@ -31,7 +33,10 @@ class Wire:
         for option, value in OPTIONS.items():
             self.socket.setsockopt(socket.IPPROTO_IPV6, option, value)
         make_room(self.socket)
-        self.socket.bind(("::", PORT))
+        try:
+            self.socket.bind(("::", PORT))
+        except OSError as fault:
+            raise Fault(f"cannot bind port {PORT}: {fault.strerror}") from None
 
     def join(self, index):
         """Hears the group of all RIPng routers on the link of that device, anew if it did before."""
