@@ -65,10 +65,10 @@ def many_neighbors(net, program):
     until(20, "the router is up", ours.table)
     for number in range(1, 6):
         s.ip("address", "add", f"fe80::{number}/64", "dev", "to-o", "nodad")
-    for number in (1, 2, 3, 1, 4, 1, 5, 2):
+    for number in (1, 2, 3, 1, 4, 1, 4, 5):
         same("the answer", stranger(s, "request", f"fe80::{number}"), "255 2001:db8:2::/48")
-    # 4 takes the place of 2, 5 that of 3, and 2 that of 4: 1 was heard again before each of them.
-    same("how many were let go", ours.counts().get("to-s neighbors let go"), 3)
+    # 4 takes the place of 2, since 1 was heard again, and 5 that of 3.
+    same("how many were let go", ours.counts().get("to-s neighbors let go"), 2)
 
 
 def a_flood(net, program):
