@@ -143,13 +143,16 @@ class Relay:
         neighbor.waiting = []
 
     def join(self):
-        """The link has a carrier: it is heard, and asked for its neighbors' tables, as by a router that starts."""
+        """The link has a carrier: it is heard, and whole tables are asked for, of it and in its neighbors' stead."""
         try:
             self.wire.join(self.device.index)
         except OSError as fault:
             say(f"{self.link.device} is not heard: {fault.strerror}")
         if self.number is not None:
             self.transmit(REQUEST, GROUP)
+        for neighbor in self.neighbors.values():
+            if neighbor.known:
+                self.hand_over(neighbor, REQUEST)
 
     async def withdraw(self):
         """The link has no carrier: in its neighbors' stead the router is told metric 16 of each route through them."""

@@ -27,11 +27,11 @@ def differing(routers, wanted):
 def settle(routers, wanted, seconds=REGULAR):
     """Waits until each router has these metrics, and its kernel just the prefixes that are learned."""
 
-    def what():
-        found = differing(routers, wanted)
-        return "; ".join(f"{name} has {table} and not {wanted[name]}" for name, table in found.items())[:600]
+    def wrong():
+        """What is not so, in words."""
+        tables = [f"{name} has {table} and not {wanted[name]}" for name, table in differing(routers, wanted).items()]
+        learned = {name: {prefix for prefix, metric in table.items() if metric > 1} for name, table in wanted.items()}
+        kernels = {name: set(router.kernel()) for name, router in routers.items()} if not tables else {}
+        return tables + [f"the kernel of {name} has {has}" for name, has in kernels.items() if has != learned[name]]
 
-    until(seconds, what, lambda: not differing(routers, wanted))
-    for name, router in routers.items():
-        learned = {prefix for prefix, metric in wanted[name].items() if metric > 1}
-        until(5, lambda: f"the kernel of {name} is right", lambda: set(router.kernel()) == learned)
+    until(seconds, lambda: "; ".join(wrong())[:600], lambda: not wrong())
