@@ -3,6 +3,7 @@
 import ctypes
 import os
 import pwd
+import resource
 import signal
 import struct
 
@@ -26,7 +27,10 @@ def keep(*capabilities):
 
 
 def drop(user, *capabilities):
-    """From here on this process is that user, where root started it, and has just these capabilities."""
+    """From here on this process is that user, where root started it, and has just these capabilities; and a socket for
+    each neighbor, as far as the system lets it."""
+    most = resource.getrlimit(resource.RLIMIT_NOFILE)[1]
+    resource.setrlimit(resource.RLIMIT_NOFILE, (most, most))
     if os.geteuid() == 0:
         account = pwd.getpwnam(user)
         for capability in set(range(64)) - set(capabilities):

@@ -31,8 +31,9 @@ def loopback_port():
 class Neighbor:
     """A router on the link: its port, whether the router knows it, and what waits until then."""
 
-    def __init__(self):
+    def __init__(self, local_port):
         self.socket, self.known, self.waiting = loopback_port(), False, []
+        self.socket.connect((LOOPBACK, local_port))
 
 
 class Relay:
@@ -97,7 +98,9 @@ class Relay:
 
     def take(self, data, source, port, to, hops):
         """A datagram that came on the link is for the router, or counted with why it is not."""
-        fault = fault_of(self.device, source, port, to, hops) or (None if self.router.ready else "router not up")
+        fault = fault_of(self.device, source, port, to, hops)
+        if not fault and (self.number is None or not self.router.ready):
+            fault = "router not up"
         neighbor = None if fault else self.neighbor(source)
         if neighbor and neighbor.known:
             self.hand_over(neighbor, data)
@@ -116,15 +119,18 @@ class Relay:
     def neighbor(self, source):
         """The neighbor of that address, or a new one; the one silent longest goes for it, if the router knows it."""
         if source not in self.neighbors:
-            if len(self.neighbors) >= self.link.peers:
-                silent = next(iter(self.neighbors))
-                if not self.neighbors[silent].known:
-                    return None
+            silent = next(iter(self.neighbors)) if len(self.neighbors) >= self.link.peers else None
+            if silent and not self.neighbors[silent].known:
+                return None
+            try:
+                neighbor = Neighbor(self.local_port)
+            except OSError:  # there are no more ports or files
+                return None
+            if silent:
                 self.forget(silent)
                 self.counts["neighbors let go"] += 1
                 spawn(self.router.tell(f"unpeer {self.number} {silent}"))
-            self.neighbors[source] = neighbor = Neighbor()
-            neighbor.socket.connect((LOOPBACK, self.local_port))
+            self.neighbors[source] = neighbor
             self.listen(neighbor.socket, source)
             spawn(self.meet(source, neighbor, neighbor.socket.getsockname()[1]))
         self.neighbors.move_to_end(source)

@@ -5,7 +5,7 @@
 #
 # A line for each case, `ok NAME` or `FAILED NAME: why`, and last `N passed, M failed`. The exit status is 0 exactly where M is 0.
 # Needs root, name spaces of the network, iproute2, Python 3.11, BIRD 2 and FRR (Debian's packages iproute2, bird2 and frr): where one
-# is missing a line `skipped: ..` says so, and nothing is tried. The cases run side by side, and take some six minutes.
+# is missing a line `skipped: ..` says so, and nothing is tried. The cases run side by side, and take some three minutes.
 set -u
 
 root=$(realpath "$(dirname "$0")/..")
@@ -24,9 +24,9 @@ lacks() {
     unshare -n ip link add end0 type veth peer name end1 2> /dev/null || echo "no name space with virtual interfaces"
 }
 
-lacking=$(lacks | head -n 1)
+lacking=$(lacks | sed -e 's/^/skipped: there is /' -e 's/$/, so the router is not tried on real links/')
 if [ -n "$lacking" ]; then
-    echo "skipped: there is $lacking, so the router is not tried on real links"
+    echo "$lacking"
     echo "0 passed, 0 failed"
     exit 0
 fi

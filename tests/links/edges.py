@@ -165,13 +165,13 @@ def addresses_come_and_go(net, program):
 
 
 def links_come_and_go(net, program):
-    """A link that blinks, or is made anew with another address, is used again; one that is gone is not."""
-    b, o = net.space("b"), net.space("o")
+    """A link that blinks, is made anew with another address, or comes late, is used; one that is gone is not."""
+    b, o, c = (net.space(name) for name in "boc")
     net.cable(b, o)
     owned, cables = {"b": ["2001:db8:1::/48"], "o": ["2001:db8:2::/48"]}, [("b", 1, "o", 1)]
     # Its updates are so far apart that a link which is there again has to be asked.
     bird = Bird(b, {"to-o": 1}, owned["b"], update=120)
-    ours = Ours(o, program, {"to-b": {}}, owned["o"])
+    ours = Ours(o, program, {"to-b": {}, "to-c": {}}, owned["o"])
     routers = {"b": bird, "o": ours}
     settle(routers, least(cables, owned))
     o.do("sysctl", "-qw", "net.ipv6.conf.to-b.accept_dad=0")
@@ -183,6 +183,9 @@ def links_come_and_go(net, program):
     settle(routers, least(cables, owned))
     address = o.ip("-6", "-o", "address", "show", "dev", "to-b", "scope", "link").split()[3].split("/")[0]
     same("whether it has the new address", f'"{address}"' in (ours.run / "router.toml").read_text(), True)
+    routers["c"] = Bird(c, {"to-o": 1}, ["2001:db8:3::/48"])
+    net.cable(c, o)
+    settle(routers, least([*cables, ("c", 1, "o", 1)], owned | {"c": ["2001:db8:3::/48"]}), 2 * REGULAR)
 
 
 def the_page(net, program):
