@@ -7,7 +7,7 @@ import subprocess
 import sys
 import time
 
-from least import REGULAR, TRIGGERED, least, settle
+from least import QUICK, REGULAR, TRIGGERED, least, settle
 from spaces import COMPANION, HERE, ROOT, Bird, Ours, same, until
 
 # What the router refuses and the companion drops of each kind of stranger.
@@ -175,8 +175,14 @@ def links_come_and_go(net, program):
     routers = {"b": bird, "o": ours}
     settle(routers, least(cables, owned))
     o.do("sysctl", "-qw", "net.ipv6.conf.to-b.accept_dad=0")
-    o.do("ip", "-batch", "-", input="link set to-b down\nlink set to-b up\n")
-    settle(routers, least(cables, owned), TRIGGERED)
+    for _ in range(3):
+        o.do("ip", "-batch", "-", input="link set to-b down\nlink set to-b up\n")
+        time.sleep(1)
+        settle(routers, least(cables, owned), QUICK)
+    o.do("sysctl", "-qw", "net.ipv6.conf.to-b.disable_ipv6=1")
+    until(TRIGGERED, "nothing is reached without an address", lambda: ours.table() == {"2001:db8:2::/48": 1})
+    o.do("sysctl", "-qw", "net.ipv6.conf.to-b.disable_ipv6=0")
+    settle(routers, least(cables, owned), QUICK)
     o.ip("link", "del", "to-b")
     until(TRIGGERED, "nothing is reached", lambda: ours.table() == {"2001:db8:2::/48": 1} and not ours.kernel())
     net.cable(b, o)
