@@ -581,7 +581,7 @@ answers() {
     shift 3
     ctl "$name" "$@"
     same "the status of '$*'" "$status" "$wanted" && same "standard error of '$*'" "$(cat "$folder/err")" "" &&
-        same "the answer to '$*'" "$(sed 's/ live [0-9]*/ live T/; s/^arrivals [0-9]* sends [0-9]*/arrivals A sends S/' "$folder/out")" "$lines"
+        same "the answer to '$*'" "$(sed 's/ live [0-9]*/ live T/; s/^arrivals [0-9]* sends [0-9]*/arrivals A sends S/; s/ last [0-9]*$/ last T/' "$folder/out")" "$lines"
 }
 
 # `speak NAME CODE`: what a client of that router gets that does so: `s` is its socket, and `got()` all that comes.
@@ -618,6 +618,30 @@ lost sends 0 steps 0" counts
     end "$east"
     end "$west"
     return $asked
+}
+
+# As `what_a_daemon_refuses_is_said_and_counted`, by sender: the first is heard only with a fault.
+a_running_router_tells_of_its_neighbors() {
+    local far_port near_port far near route='\x20\x01\x0d\xb8\x00\x00\x00\x00\x00\x00\x00\x00\x00\x00\x00\x00\x00\x00\x20'
+    next_port && far_port=$port
+    next_port && near_port=$port
+    open_feed "$far_port" && far=$feed || return
+    { interface 1 "$far_port" a "$feed_port" && echo 'hop_limit = 64'; } > "$folder/heard.toml"
+    open_feed "$near_port" && near=$feed || return
+    interface 2 "$near_port" b "$feed_port" >> "$folder/heard.toml"
+    listening heard && local heard=$pid && answers heard 0 "" neighbors || return
+    printf "\x02\x01\x00\x00$route\x01" >&"$far"
+    until_true answers heard 0 "iface 0 from fe80::a arrivals 1 responses 0 entries 0
+refused 10 HopLimit 1" neighbors || because "$why" || return
+    printf "\x02\x01\x00\x00$route\x11${route/0d/0e}\x01" >&"$near"
+    until_true answers heard 0 "iface 0 from fe80::a arrivals 1 responses 0 entries 0
+refused 10 HopLimit 1
+iface 1 from fe80::b arrivals 1 responses 1 entries 2 last T
+noted 22 BadMetric 1" neighbors || because "$why"
+    local told=$?
+    end "$heard"
+    exec {far}>&- {near}>&-
+    return $told
 }
 
 # What east is told is seen in its log and at west; that its interface costs more, in what it learns of west then.
@@ -775,6 +799,7 @@ try a_daemon_under_fire_keeps_its_routes
 try two_daemons_learn_a_large_table_from_each_other
 try three_neighbors_learn_a_large_table_at_once
 try a_running_router_is_asked
+try a_running_router_tells_of_its_neighbors
 try a_running_router_is_told
 try a_running_router_is_stopped
 try a_socket_of_a_router_that_is_gone_is_replaced

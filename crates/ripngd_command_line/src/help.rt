@@ -61,6 +61,7 @@ What the router answers is printed. The commands are
   routes                 its routes, with their gateways and what is left of them
   table                  its forwarding table
   counts                 what came, was sent, refused and lost
+  neighbors              what came from each of its neighbors, and when last
   cost INTERFACE COST    the cost of an interface is another from now on
   gain PREFIX TAG        it owns a prefix more
   drop PREFIX            it owns that prefix no more

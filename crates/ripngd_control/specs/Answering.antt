@@ -8,7 +8,9 @@ use Rattle.router_core.specs.declared.reconfiguring.Change.{Change}
 use Rattle.ripngd_engine.specs.Seen.{Seen}
 use Rattle.ripngd_engine.specs.declared.report.Report.{Report}
 use Rattle.ripngd_watch.specs.Printed.{counts_text}
+use Rattle.ripngd_watch.specs.Shown.{other_lines, row_lines}
 use Rattle.ripngd_watch.specs.declared.counts.Counts.{Counts}
+use Rattle.ripngd_watch.specs.declared.neighbors.Neighbors.{Neighbors}
 use Rattle.ripngd_control.specs.Answers.{Obeys, ShowsEntries, ShowsHeld, reply_text}
 use Rattle.ripngd_control.specs.declared.answering.Course.{Course}
 use Rattle.ripngd_control.specs.declared.answering.Course.TheVariants.{GoOn, Ended}
@@ -37,6 +39,10 @@ lost_text r = codes "lost sends " ++ (decimal r.lost_sends ++ (codes " steps " +
 abbrev pub counts_answer : Counts → Report → List ℕ
 counts_answer c r = counts_text c ++ (10 ∷ (lost_text r ++ (10 ∷ (codes "ok" ++ 10 ∷ []))))
 
+-- the lines of each sender, of all others together, and `ok`
+abbrev pub neighbors_answer : Neighbors → List ℕ
+neighbors_answer n = row_lines n.rows.items ++ (other_lines n.others ++ reply_line replies.Done)
+
 -- ---- what is done for a command, and answered at once
 -- the writer gained this and nothing is left to write, but where the writer failed
 abbrev pub Says : Option (List ℕ) → Rest → Option (List ℕ) → List ℕ → Type 0
@@ -47,13 +53,14 @@ abbrev pub Obeyed : Change → Seen → Option (List ℕ) → Rest → Seen → 
 Obeyed c a old rest b new = (reply : Reply) × Obeys c a reply b × Says old rest new (reply_line reply)
 
 -- what was done and said for a command, or for a line that is of none: only a change changes the router
-abbrev pub Answers : Option Command → Counts → Report → Seen → Option (List ℕ) → Rest → Seen → Option (List ℕ) → Type 0
-Answers None counts lost a old rest b new = (b ≡ a) × Says old rest new (reply_line replies.NoSuchCommand)
-Answers (Some commands.Routes) counts lost a old rest b new = (b ≡ a) × (rest ≡ rests.Routes None) × (new ≡ old)
-Answers (Some commands.Table) counts lost a old rest b new = (b ≡ a) × (rest ≡ rests.Table None) × (new ≡ old)
-Answers (Some commands.Counts) counts lost a old rest b new = (b ≡ a) × Says old rest new (counts_answer counts lost)
-Answers (Some commands.Stop) counts lost a old rest b new = (b ≡ a) × Says old rest new (reply_line replies.Done)
-Answers (Some (commands.Reconfigure c)) counts lost a old rest b new = Obeyed c a old rest b new
+abbrev pub Answers : Option Command → Counts → Neighbors → Report → Seen → Option (List ℕ) → Rest → Seen → Option (List ℕ) → Type 0
+Answers None counts heard lost a old rest b new = (b ≡ a) × Says old rest new (reply_line replies.NoSuchCommand)
+Answers (Some commands.Routes) counts heard lost a old rest b new = (b ≡ a) × (rest ≡ rests.Routes None) × (new ≡ old)
+Answers (Some commands.Table) counts heard lost a old rest b new = (b ≡ a) × (rest ≡ rests.Table None) × (new ≡ old)
+Answers (Some commands.Counts) counts heard lost a old rest b new = (b ≡ a) × Says old rest new (counts_answer counts lost)
+Answers (Some commands.Neighbors) counts heard lost a old rest b new = (b ≡ a) × Says old rest new (neighbors_answer heard)
+Answers (Some commands.Stop) counts heard lost a old rest b new = (b ≡ a) × Says old rest new (reply_line replies.Done)
+Answers (Some (commands.Reconfigure c)) counts heard lost a old rest b new = Obeyed c a old rest b new
 
 -- a router goes on behind every reply but that it ended
 abbrev pub GoesOn : Reply → Course → Type 0

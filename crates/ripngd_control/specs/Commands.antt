@@ -17,5 +17,6 @@ abbrev pub control_text : Command → List ℕ
 control_text commands.Routes = codes "routes"
 control_text commands.Table = codes "table"
 control_text commands.Counts = codes "counts"
+control_text commands.Neighbors = codes "neighbors"
 control_text commands.Stop = codes "stop"
 control_text (commands.Reconfigure c) = reconfigure_text c

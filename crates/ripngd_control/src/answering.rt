@@ -3,7 +3,7 @@
 ghost use Rattle.std.specs.Prelude.{◌≡◌, ◌≢◌, ◌↔◌, IfOk, IsOk, OnOk, Some, false};
 ghost use Rattle.std.specs.Io.KnownBytes.{Appends};
 ghost use Rattle.ripngd_engine.specs.Seen.{seen};
-ghost use Rattle.ripngd_control.specs.Answering.{Answers, Continues, GoesOn, Obeyed, WritesEntries, WritesRoutes, counts_answer, lost_text, reply_line};
+ghost use Rattle.ripngd_control.specs.Answering.{Answers, Continues, GoesOn, Obeyed, WritesEntries, WritesRoutes, counts_answer, lost_text, neighbors_answer, reply_line};
 
 use crate::command::Command;
 use crate::lines::{write_routes, write_table};
@@ -12,7 +12,7 @@ use crate::reply::Reply;
 use prefix6::Prefix;
 use rand_core::Rng;
 use ripngd_engine::{Engine, Link, Report, TimeSource};
-use ripngd_watch::Counts;
+use ripngd_watch::{Counts, Neighbors, write_neighbors};
 use route_table::RouteStore;
 use router_core::Change;
 use std::fmt::{self, Display};
@@ -83,6 +83,14 @@ fn write_counts<W: Write>(counts: Counts, lost: Report, out: &mut W) -> io::Resu
     writeln!(out, "{counts}\n{}\nok", LostText(lost))
 }
 
+/// Writes what came of each sender, and that this is all.
+fn write_heard<W: Write>(heard: &Neighbors, out: &mut W) -> io::Result<()>
+    ensures { OnOk result (Appends (W.contents out.old) (W.contents out.new) (neighbors_answer heard.now)) }
+{
+    write_neighbors(heard, out)?;
+    write_reply(Reply::Done, out)
+}
+
 /// What is left of an answer that was to be written to its end.
 fn all_of(written: io::Result<()>) -> Rest
     ensures { result ≢ Rest.Lost → (result ≡ Rest.Nothing) × IsOk written }
@@ -133,18 +141,19 @@ fn going_on(rest: Rest) -> Response
     }
 }
 
-/// Does what a command tells, or begins to answer what it asks. With it come the counts of what was sent and heard, and of
-/// what was lost.
+/// Does what a command tells, or begins to answer what it asks. With it come the counts of what was sent and heard, what came of
+/// each sender, and what was lost.
 pub fn respond<S: RouteStore, L: Link, C: TimeSource, R: Rng + Drop, W: Write, O: Write>(
     engine: &mut Engine<S, L, C, R>,
     command: Option<Command>,
     counts: Counts,
+    heard: &Neighbors,
     lost: Report,
     log: &mut W,
     out: &mut O,
 ) -> Response
     requires { engine.old.ended ≡ false }
-    ensures answers { Answers command counts lost (seen R.stream W.contents engine.old log.old) (O.contents out.old) result.rest
+    ensures answers { Answers command counts heard.now lost (seen R.stream W.contents engine.old log.old) (O.contents out.old) result.rest
         (seen R.stream W.contents engine.new log.new) (O.contents out.new) }
     ensures goes_on { result.course ≢ Course.Ended → engine.new.ended ≡ false }
     ensures stops { (result.course ≡ Course.Stop) ↔ (command ≡ Some Command.Stop) }
@@ -153,6 +162,7 @@ pub fn respond<S: RouteStore, L: Link, C: TimeSource, R: Rng + Drop, W: Write, O
         Some(Command::Routes) => going_on(Rest::Routes(None)),
         Some(Command::Table) => going_on(Rest::Table(None)),
         Some(Command::Counts) => going_on(all_of(write_counts(counts, lost, out))),
+        Some(Command::Neighbors) => going_on(all_of(write_heard(heard, out))),
         Some(Command::Stop) => Response {
             rest: all_of(write_reply(Reply::Done, out)),
             course: Course::Stop,

@@ -18,6 +18,8 @@ pub enum Command {
     Table,
     /// `counts`: what came, was sent, refused and lost.
     Counts,
+    /// `neighbors`: what came of each sender.
+    Neighbors,
     /// `stop`: it is to end.
     Stop,
     /// `cost INTERFACE COST`, `gain PREFIX TAG`, `drop PREFIX`: its configuration is to change.
@@ -49,6 +51,7 @@ impl Display for Command {
             Command::Routes => write!(f, "routes"),
             Command::Table => write!(f, "table"),
             Command::Counts => write!(f, "counts"),
+            Command::Neighbors => write!(f, "neighbors"),
             Command::Stop => write!(f, "stop"),
             Command::Reconfigure(change) => write!(f, "{}", ChangeText(change)),
         }
@@ -84,6 +87,7 @@ pub fn command_in(text: &str) -> Option<Command> {
         "routes" => Some(Command::Routes),
         "table" => Some(Command::Table),
         "counts" => Some(Command::Counts),
+        "neighbors" => Some(Command::Neighbors),
         "stop" => Some(Command::Stop),
         _ => {
             let (word, rest) = text.split_once(' ')?;

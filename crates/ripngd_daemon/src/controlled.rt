@@ -17,7 +17,7 @@ use rand_pcg::Pcg32;
 use ripngd_control::Course;
 use ripngd_engine::{Engine, EngineFault, Report, Watch};
 use ripngd_udp::{Udp, Uptime};
-use ripngd_watch::{Counts, DebugLines};
+use ripngd_watch::{Both, Counts, DebugLines, Neighbors};
 use router_core::RouterConfig;
 use std::io::Write;
 use std::net::Net;
@@ -47,7 +47,7 @@ fn turn<R: Clock + AllocGlobal, W: Write, V: Counting>(
     engine: &mut Running<'_, R>,
     desk: &mut Desk,
     log: &mut W,
-    watch: &mut V,
+    watch: &mut Both<V, Neighbors>,
 ) -> Result<Course, EngineFault>
     requires { engine.old.ended ≡ false }
     ensures does { OnOk result (TurnsAndHeeds (seen words_of W.contents engine.old log.old)
@@ -55,7 +55,13 @@ fn turn<R: Clock + AllocGlobal, W: Write, V: Counting>(
     ensures goes_on { IfOk result (λ course. course ≢ Course.Ended → engine.new.ended ≡ false) }
 {
     engine.turns_watched(1, log, watch)?;
-    Ok(desk.look(rt, engine, watch.counted(), log))
+    Ok(desk.look(
+        rt,
+        engine,
+        watch.first.counted(),
+        &watch.second,
+        log,
+    ))
 }
 
 /// Makes turns until it has made so many, or is told to stop.
@@ -68,7 +74,7 @@ fn make_turns<'a, R: Clock + AllocGlobal, W: Write, V: Counting>(
     desk: &mut Desk,
     turns: u32,
     log: &mut W,
-    watch: &mut V,
+    watch: &mut Both<V, Neighbors>,
 ) -> Result<(), Failure<'a>>
     requires { engine.old.ended ≡ false }
     ensures lasts { OnOk result (LastsFor turns (seen words_of W.contents engine.old log.old)
@@ -93,7 +99,7 @@ fn show_turns<'a, R: Clock + AllocGlobal, W: Write, V: Counting, O: Write>(
     desk: &mut Desk,
     turns: u32,
     log: &mut W,
-    watch: &mut V,
+    watch: &mut Both<V, Neighbors>,
     out: &mut O,
 ) -> Result<(), Failure<'a>>
     requires { engine.old.ended ≡ false }
@@ -115,7 +121,7 @@ pub(crate) fn run_controlled<'r, 'a, R: Clock + Net + AllocGlobal, W: Write, V: 
     desk: &mut Desk,
     turns: u32,
     log: &mut W,
-    watch: &mut V,
+    watch: &mut Both<V, Neighbors>,
     out: &mut O,
     lost: &mut Report,
 ) -> Result<(), Failure<'a>>

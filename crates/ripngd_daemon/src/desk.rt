@@ -11,7 +11,7 @@ use crate::visit::{Step, Visit};
 use ripngd_control::{Course, respond};
 use ripngd_door::Door;
 use ripngd_engine::Report;
-use ripngd_watch::Counts;
+use ripngd_watch::{Counts, Neighbors};
 use std::io::Write;
 use std::rt::{Clock, Files};
 
@@ -37,6 +37,7 @@ fn attend<R: Clock + AllocGlobal, W: Write>(
     visit: &mut Visit,
     engine: &mut Running<'_, R>,
     counts: Counts,
+    heard: &Neighbors,
     log: &mut W,
 ) -> Course
     requires { engine.old.ended ≡ false }
@@ -50,7 +51,7 @@ fn attend<R: Clock + AllocGlobal, W: Write>(
         return Course::GoOn;
     };
     let lost = lost_by(engine);
-    let response = respond(engine, command, counts, lost, log, &mut visit.answer);
+    let response = respond(engine, command, counts, heard, lost, log, &mut visit.answer);
     visit.rest = Some(response.rest);
     response.course
 }
@@ -94,6 +95,7 @@ impl Desk {
         rt: &R,
         engine: &mut Running<'_, R>,
         counts: Counts,
+        heard: &Neighbors,
         log: &mut W,
     ) -> Course
         requires { engine.old.ended ≡ false }
@@ -103,7 +105,7 @@ impl Desk {
         let Some(mut visit) = self.next_visit(rt) else {
             return Course::GoOn;
         };
-        let course = attend(rt, &mut visit, engine, counts, log);
+        let course = attend(rt, &mut visit, engine, counts, heard, log);
         if inform(rt, &mut visit, engine) {
             self.visit = Some(visit);
         }

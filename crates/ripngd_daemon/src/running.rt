@@ -29,7 +29,7 @@ use ripngd_config::{Config, Peer};
 use ripngd_door::Door;
 use ripngd_engine::{Engine, Report, Unwatched, Watch};
 use ripngd_udp::{Udp, Uptime};
-use ripngd_watch::{Counts, DebugLines};
+use ripngd_watch::{Both, Counts, DebugLines, Neighbors};
 use router_core::RouterConfig;
 use std::fs::File;
 use std::io::{self, Write};
@@ -222,26 +222,24 @@ fn run_at_desk<'r, 'a, R: Clock + Net + AllocGlobal, L: Log, O: Write, E: Write>
         "ripngd: running, {} interfaces",
         router.interfaces().len()
     );
+    let neighbors = Neighbors::new(rt.alloc());
     if !debug {
-        let mut counts = Counts::new();
+        let mut watch = Both {
+            first: Counts::new(),
+            second: neighbors,
+        };
         return run_controlled(
-            rt,
-            router,
-            link,
-            rng,
-            desk,
-            turns,
-            log,
-            &mut counts,
-            out,
-            lost,
+            rt, router, link, rng, desk, turns, log, &mut watch, out, lost,
         );
     }
-    let mut lines = DebugLines::new(&mut *err);
+    let mut watch = Both {
+        first: DebugLines::new(&mut *err),
+        second: neighbors,
+    };
     let outcome = run_controlled(
-        rt, router, link, rng, desk, turns, log, &mut lines, out, lost,
+        rt, router, link, rng, desk, turns, log, &mut watch, out, lost,
     );
-    let counts = lines.counts();
+    let counts = watch.first.counts();
     let _ = writeln!(err, "{counts}");
     outcome
 }
