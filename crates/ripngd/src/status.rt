@@ -11,10 +11,9 @@ use crate::subcommands::{film_file, lab_file, show_digits, trace_file};
 use clap::error::ErrorKind;
 use ripngd_command_line::{Ask, ask};
 use ripngd_daemon::{
-    Failure, FileSource, NOTHING_LOST, SystemFiles, check_file, ctl, run, table_file,
+    Failure, FileSource, Losses, NOTHING_LOST, SystemFiles, check_file, ctl, run, table_file,
     write_failure, write_losses,
 };
-use ripngd_engine::Report;
 use std::fs::File;
 use std::io::Write;
 use std::net::Net;
@@ -83,7 +82,7 @@ fn outcome<
     words: &'a [&'a str],
     out: &mut O,
     err: &mut E,
-    lost: &mut Report,
+    lost: &mut Losses,
 ) -> Result<Status, Failure<'a>>
     ensures done { result ≡ Ok Status.Done
         → AnswersWords (F.holds files.now) (map (λ w. w.now) words.now) true (O.contents out.old) (O.contents out.new)
@@ -112,7 +111,7 @@ fn accepts<
     asked: Ask<'a>,
     out: &mut O,
     err: &mut E,
-    lost: &mut Report,
+    lost: &mut Losses,
 ) -> Result<bool, Failure<'a>>
     ensures answered { IfOk result (λ accepted. AnswersAsk (F.holds files.now) asked.entry accepted
         (O.contents out.old) (O.contents out.new)) }
@@ -144,7 +143,7 @@ fn answer<
     asked: Ask<'a>,
     out: &mut O,
     err: &mut E,
-    lost: &mut Report,
+    lost: &mut Losses,
 ) -> Result<Status, Failure<'a>>
     ensures done { result ≡ Ok Status.Done
         → AnswersAsk (F.holds files.now) asked.entry true (O.contents out.old) (O.contents out.new) }

@@ -3,19 +3,19 @@
 ghost use Rattle.std.specs.Prelude.{◌≡◌, ◌≢◌, ◌↔◌, IfOk, IsOk, OnOk, Some, false};
 ghost use Rattle.std.specs.Io.KnownBytes.{Appends};
 ghost use Rattle.ripngd_engine.specs.Seen.{seen};
-ghost use Rattle.ripngd_control.specs.Answering.{Answers, Continues, GoesOn, Obeyed, WritesEntries, WritesRoutes, counts_answer, lost_text, neighbors_answer, reply_line};
+ghost use Rattle.ripngd_control.specs.Answering.{Answers, Continues, GoesOn, Obeyed, WritesEntries, WritesRoutes, counts_answer, neighbors_answer, reply_line};
 
 use crate::command::Command;
 use crate::lines::{write_routes, write_table};
+use crate::losses::{Losses, Totals};
 use crate::obeying::obey;
 use crate::reply::Reply;
 use prefix6::Prefix;
 use rand_core::Rng;
-use ripngd_engine::{Engine, Link, Report, TimeSource};
+use ripngd_engine::{Engine, Link, TimeSource};
 use ripngd_watch::{Counts, Neighbors, write_neighbors};
 use route_table::RouteStore;
 use router_core::Change;
-use std::fmt::{self, Display};
 use std::io::{self, Write};
 
 /// What is still to be written of an answer.
@@ -51,24 +51,6 @@ pub struct Response {
     pub course: Course,
 }
 
-/// What was lost, written `lost sends N steps M`, and `log failed` on a line of its own where a write of the log failed.
-#[derive(Clone, Copy)]
-struct LostText(Report);
-
-impl Display for LostText {
-    ghost output = { λ l. Some (lost_text l.0) };
-
-    fn fmt<W: fmt::Write>(&self, f: &mut fmt::Formatter<W>) -> fmt::Result {
-        let Report {
-            lost_sends,
-            lost_memory,
-            log_failed,
-        } = self.0;
-        let log = if log_failed { "\nlog failed" } else { "" };
-        write!(f, "lost sends {lost_sends} steps {lost_memory}{log}")
-    }
-}
-
 /// Writes the last line of an answer.
 fn write_reply<W: Write>(reply: Reply, out: &mut W) -> io::Result<()>
     ensures { OnOk result (Appends (W.contents out.old) (W.contents out.new) (reply_line reply)) }
@@ -77,10 +59,10 @@ fn write_reply<W: Write>(reply: Reply, out: &mut W) -> io::Result<()>
 }
 
 /// Writes what was counted and what was lost, and that this is all.
-fn write_counts<W: Write>(counts: Counts, lost: Report, out: &mut W) -> io::Result<()>
+fn write_counts<W: Write>(counts: Counts, lost: Losses, out: &mut W) -> io::Result<()>
     ensures { OnOk result (Appends (W.contents out.old) (W.contents out.new) (counts_answer counts lost)) }
 {
-    writeln!(out, "{counts}\n{}\nok", LostText(lost))
+    writeln!(out, "{}\nok", Totals { counts, lost })
 }
 
 /// Writes what came of each sender, and that this is all.
@@ -148,7 +130,7 @@ pub fn respond<S: RouteStore, L: Link, C: TimeSource, R: Rng + Drop, W: Write, O
     command: Option<Command>,
     counts: Counts,
     heard: &Neighbors,
-    lost: Report,
+    lost: Losses,
     log: &mut W,
     out: &mut O,
 ) -> Response

@@ -6,6 +6,7 @@
 mod answering;
 mod command;
 mod lines;
+mod losses;
 mod obeying;
 mod reply;
 mod status;
@@ -13,6 +14,7 @@ mod status;
 pub use answering::{Course, Response, Rest, respond, write_rest};
 pub use command::{Command, command_in, read_command};
 pub use lines::{PIECE, write_routes, write_table};
+pub use losses::{Losses, Totals};
 pub use obeying::obey;
 pub use reply::Reply;
 pub use status::RouteStatus;

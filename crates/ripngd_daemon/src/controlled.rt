@@ -14,8 +14,8 @@ use crate::forwarding::write_table;
 use crate::losses::with_link;
 use crate::router::Running;
 use rand_pcg::Pcg32;
-use ripngd_control::Course;
-use ripngd_engine::{Engine, EngineFault, Report, Watch};
+use ripngd_control::{Course, Losses};
+use ripngd_engine::{Engine, EngineFault, Watch};
 use ripngd_udp::{Udp, Uptime};
 use ripngd_watch::{Both, Counts, DebugLines, Neighbors};
 use router_core::RouterConfig;
@@ -123,7 +123,7 @@ pub(crate) fn run_controlled<'r, 'a, R: Clock + Net + AllocGlobal, W: Write, V: 
     log: &mut W,
     watch: &mut Both<V, Neighbors>,
     out: &mut O,
-    lost: &mut Report,
+    lost: &mut Losses,
 ) -> Result<(), Failure<'a>>
     requires { link.interfaces ≡ length router.interfaces }
     ensures shown { OnOk result (ShowsControlled router rng turns (O.contents out.old) (O.contents out.new)) }
@@ -135,6 +135,11 @@ pub(crate) fn run_controlled<'r, 'a, R: Clock + Net + AllocGlobal, W: Write, V: 
     let report = engine.report();
     let mut link = engine.into_link();
     link.finish();
-    *lost = with_link(report, link.failed_sends(), link.lost_arrivals());
+    *lost = with_link(
+        report,
+        link.failed_sends(),
+        link.lost_arrivals(),
+        link.strangers(),
+    );
     outcome
 }

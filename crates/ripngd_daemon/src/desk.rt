@@ -8,9 +8,8 @@ ghost use Rattle.ripngd_daemon.specs.Ran.{words_of};
 use crate::losses::with_link;
 use crate::router::Running;
 use crate::visit::{Step, Visit};
-use ripngd_control::{Course, respond};
+use ripngd_control::{Course, Losses, respond};
 use ripngd_door::Door;
-use ripngd_engine::Report;
 use ripngd_watch::{Counts, Neighbors};
 use std::io::Write;
 use std::rt::{Clock, Files};
@@ -26,9 +25,14 @@ pub(crate) struct Desk {
 }
 
 /// What a router has lost, its link's losses among it.
-fn lost_by<R: Clock>(engine: &Running<'_, R>) -> Report {
+fn lost_by<R: Clock>(engine: &Running<'_, R>) -> Losses {
     let link = engine.link();
-    with_link(engine.report(), link.failed_sends(), link.lost_arrivals())
+    with_link(
+        engine.report(),
+        link.failed_sends(),
+        link.lost_arrivals(),
+        link.strangers(),
+    )
 }
 
 /// Does what a client sends, if it has sent it now, and begins its answer.

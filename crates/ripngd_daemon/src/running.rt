@@ -26,8 +26,9 @@ use crate::warnings::write_echoes;
 use rand_pcg::Pcg32;
 use ripngd_command_line::Order;
 use ripngd_config::{Config, Peer};
+use ripngd_control::{Losses, Totals};
 use ripngd_door::Door;
-use ripngd_engine::{Engine, Report, Unwatched, Watch};
+use ripngd_engine::{Engine, Unwatched, Watch};
 use ripngd_udp::{Udp, Uptime};
 use ripngd_watch::{Both, Counts, DebugLines, Neighbors};
 use router_core::RouterConfig;
@@ -62,7 +63,7 @@ pub fn run<
     order: Order<'a>,
     out: &mut O,
     err: &mut E,
-    lost: &mut Report,
+    lost: &mut Losses,
 ) -> Result<bool, Failure<'a>>
     ensures ran { IfOk result (λ accepted. (config : List ℕ) × F.holds files.now order.entry.config.now config
         × IsRan order.entry config accepted (O.contents out.old) (O.contents out.new)) }
@@ -86,7 +87,7 @@ fn run_plan<'a, R: Files<File = File> + Print + Clock + Net + AllocGlobal, O: Wr
     plan: Plan<'a>,
     out: &mut O,
     err: &mut E,
-    lost: &mut Report,
+    lost: &mut Losses,
 ) -> Result<(), Failure<'a>>
     requires { HasOneEach plan.config }
     ensures shown { OnOk result (ShowsOrdered plan.entry.control plan.entry.config plan.entry.turns
@@ -133,7 +134,7 @@ fn run_logged<'a, R: Files + Clock + Net + AllocGlobal, L: Log, O: Write, E: Wri
     log: &mut L,
     out: &mut O,
     err: &mut E,
-    lost: &mut Report,
+    lost: &mut Losses,
 ) -> Result<(), Failure<'a>>
     requires { HasOneEach plan.config }
     ensures shown { OnOk result (ShowsOrdered plan.entry.control plan.entry.config plan.entry.turns
@@ -176,7 +177,7 @@ fn run_at<'a, R: Files + Clock + Net + AllocGlobal, L: Log, O: Write, E: Write>(
     log: &mut L,
     out: &mut O,
     err: &mut E,
-    lost: &mut Report,
+    lost: &mut Losses,
 ) -> Result<(), Failure<'a>>
     requires { HasOneEach config }
     ensures shown { OnOk result (ShowsControlled config.router config.rng turns (O.contents out.old) (O.contents out.new)) }
@@ -210,7 +211,7 @@ fn run_at_desk<'r, 'a, R: Clock + Net + AllocGlobal, L: Log, O: Write, E: Write>
     log: &mut L,
     out: &mut O,
     err: &mut E,
-    lost: &mut Report,
+    lost: &mut Losses,
 ) -> Result<(), Failure<'a>>
     requires { link.interfaces ≡ length router.interfaces }
     ensures shown { OnOk result (ShowsControlled router rng turns (O.contents out.old) (O.contents out.new)) }
@@ -240,7 +241,7 @@ fn run_at_desk<'r, 'a, R: Clock + Net + AllocGlobal, L: Log, O: Write, E: Write>
         rt, router, link, rng, desk, turns, log, &mut watch, out, lost,
     );
     let counts = watch.first.counts();
-    let _ = writeln!(err, "{counts}");
+    let _ = writeln!(err, "{}", Totals { counts, lost: *lost });
     outcome
 }
 
@@ -254,7 +255,7 @@ fn run_alone<'a, R: Clock + Net + AllocGlobal, L: Log, O: Write, E: Write>(
     log: &mut L,
     out: &mut O,
     err: &mut E,
-    lost: &mut Report,
+    lost: &mut Losses,
 ) -> Result<(), Failure<'a>>
     requires { HasOneEach config }
     ensures shown { OnOk result (ShowsTurns config turns (O.contents out.old) (O.contents out.new)) }
@@ -274,7 +275,7 @@ fn run_alone<'a, R: Clock + Net + AllocGlobal, L: Log, O: Write, E: Write>(
     let mut lines = DebugLines::new(&mut *err);
     let outcome = run_bound(rt, router, link, rng, turns, log, &mut lines, out, lost);
     let counts = lines.counts();
-    let _ = writeln!(err, "{counts}");
+    let _ = writeln!(err, "{}", Totals { counts, lost: *lost });
     outcome
 }
 
@@ -288,7 +289,7 @@ fn run_bound<'r, 'a, R: Clock + Net + AllocGlobal, W: Write, V: Watch, O: Write>
     log: &mut W,
     watch: &mut V,
     out: &mut O,
-    lost: &mut Report,
+    lost: &mut Losses,
 ) -> Result<(), Failure<'a>>
     requires { link.interfaces ≡ length router.interfaces }
     ensures shown { OnOk result (ShowsBound router rng turns (O.contents out.old) (O.contents out.new)) }
@@ -300,7 +301,12 @@ fn run_bound<'r, 'a, R: Clock + Net + AllocGlobal, W: Write, V: Watch, O: Write>
     let report = engine.report();
     let mut link = engine.into_link();
     link.finish();
-    *lost = with_link(report, link.failed_sends(), link.lost_arrivals());
+    *lost = with_link(
+        report,
+        link.failed_sends(),
+        link.lost_arrivals(),
+        link.strangers(),
+    );
     outcome
 }
 
