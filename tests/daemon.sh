@@ -246,6 +246,18 @@ a_full_standard_output_is_told() {
         fills --version && fills --help
 }
 
+# `head` reads one line of the help and goes.
+a_reader_that_goes_away_is_not_told() {
+    local line
+    line=$("$program" help ctl 2> "$folder/err" | head -n 1)
+    [ -n "$line" ] || because "nothing was read" || return
+    same "standard error" "$(cat "$folder/err")" "" || return
+    seq -f '2001:db8:%g::/48' 2000 | sed 's/.*/add & metric 1 direct/' > "$folder/long.log"
+    { "$program" table "$folder/long.log" 2> "$folder/err"; echo $? > "$folder/status"; } | head -n 1 > "$folder/out"
+    same "what was read" "$(cat "$folder/out")" "2001:db8:1::/48 metric 1 direct" &&
+        same status "$(cat "$folder/status")" 3 && same "standard error" "$(cat "$folder/err")" ""
+}
+
 a_port_in_use_is_named() {
     alone used.toml
     start holder run --turns 200 -R "$folder/holder.log" "$folder/used.toml" && local holder=$pid
@@ -783,6 +795,7 @@ try what_a_daemon_refuses_is_said_and_counted
 try a_daemon_goes_on_after_it_was_stopped
 try a_log_on_a_full_device_ends_alone
 try a_full_standard_output_is_told
+try a_reader_that_goes_away_is_not_told
 try a_port_in_use_is_named
 try a_second_start_leaves_the_logs
 try a_log_that_is_emptied_goes_on_at_its_end
