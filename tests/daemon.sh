@@ -252,7 +252,7 @@ a_reader_that_goes_away_is_not_told() {
     line=$("$program" help ctl 2> "$folder/err" | head -n 1)
     [ -n "$line" ] || because "nothing was read" || return
     same "standard error" "$(cat "$folder/err")" "" || return
-    seq -f '2001:db8:%g::/48' 2000 | sed 's/.*/add & metric 1 direct/' > "$folder/long.log"
+    seq -f '2001:db8:%g::/48' 9999 | sed 's/.*/add & metric 1 direct/' > "$folder/long.log"
     { "$program" table "$folder/long.log" 2> "$folder/err"; echo $? > "$folder/status"; } | head -n 1 > "$folder/out"
     same "what was read" "$(cat "$folder/out")" "2001:db8:1::/48 metric 1 direct" &&
         same status "$(cat "$folder/status")" 3 && same "standard error" "$(cat "$folder/err")" ""

@@ -52,6 +52,7 @@ Answers (Some commands.Counts) counts heard lost a old rest b new = (b ≡ a) ×
 Answers (Some commands.Neighbors) counts heard lost a old rest b new = (b ≡ a) × Says old rest new (neighbors_answer heard)
 Answers (Some commands.Stop) counts heard lost a old rest b new = (b ≡ a) × Says old rest new (reply_line replies.Done)
 Answers (Some (commands.Reconfigure c)) counts heard lost a old rest b new = Obeyed c a old rest b new
+Answers (Some (commands.Link c)) counts heard lost a old rest b new = (b ≡ a) × (reply : Reply) × Says old rest new (reply_line reply)
 
 -- a router goes on behind every reply but that it ended
 abbrev pub GoesOn : Reply → Course → Type 0

@@ -3,16 +3,17 @@
 ghost use Rattle.std.specs.Prelude.{◌≡◌, ◌≢◌, ◌↔◌, IfOk, IsOk, OnOk, Some, false};
 ghost use Rattle.std.specs.Io.KnownBytes.{Appends};
 ghost use Rattle.ripngd_engine.specs.Seen.{seen};
-ghost use Rattle.ripngd_control.specs.Answering.{Answers, Continues, GoesOn, Obeyed, WritesEntries, WritesRoutes, counts_answer, neighbors_answer, reply_line};
+ghost use Rattle.ripngd_control.specs.Answering.{Answers, Continues, GoesOn, Obeyed, Says, WritesEntries, WritesRoutes, counts_answer, neighbors_answer, reply_line};
 
-use crate::command::Command;
+use crate::command::{Command, PeerChange};
 use crate::lines::{write_routes, write_table};
 use crate::losses::{Losses, Totals};
 use crate::obeying::obey;
+use crate::peering::Peering;
 use crate::reply::Reply;
 use prefix6::Prefix;
 use rand_core::Rng;
-use ripngd_engine::{Engine, Link, TimeSource};
+use ripngd_engine::{Engine, Link, LinkChange, TimeSource};
 use ripngd_watch::{Counts, Neighbors, write_neighbors};
 use route_table::RouteStore;
 use router_core::Change;
@@ -113,6 +114,21 @@ fn respond_to_change<S: RouteStore, L: Link, C: TimeSource, R: Rng + Drop, W: Wr
     }
 }
 
+/// Changes the peers of the link, and writes how that ended.
+fn respond_to_peering<S: RouteStore, L: Link, C: TimeSource, R: Rng + Drop, P: LinkChange<L> + Peering, O: Write>(
+    engine: &mut Engine<S, L, C, R>,
+    change: PeerChange,
+    peering: &mut P,
+    out: &mut O,
+) -> Rest
+    ensures same { engine.new ≡ engine.old }
+    ensures says { Says (O.contents out.old) result (O.contents out.new) (reply_line (P.Peering.ended peering.new)) }
+{
+    peering.order(change);
+    engine.change_link(peering);
+    all_of(write_reply(peering.reply(), out))
+}
+
 /// A response behind which the router goes on.
 fn going_on(rest: Rest) -> Response
     ensures { result ≡ record { rest = rest; course = Course.GoOn } }
@@ -124,13 +140,22 @@ fn going_on(rest: Rest) -> Response
 }
 
 /// Does what a command tells, or begins to answer what it asks. With it come the counts of what was sent and heard, what came of
-/// each sender, and what was lost.
-pub fn respond<S: RouteStore, L: Link, C: TimeSource, R: Rng + Drop, W: Write, O: Write>(
+/// each sender, what was lost, and who changes the peers of the link.
+pub fn respond<
+    S: RouteStore,
+    L: Link,
+    C: TimeSource,
+    R: Rng + Drop,
+    P: LinkChange<L> + Peering,
+    W: Write,
+    O: Write,
+>(
     engine: &mut Engine<S, L, C, R>,
     command: Option<Command>,
     counts: Counts,
     heard: &Neighbors,
     lost: Losses,
+    peering: &mut P,
     log: &mut W,
     out: &mut O,
 ) -> Response
@@ -150,6 +175,7 @@ pub fn respond<S: RouteStore, L: Link, C: TimeSource, R: Rng + Drop, W: Write, O
             course: Course::Stop,
         },
         Some(Command::Reconfigure(change)) => respond_to_change(engine, change, log, out),
+        Some(Command::Link(change)) => going_on(respond_to_peering(engine, change, peering, out)),
         None => going_on(all_of(write_reply(Reply::NoSuchCommand, out))),
     }
 }

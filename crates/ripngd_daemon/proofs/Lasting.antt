@@ -30,6 +30,7 @@ heeds_command (Some commands.Table) counts heard lost a old rest b new h = inl h
 heeds_command (Some commands.Counts) counts heard lost a old rest b new h = inl h.0
 heeds_command (Some commands.Neighbors) counts heard lost a old rest b new h = inl h.0
 heeds_command (Some commands.Stop) counts heard lost a old rest b new h = inl h.0
+heeds_command (Some (commands.Link c)) counts heard lost a old rest b new h = inl h.0
 heeds_command (Some (commands.Reconfigure c)) counts heard lost a old rest b new h = inr (c, h.0, h.1)
 
 -- a run of no turn
