@@ -115,12 +115,14 @@ fn respond_to_change<S: RouteStore, L: Link, C: TimeSource, R: Rng + Drop, W: Wr
 }
 
 /// Changes the peers of the link, and writes how that ended.
-fn respond_to_peering<S: RouteStore, L: Link, C: TimeSource, R: Rng + Drop, P: LinkChange<L> + Peering, O: Write>(
-    engine: &mut Engine<S, L, C, R>,
-    change: PeerChange,
-    peering: &mut P,
-    out: &mut O,
-) -> Rest
+fn respond_to_peering<
+    S: RouteStore,
+    L: Link,
+    C: TimeSource,
+    R: Rng + Drop,
+    P: LinkChange<L> + Peering,
+    O: Write,
+>(engine: &mut Engine<S, L, C, R>, change: PeerChange, peering: &mut P, out: &mut O) -> Rest
     ensures same { engine.new ≡ engine.old }
     ensures says { Says (O.contents out.old) result (O.contents out.new) (reply_line (P.Peering.ended peering.new)) }
 {

@@ -19,7 +19,10 @@ pub enum PeerChange {
         port: u16,
     },
     /// `unpeer INTERFACE ADDRESS`: no neighbor of that address is there any more.
-    Remove { iface: usize, addr: Addr6 },
+    Remove {
+        iface: usize,
+        addr: Addr6,
+    },
 }
 
 /// What a router is told or asked.

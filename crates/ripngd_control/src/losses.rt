@@ -48,7 +48,10 @@ impl Display for LostText {
         let sends = report.lost_sends;
         let steps = report.lost_memory;
         let log = log_text(report.log_failed);
-        write!(f, "lost sends {sends} steps {steps} arrivals {arrivals}\nstrangers {strangers}{log}")
+        write!(
+            f,
+            "lost sends {sends} steps {steps} arrivals {arrivals}\nstrangers {strangers}{log}"
+        )
     }
 }
 

@@ -55,13 +55,7 @@ fn turn<R: Clock + AllocGlobal, W: Write, V: Counting>(
     ensures goes_on { IfOk result (λ course. course ≢ Course.Ended → engine.new.ended ≡ false) }
 {
     engine.turns_watched(1, log, watch)?;
-    Ok(desk.look(
-        rt,
-        engine,
-        watch.first.counted(),
-        &watch.second,
-        log,
-    ))
+    Ok(desk.look(rt, engine, watch.first.counted(), &watch.second, log))
 }
 
 /// Makes turns until it has made so many, or is told to stop.

@@ -23,7 +23,7 @@ pub use checking::check;
 pub use failure::{Failure, write_failure};
 pub use forwarding::table;
 pub use losses::{NOTHING_LOST, write_losses};
-pub use ripngd_control::Losses;
 pub use reading::{FileSource, SystemFiles};
+pub use ripngd_control::Losses;
 pub use running::run;
 pub use subcommands::{check_file, table_file};

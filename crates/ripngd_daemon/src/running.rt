@@ -241,7 +241,14 @@ fn run_at_desk<'r, 'a, R: Clock + Net + AllocGlobal, L: Log, O: Write, E: Write>
         rt, router, link, rng, desk, turns, log, &mut watch, out, lost,
     );
     let counts = watch.first.counts();
-    let _ = writeln!(err, "{}", Totals { counts, lost: *lost });
+    let _ = writeln!(
+        err,
+        "{}",
+        Totals {
+            counts,
+            lost: *lost
+        }
+    );
     outcome
 }
 
@@ -275,7 +282,14 @@ fn run_alone<'a, R: Clock + Net + AllocGlobal, L: Log, O: Write, E: Write>(
     let mut lines = DebugLines::new(&mut *err);
     let outcome = run_bound(rt, router, link, rng, turns, log, &mut lines, out, lost);
     let counts = lines.counts();
-    let _ = writeln!(err, "{}", Totals { counts, lost: *lost });
+    let _ = writeln!(
+        err,
+        "{}",
+        Totals {
+            counts,
+            lost: *lost
+        }
+    );
     outcome
 }
 

@@ -117,13 +117,7 @@ impl Neighbors {
     }
 
     /// Counts an arrival in a new row, behind the others.
-    fn count_new(
-        &mut self,
-        arrived: &Arrived,
-        bytes: &[u8],
-        fault: Option<Fault>,
-        notes: &[Note],
-    )
+    fn count_new(&mut self, arrived: &Arrived, bytes: &[u8], fault: Option<Fault>, notes: &[Note])
         requires { vec_len self.old.rows < vec_capacity self.old.rows }
         ensures counts { (place : ℕ) → slice_get self.old.rows.items place ≡ None
             → CountsNew (λ c d. Tallied c arrived.now bytes.now fault notes.now d) arrived.now place self.old self.new }

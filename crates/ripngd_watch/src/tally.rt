@@ -134,7 +134,11 @@ impl Display for Tally {
             last,
             ..
         } = *self;
-        write!(f, " arrivals {arrivals} responses {responses} entries {entries}{}", LastText(last))?;
+        write!(
+            f,
+            " arrivals {arrivals} responses {responses} entries {entries}{}",
+            LastText(last)
+        )?;
         write_faults(f, &FAULTS, &self.faults)?;
         write_notes(f, &NOTES, &self.notes)
     }

@@ -42,7 +42,12 @@ fn tell<V: Watch>(rt: &impl Abort, watch: &mut V) {
         },
     ];
     watch.heard(arrived(rt), &response(), Some(Fault::NotRipngPort), &[]);
-    watch.heard(arrived(rt), &[2, 1], Some(Fault::Wire(WireError::Short)), &[]);
+    watch.heard(
+        arrived(rt),
+        &[2, 1],
+        Some(Fault::Wire(WireError::Short)),
+        &[],
+    );
     watch.heard(arrived(rt), &response(), None, &notes);
 }
 
@@ -140,7 +145,8 @@ refused 11 EmptyRequest 1
 noted 20 BadLength 1
 noted 22 BadMetric 1
 iface 2 from fe80::2 arrivals 2 responses 1 entries 0 last 1200
-".as_slice()
+"
+            .as_slice()
     );
     Ok(())
 }
@@ -157,9 +163,21 @@ fn senders_beyond_the_limit_are_counted_together(rt: HostRuntime) -> Result<(), 
     }
     neighbors.heard(arrived(&rt), &[], Some(Fault::Wire(WireError::Short)), &[]);
     assert_eq!(rt; neighbors.rows().len(), 64);
-    assert_eq!(rt; (neighbors.rows()[1].tally.arrivals, neighbors.rows()[2].tally.arrivals), (1, 2));
-    assert_eq!(rt; (neighbors.others().arrivals, neighbors.others().entries), (2, 16));
+    assert_eq!(rt;
+        (
+            neighbors.rows()[1].tally.arrivals,
+            neighbors.rows()[2].tally.arrivals
+        ),
+        (1, 2)
+    );
+    assert_eq!(rt;
+        (neighbors.others().arrivals, neighbors.others().entries),
+        (2, 16)
+    );
     let text = shown(rt.alloc(), &neighbors)?;
-    assert!(rt; text.text().ends_with(b"others arrivals 2 responses 2 entries 16 last 1200\n"));
+    assert!(rt;
+        text.text()
+            .ends_with(b"others arrivals 2 responses 2 entries 16 last 1200\n")
+    );
     Ok(())
 }

@@ -27,9 +27,7 @@ impl Watch for Keeper {
 
     fn heard(&mut self, arrived: Arrived, bytes: &[u8], fault: Option<Fault>, notes: &[Note]) {
         let first = notes.first().copied();
-        let _ = self
-            .0
-            .push(Event::Heard(arrived, bytes.len(), fault, notes.len(), first));
+        let _ = self.0.push(Event::Heard(arrived, bytes.len(), fault, notes.len(), first));
     }
 
     fn sent(&mut self, outgoing: &Outgoing, went: bool) {
