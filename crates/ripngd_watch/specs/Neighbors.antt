@@ -34,8 +34,8 @@ pub record Tallied (c : Tally) (a : Arrived) (bytes : List ℕ) (fault : Option 
   pub responses : d.responses ≡ counted c.responses (if is_taken bytes fault then 1 else 0)
   pub entries : d.entries ≡ counted c.entries (if is_taken bytes fault then entries_in bytes else 0)
   pub last : d.last ≡ (if is_taken bytes fault then Some a.moment else c.last)
-  pub faults : (place : ℕ) → place < 12 → slice_index_or d.faults place 0 ≡ counted (slice_index_or c.faults place 0) (is_fault (place + 1) fault)
-  pub notes : (place : ℕ) → place < 5 → slice_index_or d.notes place 0
+  pub refused : (place : ℕ) → place < 12 → slice_index_or d.faults place 0 ≡ counted (slice_index_or c.faults place 0) (is_fault (place + 1) fault)
+  pub noted : (place : ℕ) → place < 5 → slice_index_or d.notes place 0
       ≡ counted (slice_index_or c.notes place 0) (count_by (λ n. note_number n.kind == place + 20) notes)
 
 -- ---- all senders

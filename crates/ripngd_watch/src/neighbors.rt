@@ -56,7 +56,10 @@ fn place_of(rows: &[Neighbor], arrived: &Arrived) -> usize
     ensures within { result ≤ length rows.now }
 {
     let mut place = 0;
-    while place < rows.len() && !rows[place].is_of(arrived) {
+    while place < rows.len() {
+        if rows[place].is_of(arrived) {
+            return place;
+        }
         place += 1;
     }
     place
@@ -181,7 +184,8 @@ fn write_rows<W: Write>(rows: &[Neighbor], out: &mut W) -> io::Result<()>
     ensures { OnOk result (Appends (W.contents out.old) (W.contents out.new) (row_lines rows.now)) }
 {
     for row in rows {
-        writeln!(out, "{row}")?;
+        let neighbor = *row;
+        writeln!(out, "{neighbor}")?;
     }
     Ok(())
 }

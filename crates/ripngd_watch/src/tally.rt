@@ -10,7 +10,6 @@ use crate::counts::{count_fault, count_notes};
 use crate::printed::{FAULTS, NOTES, write_faults, write_notes};
 use ripng_wire::Command;
 use ripngd_engine::Arrived;
-use route_table::Moment;
 use router_core::{Fault, Note};
 use std::fmt::{self, Display};
 
@@ -23,8 +22,8 @@ pub struct Tally {
     pub responses: u64,
     /// The entries of these.
     pub entries: u64,
-    /// When the last of them came.
-    pub last: Option<Moment>,
+    /// When the last of them came, in milliseconds of the router's clock.
+    pub last: Option<u64>,
     /// Refused arrivals, by the number of the fault, 1 to 12, less 1.
     pub faults: [u64; 12],
     /// Skipped entries, by the number of the note, 20 to 24, less 20.
@@ -72,7 +71,7 @@ impl Tally {
     }
 
     /// Counts a Response without a fault.
-    fn count_response(&mut self, moment: Moment, entries: u64)
+    fn count_response(&mut self, moment: u64, entries: u64)
         ensures { self.new ≡ record self.old {
           responses = counted self.old.responses 1;
           entries = counted self.old.entries entries;
@@ -96,7 +95,7 @@ impl Tally {
     {
         self.arrivals = self.arrivals.saturating_add(1);
         if is_taken(bytes, fault) {
-            self.count_response(arrived.moment, entries_in(bytes));
+            self.count_response(arrived.moment.ms(), entries_in(bytes));
         }
         count_fault(&mut self.faults, fault);
         count_notes(&mut self.notes, notes);
@@ -105,7 +104,7 @@ impl Tally {
 
 /// When the last Response came, written ` last MS`, or nothing.
 #[derive(Clone, Copy)]
-struct LastText(Option<Moment>);
+struct LastText(Option<u64>);
 
 impl Display for LastText {
     ghost output = { λ l. Some (last_text l.0) };
@@ -113,10 +112,7 @@ impl Display for LastText {
     fn fmt<W: fmt::Write>(&self, f: &mut fmt::Formatter<W>) -> fmt::Result {
         match self.0 {
             None => Ok(()),
-            Some(moment) => {
-                let ms = moment.ms();
-                write!(f, " last {ms}")
-            }
+            Some(ms) => write!(f, " last {ms}"),
         }
     }
 }
