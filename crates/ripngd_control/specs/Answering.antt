@@ -32,7 +32,7 @@ counts_answer c l = totals_text (record { counts = c; lost = l }) ++ (10 ∷ (co
 
 -- the lines of each sender, of all others together, and `ok`
 abbrev pub neighbors_answer : Neighbors → List ℕ
-neighbors_answer n = row_lines n.rows.items ++ (other_lines n.others ++ reply_line replies.Done)
+neighbors_answer n = (row_lines n.rows.items ++ other_lines n.others) ++ reply_line replies.Done
 
 -- ---- what is done for a command, and answered at once
 -- the writer gained this and nothing is left to write, but where the writer failed

@@ -6,6 +6,7 @@ ghost use Rattle.ripngd_daemon.specs.Controlled.{Heeds};
 ghost use Rattle.ripngd_daemon.specs.Ran.{words_of};
 
 use crate::losses::with_link;
+use crate::peering::PeerDesk;
 use crate::router::Running;
 use crate::visit::{Step, Visit};
 use ripngd_control::{Course, Losses, respond};
@@ -55,7 +56,17 @@ fn attend<R: Clock + AllocGlobal, W: Write>(
         return Course::GoOn;
     };
     let lost = lost_by(engine);
-    let response = respond(engine, command, counts, heard, lost, log, &mut visit.answer);
+    let mut peering = PeerDesk::new();
+    let response = respond(
+        engine,
+        command,
+        counts,
+        heard,
+        lost,
+        &mut peering,
+        log,
+        &mut visit.answer,
+    );
     visit.rest = Some(response.rest);
     response.course
 }

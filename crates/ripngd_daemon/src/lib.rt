@@ -9,6 +9,7 @@ mod desk;
 mod failure;
 mod forwarding;
 mod losses;
+mod peering;
 mod plan;
 mod reading;
 mod router;
