@@ -1,6 +1,7 @@
 //! Changes of who is on the link of a router that runs.
 
 ghost use Rattle.std.specs.Prelude.{◌≡◌};
+ghost use Rattle.ripngd_control.specs.declared.reply.Reply.{Reply};
 
 use crate::command::PeerChange;
 use crate::reply::Reply;
