@@ -1,14 +1,23 @@
 //! The socket of an interface, at a port of 127.0.0.1, with its neighbors.
 
-ghost use Rattle.std.specs.Prelude.{◌≡◌, ◌==◌, ◌+◌, ◌-◌, ◌<◌, ◌≤◌, ◌↔◌, ◌⊎◌, [], true, Contains, IfErr, IfOk, Ok, IfSome, IsTrue, length};
+ghost use Rattle.std.specs.Prelude.{◌≡◌, ◌==◌, ◌+◌, ◌-◌, ◌<◌, ◌≤◌, ◌↔◌, ◌⊎◌, [], true, if◌then◌else◌, IfErr, IfOk, IsTrue, MatchOption, Ok, OnErr, OnOk, Some, length};
 ghost use Rattle.std.specs.IoError.{error_kind};
 ghost use Rattle.std.specs.Net.Socket.{IsPlainSocket};
+ghost use Rattle.std.specs.Result.{result_err};
+ghost use Rattle.ripng_wire.specs.Wire.{first_reason};
+ghost use Rattle.ripngd_engine.specs.Run.{counted};
+ghost use Rattle.ripngd_udp.specs.Inbox.{Keeps};
+ghost use Rattle.ripngd_udp.specs.Peers.{removing_reasons_at, with_peer, without_peer};
+ghost use Rattle.ripngd_udp.specs.Standing.{local_port_of, peer_at};
 ghost use Rattle.ripngd_udp.specs.Sockets.{GrowsUpTo};
 
 use crate::inbox::Inbox;
+use crate::neighborhood::Neighborhood;
 use crate::outbox::Outbox;
+use crate::peer_refused::PeerRefused;
 use crate::sending::{Carrier, Tried};
-use ripngd_config::Peer;
+use prefix6::Addr6;
+use ripngd_config::{Peer, Place};
 use ripngd_engine::LinkFault;
 use router_core::Outgoing;
 use std::alloc::Global;
@@ -24,17 +33,30 @@ const TAKEN_AT_ONCE: u32 = 512;
 #[derive(Drop)]
 pub(crate) struct Endpoint {
     socket: UdpSocket,
-    peers: Vec<Peer>,
+    neighborhood: Neighborhood,
     outbox: Outbox,
+    /// How many datagrams came from where none of the peers stands.
+    strangers: u64,
     /// Whether the socket is in the mode in which its calls wait.
     waits: bool,
 }
 
 /// A port of 127.0.0.1.
 pub(crate) fn local(port: u16) -> SocketAddr
-    ensures { IsPlainSocket result port }
+    ensures here { local_port_of result ≡ Some port }
+    ensures plain { IsPlainSocket result port }
 {
-    SocketAddr::new(IpAddr::V4(Ipv4Addr::LOCALHOST), port)
+    SocketAddr::new(IpAddr::V4(Ipv4Addr::new(127, 0, 0, 1)), port)
+}
+
+/// The port of 127.0.0.1 that an address is, if it is one.
+fn local_port_of(from: SocketAddr) -> Option<u16>
+    ensures { result ≡ local_port_of from }
+{
+    match from.ip() {
+        IpAddr::V4(ip) if ip.octets() == [127, 0, 0, 1] => Some(from.port()),
+        _ => None,
+    }
 }
 
 /// Whether an error of a socket only says that no datagram came: also where a signal ended the wait for one.
@@ -71,24 +93,26 @@ impl Carrier for UdpSocket {
 }
 
 impl Endpoint {
-    /// A socket at a port, whose calls do not wait at first, and later so long at most.
+    /// A socket at the local port of a place, whose calls do not wait at first, and later so long at most.
     pub(crate) fn open<N: Net>(
         net: &N,
         alloc: Global,
-        port: u16,
+        place: Place,
         peers: Vec<Peer>,
         wait: Duration,
     ) -> io::Result<Endpoint>
-        ensures { IfOk result (λ endpoint. endpoint.outbox.failed ≡ 0) }
+        ensures on_link { IfOk result (λ endpoint. endpoint.neighborhood ≡ record { place = place; peers = peers.items; }) }
+        ensures lost { IfOk result (λ endpoint. (endpoint.outbox.failed ≡ 0) × (endpoint.strangers ≡ 0)) }
     {
-        let socket = UdpSocket::bind(net, local(port))?;
+        let socket = UdpSocket::bind(net, local(place.local_port))?;
         socket.set_read_timeout(Some(wait))?;
         socket.set_write_timeout(Some(wait))?;
         socket.set_nonblocking(true)?;
         Ok(Endpoint {
             socket,
-            peers,
+            neighborhood: Neighborhood::new(place, peers),
             outbox: Outbox::new(alloc),
+            strangers: 0,
             waits: false,
         })
     }
@@ -97,7 +121,8 @@ impl Endpoint {
     /// another than the last time, and before a datagram is taken.
     fn recv_from(&mut self, buffer: &mut [u8], may_wait: bool) -> io::Result<(usize, SocketAddr)>
         ensures within { IfOk result (λ r. r.0 ≤ length buffer.new) }
-        ensures same { (length buffer.new ≡ length buffer.old) × (self.new.outbox ≡ self.old.outbox) }
+        ensures same { (length buffer.new ≡ length buffer.old) × (self.new.outbox ≡ self.old.outbox)
+            × (self.new.neighborhood ≡ self.old.neighborhood) × (self.new.strangers ≡ self.old.strangers) }
     {
         if self.waits != may_wait {
             self.socket.set_nonblocking(!may_wait)?;
@@ -106,21 +131,34 @@ impl Endpoint {
         self.socket.recv_from(buffer)
     }
 
-    /// The peer that stands at an address of this machine.
+    /// The first peer that stands where a datagram came from.
     fn peer_at(&self, from: SocketAddr) -> Option<Peer>
-        ensures peer { IfSome result (λ peer. Contains self.now.peers.items peer) }
-        ensures port { IfSome result (λ peer. IsPlainSocket from peer.local_port) }
+        ensures { result ≡ peer_at self.now.neighborhood from }
     {
-        for peer in self.peers.iter() {
-            if from == local(peer.local_port) {
-                return Some(*peer);
-            }
-        }
-        None
+        self.neighborhood.peer_at(local_port_of(from)?)
     }
 
-    /// Takes in one datagram, by way of a buffer, and answers whether to look for another. One of a stranger is dropped,
-    /// and one that is not kept is counted.
+    /// Keeps a datagram as one of the peer that stands where it came from, and answers whether to look for another. One that
+    /// is not kept is counted, and so is one of a stranger, which is dropped.
+    fn keep(&mut self, iface: usize, from: SocketAddr, bytes: &[u8], inbox: &mut Inbox) -> bool
+        requires { iface < inbox.old.interfaces }
+        ensures found { MatchOption (peer_at self.old.neighborhood from)
+            ((result ≡ true) × (inbox.new ≡ inbox.old) × (self.new.strangers ≡ counted self.old.strangers 1))
+            (λ peer. Keeps inbox.old.heard.items inbox.new.heard.items iface peer bytes.now result
+                × (inbox.new.lost ≡ counted inbox.old.lost (if result then 0 else 1)) × (self.new.strangers ≡ self.old.strangers)) }
+        ensures same { (inbox.new.interfaces ≡ inbox.old.interfaces) × (self.new.outbox ≡ self.old.outbox)
+            × (self.new.neighborhood ≡ self.old.neighborhood) }
+    {
+        match self.peer_at(from) {
+            Some(peer) => inbox.keep(iface, peer, bytes),
+            None => {
+                self.strangers = self.strangers.saturating_add(1);
+                true
+            }
+        }
+    }
+
+    /// Takes in one datagram, by way of a buffer, and answers whether to look for another.
     ///
     /// # Errors
     /// Where the socket could not be read.
@@ -133,14 +171,13 @@ impl Endpoint {
     ) -> Result<bool, LinkFault>
         requires { iface < inbox.old.interfaces }
         ensures lost { GrowsUpTo 1 inbox.old.lost inbox.new.lost }
+        ensures strangers { GrowsUpTo 1 self.old.strangers self.new.strangers }
         ensures more { result ≡ Ok true → inbox.new.lost ≡ inbox.old.lost }
-        ensures same { (inbox.new.interfaces ≡ inbox.old.interfaces) × (self.new.outbox ≡ self.old.outbox) }
+        ensures same { (inbox.new.interfaces ≡ inbox.old.interfaces) × (self.new.outbox ≡ self.old.outbox)
+            × (self.new.neighborhood ≡ self.old.neighborhood) }
     {
         match self.recv_from(buffer, may_wait) {
-            Ok((len, from)) => match self.peer_at(from) {
-                Some(peer) => Ok(inbox.keep(iface, peer, &buffer[..len])),
-                None => Ok(true),
-            },
+            Ok((len, from)) => Ok(self.keep(iface, from, &buffer[..len], inbox)),
             Err(error) if is_silence(&error) => Ok(false),
             Err(_) => Err(LinkFault),
         }
@@ -158,7 +195,9 @@ impl Endpoint {
     ) -> Result<(), LinkFault>
         requires { iface < inbox.old.interfaces }
         ensures lost { GrowsUpTo 1 inbox.old.lost inbox.new.lost }
-        ensures same { (inbox.new.interfaces ≡ inbox.old.interfaces) × (self.new.outbox ≡ self.old.outbox) }
+        ensures strangers { self.old.strangers ≤ self.new.strangers }
+        ensures same { (inbox.new.interfaces ≡ inbox.old.interfaces) × (self.new.outbox ≡ self.old.outbox)
+            × (self.new.neighborhood ≡ self.old.neighborhood) }
     {
         for _ in 0..TAKEN_AT_ONCE {
             if !self.take_one(iface, buffer, inbox, false)? {
@@ -170,10 +209,11 @@ impl Endpoint {
 
     /// Sends to each peer that is meant, in its turn, at a moment in milliseconds.
     pub(crate) fn send(&mut self, outgoing: &Outgoing, now: u64) -> Result<(), LinkFault>
-        ensures { self.new.outbox.failed ≡ self.old.outbox.failed }
+        ensures failed { self.new.outbox.failed ≡ self.old.outbox.failed }
+        ensures same { (self.new.neighborhood ≡ self.old.neighborhood) × (self.new.strangers ≡ self.old.strangers) }
     {
         self.outbox
-            .send(&mut self.socket, self.peers.as_slice(), outgoing, now)
+            .send(&mut self.socket, &self.neighborhood, outgoing, now)
     }
 
     /// Sends of what waits as much as may go at a moment, in milliseconds.
@@ -181,18 +221,20 @@ impl Endpoint {
         ensures failed { self.old.outbox.failed ≤ self.new.outbox.failed }
         ensures due { self.old.outbox.pace.since + 4 ≤ now
             → length self.new.outbox.waiting.items ≡ length self.old.outbox.waiting.items - 16 }
+        ensures same { (self.new.neighborhood ≡ self.old.neighborhood) × (self.new.strangers ≡ self.old.strangers) }
     {
         self.outbox
-            .send_due(&mut self.socket, self.peers.as_slice(), now);
+            .send_due(&mut self.socket, &self.neighborhood, now);
     }
 
     /// Sends all that waits, at once.
     pub(crate) fn send_all(&mut self)
         ensures all { self.new.outbox.waiting.items ≡ [] }
         ensures failed { self.old.outbox.failed ≤ self.new.outbox.failed }
+        ensures same { (self.new.neighborhood ≡ self.old.neighborhood) × (self.new.strangers ≡ self.old.strangers) }
     {
         self.outbox
-            .send_all(&mut self.socket, self.peers.as_slice());
+            .send_all(&mut self.socket, &self.neighborhood);
     }
 
     /// Whether nothing waits to be sent.
@@ -207,5 +249,45 @@ impl Endpoint {
         ensures { result ≡ self.now.outbox.failed }
     {
         self.outbox.failed()
+    }
+
+    /// How many datagrams came from where none of the peers stands.
+    pub(crate) fn strangers(&self) -> u64
+        ensures { result ≡ self.now.strangers }
+    {
+        self.strangers
+    }
+
+    /// Who is on its link.
+    pub(crate) fn neighborhood(&self) -> &Neighborhood
+        ensures { result.now ≡ self.now.neighborhood }
+    {
+        &self.neighborhood
+    }
+
+    /// A peer more.
+    ///
+    /// # Errors
+    /// Only want of memory.
+    pub(crate) fn add_peer(&mut self, peer: Peer) -> Result<(), PeerRefused>
+        ensures added { OnOk result (self.new.neighborhood ≡ with_peer self.old.neighborhood peer) }
+        ensures err { OnErr result (self.new.neighborhood ≡ self.old.neighborhood) }
+        ensures why { IfErr result (λ why. why ≡ PeerRefused.OutOfMemory) }
+        ensures same { (self.new.outbox ≡ self.old.outbox) × (self.new.strangers ≡ self.old.strangers) }
+    {
+        self.neighborhood.add(peer)
+    }
+
+    /// The peers without that of an address.
+    ///
+    /// # Errors
+    /// Where there is none.
+    pub(crate) fn remove_peer(&mut self, addr: Addr6) -> Result<(), PeerRefused>
+        ensures removed { OnOk result (self.new.neighborhood ≡ without_peer self.old.neighborhood addr) }
+        ensures err { OnErr result (self.new.neighborhood ≡ self.old.neighborhood) }
+        ensures why { result_err result ≡ first_reason (removing_reasons_at (Some self.old.neighborhood) addr) }
+        ensures same { (self.new.outbox ≡ self.old.outbox) × (self.new.strangers ≡ self.old.strangers) }
+    {
+        self.neighborhood.remove(addr)
     }
 }

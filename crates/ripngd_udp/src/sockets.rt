@@ -1,11 +1,16 @@
 //! The sockets of all interfaces: when they are read, when they are sent to, and when they are waited for.
 
-ghost use Rattle.std.specs.Prelude.{◌≡◌, true, ◌<◌, ◌≤◌, [], IsNone, IfOk, IfSome, length, vec_len};
-ghost use Rattle.ripngd_udp.specs.Sockets.{failed_of, none_waits};
+ghost use Rattle.std.specs.Prelude.{◌≡◌, true, ◌<◌, ◌≤◌, [], IfErr, IfOk, IfSome, IsNone, None, OnErr, OnOk, length, vec_len};
+ghost use Rattle.std.specs.Result.{result_err};
+ghost use Rattle.ripngd_udp.specs.Peers.{ChangesLink, RefusesFor, adding_fault, is_group_port, removing_fault, with_peer, without_peer};
+ghost use Rattle.ripngd_udp.specs.Sockets.{failed_of, none_waits, on_links, strangers_of};
 
 use crate::clock::Uptime;
 use crate::endpoint::Endpoint;
 use crate::inbox::Inbox;
+use crate::peer_refused::PeerRefused;
+use prefix6::Addr6;
+use ripngd_config::Peer;
 use ripngd_engine::{LinkFault, Received, TimeSource};
 use router_core::Outgoing;
 use std::alloc::Global;
@@ -75,6 +80,8 @@ impl<'a, R: Clock> Sockets<'a, R> {
     fn send_due(&mut self)
         ensures failed { failed_of self.old.endpoints.items ≤ failed_of self.new.endpoints.items }
         ensures same { vec_len self.new.endpoints ≡ vec_len self.old.endpoints }
+        ensures on_links { on_links self.new.endpoints.items ≡ on_links self.old.endpoints.items }
+        ensures strangers { strangers_of self.new.endpoints.items ≡ strangers_of self.old.endpoints.items }
         ensures heard { self.new.inbox ≡ self.old.inbox }
     {
         let now = self.clock.now().ms();
@@ -89,6 +96,8 @@ impl<'a, R: Clock> Sockets<'a, R> {
     fn send_all(&mut self)
         ensures failed { failed_of self.old.endpoints.items ≤ failed_of self.new.endpoints.items }
         ensures same { vec_len self.new.endpoints ≡ vec_len self.old.endpoints }
+        ensures on_links { on_links self.new.endpoints.items ≡ on_links self.old.endpoints.items }
+        ensures strangers { strangers_of self.new.endpoints.items ≡ strangers_of self.old.endpoints.items }
         ensures heard { self.new.inbox ≡ self.old.inbox }
         ensures all { none_waits self.new.endpoints.items ≡ true }
     {
@@ -115,6 +124,8 @@ impl<'a, R: Clock> Sockets<'a, R> {
         ensures failed { failed_of self.new.endpoints.items ≡ failed_of self.old.endpoints.items }
         ensures lost { self.old.inbox.lost ≤ self.new.inbox.lost }
         ensures same { vec_len self.new.endpoints ≡ vec_len self.old.endpoints }
+        ensures on_links { on_links self.new.endpoints.items ≡ on_links self.old.endpoints.items }
+        ensures strangers { strangers_of self.old.endpoints.items ≤ strangers_of self.new.endpoints.items }
     {
         for iface in 0..self.endpoints.len() {
             if let Some(endpoint) = self.endpoints.get_mut(iface) {
@@ -130,6 +141,8 @@ impl<'a, R: Clock> Sockets<'a, R> {
         ensures failed { failed_of self.new.endpoints.items ≡ failed_of self.old.endpoints.items }
         ensures lost { self.old.inbox.lost ≤ self.new.inbox.lost }
         ensures same { vec_len self.new.endpoints ≡ vec_len self.old.endpoints }
+        ensures on_links { on_links self.new.endpoints.items ≡ on_links self.old.endpoints.items }
+        ensures strangers { strangers_of self.old.endpoints.items ≤ strangers_of self.new.endpoints.items }
     {
         if !self.has_sent() {
             thread::sleep(self.rt, Duration::from_millis(NAP_MS));
@@ -157,6 +170,8 @@ impl<'a, R: Clock> Sockets<'a, R> {
         ensures failed { failed_of self.old.endpoints.items ≤ failed_of self.new.endpoints.items }
         ensures lost { self.old.inbox.lost ≤ self.new.inbox.lost }
         ensures same { vec_len self.new.endpoints ≡ vec_len self.old.endpoints }
+        ensures on_links { on_links self.new.endpoints.items ≡ on_links self.old.endpoints.items }
+        ensures strangers { strangers_of self.old.endpoints.items ≤ strangers_of self.new.endpoints.items }
     {
         self.send_due();
         self.take_all(buffer)?;
@@ -173,6 +188,8 @@ impl<'a, R: Clock> Sockets<'a, R> {
         ensures failed { failed_of self.old.endpoints.items ≤ failed_of self.new.endpoints.items }
         ensures lost { self.old.inbox.lost ≤ self.new.inbox.lost }
         ensures same { vec_len self.new.endpoints ≡ vec_len self.old.endpoints }
+        ensures on_links { on_links self.new.endpoints.items ≡ on_links self.old.endpoints.items }
+        ensures strangers { strangers_of self.old.endpoints.items ≤ strangers_of self.new.endpoints.items }
     {
         let begun = self.clock.now().ms();
         for _ in 0..WAITS {
@@ -190,6 +207,8 @@ impl<'a, R: Clock> Sockets<'a, R> {
         ensures failed { failed_of self.new.endpoints.items ≡ failed_of self.old.endpoints.items }
         ensures lost { self.new.inbox.lost ≡ self.old.inbox.lost }
         ensures same { vec_len self.new.endpoints ≡ vec_len self.old.endpoints }
+        ensures on_links { on_links self.new.endpoints.items ≡ on_links self.old.endpoints.items }
+        ensures strangers { strangers_of self.new.endpoints.items ≡ strangers_of self.old.endpoints.items }
     {
         let now = self.clock.now().ms();
         match self.endpoints.get_mut(outgoing.iface) {
@@ -203,6 +222,8 @@ impl<'a, R: Clock> Sockets<'a, R> {
         ensures failed { failed_of self.old.endpoints.items ≤ failed_of self.new.endpoints.items }
         ensures lost { self.new.inbox.lost ≡ self.old.inbox.lost }
         ensures same { vec_len self.new.endpoints ≡ vec_len self.old.endpoints }
+        ensures on_links { on_links self.new.endpoints.items ≡ on_links self.old.endpoints.items }
+        ensures strangers { strangers_of self.new.endpoints.items ≡ strangers_of self.old.endpoints.items }
         ensures all { none_waits self.new.endpoints.items ≡ true }
     {
         for _ in 0..LAST_WAITS {
@@ -224,6 +245,84 @@ impl<'a, R: Clock> Sockets<'a, R> {
             failed = failed.saturating_add(endpoint.failed());
         }
         failed
+    }
+
+    /// How many datagrams came from where none of the peers stands.
+    pub(crate) fn strangers(&self) -> u64
+        ensures { result ≡ strangers_of self.now.endpoints.items }
+    {
+        let mut strangers: u64 = 0;
+        for endpoint in self.endpoints.iter() {
+            strangers = strangers.saturating_add(endpoint.strangers());
+        }
+        strangers
+    }
+
+    /// Whether a port is that for the group on one of the interfaces.
+    fn is_group_port(&self, port: u16) -> bool
+        ensures { result ≡ is_group_port (on_links self.now.endpoints.items) port }
+    {
+        let mut found = false;
+        for endpoint in self.endpoints.iter() {
+            found |= endpoint.neighborhood().is_group_port(port);
+        }
+        found
+    }
+
+    /// The first reason to refuse a further peer on an interface.
+    fn check_peer(&self, iface: usize, peer: &Peer) -> Result<(), PeerRefused>
+        ensures { result_err result ≡ adding_fault (on_links self.now.endpoints.items) iface peer.now }
+    {
+        let Some(endpoint) = self.endpoints.get(iface) else {
+            return Err(PeerRefused::NoSuchInterface);
+        };
+        if peer.local_port == 0 {
+            Err(PeerRefused::BadPort)
+        } else if self.is_group_port(peer.local_port) {
+            Err(PeerRefused::PortTwice)
+        } else {
+            endpoint.neighborhood().check(peer)
+        }
+    }
+
+    /// An interface has a peer more.
+    ///
+    /// # Errors
+    /// The first reason to refuse it, or want of memory.
+    pub(crate) fn add_peer(&mut self, iface: usize, peer: Peer) -> Result<(), PeerRefused>
+        ensures added { OnOk result (ChangesLinkLink (λ i. with_peer i peer) iface (on_links self.old.endpoints.items) (on_links self.new.endpoints.items)) }
+        ensures passes { OnOk result (adding_fault (on_links self.old.endpoints.items) iface peer ≡ None) }
+        ensures refused { IfErr result (RefusesFor (adding_fault (on_links self.old.endpoints.items) iface peer)) }
+        ensures err { OnErr result (on_links self.new.endpoints.items ≡ on_links self.old.endpoints.items) }
+        ensures failed { failed_of self.new.endpoints.items ≡ failed_of self.old.endpoints.items }
+        ensures heard { self.new.inbox ≡ self.old.inbox }
+        ensures same { vec_len self.new.endpoints ≡ vec_len self.old.endpoints }
+        ensures strangers { strangers_of self.new.endpoints.items ≡ strangers_of self.old.endpoints.items }
+    {
+        self.check_peer(iface, &peer)?;
+        match self.endpoints.get_mut(iface) {
+            Some(endpoint) => endpoint.add_peer(peer),
+            None => Err(PeerRefused::NoSuchInterface),
+        }
+    }
+
+    /// An interface has the peer of an address no longer.
+    ///
+    /// # Errors
+    /// The first reason to refuse it.
+    pub(crate) fn remove_peer(&mut self, iface: usize, addr: Addr6) -> Result<(), PeerRefused>
+        ensures removed { OnOk result (ChangesLinkLink (λ i. without_peer i addr) iface (on_links self.old.endpoints.items) (on_links self.new.endpoints.items)) }
+        ensures refused { result_err result ≡ removing_fault (on_links self.old.endpoints.items) iface addr }
+        ensures err { OnErr result (on_links self.new.endpoints.items ≡ on_links self.old.endpoints.items) }
+        ensures failed { failed_of self.new.endpoints.items ≡ failed_of self.old.endpoints.items }
+        ensures heard { self.new.inbox ≡ self.old.inbox }
+        ensures same { vec_len self.new.endpoints ≡ vec_len self.old.endpoints }
+        ensures strangers { strangers_of self.new.endpoints.items ≡ strangers_of self.old.endpoints.items }
+    {
+        match self.endpoints.get_mut(iface) {
+            Some(endpoint) => endpoint.remove_peer(addr),
+            None => Err(PeerRefused::NoSuchInterface),
+        }
     }
 
     /// How many datagrams of neighbors were lost since there was no room or no memory to keep them.
