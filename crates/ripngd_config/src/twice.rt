@@ -38,11 +38,18 @@ pub(crate) fn check_ports(alloc: Global, interfaces: &[InterfaceTable]) -> Resul
     Ok(())
 }
 
+/// Whether one of the peers stands at a port.
+fn has_peer_at(peers: &[Peer], port: u16) -> bool
+    ensures { result ≡ list_any (λ p. p.local_port == port) peers.now }
+{
+    peers.iter().any(|peer| peer.local_port == port)
+}
+
 /// Whether an interface or one of its peers stands at a port.
 fn stands_at(table: &InterfaceTable, port: u16) -> bool
     ensures { result ≡ stands_at port table.now }
 {
-    table.local_port == port || table.peers.iter().any(|peer| peer.local_port == port)
+    table.local_port == port || has_peer_at(&table.peers, port)
 }
 
 /// Whether an interface or a peer stands at a port.

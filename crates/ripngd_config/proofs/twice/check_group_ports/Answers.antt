@@ -1,4 +1,4 @@
-use Rattle.std.proofs.Common.{◌≡◌, ◌∙◌, All, List, false, subst, sym, cc}
+use Rattle.std.proofs.Common.{◌≡◌, ◌∙◌, All, List, false, subst, sym}
 use Rattle.std.proofs.lemmas.List.{take_all}
 use Rattle.std.proofs.lemmas.List.Elements.{All-more}
 use Rattle.ripngd_config.specs.Twice.{AreGroupPortsApart, has_group_port}
