@@ -290,7 +290,7 @@ impl<'a, R: Clock> Sockets<'a, R> {
     /// # Errors
     /// The first reason to refuse it, or want of memory.
     pub(crate) fn add_peer(&mut self, iface: usize, peer: Peer) -> Result<(), PeerRefused>
-        ensures added { OnOk result (ChangesLinkLink (λ i. with_peer i peer) iface (on_links self.old.endpoints.items) (on_links self.new.endpoints.items)) }
+        ensures added { OnOk result (ChangesLink (λ i. with_peer i peer) iface (on_links self.old.endpoints.items) (on_links self.new.endpoints.items)) }
         ensures passes { OnOk result (adding_fault (on_links self.old.endpoints.items) iface peer ≡ None) }
         ensures refused { IfErr result (RefusesFor (adding_fault (on_links self.old.endpoints.items) iface peer)) }
         ensures err { OnErr result (on_links self.new.endpoints.items ≡ on_links self.old.endpoints.items) }
@@ -311,7 +311,7 @@ impl<'a, R: Clock> Sockets<'a, R> {
     /// # Errors
     /// The first reason to refuse it.
     pub(crate) fn remove_peer(&mut self, iface: usize, addr: Addr6) -> Result<(), PeerRefused>
-        ensures removed { OnOk result (ChangesLinkLink (λ i. without_peer i addr) iface (on_links self.old.endpoints.items) (on_links self.new.endpoints.items)) }
+        ensures removed { OnOk result (ChangesLink (λ i. without_peer i addr) iface (on_links self.old.endpoints.items) (on_links self.new.endpoints.items)) }
         ensures refused { result_err result ≡ removing_fault (on_links self.old.endpoints.items) iface addr }
         ensures err { OnErr result (on_links self.new.endpoints.items ≡ on_links self.old.endpoints.items) }
         ensures failed { failed_of self.new.endpoints.items ≡ failed_of self.old.endpoints.items }

@@ -128,7 +128,7 @@ impl<'a, R: Clock> Udp<'a, R> {
     /// # Errors
     /// The first reason to refuse it, in the order of `PeerRefused`. Nothing is then changed.
     pub fn add_peer(&mut self, iface: usize, peer: Peer) -> Result<(), PeerRefused>
-        ensures added { OnOk result (ChangesLinkLink (λ i. with_peer i peer) iface self.old.on_links self.new.on_links) }
+        ensures added { OnOk result (ChangesLink (λ i. with_peer i peer) iface self.old.on_links self.new.on_links) }
         ensures passes { OnOk result (adding_fault self.old.on_links iface peer ≡ None) }
         ensures refused { IfErr result (RefusesFor (adding_fault self.old.on_links iface peer)) }
         ensures err { OnErr result (self.new ≡ self.old) }
@@ -143,7 +143,7 @@ impl<'a, R: Clock> Udp<'a, R> {
     /// # Errors
     /// `NoSuchInterface` or `NoSuchPeer`. Nothing is then changed.
     pub fn remove_peer(&mut self, iface: usize, addr: Addr6) -> Result<(), PeerRefused>
-        ensures removed { OnOk result (ChangesLinkLink (λ i. without_peer i addr) iface self.old.on_links self.new.on_links) }
+        ensures removed { OnOk result (ChangesLink (λ i. without_peer i addr) iface self.old.on_links self.new.on_links) }
         ensures refused { result_err result ≡ removing_fault self.old.on_links iface addr }
         ensures err { OnErr result (self.new ≡ self.old) }
         ensures same { self.new ≡ record self.old { on_links = self.new.on_links; } }
