@@ -15,6 +15,16 @@ pub record OnLink : Type 0 where
   pub place : Place
   pub peers : List Peer
 
+-- the interface at a place, with these peers
+abbrev pub on_link : Place → List Peer → OnLink
+on_link place peers = record { place = place; peers = peers }
+
+-- an interface at each place, with the peers of that place
+abbrev pub links_at : List Place → List (List Peer) → List OnLink
+links_at [] lists = []
+links_at (place ∷ places) [] = []
+links_at (place ∷ places) (peers ∷ lists) = on_link place peers ∷ links_at places lists
+
 -- one of the peers has the address
 abbrev pub has_address : List Peer → ℕ → Bool
 has_address peers addr = list_any (λ p. p.addr == addr) peers

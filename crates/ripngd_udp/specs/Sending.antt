@@ -1,5 +1,5 @@
 -- How a datagram goes to several ports.
-use Rattle.std.specs.Prelude.{ℕ, ◌≡◌, ◌++◌, Bool, true, false, List, [], ◌∷◌, Option, None, Some, flat_map, map}
+use Rattle.std.specs.Prelude.{ℕ, ◌≡◌, ◌++◌, ◌&&◌, Bool, true, false, List, [], ◌∷◌, Option, None, Some, flat_map, map}
 use Rattle.std.specs.List.{All, filter, list_all, list_any}
 use Rattle.ripngd_config.specs.declared.peer.Peer.{Peer}
 use Rattle.ripngd_engine.specs.Telling.{Gains}
@@ -65,3 +65,9 @@ ports_meant to i = or_all (shared_port to i.place) (peer_ports to i.peers)
 abbrev pub is_known : OnLink → Destination → Bool
 is_known i to.Group = true
 is_known i (to.Peer addr port) = list_any (λ p. is_meant p (to.Peer addr port)) i.peers
+
+-- the bytes were sent to each port that is meant, and the answer is whether they went everywhere, and to somebody
+pub record Delivers (i : OnLink) (before after : Option (List Try)) (destination : Destination) (bytes : List ℕ) (ok : Bool) : Type 0 where
+  pub went : Bool
+  pub sends : SendsEach before after (ports_meant destination i) bytes went
+  pub answer : ok ≡ (went && is_known i destination)

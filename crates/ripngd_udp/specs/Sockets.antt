@@ -1,7 +1,6 @@
 -- The sockets of all interfaces.
-use Rattle.std.specs.Prelude.{ℕ, ◌==◌, ◌+◌, ◌-◌, ◌^◌, ◌≤◌, Bool, List, length, map, min}
+use Rattle.std.specs.Prelude.{ℕ, ◌==◌, ◌+◌, ◌-◌, ◌^◌, ◌≤◌, Bool, List, length, min}
 use Rattle.std.specs.List.{list_all, sum_by}
-use Rattle.ripngd_udp.specs.Peers.{OnLink}
 use Rattle.ripngd_udp.specs.declared.endpoint.Endpoint.{Endpoint}
 
 -- nothing waits to be sent on any interface
@@ -15,10 +14,6 @@ failed_of endpoints = min (sum_by (λ e. e.outbox.failed) endpoints) (2 ^ 64 - 1
 -- how many datagrams came from strangers to all interfaces together, up to the greatest u64
 abbrev pub strangers_of : List Endpoint → ℕ
 strangers_of endpoints = min (sum_by (λ e. e.strangers) endpoints) (2 ^ 64 - 1)
-
--- who is on the link of each interface
-abbrev pub on_links : List Endpoint → List OnLink
-on_links endpoints = map (λ e. e.neighborhood) endpoints
 
 -- a count that is as before, or greater by so much at most
 abbrev pub GrowsUpTo : ℕ → ℕ → ℕ → Type 0

@@ -1,11 +1,11 @@
 -- A link of sockets: why it could not be bound, as what a datagram of a peer arrives, and whom a datagram goes to.
-use Rattle.std.specs.Prelude.{ℕ, ◌==◌, Bool, true, List, [], ◌∷◌, length, map, Contains, ⊤}
+use Rattle.std.specs.Prelude.{ℕ, ◌==◌, Bool, true, List, length, map, Contains, ⊤}
 use Rattle.ripngd_config.specs.declared.peer.Peer.{Peer}
 use Rattle.ripngd_config.specs.declared.place.Place.{Place}
 use Rattle.ripngd_engine.specs.declared.link.Received.{Received}
 use Rattle.router_core.specs.declared.answer.Destination.{Destination}
 use Rattle.router_core.specs.declared.answer.Destination.TheVariants as to
-use Rattle.ripngd_udp.specs.Peers.{OnLink}
+use Rattle.ripngd_udp.specs.Peers.{OnLink, links_at}
 use Rattle.ripngd_udp.specs.declared.udp.UdpError.{UdpError}
 use Rattle.ripngd_udp.specs.declared.udp.UdpError.TheVariants.{Bind, OutOfMemory}
 
@@ -17,12 +17,6 @@ pub record LinkState : Type 0 where
   pub failed_sends : ℕ
   pub lost_arrivals : ℕ
   pub strangers : ℕ
-
--- an interface at each place, with the peers of that place
-abbrev pub links_at : List Place → List (List Peer) → List OnLink
-links_at [] lists = []
-links_at (place ∷ places) [] = []
-links_at (place ∷ places) (peers ∷ lists) = record { place = place; peers = peers } ∷ links_at places lists
 
 -- a link with these interfaces that has lost nothing
 abbrev pub new_link : List Place → List (List Peer) → LinkState

@@ -1,23 +1,18 @@
-//! The socket of an interface, at a port of 127.0.0.1, with its neighbors.
+//! The socket of an interface, at a port of 127.0.0.1.
 
-ghost use Rattle.std.specs.Prelude.{◌≡◌, ◌==◌, ◌+◌, ◌-◌, ◌<◌, ◌≤◌, ◌↔◌, ◌⊎◌, [], true, if◌then◌else◌, IfErr, IfOk, IsTrue, MatchOption, Ok, OnErr, OnOk, Some, length};
+ghost use Rattle.std.specs.Prelude.{◌≡◌, ◌==◌, ◌+◌, ◌-◌, ◌<◌, ◌≤◌, ◌↔◌, ◌⊎◌, [], true, if◌then◌else◌, IfErr, IfOk, IsTrue, MatchOption, Ok, Some, length};
 ghost use Rattle.std.specs.IoError.{error_kind};
 ghost use Rattle.std.specs.Net.Socket.{IsPlainSocket};
-ghost use Rattle.std.specs.Result.{result_err};
-ghost use Rattle.ripng_wire.specs.Wire.{first_reason};
 ghost use Rattle.ripngd_engine.specs.Run.{counted};
 ghost use Rattle.ripngd_udp.specs.Inbox.{Keeps};
-ghost use Rattle.ripngd_udp.specs.Peers.{removing_reasons_at, with_peer, without_peer};
 ghost use Rattle.ripngd_udp.specs.Standing.{local_port_of, peer_at};
 ghost use Rattle.ripngd_udp.specs.Sockets.{GrowsUpTo};
 
 use crate::inbox::Inbox;
 use crate::neighborhood::Neighborhood;
 use crate::outbox::Outbox;
-use crate::peer_refused::PeerRefused;
 use crate::sending::{Carrier, Tried};
-use prefix6::Addr6;
-use ripngd_config::{Peer, Place};
+use ripngd_config::Peer;
 use ripngd_engine::LinkFault;
 use router_core::Outgoing;
 use std::alloc::Global;
@@ -29,11 +24,10 @@ use std::time::Duration;
 /// How many datagrams are taken in from one socket before the others are looked at: more than it holds.
 const TAKEN_AT_ONCE: u32 = 512;
 
-/// The socket of an interface, with its neighbors.
+/// The socket of an interface, with what waits to be sent by it.
 #[derive(Drop)]
 pub(crate) struct Endpoint {
     socket: UdpSocket,
-    neighborhood: Neighborhood,
     outbox: Outbox,
     /// How many datagrams came from where none of the peers stands.
     strangers: u64,
@@ -70,6 +64,13 @@ pub(crate) fn is_silence(error: &io::Error) -> bool
     )
 }
 
+/// The first peer of an interface that stands where a datagram came from.
+fn peer_at(neighborhood: &Neighborhood, from: SocketAddr) -> Option<Peer>
+    ensures { result ≡ peer_at neighborhood.now from }
+{
+    neighborhood.peer_at(local_port_of(from)?)
+}
+
 /// What an answer of the system to a datagram of `len` bytes says.
 fn tried(answer: &io::Result<usize>, len: usize) -> Tried
     ensures count { IfOk answer.now (λ count. (result ≡ Tried.Sent) ↔ (count ≡ len)) }
@@ -93,24 +94,21 @@ impl Carrier for UdpSocket {
 }
 
 impl Endpoint {
-    /// A socket at the local port of a place, whose calls do not wait at first, and later so long at most.
+    /// A socket at a port, whose calls do not wait at first, and later so long at most.
     pub(crate) fn open<N: Net>(
         net: &N,
         alloc: Global,
-        place: Place,
-        peers: Vec<Peer>,
+        local_port: u16,
         wait: Duration,
     ) -> io::Result<Endpoint>
-        ensures on_link { IfOk result (λ endpoint. endpoint.neighborhood ≡ record { place = place; peers = peers.items; }) }
-        ensures lost { IfOk result (λ endpoint. (endpoint.outbox.failed ≡ 0) × (endpoint.strangers ≡ 0)) }
+        ensures { IfOk result (λ endpoint. (endpoint.outbox.failed ≡ 0) × (endpoint.strangers ≡ 0)) }
     {
-        let socket = UdpSocket::bind(net, local(place.local_port))?;
+        let socket = UdpSocket::bind(net, local(local_port))?;
         socket.set_read_timeout(Some(wait))?;
         socket.set_write_timeout(Some(wait))?;
         socket.set_nonblocking(true)?;
         Ok(Endpoint {
             socket,
-            neighborhood: Neighborhood::new(place, peers),
             outbox: Outbox::new(alloc),
             strangers: 0,
             waits: false,
@@ -121,8 +119,7 @@ impl Endpoint {
     /// another than the last time, and before a datagram is taken.
     fn recv_from(&mut self, buffer: &mut [u8], may_wait: bool) -> io::Result<(usize, SocketAddr)>
         ensures within { IfOk result (λ r. r.0 ≤ length buffer.new) }
-        ensures same { (length buffer.new ≡ length buffer.old) × (self.new.outbox ≡ self.old.outbox)
-            × (self.new.neighborhood ≡ self.old.neighborhood) × (self.new.strangers ≡ self.old.strangers) }
+        ensures same { (length buffer.new ≡ length buffer.old) × (self.new.outbox ≡ self.old.outbox) × (self.new.strangers ≡ self.old.strangers) }
     {
         if self.waits != may_wait {
             self.socket.set_nonblocking(!may_wait)?;
@@ -131,25 +128,24 @@ impl Endpoint {
         self.socket.recv_from(buffer)
     }
 
-    /// The first peer that stands where a datagram came from.
-    fn peer_at(&self, from: SocketAddr) -> Option<Peer>
-        ensures { result ≡ peer_at self.now.neighborhood from }
-    {
-        self.neighborhood.peer_at(local_port_of(from)?)
-    }
-
     /// Keeps a datagram as one of the peer that stands where it came from, and answers whether to look for another. One that
     /// is not kept is counted, and so is one of a stranger, which is dropped.
-    fn keep(&mut self, iface: usize, from: SocketAddr, bytes: &[u8], inbox: &mut Inbox) -> bool
+    fn keep(
+        &mut self,
+        neighborhood: &Neighborhood,
+        iface: usize,
+        from: SocketAddr,
+        bytes: &[u8],
+        inbox: &mut Inbox,
+    ) -> bool
         requires { iface < inbox.old.interfaces }
-        ensures found { MatchOption (peer_at self.old.neighborhood from)
+        ensures found { MatchOption (peer_at neighborhood.now from)
             ((result ≡ true) × (inbox.new ≡ inbox.old) × (self.new.strangers ≡ counted self.old.strangers 1))
             (λ peer. Keeps inbox.old.heard.items inbox.new.heard.items iface peer bytes.now result
                 × (inbox.new.lost ≡ counted inbox.old.lost (if result then 0 else 1)) × (self.new.strangers ≡ self.old.strangers)) }
-        ensures same { (inbox.new.interfaces ≡ inbox.old.interfaces) × (self.new.outbox ≡ self.old.outbox)
-            × (self.new.neighborhood ≡ self.old.neighborhood) }
+        ensures same { (inbox.new.interfaces ≡ inbox.old.interfaces) × (self.new.outbox ≡ self.old.outbox) }
     {
-        match self.peer_at(from) {
+        match peer_at(neighborhood, from) {
             Some(peer) => inbox.keep(iface, peer, bytes),
             None => {
                 self.strangers = self.strangers.saturating_add(1);
@@ -164,6 +160,7 @@ impl Endpoint {
     /// Where the socket could not be read.
     pub(crate) fn take_one(
         &mut self,
+        neighborhood: &Neighborhood,
         iface: usize,
         buffer: &mut [u8],
         inbox: &mut Inbox,
@@ -173,11 +170,10 @@ impl Endpoint {
         ensures lost { GrowsUpTo 1 inbox.old.lost inbox.new.lost }
         ensures strangers { GrowsUpTo 1 self.old.strangers self.new.strangers }
         ensures more { result ≡ Ok true → inbox.new.lost ≡ inbox.old.lost }
-        ensures same { (inbox.new.interfaces ≡ inbox.old.interfaces) × (self.new.outbox ≡ self.old.outbox)
-            × (self.new.neighborhood ≡ self.old.neighborhood) }
+        ensures same { (inbox.new.interfaces ≡ inbox.old.interfaces) × (self.new.outbox ≡ self.old.outbox) }
     {
         match self.recv_from(buffer, may_wait) {
-            Ok((len, from)) => Ok(self.keep(iface, from, &buffer[..len], inbox)),
+            Ok((len, from)) => Ok(self.keep(neighborhood, iface, from, &buffer[..len], inbox)),
             Err(error) if is_silence(&error) => Ok(false),
             Err(_) => Err(LinkFault),
         }
@@ -189,6 +185,7 @@ impl Endpoint {
     /// Where the socket could not be read.
     pub(crate) fn take_all(
         &mut self,
+        neighborhood: &Neighborhood,
         iface: usize,
         buffer: &mut [u8],
         inbox: &mut Inbox,
@@ -196,11 +193,10 @@ impl Endpoint {
         requires { iface < inbox.old.interfaces }
         ensures lost { GrowsUpTo 1 inbox.old.lost inbox.new.lost }
         ensures strangers { self.old.strangers ≤ self.new.strangers }
-        ensures same { (inbox.new.interfaces ≡ inbox.old.interfaces) × (self.new.outbox ≡ self.old.outbox)
-            × (self.new.neighborhood ≡ self.old.neighborhood) }
+        ensures same { (inbox.new.interfaces ≡ inbox.old.interfaces) × (self.new.outbox ≡ self.old.outbox) }
     {
         for _ in 0..TAKEN_AT_ONCE {
-            if !self.take_one(iface, buffer, inbox, false)? {
+            if !self.take_one(neighborhood, iface, buffer, inbox, false)? {
                 return Ok(());
             }
         }
@@ -208,33 +204,37 @@ impl Endpoint {
     }
 
     /// Sends to each peer that is meant, in its turn, at a moment in milliseconds.
-    pub(crate) fn send(&mut self, outgoing: &Outgoing, now: u64) -> Result<(), LinkFault>
+    pub(crate) fn send(
+        &mut self,
+        neighborhood: &Neighborhood,
+        outgoing: &Outgoing,
+        now: u64,
+    ) -> Result<(), LinkFault>
         ensures failed { self.new.outbox.failed ≡ self.old.outbox.failed }
-        ensures same { (self.new.neighborhood ≡ self.old.neighborhood) × (self.new.strangers ≡ self.old.strangers) }
+        ensures strangers { self.new.strangers ≡ self.old.strangers }
     {
         self.outbox
-            .send(&mut self.socket, &self.neighborhood, outgoing, now)
+            .send(&mut self.socket, neighborhood, outgoing, now)
     }
 
     /// Sends of what waits as much as may go at a moment, in milliseconds.
-    pub(crate) fn send_due(&mut self, now: u64)
+    pub(crate) fn send_due(&mut self, neighborhood: &Neighborhood, now: u64)
         ensures failed { self.old.outbox.failed ≤ self.new.outbox.failed }
         ensures due { self.old.outbox.pace.since + 4 ≤ now
             → length self.new.outbox.waiting.items ≡ length self.old.outbox.waiting.items - 16 }
-        ensures same { (self.new.neighborhood ≡ self.old.neighborhood) × (self.new.strangers ≡ self.old.strangers) }
+        ensures strangers { self.new.strangers ≡ self.old.strangers }
     {
         self.outbox
-            .send_due(&mut self.socket, &self.neighborhood, now);
+            .send_due(&mut self.socket, neighborhood, now);
     }
 
     /// Sends all that waits, at once.
-    pub(crate) fn send_all(&mut self)
+    pub(crate) fn send_all(&mut self, neighborhood: &Neighborhood)
         ensures all { self.new.outbox.waiting.items ≡ [] }
         ensures failed { self.old.outbox.failed ≤ self.new.outbox.failed }
-        ensures same { (self.new.neighborhood ≡ self.old.neighborhood) × (self.new.strangers ≡ self.old.strangers) }
+        ensures strangers { self.new.strangers ≡ self.old.strangers }
     {
-        self.outbox
-            .send_all(&mut self.socket, &self.neighborhood);
+        self.outbox.send_all(&mut self.socket, neighborhood);
     }
 
     /// Whether nothing waits to be sent.
@@ -256,38 +256,5 @@ impl Endpoint {
         ensures { result ≡ self.now.strangers }
     {
         self.strangers
-    }
-
-    /// Who is on its link.
-    pub(crate) fn neighborhood(&self) -> &Neighborhood
-        ensures { result.now ≡ self.now.neighborhood }
-    {
-        &self.neighborhood
-    }
-
-    /// A peer more.
-    ///
-    /// # Errors
-    /// Only want of memory.
-    pub(crate) fn add_peer(&mut self, peer: Peer) -> Result<(), PeerRefused>
-        ensures added { OnOk result (self.new.neighborhood ≡ with_peer self.old.neighborhood peer) }
-        ensures err { OnErr result (self.new.neighborhood ≡ self.old.neighborhood) }
-        ensures why { IfErr result (λ why. why ≡ PeerRefused.OutOfMemory) }
-        ensures same { (self.new.outbox ≡ self.old.outbox) × (self.new.strangers ≡ self.old.strangers) }
-    {
-        self.neighborhood.add(peer)
-    }
-
-    /// The peers without that of an address.
-    ///
-    /// # Errors
-    /// Where there is none.
-    pub(crate) fn remove_peer(&mut self, addr: Addr6) -> Result<(), PeerRefused>
-        ensures removed { OnOk result (self.new.neighborhood ≡ without_peer self.old.neighborhood addr) }
-        ensures err { OnErr result (self.new.neighborhood ≡ self.old.neighborhood) }
-        ensures why { result_err result ≡ first_reason (removing_reasons_at (Some self.old.neighborhood) addr) }
-        ensures same { (self.new.outbox ≡ self.old.outbox) × (self.new.strangers ≡ self.old.strangers) }
-    {
-        self.neighborhood.remove(addr)
     }
 }

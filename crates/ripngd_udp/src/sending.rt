@@ -1,9 +1,9 @@
 //! One datagram to the ports of this machine that it is meant for: each is tried, whatever came of those before it.
 
-ghost use Rattle.std.specs.Prelude.{◌≡◌, ◌&&◌, ℕ, [], ◌∷◌, Bool, List, Option, is_ok};
+ghost use Rattle.std.specs.Prelude.{◌≡◌, ℕ, [], ◌∷◌, List, Option, is_ok};
 ghost use Rattle.std.specs.List.{list_any};
 ghost use Rattle.ripngd_engine.specs.Telling.{Gains};
-ghost use Rattle.ripngd_udp.specs.Sending.{SendsEach, Tries, Try, is_known, peer_ports, ports_meant, tried, went};
+ghost use Rattle.ripngd_udp.specs.Sending.{Delivers, SendsEach, Tries, Try, is_known, peer_ports, ports_meant, tried, went};
 ghost use Rattle.ripngd_udp.specs.Udp.{is_meant};
 
 use crate::neighborhood::Neighborhood;
@@ -134,8 +134,7 @@ pub(crate) fn send<C: Carrier>(
     to: &Destination,
     bytes: &[u8],
 ) -> Result<(), LinkFault>
-    ensures { (all_went : Bool) × SendsEach (C.tries carrier.old) (C.tries carrier.new) (ports_meant to.now neighborhood.now) bytes.now all_went
-        × (is_ok result ≡ (all_went && is_known neighborhood.now to.now)) }
+    ensures { Delivers neighborhood.now (C.tries carrier.old) (C.tries carrier.new) to.now bytes.now (is_ok result) }
 {
     let all_went = send_each(carrier, neighborhood, to, bytes);
     if all_went && is_known(neighborhood, to) {

@@ -4,9 +4,11 @@
 ghost use Rattle.std.specs.Prelude.{◌≡◌, ◌≤◌, IfErr, IfOk, None, OnErr, OnOk, length, map, vec_len};
 ghost use Rattle.std.specs.Result.{result_err};
 ghost use Rattle.ripngd_udp.specs.Peers.{ChangesLink, RefusesFor, adding_fault, removing_fault, with_peer, without_peer};
+ghost use Rattle.ripngd_udp.specs.Sockets.{failed_of, strangers_of};
 ghost use Rattle.ripngd_udp.specs.Udp.{NamesPortOf, link_number, new_link};
 
 use crate::endpoint::Endpoint;
+use crate::neighborhood::neighborhoods_at;
 use crate::peer_refused::PeerRefused;
 use crate::sockets::{Sockets, wait_of};
 use prefix6::Addr6;
@@ -52,16 +54,37 @@ pub struct Udp<'a, R: Clock> {
     sockets: Sockets<'a, R>,
 }
 
+/// A socket at the local port of each place, in order.
+fn endpoints_at<N: Net>(
+    net: &N,
+    alloc: Global,
+    places: &[Place],
+) -> Result<Vec<Endpoint>, UdpError>
+    ensures count { IfOk result (λ endpoints. vec_len endpoints ≡ length places.now) }
+    ensures lost { IfOk result (λ endpoints. (failed_of endpoints.items ≡ 0) × (strangers_of endpoints.items ≡ 0)) }
+    ensures refused { IfErr result (NamesPortOf places.now) }
+{
+    let wait = wait_of(places.len());
+    let mut endpoints = Vec::new(alloc);
+    for place in places {
+        let Ok(endpoint) = Endpoint::open(net, alloc, place.local_port, wait) else {
+            return Err(UdpError::Bind(place.local_port));
+        };
+        endpoints.push(endpoint).map_err(|_| UdpError::OutOfMemory)?;
+    }
+    Ok(endpoints)
+}
+
 impl<'a, R: Clock> Model for Udp<'a, R> {
     ghost use Rattle.std.specs.Prelude.{vec_len};
     ghost use Rattle.ripngd_udp.specs.Udp.{LinkState};
-    ghost use Rattle.ripngd_udp.specs.Sockets.{failed_of, on_links, strangers_of};
+    ghost use Rattle.ripngd_udp.specs.Sockets.{failed_of, strangers_of};
 
     ghost Value = { LinkState };
 
     ghost view = { λ link. record {
       interfaces = vec_len link.sockets.endpoints;
-      on_links = on_links link.sockets.endpoints.items;
+      on_links = link.sockets.neighborhoods.items;
       failed_sends = failed_of link.sockets.endpoints.items;
       lost_arrivals = link.sockets.inbox.lost;
       strangers = strangers_of link.sockets.endpoints.items;
@@ -100,16 +123,11 @@ impl<'a, R: Clock> Udp<'a, R> {
         ensures bound { IfOk result (λ link. link ≡ new_link places.now (map (λ v. v.items) peers.items)) }
         ensures refused { IfErr result (NamesPortOf places.now) }
     {
-        let wait = wait_of(places.len());
-        let mut endpoints = Vec::new(alloc);
-        for (place, peers) in places.iter().zip(peers) {
-            let Ok(endpoint) = Endpoint::open(net, alloc, *place, peers, wait) else {
-                return Err(UdpError::Bind(place.local_port));
-            };
-            endpoints.push(endpoint).map_err(|_| UdpError::OutOfMemory)?;
-        }
+        let endpoints = endpoints_at(net, alloc, places)?;
+        let neighborhoods =
+            neighborhoods_at(alloc, places, peers).map_err(|_| UdpError::OutOfMemory)?;
         Ok(Udp {
-            sockets: Sockets::new(rt, alloc, endpoints),
+            sockets: Sockets::new(rt, alloc, endpoints, neighborhoods),
         })
     }
 
