@@ -161,10 +161,13 @@ pub(crate) fn neighborhoods_at(
     peers: Vec<Vec<Peer>>,
 ) -> Result<Vec<Neighborhood>, AllocError>
     requires { length places.now ≡ vec_len peers }
-    ensures { IfOk result (λ links. links.items ≡ links_at places.now (map (λ v. v.items) peers.items)) }
+    ensures made { IfOk result (λ links. links.items ≡ links_at places.now (map (λ v. v.items) peers.items)) }
+    ensures count { IfOk result (λ links. vec_len links ≡ length places.now) }
 {
     let mut links = Vec::new(alloc);
-    for (place, peers) in places.iter().zip(peers) {
+    let mut rest = peers;
+    for place in places {
+        let peers = rest.remove(0);
         links.push(Neighborhood::new(*place, peers))?;
     }
     Ok(links)
