@@ -1,3 +1,3 @@
 pub mod Sendings
 pub mod Queues
-pub mod Links
+pub mod Found

@@ -1,5 +1,5 @@
 use Rattle.std.proofs.Common.{◌==◌, ◌∙◌}
-use Rattle.ripngd_udp.proofs.Links.{find_more}
+use Rattle.ripngd_udp.proofs.Found.{find_more}
 use Rattle.ripngd_udp.proofs.neighborhood.peer_at.Goals as goal
 
 pub loop-peer-preserved : goal.loop-peer-preserved
