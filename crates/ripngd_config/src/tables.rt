@@ -50,14 +50,7 @@ pub(crate) struct InterfaceTable {
     pub peers: Vec<Peer>,
 }
 
-static INTERFACE_KEYS: [&str; 6] = [
-    "address",
-    "cost",
-    "mtu",
-    "local_port",
-    "group_port",
-    "peer",
-];
+static INTERFACE_KEYS: [&str; 6] = ["address", "cost", "mtu", "local_port", "group_port", "peer"];
 
 /// The port at a key that may be left out.
 fn port_at(section: Section<'_>, key: &str) -> Result<Option<u16>, ConfigFault>

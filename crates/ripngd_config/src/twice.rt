@@ -15,7 +15,9 @@ use std::alloc::Global;
 fn has_port(earlier: &[InterfaceTable], table: &InterfaceTable) -> bool
     ensures { result ≡ list_any (λ t. t.local_port == table.now.local_port) earlier.now }
 {
-    earlier.iter().any(|other| other.local_port == table.local_port)
+    earlier
+        .iter()
+        .any(|other| other.local_port == table.local_port)
 }
 
 /// Refuses the first interface whose local port is that of an earlier one.
@@ -27,12 +29,7 @@ pub(crate) fn check_ports(alloc: Global, interfaces: &[InterfaceTable]) -> Resul
     for (index, table) in interfaces.iter().enumerate() {
         if has_port(&interfaces[..index], table) {
             let path = TablePath::Top.member("interface", index);
-            return Err(ConfigFault::at(
-                alloc,
-                PathFault::PortTwice,
-                path,
-                "local_port",
-            ));
+            return Err(ConfigFault::at(alloc, PathFault::PortTwice, path, "local_port"));
         }
     }
     Ok(())
@@ -85,12 +82,7 @@ pub(crate) fn check_group_ports(
     for (index, table) in interfaces.iter().enumerate() {
         if has_group_port(interfaces, table) {
             let path = TablePath::Top.member("interface", index);
-            return Err(ConfigFault::at(
-                alloc,
-                PathFault::PortTwice,
-                path,
-                "group_port",
-            ));
+            return Err(ConfigFault::at(alloc, PathFault::PortTwice, path, "group_port"));
         }
     }
     Ok(())

@@ -142,7 +142,7 @@ impl Endpoint {
         ensures found { MatchOption (peer_at neighborhood.now from)
             ((result ≡ true) × (inbox.new ≡ inbox.old) × (self.new.strangers ≡ counted self.old.strangers 1))
             (λ peer. Keeps inbox.old.heard.items inbox.new.heard.items iface peer bytes.now result
-                × (inbox.new.lost ≡ counted inbox.old.lost (if result then 0 else 1)) × (self.new.strangers ≡ self.old.strangers)) }
+            × (inbox.new.lost ≡ counted inbox.old.lost (if result then 0 else 1)) × (self.new.strangers ≡ self.old.strangers)) }
         ensures same { (inbox.new.interfaces ≡ inbox.old.interfaces) × (self.new.outbox ≡ self.old.outbox) }
     {
         match peer_at(neighborhood, from) {
@@ -224,8 +224,7 @@ impl Endpoint {
             → length self.new.outbox.waiting.items ≡ length self.old.outbox.waiting.items - 16 }
         ensures strangers { self.new.strangers ≡ self.old.strangers }
     {
-        self.outbox
-            .send_due(&mut self.socket, neighborhood, now);
+        self.outbox.send_due(&mut self.socket, neighborhood, now);
     }
 
     /// Sends all that waits, at once.

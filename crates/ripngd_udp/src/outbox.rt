@@ -115,7 +115,12 @@ impl Outbox {
         ensures same { self.new.failed ≡ self.old.failed }
     {
         if self.waiting.is_empty() && self.pace.take(1, now) == 1 {
-            send(carrier, neighborhood, &outgoing.to, outgoing.bytes.as_slice())
+            send(
+                carrier,
+                neighborhood,
+                &outgoing.to,
+                outgoing.bytes.as_slice(),
+            )
         } else if is_known(neighborhood, &outgoing.to) {
             self.keep(outgoing)
         } else {
@@ -153,7 +158,12 @@ impl Outbox {
 
     /// Sends of what waits as many as may go at a moment, in milliseconds: 16 where the pause is over, and else what may go
     /// before it.
-    pub(crate) fn send_due<C: Carrier>(&mut self, carrier: &mut C, neighborhood: &Neighborhood, now: u64)
+    pub(crate) fn send_due<C: Carrier>(
+        &mut self,
+        carrier: &mut C,
+        neighborhood: &Neighborhood,
+        now: u64,
+    )
         ensures sends { Goes neighborhood.now (C.tries carrier.old) (C.tries carrier.new) self.old.waiting.items self.new.waiting.items self.old.failed self.new.failed }
         ensures paced { length self.old.waiting.items - 16 ≤ length self.new.waiting.items }
         ensures due { self.old.pace.since + 4 ≤ now → length self.new.waiting.items ≡ length self.old.waiting.items - 16 }

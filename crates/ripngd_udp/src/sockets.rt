@@ -167,7 +167,13 @@ impl<'a, R: Clock> Sockets<'a, R> {
         self.next = iface + 1;
         match self.endpoints.get_mut(iface) {
             Some(endpoint) => endpoint
-                .take_one(&self.neighborhoods[iface], iface, buffer, &mut self.inbox, true)
+                .take_one(
+                    &self.neighborhoods[iface],
+                    iface,
+                    buffer,
+                    &mut self.inbox,
+                    true,
+                )
                 .map(|_| ()),
             None => Ok(()),
         }

@@ -55,11 +55,7 @@ pub struct Udp<'a, R: Clock> {
 }
 
 /// A socket at the local port of each place, in order.
-fn endpoints_at<N: Net>(
-    net: &N,
-    alloc: Global,
-    places: &[Place],
-) -> Result<Vec<Endpoint>, UdpError>
+fn endpoints_at<N: Net>(net: &N, alloc: Global, places: &[Place]) -> Result<Vec<Endpoint>, UdpError>
     ensures count { IfOk result (λ endpoints. vec_len endpoints ≡ length places.now) }
     ensures lost { IfOk result (λ endpoints. (failed_of endpoints.items ≡ 0) × (strangers_of endpoints.items ≡ 0)) }
     ensures refused { IfErr result (NamesPortOf places.now) }
@@ -124,8 +120,9 @@ impl<'a, R: Clock> Udp<'a, R> {
         ensures refused { IfErr result (NamesPortOf places.now) }
     {
         let endpoints = endpoints_at(net, alloc, places)?;
-        let neighborhoods =
-            neighborhoods_at(alloc, places, peers).map_err(|_| UdpError::OutOfMemory)?;
+        let neighborhoods = neighborhoods_at(alloc, places, peers).map_err(
+            |_| UdpError::OutOfMemory,
+        )?;
         Ok(Udp {
             sockets: Sockets::new(rt, alloc, endpoints, neighborhoods),
         })
@@ -150,7 +147,7 @@ impl<'a, R: Clock> Udp<'a, R> {
         ensures passes { OnOk result (adding_fault self.old.on_links iface peer ≡ None) }
         ensures refused { IfErr result (RefusesFor (adding_fault self.old.on_links iface peer)) }
         ensures err { OnErr result (self.new ≡ self.old) }
-        ensures same { self.new ≡ record self.old { on_links = self.new.on_links; } }
+        ensures same { self.new ≡ record self.old { on_links = self.new.on_links } }
     {
         self.sockets.add_peer(iface, peer)
     }
@@ -164,7 +161,7 @@ impl<'a, R: Clock> Udp<'a, R> {
         ensures removed { OnOk result (ChangesLink (λ i. without_peer i addr) iface self.old.on_links self.new.on_links) }
         ensures refused { result_err result ≡ removing_fault self.old.on_links iface addr }
         ensures err { OnErr result (self.new ≡ self.old) }
-        ensures same { self.new ≡ record self.old { on_links = self.new.on_links; } }
+        ensures same { self.new ≡ record self.old { on_links = self.new.on_links } }
     {
         self.sockets.remove_peer(iface, addr)
     }

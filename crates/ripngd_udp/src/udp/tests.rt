@@ -100,7 +100,10 @@ fn link_to<'a, N: Net, R: Clock>(
     peers: &[Peer],
 ) -> Result<(Udp<'a, R>, u16), Fail> {
     let (udp, places) = link(net, clock, alloc, peers, 1)?;
-    Ok((udp, places.first().map(|place| place.local_port).unwrap_or(0)))
+    Ok((
+        udp,
+        places.first().map(|place| place.local_port).unwrap_or(0),
+    ))
 }
 
 /// Sends a datagram of so many bytes to the port, so many times.
