@@ -1,6 +1,6 @@
 //! `run`: one router over UDP sockets of loopback.
 
-ghost use Rattle.std.specs.Prelude.{◌≡◌, ◌≢◌, Err, IfErr, IfOk, List, OnOk, Some, false, length, option_map, vec_len, ℕ};
+ghost use Rattle.std.specs.Prelude.{◌≡◌, ◌≢◌, Err, IfErr, IfOk, List, OnOk, Some, false, length, map, option_map, vec_len, ℕ};
 ghost use Rattle.std.specs.Io.KnownBytes.{Appends};
 ghost use Rattle.ripngd_config.specs.Configuration.{HasOneEach};
 ghost use Rattle.ripngd_engine.specs.Seen.{Ran, seen};
@@ -25,7 +25,7 @@ use crate::run_log::{Log, Output, empty_log, open_log, refuse_own_config};
 use crate::warnings::write_echoes;
 use rand_pcg::Pcg32;
 use ripngd_command_line::Order;
-use ripngd_config::{Config, Peer};
+use ripngd_config::{Config, Peer, Place};
 use ripngd_control::{Losses, Totals};
 use ripngd_door::Door;
 use ripngd_engine::{Engine, Unwatched, Watch};
@@ -112,17 +112,17 @@ fn run_plan<'a, R: Files<File = File> + Print + Clock + Net + AllocGlobal, O: Wr
 /// emptied; `OutOfMemory`.
 fn bind_and_empty<'r, 'a, R: Clock + Net + AllocGlobal, L: Log>(
     rt: &'r R,
-    ports: &[u16],
+    places: &[Place],
     peers: Vec<Vec<Peer>>,
     name: Option<&'a str>,
     log: &mut L,
 ) -> Result<Udp<'r, R>, Failure<'a>>
-    requires { length ports.now ≡ vec_len peers }
-    ensures bound { IfOk result (λ link. link ≡ new_link (length ports.now)) }
+    requires { length places.now ≡ vec_len peers }
+    ensures bound { IfOk result (λ link. link ≡ new_link places.now (map (λ v. v.items) peers.items)) }
     ensures kept { (port : ℕ) → result ≡ Err (failures.Bind port) → log.new ≡ log.old }
     ensures failed { IfErr result (λ f. (turns : ℕ) → FailsLogged turns (option_map (λ s. s.now) name.entry) f) }
 {
-    let link = Udp::bind(rt, rt.alloc(), ports, peers)?;
+    let link = Udp::bind(rt, rt.alloc(), places, peers)?;
     empty_log(name, log)?;
     Ok(link)
 }
@@ -185,11 +185,11 @@ fn run_at<'a, R: Files + Clock + Net + AllocGlobal, L: Log, O: Write, E: Write>(
 {
     let Config {
         router,
-        ports,
+        places,
         peers,
         rng,
     } = config;
-    let link = Udp::bind(rt, rt.alloc(), ports.as_slice(), peers)?;
+    let link = Udp::bind(rt, rt.alloc(), places.as_slice(), peers)?;
     let mut desk = open_desk(rt, path)?;
     let outcome = run_at_desk(
         rt, router, link, rng, &mut desk, turns, debug, name, log, out, err, lost,
@@ -270,12 +270,12 @@ fn run_alone<'a, R: Clock + Net + AllocGlobal, L: Log, O: Write, E: Write>(
 {
     let Config {
         router,
-        ports,
+        places,
         peers,
         rng,
     } = config;
-    let link = bind_and_empty(rt, ports.as_slice(), peers, name, log)?;
-    let _ = writeln!(err, "ripngd: running, {} interfaces", ports.len());
+    let link = bind_and_empty(rt, places.as_slice(), peers, name, log)?;
+    let _ = writeln!(err, "ripngd: running, {} interfaces", places.len());
     if !debug {
         return run_bound(rt, router, link, rng, turns, log, &mut Unwatched, out, lost);
     }
