@@ -65,6 +65,10 @@ What the router answers is printed. The commands are
   cost INTERFACE COST    the cost of an interface is another from now on
   gain PREFIX TAG        it owns a prefix more
   drop PREFIX            it owns that prefix no more
+  peer INTERFACE ADDRESS PORT
+                         a neighbor of that address stands at that port
+  unpeer INTERFACE ADDRESS
+                         no neighbor of that address is there any more
   stop                   it ends, as after its last turn
 Where the router refuses, it says `refused NR NAME`, and the exit status is 1;
 where nobody listens at PATH, it is 3.
