@@ -166,6 +166,8 @@ pub fn respond<
         (seen R.stream W.contents engine.new log.new) (O.contents out.new) }
     ensures goes_on { result.course ≢ Course.Ended → engine.new.ended ≡ false }
     ensures stops { (result.course ≡ Course.Stop) ↔ (command ≡ Some Command.Stop) }
+    ensures links { (c : PeerChange) → command ≡ Some (Command.Link c)
+        → Says (O.contents out.old) result.rest (O.contents out.new) (reply_line (P.Peering.ended peering.new)) }
 {
     match command {
         Some(Command::Routes) => going_on(Rest::Routes(None)),
