@@ -3,6 +3,7 @@
 ghost use Rattle.std.specs.Prelude.{◌≡◌, ◌≢◌, ◌↔◌, IfOk, IsOk, OnOk, Some, false};
 ghost use Rattle.std.specs.Io.KnownBytes.{Appends};
 ghost use Rattle.ripngd_engine.specs.Seen.{seen};
+ghost use Rattle.ripngd_control.specs.declared.command.PeerChange.{PeerChange};
 ghost use Rattle.ripngd_control.specs.Answering.{Answers, Continues, GoesOn, Obeyed, Says, WritesEntries, WritesRoutes, counts_answer, neighbors_answer, reply_line};
 
 use crate::command::{Command, PeerChange};
