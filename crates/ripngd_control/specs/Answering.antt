@@ -1,5 +1,5 @@
 -- What a router does for a command and answers to it (the format is this project's choice).
-use Rattle.std.specs.Prelude.{ℕ, ◌≡◌, ◌≢◌, ◌⊎◌, List, [], ◌∷◌, ◌++◌, Option, None, Some, codes}
+use Rattle.std.specs.Prelude.{ℕ, ◌≡◌, ◌≢◌, List, [], ◌∷◌, ◌++◌, Option, None, Some, codes}
 use Rattle.std.specs.Io.KnownBytes.{Appends}
 use Rattle.prefix6.specs.Prefix.{Prefix6}
 use Rattle.fib.specs.Forwarding.{Forwarding}
