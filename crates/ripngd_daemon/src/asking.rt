@@ -23,7 +23,9 @@ const SILENCE: u64 = 10_000;
 fn words_of(alloc: Global, question: Question<'_>) -> Result<String, AllocError> {
     let command = question.command;
     match (question.what, question.value, question.port) {
-        (Some(what), Some(value), Some(port)) => format!(in alloc; "{command} {what} {value} {port}"),
+        (Some(what), Some(value), Some(port)) => format!(in alloc;
+            "{command} {what} {value} {port}"
+        ),
         (Some(what), Some(value), None) => format!(in alloc; "{command} {what} {value}"),
         (Some(what), None, _) => format!(in alloc; "{command} {what}"),
         _ => format!(in alloc; "{command}"),
