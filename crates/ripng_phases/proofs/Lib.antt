@@ -33,3 +33,7 @@ pub mod Cutting
 pub mod ByMinutes
 pub mod Timely
 pub mod Rounds
+pub mod Tells
+pub mod Going
+pub mod Outcomes
+pub mod Together

@@ -5,8 +5,14 @@
 //! functions with nothing to do.
 #![tactic(auto)]
 
+mod acting;
+mod course;
 mod laws;
+mod making;
+mod refused;
 
+pub use making::run_phases;
+pub use refused::PhaseRefused;
 pub use laws::{
     heals_in_minutes, heals_in_phases, phases_are_run, phases_go_on, phases_keep_routes_backed,
     phases_take_time, rounds_are_phases,

@@ -1,0 +1,148 @@
+-- How a phase begins, ends, and stops.
+use Rattle.std.proofs.Common.{◌≡◌, ◌⊎◌, inl, inr, ℕ, ◌+◌, ◌<◌, ◌≤◌, List, [], ◌∷◌, ◌++◌, length, Result, Ok, Err, IsErrAnd, Some, slice_get, refl, ap, sym, subst, ◌∙◌, arith, append-nil, le_refl, le_trans}
+use Rattle.std.specs.Prelude.{⊤}
+use Rattle.std.specs.List.{AllByRecursion}
+use Rattle.std.proofs.lemmas.Option.{slice_get_within}
+use Rattle.ripng_world.specs.Labs.{LabValue}
+use Rattle.ripng_world.specs.Network.{Network}
+use Rattle.ripng_world.specs.Watching.{Told, IfRefused}
+use Rattle.ripng_world.specs.World.{World, Event}
+use Rattle.ripng_world.specs.declared.sent.Sent.{Sent}
+use Rattle.ripng_world.specs.declared.watch.Stopped.{Stopped}
+use Rattle.ripng_world.specs.declared.watch.Stopped.TheVariants.{Refused, Failed}
+use Rattle.ripng_phases.specs.Making.{GoesOn, IsCutShort, IsFresh, IsHandedInPart, IsInMinute, IsLast, IsMadePhase, IsRising, IsTooLate, IsUnderway, MakesPhase, TellsSteps}
+use Rattle.ripng_phases.specs.Phases.{IsHeardUpdate, events_of}
+use Rattle.ripng_phases.specs.declared.course.Course.{Course}
+use Rattle.ripng_phases.specs.declared.course.Update.{Update}
+use Rattle.ripng_phases.specs.declared.refused.PhaseRefused.{PhaseRefused}
+use Rattle.ripng_phases.specs.declared.refused.PhaseRefused.TheVariants.{NoUpdateInTime, PastLastMoment, OutOfMemory}
+use Rattle.ripng_phases.proofs.Begun.{events_on}
+use Rattle.ripng_phases.proofs.Going.{minute_of}
+use Rattle.ripng_phases.proofs.Tells.{tells_on, all_on, rising_on, rising_one}
+
+-- want of memory, or the watcher, comes at any time
+pub any_time : {F : Type 0} (why : Stopped PhaseRefused F) (begin : ℕ) (w : World) → IfRefused why (λ refusal. refusal ≡ OutOfMemory) → IsTooLate why begin w
+any_time {F} (Refused refusal) begin w is = subst (λ (r : PhaseRefused). IsTooLate {F} (Refused r) begin w) (sym is) tt
+any_time (Failed fault) begin w is = tt
+
+module _ {V F : Type 0} (t f : V → Told → V → Type 0) where
+  -- one part after another
+  pub goes_then : {X Y : Type 0} (x : X) (r : Result Y (Stopped PhaseRefused F)) (old mid new : LabValue × V) (course course' course'' : Course) → GoesOn {X = X} {F = F} t f (Ok x) old course mid course'
+      → GoesOn t f r mid course' new course'' → GoesOn t f r old course new course''
+  goes_then x (Ok y) old mid new course course' course'' first rest = λ s number begin is. rest s number begin (first s number begin is)
+  goes_then x (Err why) old mid new course course' course'' first rest = λ s number begin is. rest s number begin (first s number begin is)
+
+  -- an error that is handed on
+  pub goes_handed : {X Y : Type 0} (r : Result Y (Stopped PhaseRefused F)) (why : Stopped PhaseRefused F) (old new : LabValue × V) (course course' course'' : Course) → IsErrAnd r (λ e. e ≡ why)
+      → GoesOn {X = X} t f (Err why) old course new course' → GoesOn t f r old course new course''
+  goes_handed (Ok y) why old new course course' course'' is goes = absurd is
+  goes_handed (Err e) why old new course course' course'' is goes = λ s number begin u. subst (λ (x : Stopped PhaseRefused F). IsCutShort t f s number begin x new) (sym is) (goes s number begin u)
+
+  -- it stops at one event
+  pub cut_short : (s : LabValue × V) (first begin : ℕ) (course : Course) (a b : LabValue × V) (why : Stopped PhaseRefused F) → IsUnderway t s first begin course a → b.0.network ≡ a.0.network
+      → IsLast t f a.0.network (a.0.world, a.1) why (b.0.world, b.1) → IsTooLate why begin b.0.world → IsCutShort t f s first begin why b
+  cut_short s first begin course a b why is same last late =
+      record {
+        network = same ∙ is.network;
+        steps = is.steps;
+        before = (a.0.world, a.1);
+        tells = is.tells;
+        in_minute = is.in_minute;
+        high = course.next;
+        in_order = is.in_order;
+        ends = subst (λ (net : Network). IsLast t f net (a.0.world, a.1) why (b.0.world, b.1)) is.network last;
+        too_late = late;
+      }
+
+  -- and where nothing happens
+  pub nothing_last : (net : Network) (s : World × V) (why : PhaseRefused) → IsLast {F = F} t f net s (Refused why) s
+  nothing_last net s why = ([], few, refl)
+    where
+      few : 0 ≤ 1
+      few = omega arith
+
+  -- in the midst of a datagram
+  pub handed_in_part : (s : LabValue × V) (first begin : ℕ) (course : Course) (a b : LabValue × V) (why : Stopped PhaseRefused F) → IsUnderway t s first begin course a → b.0.network ≡ a.0.network
+      → IsHandedInPart t f a.0.network (a.0.world, a.1) course.next course.moment why (b.0.world, b.1) → IsCutShort t f s first begin why b
+  handed_in_part s first begin course a b why is same h =
+      let tells = subst (λ (net : Network). TellsSteps t net (a.0.world, a.1) h.steps h.before) is.network h.tells in
+      record {
+        network = same ∙ is.network;
+        steps = is.steps ++ h.steps;
+        before = h.before;
+        tells = tells_on t s.0.network is.steps h.steps (s.0.world, s.1) (a.0.world, a.1) h.before is.tells tells;
+        in_minute = subst (AllByRecursion (IsInMinute begin)) (sym (events_on is.steps h.steps))
+            (all_on (IsInMinute begin) (events_of is.steps) (events_of h.steps) is.in_minute (minute_of begin course.next course.moment is.not_before is.in_time (events_of h.steps) h.only_this));
+        high = course.next + 1;
+        in_order = subst (λ (es : List Event). IsRising first es (course.next + 1)) (sym (events_on is.steps h.steps))
+            (rising_on first (events_of is.steps) course.next (events_of h.steps) (course.next + 1) is.in_order (rising_one course.next course.moment (events_of h.steps) h.only_this));
+        ends = subst (λ (net : Network). IsLast t f net h.before why (b.0.world, b.1)) is.network h.ends;
+        too_late = any_time why begin b.0.world h.memory;
+      }
+
+  -- a phase begins
+  pub begins : (lab : LabValue) (v : V) (moment first : ℕ) (course : Course) → IsFresh lab moment first course → first ≤ length lab.world.sent → IsUnderway t (lab, v) first moment course (lab, v)
+  begins lab v moment first course fresh within =
+      record {
+        network = refl;
+        steps = [];
+        tells = refl;
+        in_minute = tt;
+        in_order = subst (λ (n : ℕ). first ≤ n) (sym fresh.next_is) (le_refl first);
+        ends = fresh.ends;
+        not_before = subst (λ (n : ℕ). moment ≤ n) (sym fresh.moment_is) (le_refl moment);
+        in_time = soon moment course.moment fresh.moment_is;
+        updates = λ router u at. absurd (fresh.untold router u at);
+        begun = same (length lab.world.sent) course.until fresh.until_is;
+        sent = same course.until (length lab.world.sent) (sym fresh.until_is);
+        next_in = subst (λ (n : ℕ). n ≤ length lab.world.sent) (sym fresh.next_is) within;
+      }
+    where
+      soon : (a b : ℕ) → b ≡ a → b < a + 60_000
+      soon a b e = omega arith
+
+      same : (a b : ℕ) → b ≡ a → a ≤ b
+      same a b e = omega arith
+
+  -- and is over
+  pub is_over : (s : LabValue × V) (first begin : ℕ) (course : Course) (b : LabValue × V) → IsUnderway t s first begin course b
+      → ((router : ℕ) → router < length s.0.network → (u : Update) × (slice_get course.told.items router ≡ Some (Some u)))
+      → (course.until ≤ course.next) ⊎ (length b.0.world.sent ≤ course.next) → IsMadePhase t s first begin course.next b
+  is_over s first begin course b is told over =
+      record {
+        network = is.network;
+        steps = is.steps;
+        tells = is.tells;
+        in_minute = is.in_minute;
+        in_order = is.in_order;
+        told = updates;
+        handed_on = le_trans is.begun all;
+        next_in = is.next_in;
+      }
+    where
+      all : course.until ≤ course.next
+      all = elim over [
+        | inl x ↦ x
+        | inr x ↦ le_trans is.sent x
+      ]
+
+      within : (datagram sent end until next : ℕ) → datagram < sent → end ≡ sent → end ≤ until → until ≤ next → datagram < next
+      within datagram sent end until next p e q r = omega arith
+
+      updates : (router : ℕ) → router < length s.0.network → IsHeardUpdate s.0.network s.0.world is.steps router
+      updates router here =
+          let x = told router here in
+          let u = is.updates router x.0 x.1 in
+          record {
+            before = u.0.before;
+            tick = u.0.tick;
+            after = u.0.after;
+            parts = u.0.parts;
+            now = u.0.now;
+            word = u.0.word;
+            ticks = u.0.ticks;
+            due = u.0.due;
+            heard = λ datagram other iface d late at linked elsewhere.
+                u.0.handed_on datagram d (subst (λ (n : ℕ). n ≤ datagram) (sym u.0.first_is) late)
+                (within datagram (length u.0.tick.after.sent) x.0.end course.until course.next (slice_get_within u.0.tick.after.sent datagram d at) u.0.end_is u.1 all) at other iface linked elsewhere;
+          }
