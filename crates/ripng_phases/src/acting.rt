@@ -85,7 +85,7 @@ pub fn announce<S: RouteStore, V: Watch<S>>(
 }
 
 /// A router ticks, and tells what there is to tell: nothing, or a triggered update.
-fn nudge<S: RouteStore, V: Watch<S>>(
+pub fn nudge<S: RouteStore, V: Watch<S>>(
     lab: &mut Lab<S>,
     course: &Course,
     router: usize,

@@ -37,7 +37,7 @@ fn prefix() -> Result<Prefix, Fail> {
 }
 
 /// The first router owns the prefix, and its link to the last costs 9.
-fn square(alloc: Global) -> Result<Lab<SortedRoutes>, Fail> {
+pub fn square(alloc: Global) -> Result<Lab<SortedRoutes>, Fail> {
     let mut owner = node(alloc, [(0xa0, 1, 0), (0xa1, 9, 3)])?;
     owner.prefixes.push((prefix()?, 0))?;
     let mut nodes = Vec::new(alloc);
@@ -52,7 +52,7 @@ fn square(alloc: Global) -> Result<Lab<SortedRoutes>, Fail> {
 }
 
 /// The metrics of the prefix at all four routers, 0 where there is no route.
-fn metrics(lab: &Lab<SortedRoutes>) -> Result<[u8; 4], Fail> {
+pub fn metrics(lab: &Lab<SortedRoutes>) -> Result<[u8; 4], Fail> {
     let mut metrics = [0; 4];
     for (place, metric) in metrics.iter_mut().enumerate() {
         let router = lab.router(place).ok_or("a router")?;
