@@ -22,8 +22,15 @@ use Rattle.ripng_phases.proofs.Tells.{tells_on, all_on, rising_on, rising_one}
 
 -- want of memory, or the watcher, comes at any time
 pub any_time : {F : Type 0} (why : Stopped PhaseRefused F) (begin : ℕ) (w : World) → IfRefused why (λ refusal. refusal ≡ OutOfMemory) → IsTooLate why begin w
-any_time {F} (Refused refusal) begin w is = subst (λ (r : PhaseRefused). IsTooLate {F} (Refused r) begin w) (sym is) tt
+any_time {F = F} (Refused refusal) begin w is = subst (λ (r : PhaseRefused). IsTooLate {F = F} (Refused r) begin w) (sym is) tt
 any_time (Failed fault) begin w is = tt
+
+-- nothing happens
+pub nothing_last : {V : Type 0} (F : Type 0) (t f : V → Told → V → Type 0) (net : Network) (s : World × V) (why : PhaseRefused) → IsLast {V = V} {F = F} t f net s (Refused why) s
+nothing_last F t f net s why = ([], (few, refl))
+  where
+    few : 0 ≤ 1
+    few = omega arith
 
 module _ {V F : Type 0} (t f : V → Told → V → Type 0) where
   -- one part after another
@@ -33,8 +40,8 @@ module _ {V F : Type 0} (t f : V → Told → V → Type 0) where
   goes_then x (Err why) old mid new course course' course'' first rest = λ s number begin is. rest s number begin (first s number begin is)
 
   -- an error that is handed on
-  pub goes_handed : {X Y : Type 0} (r : Result Y (Stopped PhaseRefused F)) (why : Stopped PhaseRefused F) (old new : LabValue × V) (course course' course'' : Course) → IsErrAnd r (λ e. e ≡ why)
-      → GoesOn {X = X} t f (Err why) old course new course' → GoesOn t f r old course new course''
+  pub goes_handed : {Y : Type 0} (r : Result Y (Stopped PhaseRefused F)) (why : Stopped PhaseRefused F) (old new : LabValue × V) (course course' course'' : Course) → IsErrAnd r (λ e. e ≡ why)
+      → GoesOn {X = ⊤} t f (Err why) old course new course' → GoesOn t f r old course new course''
   goes_handed (Ok y) why old new course course' course'' is goes = absurd is
   goes_handed (Err e) why old new course course' course'' is goes = λ s number begin u. subst (λ (x : Stopped PhaseRefused F). IsCutShort t f s number begin x new) (sym is) (goes s number begin u)
 
@@ -53,13 +60,6 @@ module _ {V F : Type 0} (t f : V → Told → V → Type 0) where
         ends = subst (λ (net : Network). IsLast t f net (a.0.world, a.1) why (b.0.world, b.1)) is.network last;
         too_late = late;
       }
-
-  -- and where nothing happens
-  pub nothing_last : (net : Network) (s : World × V) (why : PhaseRefused) → IsLast {F = F} t f net s (Refused why) s
-  nothing_last net s why = ([], few, refl)
-    where
-      few : 0 ≤ 1
-      few = omega arith
 
   -- in the midst of a datagram
   pub handed_in_part : (s : LabValue × V) (first begin : ℕ) (course : Course) (a b : LabValue × V) (why : Stopped PhaseRefused F) → IsUnderway t s first begin course a → b.0.network ≡ a.0.network
@@ -80,6 +80,7 @@ module _ {V F : Type 0} (t f : V → Told → V → Type 0) where
         too_late = any_time why begin b.0.world h.memory;
       }
 
+module _ {V : Type 0} (t : V → Told → V → Type 0) where
   -- a phase begins
   pub begins : (lab : LabValue) (v : V) (moment first : ℕ) (course : Course) → IsFresh lab moment first course → first ≤ length lab.world.sent → IsUnderway t (lab, v) first moment course (lab, v)
   begins lab v moment first course fresh within =

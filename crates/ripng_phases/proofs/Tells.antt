@@ -1,5 +1,5 @@
 -- What is told of steps: how it goes on, and what it is without the watcher. And deliveries in the order in which datagrams were sent.
-use Rattle.std.proofs.Common.{◌≡◌, ◌⊎◌, inl, inr, ℕ, ◌+◌, ◌<◌, ◌≤◌, List, [], ◌∷◌, ◌++◌, Contains, Some, slice_get, zero, suc, refl, ap, sym, subst, ◌∙◌, arith, le_trans}
+use Rattle.std.proofs.Common.{◌≡◌, ◌⊎◌, inl, inr, ℕ, ◌+◌, ◌<◌, ◌≤◌, List, [], ◌∷◌, ◌++◌, Contains, Some, slice_get, zero, suc, refl, ap, sym, subst, ◌∙◌, arith, append_assoc, le_trans}
 use Rattle.std.specs.List.{AllByRecursion}
 use Rattle.route_table.proofs.TableLaws.{Some-same, None-Some}
 use Rattle.ripng_world.specs.Network.{Network}
@@ -119,7 +119,7 @@ pub not_overtaken : (counts : ℕ → Type 0) (w : World) (steps : List Step) (l
 not_overtaken counts w steps low high is o =
     let rest : List Event = events_of o.between ++ Deliver o.old o.router o.iface o.moment ∷ events_of o.after in
     let all : events_of steps ≡ events_of o.before ++ Deliver o.new o.router o.iface o.now ∷ rest =
-    ap events_of o.parts ∙ events_on o.before (o.later ∷ o.between ++ o.earlier ∷ o.after)
+    ap events_of (o.parts ∙ append_assoc o.before (o.later ∷ o.between) (o.earlier ∷ o.after)) ∙ events_on o.before (o.later ∷ (o.between ++ o.earlier ∷ o.after))
     ∙ ap (λ (xs : List Event). events_of o.before ++ o.later.event ∷ xs) (events_on o.between (o.earlier ∷ o.after))
     ∙ ap (λ (e : Event). events_of o.before ++ e ∷ (events_of o.between ++ o.earlier.event ∷ events_of o.after)) o.first
     ∙ ap (λ (e : Event). events_of o.before ++ Deliver o.new o.router o.iface o.now ∷ (events_of o.between ++ e ∷ events_of o.after)) o.second in

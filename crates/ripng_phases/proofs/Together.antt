@@ -19,12 +19,12 @@ use Rattle.ripng_phases.proofs.Runs.{phases_take, reached_on, takes_reached}
 use Rattle.ripng_phases.proofs.Tells.{near_of, not_overtaken, recent_of, tells_on, tells_take}
 
 -- what the next phase has before it
-pub past_after : Before → World → List (List Step) → Before
+abbrev pub past_after : Before → World → List (List Step) → Before
 past_after past w [] = past
 past_after past w (steps ∷ phases) = past_after (before_next w steps) (reached w steps) phases
 
 -- what the first has
-pub nothing_before : Before
+abbrev pub nothing_before : Before
 nothing_before = record { first = 0; counts = λ _. ⊥; moments = λ _ _. ⊥ }
 
 -- one more
@@ -75,9 +75,6 @@ module _ {V : Type 0} (t : V → Told → V → Type 0) (net : Network) (s : Wor
       zero_least n = omega arith
 
   module _ (count begin first : ℕ) (a : LabValue × V) (so_far : AreSoFar t net s count begin first (a.0.world, a.1)) (same : a.0.network ≡ net) where
-    past : Before
-    past = past_after nothing_before s.0 so_far.phases
-
     -- one more phase
     pub one_more : (next : ℕ) (b : LabValue × V) → IsMadePhase t a first begin next b → AreSoFar t net s (count + 1) (begin + 60_000) next (b.0.world, b.1)
     one_more next b m =

@@ -1,21 +1,25 @@
 //! What a router does in a phase, and what it hears.
 
-ghost use Rattle.std.specs.Prelude.{◌≡◌, ◌≢◌, ◌<◌, ◌≤◌, ◌+◌, ◌⊎◌, ◌∷◌, [], max, All, Contains, IfErr, IfOk, IsFalse, IsTrue, OnErr, OnOk, Some, length, slice_get};
+ghost use Rattle.std.specs.Prelude.{◌≡◌, ◌≢◌, ℕ, true, ◌<◌, ◌≤◌, ◌+◌, ◌⊎◌, ◌∷◌, [], max, All, Contains, IfErr, IfOk, IsFalse, IsTrue, OnErr, OnOk, Some, length, slice_get};
 ghost use Rattle.std.specs.List.{Any};
 ghost use Rattle.router_core.specs.Machine.{State};
 ghost use Rattle.router_core.specs.declared.answer.NoteKind.TheVariants.{NoMemory};
+ghost use Rattle.ripng_world.specs.AskedRounds.{is_other};
+ghost use Rattle.ripng_world.specs.Network.{interface_at};
+ghost use Rattle.ripng_world.specs.declared.network.NetInterface.{NetInterface as NetInterfaceValue};
 ghost use Rattle.ripng_world.specs.Events.{event_of};
 ghost use Rattle.ripng_world.specs.Watching.{IfRefused, WatchedRun, heard};
-ghost use Rattle.ripng_phases.specs.Making.{GoesOn, IsHanded, IsHandedInPart, IsLast};
+ghost use Rattle.ripng_phases.specs.Making.{AreReceivers, GoesOn, IsHanded, IsHandedInPart, IsLast};
 ghost use Rattle.ripng_phases.specs.declared.course.Update.{Update as UpdateValue};
 ghost use Rattle.ripng_phases.specs.declared.refused.PhaseRefused.TheVariants.{OutOfMemory};
 
 use crate::course::{Course, Update};
 use crate::refused::PhaseRefused;
 use rand_core::Rng;
-use ripng_world::{Event, Lab, Stopped, Watch};
+use ripng_world::{Event, Lab, Sent, Stopped, Watch};
 use route_table::{Moment, RouteStore};
 use router_core::{Note, NoteKind};
+use std::alloc::{AllocError, Global};
 
 /// Whether a new route wants for memory.
 fn wants_memory(notes: &[Note]) -> bool
@@ -103,6 +107,62 @@ pub fn nudge<S: RouteStore, V: Watch<S>>(
     happen(lab, &tick, watch)
 }
 
+/// Whether the interface is another one of the datagram's link.
+fn is_other<S: RouteStore>(lab: &Lab<S>, datagram: &Sent, router: usize, iface: usize) -> bool
+    ensures { result ≡ is_other lab.now.network datagram.now (router, iface) }
+{
+    match (
+        lab.link(datagram.router, datagram.iface),
+        lab.link(router, iface),
+    ) {
+        (Some(own), Some(link)) => {
+            own == link && !(router == datagram.router && iface == datagram.iface)
+        }
+        _ => false,
+    }
+}
+
+/// Adds the interfaces of a router that are others of the datagram's link.
+fn add_receivers<S: RouteStore>(
+    receivers: &mut Vec<(usize, usize)>,
+    lab: &Lab<S>,
+    datagram: &Sent,
+    router: usize,
+) -> Result<(), AllocError>
+    ensures kept { OnOk result ((r : ℕ × ℕ) → Contains receivers.old.items r → Contains receivers.new.items r) }
+    ensures added { OnOk result ((iface : ℕ) (i : NetInterfaceValue) → interface_at lab.now.network router iface ≡ Some i → is_other lab.now.network datagram.now (router, iface) ≡ true
+        → Contains receivers.new.items (router, iface)) }
+{
+    for iface in 0..usize::MAX {
+        if lab.link(router, iface).is_none() {
+            return Ok(());
+        }
+        if is_other(lab, datagram, router, iface) {
+            receivers.push((router, iface))?;
+        }
+    }
+    // No router has so many.
+    Err(AllocError)
+}
+
+/// The other interfaces of the link of a datagram, each behind its router's number.
+fn receivers<S: RouteStore>(
+    alloc: Global,
+    lab: &Lab<S>,
+    datagram: usize,
+) -> Result<Vec<(usize, usize)>, AllocError>
+    ensures { IfOk result (λ receivers. AreReceivers lab.now datagram receivers.items) }
+{
+    let mut receivers = Vec::new(alloc);
+    let Some(sent) = lab.sent().get(datagram) else {
+        return Ok(receivers);
+    };
+    for router in 0..lab.routers() {
+        add_receivers(&mut receivers, lab, sent, router)?;
+    }
+    Ok(receivers)
+}
+
 /// A datagram comes to these interfaces, each given behind its router. Where it is not kept, each of them may lose it.
 fn hand<S: RouteStore, V: Watch<S>, R: Rng>(
     lab: &mut Lab<S>,
@@ -154,7 +214,7 @@ pub fn hand_on<S: RouteStore, V: Watch<S>, R: Rng>(
 {
     let datagram = course.next;
     let keeps = course.keeps(datagram);
-    let receivers = match lab.receivers(datagram) {
+    let receivers = match receivers(course.alloc, lab, datagram) {
         Ok(receivers) => receivers,
         Err(_) => return Err(Stopped::Refused(PhaseRefused::OutOfMemory)),
     };

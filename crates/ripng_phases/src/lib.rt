@@ -10,6 +10,7 @@ mod course;
 mod laws;
 mod making;
 mod refused;
+mod scratch;
 
 pub use making::run_phases;
 pub use refused::PhaseRefused;

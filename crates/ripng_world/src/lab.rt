@@ -1,17 +1,14 @@
 //! A lab: a lawful network that runs, over real routers and bytes. Whatever happens in it, no router has a route, and no
 //! datagram tells one, that no walk through the network backs.
 
-ghost use Rattle.std.specs.Prelude.{◌≡◌, ℕ, ◌++◌, ◌∷◌, [], None, IfErr, IfOk, IfSome, OnErr, OnOk, Some, length, map, take, slice_get, unwrap_or};
-ghost use Rattle.std.specs.List.{filter};
+ghost use Rattle.std.specs.Prelude.{◌≡◌, ℕ, ◌++◌, ◌∷◌, [], None, IfErr, IfOk, IfSome, OnErr, OnOk, length, map, take, slice_get, unwrap_or};
 ghost use Rattle.std.specs.Option.{option_copied};
-ghost use Rattle.ripng_world.specs.AskedRounds.{interfaces_of, is_other};
 ghost use Rattle.ripng_world.specs.Events.{event_of};
-ghost use Rattle.ripng_world.specs.Labs.{HasRun, AreRoutesBackedSince, HaveNoneBelowLeastSince, HasNoneBelowLeast, HasNoneBelowLeastSince, AreDatagramsSoundSince, HoldsFixed, AreDatagramsSound, HappensGiving, IsRefusal, IsRefusedNext, link_at, step_fault};
+ghost use Rattle.ripng_world.specs.Labs.{AreRoutesBackedSince, HaveNoneBelowLeastSince, HasNoneBelowLeast, HasNoneBelowLeastSince, AreDatagramsSoundSince, HoldsFixed, AreDatagramsSound, HappensGiving, IsRefusal, IsRefusedNext, link_at, step_fault};
 ghost use Rattle.ripng_world.specs.Past.{IsTableBackedSince};
 ghost use Rattle.ripng_world.specs.Stations.{network_of, world_of};
 ghost use Rattle.ripng_world.specs.Walks.{IsTableBacked};
 ghost use Rattle.ripng_world.specs.Watching.{IfRefused, WatchedInPart, WatchedUntil, any, failures, failures_in};
-ghost use Rattle.ripng_world.specs.declared.sent.Sent.{Sent as SentValue};
 ghost use Rattle.ripng_world.specs.World.{IsCold, WorldRun, reconfigurations_in, past_of};
 
 mod delivering;
@@ -20,7 +17,6 @@ mod making;
 use crate::event::{Event, LabError};
 use crate::moving::{file, happen};
 use crate::network::{NetConfig, NetRouter};
-use crate::pairs::{interfaces, other_interfaces};
 use crate::refusing::{check, link_at};
 use crate::sent::Sent;
 use crate::station::Station;
@@ -165,28 +161,6 @@ impl<S: RouteStore> Lab<S> {
         ensures { result ≡ link_at self.now.network router iface }
     {
         link_at(&self.stations, router, iface)
-    }
-
-    /// The network is lawful, and the lab has run since a cold start: for proofs of what it does from now on.
-    pub fn has_run(&self)
-        ensures { HasRun self.now.network self.now.world }
-    {
-        let _ = &self.stations;
-    }
-
-    /// The other interfaces of the link that a datagram was sent on, each behind its router's number, in order.
-    ///
-    /// # Errors
-    /// Only want of memory.
-    pub fn receivers(&self, datagram: usize) -> Result<Vec<(usize, usize)>, AllocError>
-        ensures { IfOk result (λ receivers. (d : SentValue) → slice_get self.now.world.sent datagram ≡ Some d
-            → receivers.items ≡ filter (is_other self.now.network d) (interfaces_of self.now.network)) }
-    {
-        let interfaces = interfaces(self.alloc, &self.stations)?;
-        match self.sent.get(datagram) {
-            Some(sent) => other_interfaces(self.alloc, &self.stations, &interfaces, sent),
-            None => Ok(Vec::new(self.alloc)),
-        }
     }
 
     /// An event happens: one router moves, and answers. What it sends is moved to the end of `sent`, and is not in the

@@ -1,0 +1,6 @@
+//! Scratch.
+ghost use Rattle.std.specs.Prelude.{◌≡◌};
+
+pub fn scratch() -> bool
+    ensures { result ≡ result }
+{ true }
