@@ -37,3 +37,4 @@ pub mod Tells
 pub mod Going
 pub mod Outcomes
 pub mod Together
+pub mod Adding

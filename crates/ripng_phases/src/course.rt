@@ -72,9 +72,17 @@ impl Course {
         ensures told { IsAdded self.old.told.items router update self.new.told.items }
         ensures same { self.new ≡ record self.old { told = self.new.told; until = update.end } }
     {
-        if let Some(told) = self.told.get_mut(router) {
-            *told = Some(update);
-        }
+        put(&mut self.told, router, update);
         self.until = update.end;
     }
+}
+
+/// The regular update of a router is put at its place, if it has one.
+fn put(told: &mut [Option<Update>], router: usize, update: Update)
+    ensures { IsAdded told.old router update told.new }
+{
+    if router >= told.len() {
+        return;
+    }
+    told[router] = Some(update);
 }

@@ -12,9 +12,9 @@ mod making;
 mod refused;
 mod scratch;
 
-pub use making::run_phases;
-pub use refused::PhaseRefused;
 pub use laws::{
     heals_in_minutes, heals_in_phases, phases_are_run, phases_go_on, phases_keep_routes_backed,
     phases_take_time, rounds_are_phases,
 };
+pub use making::run_phases;
+pub use refused::PhaseRefused;

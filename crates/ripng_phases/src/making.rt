@@ -122,7 +122,11 @@ fn due_moment<S: RouteStore>(lab: &Lab<S>, course: &Course, router: usize) -> Op
 {
     let regular = lab.router(router)?.regular();
     let due = regular.ms().max(course.moment.ms());
-    if due < course.end { Moment::new(due) } else { None }
+    if due < course.end {
+        Moment::new(due)
+    } else {
+        None
+    }
 }
 
 /// A router tells its regular update as soon as it is due.

@@ -3,4 +3,6 @@ ghost use Rattle.std.specs.Prelude.{◌≡◌};
 
 pub fn scratch() -> bool
     ensures { result ≡ result }
-{ true }
+{
+    true
+}

@@ -1,4 +1,5 @@
 use Rattle.std.proofs.Common.{refl}
+use Rattle.ripng_phases.proofs.Adding.{added_in}
 use Rattle.ripng_phases.proofs.Tells.{tells_on}
 use Rattle.ripng_phases.proofs.Going.{told_on}
 use Rattle.ripng_phases.proofs.Outcomes.{is_over}
