@@ -82,6 +82,9 @@ def prove(crate, libraries, is_program, jobs, scratch):
     if kept.is_dir():
         kept.rename(own / "out")
     command = ["rt", "run", "--jobs", str(jobs), "--", "show", "02010000"] if is_program else ["rt", "lib", "--jobs", str(jobs)]
+    # What is beside the longest way gives way to it.
+    if jobs == 1:
+        command = ["nice", "-n", "10", *command]
     ran = subprocess.run(command, cwd=own, stdin=subprocess.DEVNULL, stdout=subprocess.PIPE, stderr=subprocess.STDOUT, text=True)
     if (own / "out").is_dir():
         (own / "out").rename(kept)
@@ -106,8 +109,8 @@ def main(program):
         while len(done) < len(crates):
             waiting = [one for one in crates if one not in done and all(one != at for at, _ in running.values())]
             ready = [one for one in waiting if all(library in done for library in libraries[one])]
-            # The crate with the longest way to the program has as many jobs as there are processors, all others one each: the
-            # system shares, and the longest way decides when all is done.
+            # The crate with the longest way to the program has as many jobs as there are processors, all others one each, and
+            # comes first where they have to share: the longest way decides when all is done.
             for crate in sorted(ready, key=lambda one: -ways[one])[: cores - len(running)]:
                 is_longest = all(ways[at] < ways[crate] for at, _ in running.values())
                 jobs = cores if is_longest else 1

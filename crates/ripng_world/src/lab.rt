@@ -182,7 +182,12 @@ impl<S: RouteStore> Lab<S> {
         ensures fixed { HoldsFixed self.new.network self.new.world }
     {
         check(&self.stations, &self.sent, event)?;
-        let answer = happen(&mut self.stations, &mut self.sent, &mut self.reconfigurations, event)?;
+        let answer = happen(
+            &mut self.stations,
+            &mut self.sent,
+            &mut self.reconfigurations,
+            event,
+        )?;
         file(&mut self.sent, event.router(), answer.sends);
         Ok(handed_out(self.alloc, answer.fault, answer.changes, answer.notes))
     }

@@ -19,6 +19,7 @@ const REASONS = new Map(Object.entries({
   TooManyRouters: 'a network has at most 64 routers', AddressSharedInNetwork: 'two interfaces have one address',
   NoSuchRouter: 'there is no such router', NoSuchInterface: 'the router has no such interface',
   NoSuchDatagram: 'no such datagram was sent', NoSuchLink: 'there is no such link',
+  DatagramLost: 'an earlier line says that it is lost',
   NameTwice: 'two routers have one name', NotAStranger: 'this could only come from a router of the link',
   OtherLink: 'the datagram was sent on another link',
   BadCost: 'a cost is 1 to 15', PrefixNotAllowed: 'the prefix is multicast or link-local',
