@@ -10,7 +10,6 @@ mod course;
 mod laws;
 mod making;
 mod refused;
-mod scratch;
 
 pub use laws::{
     heals_in_minutes, heals_in_phases, phases_are_run, phases_go_on, phases_keep_routes_backed,

@@ -1,8 +1,0 @@
-//! Scratch.
-ghost use Rattle.std.specs.Prelude.{◌≡◌};
-
-pub fn scratch() -> bool
-    ensures { result ≡ result }
-{
-    true
-}
