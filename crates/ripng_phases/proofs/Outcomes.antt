@@ -5,7 +5,7 @@ use Rattle.std.specs.List.{AllByRecursion}
 use Rattle.std.proofs.lemmas.Option.{slice_get_within}
 use Rattle.ripng_world.specs.Labs.{LabValue}
 use Rattle.ripng_world.specs.Network.{Network}
-use Rattle.ripng_world.specs.Watching.{Told, IfRefused, WatchedInPart, WatchedRun, failures, refused_as, wanting}
+use Rattle.ripng_world.specs.Watching.{Told, IfRefused, WatchedInPart, failures, refused_as}
 use Rattle.ripng_world.specs.World.{World, Event}
 use Rattle.ripng_world.specs.declared.sent.Sent.{Sent}
 use Rattle.ripng_world.specs.declared.watch.Stopped.{Stopped}
@@ -41,13 +41,6 @@ stopped_at t f (Refused why) other net e s s' stop still = ([], (few, still))
     few : 0 ≤ 1
     few = omega arith
 stopped_at t f (Failed fault) other net e s s' stop still = (e ∷ [], (refl, failed_at t f net e s s' (whole_one t f net e s s' stop)))
-
--- a new route wants for memory
-pub wanting_at : {V : Type 0} (F : Type 0) (t f : V → Told → V → Type 0) (why : PhaseRefused) (net : Network) (e : Event) (s s' : World × V) → WatchedRun t wanting net s (e ∷ []) s' → IsLast {V = V} {F = F} t f net s (Refused why) s'
-wanting_at F t f why net e s s' run = (e ∷ [], (one, run))
-  where
-    one : 1 ≤ 1
-    one = omega arith
 
 module _ {V F : Type 0} (t f : V → Told → V → Type 0) where
   -- one part after another

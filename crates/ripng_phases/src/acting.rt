@@ -51,12 +51,19 @@ fn happen<S: RouteStore, V: Watch<S>>(
     Ok(())
 }
 
+/// A moment before the last one counts as that.
+fn later(last: Moment, now: Moment) -> Moment
+    ensures { result ≡ max last now }
+{
+    last.max(now)
+}
+
 /// Whether the regular update of a router is due at a moment.
 pub fn is_due<S: RouteStore>(lab: &Lab<S>, router: usize, moment: Moment) -> bool
     ensures { IsTrue result → (state : State) × (slice_get lab.now.world.states router ≡ Some state) × (state.regular ≤ max state.last moment) }
 {
     match lab.router(router) {
-        Some(router) => router.regular().reached(router.last().max(moment)),
+        Some(router) => router.regular().reached(later(router.last(), moment)),
         None => false,
     }
 }

@@ -78,7 +78,6 @@ impl Course {
 }
 
 /// The regular update of a router is put at its place, if it has one.
-#[tactic(auto, using(crate::proofs::Adding::added_in, crate::proofs::Adding::added_out))]
 fn put(told: &mut [Option<Update>], router: usize, update: Update)
     ensures { IsAdded told.old router update told.new }
 {

@@ -1,4 +1,4 @@
-use Rattle.std.proofs.Common.{◌≡◌, ◌≢◌, [], ◌∷◌, List, All, refl, subst, ap, ◌∙◌}
+use Rattle.std.proofs.Common.{◌≡◌, ◌≢◌, [], ◌∷◌, List, All, refl, subst, ap, ◌∙◌, le_refl}
 use Rattle.std.specs.List.{Any}
 use Rattle.router_core.specs.declared.answer.Answer.{Answer}
 use Rattle.router_core.specs.declared.answer.Note.{Note}
@@ -8,7 +8,7 @@ use Rattle.ripng_world.specs.Events.{event_of}
 use Rattle.ripng_world.specs.Watching.{WatchedRun, heard, wanting}
 use Rattle.ripng_world.specs.World.{World}
 use Rattle.ripng_world.proofs.Watched.{both_still, given_told, watched_one}
-use Rattle.ripng_phases.proofs.Outcomes.{stopped_at, wanting_at}
+use Rattle.ripng_phases.proofs.Outcomes.{stopped_at}
 use Rattle.ripng_phases.proofs.acting.happen.Goals as goal
 
 pub returns-then-wants_memory-clause-stopped : goal.returns-then-wants_memory-clause-stopped
@@ -20,8 +20,7 @@ returns-then-wants_memory-clause-stopped g c =
     let e = event_of c.args.event.now in
     let wants : WantsMemory h.0 =
     subst (λ (ns : List Note). Any (λ n. n.kind ≡ NoMemory) ns) (c.as_slice.ensures ∙ ap (λ (a : Answer). a.notes) h.2) (c.wants_memory.ensures.found c.if-wants_memory.true) in
-    wanting_at _ g.V.Watch.takes g.V.Watch.fails _ net e before after
-    (watched_one g.V.Watch.takes wanting net e h.0 before after wants h.1 (given_told g.V.Watch.takes c.args.lab.now c.step_watched.new.self e c.in-Ok.answer _ c.args.watch.now c.step_watched.new.watch h c.in-Ok.ensures.network refl c.in-Ok.ensures.told))
+    (e ∷ [], (le_refl 1, watched_one g.V.Watch.takes wanting net e h.0 before after wants h.1 (given_told g.V.Watch.takes c.args.lab.now c.step_watched.new.self e c.in-Ok.answer _ c.args.watch.now c.step_watched.new.watch h c.in-Ok.ensures.network refl c.in-Ok.ensures.told)))
 
 pub returns-in-Err-clause-stopped : goal.returns-in-Err-clause-stopped
 returns-in-Err-clause-stopped g c =
