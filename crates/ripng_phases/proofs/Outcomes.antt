@@ -1,12 +1,12 @@
 -- How a phase begins, ends, and stops.
-use Rattle.std.proofs.Common.{◌≡◌, ◌⊎◌, inl, inr, ℕ, ◌+◌, ◌<◌, ◌≤◌, List, [], ◌∷◌, ◌++◌, length, Result, Ok, Err, IsErrAnd, Some, slice_get, refl, ap, sym, subst, ◌∙◌, arith, append-nil, le_refl, le_trans}
+use Rattle.std.proofs.Common.{◌≡◌, ◌⊎◌, inl, inr, ℕ, ◌+◌, ◌<◌, ◌≤◌, List, [], ◌∷◌, ◌++◌, length, Result, Ok, Err, IsErrAnd, IfErr, OnOk, Some, slice_get, refl, ap, sym, subst, ◌∙◌, arith, append-nil, le_refl, le_trans}
 use Rattle.std.specs.Prelude.{⊤}
 use Rattle.std.specs.List.{AllByRecursion}
 use Rattle.std.proofs.lemmas.Option.{slice_get_within}
 use Rattle.ripng_world.specs.Labs.{LabValue}
 use Rattle.ripng_world.specs.Network.{Network}
-use Rattle.ripng_world.specs.Watching.{Told, IfRefused, WatchedInPart, failures, refused_as}
-use Rattle.ripng_world.specs.World.{World, Event}
+use Rattle.ripng_world.specs.Watching.{Told, IfRefused, WatchedInPart, WatchedRun, failures, heard, refused_as}
+use Rattle.ripng_world.specs.World.{World, Event, Tick}
 use Rattle.ripng_world.specs.declared.sent.Sent.{Sent}
 use Rattle.ripng_world.specs.declared.watch.Stopped.{Stopped}
 use Rattle.ripng_world.specs.declared.watch.Stopped.TheVariants.{Refused, Failed}
@@ -18,7 +18,7 @@ use Rattle.ripng_phases.specs.declared.course.Update.{Update}
 use Rattle.ripng_phases.specs.declared.refused.PhaseRefused.{PhaseRefused}
 use Rattle.ripng_phases.specs.declared.refused.PhaseRefused.TheVariants.{NoUpdateInTime, PastLastMoment, OutOfMemory}
 use Rattle.ripng_phases.proofs.Begun.{events_on}
-use Rattle.ripng_phases.proofs.Going.{minute_of}
+use Rattle.ripng_phases.proofs.Going.{minute_of, nudged}
 use Rattle.ripng_phases.proofs.Tells.{tells_on, all_on, rising_on, rising_one}
 
 -- want of memory, or the watcher, comes at any time
@@ -70,6 +70,14 @@ module _ {V F : Type 0} (t f : V → Told → V → Type 0) where
         ends = subst (λ (net : Network). IsLast t f net (a.0.world, a.1) why (b.0.world, b.1)) is.network last;
         too_late = late;
       }
+
+  -- a router ticks, or is cut short at it
+  pub goes_nudged : (r : Result ⊤ (Stopped PhaseRefused F)) (old new : LabValue × V) (course : Course) (router word : ℕ) → new.0.network ≡ old.0.network
+      → OnOk r (WatchedRun t heard old.0.network (old.0.world, old.1) (Tick router course.moment word ∷ []) (new.0.world, new.1))
+      → IfErr r (λ why. IsLast t f old.0.network (old.0.world, old.1) why (new.0.world, new.1)) → IfErr r (λ why. IfRefused why (λ refusal. refusal ≡ OutOfMemory))
+      → GoesOn t f r old course new course
+  goes_nudged (Ok x) old new course router word same run last memory = λ s number begin u. nudged t s number begin course old new u router word same run
+  goes_nudged (Err why) old new course router word same run last memory = λ s number begin u. cut_short s number begin course old new why u same last (any_time why begin new.0.world memory)
 
   -- in the midst of a datagram
   pub handed_in_part : (s : LabValue × V) (first begin : ℕ) (course : Course) (a b : LabValue × V) (why : Stopped PhaseRefused F) → IsUnderway t s first begin course a → b.0.network ≡ a.0.network
