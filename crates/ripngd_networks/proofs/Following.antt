@@ -17,7 +17,7 @@ abbrev pub Follows : Machine → Type 0
 Follows m = m.ended ≡ false → m.fib ≡ forwards m.router.table
 
 -- one that was up still follows
-abbrev IfUp : Option Machine → Type 0
+abbrev pub IfUp : Option Machine → Type 0
 IfUp None = Unit {0}
 IfUp (Some m) = Follows m
 

@@ -1,2 +1,3 @@
 pub mod Daemons
 pub mod Links
+pub mod OnTime

@@ -22,17 +22,21 @@ handed_in _ = None
 abbrev pub handed_by : Happened → List Sent
 handed_by h = map (sent_by h.router) (filter_map handed_in h.deed.trace.calls)
 
--- the datagram was handed over before on that link, and comes as it is: with the address of the interface that sent it, from
--- the port of RIPng (RFC 2080, 2.1), with hop limit 255, and to the group exactly if it was sent to it (RFC 2080, 2.5)
-pub record IsOfTheLink (net : Network) (handed : List Sent) (router : ℕ) (d : Datagram) : Type 0 where
-  pub sent : Sent
-  pub before : Contains handed sent
+-- a datagram that was handed to a link comes from it as it is: with the address of the interface that sent it, from the port of
+-- RIPng (RFC 2080, 2.1), with hop limit 255, and to the group exactly if it was sent to it (RFC 2080, 2.5)
+pub record IsCopyOf (net : Network) (sent : Sent) (router : ℕ) (d : Datagram) : Type 0 where
   pub linked : AreLinked net sent.router sent.iface router d.iface
   pub source : d.source ≡ address_at net sent.router sent.iface
   pub port : d.source_port ≡ 521
   pub hops : d.hop_limit ≡ 255
   pub to : d.to_group ≡ is_to_group sent.to
   pub bytes : d.bytes ≡ sent.bytes
+
+-- such a datagram was handed over before
+pub record IsOfTheLink (net : Network) (handed : List Sent) (router : ℕ) (d : Datagram) : Type 0 where
+  pub sent : Sent
+  pub before : Contains handed sent
+  pub copy : IsCopyOf net sent router d
 
 -- or it is a stranger's: no Response, or one that the router refuses (RFC 2080, 2.4.2), at an interface that it has
 pub record IsOfAStranger (config : Config) (d : Datagram) : Type 0 where
@@ -50,11 +54,16 @@ AreGiven net handed [] = ⊤
 AreGiven net handed (h ∷ order) =
     ((node : Node) → slice_get net h.router ≡ Some node → IsGiven net handed h.router (config_of node) h.deed.act) × AreGiven net (handed ++ handed_by h) order
 
+-- the deeds lead each daemon of a network from what it was, or from none, to what it is
+abbrev pub LiveOn : Network → List Happened → (ℕ → Option Machine) → (ℕ → Option Machine) → Type 0
+LiveOn net order daemons daemons' =
+    (router : ℕ) (node : Node) → slice_get net router ≡ Some node → Lives (config_of node) (daemons router) (own_deeds router order) (daemons' router)
+
 -- a network of daemons ran: all their deeds in an order in which they happened, of which each daemon's own are its life, from
 -- no daemon at all on, over such links
 pub record HaveRun (net : Network) (order : List Happened) (daemons : ℕ → Option Machine) : Type 0 where
   pub known : AllByRecursion (λ h. h.router < length net) order
-  pub lives : (router : ℕ) (node : Node) → slice_get net router ≡ Some node → Lives (config_of node) None (own_deeds router order) (daemons router)
+  pub lives : LiveOn net order (λ router. None) daemons
   pub given : AreGiven net [] order
 
 -- all that the deeds handed over, in order

@@ -1,13 +1,16 @@
 //! Laws of networks of daemons, each the contract of a function with nothing to do: what follows from the definitions alone.
 
-ghost use Rattle.std.specs.Prelude.{◌≡◌, ℕ, ◌<◌, ◌≤◌, List, [], ◌∷◌, ◌++◌, length, Contains, Option, Some, Result, false};
+ghost use Rattle.std.specs.Prelude.{◌≡◌, ℕ, ◌+◌, ◌*◌, ◌<◌, ◌≤◌, List, [], ◌∷◌, ◌++◌, length, Contains, Option, Some, Result, false};
 ghost use Rattle.std.specs.FinMap as map_of;
+ghost use Rattle.std.specs.List.{AllByRecursion};
 ghost use Rattle.rand_core.specs.Stream.{Stream};
 ghost use Rattle.fib.specs.Forwarding.{Forward};
 ghost use Rattle.prefix6.specs.Prefix.{Prefix6};
 ghost use Rattle.route_table.specs.Route.{RouteValue, infinity};
 ghost use Rattle.router_core.specs.Changes.{forward, forwards};
 ghost use Rattle.router_core.specs.Config.{Config};
+ghost use Rattle.ripng_world.specs.Convergence.{IsNeverQuiet};
+ghost use Rattle.ripng_world.specs.Healing.{FitsTablesSince, IsHealed, network_now};
 ghost use Rattle.ripng_world.specs.Network.{Network, IsNetwork};
 ghost use Rattle.ripng_world.specs.Walks.{IsBacked, IsLeast};
 ghost use Rattle.ripng_world.specs.Past.{IsBackedSince, IsLeastSince};
@@ -20,7 +23,8 @@ ghost use Rattle.ripngd_engine.specs.Seen.{Seen, Outside, Shows, Started, TurnsA
 ghost use Rattle.ripngd_engine.specs.declared.report.EngineFault.{EngineFault};
 ghost use Rattle.ripngd_engine.specs.declared.report.ChangeFault.{ChangeFault};
 ghost use Rattle.ripngd_networks.specs.Daemons.{Deed, Start, Happened, Lives, reconfigurations_by, in_force, traces_of};
-ghost use Rattle.ripngd_networks.specs.Links.{HaveRun, IsRunOf, all_handed, past_of_daemons};
+ghost use Rattle.ripngd_networks.specs.Links.{HaveRun, IsRunOf, LiveOn, all_handed, past_of_daemons};
+ghost use Rattle.ripngd_networks.specs.OnTime.{AreOnTime, Dated, ForwardsLeast, GoOn, HappenFrom, undated};
 
 /// What the contracts of an engine say is a daemon's life: its start, whatever was before, its turns, those before a link
 /// that failed or a want of memory among them, and changes of its configuration, those that are refused among them. The outside gained just what the deeds of that life did.
@@ -65,4 +69,31 @@ pub fn daemons_invent_no_distance()
         → (r : RouteValue) × (map_of.get m.router.table p ≡ Some r) × (forward r ≡ Some f) × IsBackedSince (past_of_daemons net order) router p r }
     ensures told { (net : Network) (order : List Happened) (daemons : ℕ → Option Machine) → IsNetwork net → HaveRun net order daemons
         → (d : Sent) → Contains (all_handed order) d → IsSoundDatagramSince (past_of_daemons net order) d.router d.bytes }
+{}
+
+/// Networks of daemons heal by themselves. Whatever was before, let daemons go on for 28 minutes of a true clock that none of
+/// them sees, with no start and no reconfiguration, a tick in each half second and no want of memory, and let links keep order,
+/// lose no regular update, and take less than 13 seconds. Then each daemon holds, and forwards by, just the least costs of now;
+/// and so it is at each moment from then on, while they go on so.
+pub fn daemons_heal()
+    ensures healed { (net : Network) (before : List Happened) (daemons daemons' : ℕ → Option Machine) (history : List Dated) (start stop : ℕ)
+        → IsNetwork net → IsNeverQuiet net → HaveRun net before daemons → FitsTablesSince (past_of_daemons net before)
+        → GoOn net before daemons history start stop daemons' → AreOnTime net before daemons history start stop → start + 28 * 60_000 ≤ stop
+        → (router : ℕ) (m : Machine) → router < length net → daemons' router ≡ Some m → IsHealed (network_now (past_of_daemons net before)) router m.router.table }
+    ensures forwards { (net : Network) (before : List Happened) (daemons daemons' : ℕ → Option Machine) (history : List Dated) (start stop : ℕ)
+        → IsNetwork net → IsNeverQuiet net → HaveRun net before daemons → FitsTablesSince (past_of_daemons net before)
+        → GoOn net before daemons history start stop daemons' → AreOnTime net before daemons history start stop → start + 28 * 60_000 ≤ stop
+        → (router : ℕ) (m : Machine) → router < length net → daemons' router ≡ Some m → m.ended ≡ false
+        → ForwardsLeast (network_now (past_of_daemons net before)) router m.fib }
+    ensures up { (net : Network) (before : List Happened) (daemons daemons' : ℕ → Option Machine) (history : List Dated) (start stop : ℕ)
+        → IsNetwork net → IsNeverQuiet net → HaveRun net before daemons → FitsTablesSince (past_of_daemons net before)
+        → GoOn net before daemons history start stop daemons' → AreOnTime net before daemons history start stop → start + 28 * 60_000 ≤ stop
+        → (router : ℕ) → router < length net → (m : Machine) × (daemons' router ≡ Some m) }
+    ensures stays { (net : Network) (before : List Happened) (daemons now daemons' : ℕ → Option Machine) (early late : List Dated) (start until stop : ℕ)
+        → IsNetwork net → IsNeverQuiet net → HaveRun net before daemons → FitsTablesSince (past_of_daemons net before)
+        → GoOn net before daemons (early ++ late) start stop daemons' → AreOnTime net before daemons (early ++ late) start stop
+        → start + 28 * 60_000 ≤ until → until ≤ stop → AllByRecursion (λ t. t.at < until) early → HappenFrom until late
+        → LiveOn net (undated early) daemons now → LiveOn net (undated late) now daemons'
+        → (router : ℕ) (m : Machine) → router < length net → now router ≡ Some m
+        → IsHealed (network_now (past_of_daemons net before)) router m.router.table × (m.ended ≡ false → ForwardsLeast (network_now (past_of_daemons net before)) router m.fib) }
 {}
