@@ -38,3 +38,4 @@ pub mod Going
 pub mod Outcomes
 pub mod Together
 pub mod Adding
+pub mod Handing

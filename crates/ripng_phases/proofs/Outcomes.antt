@@ -18,7 +18,7 @@ use Rattle.ripng_phases.specs.declared.course.Update.{Update}
 use Rattle.ripng_phases.specs.declared.refused.PhaseRefused.{PhaseRefused}
 use Rattle.ripng_phases.specs.declared.refused.PhaseRefused.TheVariants.{NoUpdateInTime, PastLastMoment, OutOfMemory}
 use Rattle.ripng_phases.proofs.Begun.{events_on}
-use Rattle.ripng_phases.proofs.Going.{minute_of, nudged}
+use Rattle.ripng_phases.proofs.Going.{minute_of, nudged, waits}
 use Rattle.ripng_phases.proofs.Tells.{tells_on, all_on, rising_on, rising_one}
 
 -- want of memory, or the watcher, comes at any time
@@ -70,6 +70,43 @@ module _ {V F : Type 0} (t f : V → Told → V → Type 0) where
         ends = subst (λ (net : Network). IsLast t f net (a.0.world, a.1) why (b.0.world, b.1)) is.network last;
         too_late = late;
       }
+
+  -- the minute is not over
+  before_end : (s : LabValue × V) (first begin : ℕ) (course : Course) (a : LabValue × V) → IsUnderway t s first begin course a → course.moment < course.end
+  before_end s first begin course a u = subst (λ (n : ℕ). course.moment < n) (sym u.ends) u.in_time
+
+  -- time passes up to a moment
+  pub waits_until : (course : Course) (due : ℕ) (a : LabValue × V) → (course.moment < course.end → (course.moment ≤ due) × (due < course.end)) → GoesOn {X = ⊤} {F = F} t f (Ok tt) a course a (record course { moment = due })
+  waits_until course due a inside = λ s number begin u.
+      let i = inside (before_end s number begin course a u) in
+      waits t s number begin course (record course { moment = due }) a u refl i.0 (λ _. i.1)
+
+  -- it stops where nothing happens
+  pub stops_here : {X : Type 0} (why : PhaseRefused) (a : LabValue × V) (course course' : Course) → ((begin : ℕ) → course.end ≡ begin + 60_000 → course.moment < course.end → IsTooLate {F = F} (Refused why) begin a.0.world)
+      → GoesOn {X = X} {F = F} t f (Err (Refused why)) a course a course'
+  stops_here why a course course' late = λ s number begin u.
+      cut_short s number begin course a a (Refused why) u refl (nothing_last F t f a.0.network (a.0.world, a.1) why) (late begin u.ends (before_end s number begin course a u))
+
+  -- before it begins
+  pub not_begun : (s : LabValue × V) (first begin : ℕ) (why : PhaseRefused) → IsTooLate {F = F} (Refused why) begin s.0.world → IsCutShort {F = F} t f s first begin (Refused why) s
+  not_begun s first begin why late =
+      record {
+        network = refl;
+        steps = [];
+        before = (s.0.world, s.1);
+        tells = refl;
+        in_minute = tt;
+        high = first;
+        in_order = le_refl first;
+        ends = nothing_last F t f s.0.network (s.0.world, s.1) why;
+        too_late = late;
+      }
+
+  -- a phase that stops hands its error on
+  pub makes_handed : (r : Result ℕ (Stopped PhaseRefused F)) (why : Stopped PhaseRefused F) (s : LabValue × V) (first begin : ℕ) (new : LabValue × V) → IsErrAnd r (λ e. e ≡ why)
+      → IsCutShort t f s first begin why new → MakesPhase t f r s first begin new
+  makes_handed (Ok y) why s first begin new is cut = absurd is
+  makes_handed (Err e) why s first begin new is cut = subst (λ (x : Stopped PhaseRefused F). IsCutShort t f s first begin x new) (sym is) cut
 
   -- a router ticks, or is cut short at it
   pub goes_nudged : (r : Result ⊤ (Stopped PhaseRefused F)) (old new : LabValue × V) (course : Course) (router word : ℕ) → new.0.network ≡ old.0.network
