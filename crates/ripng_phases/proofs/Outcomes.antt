@@ -1,8 +1,9 @@
 -- How a phase begins, ends, and stops.
 use Rattle.std.proofs.Common.{◌≡◌, ◌⊎◌, inl, inr, ℕ, ◌+◌, ◌<◌, ◌≤◌, List, [], ◌∷◌, ◌++◌, length, Result, Ok, Err, IsErrAnd, IfErr, OnOk, Some, slice_get, refl, ap, sym, subst, ◌∙◌, arith, append-nil, le_refl, le_trans}
-use Rattle.std.specs.Prelude.{⊤}
+use Rattle.std.specs.Prelude.{⊤, IfSome, Option, None, SomeIff}
 use Rattle.std.specs.List.{AllByRecursion}
 use Rattle.std.proofs.lemmas.Option.{slice_get_within}
+use Rattle.route_table.proofs.TableLaws.{None-Some, Some-same}
 use Rattle.ripng_world.specs.Labs.{LabValue}
 use Rattle.ripng_world.specs.Network.{Network}
 use Rattle.ripng_world.specs.Watching.{Told, IfRefused, WatchedInPart, WatchedRun, failures, heard, refused_as}
@@ -202,3 +203,16 @@ module _ {V : Type 0} (t : V → Told → V → Type 0) where
                 u.0.handed_on datagram d (subst (λ (n : ℕ). n ≤ datagram) (sym u.0.first_is) late)
                 (within datagram (length u.0.tick.after.sent) x.0.end course.until course.next (slice_get_within u.0.tick.after.sent datagram d at) u.0.end_is u.1 all) at other iface linked elsewhere;
           }
+
+-- what a test of a bound gives
+pub if_new : {P : Type 0} {n : ℕ} (r : Option ℕ) (Q : ℕ → Type 0) → SomeIff r P n → Q n → IfSome r Q
+if_new None Q is q = tt
+if_new (Some x) Q is q = subst Q (sym is.1) q
+
+pub not_new : {P : Type 0} {n : ℕ} (r : Option ℕ) → SomeIff r P n → r ≡ None → P → ⊥
+not_new None is e = is
+not_new {n = n} (Some x) is e = absurd (None-Some x (sym e))
+
+pub some_new : {P : Type 0} {n : ℕ} (r : Option ℕ) (x : ℕ) → SomeIff r P n → r ≡ Some x → P × (x ≡ n)
+some_new None x is e = absurd (None-Some x e)
+some_new (Some y) x is e = (is.0, sym (Some-same y x e) ∙ is.1)
