@@ -89,10 +89,10 @@ module _ (net : Network) (d : Sent) (router n : ℕ) (xs : List (ℕ × ℕ)) (a
       ]
 
   pub added_none : (is_other net d (router, n) ≡ true → ⊥) → (iface : ℕ) → iface < n + 1 → is_other net d (router, iface) ≡ true → Contains xs (router, iface)
-  added_none no iface lt other =
+  added_none never iface lt other =
       elim (next_of iface n lt) [
         | inl old ↦ added iface old other
-        | inr here ↦ absurd (no (subst (λ (k : ℕ). is_other net d (router, k) ≡ true) here other))
+        | inr here ↦ absurd (never (subst (λ (k : ℕ). is_other net d (router, k) ≡ true) here other))
       ]
 
 -- ---- a datagram comes to one interface after another
@@ -105,7 +105,7 @@ module _ {V : Type 0} (t : V → Told → V → Type 0) (net : Network) (s : Wor
       none r c = None-Some r (at_from_contains [] r c).1
 
   module _ (receivers : List (ℕ × ℕ)) (i : ℕ) (here : i < length receivers) (mid : World × V) (first : IsHanded t net s datagram moment keeps (take i receivers) mid) where
-    one : ℕ × ℕ
+    abbrev one : ℕ × ℕ
     one = get_or receivers i (0, 0)
 
     next : take (i + 1) receivers ≡ take i receivers ++ one ∷ []
@@ -113,7 +113,7 @@ module _ {V : Type 0} (t : V → Told → V → Type 0) (net : Network) (s : Wor
 
     -- this one loses it
     pub lost : (IsTrue keeps → ⊥) → IsHanded t net s datagram moment keeps (take (i + 1) receivers) mid
-    lost no = record { steps = first.steps; tells = first.tells; only_this = first.only_this; each = λ kept r c. absurd (no kept) }
+    lost never = record { steps = first.steps; tells = first.tells; only_this = first.only_this; each = λ kept r c. absurd (never kept) }
 
     module _ (net' : Network) (same : net' ≡ net) (s' : World × V) where
       -- or hears it

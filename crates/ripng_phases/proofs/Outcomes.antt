@@ -43,12 +43,23 @@ stopped_at t f (Refused why) other net e s s' stop still = ([], (few, still))
     few = omega arith
 stopped_at t f (Failed fault) other net e s s' stop still = (e ∷ [], (refl, failed_at t f net e s s' (whole_one t f net e s s' stop)))
 
+module _ {V : Type 0} (t : V → Told → V → Type 0) (s : LabValue × V) (first begin : ℕ) (course : Course) (a : LabValue × V) (u : IsUnderway t s first begin course a) where
+  -- the minute is not over
+  pub before_end : course.moment < course.end
+  before_end = subst (λ (n : ℕ). course.moment < n) (sym u.ends) u.in_time
+
+  -- time passes up to a moment
+  pub waits_until : (due : ℕ) → (course.moment < course.end → (course.moment ≤ due) × (due < course.end)) → IsUnderway t s first begin (record course { moment = due }) a
+  waits_until due inside =
+      let i = inside before_end in
+      waits t s first begin course (record course { moment = due }) a u refl i.0 (λ _. i.1)
+
 module _ {V F : Type 0} (t f : V → Told → V → Type 0) where
   -- one part after another
-  pub goes_then : {X Y : Type 0} (x : X) (r : Result Y (Stopped PhaseRefused F)) (old mid new : LabValue × V) (course course' course'' : Course) → GoesOn {X = X} {F = F} t f (Ok x) old course mid course'
+  pub goes_then : {Y : Type 0} (r : Result Y (Stopped PhaseRefused F)) (old mid new : LabValue × V) (course course' course'' : Course) → GoesOn {X = ⊤} {F = F} t f (Ok tt) old course mid course'
       → GoesOn t f r mid course' new course'' → GoesOn t f r old course new course''
-  goes_then x (Ok y) old mid new course course' course'' first rest = λ s number begin is. rest s number begin (first s number begin is)
-  goes_then x (Err why) old mid new course course' course'' first rest = λ s number begin is. rest s number begin (first s number begin is)
+  goes_then (Ok y) old mid new course course' course'' first rest = λ s number begin is. rest s number begin (first s number begin is)
+  goes_then (Err why) old mid new course course' course'' first rest = λ s number begin is. rest s number begin (first s number begin is)
 
   -- an error that is handed on
   pub goes_handed : {Y : Type 0} (r : Result Y (Stopped PhaseRefused F)) (why : Stopped PhaseRefused F) (old new : LabValue × V) (course course' course'' : Course) → IsErrAnd r (λ e. e ≡ why)
@@ -72,21 +83,11 @@ module _ {V F : Type 0} (t f : V → Told → V → Type 0) where
         too_late = late;
       }
 
-  -- the minute is not over
-  before_end : (s : LabValue × V) (first begin : ℕ) (course : Course) (a : LabValue × V) → IsUnderway t s first begin course a → course.moment < course.end
-  before_end s first begin course a u = subst (λ (n : ℕ). course.moment < n) (sym u.ends) u.in_time
-
-  -- time passes up to a moment
-  pub waits_until : (course : Course) (due : ℕ) (a : LabValue × V) → (course.moment < course.end → (course.moment ≤ due) × (due < course.end)) → GoesOn {X = ⊤} {F = F} t f (Ok tt) a course a (record course { moment = due })
-  waits_until course due a inside = λ s number begin u.
-      let i = inside (before_end s number begin course a u) in
-      waits t s number begin course (record course { moment = due }) a u refl i.0 (λ _. i.1)
-
   -- it stops where nothing happens
-  pub stops_here : {X : Type 0} (why : PhaseRefused) (a : LabValue × V) (course course' : Course) → ((begin : ℕ) → course.end ≡ begin + 60_000 → course.moment < course.end → IsTooLate {F = F} (Refused why) begin a.0.world)
+  pub stops_here : (X : Type 0) (why : PhaseRefused) (a : LabValue × V) (course course' : Course) → ((begin : ℕ) → course.end ≡ begin + 60_000 → course.moment < course.end → IsTooLate {F = F} (Refused why) begin a.0.world)
       → GoesOn {X = X} {F = F} t f (Err (Refused why)) a course a course'
-  stops_here why a course course' late = λ s number begin u.
-      cut_short s number begin course a a (Refused why) u refl (nothing_last F t f a.0.network (a.0.world, a.1) why) (late begin u.ends (before_end s number begin course a u))
+  stops_here X why a course course' late = λ s number begin u.
+      cut_short s number begin course a a (Refused why) u refl (nothing_last F t f a.0.network (a.0.world, a.1) why) (late begin u.ends (before_end t s number begin course a u))
 
   -- before it begins
   pub not_begun : (s : LabValue × V) (first begin : ℕ) (why : PhaseRefused) → IsTooLate {F = F} (Refused why) begin s.0.world → IsCutShort {F = F} t f s first begin (Refused why) s
@@ -205,14 +206,14 @@ module _ {V : Type 0} (t : V → Told → V → Type 0) where
           }
 
 -- what a test of a bound gives
-pub if_new : {P : Type 0} {n : ℕ} (r : Option ℕ) (Q : ℕ → Type 0) → SomeIff r P n → Q n → IfSome r Q
-if_new None Q is q = tt
-if_new (Some x) Q is q = subst Q (sym is.1) q
+pub if_new : (P : Type 0) (n : ℕ) (r : Option ℕ) (Q : ℕ → Type 0) → SomeIff r P n → Q n → IfSome r Q
+if_new P n None Q is q = tt
+if_new P n (Some x) Q is q = subst Q (sym is.1) q
 
-pub not_new : {P : Type 0} {n : ℕ} (r : Option ℕ) → SomeIff r P n → r ≡ None → P → ⊥
-not_new None is e = is
-not_new {n = n} (Some x) is e = absurd (None-Some x (sym e))
+pub not_new : (P : Type 0) (n : ℕ) (r : Option ℕ) → SomeIff r P n → r ≡ None → P → ⊥
+not_new P n None is e = is
+not_new P n (Some x) is e = absurd (None-Some x (sym e))
 
-pub some_new : {P : Type 0} {n : ℕ} (r : Option ℕ) (x : ℕ) → SomeIff r P n → r ≡ Some x → P × (x ≡ n)
-some_new None x is e = absurd (None-Some x e)
-some_new (Some y) x is e = (is.0, sym (Some-same y x e) ∙ is.1)
+pub some_new : (P : Type 0) (n : ℕ) (r : Option ℕ) (x : ℕ) → SomeIff r P n → r ≡ Some x → P × (x ≡ n)
+some_new P n None x is e = absurd (None-Some x e)
+some_new P n (Some y) x is e = (is.0, sym (Some-same y x e) ∙ is.1)

@@ -1,6 +1,6 @@
 //! What a router does in a phase, and what it hears.
 
-ghost use Rattle.std.specs.Prelude.{◌≡◌, ◌≢◌, ℕ, true, ◌<◌, ◌≤◌, ◌+◌, ◌⊎◌, ◌∷◌, [], max, All, Contains, IfErr, IfOk, IsFalse, IsTrue, OnErr, OnOk, Some, length, slice_get};
+ghost use Rattle.std.specs.Prelude.{◌≡◌, ◌≢◌, ℕ, true, ◌<◌, ◌≤◌, ◌+◌, ◌^◌, ◌⊎◌, ◌∷◌, [], max, All, Contains, IfErr, IfOk, IsFalse, IsTrue, OnErr, OnOk, Some, length, slice_get};
 ghost use Rattle.std.specs.List.{Any};
 ghost use Rattle.router_core.specs.Machine.{State};
 ghost use Rattle.router_core.specs.declared.answer.NoteKind.TheVariants.{NoMemory};
@@ -212,7 +212,8 @@ pub fn hand_on<S: RouteStore, V: Watch<S>, R: Rng>(
     rng: &mut R,
     watch: &mut V,
 ) -> Result<(), Stopped<PhaseRefused, V::Fault>>
-    requires { course.old.next < length lab.old.world.sent }
+    requires next { course.old.next < length lab.old.world.sent }
+    requires fits { course.old.next + 1 < 2 ^ 64 }
     ensures network { lab.new.network ≡ lab.old.network }
     ensures goes { GoesOn V.takes V.fails result (lab.old, watch.old) course.old (lab.new, watch.new) course.new }
     ensures next { OnOk result (course.new.next ≡ course.old.next + 1) }

@@ -1,4 +1,5 @@
 use Rattle.std.proofs.Common.{refl}
+use Rattle.std.specs.Prelude.{⊤}
 use Rattle.ripng_phases.specs.declared.refused.PhaseRefused.TheVariants.{OutOfMemory}
 use Rattle.ripng_phases.proofs.Going.{handed}
 use Rattle.ripng_phases.proofs.Outcomes.{goes_handed, handed_in_part, stops_here}
@@ -6,7 +7,7 @@ use Rattle.ripng_phases.proofs.acting.hand_on.Goals as goal
 
 pub returns-in-Err-clause-goes : goal.returns-in-Err-clause-goes
 returns-in-Err-clause-goes g c =
-    stops_here g.V.Watch.takes g.V.Watch.fails OutOfMemory (c.args.lab.now, c.args.watch.now) c.args.course.now c.args.course.now (λ begin ends inside. tt)
+    stops_here g.V.Watch.takes g.V.Watch.fails ⊤ OutOfMemory (c.args.lab.now, c.args.watch.now) c.args.course.now c.args.course.now (λ begin ends inside. tt)
 
 pub returns-in_err-hand-clause-goes : goal.returns-in_err-hand-clause-goes
 returns-in_err-hand-clause-goes g c =
@@ -16,5 +17,5 @@ returns-in_err-hand-clause-goes g c =
 
 pub returns-clause-goes : goal.returns-clause-goes
 returns-clause-goes g c = λ s first begin u.
-    handed g.V.Watch.takes s first begin c.args.course.now (c.args.lab.now, c.args.watch.now) (c.hand.new.lab, c.hand.new.watch) u c.in_ok-hand.ensures.network c.keeps.result c.in-Ok.receivers.items
-    (rw c.deref.ensures.value at c.in_ok-hand.ensures.handed) _ c.keeps.ensures c.in-Ok.ensures c.requires refl
+    handed g.V.Watch.takes s first begin c.args.course.now (c.args.lab.now, c.args.watch.now) (c.hand.new.lab, c.hand.new.watch) u c.in_ok-hand.ensures.network c.keeps-keeps.result c.in-Ok.receivers.items
+    (rw c.deref.ensures.value at c.in_ok-hand.ensures.handed) _ c.keeps-keeps.ensures c.in-Ok.ensures c.requires.next refl

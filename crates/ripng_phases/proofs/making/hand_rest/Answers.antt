@@ -1,5 +1,5 @@
-use Rattle.std.proofs.Common.{Err, Ok, refl, ◌∙◌}
-use Rattle.ripng_phases.proofs.Outcomes.{goes_handed, goes_then}
+use Rattle.std.proofs.Common.{refl, ◌∙◌}
+use Rattle.ripng_phases.proofs.Outcomes.{goes_handed}
 use Rattle.ripng_phases.proofs.making.hand_rest.Goals as goal
 
 pub loop-course-init : goal.loop-course-init
@@ -7,18 +7,14 @@ loop-course-init g c = record { network = refl; goes = λ s first begin u. u; to
 
 pub returns-in_err-hand_on-clause-goes : goal.returns-in_err-hand_on-clause-goes
 returns-in_err-hand_on-clause-goes g c =
-    let why = c.in_err-hand_on.field-0.0 in
-    goes_handed g.V.Watch.takes g.V.Watch.fails c.from_residual.result why (c.args.lab.now, c.args.watch.now) (c.hand_on.new.lab, c.hand_on.new.watch) c.args.course.now c.hand_on.new.course c.hand_on.new.course c.from_residual.ensures.1
-    (goes_then g.V.Watch.takes g.V.Watch.fails tt (Err why) (c.args.lab.now, c.args.watch.now) (c.loop-course.lab, c.loop-course.watch) (c.hand_on.new.lab, c.hand_on.new.watch) c.args.course.now c.loop-course.course c.hand_on.new.course
-    c.loop-course.invariant.goes c.in_err-hand_on.ensures.goes)
+    goes_handed g.V.Watch.takes g.V.Watch.fails c.from_residual.result c.in_err-hand_on.field-0.0 (c.args.lab.now, c.args.watch.now) (c.hand_on.new.lab, c.hand_on.new.watch) c.args.course.now c.hand_on.new.course c.hand_on.new.course
+    c.from_residual.ensures.1 (λ s first begin u. c.in_err-hand_on.ensures.goes s first begin (c.loop-course.invariant.goes s first begin u))
 
 pub loop-course-preserved : goal.loop-course-preserved
 loop-course-preserved g c =
     record {
       network = c.in_ok-hand_on.ensures.network ∙ c.loop-course.invariant.network;
-      goes =
-          goes_then g.V.Watch.takes g.V.Watch.fails tt (Ok tt) (c.args.lab.now, c.args.watch.now) (c.loop-course.lab, c.loop-course.watch) (c.hand_on.new.lab, c.hand_on.new.watch) c.args.course.now c.loop-course.course c.hand_on.new.course
-          c.loop-course.invariant.goes c.in_ok-hand_on.ensures.goes;
+      goes = λ s first begin u. c.in_ok-hand_on.ensures.goes s first begin (c.loop-course.invariant.goes s first begin u);
       told = c.in_ok-hand_on.ensures.told ∙ c.loop-course.invariant.told;
     }
 

@@ -7,11 +7,11 @@ use Rattle.ripng_phases.proofs.Outcomes.{begins, is_over, makes_handed, not_begu
 use Rattle.ripng_phases.proofs.making.make_phase.Goals as goal
 
 past : (begin : ℕ) → (begin ≤ 2 ^ 60 → ⊥) → 2 ^ 60 < begin
-past begin no = grind (arith, no)
+past begin never = grind (arith, never)
 
 pub returns-in_default-clause-made : goal.returns-in_default-clause-made
 returns-in_default-clause-made g c =
-    not_begun g.V.Watch.takes g.V.Watch.fails (c.args.lab.now, c.args.watch.now) c.args.first c.args.begin PastLastMoment (past c.args.begin (not_new c.new.result c.new.ensures c.in_default.is))
+    not_begun g.V.Watch.takes g.V.Watch.fails (c.args.lab.now, c.args.watch.now) c.args.first c.args.begin PastLastMoment (past c.args.begin (not_new _ _ c.new.result c.new.ensures c.in_default.is))
 
 pub returns-in-Err-clause-made : goal.returns-in-Err-clause-made
 returns-in-Err-clause-made g c = not_begun g.V.Watch.takes g.V.Watch.fails (c.args.lab.now, c.args.watch.now) c.args.first c.args.begin OutOfMemory tt
@@ -21,14 +21,14 @@ tell_rest-requires g c = c.in_ok-make_turns.ensures.routers ∙ c.in-Ok.ensures.
 
 pub returns-in_err-make_turns-clause-made : goal.returns-in_err-make_turns-clause-made
 returns-in_err-make_turns-clause-made g c =
-    let begun = subst (λ (n : ℕ). IsUnderway g.V.Watch.takes (c.args.lab.now, c.args.watch.now) c.args.first n c.in-Ok.course (c.args.lab.now, c.args.watch.now)) (some_new c.new.result c.in-Some.moment c.new.ensures c.in-Some.is).1
+    let begun = subst (λ (n : ℕ). IsUnderway g.V.Watch.takes (c.args.lab.now, c.args.watch.now) c.args.first n c.in-Ok.course (c.args.lab.now, c.args.watch.now)) (some_new _ _ c.new.result c.in-Some.moment c.new.ensures c.in-Some.is).1
     (begins g.V.Watch.takes c.args.lab.now c.args.watch.now c.in-Some.moment c.args.first c.in-Ok.course c.in-Ok.ensures c.requires) in
     makes_handed g.V.Watch.takes g.V.Watch.fails c.from_residual.result c.in_err-make_turns.field-0.0 (c.args.lab.now, c.args.watch.now) c.args.first c.args.begin (c.make_turns.new.lab, c.make_turns.new.watch) c.from_residual.ensures.1
     (c.in_err-make_turns.ensures.goes (c.args.lab.now, c.args.watch.now) c.args.first c.args.begin begun)
 
 pub returns-in_err-tell_rest-clause-made : goal.returns-in_err-tell_rest-clause-made
 returns-in_err-tell_rest-clause-made g c =
-    let begun = subst (λ (n : ℕ). IsUnderway g.V.Watch.takes (c.args.lab.now, c.args.watch.now) c.args.first n c.in-Ok.course (c.args.lab.now, c.args.watch.now)) (some_new c.new.result c.in-Some.moment c.new.ensures c.in-Some.is).1
+    let begun = subst (λ (n : ℕ). IsUnderway g.V.Watch.takes (c.args.lab.now, c.args.watch.now) c.args.first n c.in-Ok.course (c.args.lab.now, c.args.watch.now)) (some_new _ _ c.new.result c.in-Some.moment c.new.ensures c.in-Some.is).1
     (begins g.V.Watch.takes c.args.lab.now c.args.watch.now c.in-Some.moment c.args.first c.in-Ok.course c.in-Ok.ensures c.requires) in
     let turned = c.in_ok-make_turns.ensures.goes (c.args.lab.now, c.args.watch.now) c.args.first c.args.begin begun in
     makes_handed g.V.Watch.takes g.V.Watch.fails c.from_residual-in_err-tell_rest.result c.in_err-tell_rest.field-0.0 (c.args.lab.now, c.args.watch.now) c.args.first c.args.begin (c.tell_rest.new.lab, c.tell_rest.new.watch)
@@ -36,7 +36,7 @@ returns-in_err-tell_rest-clause-made g c =
 
 pub returns-in_err-hand_rest-clause-made : goal.returns-in_err-hand_rest-clause-made
 returns-in_err-hand_rest-clause-made g c =
-    let begun = subst (λ (n : ℕ). IsUnderway g.V.Watch.takes (c.args.lab.now, c.args.watch.now) c.args.first n c.in-Ok.course (c.args.lab.now, c.args.watch.now)) (some_new c.new.result c.in-Some.moment c.new.ensures c.in-Some.is).1
+    let begun = subst (λ (n : ℕ). IsUnderway g.V.Watch.takes (c.args.lab.now, c.args.watch.now) c.args.first n c.in-Ok.course (c.args.lab.now, c.args.watch.now)) (some_new _ _ c.new.result c.in-Some.moment c.new.ensures c.in-Some.is).1
     (begins g.V.Watch.takes c.args.lab.now c.args.watch.now c.in-Some.moment c.args.first c.in-Ok.course c.in-Ok.ensures c.requires) in
     let turned = c.in_ok-make_turns.ensures.goes (c.args.lab.now, c.args.watch.now) c.args.first c.args.begin begun in
     let told = c.in_ok-tell_rest.ensures.goes (c.args.lab.now, c.args.watch.now) c.args.first c.args.begin turned in
@@ -45,7 +45,7 @@ returns-in_err-hand_rest-clause-made g c =
 
 pub returns-clause-made : goal.returns-clause-made
 returns-clause-made g c =
-    let begun = subst (λ (n : ℕ). IsUnderway g.V.Watch.takes (c.args.lab.now, c.args.watch.now) c.args.first n c.in-Ok.course (c.args.lab.now, c.args.watch.now)) (some_new c.new.result c.in-Some.moment c.new.ensures c.in-Some.is).1
+    let begun = subst (λ (n : ℕ). IsUnderway g.V.Watch.takes (c.args.lab.now, c.args.watch.now) c.args.first n c.in-Ok.course (c.args.lab.now, c.args.watch.now)) (some_new _ _ c.new.result c.in-Some.moment c.new.ensures c.in-Some.is).1
     (begins g.V.Watch.takes c.args.lab.now c.args.watch.now c.in-Some.moment c.args.first c.in-Ok.course c.in-Ok.ensures c.requires) in
     let turned = c.in_ok-make_turns.ensures.goes (c.args.lab.now, c.args.watch.now) c.args.first c.args.begin begun in
     let told = c.in_ok-tell_rest.ensures.goes (c.args.lab.now, c.args.watch.now) c.args.first c.args.begin turned in
