@@ -1,8 +1,7 @@
 -- The regular update of a router, put among those of all.
-use Rattle.std.proofs.Common.{◌≡◌, ◌⊎◌, inl, inr, ℕ, zero, suc, ◌<◌, ◌≤◌, List, [], ◌∷◌, length, Option, Some, slice_get, set, refl, ap, sym, ◌∙◌, arith}
+use Rattle.std.proofs.Common.{◌≡◌, ◌⊎◌, inl, inr, ℕ, zero, suc, ◌<◌, ◌≤◌, List, [], ◌∷◌, length, Option, Some, slice_get, set, refl, ap, sym, arith}
 use Rattle.std.proofs.lemmas.List.{length-set}
-use Rattle.std.proofs.lemmas.Option.{slice_get_within}
-use Rattle.route_table.proofs.TableLaws.{Some-same, None-Some}
+use Rattle.route_table.proofs.TableLaws.{Some-same}
 use Rattle.ripng_phases.specs.Making.{IsAdded}
 use Rattle.ripng_phases.specs.declared.course.Update.{Update}
 

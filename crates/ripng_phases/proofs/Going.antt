@@ -1,5 +1,5 @@
 -- A phase that is under way goes on: time passes, a router ticks, a datagram is handed on.
-use Rattle.std.proofs.Common.{◌≡◌, ◌≢◌, ◌⊎◌, inl, inr, ℕ, ◌+◌, ◌<◌, ◌≤◌, IsTrue, List, [], ◌∷◌, ◌++◌, filter, length, Contains, Option, Some, slice_get, max, refl, ap, sym, subst, ◌∙◌, arith, append-nil, append_assoc, le_refl, le_trans, map, Bool, true}
+use Rattle.std.proofs.Common.{◌≡◌, ◌≢◌, ◌⊎◌, inl, inr, ℕ, ◌+◌, ◌<◌, ◌≤◌, IsTrue, List, [], ◌∷◌, ◌++◌, filter, length, Contains, Some, slice_get, max, refl, ap, sym, subst, ◌∙◌, arith, append-nil, append_assoc, le_refl, le_trans, map, Bool, true}
 use Rattle.std.specs.List.{AllByRecursion}
 use Rattle.std.proofs.lemmas.Option.{slice_get_within}
 use Rattle.router_core.specs.Machine.{State}
@@ -19,9 +19,9 @@ use Rattle.ripng_phases.specs.Phases.{Step, Takes, events_of, reached}
 use Rattle.ripng_phases.specs.declared.course.Course.{Course}
 use Rattle.ripng_phases.specs.declared.course.Update.{Update}
 use Rattle.ripng_phases.proofs.Begun.{events_on}
-use Rattle.ripng_phases.proofs.Runs.{takes_first, takes_rest, takes_reached}
+use Rattle.ripng_phases.proofs.Runs.{takes_rest, takes_reached}
 use Rattle.ripng_phases.proofs.Tells.{tells_on, tells_take, tells_one, contains_left, contains_right, all_on, all_of, rising_on, rising_one}
-use Rattle.ripng_phases.proofs.Updating.{Grows, takes_grows, still_sent, no_fewer}
+use Rattle.ripng_phases.proofs.Updating.{takes_grows, still_sent, no_fewer}
 
 -- each other interface of the link receives it
 pub is_receiver : (net : Network) (d : Sent) (router iface : ℕ) → AreLinked net d.router d.iface router iface → (router ≢ d.router) ⊎ (iface ≢ d.iface) → is_other net d (router, iface) ≡ true

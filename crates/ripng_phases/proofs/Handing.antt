@@ -1,5 +1,5 @@
 -- A datagram is handed on: which interfaces it comes to, and how it comes to one after another.
-use Rattle.std.proofs.Common.{◌≡◌, ◌⊎◌, inl, inr, ℕ, zero, suc, ◌+◌, ◌<◌, ◌≤◌, Bool, true, IsTrue, List, [], ◌∷◌, ◌++◌, Contains, Option, Some, None, length, take, get_or, slice_get, refl, ap, sym, subst, ◌∙◌, arith}
+use Rattle.std.proofs.Common.{◌≡◌, ◌⊎◌, inl, inr, ℕ, zero, suc, ◌+◌, ◌<◌, Bool, true, IsTrue, List, [], ◌∷◌, ◌++◌, Contains, Option, Some, None, length, take, get_or, slice_get, refl, ap, sym, subst, ◌∙◌, arith}
 use Rattle.std.specs.Prelude.{option_and_then, option_map}
 use Rattle.std.specs.List.{AllByRecursion}
 use Rattle.std.proofs.lemmas.List.{take_more}
@@ -13,7 +13,7 @@ use Rattle.ripng_world.specs.World.{World, Event, Deliver}
 use Rattle.ripng_world.specs.declared.network.NetInterface.{NetInterface}
 use Rattle.ripng_world.specs.declared.sent.Sent.{Sent}
 use Rattle.ripng_world.specs.declared.watch.Stopped.{Stopped}
-use Rattle.ripng_world.proofs.Members.{At, at_from_contains, split_at}
+use Rattle.ripng_world.proofs.Members.{at_from_contains, split_at}
 use Rattle.ripng_phases.specs.Making.{IsDeliveryAt, IsHanded, IsHandedInPart, IsLast, TellsSteps}
 use Rattle.ripng_phases.specs.Phases.{Step, events_of}
 use Rattle.ripng_phases.specs.declared.refused.PhaseRefused.{PhaseRefused}

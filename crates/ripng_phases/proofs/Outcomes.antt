@@ -1,5 +1,5 @@
 -- How a phase begins, ends, and stops.
-use Rattle.std.proofs.Common.{◌≡◌, ◌⊎◌, inl, inr, ℕ, ◌+◌, ◌<◌, ◌≤◌, List, [], ◌∷◌, ◌++◌, length, Result, Ok, Err, IsErrAnd, IfErr, OnOk, Some, slice_get, refl, ap, sym, subst, ◌∙◌, arith, append-nil, le_refl, le_trans}
+use Rattle.std.proofs.Common.{◌≡◌, ◌⊎◌, inl, inr, ℕ, ◌+◌, ◌<◌, ◌≤◌, List, [], ◌∷◌, ◌++◌, length, Result, Ok, Err, IsErrAnd, IfErr, OnOk, Some, slice_get, refl, sym, subst, ◌∙◌, arith, le_refl, le_trans}
 use Rattle.std.specs.Prelude.{⊤, IfSome, Option, None, SomeIff}
 use Rattle.std.specs.List.{AllByRecursion}
 use Rattle.std.proofs.lemmas.Option.{slice_get_within}
@@ -8,7 +8,6 @@ use Rattle.ripng_world.specs.Labs.{LabValue}
 use Rattle.ripng_world.specs.Network.{Network}
 use Rattle.ripng_world.specs.Watching.{Told, IfRefused, WatchedInPart, WatchedRun, failures, heard, refused_as}
 use Rattle.ripng_world.specs.World.{World, Event, Tick}
-use Rattle.ripng_world.specs.declared.sent.Sent.{Sent}
 use Rattle.ripng_world.specs.declared.watch.Stopped.{Stopped}
 use Rattle.ripng_world.specs.declared.watch.Stopped.TheVariants.{Refused, Failed}
 use Rattle.ripng_world.proofs.Watched.{failed_at, whole_one}
@@ -17,7 +16,7 @@ use Rattle.ripng_phases.specs.Phases.{IsHeardUpdate, events_of}
 use Rattle.ripng_phases.specs.declared.course.Course.{Course}
 use Rattle.ripng_phases.specs.declared.course.Update.{Update}
 use Rattle.ripng_phases.specs.declared.refused.PhaseRefused.{PhaseRefused}
-use Rattle.ripng_phases.specs.declared.refused.PhaseRefused.TheVariants.{NoUpdateInTime, PastLastMoment, OutOfMemory}
+use Rattle.ripng_phases.specs.declared.refused.PhaseRefused.TheVariants.{OutOfMemory}
 use Rattle.ripng_phases.proofs.Begun.{events_on}
 use Rattle.ripng_phases.proofs.Going.{minute_of, nudged, waits}
 use Rattle.ripng_phases.proofs.Tells.{tells_on, all_on, rising_on, rising_one}

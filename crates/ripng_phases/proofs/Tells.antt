@@ -1,5 +1,5 @@
 -- What is told of steps: how it goes on, and what it is without the watcher. And deliveries in the order in which datagrams were sent.
-use Rattle.std.proofs.Common.{◌≡◌, ◌⊎◌, inl, inr, ℕ, ◌+◌, ◌<◌, ◌≤◌, List, [], ◌∷◌, ◌++◌, Contains, Some, slice_get, zero, suc, refl, ap, sym, subst, ◌∙◌, arith, append_assoc, le_trans}
+use Rattle.std.proofs.Common.{◌≡◌, inl, inr, ℕ, ◌+◌, ◌<◌, ◌≤◌, List, [], ◌∷◌, ◌++◌, Contains, Some, slice_get, zero, suc, refl, ap, sym, subst, ◌∙◌, arith, append_assoc, le_trans}
 use Rattle.std.specs.List.{AllByRecursion}
 use Rattle.route_table.proofs.TableLaws.{Some-same, None-Some}
 use Rattle.ripng_world.specs.Network.{Network}

@@ -1,5 +1,5 @@
 -- Phases as a lab makes them: each is one minute by a true clock, in which datagrams are handed on in the order in which they were sent.
-use Rattle.std.specs.Prelude.{◌≡◌, ◌≢◌, ℕ, ◌+◌, ◌^◌, ◌<◌, ◌≤◌, ⊤, ◌⊎◌, Bool, true, IsTrue, List, [], ◌∷◌, ◌++◌, map, length, All, Contains, Option, Some, Result, Ok, Err, slice_get}
+use Rattle.std.specs.Prelude.{◌≡◌, ◌≢◌, ℕ, ◌+◌, ◌^◌, ◌<◌, ◌≤◌, ⊤, ◌⊎◌, Bool, true, IsTrue, List, [], ◌∷◌, ◌++◌, length, All, Contains, Option, Some, Result, Ok, Err, slice_get}
 use Rattle.std.specs.List.{AllByRecursion}
 use Rattle.router_core.specs.Machine.{State}
 use Rattle.router_core.specs.declared.answer.NoteKind.TheVariants.{NoMemory}
@@ -14,7 +14,7 @@ use Rattle.ripng_world.specs.World.{World, Event, Deliver, Tick, Happens, past_o
 use Rattle.ripng_world.specs.declared.network.NetInterface.{NetInterface}
 use Rattle.ripng_world.specs.declared.sent.Sent.{Sent}
 use Rattle.ripng_world.specs.declared.watch.Stopped.{Stopped}
-use Rattle.ripng_world.specs.declared.watch.Stopped.TheVariants.{Refused, Failed}
+use Rattle.ripng_world.specs.declared.watch.Stopped.TheVariants.{Refused}
 use Rattle.ripng_phases.specs.Phases.{Step, IsOrdinary, IsHeardUpdate, Phases, Begun, events_of, reached, steps_of}
 use Rattle.ripng_phases.specs.declared.course.Course.{Course}
 use Rattle.ripng_phases.specs.declared.course.Update.{Update}

@@ -5,7 +5,7 @@ use Rattle.router_core.specs.declared.answer.Note.{Note}
 use Rattle.router_core.specs.declared.answer.NoteKind.TheVariants.{NoMemory}
 use Rattle.ripng_world.specs.Delivering.{WantsMemory}
 use Rattle.ripng_world.specs.Events.{event_of}
-use Rattle.ripng_world.specs.Watching.{WatchedRun, heard, wanting}
+use Rattle.ripng_world.specs.Watching.{heard, wanting}
 use Rattle.ripng_world.specs.World.{World}
 use Rattle.ripng_world.proofs.Watched.{both_still, given_told, watched_one}
 use Rattle.ripng_phases.proofs.Outcomes.{stopped_at}

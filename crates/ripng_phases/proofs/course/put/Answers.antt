@@ -1,4 +1,4 @@
-use Rattle.std.proofs.Common.{◌<◌, ◌≤◌, length, arith}
+use Rattle.std.proofs.Common.{arith}
 use Rattle.std.proofs.lemmas.Bool.Decides.{nat_tests}
 use Rattle.ripng_phases.proofs.Adding.{added_in, added_out}
 use Rattle.ripng_phases.proofs.course.put.Goals as goal

@@ -52,6 +52,6 @@ returns-clause-made g c =
     let handed = c.in_ok-hand_rest.ensures.goes (c.args.lab.now, c.args.watch.now) c.args.first c.args.begin told in
     is_over g.V.Watch.takes (c.args.lab.now, c.args.watch.now) c.args.first c.args.begin c.hand_rest.new.course (c.hand_rest.new.lab, c.hand_rest.new.watch) handed
     (λ router here.
-        let x = c.in_ok-tell_rest.ensures.told router (subst (λ (net : Network). router < length net) (sym c.in_ok-make_turns.ensures.network) here) in
-        (x.0, subst (λ (us : List (Option Update)). slice_get us router ≡ Some (Some x.0)) (sym c.in_ok-hand_rest.ensures.told) x.1))
+    let x = c.in_ok-tell_rest.ensures.told router (subst (λ (net : Network). router < length net) (sym c.in_ok-make_turns.ensures.network) here) in
+    (x.0, subst (λ (us : List (Option Update)). slice_get us router ≡ Some (Some x.0)) (sym c.in_ok-hand_rest.ensures.told) x.1))
     c.in_ok-hand_rest.ensures.over
