@@ -10,7 +10,7 @@ use router_core::Interface;
 use std::alloc::{AllocError, Global};
 use std::test::Fail;
 
-fn moment(now: u64) -> Result<Moment, Fail> {
+pub fn moment(now: u64) -> Result<Moment, Fail> {
     Ok(Moment::new(now).ok_or("a moment")?)
 }
 
@@ -37,7 +37,12 @@ fn prefix() -> Result<Prefix, Fail> {
 }
 
 /// The first router owns the prefix, and its link to the last costs 9.
-pub fn square(alloc: Global) -> Result<Lab<SortedRoutes>, Fail> {
+fn square(alloc: Global) -> Result<Lab<SortedRoutes>, Fail> {
+    square_at(alloc, moment(0)?)
+}
+
+/// The same square, in which all start at this moment.
+pub fn square_at(alloc: Global, now: Moment) -> Result<Lab<SortedRoutes>, Fail> {
     let mut owner = node(alloc, [(0xa0, 1, 0), (0xa1, 9, 3)])?;
     owner.prefixes.push((prefix()?, 0))?;
     let mut nodes = Vec::new(alloc);
@@ -46,7 +51,6 @@ pub fn square(alloc: Global) -> Result<Lab<SortedRoutes>, Fail> {
     nodes.push(node(alloc, [(0xc0, 1, 1), (0xc1, 1, 2)])?)?;
     nodes.push(node(alloc, [(0xd0, 1, 2), (0xd1, 9, 3)])?)?;
     let network = NetConfig::check(alloc, nodes).ok().ok_or("a network")?;
-    let now = moment(0)?;
     let lab = Lab::cold(alloc, network, &[now, now, now, now]);
     Ok(lab.ok().ok_or("a lab")?)
 }
