@@ -39,3 +39,4 @@ pub mod Outcomes
 pub mod Together
 pub mod Adding
 pub mod Handing
+pub mod Latest

@@ -1,5 +1,5 @@
 -- Phases that are made one after another.
-use Rattle.std.proofs.Common.{◌≡◌, ℕ, ◌+◌, ◌<◌, ◌≤◌, List, [], ◌∷◌, ◌++◌, length, refl, ap, sym, subst, ◌∙◌, arith, append-nil, le_trans}
+use Rattle.std.proofs.Common.{◌≡◌, ℕ, ◌+◌, ◌*◌, ◌<◌, ◌≤◌, List, [], ◌∷◌, ◌++◌, length, refl, ap, sym, subst, ◌∙◌, arith, append-nil, le_trans}
 use Rattle.std.proofs.lemmas.Grind.{flat_map-append}
 use Rattle.std.proofs.lemmas.List.{length-append}
 use Rattle.ripng_world.specs.Labs.{LabValue, HasRun}
@@ -9,7 +9,7 @@ use Rattle.ripng_world.specs.World.{World}
 use Rattle.ripng_world.specs.declared.watch.Stopped.{Stopped}
 use Rattle.ripng_world.proofs.Each.{each_at_place}
 use Rattle.ripng_world.proofs.Members.{at_from_contains}
-use Rattle.ripng_phases.specs.Making.{AreMadeInPart, AreMadePhases, HealsIn, IsCutShort, IsInMinute, IsLast, IsMadePhase, TellsSteps}
+use Rattle.ripng_phases.specs.Making.{AreMadeInPart, AreMadePhases, HealsIn, IsCutShort, IsInMinute, IsLast, IsLatest, IsMadePhase, IsTooLate, TellsSteps}
 use Rattle.ripng_phases.specs.Phases.{Step, Before, IsBegun, IsHeardUpdate, IsMomentIn, IsPhase, Phases, PhasesAfter, BegunAfter, before_next, events_of, reached, steps_of}
 use Rattle.ripng_phases.specs.declared.refused.PhaseRefused.{PhaseRefused}
 use Rattle.ripng_phases.proofs.Begun.{phases_begun}
@@ -106,8 +106,9 @@ module _ {V : Type 0} (t : V → Told → V → Type 0) (net : Network) (s : Wor
             (omega (arith, q.0), q.1)
 
     -- one that stops
-    pub in_part : {F : Type 0} (f : V → Told → V → Type 0) (why : Stopped PhaseRefused F) (b : LabValue × V) → IsCutShort t f a first begin why b → AreMadeInPart t f net s count why (b.0.world, b.1)
-    in_part f why b m =
+    pub in_part : {F : Type 0} (f : V → Told → V → Type 0) (why : Stopped PhaseRefused F) (b : LabValue × V) (latest : ℕ) → IsLatest s.0.states (length net) latest → begin ≡ latest + 60_000 * count
+        → IsCutShort t f a first begin why b → AreMadeInPart t f net s count why (b.0.world, b.1)
+    in_part f why b latest latest_is begin_is m =
         let tells : TellsSteps t net (a.0.world, a.1) m.steps m.before = subst (λ (n : Network). TellsSteps t n (a.0.world, a.1) m.steps m.before) same m.tells in
         let begun : IsBegun net (past_after nothing_before s.0 so_far.phases) a.0.world m.steps m.before.0 =
         record {
@@ -123,8 +124,9 @@ module _ {V : Type 0} (t : V → Told → V → Type 0) (net : Network) (s : Wor
           begun = begun_more net so_far.phases nothing_before s.0 a.0.world m.before.0 m.steps so_far.are begun;
           told = tells_on t net (steps_of so_far.phases) m.steps s (a.0.world, a.1) m.before so_far.told tells;
           ends = subst (λ (n : Network). IsLast t f n m.before why (b.0.world, b.1)) same m.ends;
-          begin = begin;
-          too_late = m.too_late;
+          latest = latest;
+          latest_is = latest_is;
+          too_late = subst (λ (n : ℕ). IsTooLate why n b.0.world) begin_is m.too_late;
         }
 
   pub all_made : (count begin first : ℕ) (s' : World × V) → AreSoFar t net s count begin first s' → AreMadePhases t net s count s'

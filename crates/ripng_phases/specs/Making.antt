@@ -1,5 +1,5 @@
 -- Phases as a lab makes them: each is one minute by a true clock, in which datagrams are handed on in the order in which they were sent.
-use Rattle.std.specs.Prelude.{◌≡◌, ◌≢◌, ℕ, ◌+◌, ◌^◌, ◌<◌, ◌≤◌, ⊤, ◌⊎◌, Bool, true, IsTrue, List, [], ◌∷◌, ◌++◌, length, All, Contains, Option, Some, Result, Ok, Err, slice_get}
+use Rattle.std.specs.Prelude.{◌≡◌, ◌≢◌, ℕ, ◌+◌, ◌*◌, ◌^◌, ◌<◌, ◌≤◌, ⊤, ◌⊎◌, Bool, true, IsTrue, List, [], ◌∷◌, ◌++◌, length, All, Contains, Option, Some, Result, Ok, Err, slice_get}
 use Rattle.std.specs.List.{AllByRecursion}
 use Rattle.router_core.specs.Machine.{State}
 use Rattle.router_core.specs.declared.answer.NoteKind.TheVariants.{NoMemory}
@@ -49,7 +49,12 @@ IsTooLate (Refused (NoUpdateInTime router)) begin w = (state : State) → slice_
 IsTooLate (Refused PastLastMoment) begin w = 2 ^ 60 < begin
 IsTooLate _ begin w = ⊤
 
--- so many phases are made, and then some of the next one happens, all of it told, up to where the call stops
+-- the last moment of all of so many routers, or 0
+pub record IsLatest (states : List State) (count latest : ℕ) : Type 0 where
+  pub none_later : (router : ℕ) (s : State) → router < count → slice_get states router ≡ Some s → s.last ≤ latest
+  pub one_is : (latest ≡ 0) ⊎ ((router : ℕ) × (s : State) × (slice_get states router ≡ Some s) × (s.last ≡ latest))
+
+-- so many phases are made, a minute each from the last moment of all routers, and then some of the next one happens, all of it told, up to where the call stops
 pub record AreMadeInPart {V F : Type 0} (takes fails : V → Told → V → Type 0) (net : Network) (s : World × V) (count : ℕ) (why : Stopped PhaseRefused F) (s' : World × V) : Type 0 where
   pub phases : List (List Step)
   pub since : List Step
@@ -58,8 +63,9 @@ pub record AreMadeInPart {V F : Type 0} (takes fails : V → Told → V → Type
   pub begun : Begun net s.0 phases since before.0
   pub told : TellsSteps takes net s (steps_of phases ++ since) before
   pub ends : IsLast takes fails net before why s'
-  pub begin : ℕ
-  pub too_late : IsTooLate why begin s'.0
+  pub latest : ℕ
+  pub latest_is : IsLatest s.0.states (length net) latest
+  pub too_late : IsTooLate why (latest + 60_000 * count) s'.0
 
 -- whatever happened before, 28 phases leave each table with the least costs of now, and nothing else below infinity
 abbrev pub HealsIn : Network → World → ℕ → World → Type 0

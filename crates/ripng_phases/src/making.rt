@@ -7,7 +7,7 @@
 
 ghost use Rattle.std.specs.Prelude.{◌≡◌, ℕ, ◌+◌, ◌^◌, ◌<◌, ◌≤◌, ◌⊎◌, max, IfErr, IfOk, IfSome, OnOk, None, Some, length, slice_get};
 ghost use Rattle.router_core.specs.Machine.{State};
-ghost use Rattle.ripng_phases.specs.Making.{AreMadeInPart, AreMadePhases, GoesOn, HealsIn, IsFresh, MakesPhase};
+ghost use Rattle.ripng_phases.specs.Making.{AreMadeInPart, AreMadePhases, GoesOn, HealsIn, IsFresh, IsLatest, MakesPhase};
 ghost use Rattle.ripng_world.specs.Labs.{HasRun};
 ghost use Rattle.ripng_phases.specs.declared.course.Update.{Update as UpdateValue};
 
@@ -239,7 +239,7 @@ fn make_phase<S: RouteStore, V: Watch<S>, R: Rng>(
 
 /// The last moment of all routers.
 fn latest<S: RouteStore>(lab: &Lab<S>) -> u64
-    ensures { (router : ℕ) (state : State) → router < length lab.now.network → slice_get lab.now.world.states router ≡ Some state → state.last ≤ result }
+    ensures { IsLatest lab.now.world.states (length lab.now.network) result }
 {
     let mut latest = 0;
     for router in 0..lab.routers() {

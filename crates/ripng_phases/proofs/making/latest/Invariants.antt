@@ -1,6 +1,5 @@
-use Rattle.std.proofs.Common.{◌≡◌, ℕ, ◌<◌, ◌≤◌, Some, slice_get}
-use Rattle.router_core.specs.Machine.{State}
+use Rattle.ripng_phases.specs.Making.{IsLatest}
 use Rattle.ripng_phases.proofs.making.latest.Given as goal
 
 abbrev pub invariant-loop-router : goal.invariant-loop-router
-invariant-loop-router g l = (router : ℕ) (state : State) → router < l.router → slice_get l.lab.world.states router ≡ Some state → state.last ≤ l.latest
+invariant-loop-router g l = IsLatest l.lab.world.states l.router l.latest

@@ -8,13 +8,14 @@ loop-done-init g c =
     record {
       network = refl;
       so_far = none_so_far g.V.Watch.takes c.args.lab.now.network (c.args.lab.now.world, c.args.watch.now) _ _;
+      begins = (c.latest-begin.result, c.latest-begin.ensures, omega arith);
       within = omega (arith, ap length c.sent-first.ensures.value);
     }
 
 pub returns-in-Err-clause-stopped : goal.returns-in-Err-clause-stopped
 returns-in-Err-clause-stopped g c =
     in_part g.V.Watch.takes c.args.lab.now.network (c.args.lab.now.world, c.args.watch.now) c.loop-done.done c.loop-done.begin c.loop-done.first (c.loop-done.lab, c.loop-done.watch) c.loop-done.invariant.so_far c.loop-done.invariant.network
-    g.V.Watch.fails c.in-Err.stopped (c.make_phase.new.lab, c.make_phase.new.watch) c.in-Err.ensures.made
+    g.V.Watch.fails c.in-Err.stopped (c.make_phase.new.lab, c.make_phase.new.watch) c.loop-done.invariant.begins.0 c.loop-done.invariant.begins.1 c.loop-done.invariant.begins.2 c.in-Err.ensures.made
 
 pub loop-done-preserved : goal.loop-done-preserved
 loop-done-preserved g c =
@@ -23,6 +24,7 @@ loop-done-preserved g c =
       so_far =
           one_more g.V.Watch.takes c.args.lab.now.network (c.args.lab.now.world, c.args.watch.now) c.loop-done.done c.loop-done.begin c.loop-done.first (c.loop-done.lab, c.loop-done.watch) c.loop-done.invariant.so_far
           c.loop-done.invariant.network c.in-Ok.next (c.make_phase.new.lab, c.make_phase.new.watch) c.in-Ok.ensures.made;
+      begins = let b = c.loop-done.invariant.begins in (b.0, b.1, (let e = b.2 in omega (arith, e)));
       within = c.in-Ok.ensures.made.next_in;
     }
 
