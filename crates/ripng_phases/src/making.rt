@@ -8,7 +8,6 @@
 ghost use Rattle.std.specs.Prelude.{◌≡◌, ℕ, ◌+◌, ◌^◌, ◌<◌, ◌≤◌, ◌⊎◌, max, IfErr, IfOk, IfSome, OnOk, None, Some, length, slice_get};
 ghost use Rattle.router_core.specs.Machine.{State};
 ghost use Rattle.ripng_phases.specs.Making.{AreMadeInPart, AreMadePhases, GoesOn, HealsIn, IsFresh, IsLatest, MakesPhase};
-ghost use Rattle.ripng_world.specs.Labs.{HasRun};
 ghost use Rattle.ripng_phases.specs.declared.course.Update.{Update as UpdateValue};
 
 use crate::acting::{announce, hand_on, is_due, nudge};
@@ -269,9 +268,10 @@ pub fn run_phases<S: RouteStore, V: Watch<S>, R: Rng>(
     ensures network { lab.new.network ≡ lab.old.network }
     ensures all { OnOk result.1 (result.0 ≡ phases) }
     ensures made { OnOk result.1 (AreMadePhases V.takes lab.old.network (lab.old.world, watch.old) result.0 (lab.new.world, watch.new)) }
-    ensures heals { OnOk result.1 (HasRun lab.old.network lab.old.world → HealsIn lab.old.network lab.old.world result.0 lab.new.world) }
+    ensures heals { OnOk result.1 (HealsIn lab.old.network lab.old.world result.0 lab.new.world) }
     ensures stopped { IfErr result.1 (λ why. AreMadeInPart V.takes V.fails lab.old.network (lab.old.world, watch.old) result.0 why (lab.new.world, watch.new)) }
 {
+    lab.has_run();
     let mut begin = latest(lab);
     let mut first = lab.sent().len();
     for done in 0..phases {

@@ -35,8 +35,8 @@ returns-clause-made g c =
     (all_made g.V.Watch.takes c.args.lab.now.network (c.args.lab.now.world, c.args.watch.now) c.loop-done.done c.loop-done.begin c.loop-done.first (c.loop-done.lab.world, c.loop-done.watch) c.loop-done.invariant.so_far)
 
 pub returns-clause-heals : goal.returns-clause-heals
-returns-clause-heals g c = λ has_run.
+returns-clause-heals g c =
     let all : c.loop-done.done ≡ c.args.phases = omega (arith, c.loop-done-test.false, c.loop-done.auto.done-end) in
     subst (λ (n : ℕ). HealsIn c.args.lab.now.network c.args.lab.now.world n c.loop-done.lab.world) all
-    (all_heal g.V.Watch.takes c.args.lab.now.network (c.args.lab.now.world, c.args.watch.now) c.loop-done.done (c.loop-done.lab.world, c.loop-done.watch) has_run
+    (all_heal g.V.Watch.takes c.args.lab.now.network (c.args.lab.now.world, c.args.watch.now) c.loop-done.done (c.loop-done.lab.world, c.loop-done.watch) c.has_run.ensures
     (all_made g.V.Watch.takes c.args.lab.now.network (c.args.lab.now.world, c.args.watch.now) c.loop-done.done c.loop-done.begin c.loop-done.first (c.loop-done.lab.world, c.loop-done.watch) c.loop-done.invariant.so_far))
