@@ -2,7 +2,7 @@
 //! through once.
 //!
 //! The definitions stand in `specs/Phases`, and in `specs/Minutes` those of histories by a true clock; the laws are the contracts of
-//! functions with nothing to do.
+//! functions with nothing to do. `run_phases` makes phases of a lab, by chance.
 #![tactic(auto)]
 
 mod acting;

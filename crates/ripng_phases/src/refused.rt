@@ -1,7 +1,5 @@
 //! Why phases stop.
 
-use std::alloc::AllocError;
-
 /// Why a phase stops. All events before are done.
 #[derive(Clone, Copy, Debug, PartialEq, Eq)]
 pub enum PhaseRefused {
@@ -41,16 +39,5 @@ impl PhaseRefused {
             PhaseRefused::PastLastMoment => "PastLastMoment",
             PhaseRefused::OutOfMemory => "OutOfMemory",
         }
-    }
-}
-
-impl From<AllocError> for PhaseRefused {
-    ghost use Rattle.std.specs.Prelude.{◌≡◌};
-    ghost use Rattle.ripng_phases.specs.declared.refused.PhaseRefused.TheVariants.{OutOfMemory};
-
-    ghost from_gives = { λ _ refusal. refusal ≡ OutOfMemory };
-
-    fn from(_error: AllocError) -> PhaseRefused {
-        PhaseRefused::OutOfMemory
     }
 }
