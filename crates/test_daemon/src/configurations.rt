@@ -55,7 +55,14 @@ fn bytes_that_are_no_text_are_no_toml(rt: HostRuntime) -> Result<(), Fail> {
 }
 
 /// Whether a configuration has just this interface, prefix tag, place and peer, keeps quiet, and draws what the seed gives.
-fn has(config: Config, interface: Interface, tag: u16, place: Place, peer: Peer, seed: u64) -> bool {
+fn has(
+    config: Config,
+    interface: Interface,
+    tag: u16,
+    place: Place,
+    peer: Peer,
+    seed: u64,
+) -> bool {
     let Config {
         router,
         places,
@@ -118,7 +125,9 @@ fn keys_that_are_given_are_read(rt: HostRuntime) {
         to_group: false,
     };
     let config = read_config(rt.alloc(), NO_DEFAULTS.as_bytes(), 4, true);
-    assert!(rt; config.is_ok_and(|c| has(c, interface, 65_535, place_at(65_535, Some(2)), peer, 7)));
+    assert!(rt;
+        config.is_ok_and(|c| has(c, interface, 65_535, place_at(65_535, Some(2)), peer, 7))
+    );
 }
 
 #[test]
