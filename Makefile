@@ -3,7 +3,8 @@
 # make try SCRIPT=  the same on the sources as they stand, with no proof; with a folder, all of its scripts
 # make show HEX=    decodes one datagram, given as hexadecimal digits
 # make page         serves the page of the laboratory, at PORT of 127.0.0.1, until it is interrupted
-# make install      puts the program, its manual page, a unit of systemd and the examples below PREFIX (and DESTDIR before it)
+# make install      puts the program, its companion for real links, their manual pages, a unit of systemd for each, and the examples
+#                   below PREFIX (and DESTDIR before it)
 # make uninstall    takes them away again
 # make dist         the program with its pages, films and examples as they are installed, and checksums, in one file below dist
 # make bench        times of a router and its forwarding table, as tables grow
@@ -26,6 +27,7 @@ bindir ?= $(prefix)/bin
 mandir ?= $(prefix)/share/man
 docdir ?= $(prefix)/share/doc/ripngd
 unitdir ?= $(prefix)/lib/systemd/system
+linksdir ?= $(prefix)/lib/ripngd-links
 INSTALL ?= install
 
 # The folders with what goes beside README.md.
@@ -57,18 +59,24 @@ page: all
 bin/ripngd:
 	$(MAKE) all
 
-# Pages keep their places to one another, so that what one says of another is found.
+# Pages keep their places to one another, so that what one says of another is found. The companion's modules stand beside it, and
+# `bindir` has a link to it.
 install: bin/ripngd
-	$(INSTALL) -d $(DESTDIR)$(bindir) $(DESTDIR)$(mandir)/man8 $(DESTDIR)$(unitdir) $(addprefix $(DESTDIR)$(docdir)/,$(folders))
+	$(INSTALL) -d $(DESTDIR)$(bindir) $(DESTDIR)$(mandir)/man8 $(DESTDIR)$(unitdir) $(DESTDIR)$(linksdir)
+	$(INSTALL) -d $(addprefix $(DESTDIR)$(docdir)/,$(folders) links)
 	$(INSTALL) -m 755 bin/ripngd $(DESTDIR)$(bindir)/ripngd
-	$(INSTALL) -m 644 docs/ripngd.8 $(DESTDIR)$(mandir)/man8/ripngd.8
+	$(INSTALL) -m 644 links/*.py $(DESTDIR)$(linksdir)
+	$(INSTALL) -m 755 links/ripngd-links $(DESTDIR)$(linksdir)
+	ln -sfr $(DESTDIR)$(linksdir)/ripngd-links $(DESTDIR)$(bindir)/ripngd-links
+	$(INSTALL) -m 644 docs/ripngd.8 docs/ripngd-links.8 $(DESTDIR)$(mandir)/man8
 	$(INSTALL) -m 644 README.md $(DESTDIR)$(docdir)
+	$(INSTALL) -m 755 links/bird.* $(DESTDIR)$(docdir)/links
 	for folder in $(folders); do $(INSTALL) -m 644 $$folder/*.* $(DESTDIR)$(docdir)/$$folder || exit; done
-	sed 's|@bindir@|$(bindir)|' docs/ripngd@.service > $(DESTDIR)$(unitdir)/ripngd@.service
+	for unit in ripngd@ ripngd-links@; do sed 's|@bindir@|$(bindir)|' docs/$$unit.service > $(DESTDIR)$(unitdir)/$$unit.service || exit; done
 
 uninstall:
-	rm -f $(DESTDIR)$(bindir)/ripngd $(DESTDIR)$(mandir)/man8/ripngd.8 $(DESTDIR)$(unitdir)/ripngd@.service
-	rm -rf $(DESTDIR)$(docdir)
+	for name in ripngd ripngd-links; do rm -f $(DESTDIR)$(bindir)/$$name $(DESTDIR)$(mandir)/man8/$$name.8 $(DESTDIR)$(unitdir)/$$name@.service; done
+	rm -rf $(DESTDIR)$(docdir) $(DESTDIR)$(linksdir)
 
 # The same program gives the same file: no time and no name of who made it is in it.
 dist:

@@ -246,6 +246,18 @@ a_full_standard_output_is_told() {
         fills --version && fills --help
 }
 
+# `head` reads one line of the help and goes.
+a_reader_that_goes_away_is_not_told() {
+    local line
+    line=$("$program" help ctl 2> "$folder/err" | head -n 1)
+    [ -n "$line" ] || because "nothing was read" || return
+    same "standard error" "$(cat "$folder/err")" "" || return
+    seq -f '2001:db8:%g::/48' 9999 | sed 's/.*/add & metric 1 direct/' > "$folder/long.log"
+    { "$program" table "$folder/long.log" 2> "$folder/err"; echo $? > "$folder/status"; } | head -n 1 > "$folder/out"
+    same "what was read" "$(cat "$folder/out")" "2001:db8:1::/48 metric 1 direct" &&
+        same status "$(cat "$folder/status")" 3 && same "standard error" "$(cat "$folder/err")" ""
+}
+
 a_port_in_use_is_named() {
     alone used.toml
     start holder run --turns 200 -R "$folder/holder.log" "$folder/used.toml" && local holder=$pid
@@ -581,7 +593,7 @@ answers() {
     shift 3
     ctl "$name" "$@"
     same "the status of '$*'" "$status" "$wanted" && same "standard error of '$*'" "$(cat "$folder/err")" "" &&
-        same "the answer to '$*'" "$(sed 's/ live [0-9]*/ live T/; s/^arrivals [0-9]* sends [0-9]*/arrivals A sends S/' "$folder/out")" "$lines"
+        same "the answer to '$*'" "$(sed 's/ live [0-9]*/ live T/; s/^arrivals [0-9]* sends [0-9]*/arrivals A sends S/; s/ last [0-9]*$/ last T/' "$folder/out")" "$lines"
 }
 
 # `speak NAME CODE`: what a client of that router gets that does so: `s` is its socket, and `got()` all that comes.
@@ -613,11 +625,36 @@ a_running_router_is_asked() {
         answers west 0 "2001:db8:e::/48 metric 2 via fe80::e iface 0
 2001:db8:f::/48 metric 1 direct" table &&
         answers west 0 "arrivals A sends S failed 0
-lost sends 0 steps 0" counts
+lost sends 0 steps 0 arrivals 0
+strangers 0" counts
     local asked=$?
     end "$east"
     end "$west"
     return $asked
+}
+
+# As `what_a_daemon_refuses_is_said_and_counted`, by sender: the first is heard only with a fault.
+a_running_router_tells_of_its_neighbors() {
+    local far_port near_port far near route='\x20\x01\x0d\xb8\x00\x00\x00\x00\x00\x00\x00\x00\x00\x00\x00\x00\x00\x00\x20'
+    next_port && far_port=$port
+    next_port && near_port=$port
+    open_feed "$far_port" && far=$feed || return
+    { interface 1 "$far_port" a "$feed_port" && echo 'hop_limit = 64'; } > "$folder/heard.toml"
+    open_feed "$near_port" && near=$feed || return
+    interface 2 "$near_port" b "$feed_port" >> "$folder/heard.toml"
+    listening heard && local heard=$pid && answers heard 0 "" neighbors || return
+    printf "\x02\x01\x00\x00$route\x01" >&"$far"
+    until_true answers heard 0 "iface 0 from fe80::a arrivals 1 responses 0 entries 0
+refused 10 HopLimit 1" neighbors || because "$why" || return
+    printf "\x02\x01\x00\x00$route\x11${route/0d/0e}\x01" >&"$near"
+    until_true answers heard 0 "iface 0 from fe80::a arrivals 1 responses 0 entries 0
+refused 10 HopLimit 1
+iface 1 from fe80::b arrivals 1 responses 1 entries 2 last T
+noted 22 BadMetric 1" neighbors || because "$why"
+    local told=$?
+    end "$heard"
+    exec {far}>&- {near}>&-
+    return $told
 }
 
 # What east is told is seen in its log and at west; that its interface costs more, in what it learns of west then.
@@ -759,6 +796,7 @@ try what_a_daemon_refuses_is_said_and_counted
 try a_daemon_goes_on_after_it_was_stopped
 try a_log_on_a_full_device_ends_alone
 try a_full_standard_output_is_told
+try a_reader_that_goes_away_is_not_told
 try a_port_in_use_is_named
 try a_second_start_leaves_the_logs
 try a_log_that_is_emptied_goes_on_at_its_end
@@ -775,6 +813,7 @@ try a_daemon_under_fire_keeps_its_routes
 try two_daemons_learn_a_large_table_from_each_other
 try three_neighbors_learn_a_large_table_at_once
 try a_running_router_is_asked
+try a_running_router_tells_of_its_neighbors
 try a_running_router_is_told
 try a_running_router_is_stopped
 try a_socket_of_a_router_that_is_gone_is_replaced

@@ -33,3 +33,10 @@ pub mod Cutting
 pub mod ByMinutes
 pub mod Timely
 pub mod Rounds
+pub mod Tells
+pub mod Going
+pub mod Outcomes
+pub mod Together
+pub mod Adding
+pub mod Handing
+pub mod Latest

@@ -1,2 +1,4 @@
 pub mod Phases
 pub mod Minutes
+pub mod Refusing
+pub mod Making

@@ -2,12 +2,18 @@
 //! through once.
 //!
 //! The definitions stand in `specs/Phases`, and in `specs/Minutes` those of histories by a true clock; the laws are the contracts of
-//! functions with nothing to do.
+//! functions with nothing to do. `run_phases` makes phases of a lab, by chance.
 #![tactic(auto)]
 
+mod acting;
+mod course;
 mod laws;
+mod making;
+mod refused;
 
 pub use laws::{
     heals_in_minutes, heals_in_phases, phases_are_run, phases_go_on, phases_keep_routes_backed,
     phases_take_time, rounds_are_phases,
 };
+pub use making::run_phases;
+pub use refused::PhaseRefused;

@@ -4,7 +4,7 @@
 ghost use Rattle.std.specs.Prelude.{◌≡◌, ℕ, ◌++◌, ◌∷◌, [], None, IfErr, IfOk, IfSome, OnErr, OnOk, length, map, take, slice_get, unwrap_or};
 ghost use Rattle.std.specs.Option.{option_copied};
 ghost use Rattle.ripng_world.specs.Events.{event_of};
-ghost use Rattle.ripng_world.specs.Labs.{AreRoutesBackedSince, HaveNoneBelowLeastSince, HasNoneBelowLeast, HasNoneBelowLeastSince, AreDatagramsSoundSince, HoldsFixed, AreDatagramsSound, HappensGiving, IsRefusal, IsRefusedNext, link_at, step_fault};
+ghost use Rattle.ripng_world.specs.Labs.{HasRun, AreRoutesBackedSince, HaveNoneBelowLeastSince, HasNoneBelowLeast, HasNoneBelowLeastSince, AreDatagramsSoundSince, HoldsFixed, AreDatagramsSound, HappensGiving, IsRefusal, IsRefusedNext, link_at, step_fault};
 ghost use Rattle.ripng_world.specs.Past.{IsTableBackedSince};
 ghost use Rattle.ripng_world.specs.Stations.{network_of, world_of};
 ghost use Rattle.ripng_world.specs.Walks.{IsTableBacked};
@@ -161,6 +161,13 @@ impl<S: RouteStore> Lab<S> {
         ensures { result ≡ link_at self.now.network router iface }
     {
         link_at(&self.stations, router, iface)
+    }
+
+    /// The network is lawful, and the lab has run since a cold start: what a proof needs of what it does from now on.
+    pub fn has_run(&self)
+        ensures { HasRun self.now.network self.now.world }
+    {
+        let _ = &self.stations;
     }
 
     /// An event happens: one router moves, and answers. What it sends is moved to the end of `sent`, and is not in the

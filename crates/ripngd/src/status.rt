@@ -11,12 +11,11 @@ use crate::subcommands::{film_file, lab_file, show_digits, trace_file};
 use clap::error::ErrorKind;
 use ripngd_command_line::{Ask, ask};
 use ripngd_daemon::{
-    Failure, FileSource, NOTHING_LOST, SystemFiles, check_file, ctl, run, table_file,
+    Failure, FileSource, Losses, NOTHING_LOST, SystemFiles, check_file, ctl, run, table_file,
     write_failure, write_losses,
 };
-use ripngd_engine::Report;
 use std::fs::File;
-use std::io::Write;
+use std::io::{self, Write};
 use std::net::Net;
 use std::random::RandomSource;
 use std::rt::{Clock, Files};
@@ -42,7 +41,7 @@ pub(crate) enum Status {
 /// - 2 at a fault of the command line, whose text is written to `err`;
 /// - 3 where something else failed, as a line on `err` says: `ripngd: cannot read FILE`, `ripngd: cannot write FILE` (with
 ///   `stdout` for `out`), `ripngd: cannot bind PORT`, `ripngd: cannot accept a connection`, `ripngd: link fault after N
-///   turns` or `ripngd: out of memory`.
+///   turns` or `ripngd: out of memory`; but nothing is said of an `out` that nobody reads any more.
 ///
 /// A run that is debugged writes what it refuses to `err`, and counts. One that lost something has a last line on `err` that says what, also with status 0: `ripngd: lost sends N, lost
 /// steps M`, with `, log failed` behind it where a write of the log failed.
@@ -63,7 +62,7 @@ pub fn program<
     let mut lost = NOTHING_LOST;
     let status = match outcome(rt, &SystemFiles(rt), words, out, err, &mut lost) {
         Ok(status) => status,
-        Err(failure) => report(failure, err),
+        Err(failure) => report(failure, out, err),
     };
     let _ = write_losses(lost, err);
     let _ = err.flush();
@@ -83,7 +82,7 @@ fn outcome<
     words: &'a [&'a str],
     out: &mut O,
     err: &mut E,
-    lost: &mut Report,
+    lost: &mut Losses,
 ) -> Result<Status, Failure<'a>>
     ensures done { result ≡ Ok Status.Done
         → AnswersWords (F.holds files.now) (map (λ w. w.now) words.now) true (O.contents out.old) (O.contents out.new)
@@ -112,7 +111,7 @@ fn accepts<
     asked: Ask<'a>,
     out: &mut O,
     err: &mut E,
-    lost: &mut Report,
+    lost: &mut Losses,
 ) -> Result<bool, Failure<'a>>
     ensures answered { IfOk result (λ accepted. AnswersAsk (F.holds files.now) asked.entry accepted
         (O.contents out.old) (O.contents out.new)) }
@@ -144,7 +143,7 @@ fn answer<
     asked: Ask<'a>,
     out: &mut O,
     err: &mut E,
-    lost: &mut Report,
+    lost: &mut Losses,
 ) -> Result<Status, Failure<'a>>
     ensures done { result ≡ Ok Status.Done
         → AnswersAsk (F.holds files.now) asked.entry true (O.contents out.old) (O.contents out.new) }
@@ -196,10 +195,21 @@ fn print<'a, O: Write>(help: &clap::Error, out: &mut O) -> Result<Status, Failur
     Ok(Status::Done)
 }
 
-/// Writes what failed to `err`, and answers the status of a failure.
-fn report<E: Write>(failure: Failure<'_>, err: &mut E) -> Status
+/// Whether who read what is written has gone away.
+fn is_left<O: Write>(out: &mut O) -> bool {
+    match out.flush() {
+        Err(error) => error.kind() == io::ErrorKind::BrokenPipe,
+        Ok(()) => false,
+    }
+}
+
+/// Writes what failed to `err`, and answers the status of a failure. That nobody reads `out` any more is not said.
+fn report<O: Write, E: Write>(failure: Failure<'_>, out: &mut O, err: &mut E) -> Status
     ensures { result ≡ Status.Failed }
 {
-    let _ = write_failure(failure, err);
+    let is_silent = matches!(failure, Failure::Output) && is_left(out);
+    if !is_silent {
+        let _ = write_failure(failure, err);
+    }
     Status::Failed
 }

@@ -11,10 +11,11 @@ use Rattle.router_core.specs.declared.config.Interface.{Interface}
 use Rattle.ripngd_config.specs.Faults.{RefusesAt}
 use Rattle.ripngd_config.specs.Keys.{HasFault, document_keys}
 use Rattle.ripngd_config.specs.Tables.{IsDocument}
-use Rattle.ripngd_config.specs.Twice.{AreAllPeersDistinct, ArePortsDistinct}
+use Rattle.ripngd_config.specs.Twice.{AreAllPeersDistinct, AreGroupPortsApart, ArePortsDistinct}
 use Rattle.ripngd_config.specs.declared.configuration.Config.{Config}
 use Rattle.ripngd_config.specs.declared.fault.ConfigFault.{ConfigFault}
 use Rattle.ripngd_config.specs.declared.fault.ConfigFault.TheVariants.{BadToml, OutOfMemory, PeerTwice, PortTwice, Router}
+use Rattle.ripngd_config.specs.declared.place.Place.{Place}
 use Rattle.ripngd_config.specs.declared.tables.Document.{Document}
 use Rattle.ripngd_config.specs.declared.tables.PrefixTable.{PrefixTable}
 
@@ -30,9 +31,9 @@ owned_of tag t = (t.prefix, unwrap_or t.tag tag)
 abbrev pub owned_by : ℕ → Document → List (Prefix6 × ℕ)
 owned_by tag d = map (owned_of tag) d.prefixes.items
 
--- the local ports of its interfaces
-abbrev pub ports_of : Document → List ℕ
-ports_of d = map (λ t. t.local_port) d.interfaces.items
+-- where its interfaces stand
+abbrev pub places_of : Document → List Place
+places_of d = map (λ t. record { addr = t.interface.addr; local_port = t.local_port; group_port = t.group_port }) d.interfaces.items
 
 -- what the router's own check is given
 abbrev pub router_config_of : ℕ → Bool → Document → RouterConfig
@@ -45,23 +46,24 @@ pub record Says (text : List ℕ) (d : Document) : Type 0 where
   pub toml : parse_document text ≡ Some members
   pub tables : IsDocument members d
 
--- the router, ports, peers and random source are those of the tables, and each test is met
+-- the router, places, peers and random source are those of the tables, and each test is met
 pub record IsMadeOf (tag : ℕ) (quiet : Bool) (d : Document) (c : Config) : Type 0 where
   pub router : c.router ≡ router_config_of tag quiet d
-  pub ports : c.ports.items ≡ ports_of d
+  pub places : c.places.items ≡ places_of d
   pub peers : c.peers.items ≡ map (λ t. t.peers) d.interfaces.items
   pub rng : c.rng ≡ pcg32_of_seed (pcg32_seed 16 d.seed)
   pub lawful : IsConfig c.router
-  pub distinct_ports : ArePortsDistinct (ports_of d)
+  pub distinct_ports : ArePortsDistinct d.interfaces.items
+  pub distinct_group_ports : AreGroupPortsApart d.interfaces.items
   pub distinct_peers : AreAllPeersDistinct d.interfaces.items
 
 -- the configuration is what the text says
 abbrev pub IsConfigured : List ℕ → ℕ → Bool → Config → Type 0
 IsConfigured text tag quiet c = (d : Document) × Says text d × IsMadeOf tag quiet d c
 
--- a port and a list of peers for each interface
+-- a place and a list of peers for each interface
 pub record HasOneEach (c : Config) : Type 0 where
-  pub ports : length c.ports.items ≡ length c.router.interfaces
+  pub places : length c.places.items ≡ length c.router.interfaces
   pub peers : length c.peers.items ≡ length c.router.interfaces
 
 -- why a text is refused that is no document of such tables
@@ -73,7 +75,7 @@ RefusesText text fault =
 -- which test the tables fail
 abbrev pub RefusesTables : ℕ → Bool → Document → ConfigFault → Type 0
 RefusesTables tag quiet d (Router refused) = config_fault (router_config_of tag quiet d) ≡ Some refused
-RefusesTables tag quiet d (PortTwice path) = ¬ (ArePortsDistinct (ports_of d))
+RefusesTables tag quiet d (PortTwice path) = (¬ (ArePortsDistinct d.interfaces.items)) ⊎ (¬ (AreGroupPortsApart d.interfaces.items))
 RefusesTables tag quiet d (PeerTwice path) = ¬ (AreAllPeersDistinct d.interfaces.items)
 RefusesTables tag quiet d OutOfMemory = ⊤
 RefusesTables tag quiet d _ = ⊥

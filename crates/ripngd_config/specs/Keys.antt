@@ -35,7 +35,8 @@ interface_keys = key (codes "address") true address
     (key (codes "cost") true (number 0 255)
     (key (codes "mtu") false (number 0 4294967295)
     (key (codes "local_port") true (number 1 65535)
-    (key (codes "peer") false (sections peer_keys) no_keys))))
+    (key (codes "group_port") false (number 1 65535)
+    (key (codes "peer") false (sections peer_keys) no_keys)))))
 
 -- the keys of an owned prefix
 abbrev pub prefix_keys : Keys

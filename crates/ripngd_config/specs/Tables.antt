@@ -23,6 +23,7 @@ pub record IsInterfaceTable (ms : Members) (t : InterfaceTable) : Type 0 where
   pub cost : IsAt (IsNumber 0 255) (codes "cost") None ms t.interface.cost
   pub mtu : IsAt (IsNumber 0 4294967295) (codes "mtu") (Some 1280) ms t.interface.mtu
   pub local_port : IsAt (IsNumber 1 65535) (codes "local_port") None ms t.local_port
+  pub group_port : IsAt (IsSomeNumber 1 65535) (codes "group_port") (Some None) ms t.group_port
   pub peers : IsAt (AreSections IsPeer) (codes "peer") (Some []) ms t.peers.items
   pub only : HasOnly interface_keys ms
 

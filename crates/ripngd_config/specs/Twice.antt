@@ -1,12 +1,29 @@
 -- Ports and peers that stand twice.
-use Rattle.std.specs.Prelude.{◌≢◌, ◌==◌, ◌||◌, ℕ, Bool, List, All}
+use Rattle.std.specs.Prelude.{◌≡◌, ◌≢◌, ◌==◌, ◌||◌, ℕ, Bool, false, List, Option, All, None, Some}
 use Rattle.std.specs.List.{AllPairs, list_any}
 use Rattle.ripngd_config.specs.declared.peer.Peer.{Peer}
 use Rattle.ripngd_config.specs.declared.tables.InterfaceTable.{InterfaceTable}
 
--- no two ports are one
-abbrev pub ArePortsDistinct : List ℕ → Type 0
-ArePortsDistinct = AllPairs (λ p q. p ≢ q)
+-- no two interfaces stand at one local port
+abbrev pub ArePortsDistinct : List InterfaceTable → Type 0
+ArePortsDistinct = AllPairs (λ t u. t.local_port ≢ u.local_port)
+
+-- the interface, or one of its peers, stands at the port
+abbrev pub stands_at : ℕ → InterfaceTable → Bool
+stands_at port t = t.local_port == port || list_any (λ p. p.local_port == port) t.peers.items
+
+-- an interface or a peer stands at a port that may be there
+abbrev pub is_taken : List InterfaceTable → Option ℕ → Bool
+is_taken interfaces None = false
+is_taken interfaces (Some port) = list_any (λ t. stands_at port t) interfaces
+
+-- one of them stands at the group port of this interface
+abbrev pub has_group_port : List InterfaceTable → InterfaceTable → Bool
+has_group_port interfaces t = is_taken interfaces t.group_port
+
+-- none does at that of any
+abbrev pub AreGroupPortsApart : List InterfaceTable → Type 0
+AreGroupPortsApart interfaces = All (λ t. has_group_port interfaces t ≡ false) interfaces
 
 -- two peers of other addresses and other local ports
 pub record AreApart (p q : Peer) : Type 0 where

@@ -1,13 +1,14 @@
 //! A configuration, read and checked: all that a router runs on.
 
 ghost use Rattle.std.specs.Prelude.{◌≡◌, IfErr, IfOk, map};
-ghost use Rattle.ripngd_config.specs.Configuration.{HasOneEach, IsConfigured, IsMadeOf, RefusesConfig, RefusesTables, configured_interfaces, owned_by, ports_of};
+ghost use Rattle.ripngd_config.specs.Configuration.{HasOneEach, IsConfigured, IsMadeOf, RefusesConfig, RefusesTables, configured_interfaces, owned_by, places_of};
 
 use crate::document::document_of;
 use crate::fault::ConfigFault;
 use crate::peer::Peer;
+use crate::place::Place;
 use crate::tables::{Document, InterfaceTable};
-use crate::twice::{check_all_peers, check_ports};
+use crate::twice::{check_all_peers, check_group_ports, check_ports};
 use prefix6::Prefix;
 use rand_core::SeedableRng;
 use rand_pcg::Pcg32;
@@ -19,8 +20,8 @@ use std::alloc::{AllocError, Global};
 pub struct Config {
     /// Its interfaces and the prefixes that it owns.
     pub router: RouterConfig,
-    /// For each interface, the port of 127.0.0.1 at which it stands; each another.
-    pub ports: Vec<u16>,
+    /// For each interface, where it stands; each at another local port, and none where another's group port is.
+    pub places: Vec<Place>,
     /// For each interface, its peers, of which no two have the same address or local port.
     pub peers: Vec<Vec<Peer>>,
     /// Where its random words come from.
@@ -31,8 +32,8 @@ pub struct Config {
 ///
 /// # Errors
 /// The first fault of the text. A table's keys are read in the order that docs/FORMATS.md has, an array's members in
-/// their order, each to its end; a table's other keys come after its own. Then come the router's tests, then the ports,
-/// then the peers.
+/// their order, each to its end; a table's other keys come after its own. Then come the router's tests, then the local
+/// ports, then the group ports, then the peers.
 pub fn read_config(
     alloc: Global,
     text: &[u8],
@@ -59,15 +60,16 @@ fn configure(
 {
     let interfaces = interfaces_of(alloc, &document)?;
     let owned = owned_by(alloc, &document, tag)?;
-    let ports = ports_of(alloc, &document)?;
+    let places = places_of(alloc, &document)?;
     let router = RouterConfig::check(interfaces, owned, quiet)?;
-    check_ports(alloc, &ports)?;
+    check_ports(alloc, &document.interfaces)?;
+    check_group_ports(alloc, &document.interfaces)?;
     check_all_peers(alloc, &document.interfaces)?;
     let rng = Pcg32::seed_from_u64(document.seed);
     let peers = peers_of(alloc, document.interfaces)?;
     Ok(Config {
         router,
-        ports,
+        places,
         peers,
         rng,
     })
@@ -94,13 +96,17 @@ fn owned_by(alloc: Global, document: &Document, tag: u16) -> Result<Vec<(Prefix,
         .collect(alloc)
 }
 
-fn ports_of(alloc: Global, document: &Document) -> Result<Vec<u16>, AllocError>
-    ensures { IfOk result (λ v. v.items ≡ ports_of document.now) }
+fn places_of(alloc: Global, document: &Document) -> Result<Vec<Place>, AllocError>
+    ensures { IfOk result (λ v. v.items ≡ places_of document.now) }
 {
     document
         .interfaces
         .iter()
-        .map(|table| table.local_port)
+        .map(|table| Place {
+            addr: table.interface.addr,
+            local_port: table.local_port,
+            group_port: table.group_port,
+        })
         .collect(alloc)
 }
 

@@ -1,6 +1,11 @@
 //! The tables of a configuration, each with its keys in the order of reading.
 
-ghost use Rattle.ripngd_config.specs.Keys.{document_keys, interface_keys, peer_keys, prefix_keys};
+ghost use Rattle.std.specs.Prelude.{IfErr, IfOk, MatchOption, None, Some};
+ghost use Rattle.toml.specs.Data.{get_member};
+ghost use Rattle.toml.specs.View.{table_view};
+ghost use Rattle.ripngd_config.specs.Faults.{RefusesAt};
+ghost use Rattle.ripngd_config.specs.Keys.{NumberFault, document_keys, interface_keys, peer_keys, prefix_keys};
+ghost use Rattle.ripngd_config.specs.Values.{IsAt, IsSomeNumber};
 
 use crate::fault::ConfigFault;
 use crate::from_section::{FromSection, tables_at};
@@ -35,15 +40,29 @@ impl FromSection for Peer {
     }
 }
 
-/// A link of the router: its interface, the port of 127.0.0.1 at which it stands, and who else is on it.
+/// A link of the router: its interface, the port of 127.0.0.1 at which it stands and that for the group, and who else is
+/// on it.
 #[derive(Debug, Drop)]
 pub(crate) struct InterfaceTable {
     pub interface: Interface,
     pub local_port: u16,
+    pub group_port: Option<u16>,
     pub peers: Vec<Peer>,
 }
 
-static INTERFACE_KEYS: [&str; 5] = ["address", "cost", "mtu", "local_port", "peer"];
+static INTERFACE_KEYS: [&str; 6] = ["address", "cost", "mtu", "local_port", "group_port", "peer"];
+
+/// The port at a key that may be left out.
+fn port_at(section: Section<'_>, key: &str) -> Result<Option<u16>, ConfigFault>
+    ensures read { IfOk result (IsAt (IsSomeNumber 1 65535) key.now (Some None) (table_view section.entry.table.now)) }
+    ensures fault { IfErr result (RefusesAt (λ f.
+        MatchOption (get_member key.now (table_view section.entry.table.now)) ⊥ (NumberFault f 1 65535))) }
+{
+    match section.optional_number(key, 1, 65_535)? {
+        Some(port) => Ok(Some(port as u16)),
+        None => Ok(None),
+    }
+}
 
 impl FromSection for InterfaceTable {
     ghost use Rattle.ripngd_config.specs.Tables.{IsInterfaceTable};
@@ -57,11 +76,13 @@ impl FromSection for InterfaceTable {
         let cost = section.number("cost", 0, 255, None)? as u8;
         let mtu = section.number("mtu", 0, 4_294_967_295, Some(1280))? as u32;
         let local_port = section.number("local_port", 1, 65_535, None)? as u16;
+        let group_port = port_at(section, "group_port")?;
         let peers = tables_at(section, "peer")?;
         section.only(&INTERFACE_KEYS)?;
         Ok(InterfaceTable {
             interface: Interface { addr, cost, mtu },
             local_port,
+            group_port,
             peers,
         })
     }

@@ -1,8 +1,9 @@
 //! Ports and peers that stand twice.
 
-ghost use Rattle.std.specs.Prelude.{◌≡◌, IfErr, OnOk};
+ghost use Rattle.std.specs.Prelude.{◌≡◌, ◌==◌, IfErr, OnOk, Some};
+ghost use Rattle.std.specs.List.{list_any};
 ghost use Rattle.ripngd_config.specs.Faults.{RefusesAt};
-ghost use Rattle.ripngd_config.specs.Twice.{AreAllPeersDistinct, ArePeersDistinct, ArePortsDistinct, has_same};
+ghost use Rattle.ripngd_config.specs.Twice.{AreAllPeersDistinct, AreGroupPortsApart, ArePeersDistinct, ArePortsDistinct, has_group_port, has_same, is_taken, stands_at};
 
 use crate::fault::{ConfigFault, PathFault};
 use crate::peer::Peer;
@@ -10,15 +11,78 @@ use crate::table_path::TablePath;
 use crate::tables::InterfaceTable;
 use std::alloc::Global;
 
-/// Refuses the first interface whose local port is that of an earlier one.
-pub(crate) fn check_ports(alloc: Global, ports: &[u16]) -> Result<(), ConfigFault>
-    ensures ok { OnOk result (ArePortsDistinct ports.now) }
-    ensures fault { IfErr result (RefusesAt (λ f. (f ≡ PathFault.PortTwice) × ¬ (ArePortsDistinct ports.now))) }
+/// Whether one of the earlier interfaces stands at the local port of this one.
+fn has_port(earlier: &[InterfaceTable], table: &InterfaceTable) -> bool
+    ensures { result ≡ list_any (λ t. t.local_port == table.now.local_port) earlier.now }
 {
-    for (index, port) in ports.iter().enumerate() {
-        if ports[..index].contains(port) {
+    earlier
+        .iter()
+        .any(|other| other.local_port == table.local_port)
+}
+
+/// Refuses the first interface whose local port is that of an earlier one.
+pub(crate) fn check_ports(alloc: Global, interfaces: &[InterfaceTable]) -> Result<(), ConfigFault>
+    ensures ok { OnOk result (ArePortsDistinct interfaces.now) }
+    ensures fault { IfErr result (RefusesAt (λ f.
+        (f ≡ PathFault.PortTwice) × ¬ (ArePortsDistinct interfaces.now))) }
+{
+    for (index, table) in interfaces.iter().enumerate() {
+        if has_port(&interfaces[..index], table) {
             let path = TablePath::Top.member("interface", index);
             return Err(ConfigFault::at(alloc, PathFault::PortTwice, path, "local_port"));
+        }
+    }
+    Ok(())
+}
+
+/// Whether one of the peers stands at a port.
+fn has_peer_at(peers: &[Peer], port: u16) -> bool
+    ensures { result ≡ list_any (λ p. p.local_port == port) peers.now }
+{
+    peers.iter().any(|peer| peer.local_port == port)
+}
+
+/// Whether an interface or one of its peers stands at a port.
+fn stands_at(table: &InterfaceTable, port: u16) -> bool
+    ensures { result ≡ stands_at port table.now }
+{
+    table.local_port == port || has_peer_at(&table.peers, port)
+}
+
+/// Whether an interface or a peer stands at a port.
+fn is_taken(interfaces: &[InterfaceTable], port: u16) -> bool
+    ensures { result ≡ is_taken interfaces.now (Some port) }
+{
+    let mut found = false;
+    for table in interfaces {
+        found |= stands_at(table, port);
+    }
+    found
+}
+
+/// Whether an interface or a peer stands at the group port of this one.
+fn has_group_port(interfaces: &[InterfaceTable], table: &InterfaceTable) -> bool
+    ensures { result ≡ has_group_port interfaces.now table.now }
+{
+    match table.group_port {
+        Some(port) => is_taken(interfaces, port),
+        None => false,
+    }
+}
+
+/// Refuses the first interface at whose group port an interface or a peer stands.
+pub(crate) fn check_group_ports(
+    alloc: Global,
+    interfaces: &[InterfaceTable],
+) -> Result<(), ConfigFault>
+    ensures ok { OnOk result (AreGroupPortsApart interfaces.now) }
+    ensures fault { IfErr result (RefusesAt (λ f.
+        (f ≡ PathFault.PortTwice) × ¬ (AreGroupPortsApart interfaces.now))) }
+{
+    for (index, table) in interfaces.iter().enumerate() {
+        if has_group_port(interfaces, table) {
+            let path = TablePath::Top.member("interface", index);
+            return Err(ConfigFault::at(alloc, PathFault::PortTwice, path, "group_port"));
         }
     }
     Ok(())

@@ -1,7 +1,7 @@
 -- What is shown of routes is held.
-use Rattle.std.proofs.Common.{◌≡◌, ℕ, List, [], ◌∷◌, ◌++◌, refl, sym, ◌∙◌, ap, Option, Some, Bool, subst, append-nil}
+use Rattle.std.proofs.Common.{◌≡◌, ℕ, List, [], ◌∷◌, ◌++◌, sym, ◌∙◌, Option, Some, Bool, append-nil}
 use Rattle.std.specs.Prelude.{Contains}
-use Rattle.std.specs.List.{All, find, position_or_len}
+use Rattle.std.specs.List.{find, position_or_len}
 use Rattle.std.specs.FinMap as map_of
 use Rattle.std.specs.Io.KnownBytes.{Appends}
 use Rattle.std.proofs.KnownBytes.{Appends-nil, Appends-trans}

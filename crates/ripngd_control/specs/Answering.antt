@@ -1,14 +1,14 @@
 -- What a router does for a command and answers to it (the format is this project's choice).
-use Rattle.std.specs.Prelude.{ℕ, ◌≡◌, ◌≢◌, ◌⊎◌, Bool, true, false, List, [], ◌∷◌, ◌++◌, Option, None, Some, codes, decimal}
+use Rattle.std.specs.Prelude.{ℕ, ◌≡◌, ◌≢◌, List, [], ◌∷◌, ◌++◌, Option, None, Some, codes}
 use Rattle.std.specs.Io.KnownBytes.{Appends}
 use Rattle.prefix6.specs.Prefix.{Prefix6}
 use Rattle.fib.specs.Forwarding.{Forwarding}
 use Rattle.router_core.specs.Machine.{State}
 use Rattle.router_core.specs.declared.reconfiguring.Change.{Change}
 use Rattle.ripngd_engine.specs.Seen.{Seen}
-use Rattle.ripngd_engine.specs.declared.report.Report.{Report}
-use Rattle.ripngd_watch.specs.Printed.{counts_text}
+use Rattle.ripngd_watch.specs.Shown.{other_lines, row_lines}
 use Rattle.ripngd_watch.specs.declared.counts.Counts.{Counts}
+use Rattle.ripngd_watch.specs.declared.neighbors.Neighbors.{Neighbors}
 use Rattle.ripngd_control.specs.Answers.{Obeys, ShowsEntries, ShowsHeld, reply_text}
 use Rattle.ripngd_control.specs.declared.answering.Course.{Course}
 use Rattle.ripngd_control.specs.declared.answering.Course.TheVariants.{GoOn, Ended}
@@ -16,6 +16,8 @@ use Rattle.ripngd_control.specs.declared.answering.Rest.{Rest}
 use Rattle.ripngd_control.specs.declared.answering.Rest.TheVariants as rests
 use Rattle.ripngd_control.specs.declared.command.Command.{Command}
 use Rattle.ripngd_control.specs.declared.command.Command.TheVariants as commands
+use Rattle.ripngd_control.specs.Losses.{totals_text}
+use Rattle.ripngd_control.specs.declared.losses.Losses.{Losses}
 use Rattle.ripngd_control.specs.declared.reply.Reply.{Reply}
 use Rattle.ripngd_control.specs.declared.reply.Reply.TheVariants as replies
 
@@ -24,18 +26,13 @@ use Rattle.ripngd_control.specs.declared.reply.Reply.TheVariants as replies
 abbrev pub reply_line : Reply → List ℕ
 reply_line reply = reply_text reply ++ 10 ∷ []
 
--- `log failed` on a line of its own, if it did
-abbrev pub log_text : Bool → List ℕ
-log_text true = 10 ∷ codes "log failed"
-log_text false = []
-
--- `lost sends N steps M`, and whether the log failed
-abbrev pub lost_text : Report → List ℕ
-lost_text r = codes "lost sends " ++ (decimal r.lost_sends ++ (codes " steps " ++ (decimal r.lost_memory ++ log_text r.log_failed)))
-
 -- what was counted and what was lost, and `ok`
-abbrev pub counts_answer : Counts → Report → List ℕ
-counts_answer c r = counts_text c ++ (10 ∷ (lost_text r ++ (10 ∷ (codes "ok" ++ 10 ∷ []))))
+abbrev pub counts_answer : Counts → Losses → List ℕ
+counts_answer c l = totals_text (record { counts = c; lost = l }) ++ (10 ∷ (codes "ok" ++ 10 ∷ []))
+
+-- the lines of each sender, of all others together, and `ok`
+abbrev pub neighbors_answer : Neighbors → List ℕ
+neighbors_answer n = (row_lines n.rows.items ++ other_lines n.others) ++ reply_line replies.Done
 
 -- ---- what is done for a command, and answered at once
 -- the writer gained this and nothing is left to write, but where the writer failed
@@ -47,13 +44,15 @@ abbrev pub Obeyed : Change → Seen → Option (List ℕ) → Rest → Seen → 
 Obeyed c a old rest b new = (reply : Reply) × Obeys c a reply b × Says old rest new (reply_line reply)
 
 -- what was done and said for a command, or for a line that is of none: only a change changes the router
-abbrev pub Answers : Option Command → Counts → Report → Seen → Option (List ℕ) → Rest → Seen → Option (List ℕ) → Type 0
-Answers None counts lost a old rest b new = (b ≡ a) × Says old rest new (reply_line replies.NoSuchCommand)
-Answers (Some commands.Routes) counts lost a old rest b new = (b ≡ a) × (rest ≡ rests.Routes None) × (new ≡ old)
-Answers (Some commands.Table) counts lost a old rest b new = (b ≡ a) × (rest ≡ rests.Table None) × (new ≡ old)
-Answers (Some commands.Counts) counts lost a old rest b new = (b ≡ a) × Says old rest new (counts_answer counts lost)
-Answers (Some commands.Stop) counts lost a old rest b new = (b ≡ a) × Says old rest new (reply_line replies.Done)
-Answers (Some (commands.Reconfigure c)) counts lost a old rest b new = Obeyed c a old rest b new
+abbrev pub Answers : Option Command → Counts → Neighbors → Losses → Seen → Option (List ℕ) → Rest → Seen → Option (List ℕ) → Type 0
+Answers None counts heard lost a old rest b new = (b ≡ a) × Says old rest new (reply_line replies.NoSuchCommand)
+Answers (Some commands.Routes) counts heard lost a old rest b new = (b ≡ a) × (rest ≡ rests.Routes None) × (new ≡ old)
+Answers (Some commands.Table) counts heard lost a old rest b new = (b ≡ a) × (rest ≡ rests.Table None) × (new ≡ old)
+Answers (Some commands.Counts) counts heard lost a old rest b new = (b ≡ a) × Says old rest new (counts_answer counts lost)
+Answers (Some commands.Neighbors) counts heard lost a old rest b new = (b ≡ a) × Says old rest new (neighbors_answer heard)
+Answers (Some commands.Stop) counts heard lost a old rest b new = (b ≡ a) × Says old rest new (reply_line replies.Done)
+Answers (Some (commands.Reconfigure c)) counts heard lost a old rest b new = Obeyed c a old rest b new
+Answers (Some (commands.Link c)) counts heard lost a old rest b new = (b ≡ a) × (reply : Reply) × Says old rest new (reply_line reply)
 
 -- a router goes on behind every reply but that it ended
 abbrev pub GoesOn : Reply → Course → Type 0

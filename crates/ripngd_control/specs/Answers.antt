@@ -73,6 +73,7 @@ pub record ShowsEntries (table : Forwarding) (after : Option Prefix6) (old new :
 abbrev pub reply_text : Reply → List ℕ
 reply_text replies.Done = codes "ok"
 reply_text (replies.Refused why) = codes "refused " ++ (decimal (reconfigure_number why) ++ (codes " " ++ reconfigure_name why))
+reply_text (replies.LinkRefused number name) = codes "refused " ++ (decimal number ++ (codes " " ++ name.now))
 reply_text replies.NoSuchInterface = codes "refused 51 NoSuchInterface"
 reply_text replies.NoSuchCommand = codes "refused 52 NoSuchCommand"
 reply_text replies.Ended = codes "refused 53 Ended"
@@ -82,5 +83,6 @@ abbrev pub Obeys : Change → Seen → Reply → Seen → Type 0
 Obeys c a replies.Done b = (b.machine.ended ≡ false) × Acts (ReconfiguresOnce c) a b
 Obeys c a (replies.Refused why) b = (b.machine.ended ≡ false) × (why ≡ why_refused a.machine.router c) × Acts ReconfiguresNothing a b
 Obeys c a replies.NoSuchInterface b = (b ≡ a) × ¬ (NamesInterface a.machine.router.config c)
+Obeys c a (replies.LinkRefused number name) b = ⊥
 Obeys c a replies.NoSuchCommand b = ⊥
 Obeys c a replies.Ended b = (b.machine.ended ≡ true) × Acts (ReconfiguresOnce c) a b

@@ -3,19 +3,21 @@
 ghost use Rattle.std.specs.Prelude.{◌≡◌, ◌≢◌, ◌↔◌, IfOk, IsOk, OnOk, Some, false};
 ghost use Rattle.std.specs.Io.KnownBytes.{Appends};
 ghost use Rattle.ripngd_engine.specs.Seen.{seen};
-ghost use Rattle.ripngd_control.specs.Answering.{Answers, Continues, GoesOn, Obeyed, WritesEntries, WritesRoutes, counts_answer, lost_text, reply_line};
+ghost use Rattle.ripngd_control.specs.declared.command.PeerChange.{PeerChange};
+ghost use Rattle.ripngd_control.specs.Answering.{Answers, Continues, GoesOn, Obeyed, Says, WritesEntries, WritesRoutes, counts_answer, neighbors_answer, reply_line};
 
-use crate::command::Command;
+use crate::command::{Command, PeerChange};
 use crate::lines::{write_routes, write_table};
+use crate::losses::{Losses, Totals};
 use crate::obeying::obey;
+use crate::peering::Peering;
 use crate::reply::Reply;
 use prefix6::Prefix;
 use rand_core::Rng;
-use ripngd_engine::{Engine, Link, Report, TimeSource};
-use ripngd_watch::Counts;
+use ripngd_engine::{Engine, Link, LinkChange, TimeSource};
+use ripngd_watch::{Counts, Neighbors, write_neighbors};
 use route_table::RouteStore;
 use router_core::Change;
-use std::fmt::{self, Display};
 use std::io::{self, Write};
 
 /// What is still to be written of an answer.
@@ -51,24 +53,6 @@ pub struct Response {
     pub course: Course,
 }
 
-/// What was lost, written `lost sends N steps M`, and `log failed` on a line of its own where a write of the log failed.
-#[derive(Clone, Copy)]
-struct LostText(Report);
-
-impl Display for LostText {
-    ghost output = { λ l. Some (lost_text l.0) };
-
-    fn fmt<W: fmt::Write>(&self, f: &mut fmt::Formatter<W>) -> fmt::Result {
-        let Report {
-            lost_sends,
-            lost_memory,
-            log_failed,
-        } = self.0;
-        let log = if log_failed { "\nlog failed" } else { "" };
-        write!(f, "lost sends {lost_sends} steps {lost_memory}{log}")
-    }
-}
-
 /// Writes the last line of an answer.
 fn write_reply<W: Write>(reply: Reply, out: &mut W) -> io::Result<()>
     ensures { OnOk result (Appends (W.contents out.old) (W.contents out.new) (reply_line reply)) }
@@ -77,10 +61,18 @@ fn write_reply<W: Write>(reply: Reply, out: &mut W) -> io::Result<()>
 }
 
 /// Writes what was counted and what was lost, and that this is all.
-fn write_counts<W: Write>(counts: Counts, lost: Report, out: &mut W) -> io::Result<()>
+fn write_counts<W: Write>(counts: Counts, lost: Losses, out: &mut W) -> io::Result<()>
     ensures { OnOk result (Appends (W.contents out.old) (W.contents out.new) (counts_answer counts lost)) }
 {
-    writeln!(out, "{counts}\n{}\nok", LostText(lost))
+    writeln!(out, "{}\nok", Totals { counts, lost })
+}
+
+/// Writes what came of each sender, and that this is all.
+fn write_heard<W: Write>(heard: &Neighbors, out: &mut W) -> io::Result<()>
+    ensures { OnOk result (Appends (W.contents out.old) (W.contents out.new) (neighbors_answer heard.now)) }
+{
+    write_neighbors(heard, out)?;
+    write_reply(Reply::Done, out)
 }
 
 /// What is left of an answer that was to be written to its end.
@@ -123,6 +115,23 @@ fn respond_to_change<S: RouteStore, L: Link, C: TimeSource, R: Rng + Drop, W: Wr
     }
 }
 
+/// Changes the peers of the link, and writes how that ended.
+fn respond_to_peering<
+    S: RouteStore,
+    L: Link,
+    C: TimeSource,
+    R: Rng + Drop,
+    P: LinkChange<L> + Peering,
+    O: Write,
+>(engine: &mut Engine<S, L, C, R>, change: PeerChange, peering: &mut P, out: &mut O) -> Rest
+    ensures same { engine.new ≡ engine.old }
+    ensures says { Says (O.contents out.old) result (O.contents out.new) (reply_line (P.Peering.ended peering.new)) }
+{
+    peering.order(change);
+    engine.change_link(peering);
+    all_of(write_reply(peering.reply(), out))
+}
+
 /// A response behind which the router goes on.
 fn going_on(rest: Rest) -> Response
     ensures { result ≡ record { rest = rest; course = Course.GoOn } }
@@ -133,31 +142,45 @@ fn going_on(rest: Rest) -> Response
     }
 }
 
-/// Does what a command tells, or begins to answer what it asks. With it come the counts of what was sent and heard, and of
-/// what was lost.
-pub fn respond<S: RouteStore, L: Link, C: TimeSource, R: Rng + Drop, W: Write, O: Write>(
+/// Does what a command tells, or begins to answer what it asks. With it come the counts of what was sent and heard, what came of
+/// each sender, what was lost, and who changes the peers of the link.
+pub fn respond<
+    S: RouteStore,
+    L: Link,
+    C: TimeSource,
+    R: Rng + Drop,
+    P: LinkChange<L> + Peering,
+    W: Write,
+    O: Write,
+>(
     engine: &mut Engine<S, L, C, R>,
     command: Option<Command>,
     counts: Counts,
-    lost: Report,
+    heard: &Neighbors,
+    lost: Losses,
+    peering: &mut P,
     log: &mut W,
     out: &mut O,
 ) -> Response
     requires { engine.old.ended ≡ false }
-    ensures answers { Answers command counts lost (seen R.stream W.contents engine.old log.old) (O.contents out.old) result.rest
+    ensures answers { Answers command counts heard.now lost (seen R.stream W.contents engine.old log.old) (O.contents out.old) result.rest
         (seen R.stream W.contents engine.new log.new) (O.contents out.new) }
     ensures goes_on { result.course ≢ Course.Ended → engine.new.ended ≡ false }
     ensures stops { (result.course ≡ Course.Stop) ↔ (command ≡ Some Command.Stop) }
+    ensures links { (c : PeerChange) → command ≡ Some (Command.Link c)
+        → Says (O.contents out.old) result.rest (O.contents out.new) (reply_line (P.Peering.ended peering.new)) }
 {
     match command {
         Some(Command::Routes) => going_on(Rest::Routes(None)),
         Some(Command::Table) => going_on(Rest::Table(None)),
         Some(Command::Counts) => going_on(all_of(write_counts(counts, lost, out))),
+        Some(Command::Neighbors) => going_on(all_of(write_heard(heard, out))),
         Some(Command::Stop) => Response {
             rest: all_of(write_reply(Reply::Done, out)),
             course: Course::Stop,
         },
         Some(Command::Reconfigure(change)) => respond_to_change(engine, change, log, out),
+        Some(Command::Link(change)) => going_on(respond_to_peering(engine, change, peering, out)),
         None => going_on(all_of(write_reply(Reply::NoSuchCommand, out))),
     }
 }

@@ -1,13 +1,29 @@
 //! Commands, and the lines that they are sent as.
 
 ghost use Rattle.std.specs.Prelude.{◌≡◌, IfOk, IfSome, Some};
-ghost use Rattle.ripngd_control.specs.Commands.{reconfigure_text, control_text};
+ghost use Rattle.ripngd_control.specs.Commands.{reconfigure_text, peer_text, control_text};
 
-use prefix6::{Prefix, parse_prefix};
+use prefix6::{Addr6, Prefix, parse_addr, parse_prefix};
 use router_core::Change;
 use std::alloc::{AllocError, Global};
 use std::fmt::{self, Display};
 use std::str;
+
+/// A change of who is on the link of an interface. The router itself knows nothing of it.
+#[derive(Clone, Copy, Debug, PartialEq, Eq)]
+pub enum PeerChange {
+    /// `peer INTERFACE ADDRESS PORT`: a neighbor of that address stands at that port of 127.0.0.1.
+    Add {
+        iface: usize,
+        addr: Addr6,
+        port: u16,
+    },
+    /// `unpeer INTERFACE ADDRESS`: no neighbor of that address is there any more.
+    Remove {
+        iface: usize,
+        addr: Addr6,
+    },
+}
 
 /// What a router is told or asked.
 #[derive(Clone, Copy, Debug, PartialEq, Eq)]
@@ -18,10 +34,14 @@ pub enum Command {
     Table,
     /// `counts`: what came, was sent, refused and lost.
     Counts,
+    /// `neighbors`: what came of each sender.
+    Neighbors,
     /// `stop`: it is to end.
     Stop,
     /// `cost INTERFACE COST`, `gain PREFIX TAG`, `drop PREFIX`: its configuration is to change.
     Reconfigure(Change),
+    /// `peer INTERFACE ADDRESS PORT`, `unpeer INTERFACE ADDRESS`: the peers of its link are to change.
+    Link(PeerChange),
 }
 
 /// A change, as it is told.
@@ -40,6 +60,21 @@ impl Display for ChangeText {
     }
 }
 
+/// A change of peers, as it is told.
+#[derive(Clone, Copy)]
+struct PeerText(PeerChange);
+
+impl Display for PeerText {
+    ghost output = { λ c. Some (peer_text c.0) };
+
+    fn fmt<W: fmt::Write>(&self, f: &mut fmt::Formatter<W>) -> fmt::Result {
+        match self.0 {
+            PeerChange::Add { iface, addr, port } => write!(f, "peer {iface} {addr} {port}"),
+            PeerChange::Remove { iface, addr } => write!(f, "unpeer {iface} {addr}"),
+        }
+    }
+}
+
 /// Its line, without the line feed.
 impl Display for Command {
     ghost output = { λ c. Some (control_text c) };
@@ -49,9 +84,32 @@ impl Display for Command {
             Command::Routes => write!(f, "routes"),
             Command::Table => write!(f, "table"),
             Command::Counts => write!(f, "counts"),
+            Command::Neighbors => write!(f, "neighbors"),
             Command::Stop => write!(f, "stop"),
             Command::Reconfigure(change) => write!(f, "{}", ChangeText(change)),
+            Command::Link(change) => write!(f, "{}", PeerText(change)),
         }
+    }
+}
+
+/// The change of peers of a first word, by the words behind it.
+fn peer_change_in(word: &str, text: &str) -> Option<PeerChange> {
+    let (first, rest) = text.split_once(' ')?;
+    let iface = first.parse().ok()?;
+    match word {
+        "peer" => {
+            let (second, third) = rest.split_once(' ')?;
+            Some(PeerChange::Add {
+                iface,
+                addr: parse_addr(second).ok()?,
+                port: third.parse().ok()?,
+            })
+        }
+        "unpeer" => Some(PeerChange::Remove {
+            iface,
+            addr: parse_addr(rest).ok()?,
+        }),
+        _ => None,
     }
 }
 
@@ -78,17 +136,26 @@ fn change_in(word: &str, text: &str) -> Option<Change> {
     }
 }
 
-/// The command that somebody may have meant by a text: prefixes and numbers in any of their forms.
+/// The command that somebody may have meant by a text: addresses, prefixes and numbers in any of their forms.
 pub fn command_in(text: &str) -> Option<Command> {
     match text {
         "routes" => Some(Command::Routes),
         "table" => Some(Command::Table),
         "counts" => Some(Command::Counts),
+        "neighbors" => Some(Command::Neighbors),
         "stop" => Some(Command::Stop),
         _ => {
             let (word, rest) = text.split_once(' ')?;
-            Some(Command::Reconfigure(change_in(word, rest)?))
+            longer_command_in(word, rest)
         }
+    }
+}
+
+/// The command of a first word that has others behind it.
+fn longer_command_in(word: &str, rest: &str) -> Option<Command> {
+    match word {
+        "peer" | "unpeer" => Some(Command::Link(peer_change_in(word, rest)?)),
+        _ => Some(Command::Reconfigure(change_in(word, rest)?)),
     }
 }
 

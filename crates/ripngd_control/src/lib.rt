@@ -6,13 +6,17 @@
 mod answering;
 mod command;
 mod lines;
+mod losses;
 mod obeying;
+mod peering;
 mod reply;
 mod status;
 
 pub use answering::{Course, Response, Rest, respond, write_rest};
-pub use command::{Command, command_in, read_command};
+pub use command::{Command, PeerChange, command_in, read_command};
 pub use lines::{PIECE, write_routes, write_table};
+pub use losses::{Losses, Totals};
 pub use obeying::obey;
+pub use peering::Peering;
 pub use reply::Reply;
 pub use status::RouteStatus;

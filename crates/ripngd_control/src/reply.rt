@@ -18,6 +18,8 @@ pub enum Reply {
     NoSuchInterface,
     /// 52: the line is that of no command.
     NoSuchCommand,
+    /// 51 or 61 to 67, with its name: the link refused a change of its peers.
+    LinkRefused(u8, &'static str),
     /// 53: memory for the forwarding table was refused. The change was made, and the router ends.
     Ended,
 }
@@ -33,6 +35,7 @@ impl Display for Reply {
                 let name = why.name();
                 write!(f, "refused {number} {name}")
             }
+            Reply::LinkRefused(number, name) => write!(f, "refused {number} {name}"),
             Reply::NoSuchInterface => write!(f, "refused 51 NoSuchInterface"),
             Reply::NoSuchCommand => write!(f, "refused 52 NoSuchCommand"),
             Reply::Ended => write!(f, "refused 53 Ended"),

@@ -5,8 +5,9 @@ use Rattle.ripngd_control.specs.Answering.{Answers}
 use Rattle.ripngd_control.specs.declared.answering.Rest.{Rest}
 use Rattle.ripngd_control.specs.declared.command.Command.{Command}
 use Rattle.ripngd_control.specs.declared.command.Command.TheVariants as commands
-use Rattle.ripngd_engine.specs.declared.report.Report.{Report}
+use Rattle.ripngd_control.specs.declared.losses.Losses.{Losses}
 use Rattle.ripngd_watch.specs.declared.counts.Counts.{Counts}
+use Rattle.ripngd_watch.specs.declared.neighbors.Neighbors.{Neighbors}
 use Rattle.ripngd_engine.specs.Seen.{Ran, Seen}
 use Rattle.ripngd_daemon.specs.Controlled.{Deed, Turned, Told, Does, DoesAll, Heeds, LastsFor, TurnsAndHeeds, turns_in}
 
@@ -21,14 +22,16 @@ turns_in-append (Turned ∷ deeds) more = omega (arith, turns_in-append deeds mo
 turns_in-append (Told c reply ∷ deeds) more = turns_in-append deeds more
 
 -- whatever the command, a router was told a change or is as it was
-pub heeds_command : (command : Option Command) (counts : Counts) (lost : Report) (a : Seen) (old : Option (List ℕ)) (rest : Rest) (b : Seen) (new : Option (List ℕ))
-    → Answers command counts lost a old rest b new → Heeds a b
-heeds_command None counts lost a old rest b new h = inl h.0
-heeds_command (Some commands.Routes) counts lost a old rest b new h = inl h.0
-heeds_command (Some commands.Table) counts lost a old rest b new h = inl h.0
-heeds_command (Some commands.Counts) counts lost a old rest b new h = inl h.0
-heeds_command (Some commands.Stop) counts lost a old rest b new h = inl h.0
-heeds_command (Some (commands.Reconfigure c)) counts lost a old rest b new h = inr (c, h.0, h.1)
+pub heeds_command : (command : Option Command) (counts : Counts) (heard : Neighbors) (lost : Losses) (a : Seen) (old : Option (List ℕ)) (rest : Rest) (b : Seen) (new : Option (List ℕ))
+    → Answers command counts heard lost a old rest b new → Heeds a b
+heeds_command None counts heard lost a old rest b new h = inl h.0
+heeds_command (Some commands.Routes) counts heard lost a old rest b new h = inl h.0
+heeds_command (Some commands.Table) counts heard lost a old rest b new h = inl h.0
+heeds_command (Some commands.Counts) counts heard lost a old rest b new h = inl h.0
+heeds_command (Some commands.Neighbors) counts heard lost a old rest b new h = inl h.0
+heeds_command (Some commands.Stop) counts heard lost a old rest b new h = inl h.0
+heeds_command (Some (commands.Link c)) counts heard lost a old rest b new h = inl h.0
+heeds_command (Some (commands.Reconfigure c)) counts heard lost a old rest b new h = inr (c, h.0, h.1)
 
 -- a run of no turn
 pub LastsFor-none : (a : Seen) → LastsFor 0 a a

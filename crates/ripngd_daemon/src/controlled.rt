@@ -14,10 +14,10 @@ use crate::forwarding::write_table;
 use crate::losses::with_link;
 use crate::router::Running;
 use rand_pcg::Pcg32;
-use ripngd_control::Course;
-use ripngd_engine::{Engine, EngineFault, Report, Watch};
+use ripngd_control::{Course, Losses};
+use ripngd_engine::{Engine, EngineFault, Watch};
 use ripngd_udp::{Udp, Uptime};
-use ripngd_watch::{Counts, DebugLines};
+use ripngd_watch::{Both, Counts, DebugLines, Neighbors};
 use router_core::RouterConfig;
 use std::io::Write;
 use std::net::Net;
@@ -47,7 +47,7 @@ fn turn<R: Clock + AllocGlobal, W: Write, V: Counting>(
     engine: &mut Running<'_, R>,
     desk: &mut Desk,
     log: &mut W,
-    watch: &mut V,
+    watch: &mut Both<V, Neighbors>,
 ) -> Result<Course, EngineFault>
     requires { engine.old.ended ≡ false }
     ensures does { OnOk result (TurnsAndHeeds (seen words_of W.contents engine.old log.old)
@@ -55,7 +55,7 @@ fn turn<R: Clock + AllocGlobal, W: Write, V: Counting>(
     ensures goes_on { IfOk result (λ course. course ≢ Course.Ended → engine.new.ended ≡ false) }
 {
     engine.turns_watched(1, log, watch)?;
-    Ok(desk.look(rt, engine, watch.counted(), log))
+    Ok(desk.look(rt, engine, watch.first.counted(), &watch.second, log))
 }
 
 /// Makes turns until it has made so many, or is told to stop.
@@ -68,7 +68,7 @@ fn make_turns<'a, R: Clock + AllocGlobal, W: Write, V: Counting>(
     desk: &mut Desk,
     turns: u32,
     log: &mut W,
-    watch: &mut V,
+    watch: &mut Both<V, Neighbors>,
 ) -> Result<(), Failure<'a>>
     requires { engine.old.ended ≡ false }
     ensures lasts { OnOk result (LastsFor turns (seen words_of W.contents engine.old log.old)
@@ -93,7 +93,7 @@ fn show_turns<'a, R: Clock + AllocGlobal, W: Write, V: Counting, O: Write>(
     desk: &mut Desk,
     turns: u32,
     log: &mut W,
-    watch: &mut V,
+    watch: &mut Both<V, Neighbors>,
     out: &mut O,
 ) -> Result<(), Failure<'a>>
     requires { engine.old.ended ≡ false }
@@ -115,9 +115,9 @@ pub(crate) fn run_controlled<'r, 'a, R: Clock + Net + AllocGlobal, W: Write, V: 
     desk: &mut Desk,
     turns: u32,
     log: &mut W,
-    watch: &mut V,
+    watch: &mut Both<V, Neighbors>,
     out: &mut O,
-    lost: &mut Report,
+    lost: &mut Losses,
 ) -> Result<(), Failure<'a>>
     requires { link.interfaces ≡ length router.interfaces }
     ensures shown { OnOk result (ShowsControlled router rng turns (O.contents out.old) (O.contents out.new)) }
@@ -129,6 +129,11 @@ pub(crate) fn run_controlled<'r, 'a, R: Clock + Net + AllocGlobal, W: Write, V: 
     let report = engine.report();
     let mut link = engine.into_link();
     link.finish();
-    *lost = with_link(report, link.failed_sends(), link.lost_arrivals());
+    *lost = with_link(
+        report,
+        link.failed_sends(),
+        link.lost_arrivals(),
+        link.strangers(),
+    );
     outcome
 }

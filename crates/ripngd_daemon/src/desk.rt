@@ -6,12 +6,12 @@ ghost use Rattle.ripngd_daemon.specs.Controlled.{Heeds};
 ghost use Rattle.ripngd_daemon.specs.Ran.{words_of};
 
 use crate::losses::with_link;
+use crate::peering::PeerDesk;
 use crate::router::Running;
 use crate::visit::{Step, Visit};
-use ripngd_control::{Course, respond};
+use ripngd_control::{Course, Losses, respond};
 use ripngd_door::Door;
-use ripngd_engine::Report;
-use ripngd_watch::Counts;
+use ripngd_watch::{Counts, Neighbors};
 use std::io::Write;
 use std::rt::{Clock, Files};
 
@@ -26,9 +26,14 @@ pub(crate) struct Desk {
 }
 
 /// What a router has lost, its link's losses among it.
-fn lost_by<R: Clock>(engine: &Running<'_, R>) -> Report {
+fn lost_by<R: Clock>(engine: &Running<'_, R>) -> Losses {
     let link = engine.link();
-    with_link(engine.report(), link.failed_sends(), link.lost_arrivals())
+    with_link(
+        engine.report(),
+        link.failed_sends(),
+        link.lost_arrivals(),
+        link.strangers(),
+    )
 }
 
 /// Does what a client sends, if it has sent it now, and begins its answer.
@@ -37,6 +42,7 @@ fn attend<R: Clock + AllocGlobal, W: Write>(
     visit: &mut Visit,
     engine: &mut Running<'_, R>,
     counts: Counts,
+    heard: &Neighbors,
     log: &mut W,
 ) -> Course
     requires { engine.old.ended ≡ false }
@@ -50,7 +56,17 @@ fn attend<R: Clock + AllocGlobal, W: Write>(
         return Course::GoOn;
     };
     let lost = lost_by(engine);
-    let response = respond(engine, command, counts, lost, log, &mut visit.answer);
+    let mut peering = PeerDesk::new();
+    let response = respond(
+        engine,
+        command,
+        counts,
+        heard,
+        lost,
+        &mut peering,
+        log,
+        &mut visit.answer,
+    );
     visit.rest = Some(response.rest);
     response.course
 }
@@ -94,6 +110,7 @@ impl Desk {
         rt: &R,
         engine: &mut Running<'_, R>,
         counts: Counts,
+        heard: &Neighbors,
         log: &mut W,
     ) -> Course
         requires { engine.old.ended ≡ false }
@@ -103,7 +120,7 @@ impl Desk {
         let Some(mut visit) = self.next_visit(rt) else {
             return Course::GoOn;
         };
-        let course = attend(rt, &mut visit, engine, counts, log);
+        let course = attend(rt, &mut visit, engine, counts, heard, log);
         if inform(rt, &mut visit, engine) {
             self.visit = Some(visit);
         }

@@ -5,28 +5,41 @@ ghost use Rattle.std.specs.Io.KnownBytes.{Appends};
 ghost use Rattle.ripngd_engine.specs.Run.{counted};
 ghost use Rattle.ripngd_daemon.specs.Losses.{log_text, losses_line, nothing_lost};
 
+use ripngd_control::Losses;
 use ripngd_engine::Report;
 use std::io::{self, Write};
 
-/// The report of a run that lost nothing.
-pub const NOTHING_LOST: Report = Report {
-    lost_sends: 0,
-    lost_memory: 0,
-    log_failed: false,
+/// What a run lost that lost nothing.
+pub const NOTHING_LOST: Losses = Losses {
+    report: Report {
+        lost_sends: 0,
+        lost_memory: 0,
+        log_failed: false,
+    },
+    arrivals: 0,
+    strangers: 0,
 };
 
-/// The report of a run with what its link lost beside: sends that failed after they were taken, and arrivals for which it
-/// had no memory.
-pub(crate) fn with_link(report: Report, failed_sends: u64, lost_arrivals: u64) -> Report
-    ensures { result ≡ record report {
-      lost_sends = counted report.lost_sends failed_sends;
-      lost_memory = counted report.lost_memory lost_arrivals;
+/// What a router lost, with what its link lost beside: sends that failed after they were taken, arrivals for which it had no
+/// room or no memory, and datagrams of strangers.
+pub(crate) fn with_link(report: Report, failed_sends: u64, arrivals: u64, strangers: u64) -> Losses
+    ensures { result ≡ record {
+      report = record report {
+        lost_sends = counted report.lost_sends failed_sends;
+        lost_memory = counted report.lost_memory arrivals;
+      };
+      arrivals = arrivals;
+      strangers = strangers;
     } }
 {
-    Report {
-        lost_sends: report.lost_sends.saturating_add(failed_sends),
-        lost_memory: report.lost_memory.saturating_add(lost_arrivals),
-        ..report
+    Losses {
+        report: Report {
+            lost_sends: report.lost_sends.saturating_add(failed_sends),
+            lost_memory: report.lost_memory.saturating_add(arrivals),
+            ..report
+        },
+        arrivals,
+        strangers,
     }
 }
 
@@ -52,14 +65,14 @@ fn write_line<W: Write>(report: Report, out: &mut W) -> io::Result<()>
     )
 }
 
-/// Writes what was lost, if anything was.
-pub fn write_losses<W: Write>(report: Report, out: &mut W) -> io::Result<()>
-    ensures nothing { report ≡ nothing_lost → out.new ≡ out.old }
-    ensures line { report ≢ nothing_lost → OnOk result (Appends (W.contents out.old) (W.contents out.new) (losses_line report)) }
+/// Writes what was lost, if anything was. Datagrams of strangers are no loss.
+pub fn write_losses<W: Write>(lost: Losses, out: &mut W) -> io::Result<()>
+    ensures nothing { lost.report ≡ nothing_lost → out.new ≡ out.old }
+    ensures line { lost.report ≢ nothing_lost → OnOk result (Appends (W.contents out.old) (W.contents out.new) (losses_line lost.report)) }
 {
-    if report == NOTHING_LOST {
+    if lost.report == NOTHING_LOST.report {
         Ok(())
     } else {
-        write_line(report, out)
+        write_line(lost.report, out)
     }
 }

@@ -1,6 +1,6 @@
 //! `run`: one router over UDP sockets of loopback.
 
-ghost use Rattle.std.specs.Prelude.{◌≡◌, ◌≢◌, Err, IfErr, IfOk, List, OnOk, Some, false, length, option_map, vec_len, ℕ};
+ghost use Rattle.std.specs.Prelude.{◌≡◌, ◌≢◌, Err, IfErr, IfOk, List, OnOk, Some, false, length, map, option_map, vec_len, ℕ};
 ghost use Rattle.std.specs.Io.KnownBytes.{Appends};
 ghost use Rattle.ripngd_config.specs.Configuration.{HasOneEach};
 ghost use Rattle.ripngd_engine.specs.Seen.{Ran, seen};
@@ -25,11 +25,12 @@ use crate::run_log::{Log, Output, empty_log, open_log, refuse_own_config};
 use crate::warnings::write_echoes;
 use rand_pcg::Pcg32;
 use ripngd_command_line::Order;
-use ripngd_config::{Config, Peer};
+use ripngd_config::{Config, Peer, Place};
+use ripngd_control::{Losses, Totals};
 use ripngd_door::Door;
-use ripngd_engine::{Engine, Report, Unwatched, Watch};
+use ripngd_engine::{Engine, Unwatched, Watch};
 use ripngd_udp::{Udp, Uptime};
-use ripngd_watch::{Counts, DebugLines};
+use ripngd_watch::{Both, Counts, DebugLines, Neighbors};
 use router_core::RouterConfig;
 use std::fs::File;
 use std::io::{self, Write};
@@ -62,7 +63,7 @@ pub fn run<
     order: Order<'a>,
     out: &mut O,
     err: &mut E,
-    lost: &mut Report,
+    lost: &mut Losses,
 ) -> Result<bool, Failure<'a>>
     ensures ran { IfOk result (λ accepted. (config : List ℕ) × F.holds files.now order.entry.config.now config
         × IsRan order.entry config accepted (O.contents out.old) (O.contents out.new)) }
@@ -86,7 +87,7 @@ fn run_plan<'a, R: Files<File = File> + Print + Clock + Net + AllocGlobal, O: Wr
     plan: Plan<'a>,
     out: &mut O,
     err: &mut E,
-    lost: &mut Report,
+    lost: &mut Losses,
 ) -> Result<(), Failure<'a>>
     requires { HasOneEach plan.config }
     ensures shown { OnOk result (ShowsOrdered plan.entry.control plan.entry.config plan.entry.turns
@@ -111,17 +112,17 @@ fn run_plan<'a, R: Files<File = File> + Print + Clock + Net + AllocGlobal, O: Wr
 /// emptied; `OutOfMemory`.
 fn bind_and_empty<'r, 'a, R: Clock + Net + AllocGlobal, L: Log>(
     rt: &'r R,
-    ports: &[u16],
+    places: &[Place],
     peers: Vec<Vec<Peer>>,
     name: Option<&'a str>,
     log: &mut L,
 ) -> Result<Udp<'r, R>, Failure<'a>>
-    requires { length ports.now ≡ vec_len peers }
-    ensures bound { IfOk result (λ link. link ≡ new_link (length ports.now)) }
+    requires { length places.now ≡ vec_len peers }
+    ensures bound { IfOk result (λ link. link ≡ new_link places.now (map (λ v. v.items) peers.items)) }
     ensures kept { (port : ℕ) → result ≡ Err (failures.Bind port) → log.new ≡ log.old }
     ensures failed { IfErr result (λ f. (turns : ℕ) → FailsLogged turns (option_map (λ s. s.now) name.entry) f) }
 {
-    let link = Udp::bind(rt, rt.alloc(), ports, peers)?;
+    let link = Udp::bind(rt, rt.alloc(), places, peers)?;
     empty_log(name, log)?;
     Ok(link)
 }
@@ -133,7 +134,7 @@ fn run_logged<'a, R: Files + Clock + Net + AllocGlobal, L: Log, O: Write, E: Wri
     log: &mut L,
     out: &mut O,
     err: &mut E,
-    lost: &mut Report,
+    lost: &mut Losses,
 ) -> Result<(), Failure<'a>>
     requires { HasOneEach plan.config }
     ensures shown { OnOk result (ShowsOrdered plan.entry.control plan.entry.config plan.entry.turns
@@ -176,7 +177,7 @@ fn run_at<'a, R: Files + Clock + Net + AllocGlobal, L: Log, O: Write, E: Write>(
     log: &mut L,
     out: &mut O,
     err: &mut E,
-    lost: &mut Report,
+    lost: &mut Losses,
 ) -> Result<(), Failure<'a>>
     requires { HasOneEach config }
     ensures shown { OnOk result (ShowsControlled config.router config.rng turns (O.contents out.old) (O.contents out.new)) }
@@ -184,11 +185,11 @@ fn run_at<'a, R: Files + Clock + Net + AllocGlobal, L: Log, O: Write, E: Write>(
 {
     let Config {
         router,
-        ports,
+        places,
         peers,
         rng,
     } = config;
-    let link = Udp::bind(rt, rt.alloc(), ports.as_slice(), peers)?;
+    let link = Udp::bind(rt, rt.alloc(), places.as_slice(), peers)?;
     let mut desk = open_desk(rt, path)?;
     let outcome = run_at_desk(
         rt, router, link, rng, &mut desk, turns, debug, name, log, out, err, lost,
@@ -210,7 +211,7 @@ fn run_at_desk<'r, 'a, R: Clock + Net + AllocGlobal, L: Log, O: Write, E: Write>
     log: &mut L,
     out: &mut O,
     err: &mut E,
-    lost: &mut Report,
+    lost: &mut Losses,
 ) -> Result<(), Failure<'a>>
     requires { link.interfaces ≡ length router.interfaces }
     ensures shown { OnOk result (ShowsControlled router rng turns (O.contents out.old) (O.contents out.new)) }
@@ -222,27 +223,32 @@ fn run_at_desk<'r, 'a, R: Clock + Net + AllocGlobal, L: Log, O: Write, E: Write>
         "ripngd: running, {} interfaces",
         router.interfaces().len()
     );
+    let neighbors = Neighbors::new(rt.alloc());
     if !debug {
-        let mut counts = Counts::new();
+        let mut watch = Both {
+            first: Counts::new(),
+            second: neighbors,
+        };
         return run_controlled(
-            rt,
-            router,
-            link,
-            rng,
-            desk,
-            turns,
-            log,
-            &mut counts,
-            out,
-            lost,
+            rt, router, link, rng, desk, turns, log, &mut watch, out, lost,
         );
     }
-    let mut lines = DebugLines::new(&mut *err);
+    let mut watch = Both {
+        first: DebugLines::new(&mut *err),
+        second: neighbors,
+    };
     let outcome = run_controlled(
-        rt, router, link, rng, desk, turns, log, &mut lines, out, lost,
+        rt, router, link, rng, desk, turns, log, &mut watch, out, lost,
     );
-    let counts = lines.counts();
-    let _ = writeln!(err, "{counts}");
+    let counts = watch.first.counts();
+    let _ = writeln!(
+        err,
+        "{}",
+        Totals {
+            counts,
+            lost: *lost
+        }
+    );
     outcome
 }
 
@@ -256,7 +262,7 @@ fn run_alone<'a, R: Clock + Net + AllocGlobal, L: Log, O: Write, E: Write>(
     log: &mut L,
     out: &mut O,
     err: &mut E,
-    lost: &mut Report,
+    lost: &mut Losses,
 ) -> Result<(), Failure<'a>>
     requires { HasOneEach config }
     ensures shown { OnOk result (ShowsTurns config turns (O.contents out.old) (O.contents out.new)) }
@@ -264,19 +270,26 @@ fn run_alone<'a, R: Clock + Net + AllocGlobal, L: Log, O: Write, E: Write>(
 {
     let Config {
         router,
-        ports,
+        places,
         peers,
         rng,
     } = config;
-    let link = bind_and_empty(rt, ports.as_slice(), peers, name, log)?;
-    let _ = writeln!(err, "ripngd: running, {} interfaces", ports.len());
+    let link = bind_and_empty(rt, places.as_slice(), peers, name, log)?;
+    let _ = writeln!(err, "ripngd: running, {} interfaces", places.len());
     if !debug {
         return run_bound(rt, router, link, rng, turns, log, &mut Unwatched, out, lost);
     }
     let mut lines = DebugLines::new(&mut *err);
     let outcome = run_bound(rt, router, link, rng, turns, log, &mut lines, out, lost);
     let counts = lines.counts();
-    let _ = writeln!(err, "{counts}");
+    let _ = writeln!(
+        err,
+        "{}",
+        Totals {
+            counts,
+            lost: *lost
+        }
+    );
     outcome
 }
 
@@ -290,7 +303,7 @@ fn run_bound<'r, 'a, R: Clock + Net + AllocGlobal, W: Write, V: Watch, O: Write>
     log: &mut W,
     watch: &mut V,
     out: &mut O,
-    lost: &mut Report,
+    lost: &mut Losses,
 ) -> Result<(), Failure<'a>>
     requires { link.interfaces ≡ length router.interfaces }
     ensures shown { OnOk result (ShowsBound router rng turns (O.contents out.old) (O.contents out.new)) }
@@ -302,7 +315,12 @@ fn run_bound<'r, 'a, R: Clock + Net + AllocGlobal, W: Write, V: Watch, O: Write>
     let report = engine.report();
     let mut link = engine.into_link();
     link.finish();
-    *lost = with_link(report, link.failed_sends(), link.lost_arrivals());
+    *lost = with_link(
+        report,
+        link.failed_sends(),
+        link.lost_arrivals(),
+        link.strangers(),
+    );
     outcome
 }
 

@@ -8,8 +8,8 @@ use std::io::{self, Write};
 /// # Errors
 /// Of the writer.
 pub(crate) fn write_echoes<W: Write>(config: &Config, err: &mut W) -> io::Result<()> {
-    for (iface, (port, peers)) in config.ports.iter().zip(config.peers.iter()).enumerate() {
-        if peers.iter().any(|peer| peer.local_port == *port) {
+    for (iface, (place, peers)) in config.places.iter().zip(config.peers.iter()).enumerate() {
+        if peers.iter().any(|peer| peer.local_port == place.local_port) {
             writeln!(err, "ripngd: interface {iface} is its own peer")?;
         }
     }

@@ -76,9 +76,9 @@ sent sends = map (λ s. Sent s.0 s.1) sends
 abbrev pub arrived : Received → Arrived
 arrived x = record { moment = x.now; iface = x.iface; source = x.source; source_port = x.source_port }
 
--- what a watcher is told of an answer before that: an arrival, with its fault and its notes
+-- what a watcher is told of an answer before that: an arrival and its bytes, with its fault and its notes
 abbrev pub arrival_told : Happening → Answer → List Told
-arrival_told (Arrives x) answer = Heard (arrived x) answer.fault answer.notes ∷ []
+arrival_told (Arrives x) answer = Heard (arrived x) x.bytes answer.fault answer.notes ∷ []
 arrival_told (Ticks now word) answer = []
 arrival_told (Restarts now) answer = []
 arrival_told (Reconfigures now c) answer = []

@@ -1,13 +1,14 @@
 -- What a watcher is told of a run.
-use Rattle.std.specs.Prelude.{◌≡◌, List, [], ◌∷◌, Option, Bool}
+use Rattle.std.specs.Prelude.{ℕ, ◌≡◌, List, [], ◌∷◌, Option, Bool}
 use Rattle.router_core.specs.declared.answer.Note.{Note}
 use Rattle.router_core.specs.declared.answer.Outgoing.{Outgoing}
 use Rattle.router_core.specs.declared.arrival.Fault.{Fault}
 use Rattle.ripngd_engine.specs.declared.watch.Arrived.{Arrived}
 
--- an arrival, with what the router answered of it; or a datagram that was handed to the link, and whether it was taken
+-- an arrival and its bytes, with what the router answered of it; or a datagram that was handed to the link, and whether it was
+-- taken
 pub data Told : Type 0 where
-  Heard : Arrived → Option Fault → List Note → Told
+  Heard : Arrived → List ℕ → Option Fault → List Note → Told
   Sent : Outgoing → Bool → Told
 
 -- a watcher was told just these, in order, where `takes` says what one telling makes of it

@@ -6,7 +6,7 @@ ghost use Rattle.router_core.specs.Reconfiguring.{NamesInterface};
 ghost use Rattle.ripngd_engine.specs.Changing.{ReconfigureAnswer};
 
 use crate::clock::TimeSource;
-use crate::link::Link;
+use crate::link::{Link, LinkChange};
 use crate::outlet::Outlet;
 use crate::report::{ChangeFault, EngineFault, Report};
 use crate::running::{Running, TurnFault};
@@ -222,6 +222,14 @@ impl<S: RouteStore, L: Link, C: TimeSource, R: Rng + Drop> Engine<S, L, C, R> {
         ensures { L.calls result.now ≡ self.now.calls }
     {
         &self.running.outlet.link
+    }
+
+    /// Changes the link, between two turns. Router, forwarding table, clock, random source and counts stay, and the link tells
+    /// no call of it.
+    pub fn change_link<T: LinkChange<L>>(&mut self, change: &mut T)
+        ensures { self.new ≡ self.old }
+    {
+        change.make(&mut self.running.outlet.link);
     }
 
     /// The link, at the end of the engine. What it has been handed and not sent yet is left to it.

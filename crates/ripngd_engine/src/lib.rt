@@ -21,6 +21,6 @@ pub use change_lines::{ChangeLine, RouteLine};
 pub use clock::TimeSource;
 pub use engine::Engine;
 pub use laws::turns_go_on;
-pub use link::{Link, LinkFault, Received};
+pub use link::{Link, LinkChange, LinkFault, Received};
 pub use report::{ChangeFault, EngineFault, Report};
 pub use watch::{Arrived, Unwatched, Watch};

@@ -61,3 +61,12 @@ pub trait Link: Drop {
         ensures gained { Gains (calls self.old) (calls self.new) (Handed outgoing.now (is_ok result) ∷ []) }
         ensures same { interface_count self.new ≡ interface_count self.old };
 }
+
+/// What may be changed of a link while a router runs over it, as who stands at its other end. It is no `recv` and no `send`, and
+/// the interfaces stay.
+pub trait LinkChange<L: Link> {
+    /// Makes the change.
+    fn make(&mut self, link: &mut L)
+        ensures calls { L.calls link.new ≡ L.calls link.old }
+        ensures same { L.interface_count link.new ≡ L.interface_count link.old };
+}

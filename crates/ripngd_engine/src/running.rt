@@ -120,6 +120,7 @@ impl<S: RouteStore, L: Link, C: TimeSource, R: Rng + Drop> Running<S, L, C, R> {
             source: received.source,
             source_port: received.source_port,
         };
+        let bytes = &buffer[..received.len];
         let arrival = Arrival {
             now: arrived.moment,
             iface: received.iface,
@@ -127,11 +128,11 @@ impl<S: RouteStore, L: Link, C: TimeSource, R: Rng + Drop> Running<S, L, C, R> {
             source_port: received.source_port,
             hop_limit: received.hop_limit,
             to_group: received.to_group,
-            bytes: &buffer[..received.len],
+            bytes,
         };
         match self.router.arrive(arrival) {
             Ok(answer) => {
-                watch.heard(arrived, answer.fault, answer.notes.as_slice());
+                watch.heard(arrived, bytes, answer.fault, answer.notes.as_slice());
                 self.outlet.carry_out(answer, log, watch)
             }
             Err(_) => {

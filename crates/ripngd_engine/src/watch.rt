@@ -25,10 +25,10 @@ pub trait Watch {
     // What a telling makes of it: how it was, what it is told, and how it is then.
     ghost takes: { Self → Told → Self → Type 0 };
 
-    /// It is told of an arrival, with the router's answer: why it was refused, or the notes on its entries. Arrivals that
-    /// were lost, since memory was refused, are not told.
-    fn heard(&mut self, arrived: Arrived, fault: Option<Fault>, notes: &[Note])
-        ensures { takes self.old (Heard arrived fault notes.now) self.new };
+    /// It is told of an arrival and its bytes, with the router's answer: why it was refused, or the notes on its entries.
+    /// Arrivals that were lost, since memory was refused, are not told.
+    fn heard(&mut self, arrived: Arrived, bytes: &[u8], fault: Option<Fault>, notes: &[Note])
+        ensures { takes self.old (Heard arrived bytes.now fault notes.now) self.new };
 
     /// It is told of a datagram that was handed to the link, and whether the link took it.
     fn sent(&mut self, outgoing: &Outgoing, went: bool)
@@ -42,7 +42,7 @@ pub struct Unwatched;
 impl Watch for Unwatched {
     ghost takes = { λ _ _ _. ⊤ };
 
-    fn heard(&mut self, _arrived: Arrived, _fault: Option<Fault>, _notes: &[Note]) {}
+    fn heard(&mut self, _arrived: Arrived, _bytes: &[u8], _fault: Option<Fault>, _notes: &[Note]) {}
 
     fn sent(&mut self, _outgoing: &Outgoing, _went: bool) {}
 }

@@ -62,8 +62,9 @@ change_done router deed = cons_option (reconfiguration_by (record { router = rou
 pub record IsHeard (trace : Trace) (now : ℕ) (answer : Answer) : Type 0 where
   pub moments : trace.moments ≡ now ∷ []
   pub who : Arrived
+  pub bytes : List ℕ
   pub rest : List Told
-  pub told : trace.told ≡ Heard who answer.fault answer.notes ∷ rest
+  pub told : trace.told ≡ Heard who bytes answer.fault answer.notes ∷ rest
 
 -- it ticked at that moment, and noted nothing
 pub record IsTicked (trace : Trace) (now : ℕ) (answer : Answer) : Type 0 where
@@ -280,6 +281,7 @@ module _ (net : Network) (first : List Sent) (daemons : ℕ → Option Machine) 
         record {
           moments = ap (λ (x : Trace). x.moments) is ∙ ap (λ (x : Trace). x.moments) moved.carries.trace;
           who = engine.arrived (arrival now d);
+          bytes = (arrival now d).bytes;
           rest = engine.sent moved.carries.sends;
           told = ap (λ (x : Trace). x.told) is ∙ ap (λ (x : Trace). x.told) moved.carries.trace;
         }

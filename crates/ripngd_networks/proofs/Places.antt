@@ -91,7 +91,7 @@ timed_split ps xs p ys parts s is =
 
 -- nothing new is noted
 abbrev pub IsRoomy : Paired → Type 0
-IsRoomy p = (x : Arrived) (why : Option Fault) (notes : List Note) → Contains p.dated.happened.deed.trace.told (Heard x why notes) → All (λ n. n.kind ≢ NoMemory) notes
+IsRoomy p = (x : Arrived) (bytes : List ℕ) (why : Option Fault) (notes : List Note) → Contains p.dated.happened.deed.trace.told (Heard x bytes why notes) → All (λ n. n.kind ≢ NoMemory) notes
 
 takes_all : (net : Network) (first : List Sent) (ends : ℕ → Option Machine) (ps : List Paired) (daemons : ℕ → Option Machine) (handed_over : List Sent) (done : List (ℕ × Change)) (w : World)
     → ArePairs net first ends daemons handed_over done w ps → AllByRecursion (λ p. IsPlain p.dated.happened.deed.act × IsRoomy p) ps
@@ -114,8 +114,8 @@ takes_all net first ends (p ∷ ps) daemons handed_over done w are good =
         notes : (s.answer.notes ≡ []) ⊎ ((now : ℕ) × IsHeard p.dated.happened.deed.trace now s.answer) → All (λ n. n.kind ≢ NoMemory) s.answer.notes
         notes (inl none) = subst (All (λ n. n.kind ≢ NoMemory)) (sym none) (All-nil (λ n. n.kind ≢ NoMemory))
         notes (inr heard) =
-            let it : Told = Heard heard.1.who s.answer.fault s.answer.notes in
-            good.0.1 heard.1.who s.answer.fault s.answer.notes
+            let it : Told = Heard heard.1.who heard.1.bytes s.answer.fault s.answer.notes in
+            good.0.1 heard.1.who heard.1.bytes s.answer.fault s.answer.notes
             (contains_from p.dated.happened.deed.trace.told it (subst (λ (xs : List Told). At xs it) (sym heard.1.told) (0, refl)))
 
 module _ (net : Network) (before : List Happened) (daemons : ℕ → Option Machine) (history : List Dated) (start end : ℕ) (daemons' : ℕ → Option Machine)
@@ -268,4 +268,4 @@ module _ (net : Network) (before : List Happened) (daemons : ℕ → Option Mach
       good : (p : Paired) → At pairs.pairs p → IsPlain p.dated.happened.deed.act × IsRoomy p
       good p a =
           let b : At history p.dated = subst (λ ts. At ts p.dated) pairs.dated_are (at_map (λ (q : Paired). q.dated) pairs.pairs p a) in
-          (each_at_place (λ (t : Dated). IsPlain t.happened.deed.act) history go.plain b.0 p.dated b.1, λ x why notes c. go.roomy p.dated x why notes (contains_from history p.dated b) c)
+          (each_at_place (λ (t : Dated). IsPlain t.happened.deed.act) history go.plain b.0 p.dated b.1, λ x bytes why notes c. go.roomy p.dated x bytes why notes (contains_from history p.dated b) c)

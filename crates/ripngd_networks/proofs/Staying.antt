@@ -96,7 +96,7 @@ module _ (net : Network) (before : List Happened) (daemons : ℕ → Option Mach
           before = (go.clocks router).before;
         };
         lossless = lossless;
-        roomy = λ t x why notes c. go.roomy t x why notes (on_late t c);
+        roomy = λ t x bytes why notes c. go.roomy t x bytes why notes (on_late t c);
       }
 
   updates : (a : List Dated) (t : Dated) (b : List Dated) → early ≡ a ++ t ∷ b → IsRegular net daemons (undated a) t.happened → t.at + 13_000 ≤ until

@@ -97,7 +97,8 @@ pub record GoOn (net : Network) (before : List Happened) (daemons : ℕ → Opti
   -- none loses a step for memory: it counts no more such steps, and could
   pub lossless : (router : ℕ) (m n : Machine) → router < length net → daemons router ≡ Some m → daemons' router ≡ Some n → (n.lost_memory ≡ m.lost_memory) × (m.lost_memory < 2 ^ 64 - 1)
   -- and no new route wants for memory
-  pub roomy : (t : Dated) (x : Arrived) (why : Option Fault) (notes : List Note) → Contains history t → Contains t.happened.deed.trace.told (Heard x why notes)
+  pub roomy : (t : Dated) (x : Arrived) (bytes : List ℕ) (why : Option Fault) (notes : List Note) → Contains history t
+      → Contains t.happened.deed.trace.told (Heard x bytes why notes)
       → All (λ n. n.kind ≢ NoMemory) notes
 
 -- ---- links that are on time

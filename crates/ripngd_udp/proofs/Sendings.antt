@@ -12,7 +12,7 @@ use Rattle.ripngd_udp.specs.declared.sending.Tried.TheVariants.{Interrupted}
 use Rattle.ripngd_config.specs.declared.peer.Peer.{Peer}
 use Rattle.router_core.specs.declared.answer.Destination.{Destination}
 use Rattle.ripngd_udp.specs.Udp.{is_meant}
-use Rattle.ripngd_udp.specs.Sending.{Sending, SendsEach, Tries, Try, ports_meant, tried, went}
+use Rattle.ripngd_udp.specs.Sending.{Sending, SendsEach, Tries, Try, peer_ports, tried, went}
 
 -- nothing was called
 Gains-nil : {X : Type 0} (a : Option (List X)) → Gains a a []
@@ -75,7 +75,7 @@ SendsEach-more a b c ports bytes so_far port sent h more =
 
 -- the ports of one more peer that is meant
 pub ports_more : (to : Destination) (peers : List Peer) (i : ℕ) (d : Peer) → i < length peers → is_meant (get_or peers i d) to ≡ true
-    → ports_meant to (take (i + 1) peers) ≡ ports_meant to (take i peers) ++ (get_or peers i d).local_port ∷ []
+    → peer_ports to (take (i + 1) peers) ≡ peer_ports to (take i peers) ++ (get_or peers i d).local_port ∷ []
 ports_more to peers i d lt meant =
     let p : Peer → Bool = λ x. is_meant x to in
     let x = get_or peers i d in
@@ -84,7 +84,7 @@ ports_more to peers i d lt meant =
 
 -- the ports of one more peer that is not
 pub ports_same : (to : Destination) (peers : List Peer) (i : ℕ) (d : Peer) → i < length peers → is_meant (get_or peers i d) to ≡ false
-    → ports_meant to (take (i + 1) peers) ≡ ports_meant to (take i peers)
+    → peer_ports to (take (i + 1) peers) ≡ peer_ports to (take i peers)
 ports_same to peers i d lt unmeant =
     let p : Peer → Bool = λ x. is_meant x to in
     let x = get_or peers i d in

@@ -1,4 +1,6 @@
+pub mod Peers
 pub mod Udp
+pub mod Standing
 pub mod Sending
 pub mod Queue
 pub mod Inbox

@@ -1,10 +1,11 @@
 -- How a datagram goes to several ports.
-use Rattle.std.specs.Prelude.{ℕ, ◌≡◌, ◌++◌, Bool, true, false, List, [], ◌∷◌, Option, flat_map, map}
+use Rattle.std.specs.Prelude.{ℕ, ◌≡◌, ◌++◌, ◌&&◌, Bool, true, false, List, [], ◌∷◌, Option, None, Some, flat_map, map}
 use Rattle.std.specs.List.{All, filter, list_all, list_any}
 use Rattle.ripngd_config.specs.declared.peer.Peer.{Peer}
 use Rattle.ripngd_engine.specs.Telling.{Gains}
 use Rattle.router_core.specs.declared.answer.Destination.{Destination}
 use Rattle.router_core.specs.declared.answer.Destination.TheVariants as to
+use Rattle.ripngd_udp.specs.Peers.{OnLink, shared_port}
 use Rattle.ripngd_udp.specs.Udp.{is_meant}
 use Rattle.ripngd_udp.specs.declared.sending.Tried.{Tried}
 use Rattle.ripngd_udp.specs.declared.sending.Tried.TheVariants.{Failed, Interrupted, Sent}
@@ -48,10 +49,25 @@ pub record SendsEach (before after : Option (List Try)) (ports : List ℕ) (byte
   pub all_sent_is : all_sent ≡ list_all (λ s. s.sent) sendings
 
 -- where those peers stand that a destination means
-abbrev pub ports_meant : Destination → List Peer → List ℕ
-ports_meant to peers = map (λ p. p.local_port) (filter (λ p. is_meant p to) peers)
+abbrev pub peer_ports : Destination → List Peer → List ℕ
+peer_ports to peers = map (λ p. p.local_port) (filter (λ p. is_meant p to) peers)
+
+-- one port in place of those, if there is one
+abbrev pub or_all : Option ℕ → List ℕ → List ℕ
+or_all None ports = ports
+or_all (Some port) ports = port ∷ []
+
+-- where a datagram to a destination goes: to the port for the group, or to each peer that is meant
+abbrev pub ports_meant : Destination → OnLink → List ℕ
+ports_meant to i = or_all (shared_port to i.place) (peer_ports to i.peers)
 
 -- somebody is at the destination; the group is there without peers too
-abbrev pub is_known : List Peer → Destination → Bool
-is_known peers to.Group = true
-is_known peers (to.Peer addr port) = list_any (λ p. is_meant p (to.Peer addr port)) peers
+abbrev pub is_known : OnLink → Destination → Bool
+is_known i to.Group = true
+is_known i (to.Peer addr port) = list_any (λ p. is_meant p (to.Peer addr port)) i.peers
+
+-- the bytes were sent to each port that is meant, and the answer is whether they went everywhere, and to somebody
+pub record Delivers (i : OnLink) (before after : Option (List Try)) (destination : Destination) (bytes : List ℕ) (ok : Bool) : Type 0 where
+  pub went : Bool
+  pub sends : SendsEach before after (ports_meant destination i) bytes went
+  pub answer : ok ≡ (went && is_known i destination)

@@ -11,6 +11,10 @@ none_waits endpoints = list_all (λ e. length e.outbox.waiting.items == 0) endpo
 abbrev pub failed_of : List Endpoint → ℕ
 failed_of endpoints = min (sum_by (λ e. e.outbox.failed) endpoints) (2 ^ 64 - 1)
 
+-- how many datagrams came from strangers to all interfaces together, up to the greatest u64
+abbrev pub strangers_of : List Endpoint → ℕ
+strangers_of endpoints = min (sum_by (λ e. e.strangers) endpoints) (2 ^ 64 - 1)
+
 -- a count that is as before, or greater by so much at most
 abbrev pub GrowsUpTo : ℕ → ℕ → ℕ → Type 0
 GrowsUpTo more before after = (before ≤ after) × (after ≤ before + more)

@@ -1,26 +1,32 @@
 -- A link of sockets: why it could not be bound, as what a datagram of a peer arrives, and whom a datagram goes to.
-use Rattle.std.specs.Prelude.{ℕ, ◌==◌, Bool, true, List, Contains, ⊤}
+use Rattle.std.specs.Prelude.{ℕ, ◌==◌, Bool, true, List, length, map, Contains, ⊤}
 use Rattle.ripngd_config.specs.declared.peer.Peer.{Peer}
+use Rattle.ripngd_config.specs.declared.place.Place.{Place}
 use Rattle.ripngd_engine.specs.declared.link.Received.{Received}
 use Rattle.router_core.specs.declared.answer.Destination.{Destination}
 use Rattle.router_core.specs.declared.answer.Destination.TheVariants as to
+use Rattle.ripngd_udp.specs.Peers.{OnLink, links_at}
 use Rattle.ripngd_udp.specs.declared.udp.UdpError.{UdpError}
 use Rattle.ripngd_udp.specs.declared.udp.UdpError.TheVariants.{Bind, OutOfMemory}
 
--- what contracts see of a link: its interfaces, the sends that failed when they had waited, and the arrivals that were not kept
+-- what contracts see of a link: its interfaces and who is on the link of each, the sends that failed when they had waited, the
+-- arrivals that were not kept, and those from ports of no peer
 pub record LinkState : Type 0 where
   pub interfaces : ℕ
+  pub on_links : List OnLink
   pub failed_sends : ℕ
   pub lost_arrivals : ℕ
+  pub strangers : ℕ
 
--- a link with so many interfaces that has lost nothing
-abbrev pub new_link : ℕ → LinkState
-new_link interfaces = record { interfaces = interfaces; failed_sends = 0; lost_arrivals = 0 }
+-- a link with these interfaces that has lost nothing
+abbrev pub new_link : List Place → List (List Peer) → LinkState
+new_link places lists =
+    record { interfaces = length places; on_links = links_at places lists; failed_sends = 0; lost_arrivals = 0; strangers = 0 }
 
--- a port that is named is one of those that were asked for
-abbrev pub NamesPortOf : List ℕ → UdpError → Type 0
-NamesPortOf ports (Bind port) = Contains ports port
-NamesPortOf ports OutOfMemory = ⊤
+-- a port that is named is the local port of one of these places
+abbrev pub NamesPortOf : List Place → UdpError → Type 0
+NamesPortOf places (Bind port) = Contains (map (λ p. p.local_port) places) port
+NamesPortOf places OutOfMemory = ⊤
 
 -- the numbers of these faults
 abbrev pub link_number : UdpError → ℕ

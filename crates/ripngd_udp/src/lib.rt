@@ -4,11 +4,15 @@
 mod clock;
 mod endpoint;
 mod inbox;
+mod neighborhood;
 mod outbox;
 mod pace;
+mod peer_refused;
 mod sending;
 mod sockets;
 mod udp;
 
 pub use clock::Uptime;
+pub use neighborhood::PEER_LIMIT;
+pub use peer_refused::PeerRefused;
 pub use udp::{Udp, UdpError};

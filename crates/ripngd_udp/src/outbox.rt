@@ -4,9 +4,9 @@ ghost use Rattle.std.specs.Prelude.{◌≡◌, ◌==◌, ◌+◌, ◌<◌, ◌�
 ghost use Rattle.ripngd_engine.specs.Run.{counted};
 ghost use Rattle.ripngd_udp.specs.Queue.{Goes, SentOrKept, goes_at_once};
 
+use crate::neighborhood::Neighborhood;
 use crate::pace::Pace;
-use crate::sending::{Carrier, is_known, send, send_each};
-use ripngd_config::Peer;
+use crate::sending::{Carrier, is_known, send};
 use ripngd_engine::LinkFault;
 use router_core::{Listed, Outgoing};
 use std::alloc::{AllocError, Global};
@@ -20,7 +20,7 @@ const ROOM: usize = 4_096;
 pub(crate) struct Outbox {
     waiting: VecDeque<Outgoing>,
     pace: Pace,
-    /// How many could not be sent when they had waited.
+    /// How many could not be sent when they had waited, or were for nobody who was still there.
     failed: u64,
     alloc: Global,
     ghost few: { length waiting.items ≤ 4096 },
@@ -99,12 +99,12 @@ impl Outbox {
     pub(crate) fn send<C: Carrier>(
         &mut self,
         carrier: &mut C,
-        peers: &[Peer],
+        neighborhood: &Neighborhood,
         outgoing: &Outgoing,
         now: u64,
     ) -> Result<(), LinkFault>
         ensures sent { SentOrKept (goes_at_once self.old.waiting.items self.old.pace.since self.old.pace.left now)
-            peers.now (C.tries carrier.old) (C.tries carrier.new) self.old.waiting.items self.new.waiting.items outgoing.now (is_ok result) }
+            neighborhood.now (C.tries carrier.old) (C.tries carrier.new) self.old.waiting.items self.new.waiting.items outgoing.now (is_ok result) }
         ensures room { length self.new.waiting.items ≤ 4096 }
         ensures queued { 0 < length self.old.waiting.items
             → (self.new.pace.left ≡ self.old.pace.left) × (self.new.pace.since ≡ self.old.pace.since) }
@@ -115,8 +115,13 @@ impl Outbox {
         ensures same { self.new.failed ≡ self.old.failed }
     {
         if self.waiting.is_empty() && self.pace.take(1, now) == 1 {
-            send(carrier, peers, &outgoing.to, outgoing.bytes.as_slice())
-        } else if is_known(peers, &outgoing.to) {
+            send(
+                carrier,
+                neighborhood,
+                &outgoing.to,
+                outgoing.bytes.as_slice(),
+            )
+        } else if is_known(neighborhood, &outgoing.to) {
             self.keep(outgoing)
         } else {
             Err(LinkFault)
@@ -124,32 +129,42 @@ impl Outbox {
     }
 
     /// Sends the first of what waits, if something does.
-    fn send_first<C: Carrier>(&mut self, carrier: &mut C, peers: &[Peer])
-        ensures sends { Goes peers.now (C.tries carrier.old) (C.tries carrier.new) self.old.waiting.items self.new.waiting.items self.old.failed self.new.failed }
+    fn send_first<C: Carrier>(&mut self, carrier: &mut C, neighborhood: &Neighborhood)
+        ensures sends { Goes neighborhood.now (C.tries carrier.old) (C.tries carrier.new) self.old.waiting.items self.new.waiting.items self.old.failed self.new.failed }
         ensures count { length self.new.waiting.items ≡ length self.old.waiting.items - 1 }
         ensures pace { self.new.pace ≡ self.old.pace }
     {
         if let Some(outgoing) = self.waiting.pop_front() {
-            let went = send_each(carrier, peers, &outgoing.to, outgoing.bytes.as_slice());
-            self.failed = count_failed(self.failed, went);
+            let sent = send(
+                carrier,
+                neighborhood,
+                &outgoing.to,
+                outgoing.bytes.as_slice(),
+            );
+            self.failed = count_failed(self.failed, sent.is_ok());
         }
     }
 
     /// Sends so many of what waits, or all.
-    fn send_some<C: Carrier>(&mut self, carrier: &mut C, peers: &[Peer], count: usize)
-        ensures sends { Goes peers.now (C.tries carrier.old) (C.tries carrier.new) self.old.waiting.items self.new.waiting.items self.old.failed self.new.failed }
+    fn send_some<C: Carrier>(&mut self, carrier: &mut C, neighborhood: &Neighborhood, count: usize)
+        ensures sends { Goes neighborhood.now (C.tries carrier.old) (C.tries carrier.new) self.old.waiting.items self.new.waiting.items self.old.failed self.new.failed }
         ensures count { length self.new.waiting.items ≡ length self.old.waiting.items - count }
         ensures pace { self.new.pace ≡ self.old.pace }
     {
         for _ in 0..count {
-            self.send_first(carrier, peers);
+            self.send_first(carrier, neighborhood);
         }
     }
 
     /// Sends of what waits as many as may go at a moment, in milliseconds: 16 where the pause is over, and else what may go
     /// before it.
-    pub(crate) fn send_due<C: Carrier>(&mut self, carrier: &mut C, peers: &[Peer], now: u64)
-        ensures sends { Goes peers.now (C.tries carrier.old) (C.tries carrier.new) self.old.waiting.items self.new.waiting.items self.old.failed self.new.failed }
+    pub(crate) fn send_due<C: Carrier>(
+        &mut self,
+        carrier: &mut C,
+        neighborhood: &Neighborhood,
+        now: u64,
+    )
+        ensures sends { Goes neighborhood.now (C.tries carrier.old) (C.tries carrier.new) self.old.waiting.items self.new.waiting.items self.old.failed self.new.failed }
         ensures paced { length self.old.waiting.items - 16 ≤ length self.new.waiting.items }
         ensures due { self.old.pace.since + 4 ≤ now → length self.new.waiting.items ≡ length self.old.waiting.items - 16 }
         ensures anew { self.old.pace.since + 4 ≤ now
@@ -160,15 +175,15 @@ impl Outbox {
             → (self.new.pace.left ≡ self.old.pace.left - length self.old.waiting.items) × (self.new.pace.since ≡ self.old.pace.since) }
     {
         let count = self.pace.take(self.waiting.len(), now);
-        self.send_some(carrier, peers, count);
+        self.send_some(carrier, neighborhood, count);
     }
 
     /// Sends all that waits, at once.
-    pub(crate) fn send_all<C: Carrier>(&mut self, carrier: &mut C, peers: &[Peer])
-        ensures sends { Goes peers.now (C.tries carrier.old) (C.tries carrier.new) self.old.waiting.items self.new.waiting.items self.old.failed self.new.failed }
+    pub(crate) fn send_all<C: Carrier>(&mut self, carrier: &mut C, neighborhood: &Neighborhood)
+        ensures sends { Goes neighborhood.now (C.tries carrier.old) (C.tries carrier.new) self.old.waiting.items self.new.waiting.items self.old.failed self.new.failed }
         ensures all { self.new.waiting.items ≡ [] }
     {
         let count = self.waiting.len();
-        self.send_some(carrier, peers, count);
+        self.send_some(carrier, neighborhood, count);
     }
 }

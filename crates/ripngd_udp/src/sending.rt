@@ -1,11 +1,12 @@
-//! One datagram to several ports of this machine: each is tried, whatever came of those before it.
+//! One datagram to the ports of this machine that it is meant for: each is tried, whatever came of those before it.
 
-ghost use Rattle.std.specs.Prelude.{◌≡◌, ◌&&◌, ℕ, [], ◌∷◌, Bool, List, Option, is_ok};
+ghost use Rattle.std.specs.Prelude.{◌≡◌, ℕ, [], ◌∷◌, List, Option, is_ok};
 ghost use Rattle.std.specs.List.{list_any};
 ghost use Rattle.ripngd_engine.specs.Telling.{Gains};
-ghost use Rattle.ripngd_udp.specs.Sending.{SendsEach, Tries, Try, is_known, ports_meant, tried, went};
+ghost use Rattle.ripngd_udp.specs.Sending.{Delivers, SendsEach, Tries, Try, is_known, peer_ports, ports_meant, tried, went};
 ghost use Rattle.ripngd_udp.specs.Udp.{is_meant};
 
+use crate::neighborhood::Neighborhood;
 use prefix6::Addr6;
 use ripngd_config::Peer;
 use ripngd_engine::LinkFault;
@@ -67,12 +68,12 @@ fn is_any_meant(peers: &[Peer], to: &Destination) -> bool
 }
 
 /// Whether there is anybody at that destination; the group is there without peers too.
-pub(crate) fn is_known(peers: &[Peer], to: &Destination) -> bool
-    ensures { result ≡ is_known peers.now to.now }
+pub(crate) fn is_known(neighborhood: &Neighborhood, to: &Destination) -> bool
+    ensures { result ≡ is_known neighborhood.now to.now }
 {
     match to {
         Destination::Group => true,
-        Destination::Peer { .. } => is_any_meant(peers, to),
+        Destination::Peer { .. } => is_any_meant(neighborhood.peers(), to),
     }
 }
 
@@ -90,13 +91,13 @@ fn send_to<C: Carrier>(carrier: &mut C, port: u16, bytes: &[u8]) -> bool
 }
 
 /// Sends to each peer that is meant, in order, and answers whether all was taken.
-pub(crate) fn send_each<C: Carrier>(
+fn send_to_peers<C: Carrier>(
     carrier: &mut C,
     peers: &[Peer],
     to: &Destination,
     bytes: &[u8],
 ) -> bool
-    ensures { SendsEach (C.tries carrier.old) (C.tries carrier.new) (ports_meant to.now peers.now) bytes.now result }
+    ensures { SendsEach (C.tries carrier.old) (C.tries carrier.new) (peer_ports to.now peers.now) bytes.now result }
 {
     let mut all_went = true;
     for peer in peers {
@@ -108,21 +109,35 @@ pub(crate) fn send_each<C: Carrier>(
     all_went
 }
 
-/// Sends to each peer that is meant, the later ones also where an earlier one could not be sent to.
+/// Sends to the port for the group, or to each peer that is meant, and answers whether all was taken.
+fn send_each<C: Carrier>(
+    carrier: &mut C,
+    neighborhood: &Neighborhood,
+    to: &Destination,
+    bytes: &[u8],
+) -> bool
+    ensures { SendsEach (C.tries carrier.old) (C.tries carrier.new) (ports_meant to.now neighborhood.now) bytes.now result }
+{
+    match neighborhood.shared_port(to) {
+        Some(port) => send_to(carrier, port, bytes),
+        None => send_to_peers(carrier, neighborhood.peers(), to, bytes),
+    }
+}
+
+/// Sends to each port that is meant, the later ones also where an earlier one could not be sent to.
 ///
 /// # Errors
 /// Where one of them could not be sent to, or where nobody is at the destination.
 pub(crate) fn send<C: Carrier>(
     carrier: &mut C,
-    peers: &[Peer],
+    neighborhood: &Neighborhood,
     to: &Destination,
     bytes: &[u8],
 ) -> Result<(), LinkFault>
-    ensures { (all_went : Bool) × SendsEach (C.tries carrier.old) (C.tries carrier.new) (ports_meant to.now peers.now) bytes.now all_went
-        × (is_ok result ≡ (all_went && is_known peers.now to.now)) }
+    ensures { Delivers neighborhood.now (C.tries carrier.old) (C.tries carrier.new) to.now bytes.now (is_ok result) }
 {
-    let all_went = send_each(carrier, peers, to, bytes);
-    if all_went && is_known(peers, to) {
+    let all_went = send_each(carrier, neighborhood, to, bytes);
+    if all_went && is_known(neighborhood, to) {
         Ok(())
     } else {
         Err(LinkFault)

@@ -1,11 +1,17 @@
 //! The sockets of all interfaces: when they are read, when they are sent to, and when they are waited for.
 
-ghost use Rattle.std.specs.Prelude.{◌≡◌, true, ◌<◌, ◌≤◌, [], IsNone, IfOk, IfSome, length, vec_len};
-ghost use Rattle.ripngd_udp.specs.Sockets.{failed_of, none_waits};
+ghost use Rattle.std.specs.Prelude.{◌≡◌, true, ◌<◌, ◌≤◌, [], IfErr, IfOk, IfSome, IsNone, None, OnErr, OnOk, length, vec_len};
+ghost use Rattle.std.specs.Result.{result_err};
+ghost use Rattle.ripngd_udp.specs.Peers.{ChangesLink, RefusesFor, adding_fault, removing_fault, with_peer, without_peer};
+ghost use Rattle.ripngd_udp.specs.Sockets.{failed_of, none_waits, strangers_of};
 
 use crate::clock::Uptime;
 use crate::endpoint::Endpoint;
 use crate::inbox::Inbox;
+use crate::neighborhood::{Neighborhood, add_peer, remove_peer};
+use crate::peer_refused::PeerRefused;
+use prefix6::Addr6;
+use ripngd_config::Peer;
 use ripngd_engine::{LinkFault, Received, TimeSource};
 use router_core::Outgoing;
 use std::alloc::Global;
@@ -41,22 +47,32 @@ pub(crate) fn wait_of(interfaces: usize) -> Duration {
 #[derive(Drop)]
 pub(crate) struct Sockets<'a, R: Clock> {
     endpoints: Vec<Endpoint>,
+    /// Who is on the link of each interface.
+    neighborhoods: Vec<Neighborhood>,
     inbox: Inbox,
     rt: &'a R,
     clock: Uptime<'a, R>,
     /// The interface that is waited for next.
     next: usize,
     ghost same_interfaces: { inbox.interfaces ≡ vec_len endpoints },
+    ghost same_links: { vec_len neighborhoods ≡ vec_len endpoints },
 }
 
 impl<'a, R: Clock> Sockets<'a, R> {
     /// These sockets, before anything has come in.
-    pub(crate) fn new(rt: &'a R, alloc: Global, endpoints: Vec<Endpoint>) -> Sockets<'a, R>
-        ensures { (result.endpoints ≡ endpoints) × (result.inbox.lost ≡ 0) }
+    pub(crate) fn new(
+        rt: &'a R,
+        alloc: Global,
+        endpoints: Vec<Endpoint>,
+        neighborhoods: Vec<Neighborhood>,
+    ) -> Sockets<'a, R>
+        requires { vec_len neighborhoods ≡ vec_len endpoints }
+        ensures { (result.endpoints ≡ endpoints) × (result.neighborhoods ≡ neighborhoods) × (result.inbox.lost ≡ 0) }
     {
         let inbox = Inbox::new(alloc, endpoints.len());
         Sockets {
             endpoints,
+            neighborhoods,
             inbox,
             rt,
             clock: Uptime::new(rt),
@@ -75,12 +91,14 @@ impl<'a, R: Clock> Sockets<'a, R> {
     fn send_due(&mut self)
         ensures failed { failed_of self.old.endpoints.items ≤ failed_of self.new.endpoints.items }
         ensures same { vec_len self.new.endpoints ≡ vec_len self.old.endpoints }
+        ensures on_links { self.new.neighborhoods ≡ self.old.neighborhoods }
+        ensures strangers { strangers_of self.new.endpoints.items ≡ strangers_of self.old.endpoints.items }
         ensures heard { self.new.inbox ≡ self.old.inbox }
     {
         let now = self.clock.now().ms();
         for iface in 0..self.endpoints.len() {
             if let Some(endpoint) = self.endpoints.get_mut(iface) {
-                endpoint.send_due(now);
+                endpoint.send_due(&self.neighborhoods[iface], now);
             }
         }
     }
@@ -89,12 +107,14 @@ impl<'a, R: Clock> Sockets<'a, R> {
     fn send_all(&mut self)
         ensures failed { failed_of self.old.endpoints.items ≤ failed_of self.new.endpoints.items }
         ensures same { vec_len self.new.endpoints ≡ vec_len self.old.endpoints }
+        ensures on_links { self.new.neighborhoods ≡ self.old.neighborhoods }
+        ensures strangers { strangers_of self.new.endpoints.items ≡ strangers_of self.old.endpoints.items }
         ensures heard { self.new.inbox ≡ self.old.inbox }
         ensures all { none_waits self.new.endpoints.items ≡ true }
     {
         for iface in 0..self.endpoints.len() {
             if let Some(endpoint) = self.endpoints.get_mut(iface) {
-                endpoint.send_all();
+                endpoint.send_all(&self.neighborhoods[iface]);
             }
         }
     }
@@ -115,10 +135,12 @@ impl<'a, R: Clock> Sockets<'a, R> {
         ensures failed { failed_of self.new.endpoints.items ≡ failed_of self.old.endpoints.items }
         ensures lost { self.old.inbox.lost ≤ self.new.inbox.lost }
         ensures same { vec_len self.new.endpoints ≡ vec_len self.old.endpoints }
+        ensures on_links { self.new.neighborhoods ≡ self.old.neighborhoods }
+        ensures strangers { strangers_of self.old.endpoints.items ≤ strangers_of self.new.endpoints.items }
     {
         for iface in 0..self.endpoints.len() {
             if let Some(endpoint) = self.endpoints.get_mut(iface) {
-                endpoint.take_all(iface, buffer, &mut self.inbox)?;
+                endpoint.take_all(&self.neighborhoods[iface], iface, buffer, &mut self.inbox)?;
             }
         }
         Ok(())
@@ -130,6 +152,8 @@ impl<'a, R: Clock> Sockets<'a, R> {
         ensures failed { failed_of self.new.endpoints.items ≡ failed_of self.old.endpoints.items }
         ensures lost { self.old.inbox.lost ≤ self.new.inbox.lost }
         ensures same { vec_len self.new.endpoints ≡ vec_len self.old.endpoints }
+        ensures on_links { self.new.neighborhoods ≡ self.old.neighborhoods }
+        ensures strangers { strangers_of self.old.endpoints.items ≤ strangers_of self.new.endpoints.items }
     {
         if !self.has_sent() {
             thread::sleep(self.rt, Duration::from_millis(NAP_MS));
@@ -143,7 +167,13 @@ impl<'a, R: Clock> Sockets<'a, R> {
         self.next = iface + 1;
         match self.endpoints.get_mut(iface) {
             Some(endpoint) => endpoint
-                .take_one(iface, buffer, &mut self.inbox, true)
+                .take_one(
+                    &self.neighborhoods[iface],
+                    iface,
+                    buffer,
+                    &mut self.inbox,
+                    true,
+                )
                 .map(|_| ()),
             None => Ok(()),
         }
@@ -157,6 +187,8 @@ impl<'a, R: Clock> Sockets<'a, R> {
         ensures failed { failed_of self.old.endpoints.items ≤ failed_of self.new.endpoints.items }
         ensures lost { self.old.inbox.lost ≤ self.new.inbox.lost }
         ensures same { vec_len self.new.endpoints ≡ vec_len self.old.endpoints }
+        ensures on_links { self.new.neighborhoods ≡ self.old.neighborhoods }
+        ensures strangers { strangers_of self.old.endpoints.items ≤ strangers_of self.new.endpoints.items }
     {
         self.send_due();
         self.take_all(buffer)?;
@@ -173,6 +205,8 @@ impl<'a, R: Clock> Sockets<'a, R> {
         ensures failed { failed_of self.old.endpoints.items ≤ failed_of self.new.endpoints.items }
         ensures lost { self.old.inbox.lost ≤ self.new.inbox.lost }
         ensures same { vec_len self.new.endpoints ≡ vec_len self.old.endpoints }
+        ensures on_links { self.new.neighborhoods ≡ self.old.neighborhoods }
+        ensures strangers { strangers_of self.old.endpoints.items ≤ strangers_of self.new.endpoints.items }
     {
         let begun = self.clock.now().ms();
         for _ in 0..WAITS {
@@ -190,10 +224,12 @@ impl<'a, R: Clock> Sockets<'a, R> {
         ensures failed { failed_of self.new.endpoints.items ≡ failed_of self.old.endpoints.items }
         ensures lost { self.new.inbox.lost ≡ self.old.inbox.lost }
         ensures same { vec_len self.new.endpoints ≡ vec_len self.old.endpoints }
+        ensures on_links { self.new.neighborhoods ≡ self.old.neighborhoods }
+        ensures strangers { strangers_of self.new.endpoints.items ≡ strangers_of self.old.endpoints.items }
     {
         let now = self.clock.now().ms();
         match self.endpoints.get_mut(outgoing.iface) {
-            Some(endpoint) => endpoint.send(outgoing, now),
+            Some(endpoint) => endpoint.send(&self.neighborhoods[outgoing.iface], outgoing, now),
             None => Err(LinkFault),
         }
     }
@@ -203,6 +239,8 @@ impl<'a, R: Clock> Sockets<'a, R> {
         ensures failed { failed_of self.old.endpoints.items ≤ failed_of self.new.endpoints.items }
         ensures lost { self.new.inbox.lost ≡ self.old.inbox.lost }
         ensures same { vec_len self.new.endpoints ≡ vec_len self.old.endpoints }
+        ensures on_links { self.new.neighborhoods ≡ self.old.neighborhoods }
+        ensures strangers { strangers_of self.new.endpoints.items ≡ strangers_of self.old.endpoints.items }
         ensures all { none_waits self.new.endpoints.items ≡ true }
     {
         for _ in 0..LAST_WAITS {
@@ -224,6 +262,44 @@ impl<'a, R: Clock> Sockets<'a, R> {
             failed = failed.saturating_add(endpoint.failed());
         }
         failed
+    }
+
+    /// How many datagrams came from where none of the peers stands.
+    pub(crate) fn strangers(&self) -> u64
+        ensures { result ≡ strangers_of self.now.endpoints.items }
+    {
+        let mut strangers: u64 = 0;
+        for endpoint in self.endpoints.iter() {
+            strangers = strangers.saturating_add(endpoint.strangers());
+        }
+        strangers
+    }
+
+    /// An interface has a peer more.
+    ///
+    /// # Errors
+    /// The first reason to refuse it, or want of memory.
+    pub(crate) fn add_peer(&mut self, iface: usize, peer: Peer) -> Result<(), PeerRefused>
+        ensures added { OnOk result (ChangesLink (λ i. with_peer i peer) iface self.old.neighborhoods.items self.new.neighborhoods.items) }
+        ensures passes { OnOk result (adding_fault self.old.neighborhoods.items iface peer ≡ None) }
+        ensures refused { IfErr result (RefusesFor (adding_fault self.old.neighborhoods.items iface peer)) }
+        ensures err { OnErr result (self.new.neighborhoods.items ≡ self.old.neighborhoods.items) }
+        ensures same { (self.new.endpoints ≡ self.old.endpoints) × (self.new.inbox ≡ self.old.inbox) }
+    {
+        add_peer(&mut self.neighborhoods, iface, peer)
+    }
+
+    /// An interface has the peer of an address no longer.
+    ///
+    /// # Errors
+    /// The first reason to refuse it.
+    pub(crate) fn remove_peer(&mut self, iface: usize, addr: Addr6) -> Result<(), PeerRefused>
+        ensures removed { OnOk result (ChangesLink (λ i. without_peer i addr) iface self.old.neighborhoods.items self.new.neighborhoods.items) }
+        ensures refused { result_err result ≡ removing_fault self.old.neighborhoods.items iface addr }
+        ensures err { OnErr result (self.new.neighborhoods.items ≡ self.old.neighborhoods.items) }
+        ensures same { (self.new.endpoints ≡ self.old.endpoints) × (self.new.inbox ≡ self.old.inbox) }
+    {
+        remove_peer(&mut self.neighborhoods, iface, addr)
     }
 
     /// How many datagrams of neighbors were lost since there was no room or no memory to keep them.

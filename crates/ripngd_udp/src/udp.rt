@@ -1,12 +1,18 @@
 //! A link of UDP sockets on loopback, which stands in for the links of a router: each interface has a socket at a port of
 //! 127.0.0.1, and each neighbor on its link one of its own.
 
-ghost use Rattle.std.specs.Prelude.{◌≡◌, ◌≤◌, IfErr, IfOk, length, vec_len};
-ghost use Rattle.ripngd_udp.specs.Udp.{NamesPortOf, new_link, link_number};
+ghost use Rattle.std.specs.Prelude.{◌≡◌, ◌≤◌, IfErr, IfOk, None, OnErr, OnOk, length, map, vec_len};
+ghost use Rattle.std.specs.Result.{result_err};
+ghost use Rattle.ripngd_udp.specs.Peers.{ChangesLink, RefusesFor, adding_fault, removing_fault, with_peer, without_peer};
+ghost use Rattle.ripngd_udp.specs.Sockets.{failed_of, strangers_of};
+ghost use Rattle.ripngd_udp.specs.Udp.{NamesPortOf, link_number, new_link};
 
 use crate::endpoint::Endpoint;
+use crate::neighborhood::neighborhoods_at;
+use crate::peer_refused::PeerRefused;
 use crate::sockets::{Sockets, wait_of};
-use ripngd_config::Peer;
+use prefix6::Addr6;
+use ripngd_config::{Peer, Place};
 use ripngd_engine::{Link, LinkFault, Received};
 use router_core::Outgoing;
 use std::alloc::Global;
@@ -48,38 +54,57 @@ pub struct Udp<'a, R: Clock> {
     sockets: Sockets<'a, R>,
 }
 
+/// A socket at the local port of each place, in order.
+fn endpoints_at<N: Net>(net: &N, alloc: Global, places: &[Place]) -> Result<Vec<Endpoint>, UdpError>
+    ensures count { IfOk result (λ endpoints. vec_len endpoints ≡ length places.now) }
+    ensures lost { IfOk result (λ endpoints. (failed_of endpoints.items ≡ 0) × (strangers_of endpoints.items ≡ 0)) }
+    ensures refused { IfErr result (NamesPortOf places.now) }
+{
+    let wait = wait_of(places.len());
+    let mut endpoints = Vec::new(alloc);
+    for place in places {
+        let Ok(endpoint) = Endpoint::open(net, alloc, place.local_port, wait) else {
+            return Err(UdpError::Bind(place.local_port));
+        };
+        endpoints.push(endpoint).map_err(|_| UdpError::OutOfMemory)?;
+    }
+    Ok(endpoints)
+}
+
 impl<'a, R: Clock> Model for Udp<'a, R> {
     ghost use Rattle.std.specs.Prelude.{vec_len};
     ghost use Rattle.ripngd_udp.specs.Udp.{LinkState};
-    ghost use Rattle.ripngd_udp.specs.Sockets.{failed_of};
+    ghost use Rattle.ripngd_udp.specs.Sockets.{failed_of, strangers_of};
 
     ghost Value = { LinkState };
 
     ghost view = { λ link. record {
       interfaces = vec_len link.sockets.endpoints;
+      on_links = link.sockets.neighborhoods.items;
       failed_sends = failed_of link.sockets.endpoints.items;
       lost_arrivals = link.sockets.inbox.lost;
+      strangers = strangers_of link.sockets.endpoints.items;
     } };
 }
 
 impl<'a, R: Clock> Udp<'a, R> {
-    /// An interface at each port of 127.0.0.1, in order, with its peers.
+    /// An interface at each place, in order, with its peers.
     ///
     /// # Errors
-    /// `Bind` with the first port that cannot be bound. What was bound before is given up.
+    /// `Bind` with the first local port that cannot be bound. What was bound before is given up.
     pub fn bind(
         rt: &'a R,
         alloc: Global,
-        ports: &[u16],
+        places: &[Place],
         peers: Vec<Vec<Peer>>,
     ) -> Result<Udp<'a, R>, UdpError>
     where
         R: Net,
-        requires { length ports.now ≡ vec_len peers }
-        ensures bound { IfOk result (λ link. link ≡ new_link (length ports.now)) }
-        ensures refused { IfErr result (NamesPortOf ports.now) }
+        requires { length places.now ≡ vec_len peers }
+        ensures bound { IfOk result (λ link. link ≡ new_link places.now (map (λ v. v.items) peers.items)) }
+        ensures refused { IfErr result (NamesPortOf places.now) }
     {
-        Udp::bind_by(rt, rt, alloc, ports, peers)
+        Udp::bind_by(rt, rt, alloc, places, peers)
     }
 
     /// The same, with sockets of one system and the clock of another.
@@ -87,23 +112,19 @@ impl<'a, R: Clock> Udp<'a, R> {
         net: &N,
         rt: &'a R,
         alloc: Global,
-        ports: &[u16],
+        places: &[Place],
         peers: Vec<Vec<Peer>>,
     ) -> Result<Udp<'a, R>, UdpError>
-        requires { length ports.now ≡ vec_len peers }
-        ensures bound { IfOk result (λ link. link ≡ new_link (length ports.now)) }
-        ensures refused { IfErr result (NamesPortOf ports.now) }
+        requires { length places.now ≡ vec_len peers }
+        ensures bound { IfOk result (λ link. link ≡ new_link places.now (map (λ v. v.items) peers.items)) }
+        ensures refused { IfErr result (NamesPortOf places.now) }
     {
-        let wait = wait_of(ports.len());
-        let mut endpoints = Vec::new(alloc);
-        for (port, peers) in ports.iter().zip(peers) {
-            let Ok(endpoint) = Endpoint::open(net, alloc, *port, peers, wait) else {
-                return Err(UdpError::Bind(*port));
-            };
-            endpoints.push(endpoint).map_err(|_| UdpError::OutOfMemory)?;
-        }
+        let endpoints = endpoints_at(net, alloc, places)?;
+        let neighborhoods = neighborhoods_at(alloc, places, peers).map_err(
+            |_| UdpError::OutOfMemory,
+        )?;
         Ok(Udp {
-            sockets: Sockets::new(rt, alloc, endpoints),
+            sockets: Sockets::new(rt, alloc, endpoints, neighborhoods),
         })
     }
 
@@ -111,9 +132,38 @@ impl<'a, R: Clock> Udp<'a, R> {
     pub fn finish(&mut self)
         ensures failed { self.old.failed_sends ≤ self.new.failed_sends }
         ensures lost { self.new.lost_arrivals ≡ self.old.lost_arrivals }
-        ensures same { self.new.interfaces ≡ self.old.interfaces }
+        ensures strangers { self.new.strangers ≡ self.old.strangers }
+        ensures same { (self.new.interfaces ≡ self.old.interfaces) × (self.new.on_links ≡ self.old.on_links) }
     {
         self.sockets.finish();
+    }
+
+    /// An interface has a peer more, from now on.
+    ///
+    /// # Errors
+    /// The first reason to refuse it, in the order of `PeerRefused`. Nothing is then changed.
+    pub fn add_peer(&mut self, iface: usize, peer: Peer) -> Result<(), PeerRefused>
+        ensures added { OnOk result (ChangesLink (λ i. with_peer i peer) iface self.old.on_links self.new.on_links) }
+        ensures passes { OnOk result (adding_fault self.old.on_links iface peer ≡ None) }
+        ensures refused { IfErr result (RefusesFor (adding_fault self.old.on_links iface peer)) }
+        ensures err { OnErr result (self.new ≡ self.old) }
+        ensures same { self.new ≡ record self.old { on_links = self.new.on_links } }
+    {
+        self.sockets.add_peer(iface, peer)
+    }
+
+    /// An interface has the peer of an address no longer. What has come from it stays; what still waits to be sent to it alone
+    /// goes to nobody, and counts as failed.
+    ///
+    /// # Errors
+    /// `NoSuchInterface` or `NoSuchPeer`. Nothing is then changed.
+    pub fn remove_peer(&mut self, iface: usize, addr: Addr6) -> Result<(), PeerRefused>
+        ensures removed { OnOk result (ChangesLink (λ i. without_peer i addr) iface self.old.on_links self.new.on_links) }
+        ensures refused { result_err result ≡ removing_fault self.old.on_links iface addr }
+        ensures err { OnErr result (self.new ≡ self.old) }
+        ensures same { self.new ≡ record self.old { on_links = self.new.on_links } }
+    {
+        self.sockets.remove_peer(iface, addr)
     }
 
     /// How many datagrams could not be sent when they had waited. `send` has answered Ok for these.
@@ -129,6 +179,13 @@ impl<'a, R: Clock> Udp<'a, R> {
         ensures { result ≡ self.now.lost_arrivals }
     {
         self.sockets.lost_arrivals()
+    }
+
+    /// How many datagrams came to a socket of an interface from anywhere but its peers. They are dropped.
+    pub fn strangers(&self) -> u64
+        ensures { result ≡ self.now.strangers }
+    {
+        self.sockets.strangers()
     }
 }
 
@@ -150,7 +207,8 @@ impl<R: Clock> Link for Udp<'_, R> {
         ensures within { IfOk result (λ o. IfSome o (λ r. r.len ≤ length buffer.new)) }
         ensures failed { self.old.failed_sends ≤ self.new.failed_sends }
         ensures lost { self.old.lost_arrivals ≤ self.new.lost_arrivals }
-        ensures same { self.new.interfaces ≡ self.old.interfaces }
+        ensures strangers { self.old.strangers ≤ self.new.strangers }
+        ensures same { (self.new.interfaces ≡ self.old.interfaces) × (self.new.on_links ≡ self.old.on_links) }
     {
         self.sockets.recv(buffer)
     }

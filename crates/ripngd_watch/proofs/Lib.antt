@@ -1,2 +1,3 @@
 mod Counted
-mod Written
+pub mod Written
+mod Places

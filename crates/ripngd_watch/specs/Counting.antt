@@ -10,17 +10,17 @@ use Rattle.ripngd_watch.specs.declared.counts.Counts.{Counts}
 
 -- whether this is an arrival, as a count
 abbrev pub arrivals_in : Told → ℕ
-arrivals_in (Heard a fault notes) = 1
+arrivals_in (Heard a bytes fault notes) = 1
 arrivals_in (Sent s went) = 0
 
 -- whether this is a datagram that was handed to the link, as a count
 abbrev pub sends_in : Told → ℕ
-sends_in (Heard a fault notes) = 0
+sends_in (Heard a bytes fault notes) = 0
 sends_in (Sent s went) = 1
 
 -- whether this is a datagram that the link did not take, as a count
 abbrev pub failed_sends_in : Told → ℕ
-failed_sends_in (Heard a fault notes) = 0
+failed_sends_in (Heard a bytes fault notes) = 0
 failed_sends_in (Sent s went) = if went then 0 else 1
 
 -- whether this is the fault of that number, as a count
@@ -30,12 +30,12 @@ is_fault number (Some fault) = if fault_number fault == number then 1 else 0
 
 -- the arrivals refused with the fault of that number
 abbrev pub faults_in : ℕ → Told → ℕ
-faults_in number (Heard a fault notes) = is_fault number fault
+faults_in number (Heard a bytes fault notes) = is_fault number fault
 faults_in number (Sent s went) = 0
 
 -- the entries skipped with the note of that number
 abbrev pub notes_in : ℕ → Told → ℕ
-notes_in number (Heard a fault notes) = count_by (λ n. note_number n.kind == number) notes
+notes_in number (Heard a bytes fault notes) = count_by (λ n. note_number n.kind == number) notes
 notes_in number (Sent s went) = 0
 
 -- how many there are in all of them

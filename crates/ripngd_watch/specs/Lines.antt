@@ -36,7 +36,7 @@ note_lines a notes = flat_map (λ n. note_text a n ++ 10 ∷ []) notes
 
 -- the lines of what is told
 abbrev pub lines_of : Told → List ℕ
-lines_of (Heard a fault notes) = refusal_lines a fault ++ note_lines a notes
+lines_of (Heard a bytes fault notes) = refusal_lines a fault ++ note_lines a notes
 lines_of (Sent s went) = []
 
 -- what a telling makes of a writer of lines: it is counted, and its lines are written, but none after a failed write

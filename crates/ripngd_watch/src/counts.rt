@@ -1,6 +1,6 @@
 //! Counts of arrivals and sends, of faults by number and of notes by kind.
 
-ghost use Rattle.std.specs.Prelude.{◌≡◌, ◌+◌, ◌<◌, ◌∷◌, [], ◌==◌, ℕ, length, slice_index_or, slice_set};
+ghost use Rattle.std.specs.Prelude.{◌≡◌, ◌+◌, ◌<◌, ◌∷◌, [], ◌==◌, ℕ, List, length, slice_index_or, slice_set};
 ghost use Rattle.std.specs.List.{count_by};
 ghost use Rattle.router_core.specs.Faults.{fault_number};
 ghost use Rattle.router_core.specs.Offers.{note_number};
@@ -73,7 +73,7 @@ pub(crate) fn place_of_note(kind: NoteKind) -> usize
 }
 
 /// Counts a fault, if there is one.
-fn count_fault(counts: &mut [u64], fault: Option<Fault>)
+pub(crate) fn count_fault(counts: &mut [u64], fault: Option<Fault>)
     requires { length counts.old ≡ 12 }
     ensures { (place : ℕ) → place < 12
         → slice_index_or counts.new place 0 ≡ counted (slice_index_or counts.old place 0) (is_fault (place + 1) fault) }
@@ -84,7 +84,7 @@ fn count_fault(counts: &mut [u64], fault: Option<Fault>)
 }
 
 /// Counts each note.
-fn count_notes(counts: &mut [u64], notes: &[Note])
+pub(crate) fn count_notes(counts: &mut [u64], notes: &[Note])
     requires { length counts.old ≡ 5 }
     ensures { (place : ℕ) → place < 5 → slice_index_or counts.new place 0
         ≡ counted (slice_index_or counts.old place 0) (count_by (λ n. note_number n.kind == place + 20) notes.now) }
@@ -110,7 +110,7 @@ impl Counts {
 
     /// Counts an arrival, with its fault or its notes.
     pub(crate) fn count_arrival(&mut self, fault: Option<Fault>, notes: &[Note])
-        ensures { (a : an_arrival) → Counted self.old (Heard a fault notes.now ∷ []) self.new }
+        ensures { (a : an_arrival) (bytes : List ℕ) → Counted self.old (Heard a bytes fault notes.now ∷ []) self.new }
     {
         self.arrivals = self.arrivals.saturating_add(1);
         count_fault(&mut self.faults, fault);
@@ -131,7 +131,7 @@ impl Counts {
 impl Watch for Counts {
     ghost takes = { λ c t d. Counted c (t ∷ []) d };
 
-    fn heard(&mut self, _arrived: Arrived, fault: Option<Fault>, notes: &[Note]) {
+    fn heard(&mut self, _arrived: Arrived, _bytes: &[u8], fault: Option<Fault>, notes: &[Note]) {
         self.count_arrival(fault, notes);
     }
 

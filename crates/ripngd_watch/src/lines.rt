@@ -133,7 +133,7 @@ impl<W> DebugLines<W> {
 impl<W: Write> Watch for DebugLines<W> {
     ghost takes = { Writes W.contents };
 
-    fn heard(&mut self, arrived: Arrived, fault: Option<Fault>, notes: &[Note]) {
+    fn heard(&mut self, arrived: Arrived, _bytes: &[u8], fault: Option<Fault>, notes: &[Note]) {
         self.counts.count_arrival(fault, notes);
         let failed = write_refusal(&mut self.out, &arrived, fault, self.failed);
         self.failed = write_notes(&mut self.out, &arrived, notes, failed);

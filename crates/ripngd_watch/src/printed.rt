@@ -9,7 +9,7 @@ use ripng_wire::WireError;
 use router_core::{Fault, NoteKind};
 use std::fmt::{self, Display};
 
-const FAULTS: [Fault; 12] = [
+pub(crate) const FAULTS: [Fault; 12] = [
     Fault::Wire(WireError::Short),
     Fault::Wire(WireError::TooLong),
     Fault::Wire(WireError::Ragged),
@@ -24,7 +24,7 @@ const FAULTS: [Fault; 12] = [
     Fault::BadSource,
 ];
 
-const NOTES: [NoteKind; 5] = [
+pub(crate) const NOTES: [NoteKind; 5] = [
     NoteKind::BadLength,
     NoteKind::BadPrefix,
     NoteKind::BadMetric,
@@ -51,7 +51,7 @@ impl Display for Counts {
 }
 
 /// A line for each of the faults that was counted.
-fn write_faults<W: fmt::Write>(
+pub(crate) fn write_faults<W: fmt::Write>(
     f: &mut fmt::Formatter<W>,
     faults: &[Fault],
     counts: &[u64; 12],
@@ -66,7 +66,7 @@ fn write_faults<W: fmt::Write>(
 }
 
 /// A line for each of the kinds of notes that was counted.
-fn write_notes<W: fmt::Write>(
+pub(crate) fn write_notes<W: fmt::Write>(
     f: &mut fmt::Formatter<W>,
     kinds: &[NoteKind],
     counts: &[u64; 5],

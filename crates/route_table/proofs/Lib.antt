@@ -8,10 +8,12 @@ pub mod TrieLists
 pub mod TrieParts
 pub mod TrieSummary
 pub mod TrieWalk
-pub mod TrieReplace
+pub mod TrieUpdate
+pub mod TrieMarks
 pub mod TrieAdd
 pub mod TrieTable
 pub mod NextDue
 pub mod FirstDue
 pub mod SortedDue
+pub mod SortedMarks
 pub mod WalksWhere

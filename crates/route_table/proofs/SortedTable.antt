@@ -14,10 +14,11 @@ use Rattle.std.proofs.lemmas.Option.{slice_get_past, slice_get_read}
 use Rattle.prefix6.specs.Prefix.{Prefix6, prefix_cmp}
 use Rattle.prefix6.proofs.PrefixLaws.{prefixes_total, exact_prefixes}
 use Rattle.route_table.specs.Route.{RouteValue}
-use Rattle.route_table.specs.Table.{Table, first_past, is_past}
+use Rattle.route_table.specs.Table.{Table, map_entries, first_past, is_past}
+use Rattle.route_table.specs.Due.{without_mark, unmarked}
 use Rattle.prefix6.specs.Places.{IsAt, IsGap}
 use Rattle.route_table.specs.Place.{Entries, IsStartPast}
-use Rattle.route_table.proofs.TableLaws.{entries-empty}
+use Rattle.route_table.proofs.TableLaws.{entries-empty, is_sorted-map_entries, entries-map_values}
 use Rattle.prefix6.proofs.SortedEntries.{find_at, find_gap, put_gap}
 use Rattle.route_table.proofs.SortedEntries.{first_at}
 
@@ -69,6 +70,14 @@ module _ (es : Entries) (h : T (is_sorted prefix_cmp es)) (t : Table) (is : from
 
     pub table_put : from_sorted fs ≡ map.insert t k v
     table_put = same_entries_map _ _ (entries-from_sorted prefix_cmp fs sorted_put ∙ sym put_entries)
+
+  -- a list whose marks are taken
+  module _ (fs : Entries) (p : map_entries without_mark es ≡ fs) where
+    pub sorted_unmarked : T (is_sorted prefix_cmp fs)
+    sorted_unmarked = subst (λ l. T (is_sorted prefix_cmp l)) p (is_sorted-map_entries without_mark es h)
+
+    pub table_unmarked : from_sorted fs ≡ unmarked t
+    table_unmarked = same_entries_map _ _ (entries-from_sorted prefix_cmp fs sorted_unmarked ∙ sym p ∙ ap (map_entries without_mark) (sym entries_are) ∙ sym (entries-map_values without_mark t))
 
   -- a list without the entry of a prefix
   module _ (k : Prefix6) (fs : Entries) (p : where_key prefix_cmp (λ x. not (eq_by_cmp prefix_cmp k x)) es ≡ fs) where

@@ -4,7 +4,7 @@ use Rattle.std.specs.declared.cmp.Ordering.TheVariants.{Less}
 use Rattle.std.specs.FinMap as map
 use Rattle.prefix6.specs.Prefix.{Prefix6, prefix_cmp}
 use Rattle.route_table.specs.Route.{RouteValue, deadline}
-use Rattle.route_table.specs.Table.{Table, is_past}
+use Rattle.route_table.specs.Table.{Table, is_past, map_values}
 
 -- whether there is a deadline, and it is reached
 abbrev pub is_reached : ℕ → Option ℕ → Bool
@@ -37,6 +37,14 @@ first_due now after table = first_where (is_due now) after (map.entries table)
 -- the first entry past a prefix whose route is marked as changed
 abbrev pub first_changed : Option Prefix6 → Table → Option (Prefix6 × RouteValue)
 first_changed after table = first_where (λ r. r.changed) after (map.entries table)
+
+-- the route, not marked as changed
+abbrev pub without_mark : RouteValue → Option RouteValue
+without_mark r = Some (record r { changed = false })
+
+-- with no route marked as changed
+abbrev pub unmarked : Table → Table
+unmarked table = map_values without_mark table
 
 -- the least deadline, with the first prefix whose route is due at it
 abbrev pub next_due : Table → Option (ℕ × Prefix6)

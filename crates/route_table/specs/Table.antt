@@ -32,6 +32,11 @@ abbrev pub with_value : {X : Type 0} → ByPrefix X → Prefix6 → Option X →
 with_value m p None = map.remove m p
 with_value m p (Some x) = map.insert m p x
 
+-- the table with what was made of the route to a prefix in its place: the routes before and after, if there is one
+abbrev pub table_with : Prefix6 → Option (RouteValue × RouteValue) → Table → Table
+table_with p None table = table
+table_with p (Some made) table = map.insert table p made.1
+
 -- whether a prefix comes after the given one, if any
 abbrev pub is_past : Option Prefix6 → Prefix6 → Bool
 is_past None p = true

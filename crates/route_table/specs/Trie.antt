@@ -1,7 +1,7 @@
 -- The trie of routes: what hangs at a link, and what a fork keeps.
 use Rattle.std.specs.Prelude.{◌≡◌, ℕ, ◌+◌, ◌<◌, ◌≤◌, not, [], ◌∷◌, ◌++◌, length, T, All, Option, Some, None, Box}
 use Rattle.std.specs.Ordering.{eq_by_cmp}
-use Rattle.std.specs.FinMap.Entries.{where_key}
+use Rattle.std.specs.FinMap.Entries.{put, where_key}
 use Rattle.std.specs.declared.alloc.Global.{Global}
 use Rattle.std.specs.FinMap.{is_sorted}
 use Rattle.prefix6.specs.Prefix.{Prefix6, prefix_cmp}
@@ -32,6 +32,11 @@ own_value (Some leaf) = Some leaf.value.1
 -- the entries but the one of a prefix
 abbrev pub without : Prefix6 → Entries → Entries
 without p = where_key prefix_cmp (λ q. not (eq_by_cmp prefix_cmp p q))
+
+-- the entries with what was made of the route to a prefix in its place: the routes before and after, if there is one
+abbrev pub entries_with : Prefix6 → Option (RouteValue × RouteValue) → Entries → Entries
+entries_with p None es = es
+entries_with p (Some made) es = put prefix_cmp p made.1 es
 
 -- a fork's entries in order: its own, then those of its lower and of its upper half
 abbrev pub in_turn : Entries → Entries → Entries → Entries

@@ -4,9 +4,10 @@ ghost use Rattle.std.specs.Prelude.{◌≡◌, T, IfOk, IfErr};
 ghost use Rattle.std.specs.FinMap.{entries, is_sorted};
 ghost use Rattle.prefix6.specs.Prefix.{prefix_cmp};
 ghost use Rattle.prefix6.specs.Places.{IsAt, IsGap};
-ghost use Rattle.route_table.specs.Due.{first_where, least_deadline};
+ghost use Rattle.route_table.specs.Due.{first_where, least_deadline, without_mark};
 ghost use Rattle.route_table.specs.Place.{IsStartPast};
 ghost use Rattle.route_table.specs.Summary.{meets};
+ghost use Rattle.route_table.specs.Table.{map_entries};
 
 use crate::moment::{Deadline, Moment};
 use crate::route::Route;
@@ -96,6 +97,15 @@ fn first_wanted(
     None
 }
 
+/// Takes the marks of all routes.
+fn unmark(routes: &mut [(Prefix, Route)])
+    ensures { routes.new ≡ map_entries without_mark routes.old }
+{
+    for entry in routes.iter_mut() {
+        entry.1 = entry.1.with_mark(false);
+    }
+}
+
 impl SortedRoutes {
     /// The least deadline of the routes that age, in milliseconds.
     fn due_ms(&self) -> Option<u64>
@@ -182,6 +192,24 @@ impl RouteStore for SortedRoutes {
             unreachable!()
         };
         self.routes[at] = (*prefix, route);
+    }
+
+    fn update<F: FnOnce(Route) -> Route>(
+        &mut self,
+        prefix: &Prefix,
+        make: F,
+    ) -> Option<(Route, Route)> {
+        let Ok(at) = search(&self.routes, prefix) else {
+            return None;
+        };
+        let before = self.routes[at].1;
+        let after = make(before);
+        self.routes[at] = (*prefix, after);
+        Some((before, after))
+    }
+
+    fn unmark(&mut self) {
+        unmark(&mut self.routes);
     }
 
     fn remove(&mut self, prefix: &Prefix) {

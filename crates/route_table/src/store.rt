@@ -1,9 +1,9 @@
 //! What a table of routes is, whatever it is made of.
 
-ghost use Rattle.std.specs.Prelude.{◌≡◌, ◌≤◌, ◌+◌, ◌++◌, ◌↔◌, None, IsTrue, IsSome, OnOk, OnErr, vec_len, vec_capacity};
+ghost use Rattle.std.specs.Prelude.{◌≡◌, ◌≤◌, ◌+◌, ◌++◌, ◌↔◌, None, IsTrue, IsSome, IfSome, option_map, OnOk, OnErr, vec_len, vec_capacity};
 ghost use Rattle.std.specs.FinMap as map;
-ghost use Rattle.route_table.specs.Table.{Table, table_limit, first_past, add_refused_name, add_refused_number};
-ghost use Rattle.route_table.specs.Due.{first_due, first_changed, next_due};
+ghost use Rattle.route_table.specs.Table.{Table, table_limit, table_with, first_past, add_refused_name, add_refused_number};
+ghost use Rattle.route_table.specs.Due.{first_due, first_changed, next_due, unmarked};
 
 use crate::moment::{Deadline, Moment};
 use crate::route::Route;
@@ -104,6 +104,22 @@ pub trait RouteStore: Drop {
     fn replace(&mut self, prefix: &Prefix, route: Route)
         requires present { IsSome (map.get (table self.old) prefix.now) }
         ensures { table self.new ≡ map.insert (table self.old) prefix.now route };
+
+    /// Puts what is made of the route to this prefix in its place, as `get` and `replace` would with one search more: the routes
+    /// before and after. Where there is no route, nothing is made.
+    fn update<F: FnOnce(Route) -> Route>(
+        &mut self,
+        prefix: &Prefix,
+        make: F,
+    ) -> Option<(Route, Route)>
+        requires { F.IsAlwaysCallable make }
+        ensures before { option_map (λ made. made.0) result ≡ map.get (table self.old) prefix.now }
+        ensures by { IfSome result (λ made. F.post make made.0 made.1) }
+        ensures after { table self.new ≡ table_with prefix.now result (table self.old) };
+
+    /// Takes the marks of all routes that are marked as changed.
+    fn unmark(&mut self)
+        ensures { table self.new ≡ unmarked (table self.old) };
 
     /// Takes out the route to this prefix.
     fn remove(&mut self, prefix: &Prefix)

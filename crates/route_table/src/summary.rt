@@ -86,6 +86,16 @@ impl Summary {
         }
     }
 
+    /// The summary of the same routes without their marks.
+    pub fn without_mark(self) -> Summary
+        ensures { result ≡ record self { changed = false } }
+    {
+        Summary {
+            changed: false,
+            ..self
+        }
+    }
+
     /// Whether both say the same.
     pub fn is_same(&self, other: &Summary) -> bool
         ensures { IsTrue result ↔ (self.now ≡ other.now) }

@@ -16,6 +16,7 @@ ghost use Rattle.route_table.specs.Summary.{summary_of, meets};
 ghost use Rattle.route_table.specs.Trie.{linked, owned, fork_entries, AreParts, AreShared, HasEntries};
 
 mod changing;
+mod updating;
 
 use crate::route::Route;
 use crate::summary::Summary;
@@ -23,6 +24,7 @@ use crate::wanted::Wanted;
 pub use changing::{add, boxes, remove};
 use prefix6::Prefix;
 use std::marker::Model;
+pub use updating::{unmark, update};
 
 /// A prefix and its route.
 pub type Entry = (Prefix, Route);
@@ -290,82 +292,6 @@ pub fn list(link: &Link, out: &mut Vec<Entry>)
             }
             list(&fork.low, out);
             list(&fork.high, out);
-        }
-    }
-}
-
-/// Gives another route to a prefix that has one below a link, in place. Says whether the summary of the link may have
-/// changed: where it has not, no summary above it is looked at.
-pub fn replace(link: &mut Link, key: &Prefix, route: &Route) -> bool
-    requires { IsSome (find prefix_cmp key.now (linked link.old)) }
-    ensures some { HasEntries link.new }
-    ensures put { linked link.new ≡ put prefix_cmp key.now route.now (linked link.old) }
-    ensures kept { result ≡ false → summary_of (linked link.new) ≡ summary_of (linked link.old) }
-{
-    match link {
-        Link::Empty => unreachable!(),
-        Link::Leaf(leaf) => {
-            let before = Summary::of(&leaf.1);
-            leaf.1 = *route;
-            !before.is_same(&Summary::of(route))
-        }
-        Link::Fork(fork) => {
-            let fork: &mut Fork = fork;
-            if *key == fork.prefix {
-                let changed = set_own(&mut fork.own, key, route);
-                renew(&mut fork.summary, changed, &fork.own, &fork.low, &fork.high)
-            } else if fork.prefix.is_before_middle(key) {
-                let changed = replace(&mut fork.low, key, route);
-                renew(&mut fork.summary, changed, &fork.own, &fork.low, &fork.high)
-            } else {
-                let changed = replace(&mut fork.high, key, route);
-                renew(&mut fork.summary, changed, &fork.own, &fork.low, &fork.high)
-            }
-        }
-    }
-}
-
-/// Sums a fork of these parts up anew if the summary of one of them may have changed. Says whether its own is another now.
-fn renew(
-    summary: &mut Summary,
-    changed: bool,
-    own: &Option<Box<Entry>>,
-    low: &Link,
-    high: &Link,
-) -> bool
-    requires { changed ≡ false → summary.old ≡ summary_of (fork_entries own.now low.now high.now) }
-    ensures summed { summary.new ≡ summary_of (fork_entries own.now low.now high.now) }
-    ensures kept { result ≡ false → summary.new ≡ summary.old }
-{
-    if changed {
-        sum_up(summary, own, low, high)
-    } else {
-        false
-    }
-}
-
-/// Sums a fork of these parts up anew, which few forks on the way up need. Says whether its summary is another now.
-#[inline(never)]
-fn sum_up(summary: &mut Summary, own: &Option<Box<Entry>>, low: &Link, high: &Link) -> bool
-    ensures summed { summary.new ≡ summary_of (fork_entries own.now low.now high.now) }
-    ensures kept { result ≡ false → summary.new ≡ summary.old }
-{
-    summary.set(summary_of_parts(own, low, high))
-}
-
-/// Gives another route to a fork's own prefix, which has one. Says whether its summary may have changed.
-#[inline(never)]
-fn set_own(own: &mut Option<Box<Entry>>, key: &Prefix, route: &Route) -> bool
-    requires { IsSome own.old }
-    ensures put { owned own.new ≡ (key.now, route.now) ∷ [] }
-    ensures kept { result ≡ false → summary_of (owned own.new) ≡ summary_of (owned own.old) }
-{
-    match own {
-        None => unreachable!(),
-        Some(leaf) => {
-            let before = Summary::of(&leaf.1);
-            **leaf = (*key, *route);
-            !before.is_same(&Summary::of(route))
         }
     }
 }

@@ -122,7 +122,21 @@ impl RouteStore for TrieRoutes {
     }
 
     fn replace(&mut self, prefix: &Prefix, route: Route) {
-        let _ = trie::replace(&mut self.root, prefix, &route);
+        let _ = self.update(prefix, |_| route);
+    }
+
+    fn update<F: FnOnce(Route) -> Route>(
+        &mut self,
+        prefix: &Prefix,
+        make: F,
+    ) -> Option<(Route, Route)> {
+        let mut made = None;
+        let _ = trie::update(&mut self.root, prefix, make, &mut made);
+        made
+    }
+
+    fn unmark(&mut self) {
+        trie::unmark(&mut self.root);
     }
 
     fn remove(&mut self, prefix: &Prefix) {

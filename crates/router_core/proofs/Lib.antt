@@ -21,3 +21,6 @@ mod Waking
 mod RouterSteps
 pub mod OwnedStay
 mod ConfigChanges
+pub mod Reasons
+pub mod ReasonVectors
+pub mod OfferedSteps

@@ -50,11 +50,11 @@ abbrev pub from : ℕ → ℕ → Gateway
 from n now = record { iface = 0; cost = 1; from = local n; moment = now }
 
 -- by fe80::n
-abbrev offer : ℕ → ℕ → Offer
+abbrev pub offer : ℕ → ℕ → Offer
 offer n metric = record { metric = metric; tag = 0; next_hop = local n; place = 0 }
 
 -- from and via fe80::n on interface 0, live
-abbrev held : ℕ → ℕ → ℕ → Bool → RouteValue
+abbrev pub held : ℕ → ℕ → ℕ → Bool → RouteValue
 held metric n until marked =
     record { metric = metric; tag = 0; origin = Learned 0 (local n) (local n); clock = Live until; changed = marked }
 
@@ -62,7 +62,7 @@ abbrev pub learned : ℕ → ℕ → Bool → RouteValue
 learned n until marked = held 2 n until marked
 
 -- learned from fe80::2, and lost
-abbrev gone : ℕ → RouteValue
+abbrev pub gone : ℕ → RouteValue
 gone until = record { metric = 16; tag = 0; origin = Learned 0 (local 2) (local 2); clock = Dying until; changed = true }
 
 -- ---- adoption (RFC 2080, 2.4.2): no route

@@ -1,11 +1,13 @@
 -- What an offer makes of a route (RFC 2080, 2.4.2).
-use Rattle.std.specs.Prelude.{ℕ, ◌+◌, min, ◌==◌, ◌&&◌, ◌||◌, not, nat_lt, nat_le, Bool, true, false, if◌then◌else◌, Option, Some, None}
+use Rattle.std.specs.Prelude.{ℕ, ◌+◌, min, ◌==◌, ◌&&◌, ◌||◌, not, nat_lt, nat_le, Bool, true, false, if◌then◌else◌, List, codes, Option, Some, None, option_map}
 use Rattle.route_table.specs.Route.{RouteValue, infinity}
 use Rattle.route_table.specs.declared.route.Origin.{Origin}
 use Rattle.route_table.specs.declared.route.Origin.TheVariants.{Own, Learned}
 use Rattle.route_table.specs.declared.route.Clock.{Clock}
 use Rattle.route_table.specs.declared.route.Clock.TheVariants.{Fixed, Live, Dying}
 use Rattle.router_core.specs.Offers.{Offer}
+use Rattle.router_core.specs.declared.reason.Reason.{Reason}
+use Rattle.router_core.specs.declared.reason.Reason.TheVariants.{Nothing, Added, Owned, GivenUp, Refreshed, Cheaper, Older, Dearer, Young, Revived, Gone}
 use Rattle.router_core.specs.Timers.{timeout, half_timeout, garbage_time}
 
 -- from where and when offers come: an interface and its cost, the address of the sender, and the moment
@@ -75,3 +77,67 @@ adopted_by_clock g o r (Dying until) = if is_reachable (metric_through g o) then
 abbrev pub adopted : Gateway → Option RouteValue → Offer → Option RouteValue
 adopted g None o = if is_reachable (metric_through g o) then Some (taken g o) else None
 adopted g (Some r) o = Some (adopted_by_clock g o r r.clock)
+
+-- ---- which row of the table an offer falls under, and what that row says
+-- of an offer from another gateway than that of a live route
+abbrev pub reason_of_other : Gateway → Offer → ℕ → ℕ → Reason
+reason_of_other g o metric until =
+    if nat_lt (metric_through g o) metric then Cheaper
+    else if nat_lt metric (metric_through g o) then Dearer
+    else if nat_le until (g.moment + half_timeout) then Older else Young
+
+-- where there is a route, by its clock
+abbrev pub reason_by_clock : Gateway → Offer → RouteValue → Clock → Reason
+reason_by_clock g o r Fixed = Owned
+reason_by_clock g o r (Live until) =
+    if is_through g r.origin
+    then if is_reachable (metric_through g o) then Refreshed else GivenUp
+    else reason_of_other g o r.metric until
+reason_by_clock g o r (Dying until) = if is_reachable (metric_through g o) then Revived else Gone
+
+-- the row that an offer falls under
+abbrev pub reason : Gateway → Option RouteValue → Offer → Reason
+reason g None o = if is_reachable (metric_through g o) then Added else Nothing
+reason g (Some r) o = reason_by_clock g o r r.clock
+
+-- what a row makes of the route
+abbrev pub by_reason : Reason → Gateway → Option RouteValue → Offer → Option RouteValue
+by_reason Added g old o = Some (taken g o)
+by_reason Cheaper g old o = Some (taken g o)
+by_reason Older g old o = Some (taken g o)
+by_reason Revived g old o = Some (taken g o)
+by_reason Refreshed g old o = option_map (λ r. record (taken g o) { changed = r.changed || not (is_repeated g o r) }) old
+by_reason GivenUp g old o = option_map (lost g.moment) old
+by_reason Nothing g old o = old
+by_reason Owned g old o = old
+by_reason Dearer g old o = old
+by_reason Young g old o = old
+by_reason Gone g old o = old
+
+-- the number of a row
+abbrev pub reason_number : Reason → ℕ
+reason_number Nothing = 1
+reason_number Added = 2
+reason_number Owned = 3
+reason_number GivenUp = 4
+reason_number Refreshed = 5
+reason_number Cheaper = 6
+reason_number Older = 7
+reason_number Dearer = 8
+reason_number Young = 9
+reason_number Revived = 10
+reason_number Gone = 11
+
+-- the name of a row
+abbrev pub reason_name : Reason → List ℕ
+reason_name Nothing = codes "Nothing"
+reason_name Added = codes "Added"
+reason_name Owned = codes "Owned"
+reason_name GivenUp = codes "GivenUp"
+reason_name Refreshed = codes "Refreshed"
+reason_name Cheaper = codes "Cheaper"
+reason_name Older = codes "Older"
+reason_name Dearer = codes "Dearer"
+reason_name Young = codes "Young"
+reason_name Revived = codes "Revived"
+reason_name Gone = codes "Gone"

@@ -1,10 +1,12 @@
 -- How routes age (RFC 2080, 2.3).
-use Rattle.std.specs.Prelude.{ℕ, nat_le, if◌then◌else◌, false, Option, Some, None}
+use Rattle.std.specs.Prelude.{ℕ, nat_le, if◌then◌else◌, Option, Some, None}
 use Rattle.route_table.specs.Route.{RouteValue}
 use Rattle.route_table.specs.Table.{Table, map_values}
 use Rattle.route_table.specs.declared.route.Clock.{Clock}
 use Rattle.route_table.specs.declared.route.Clock.TheVariants.{Fixed, Live, Dying}
 use Rattle.router_core.specs.Adoption.{lost}
+-- the mark of a route, and those of a table, taken
+pub use Rattle.route_table.specs.Due.{without_mark, unmarked}
 
 -- what a clock makes of its route by a moment (RFC 2080, 2.3)
 abbrev pub aged_by_clock : ℕ → RouteValue → Clock → Option RouteValue
@@ -19,11 +21,3 @@ aged now r = aged_by_clock now r r.clock
 -- every route of the table has aged
 abbrev pub aged_table : ℕ → Table → Table
 aged_table now table = map_values (aged now) table
-
--- the route, not marked as changed
-abbrev pub without_mark : RouteValue → Option RouteValue
-without_mark r = Some (record r { changed = false })
-
--- with no route marked as changed
-abbrev pub unmarked : Table → Table
-unmarked table = map_values without_mark table

@@ -1,6 +1,6 @@
 //! What an offer makes of the route to its prefix: the rules of adoption (RFC 2080, section 2.4.2).
 
-ghost use Rattle.std.specs.Prelude.{◌≡◌, ◌≤◌, ◌<◌};
+ghost use Rattle.std.specs.Prelude.{◌≡◌, ◌≤◌, ◌<◌, None};
 ghost use Rattle.route_table.specs.Route.{infinity};
 ghost use Rattle.route_table.specs.declared.route.Clock.TheVariants.{Live};
 ghost use Rattle.router_core.specs.Adoption.{metric_through, is_reachable, taken, refreshed, is_through, is_repeated, is_preferred, adopted_by_clock, adopted};
@@ -11,7 +11,7 @@ use route_table::{Clock, Deadline, INFINITY, Moment, Origin, Route};
 use std::marker::Model;
 
 /// From where offers come, what the way there costs, and when they come.
-#[derive(Drop)]
+#[derive(Clone, Copy)]
 pub struct Gateway {
     /// The interface of arrival.
     pub iface: usize,
@@ -32,6 +32,8 @@ impl Model for Gateway {
     ghost view = { λ g. record { iface = g.iface; cost = g.cost; from = g.from; moment = g.moment } };
 
     ghost invariant = { λ g. g.cost < infinity };
+
+    ghost inverse = { λ v. record { iface = v.iface; cost = v.cost; from = v.from; moment = v.moment } };
 }
 
 /// A route that a neighbor offers.
@@ -59,7 +61,7 @@ impl Model for Offer {
 
 impl Gateway {
     /// The metric of the offer here.
-    fn metric_through(&self, offer: &Offer) -> u8
+    pub fn metric_through(&self, offer: &Offer) -> u8
         ensures value { result ≡ metric_through self.now offer.now }
         ensures positive { 1 ≤ result }
         ensures in_range { result ≤ infinity }
@@ -86,7 +88,7 @@ impl Gateway {
     }
 
     /// Whether a route is through this gateway.
-    fn is_through(&self, origin: Origin) -> bool
+    pub fn is_through(&self, origin: Origin) -> bool
         ensures { result ≡ is_through self.now origin }
     {
         match origin {
@@ -140,7 +142,8 @@ impl Gateway {
         }
     }
 
-    fn adopt_by_clock(&self, offer: &Offer, route: Route) -> Route
+    /// The route after the offer, where there was one.
+    pub fn adopt_by_clock(&self, offer: &Offer, route: Route) -> Route
         ensures { result ≡ adopted_by_clock self.now offer.now route route.clock }
     {
         let clock = route.clock();
@@ -157,19 +160,14 @@ impl Gateway {
         }
     }
 
-    /// The route, if any, after the offer.
-    pub fn adopt(&self, old: Option<Route>, offer: &Offer) -> Option<Route>
-        ensures { result ≡ adopted self.now old offer.now }
+    /// The first route to a prefix, if the offer makes one.
+    pub fn adopt_first(&self, offer: &Offer) -> Option<Route>
+        ensures { result ≡ adopted self.now None offer.now }
     {
-        match old {
-            Some(route) => Some(self.adopt_by_clock(offer, route)),
-            None => {
-                if self.metric_through(offer) < INFINITY {
-                    Some(self.take(offer))
-                } else {
-                    None
-                }
-            }
+        if self.metric_through(offer) < INFINITY {
+            Some(self.take(offer))
+        } else {
+            None
         }
     }
 }

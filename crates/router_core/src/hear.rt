@@ -20,6 +20,21 @@ use prefix6::{Addr6, Prefix};
 use ripng_wire::{NEXT_HOP_METRIC, Rte, Rtes};
 use route_table::{AddRefused, Route, RouteStore};
 
+/// Adds a route where there is none.
+fn add<S: RouteStore>(store: &mut S, prefix: Prefix, route: Route) -> Result<(), NoteKind>
+    requires absent { map_of.get (S.table store.old) prefix ≡ None }
+    ensures placed { OnOk result (S.table store.new ≡ map_of.insert (S.table store.old) prefix route) }
+    ensures kept { OnErr result (S.table store.new ≡ S.table store.old) }
+    ensures refusal { IfErr result (λ kind. kind ≡ refusal_of_new (S.table store.old)) }
+    ensures room { OnOk result (map_of.len (S.table store.old) < table_limit) }
+{
+    match store.add(prefix, route) {
+        Ok(()) => Ok(()),
+        Err(AddRefused::Full) => Err(NoteKind::TableFull),
+        Err(AddRefused::NoMemory) => Err(NoteKind::NoMemory),
+    }
+}
+
 /// Puts a route where the old one was, or adds it where there is none.
 pub fn put<S: RouteStore>(
     store: &mut S,
@@ -38,14 +53,34 @@ pub fn put<S: RouteStore>(
         store.replace(&prefix, route);
         return Ok(());
     }
-    match store.add(prefix, route) {
-        Ok(()) => Ok(()),
-        Err(AddRefused::Full) => Err(NoteKind::TableFull),
-        Err(AddRefused::NoMemory) => Err(NoteKind::NoMemory),
-    }
+    add(store, prefix, route)
 }
 
-/// One offer meets the routes: the change that it makes, or why its first route to a prefix is refused.
+/// An offer meets no route to its prefix: the change that it makes, or why the first route is refused.
+fn meet_first<S: RouteStore>(
+    store: &mut S,
+    gateway: &Gateway,
+    prefix: Prefix,
+    offer: &Offer,
+) -> Result<Option<RouteChange>, NoteKind>
+    requires absent { map_of.get (S.table store.old) prefix ≡ None }
+    ensures table { OnOk result (S.table store.new ≡ table_met (meeting gateway.now offer.now prefix (S.table store.old))) }
+    ensures change { IfOk result (λ c. c ≡ change_met (meeting gateway.now offer.now prefix (S.table store.old))) }
+    ensures room { OnOk result (IsTrue (adds (meeting gateway.now offer.now prefix (S.table store.old)))
+        → map_of.len (S.table store.old) < table_limit) }
+    ensures kept { OnErr result (S.table store.new ≡ S.table store.old) }
+    ensures new { OnErr result (IsTrue (adds (meeting gateway.now offer.now prefix (S.table store.old)))) }
+    ensures refusal { IfErr result (λ kind. kind ≡ refusal_of_new (S.table store.old)) }
+{
+    let Some(first) = gateway.adopt_first(offer) else {
+        return Ok(None);
+    };
+    add(store, prefix, first)?;
+    Ok(change(prefix, None, Some(first)))
+}
+
+/// One offer meets the routes: the change that it makes, or why its first route to a prefix is refused. The store is searched once
+/// where it has a route to the prefix.
 fn meet<S: RouteStore>(
     store: &mut S,
     gateway: &Gateway,
@@ -60,12 +95,10 @@ fn meet<S: RouteStore>(
     ensures new { OnErr result (IsTrue (adds (meeting gateway.now offer.now prefix (S.table store.old)))) }
     ensures refusal { IfErr result (λ kind. kind ≡ refusal_of_new (S.table store.old)) }
 {
-    let old = store.get(&prefix);
-    let new = gateway.adopt(old, offer);
-    if let Some(route) = new {
-        put(store, prefix, old.is_some(), route)?;
+    match store.update(&prefix, |route| gateway.adopt_by_clock(offer, route)) {
+        Some((before, after)) => Ok(change(prefix, Some(before), Some(after))),
+        None => meet_first(store, gateway, prefix, offer),
     }
-    Ok(change(prefix, old, new))
 }
 
 /// One entry that is no next hop entry: the change that its offer makes, or why it is skipped.

@@ -1,15 +1,18 @@
 //! Laws of the step, each the contract of a function with nothing to do: what follows from the definitions alone.
 
-ghost use Rattle.std.specs.Prelude.{◌≡◌, ℕ, ◌+◌, ◌<◌, ◌≤◌, List, length, flat_map, slice_get, Some};
+ghost use Rattle.std.specs.Prelude.{◌≡◌, ℕ, ◌+◌, ◌<◌, ◌≤◌, List, Option, length, flat_map, slice_get, Some};
 ghost use Rattle.std.specs.FinMap as map_of;
 ghost use Rattle.fib.specs.Forwarding.{Replays};
 ghost use Rattle.prefix6.specs.Prefix.{Prefix6};
 ghost use Rattle.ripng_wire.specs.declared.rte.Rte.{Rte};
+ghost use Rattle.route_table.specs.Route.{RouteValue};
 ghost use Rattle.route_table.specs.Table.{Table};
+ghost use Rattle.router_core.specs.Adoption.{Gateway, adopted, by_reason, reason};
 ghost use Rattle.router_core.specs.Changes.{forwards};
 ghost use Rattle.router_core.specs.Config.{Config};
 ghost use Rattle.router_core.specs.Hearing.{Hearing, route_after, held_after};
 ghost use Rattle.router_core.specs.Machine.{State, Happening, Moves, Starts, forwards_before};
+ghost use Rattle.router_core.specs.Offers.{Offer};
 ghost use Rattle.router_core.specs.Output.{pieces};
 ghost use Rattle.router_core.specs.Owning.{OwnsOnce, HoldsOwned};
 ghost use Rattle.router_core.specs.declared.answer.Answer.{Answer};
@@ -18,6 +21,12 @@ ghost use Rattle.router_core.specs.declared.answer.Answer.{Answer};
 pub fn changes_replay()
     ensures { (old new : State) (happening : Happening) (answer : Answer) → Moves old happening answer new
         → Replays (forwards_before old happening) answer.changes (forwards new.table) }
+{}
+
+/// What an offer makes of the route to its prefix is what the row of the table of adoption says that it falls under.
+pub fn adopted_by_row()
+    ensures { (gateway : Gateway) (held : Option RouteValue) (offer : Offer)
+        → adopted gateway held offer ≡ by_reason (reason gateway held offer) gateway held offer }
 {}
 
 /// A table that is as heard so far holds as many routes as are said to be held.

@@ -15,6 +15,8 @@ mod hear;
 mod laws;
 mod listed;
 mod listing;
+mod offered;
+mod reason;
 mod reconfiguring;
 mod reply;
 mod router;
@@ -28,7 +30,11 @@ pub use arrival::{Arrival, Fault, MAX_HOP_LIMIT, RIPNG_PORT};
 pub use config::{
     ConfigRefused, INTERFACE_LIMIT, Interface, LEAST_MTU, MOST_MTU, OWNED_LIMIT, RouterConfig,
 };
-pub use laws::{changes_replay, held_is_size, owned_routes_stay, pieces_join, start_replays};
+pub use laws::{
+    adopted_by_row, changes_replay, held_is_size, owned_routes_stay, pieces_join, start_replays,
+};
 pub use listed::Listed;
+pub use offered::Offered;
+pub use reason::Reason;
 pub use reconfiguring::{Change, ReconfigureRefused};
 pub use router::Router;

@@ -71,26 +71,12 @@ fn age_all<S: RouteStore>(store: &mut S, now: Moment)
     }
 }
 
-/// Every route loses its mark. Only those that are marked are looked at.
-fn unmark_all<S: RouteStore>(store: &mut S)
-    ensures { S.table store.new ≡ unmarked (S.table store.old) }
-{
-    let mut after = None;
-    for _ in 0..store.len() {
-        let Some(entry) = store.walk_changed(after) else {
-            return;
-        };
-        store.replace(&entry.0, entry.1.with_mark(false));
-        after = Some(entry.0);
-    }
-}
-
 /// Every route ages, and loses its mark if it was told.
 pub fn settle_all<S: RouteStore>(store: &mut S, now: Moment, was_told: bool)
     ensures { S.table store.new ≡ (if was_told then unmarked (aged_table now (S.table store.old)) else aged_table now (S.table store.old)) }
 {
     age_all(store, now);
     if was_told {
-        unmark_all(store);
+        store.unmark();
     }
 }

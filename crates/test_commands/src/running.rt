@@ -73,11 +73,11 @@ fn started<'a, R: Clock + Net + AllocGlobal>(
     };
     let Config {
         router,
-        ports,
+        places,
         peers,
         rng,
     } = config;
-    let link = Udp::bind(rt, rt.alloc(), ports.as_slice(), peers)?;
+    let link = Udp::bind(rt, rt.alloc(), places.as_slice(), peers)?;
     let clock = Uptime::new(rt);
     let engine = Engine::start(rt.alloc(), router, link, clock, rng, &mut io::sink())?;
     Ok(engine)

@@ -5,7 +5,7 @@ mod rows;
 use prefix6::Addr6;
 use rand_core::{Rng, SeedableRng};
 use rand_pcg::Pcg32;
-use ripngd_config::{Config, Peer, read_config};
+use ripngd_config::{Config, Peer, Place, read_config};
 use router_core::Interface;
 use rows::{DEFAULTS, EXAMPLE, NO_DEFAULTS, TAILS, TEXTS};
 use std::alloc::{AllocError, Global};
@@ -54,11 +54,18 @@ fn bytes_that_are_no_text_are_no_toml(rt: HostRuntime) -> Result<(), Fail> {
     Ok(())
 }
 
-/// Whether a configuration has just this interface, prefix tag, port and peer, keeps quiet, and draws what the seed gives.
-fn has(config: Config, interface: Interface, tag: u16, port: u16, peer: Peer, seed: u64) -> bool {
+/// Whether a configuration has just this interface, prefix tag, place and peer, keeps quiet, and draws what the seed gives.
+fn has(
+    config: Config,
+    interface: Interface,
+    tag: u16,
+    place: Place,
+    peer: Peer,
+    seed: u64,
+) -> bool {
     let Config {
         router,
-        ports,
+        places,
         peers,
         mut rng,
     } = config;
@@ -66,9 +73,18 @@ fn has(config: Config, interface: Interface, tag: u16, port: u16, peer: Peer, se
     router.is_quiet()
         && router.interfaces().iter().all(|i| *i == interface)
         && router.prefixes().iter().all(|(_, t)| *t == tag)
-        && ports.iter().all(|p| *p == port)
+        && places.iter().all(|p| *p == place)
         && peers.iter().all(|ps| ps.iter().all(|p| *p == peer))
         && rng.next_u32() == word
+}
+
+/// An interface of fe80::1 at a local port, with a port for the group or without.
+fn place_at(local_port: u16, group_port: Option<u16>) -> Place {
+    Place {
+        addr: Addr6::from_bits(FIRST),
+        local_port,
+        group_port,
+    }
 }
 
 /// fe80::1 and fe80::2.
@@ -91,7 +107,7 @@ fn keys_that_are_left_out_have_defaults(rt: HostRuntime) {
         to_group: true,
     };
     let config = read_config(rt.alloc(), DEFAULTS.as_bytes(), 4, true);
-    assert!(rt; config.is_ok_and(|c| has(c, interface, 4, 5211, peer, 0)));
+    assert!(rt; config.is_ok_and(|c| has(c, interface, 4, place_at(5211, None), peer, 0)));
 }
 
 #[test]
@@ -109,7 +125,9 @@ fn keys_that_are_given_are_read(rt: HostRuntime) {
         to_group: false,
     };
     let config = read_config(rt.alloc(), NO_DEFAULTS.as_bytes(), 4, true);
-    assert!(rt; config.is_ok_and(|c| has(c, interface, 65_535, 65_535, peer, 7)));
+    assert!(rt;
+        config.is_ok_and(|c| has(c, interface, 65_535, place_at(65_535, Some(2)), peer, 7))
+    );
 }
 
 #[test]

@@ -5,7 +5,7 @@ ghost use Rattle.std.specs.Prelude.{◌≡◌, IfSome, vec_len};
 use crate::digest::Digest;
 use crate::rows::link_local;
 use crate::trial::Outcome;
-use ripngd_config::Peer;
+use ripngd_config::{Peer, Place};
 use ripngd_engine::Link;
 use ripngd_udp::{Udp, UdpError};
 use router_core::{Destination, Listed, Outgoing};
@@ -36,8 +36,17 @@ fn nobody(alloc: Global) -> Option<Vec<Vec<Peer>>>
     .ok()
 }
 
-/// Five ports at which nothing stands.
-fn free_ports<R: Net>(rt: &R) -> Option<[u16; 5]> {
+/// An interface at a port.
+fn place_at(local_port: u16) -> Place {
+    Place {
+        addr: link_local(1),
+        local_port,
+        group_port: None,
+    }
+}
+
+/// Five places at whose ports nothing stands.
+fn free_places<R: Net>(rt: &R) -> Option<[Place; 5]> {
     let sockets = [
         neighbor(rt)?,
         neighbor(rt)?,
@@ -45,19 +54,19 @@ fn free_ports<R: Net>(rt: &R) -> Option<[u16; 5]> {
         neighbor(rt)?,
         neighbor(rt)?,
     ];
-    let mut ports = [0; 5];
-    for (port, socket) in ports.iter_mut().zip(sockets.iter()) {
-        *port = socket.local_addr().ok()?.port();
+    let mut places = [place_at(0); 5];
+    for (place, socket) in places.iter_mut().zip(sockets.iter()) {
+        *place = place_at(socket.local_addr().ok()?.port());
     }
-    Some(ports)
+    Some(places)
 }
 
 /// A link that was refused memory is bound again, at the same ports: none of them is held.
-fn bind_again<R: Clock + Net>(rt: &R, alloc: Global, ports: &[u16; 5]) -> Outcome {
+fn bind_again<R: Clock + Net>(rt: &R, alloc: Global, places: &[Place; 5]) -> Outcome {
     let Some(peers) = nobody(alloc) else {
         return Outcome::Wrong("memory was refused a second time");
     };
-    match Udp::bind(rt, alloc, ports, peers).err() {
+    match Udp::bind(rt, alloc, places, peers).err() {
         None => Outcome::Refused,
         Some(UdpError::OutOfMemory) => Outcome::Wrong("memory was refused a second time"),
         Some(UdpError::Bind(_)) => Outcome::Wrong("a bind that was refused memory held a port"),
@@ -69,12 +78,12 @@ pub fn outcome_of_bind<R: Clock + Net>(rt: &R, alloc: Global) -> Outcome {
     let Some(peers) = nobody(alloc) else {
         return Outcome::NotMade;
     };
-    let Some(ports) = free_ports(rt) else {
+    let Some(places) = free_places(rt) else {
         return Outcome::NotMade;
     };
-    match Udp::bind(rt, alloc, &ports, peers).err() {
+    match Udp::bind(rt, alloc, &places, peers).err() {
         None => Outcome::Undisturbed,
-        Some(UdpError::OutOfMemory) => bind_again(rt, alloc, &ports),
+        Some(UdpError::OutOfMemory) => bind_again(rt, alloc, &places),
         Some(UdpError::Bind(_)) => Outcome::Wrong(
             "a bind that was refused memory should say so, and named a port",
         ),
@@ -103,7 +112,7 @@ fn link_to<'a, R: Clock + Net>(
         to_group: true,
     };
     let peers = vec![in alloc; vec![in alloc; peer].ok()?].ok()?;
-    Udp::bind(rt, alloc, &[0], peers).ok()
+    Udp::bind(rt, alloc, &[place_at(0)], peers).ok()
 }
 
 /// A datagram of one byte to the group.

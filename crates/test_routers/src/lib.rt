@@ -22,6 +22,8 @@ mod player;
 #[cfg(test)]
 mod reading;
 #[cfg(test)]
+mod reasons;
+#[cfg(test)]
 mod starts;
 #[cfg(test)]
 mod ticks;

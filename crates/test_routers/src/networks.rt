@@ -3,6 +3,7 @@
 ghost use Rattle.std.specs.Prelude.{◌≡◌, IfOk, length};
 
 mod healing;
+mod phases;
 mod rounds;
 
 use prefix6::{Addr6, Prefix, PrefixError};

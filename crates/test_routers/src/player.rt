@@ -7,6 +7,7 @@
 //! | `hear-sites IFACE NOW SOURCE FIRST COUNT METRIC` | a neighbor's Response arrives, with so many prefixes `2001:db8:N::/48` |
 //! | `fill IFACE NOW SOURCE COUNT METRIC` | so many of a neighbor's Responses arrive, with 2,048 prefixes each; the number of their changes is written |
 //! | `hear-beginnings IFACE NOW SOURCE FIRST COUNT METRIC` | each beginning of that Response arrives, the shortest first; how many have which fault is written |
+//! | `why IFACE NOW SOURCE PORT HOP group BYTES` | writes the offers of the datagram, each with the row of the table of adoption that it falls under, and hears it |
 //! | `tick NOW WORD`, `restart NOW` | time passes; the router comes up again |
 //! | `cost IFACE NOW COST`, `gain NOW PREFIX TAG`, `drop NOW PREFIX` | the router's configuration is changed; where that is refused, the refusal is written |
 //! | `count COMMAND` | does the command, and writes numbers in place of a long answer |
@@ -16,6 +17,7 @@
 use crate::reading::{
     arrival, config, datagram, from_neighbor, moment, response_of_sites, told_sites, words_of,
 };
+use crate::reasons::explain;
 use crate::writing::{
     write_answer, write_due, write_route, write_router, write_sizes, write_tally, write_timers,
 };
@@ -28,7 +30,7 @@ use std::process::Abort;
 use std::test::Fail;
 
 /// An arrival at an interface that there is. It must be answered by the fault that was foreseen.
-fn arrive<S: RouteStore>(router: &mut Router<S>, arrival: Arrival<'_>) -> Result<Answer, Fail> {
+pub fn arrive<S: RouteStore>(router: &mut Router<S>, arrival: Arrival<'_>) -> Result<Answer, Fail> {
     if arrival.iface >= router.config().interfaces().len() {
         return Err(Fail::from("no such interface"));
     }
@@ -197,6 +199,7 @@ fn obey<S: RouteStore>(
         ["due"] => Ok(write_due(out, router)?),
         ["wakes"] => Ok(writeln!(out, "{}", router.wakes_at().ms())?),
         ["fill", rest @ ..] => fill(out, alloc, router, rest),
+        ["why", rest @ ..] => explain(out, alloc, router, rest),
         ["hear-beginnings", rest @ ..] => hear_beginnings(out, alloc, router, rest),
         ["cost" | "gain" | "drop", ..] => reconfigure(out, alloc, router, words),
         ["tally", rest @ ..] => Ok(write_tally(out, &answer_of(alloc, router, rest)?)?),

@@ -46,6 +46,7 @@ fn a_trie_answers_as_a_sorted_vector(rt: HostRuntime) -> Result<(), Fail> {
     let mut rng = Pcg32::seed_from_u64(1);
     let mut added = 0u32;
     let mut replaced = 0u32;
+    let mut updated = 0u32;
     let mut removed = 0u32;
     for turn in 0..COMMANDS {
         let prefix = short_prefix(rng.next_u32()).ok_or("a prefix")?;
@@ -55,6 +56,18 @@ fn a_trie_answers_as_a_sorted_vector(rt: HostRuntime) -> Result<(), Fail> {
 
         let present = trie.get(&prefix);
         assert_eq!(rt; present, sorted.get(&prefix), "get, turn {turn}");
+        if word / 16 % 2 == 0 {
+            let one = trie.update(&prefix, |held| route.with_mark(held.is_changed()));
+            let other = sorted.update(&prefix, |held| route.with_mark(held.is_changed()));
+            assert_eq!(rt; one, other, "update, turn {turn}");
+            assert_eq!(rt; one.map(|made| made.0), present, "before, turn {turn}");
+            assert_eq!(rt;
+                one.map(|made| made.1),
+                trie.get(&prefix),
+                "after, turn {turn}"
+            );
+            updated = updated.saturating_add(u32::from(one.is_some()));
+        }
         if trie.get(&prefix).is_none() && sorted.get(&prefix).is_none() {
             assert_eq!(rt;
                 trie.add(prefix, route),
@@ -89,12 +102,18 @@ fn a_trie_answers_as_a_sorted_vector(rt: HostRuntime) -> Result<(), Fail> {
                 "walk_changed, turn {turn}"
             );
         }
+        if turn % 500 == 499 {
+            assert!(rt; trie.walk_changed(None).is_some(), "marks, turn {turn}");
+            trie.unmark();
+            sorted.unmark();
+            assert!(rt; trie.walk_changed(None).is_none(), "no marks, turn {turn}");
+        }
         if turn % 100 == 0 {
             let one = listed(rt.alloc(), &trie).ok_or("no memory")?;
             let other = listed(rt.alloc(), &sorted).ok_or("no memory")?;
             assert_eq!(rt; one, other, "list, turn {turn}");
         }
     }
-    assert!(rt; added > 4_096 && replaced > 1_000 && removed > 1_000);
+    assert!(rt; added > 4_096 && replaced > 1_000 && updated > 1_000 && removed > 1_000);
     Ok(())
 }

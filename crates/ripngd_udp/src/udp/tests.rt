@@ -4,7 +4,7 @@
 use crate::endpoint::local;
 use crate::udp::{Udp, UdpError};
 use prefix6::Addr6;
-use ripngd_config::Peer;
+use ripngd_config::{Peer, Place};
 use ripngd_engine::{Link, LinkFault, Received};
 use router_core::{Destination, Listed, Outgoing};
 use std::alloc::{AllocError, Global};
@@ -30,6 +30,15 @@ fn peer(number: u8, local_port: u16) -> Peer {
     }
 }
 
+/// An interface of `fe80::1` at a port, with no port for the group.
+fn place(local_port: u16) -> Place {
+    Place {
+        addr: addr(1),
+        local_port,
+        group_port: None,
+    }
+}
+
 fn socket<N: Net>(net: &N) -> io::Result<UdpSocket> {
     let socket = UdpSocket::bind(net, local(0))?;
     socket.set_nonblocking(true)?;
@@ -40,16 +49,16 @@ fn port_of(socket: &UdpSocket) -> io::Result<u16> {
     Ok(socket.local_addr()?.port())
 }
 
-/// So many ports that nothing stands at.
-fn free_ports<N: Net>(net: &N, alloc: Global, count: usize) -> io::Result<Vec<u16>> {
+/// So many places at whose ports nothing stands.
+fn free_places<N: Net>(net: &N, alloc: Global, count: usize) -> io::Result<Vec<Place>> {
     let mut held = Vec::new(alloc);
-    let mut ports = Vec::new(alloc);
+    let mut places = Vec::new(alloc);
     for _ in 0..count {
         let socket = socket(net)?;
-        ports.push(port_of(&socket)?)?;
+        places.push(place(port_of(&socket)?))?;
         held.push(socket)?;
     }
-    Ok(ports)
+    Ok(places)
 }
 
 /// So many lists of the same peers.
@@ -61,7 +70,7 @@ fn lists(alloc: Global, peers: &[Peer], count: usize) -> Result<Vec<Vec<Peer>>, 
     Ok(lists)
 }
 
-/// A link with so many interfaces, each with the same peers, and its ports. Where another program has just taken one of
+/// A link with so many interfaces, each with the same peers, and their places. Where another program has just taken one of
 /// them, others are tried.
 fn link<'a, N: Net, R: Clock>(
     net: &N,
@@ -69,15 +78,15 @@ fn link<'a, N: Net, R: Clock>(
     alloc: Global,
     peers: &[Peer],
     count: usize,
-) -> Result<(Udp<'a, R>, Vec<u16>), Fail> {
+) -> Result<(Udp<'a, R>, Vec<Place>), Fail> {
     for _ in 0..8 {
-        let ports = free_ports(net, alloc, count)?;
+        let places = free_places(net, alloc, count)?;
         let lists = lists(alloc, peers, count)?;
-        if ports.len() != lists.len() {
-            return Err(Fail::from("a port for each list"));
+        if places.len() != lists.len() {
+            return Err(Fail::from("a place for each list"));
         }
-        if let Ok(udp) = Udp::bind_by(net, clock, alloc, &ports, lists) {
-            return Ok((udp, ports));
+        if let Ok(udp) = Udp::bind_by(net, clock, alloc, &places, lists) {
+            return Ok((udp, places));
         }
     }
     Err(Fail::from("free ports"))
@@ -90,8 +99,11 @@ fn link_to<'a, N: Net, R: Clock>(
     alloc: Global,
     peers: &[Peer],
 ) -> Result<(Udp<'a, R>, u16), Fail> {
-    let (udp, ports) = link(net, clock, alloc, peers, 1)?;
-    Ok((udp, ports.first().copied().unwrap_or(0)))
+    let (udp, places) = link(net, clock, alloc, peers, 1)?;
+    Ok((
+        udp,
+        places.first().map(|place| place.local_port).unwrap_or(0),
+    ))
 }
 
 /// Sends a datagram of so many bytes to the port, so many times.
@@ -142,10 +154,10 @@ fn a_whole_table_on_one_of_many_interfaces_is_taken_in_at_once(
 ) -> Result<(), Fail> {
     let neighbor = socket(&rt)?;
     let peers = [peer(2, port_of(&neighbor)?)];
-    let (mut udp, ports) = link(&rt, &rt, rt.alloc(), &peers, 16)?;
+    let (mut udp, places) = link(&rt, &rt, rt.alloc(), &peers, 16)?;
     flood(
         &neighbor,
-        ports.last().copied().unwrap_or(0),
+        places.last().map(|place| place.local_port).unwrap_or(0),
         &[7; 1224],
         68,
     )?;
@@ -204,7 +216,7 @@ fn a_port_in_use_is_named(rt: HostRuntime) -> Result<(), Fail> {
         return Err(Fail::from("two lists"));
     }
     // At port 0 the system chooses a free one.
-    let refused = Udp::bind(&rt, rt.alloc(), &[0, used], peers).err();
+    let refused = Udp::bind(&rt, rt.alloc(), &[place(0), place(used)], peers).err();
     assert_eq!(rt; refused, Some(UdpError::Bind(used)));
     assert_eq!(rt;
         (
@@ -258,9 +270,9 @@ fn a_peer_is_sent_to_by_its_address(rt: HostRuntime) -> Result<(), Fail> {
 
 #[test]
 fn a_peer_that_is_not_up_fails_no_later_turn(rt: HostRuntime) -> Result<(), Fail> {
-    let absent = free_ports(&rt, rt.alloc(), 1)?
+    let absent = free_places(&rt, rt.alloc(), 1)?
         .first()
-        .copied()
+        .map(|place| place.local_port)
         .unwrap_or(0);
     let (mut udp, _) = link_to(&rt, &rt, rt.alloc(), &[peer(2, absent)])?;
     assert!(rt; udp.send(&outgoing(rt.alloc(), Destination::Group)?).is_ok());
@@ -269,3 +281,4 @@ fn a_peer_that_is_not_up_fails_no_later_turn(rt: HostRuntime) -> Result<(), Fail
 }
 
 mod pacing;
+mod peers;

@@ -11,7 +11,7 @@ pub const DEFAULTS: &str =
 
 /// Each key given, and none as its default.
 pub const NO_DEFAULTS: &str =
-    "seed = 7\n[[interface]]\naddress = 'fe80::1'\ncost = 15\nmtu = 1500\nlocal_port = 65535\n[[interface.peer]]\naddress = 'fe80::2'\nlocal_port = 1\nport = 65535\nhop_limit = 254\ngroup = false\n[[prefix]]\nprefix = '2001:db8::/32'\ntag = 65535\n";
+    "seed = 7\n[[interface]]\naddress = 'fe80::1'\ncost = 15\nmtu = 1500\nlocal_port = 65535\ngroup_port = 2\n[[interface.peer]]\naddress = 'fe80::2'\nlocal_port = 1\nport = 65535\nhop_limit = 254\ngroup = false\n[[prefix]]\nprefix = '2001:db8::/32'\ntag = 65535\n";
 
 /// The head of a configuration, behind which some tables go on.
 pub const INTERFACE: &str = "[[interface]]\naddress = 'fe80::1'\ncost = 1\nlocal_port = 5211\n";
@@ -89,7 +89,7 @@ pub const TEXTS: [(&str, &str); 35] = [
 ];
 
 /// Heads with what goes on behind them, and what the two together give.
-pub const TAILS: [(&str, &str, &str); 42] = [
+pub const TAILS: [(&str, &str, &str); 50] = [
     (
         "[[interface]]\n",
         "address = 5",
@@ -126,6 +126,46 @@ pub const TAILS: [(&str, &str, &str); 42] = [
         "refused 4 BadValue interface[0].local_port",
     ),
     (INTERFACE, "", "ok interfaces 1 prefixes 0 peers 0"),
+    (
+        INTERFACE,
+        "group_port = 0",
+        "refused 4 BadValue interface[0].group_port",
+    ),
+    (
+        INTERFACE,
+        "group_port = 65536",
+        "refused 4 BadValue interface[0].group_port",
+    ),
+    (
+        INTERFACE,
+        "group_port = 'x'",
+        "refused 3 WrongType interface[0].group_port",
+    ),
+    (
+        INTERFACE,
+        "group_port = 5211",
+        "refused 7 PortTwice interface[0].group_port",
+    ),
+    (
+        INTERFACE,
+        "group_port = 5221\n[[interface.peer]]\naddress = 'fe80::2'\nlocal_port = 5221",
+        "refused 7 PortTwice interface[0].group_port",
+    ),
+    (
+        TWO_INTERFACES,
+        "local_port = 5212\ngroup_port = 5211",
+        "refused 7 PortTwice interface[1].group_port",
+    ),
+    (
+        PEER,
+        "[[interface]]\naddress = 'fe80::3'\ncost = 1\nlocal_port = 5212\ngroup_port = 5221",
+        "refused 7 PortTwice interface[1].group_port",
+    ),
+    (
+        TWO_INTERFACES,
+        "local_port = 5212\ngroup_port = 65535",
+        "ok interfaces 2 prefixes 0 peers 0",
+    ),
     (INTERFACE, "mtu = 1279", "refused 6 Router 6 BadMtu"),
     (INTERFACE, "mtu = 4294967295", "refused 6 Router 6 BadMtu"),
     (

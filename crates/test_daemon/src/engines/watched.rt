@@ -11,10 +11,10 @@ use std::alloc::Global;
 use std::process::Abort;
 use std::test::Fail;
 
-/// What a watcher was told, and of the notes the first.
+/// What a watcher was told: of the bytes how many they were, and of the notes the first.
 #[derive(Clone, Copy, Debug, PartialEq, Eq)]
 enum Event {
-    Heard(Arrived, Option<Fault>, usize, Option<Note>),
+    Heard(Arrived, usize, Option<Fault>, usize, Option<Note>),
     Sent(usize, bool),
 }
 
@@ -25,11 +25,9 @@ struct Keeper(Vec<Event>);
 impl Watch for Keeper {
     ghost takes = { λ _ _ _. ⊤ };
 
-    fn heard(&mut self, arrived: Arrived, fault: Option<Fault>, notes: &[Note]) {
+    fn heard(&mut self, arrived: Arrived, bytes: &[u8], fault: Option<Fault>, notes: &[Note]) {
         let first = notes.first().copied();
-        let _ = self
-            .0
-            .push(Event::Heard(arrived, fault, notes.len(), first));
+        let _ = self.0.push(Event::Heard(arrived, bytes.len(), fault, notes.len(), first));
     }
 
     fn sent(&mut self, outgoing: &Outgoing, went: bool) {
@@ -72,7 +70,7 @@ fn a_refused_arrival_is_told_with_its_fault(rt: HostRuntime) -> Result<(), Fail>
         ..datagram
     });
     let keeper = events(&rt, alloc, forwarded, None)?;
-    let refused = Event::Heard(arrived(&rt), Some(Fault::HopLimit), 0, None);
+    let refused = Event::Heard(arrived(&rt), 24, Some(Fault::HopLimit), 0, None);
     assert_eq!(rt; keeper.0.as_slice(), [refused].as_slice());
     Ok(())
 }
@@ -92,7 +90,7 @@ fn a_skipped_entry_is_told_with_its_place(rt: HostRuntime) -> Result<(), Fail> {
         entry: 1,
         kind: NoteKind::BadMetric,
     };
-    let skipped = Event::Heard(arrived(&rt), None, 1, Some(note));
+    let skipped = Event::Heard(arrived(&rt), 44, None, 1, Some(note));
     assert_eq!(rt;
         keeper.0.as_slice(),
         [skipped, Event::Sent(0, true), Event::Sent(1, true)].as_slice()
@@ -105,7 +103,7 @@ fn a_send_is_told_with_whether_it_was_taken(rt: HostRuntime) -> Result<(), Fail>
     let alloc = rt.alloc();
     // The start sends two Requests, of which nobody is told.
     let keeper = events(&rt, alloc, told(alloc, 1)?, Some(3))?;
-    let accepted = Event::Heard(arrived(&rt), None, 0, None);
+    let accepted = Event::Heard(arrived(&rt), 24, None, 0, None);
     assert_eq!(rt;
         keeper.0.as_slice(),
         [accepted, Event::Sent(0, true), Event::Sent(1, false)].as_slice()

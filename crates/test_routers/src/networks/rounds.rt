@@ -10,7 +10,7 @@ use router_core::Interface;
 use std::alloc::{AllocError, Global};
 use std::test::Fail;
 
-fn moment(now: u64) -> Result<Moment, Fail> {
+pub fn moment(now: u64) -> Result<Moment, Fail> {
     Ok(Moment::new(now).ok_or("a moment")?)
 }
 
@@ -38,6 +38,11 @@ fn prefix() -> Result<Prefix, Fail> {
 
 /// The first router owns the prefix, and its link to the last costs 9.
 fn square(alloc: Global) -> Result<Lab<SortedRoutes>, Fail> {
+    square_at(alloc, moment(0)?)
+}
+
+/// The same square, in which all start at this moment.
+pub fn square_at(alloc: Global, now: Moment) -> Result<Lab<SortedRoutes>, Fail> {
     let mut owner = node(alloc, [(0xa0, 1, 0), (0xa1, 9, 3)])?;
     owner.prefixes.push((prefix()?, 0))?;
     let mut nodes = Vec::new(alloc);
@@ -46,13 +51,12 @@ fn square(alloc: Global) -> Result<Lab<SortedRoutes>, Fail> {
     nodes.push(node(alloc, [(0xc0, 1, 1), (0xc1, 1, 2)])?)?;
     nodes.push(node(alloc, [(0xd0, 1, 2), (0xd1, 9, 3)])?)?;
     let network = NetConfig::check(alloc, nodes).ok().ok_or("a network")?;
-    let now = moment(0)?;
     let lab = Lab::cold(alloc, network, &[now, now, now, now]);
     Ok(lab.ok().ok_or("a lab")?)
 }
 
 /// The metrics of the prefix at all four routers, 0 where there is no route.
-fn metrics(lab: &Lab<SortedRoutes>) -> Result<[u8; 4], Fail> {
+pub fn metrics(lab: &Lab<SortedRoutes>) -> Result<[u8; 4], Fail> {
     let mut metrics = [0; 4];
     for (place, metric) in metrics.iter_mut().enumerate() {
         let router = lab.router(place).ok_or("a router")?;

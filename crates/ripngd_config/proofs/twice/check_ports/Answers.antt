@@ -1,5 +1,4 @@
-use Rattle.std.proofs.Common.{◌≡◌, ◌≢◌, ◌∙◌, ◌==◌, get_or, sym}
-use Rattle.std.proofs.lemmas.List.{get_or_default}
+use Rattle.std.proofs.Common.{◌≡◌, ◌≢◌, ◌∙◌, ◌==◌, sym}
 use Rattle.ripngd_config.specs.Twice.{ArePortsDistinct}
 use Rattle.ripngd_config.specs.declared.fault.PathFault.TheVariants.{PortTwice}
 use Rattle.ripngd_config.proofs.Arrays.{RefusesAt_then}
@@ -9,20 +8,16 @@ use Rattle.ripngd_config.proofs.twice.check_ports.Goals as goal
 
 pub loop-index-preserved : goal.loop-index-preserved
 loop-index-preserved c =
-    let ports = c.args.ports.now in
-    let i = c.loop-index.index in
-    let port = get_or ports i 0 in
-    pairs_more (λ p q. p ≢ q) (λ p q. p == q) ports_apart ports i port c.loop-index-test.true (get_or_default ports i 0 port c.loop-index-test.true)
-    (sym c.contains.ensures.value ∙ c.if-contains.false) c.loop-index.invariant
+    pairs_more (λ t u. t.local_port ≢ u.local_port) (λ t u. t.local_port == u.local_port) (λ t u. ports_apart t.local_port u.local_port)
+    c.args.interfaces.now c.loop-index.index c.index-interfaces-index.result c.loop-index-test.true c.index-interfaces-index.is
+    (sym c.has_port.ensures ∙ c.if-has_port.false) c.loop-index.invariant
 
 pub returns-clause-ok : goal.returns-clause-ok
-returns-clause-ok c = pairs_all (λ p q. p ≢ q) c.args.ports.now c.loop-index.index c.loop-index-test.false c.loop-index.invariant
+returns-clause-ok c = pairs_all (λ t u. t.local_port ≢ u.local_port) c.args.interfaces.now c.loop-index.index c.loop-index-test.false c.loop-index.invariant
 
-pub returns-then-contains-clause-fault : goal.returns-then-contains-clause-fault
-returns-then-contains-clause-fault c =
-    let ports = c.args.ports.now in
-    let i = c.loop-index.index in
-    let port = get_or ports i 0 in
-    let twice : ¬ (ArePortsDistinct ports) = pairs_clash (λ p q. p ≢ q) (λ p q. p == q) clash_ports ports i port c.loop-index-test.true (get_or_default ports i 0 port c.loop-index-test.true)
-    (sym c.contains.ensures.value ∙ c.if-contains.true) in
-    RefusesAt_then c.at.result (λ f. f ≡ PortTwice) (λ f. (f ≡ PortTwice) × (¬ (ArePortsDistinct ports))) (λ f is. (is, twice)) c.at.ensures
+pub returns-then-has_port-clause-fault : goal.returns-then-has_port-clause-fault
+returns-then-has_port-clause-fault c =
+    let twice : ¬ (ArePortsDistinct c.args.interfaces.now) = pairs_clash (λ t u. t.local_port ≢ u.local_port) (λ t u. t.local_port == u.local_port) (λ t u. clash_ports t.local_port u.local_port)
+    c.args.interfaces.now c.loop-index.index c.index-interfaces-index.result c.loop-index-test.true c.index-interfaces-index.is
+    (sym c.has_port.ensures ∙ c.if-has_port.true) in
+    RefusesAt_then c.at.result (λ f. f ≡ PortTwice) (λ f. (f ≡ PortTwice) × (¬ (ArePortsDistinct c.args.interfaces.now))) (λ f is. (is, twice)) c.at.ensures

@@ -1,5 +1,5 @@
 use Rattle.std.proofs.Common.{◌≡◌, ◌≤◌, true, take, vec_len}
-use Rattle.ripngd_udp.specs.Sockets.{failed_of, none_waits}
+use Rattle.ripngd_udp.specs.Sockets.{failed_of, none_waits, strangers_of}
 use Rattle.ripngd_udp.proofs.sockets.Sockets.send_all.Given as goal
 
 -- nothing waits at the interfaces so far
@@ -7,3 +7,4 @@ abbrev pub invariant-loop-iface : goal.invariant-loop-iface
 invariant-loop-iface g l = (vec_len l.self.endpoints ≡ vec_len l.initial.self.endpoints) × (l.iface-end ≡ vec_len l.self.endpoints)
     × (none_waits (take l.iface l.self.endpoints.items) ≡ true) × (l.self.inbox ≡ l.initial.self.inbox)
     × (failed_of l.initial.self.endpoints.items ≤ failed_of l.self.endpoints.items)
+    × (l.self.neighborhoods ≡ l.initial.self.neighborhoods) × (strangers_of l.self.endpoints.items ≡ strangers_of l.initial.self.endpoints.items)

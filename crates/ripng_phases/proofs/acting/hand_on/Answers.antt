@@ -1,0 +1,21 @@
+use Rattle.std.proofs.Common.{refl}
+use Rattle.std.specs.Prelude.{⊤}
+use Rattle.ripng_phases.specs.declared.refused.PhaseRefused.TheVariants.{OutOfMemory}
+use Rattle.ripng_phases.proofs.Going.{handed}
+use Rattle.ripng_phases.proofs.Outcomes.{goes_handed, handed_in_part, stops_here}
+use Rattle.ripng_phases.proofs.acting.hand_on.Goals as goal
+
+pub returns-in-Err-clause-goes : goal.returns-in-Err-clause-goes
+returns-in-Err-clause-goes g c =
+    stops_here g.V.Watch.takes g.V.Watch.fails ⊤ OutOfMemory (c.args.lab.now, c.args.watch.now) c.args.course.now c.args.course.now (λ begin ends inside. tt)
+
+pub returns-in_err-hand-clause-goes : goal.returns-in_err-hand-clause-goes
+returns-in_err-hand-clause-goes g c =
+    let why = c.in_err-hand.field-0.0 in
+    goes_handed g.V.Watch.takes g.V.Watch.fails c.from_residual.result why (c.args.lab.now, c.args.watch.now) (c.hand.new.lab, c.hand.new.watch) c.args.course.now c.args.course.now c.args.course.now c.from_residual.ensures.1
+    (λ s first begin u. handed_in_part g.V.Watch.takes g.V.Watch.fails s first begin c.args.course.now (c.args.lab.now, c.args.watch.now) (c.hand.new.lab, c.hand.new.watch) why u c.in_err-hand.ensures.network c.in_err-hand.ensures.stopped)
+
+pub returns-clause-goes : goal.returns-clause-goes
+returns-clause-goes g c = λ s first begin u.
+    handed g.V.Watch.takes s first begin c.args.course.now (c.args.lab.now, c.args.watch.now) (c.hand.new.lab, c.hand.new.watch) u c.in_ok-hand.ensures.network c.keeps-keeps.result c.in-Ok.receivers.items
+    (rw c.deref.ensures.value at c.in_ok-hand.ensures.handed) _ c.keeps-keeps.ensures c.in-Ok.ensures c.requires.next refl

@@ -1,0 +1,42 @@
+use Rattle.std.proofs.Common.{◌≡◌, ℕ, length, refl, subst, ◌∙◌, ap, arith}
+use Rattle.ripng_phases.specs.Making.{AreMadePhases, HealsIn}
+use Rattle.ripng_phases.proofs.Together.{all_heal, all_made, in_part, none_so_far, one_more}
+use Rattle.ripng_phases.proofs.making.run_phases.Goals as goal
+
+pub loop-done-init : goal.loop-done-init
+loop-done-init g c =
+    record {
+      network = refl;
+      so_far = none_so_far g.V.Watch.takes c.args.lab.now.network (c.args.lab.now.world, c.args.watch.now) _ _;
+      begins = (c.latest-begin.result, c.latest-begin.ensures, omega arith);
+      within = omega (arith, ap length c.sent-first.ensures.value);
+    }
+
+pub returns-in-Err-clause-stopped : goal.returns-in-Err-clause-stopped
+returns-in-Err-clause-stopped g c =
+    in_part g.V.Watch.takes c.args.lab.now.network (c.args.lab.now.world, c.args.watch.now) c.loop-done.done c.loop-done.begin c.loop-done.first (c.loop-done.lab, c.loop-done.watch) c.loop-done.invariant.so_far c.loop-done.invariant.network
+    g.V.Watch.fails c.in-Err.stopped (c.make_phase.new.lab, c.make_phase.new.watch) c.loop-done.invariant.begins.0 c.loop-done.invariant.begins.1 c.loop-done.invariant.begins.2 c.in-Err.ensures.made
+
+pub loop-done-preserved : goal.loop-done-preserved
+loop-done-preserved g c =
+    record {
+      network = c.in-Ok.ensures.network ∙ c.loop-done.invariant.network;
+      so_far =
+          one_more g.V.Watch.takes c.args.lab.now.network (c.args.lab.now.world, c.args.watch.now) c.loop-done.done c.loop-done.begin c.loop-done.first (c.loop-done.lab, c.loop-done.watch) c.loop-done.invariant.so_far
+          c.loop-done.invariant.network c.in-Ok.next (c.make_phase.new.lab, c.make_phase.new.watch) c.in-Ok.ensures.made;
+      begins = let b = c.loop-done.invariant.begins in (b.0, b.1, (let e = b.2 in omega (arith, e)));
+      within = c.in-Ok.ensures.made.next_in;
+    }
+
+pub returns-clause-made : goal.returns-clause-made
+returns-clause-made g c =
+    let all : c.loop-done.done ≡ c.args.phases = omega (arith, c.loop-done-test.false, c.loop-done.auto.done-end) in
+    subst (λ (n : ℕ). AreMadePhases g.V.Watch.takes c.args.lab.now.network (c.args.lab.now.world, c.args.watch.now) n (c.loop-done.lab.world, c.loop-done.watch)) all
+    (all_made g.V.Watch.takes c.args.lab.now.network (c.args.lab.now.world, c.args.watch.now) c.loop-done.done c.loop-done.begin c.loop-done.first (c.loop-done.lab.world, c.loop-done.watch) c.loop-done.invariant.so_far)
+
+pub returns-clause-heals : goal.returns-clause-heals
+returns-clause-heals g c =
+    let all : c.loop-done.done ≡ c.args.phases = omega (arith, c.loop-done-test.false, c.loop-done.auto.done-end) in
+    subst (λ (n : ℕ). HealsIn c.args.lab.now.network c.args.lab.now.world n c.loop-done.lab.world) all
+    (all_heal g.V.Watch.takes c.args.lab.now.network (c.args.lab.now.world, c.args.watch.now) c.loop-done.done (c.loop-done.lab.world, c.loop-done.watch) c.has_run.ensures
+    (all_made g.V.Watch.takes c.args.lab.now.network (c.args.lab.now.world, c.args.watch.now) c.loop-done.done c.loop-done.begin c.loop-done.first (c.loop-done.lab.world, c.loop-done.watch) c.loop-done.invariant.so_far))

@@ -1,0 +1,88 @@
+//! How far a phase has come: its clock, which datagrams were handed on, and which regular updates were told.
+
+ghost use Rattle.std.specs.Prelude.{◌≡◌, ◌≤◌, ◌<◌, IsTrue, Some, length, slice_get};
+ghost use Rattle.ripng_phases.specs.Making.{IsAdded, IsKept};
+ghost use Rattle.ripng_phases.specs.declared.course.Update.{Update as UpdateValue};
+
+use route_table::Moment;
+use std::alloc::Global;
+
+/// How long a phase takes, by the true clock, in milliseconds.
+pub const PHASE_MS: u64 = 60_000;
+
+/// The datagrams of a regular update, from a number up to another.
+#[derive(Clone, Copy, Debug, PartialEq, Eq)]
+pub struct Update {
+    /// The number of its first datagram.
+    pub first: usize,
+    /// One more than that of its last.
+    pub end: usize,
+}
+
+/// How far a phase has come.
+#[derive(Drop)]
+pub struct Course {
+    pub alloc: Global,
+    /// The moment that it is by the true clock.
+    pub moment: Moment,
+    /// When the minute of the phase is over, in milliseconds.
+    pub end: u64,
+    /// The number of the next datagram to be handed on. All before were delivered, or are lost.
+    pub next: usize,
+    /// Before this one all have to be handed on before the phase is over.
+    pub until: usize,
+    /// Of each router, its last regular update in this phase.
+    pub told: Vec<Option<Update>>,
+}
+
+impl Course {
+    /// Time passes, while the minute is not over.
+    pub fn pass(&mut self, by_ms: u32)
+        ensures later { self.old.moment ≤ self.new.moment }
+        ensures inside { self.old.moment < self.old.end → self.new.moment < self.old.end }
+        ensures same { self.new ≡ record self.old { moment = self.new.moment } }
+    {
+        let later = self.moment.later(by_ms).ms();
+        if later < self.end {
+            if let Some(moment) = Moment::new(later) {
+                self.moment = moment;
+            }
+        }
+    }
+
+    /// Whether a router has told its regular update in this phase.
+    pub fn has_told(&self, router: usize) -> bool
+        ensures { IsTrue result → (update : UpdateValue) × (slice_get self.now.told.items router ≡ Some (Some update)) }
+    {
+        matches!(self.told.get(router), Some(Some(_)))
+    }
+
+    /// Whether a datagram is of a regular update that was told, and so is not lost.
+    pub fn keeps(&self, datagram: usize) -> bool
+        ensures { IsKept self.now.told.items datagram → IsTrue result }
+    {
+        self.told.iter().any(|told| match told {
+            Some(update) => update.first <= datagram && datagram < update.end,
+            None => false,
+        })
+    }
+
+    /// A router has told its regular update. All up to its end has to be handed on.
+    pub fn add(&mut self, router: usize, update: Update)
+        ensures told { IsAdded self.old.told.items router update self.new.told.items }
+        ensures same { self.new ≡ record self.old { told = self.new.told; until = update.end } }
+    {
+        put(&mut self.told, router, update);
+        self.until = update.end;
+    }
+}
+
+/// The regular update of a router is put at its place, if it has one.
+fn put(told: &mut [Option<Update>], router: usize, update: Update)
+    ensures { IsAdded told.old router update told.new }
+{
+    if router >= told.len() {
+        return;
+    }
+    told[router] = Some(update);
+}

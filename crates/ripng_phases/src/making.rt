@@ -1,0 +1,285 @@
+//! Phases are made: by chance, within the rules of a phase.
+//!
+//! A phase takes a minute by a true clock. First routers tick by chance, some of them before their regular update is due, and
+//! what was sent is handed on by chance, in the order in which it was sent; what is of no regular update of this phase may be
+//! lost. Then each router that has not told its regular update does, and what was sent up to the last one of these is handed on.
+//! What is left comes in the next phase.
+
+ghost use Rattle.std.specs.Prelude.{◌≡◌, ℕ, ◌+◌, ◌^◌, ◌<◌, ◌≤◌, ◌⊎◌, max, IfErr, IfOk, IfSome, OnOk, None, Some, length, slice_get};
+ghost use Rattle.router_core.specs.Machine.{State};
+ghost use Rattle.ripng_phases.specs.Making.{AreMadeInPart, AreMadePhases, GoesOn, HealsIn, IsFresh, IsLatest, MakesPhase};
+ghost use Rattle.ripng_phases.specs.declared.course.Update.{Update as UpdateValue};
+
+use crate::acting::{announce, hand_on, is_due, nudge};
+use crate::course::{Course, PHASE_MS};
+use crate::refused::PhaseRefused;
+use rand_core::Rng;
+use ripng_world::{Lab, Stopped, Watch};
+use route_table::{Moment, RouteStore};
+use std::alloc::{AllocError, Global};
+
+/// How many ticks by chance there are in a phase, for each router.
+const TURNS: usize = 3;
+
+/// How long these take at most, if each waits for as long as it may, in milliseconds. It may be longer than the minute.
+const TURNS_MS: u32 = 90_000;
+
+/// A router ticks at this moment.
+fn tick<S: RouteStore, V: Watch<S>>(
+    lab: &mut Lab<S>,
+    course: &mut Course,
+    router: usize,
+    word: u32,
+    watch: &mut V,
+) -> Result<(), Stopped<PhaseRefused, V::Fault>>
+    ensures network { lab.new.network ≡ lab.old.network }
+    ensures goes { GoesOn V.takes V.fails result (lab.old, watch.old) course.old (lab.new, watch.new) course.new }
+    ensures routers { length course.new.told.items ≡ length course.old.told.items }
+{
+    if is_due(lab, router, course.moment) {
+        announce(lab, course, router, word, watch)
+    } else {
+        nudge(lab, course, router, word, watch)
+    }
+}
+
+/// Up to so many datagrams are handed on, if there are.
+fn hand_some<S: RouteStore, V: Watch<S>, R: Rng>(
+    lab: &mut Lab<S>,
+    course: &mut Course,
+    count: usize,
+    rng: &mut R,
+    watch: &mut V,
+) -> Result<(), Stopped<PhaseRefused, V::Fault>>
+    ensures network { lab.new.network ≡ lab.old.network }
+    ensures goes { GoesOn V.takes V.fails result (lab.old, watch.old) course.old (lab.new, watch.new) course.new }
+    ensures routers { length course.new.told.items ≡ length course.old.told.items }
+{
+    for _ in 0..count {
+        if course.next < lab.sent().len() {
+            hand_on(lab, course, rng, watch)?;
+        }
+    }
+    Ok(())
+}
+
+/// Time passes, some router ticks, and some datagrams are handed on.
+fn turn<S: RouteStore, V: Watch<S>, R: Rng>(
+    lab: &mut Lab<S>,
+    course: &mut Course,
+    most_ms: u32,
+    rng: &mut R,
+    watch: &mut V,
+) -> Result<(), Stopped<PhaseRefused, V::Fault>>
+    requires { 0 < most_ms }
+    ensures network { lab.new.network ≡ lab.old.network }
+    ensures goes { GoesOn V.takes V.fails result (lab.old, watch.old) course.old (lab.new, watch.new) course.new }
+    ensures routers { length course.new.told.items ≡ length course.old.told.items }
+{
+    course.pass(rng.next_u32() % most_ms);
+    let router = rng.next_u32() as usize % lab.routers().max(1);
+    tick(lab, course, router, rng.next_u32(), watch)?;
+    let count = rng.next_u32() as usize % 8;
+    hand_some(lab, course, count, rng, watch)
+}
+
+/// The longest that one of so many turns waits, in milliseconds.
+fn share(turns: usize) -> u32
+    ensures { 0 < result }
+{
+    match u32::try_from(turns) {
+        Ok(turns) => (TURNS_MS / turns.max(1)).max(1),
+        Err(_) => 1,
+    }
+}
+
+/// Routers tick and hear by chance.
+fn make_turns<S: RouteStore, V: Watch<S>, R: Rng>(
+    lab: &mut Lab<S>,
+    course: &mut Course,
+    rng: &mut R,
+    watch: &mut V,
+) -> Result<(), Stopped<PhaseRefused, V::Fault>>
+    ensures network { lab.new.network ≡ lab.old.network }
+    ensures goes { GoesOn V.takes V.fails result (lab.old, watch.old) course.old (lab.new, watch.new) course.new }
+    ensures routers { length course.new.told.items ≡ length course.old.told.items }
+{
+    let turns = lab.routers().saturating_mul(TURNS);
+    let most_ms = share(turns);
+    for _ in 0..turns {
+        turn(lab, course, most_ms, rng, watch)?;
+    }
+    Ok(())
+}
+
+/// When the regular update of a router is due, if that is before the minute is over.
+fn due_moment<S: RouteStore>(lab: &Lab<S>, course: &Course, router: usize) -> Option<Moment>
+    ensures due { IfSome result (λ due. (state : State) × (slice_get lab.now.world.states router ≡ Some state) × (state.regular ≤ max state.last due)) }
+    ensures inside { IfSome result (λ due. course.now.moment < course.now.end → (course.now.moment ≤ due) × (due < course.now.end)) }
+    ensures late { result ≡ None → course.now.moment < course.now.end → (state : State) → slice_get lab.now.world.states router ≡ Some state
+        → (course.now.end ≤ state.regular) ⊎ (2 ^ 60 < state.regular) }
+{
+    let regular = lab.router(router)?.regular();
+    let due = regular.ms().max(course.moment.ms());
+    if due < course.end {
+        Moment::new(due)
+    } else {
+        None
+    }
+}
+
+/// A router tells its regular update as soon as it is due.
+fn tell<S: RouteStore, V: Watch<S>>(
+    lab: &mut Lab<S>,
+    course: &mut Course,
+    router: usize,
+    word: u32,
+    watch: &mut V,
+) -> Result<(), Stopped<PhaseRefused, V::Fault>>
+    ensures network { lab.new.network ≡ lab.old.network }
+    ensures goes { GoesOn V.takes V.fails result (lab.old, watch.old) course.old (lab.new, watch.new) course.new }
+    ensures told { OnOk result (router < length course.old.told.items → (u : UpdateValue) × (slice_get course.new.told.items router ≡ Some (Some u))) }
+    ensures kept { (other : ℕ) (u : UpdateValue) → slice_get course.old.told.items other ≡ Some (Some u) → (v : UpdateValue) × (slice_get course.new.told.items other ≡ Some (Some v)) }
+    ensures routers { length course.new.told.items ≡ length course.old.told.items }
+{
+    match due_moment(lab, course, router) {
+        Some(due) => {
+            course.moment = due;
+            announce(lab, course, router, word, watch)
+        }
+        None => Err(Stopped::Refused(PhaseRefused::NoUpdateInTime { router })),
+    }
+}
+
+/// Each router that has not told its regular update does.
+fn tell_rest<S: RouteStore, V: Watch<S>, R: Rng>(
+    lab: &mut Lab<S>,
+    course: &mut Course,
+    rng: &mut R,
+    watch: &mut V,
+) -> Result<(), Stopped<PhaseRefused, V::Fault>>
+    requires { length course.old.told.items ≡ length lab.old.network }
+    ensures network { lab.new.network ≡ lab.old.network }
+    ensures goes { GoesOn V.takes V.fails result (lab.old, watch.old) course.old (lab.new, watch.new) course.new }
+    ensures told { OnOk result ((router : ℕ) → router < length lab.old.network → (u : UpdateValue) × (slice_get course.new.told.items router ≡ Some (Some u))) }
+{
+    for router in 0..lab.routers() {
+        if !course.has_told(router) {
+            tell(lab, course, router, rng.next_u32(), watch)?;
+        }
+    }
+    Ok(())
+}
+
+/// What was sent up to the last regular update is handed on.
+fn hand_rest<S: RouteStore, V: Watch<S>, R: Rng>(
+    lab: &mut Lab<S>,
+    course: &mut Course,
+    rng: &mut R,
+    watch: &mut V,
+) -> Result<(), Stopped<PhaseRefused, V::Fault>>
+    ensures network { lab.new.network ≡ lab.old.network }
+    ensures goes { GoesOn V.takes V.fails result (lab.old, watch.old) course.old (lab.new, watch.new) course.new }
+    ensures told { course.new.told.items ≡ course.old.told.items }
+    ensures over { OnOk result ((course.new.until ≤ course.new.next) ⊎ (length lab.new.world.sent ≤ course.new.next)) }
+{
+    while course.next < course.until && course.next < lab.sent().len() {
+        hand_on(lab, course, rng, watch)?;
+    }
+    Ok(())
+}
+
+/// The course of a phase that begins, in which no router has told anything.
+fn course_from<S: RouteStore>(
+    alloc: Global,
+    lab: &Lab<S>,
+    moment: Moment,
+    first: usize,
+) -> Result<Course, AllocError>
+    ensures { IfOk result (λ course. IsFresh lab.now moment first course) }
+{
+    let told = vec![in alloc; None; lab.routers()]?;
+    Ok(Course {
+        alloc,
+        moment,
+        end: moment.ms() + PHASE_MS,
+        next: first,
+        until: lab.sent().len(),
+        told,
+    })
+}
+
+/// One phase, from a moment and a datagram on. Says with which datagram the next begins.
+fn make_phase<S: RouteStore, V: Watch<S>, R: Rng>(
+    alloc: Global,
+    lab: &mut Lab<S>,
+    begin: u64,
+    first: usize,
+    rng: &mut R,
+    watch: &mut V,
+) -> Result<usize, Stopped<PhaseRefused, V::Fault>>
+    requires { first ≤ length lab.old.world.sent }
+    ensures network { lab.new.network ≡ lab.old.network }
+    ensures made { MakesPhase V.takes V.fails result (lab.old, watch.old) first begin (lab.new, watch.new) }
+    ensures in_time { OnOk result (begin ≤ 2 ^ 60) }
+{
+    let Some(moment) = Moment::new(begin) else {
+        return Err(Stopped::Refused(PhaseRefused::PastLastMoment));
+    };
+    let mut course = match course_from(alloc, lab, moment, first) {
+        Ok(course) => course,
+        Err(_) => return Err(Stopped::Refused(PhaseRefused::OutOfMemory)),
+    };
+    make_turns(lab, &mut course, rng, watch)?;
+    tell_rest(lab, &mut course, rng, watch)?;
+    hand_rest(lab, &mut course, rng, watch)?;
+    Ok(course.next)
+}
+
+/// The last moment of all routers.
+fn latest<S: RouteStore>(lab: &Lab<S>) -> u64
+    ensures { IsLatest lab.now.world.states (length lab.now.network) result }
+{
+    let mut latest = 0;
+    for router in 0..lab.routers() {
+        if let Some(router) = lab.router(router) {
+            latest = router.last().ms().max(latest);
+        }
+    }
+    latest
+}
+
+/// Phases are made one after another, by chance, until one is refused, and a watcher is told of each event. Says how many were
+/// made. 28 of them leave each table with the least costs of now, and nothing else below 16 hops, whatever happened before.
+///
+/// The first begins at the last moment of all routers, and brings no datagram that was sent before it.
+///
+/// # Errors
+/// A router whose regular update is not due in time, or a phase past the last moment; want of memory, also where a router
+/// skipped an entry for it; or the watcher's, and then the event that it failed at is the last one that was done. All events
+/// before are done.
+pub fn run_phases<S: RouteStore, V: Watch<S>, R: Rng>(
+    alloc: Global,
+    lab: &mut Lab<S>,
+    phases: usize,
+    rng: &mut R,
+    watch: &mut V,
+) -> (usize, Result<(), Stopped<PhaseRefused, V::Fault>>)
+    ensures network { lab.new.network ≡ lab.old.network }
+    ensures all { OnOk result.1 (result.0 ≡ phases) }
+    ensures made { OnOk result.1 (AreMadePhases V.takes lab.old.network (lab.old.world, watch.old) result.0 (lab.new.world, watch.new)) }
+    ensures heals { OnOk result.1 (HealsIn lab.old.network lab.old.world result.0 lab.new.world) }
+    ensures stopped { IfErr result.1 (λ why. AreMadeInPart V.takes V.fails lab.old.network (lab.old.world, watch.old) result.0 why (lab.new.world, watch.new)) }
+{
+    lab.has_run();
+    let mut begin = latest(lab);
+    let mut first = lab.sent().len();
+    for done in 0..phases {
+        match make_phase(alloc, lab, begin, first, rng, watch) {
+            Ok(next) => first = next,
+            Err(stopped) => return (done, Err(stopped)),
+        }
+        begin += PHASE_MS;
+    }
+    (phases, Ok(()))
+}

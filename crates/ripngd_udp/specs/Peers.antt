@@ -1,0 +1,115 @@
+-- Who is on the link of an interface, how that changes while the router runs, and why it does not.
+use Rattle.std.specs.Prelude.{◌≡◌, ◌==◌, ◌||◌, not, nat_le, ℕ, Bool, true, List, [], ◌∷◌, ◌++◌, false, length, Option, None, Some, codes, slice_get, slice_set}
+use Rattle.std.specs.List.{filter, list_any}
+use Rattle.ripng_wire.specs.Wire.{first_reason}
+use Rattle.ripngd_config.specs.Twice.{has_same}
+use Rattle.ripngd_config.specs.declared.peer.Peer.{Peer}
+use Rattle.ripngd_config.specs.declared.place.Place.{Place}
+use Rattle.router_core.specs.declared.answer.Destination.{Destination}
+use Rattle.router_core.specs.declared.answer.Destination.TheVariants as to
+use Rattle.ripngd_udp.specs.declared.peer_refused.PeerRefused.{PeerRefused}
+use Rattle.ripngd_udp.specs.declared.peer_refused.PeerRefused.TheVariants.{NoSuchInterface, BadPort, PortTwice, OwnAddress, PeerTwice, PeersFull, NoSuchPeer, OutOfMemory}
+
+-- an interface as its link sees it: where it stands, and its peers
+pub record OnLink : Type 0 where
+  pub place : Place
+  pub peers : List Peer
+
+-- the interface at a place, with these peers
+abbrev pub on_link : Place → List Peer → OnLink
+on_link place peers = record { place = place; peers = peers }
+
+-- an interface at each place, with the peers of that place
+abbrev pub links_at : List Place → List (List Peer) → List OnLink
+links_at [] lists = []
+links_at (place ∷ places) [] = []
+links_at (place ∷ places) (peers ∷ lists) = on_link place peers ∷ links_at places lists
+
+-- one of the peers has the address
+abbrev pub has_address : List Peer → ℕ → Bool
+has_address peers addr = list_any (λ p. p.addr == addr) peers
+
+-- the one port that gets what goes to a destination, if there is one
+abbrev pub shared_port : Destination → Place → Option ℕ
+shared_port to.Group place = place.group_port
+shared_port (to.Peer addr port) place = None
+
+-- the port is that for the group
+abbrev pub is_port : Option ℕ → ℕ → Bool
+is_port None port = false
+is_port (Some p) port = p == port
+
+-- so it is on one of these
+abbrev pub is_group_port : List OnLink → ℕ → Bool
+is_group_port links port = list_any (λ i. is_port i.place.group_port port) links
+
+-- ---- which changes are refused: each reason stands with whether it applies
+
+-- why an interface does not get the peer, in order
+abbrev pub peer_reasons : OnLink → Peer → List (Bool × PeerRefused)
+peer_reasons i peer =
+    (i.place.addr == peer.addr, OwnAddress) ∷ (has_same i.peers peer, PeerTwice) ∷ (nat_le 256 (length i.peers), PeersFull) ∷ []
+
+-- why the interface of a number does not get it, if there is that interface
+abbrev pub adding_reasons_at : List OnLink → Option OnLink → Peer → List (Bool × PeerRefused)
+adding_reasons_at links None peer = (true, NoSuchInterface) ∷ []
+adding_reasons_at links (Some i) peer =
+    (peer.local_port == 0, BadPort) ∷ (is_group_port links peer.local_port, PortTwice) ∷ peer_reasons i peer
+
+-- the first reason not to add a peer
+abbrev pub adding_fault : List OnLink → ℕ → Peer → Option PeerRefused
+adding_fault links iface peer = first_reason (adding_reasons_at links (slice_get links iface) peer)
+
+-- why a peer of that address is not removed from it
+abbrev pub removing_reasons_at : Option OnLink → ℕ → List (Bool × PeerRefused)
+removing_reasons_at None addr = (true, NoSuchInterface) ∷ []
+removing_reasons_at (Some i) addr = (not (has_address i.peers addr), NoSuchPeer) ∷ []
+
+-- the first reason not to remove it
+abbrev pub removing_fault : List OnLink → ℕ → ℕ → Option PeerRefused
+removing_fault links iface addr = first_reason (removing_reasons_at (slice_get links iface) addr)
+
+-- memory is refused only where there is no other reason, and any other is the first
+abbrev pub RefusesFor : Option PeerRefused → PeerRefused → Type 0
+RefusesFor fault OutOfMemory = fault ≡ None
+RefusesFor fault why = fault ≡ Some why
+
+-- ---- what a change does
+
+-- a peer more, behind the others
+abbrev pub with_peer : OnLink → Peer → OnLink
+with_peer i peer = record i { peers = i.peers ++ peer ∷ [] }
+
+-- the peers but that of an address
+abbrev pub without_peer : OnLink → ℕ → OnLink
+without_peer i addr = record i { peers = filter (λ p. not (p.addr == addr)) i.peers }
+
+-- the interface of a number is changed so, and no other
+pub record ChangesLink (change : OnLink → OnLink) (iface : ℕ) (before after : List OnLink) : Type 0 where
+  pub link : OnLink
+  pub was : slice_get before iface ≡ Some link
+  pub is : after ≡ slice_set before iface (change link)
+
+-- ---- what a refusal is called
+
+-- the number of a refusal
+abbrev pub peer_refused_number : PeerRefused → ℕ
+peer_refused_number NoSuchInterface = 51
+peer_refused_number BadPort = 61
+peer_refused_number PortTwice = 62
+peer_refused_number OwnAddress = 63
+peer_refused_number PeerTwice = 64
+peer_refused_number PeersFull = 65
+peer_refused_number NoSuchPeer = 66
+peer_refused_number OutOfMemory = 67
+
+-- as the variant is spelled
+abbrev pub peer_refused_name : PeerRefused → List ℕ
+peer_refused_name NoSuchInterface = codes "NoSuchInterface"
+peer_refused_name BadPort = codes "BadPort"
+peer_refused_name PortTwice = codes "PortTwice"
+peer_refused_name OwnAddress = codes "OwnAddress"
+peer_refused_name PeerTwice = codes "PeerTwice"
+peer_refused_name PeersFull = codes "PeersFull"
+peer_refused_name NoSuchPeer = codes "NoSuchPeer"
+peer_refused_name OutOfMemory = codes "OutOfMemory"

@@ -1,0 +1,56 @@
+"""What a process may do: the companion and `ip` CAP_NET_ADMIN once all sockets are open, the router nothing."""
+
+import ctypes
+import os
+import pwd
+import resource
+import signal
+import struct
+
+NET_ADMIN = 12
+# Of prctl(2): PR_SET_PDEATHSIG, PR_SET_KEEPCAPS, PR_CAPBSET_DROP, PR_SET_NO_NEW_PRIVS, PR_CAP_AMBIENT and two more.
+DEATH_SIGNAL, KEEP, DROP_BOUND, NO_NEW_PRIVILEGES, AMBIENT, RAISE, CLEAR_ALL = 1, 8, 24, 38, 47, 2, 4
+VERSION_3 = 0x20080522
+libc, parent = ctypes.CDLL(None, use_errno=True), os.getpid()
+
+
+def prctl(*words):
+    return libc.prctl(*[ctypes.c_ulong(word) for word in (*words, 0, 0, 0, 0)[:5]])
+
+
+def keep(*capabilities):
+    """Just these are permitted, effective and inheritable. A program that is started gets none: none is ambient."""
+    bits = sum(1 << capability for capability in capabilities)
+    prctl(AMBIENT, CLEAR_ALL)
+    if libc.capset(struct.pack("=Ii", VERSION_3, 0), struct.pack("=6I", bits, bits, bits, 0, 0, 0)) != 0:
+        raise OSError(ctypes.get_errno(), "cannot set capabilities")
+
+
+def drop(user, *capabilities):
+    """From here on this process is that user, where root started it, and has just these capabilities; and a socket for
+    each neighbor, as far as the system lets it."""
+    most = resource.getrlimit(resource.RLIMIT_NOFILE)[1]
+    resource.setrlimit(resource.RLIMIT_NOFILE, (most, most))
+    if os.geteuid() == 0:
+        account = pwd.getpwnam(user)
+        for capability in set(range(64)) - set(capabilities):
+            prctl(DROP_BOUND, capability)
+        prctl(KEEP, 1)
+        os.setgroups([])
+        os.setresgid(*[account.pw_gid] * 3)
+        os.setresuid(*[account.pw_uid] * 3)
+    prctl(NO_NEW_PRIVILEGES, 1)
+    keep(*capabilities)
+
+
+def hand_on():
+    """What a child does before it is `ip` that changes routes: it keeps the capability."""
+    prctl(AMBIENT, RAISE, NET_ADMIN)
+
+
+def leave():
+    """What any other child does first: it keeps nothing, and ends where the companion does, however that ends."""
+    keep()
+    prctl(DEATH_SIGNAL, signal.SIGTERM)
+    if os.getppid() != parent:
+        os._exit(3)

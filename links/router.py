@@ -1,0 +1,97 @@
+"""The router: its configuration, its process, and what it is asked and told at its control socket."""
+
+import asyncio
+import os
+import socket
+import subprocess
+import sys
+
+from privilege import leave
+from table import Fault
+
+# Seconds that an answer may take.
+PATIENCE = 10
+
+
+def free_port():
+    """A UDP port of 127.0.0.1 that nobody has at the moment."""
+    with socket.socket(socket.AF_INET, socket.SOCK_DGRAM) as sock:
+        sock.bind(("127.0.0.1", 0))
+        return sock.getsockname()[1]
+
+
+def configuration(interfaces, owned):
+    """A configuration of interfaces, as their keys and values, and of owned prefixes with their tags."""
+    lines = [f"seed = {int.from_bytes(os.urandom(8), 'big') >> 1}"]
+    for interface in interfaces:
+        lines += ["", "[[interface]]", *(f"{key} = {value}" for key, value in interface.items())]
+    for prefix, tag in owned.items():
+        lines += ["", "[[prefix]]", f'prefix = "{prefix}"', f"tag = {tag}"]
+    return "\n".join(lines) + "\n"
+
+
+def say(text):
+    print(f"ripngd-links: {text}", file=sys.stderr, flush=True)
+
+
+def spawn(coroutine, running=set()):
+    """Lets a coroutine run beside all others; it is kept until it has ended."""
+    running.add(task := asyncio.ensure_future(coroutine))
+    task.add_done_callback(running.discard)
+
+
+class Router:
+    """A process `ripngd run`, and one command at a time to it."""
+
+    def __init__(self, program, folder):
+        self.program, self.config, self.control = program, f"{folder}/router.toml", f"{folder}/control"
+        self.process, self.ready, self.turn = None, False, asyncio.Lock()
+
+    async def live(self, text, debug, changed, said):
+        """Runs the process, and answers its status. `changed` is given the lines of its log, `said` all others."""
+        with open(os.open(self.config, os.O_WRONLY | os.O_CREAT | os.O_TRUNC, 0o600), "w") as file:
+            file.write(text)
+        words = [self.program, "run", *["-d"] * debug, "-R", "-", "--control", self.control, self.config]
+        pipes = {"stdin": subprocess.DEVNULL, "stdout": subprocess.PIPE, "stderr": subprocess.PIPE}
+        try:
+            self.process = subprocess.Popen(words, **pipes, umask=0o077, start_new_session=True, preexec_fn=leave)
+        except OSError as fault:
+            raise Fault(f"cannot start {self.program}: {fault.strerror}") from None
+        await asyncio.gather(self.listen(self.process.stdout, changed), self.listen(self.process.stderr, said))
+        self.ready = False
+        return self.process.wait()
+
+    async def listen(self, pipe, heard):
+        """Hands on whole lines, many at a time."""
+        reader, rest = asyncio.StreamReader(), b""
+        protocol = asyncio.StreamReaderProtocol(reader)
+        await asyncio.get_running_loop().connect_read_pipe(lambda: protocol, pipe)
+        while data := await reader.read(1 << 16):
+            *lines, rest = (rest + data).split(b"\n")
+            heard([line.decode(errors="replace") for line in lines])
+
+    async def tell(self, command):
+        """The lines of the answer to a command of `ctl`, and the last one, which is `ok` or says what was refused."""
+        try:
+            async with self.turn, asyncio.timeout(PATIENCE):
+                reader, writer = await asyncio.open_unix_connection(self.control)
+                try:
+                    writer.write(command.encode() + b"\n")
+                    *lines, verdict = (await reader.read()).decode().splitlines()
+                finally:
+                    writer.close()
+        except (OSError, ValueError):
+            lines, verdict = [], "no whole answer"
+        if verdict != "ok":
+            say(f"{command}: {verdict}")
+        return lines, verdict
+
+    async def stop(self):
+        """Ends the process, as `ctl stop` does where it listens."""
+        if self.ready:
+            await self.tell("stop")
+        for _ in range(20):
+            if not self.process or self.process.poll() is not None:
+                return
+            await asyncio.sleep(0.1)
+        self.process.kill()

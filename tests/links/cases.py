@@ -1,0 +1,47 @@
+#!/usr/bin/env python3
+"""The cases of tests/links.sh: `cases.py PROGRAM [CASE..]`. They run side by side, each in name spaces of its own."""
+
+import concurrent.futures
+import pathlib
+import sys
+import tempfile
+
+import edges
+import networks
+from spaces import Net, Wrong
+
+CASES = [networks.a_line, networks.a_ring, networks.a_lossy_cable, networks.many_routes]
+CASES += [edges.a_stranger, edges.many_neighbors, edges.a_flood, edges.a_killed_companion]
+CASES += [edges.addresses_come_and_go, edges.links_come_and_go, edges.the_page, edges.no_privilege]
+
+
+def play(case, program, folder):
+    """Why a case fails, or None."""
+    try:
+        with Net(case.__name__, folder) as net:
+            case(net, program)
+    except Wrong as wrong:
+        return str(wrong)
+    except Exception as fault:  # a case that breaks is a case that fails
+        return f"{type(fault).__name__}: {fault}"
+    return None
+
+
+def main():
+    program, names = sys.argv[1], sys.argv[2:]
+    chosen = [case for case in CASES if not names or case.__name__ in names]
+    failed = 0
+    with tempfile.TemporaryDirectory() as folder:
+        pathlib.Path(folder).chmod(0o755)
+        with concurrent.futures.ThreadPoolExecutor(len(CASES)) as pool:
+            played = {pool.submit(play, case, program, folder): case.__name__ for case in chosen}
+            for done in concurrent.futures.as_completed(played):
+                why = done.result()
+                failed += why is not None
+                print(f"ok {played[done]}" if why is None else f"FAILED {played[done]}: {why}", flush=True)
+    print(f"{len(chosen) - failed} passed, {failed} failed")
+    sys.exit(failed > 0)
+
+
+if __name__ == "__main__":
+    main()

@@ -1,0 +1,83 @@
+#!/usr/bin/env python3
+"""What somebody sends on a link: `stranger.py DEVICE KIND [SOURCE [TIMES]]`, five times; of `request` it prints the
+answer, and `flood` sends 3,000 Responses, each from another link-local address."""
+
+import ipaddress
+import os
+import socket
+import struct
+import sys
+import time
+
+GROUP, PORT, TIMES, FLOOD = "ff02::9", 521, 5, 3000
+ENTRY = ipaddress.IPv6Address("2001:db8:bad::").packed + struct.pack("!HBB", 0, 48, 1)
+RESPONSE = b"\2\1\0\0" + ENTRY
+REQUEST = b"\1\1\0\0" + bytes(19) + b"\x10"
+RUBBISH = (b"\2", b"\2\1\0\0" + bytes(19), b"\3\1\0\0" + ENTRY, b"\2\2\0\0" + ENTRY, b"\2\1\0\1" + ENTRY)
+
+
+def opened(index, source, port=PORT, hops=255):
+    sock = socket.socket(socket.AF_INET6, socket.SOCK_DGRAM)
+    sock.setsockopt(socket.IPPROTO_IPV6, socket.IPV6_MULTICAST_HOPS, hops)
+    sock.setsockopt(socket.IPPROTO_IPV6, socket.IPV6_MULTICAST_IF, index)
+    sock.setsockopt(socket.IPPROTO_IPV6, socket.IPV6_MULTICAST_LOOP, 0)
+    sock.setsockopt(socket.IPPROTO_IPV6, socket.IPV6_RECVHOPLIMIT, 1)
+    sock.bind((source, port, 0, index if source.startswith("fe80") else 0))
+    return sock
+
+
+def answer(sock):
+    """Hop limit and prefixes of the first answer."""
+    sock.settimeout(5)
+    data, told, _, (_, port, *_) = sock.recvmsg(65535, 128)
+    hops = struct.unpack("@i", told[0][2])[0]
+    prefixes = [f"{ipaddress.IPv6Address(data[at : at + 16])}/{data[at + 18]}" for at in range(4, len(data), 20)]
+    return " ".join([str(hops), *prefixes]) if port == PORT else f"from port {port}"
+
+
+def checksum(data):
+    """The checksum of the Internet, of an even number of bytes."""
+    total = sum(struct.unpack(f"!{len(data) // 2}H", data))
+    return 0xFFFF - total % 0xFFFF
+
+
+def frame(source):
+    """A Response to the group from that address, as it goes over a cable."""
+    group = ipaddress.IPv6Address(GROUP).packed
+    head = struct.pack("!HHH", PORT, PORT, 8 + len(RESPONSE))
+    whole = struct.pack("!IxxxB", 8 + len(RESPONSE), socket.IPPROTO_UDP) + head + b"\0\0" + RESPONSE
+    udp = head + struct.pack("!H", checksum(source + group + whole)) + RESPONSE
+    ethernet = bytes.fromhex("333300000009 020000000001 86dd")
+    return ethernet + struct.pack("!IHBB", 6 << 28, len(udp), socket.IPPROTO_UDP, 255) + source + group + udp
+
+
+def flood(device):
+    sock = socket.socket(socket.AF_PACKET, socket.SOCK_RAW)
+    sock.bind((device, 0))
+    for _ in range(FLOOD):
+        sock.send(frame(b"\xfe\x80" + bytes(6) + os.urandom(8)))
+
+
+def main():
+    device, kind, source, times = sys.argv[1:] + ["::", TIMES][len(sys.argv) - 3 :]
+    if kind == "flood":
+        return flood(device)
+    index = socket.if_nametoindex(device)
+    group = (GROUP, PORT, 0, index)
+    sock = {
+        "hop-limit": lambda: opened(index, source, hops=254),
+        "global-source": lambda: opened(index, "2001:db8:5::2"),
+        "other-port": lambda: opened(index, source, port=522),
+    }.get(kind, lambda: opened(index, source))()
+    if kind == "request":
+        sock.sendto(REQUEST, group)
+        return print(answer(sock))
+    sent = {"rubbish": RUBBISH, "neighbor": (RESPONSE,), "responses": (RESPONSE,), "requests": (REQUEST,)}
+    for _ in range(int(times)):
+        for data in sent.get(kind, (RESPONSE, REQUEST)):
+            sock.sendto(data, group)
+            time.sleep(0.0005)
+
+
+if __name__ == "__main__":
+    main()
