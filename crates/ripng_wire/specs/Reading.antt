@@ -6,12 +6,12 @@ use Rattle.ripng_wire.specs.declared.rte.Rte.{Rte}
 use Rattle.ripng_wire.specs.Layout.{Fits, most_entries}
 
 -- a datagram as contracts see it
-pub record Message : Type 0 where
+pub record MessageValue : Type 0 where
   pub command : Command
   pub entries : List Rte
 
 -- a datagram that some bytes spell
-pub record IsMessage (m : Message) : Type 0 where
+pub record IsMessage (m : MessageValue) : Type 0 where
   pub few : length m.entries ≤ most_entries
   pub fit : All Fits m.entries
 

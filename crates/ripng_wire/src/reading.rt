@@ -7,7 +7,7 @@ ghost use Rattle.std.specs.Iterator.SizeHint.{IsWithinCount};
 ghost use Rattle.ripng_wire.specs.declared.rte.Command.{Command};
 ghost use Rattle.ripng_wire.specs.declared.rte.Rte.{Rte};
 ghost use Rattle.ripng_wire.specs.Layout.{Fits, Spells, command_byte};
-ghost use Rattle.ripng_wire.specs.Reading.{IsMessage, Message, entries_of, entry_of};
+ghost use Rattle.ripng_wire.specs.Reading.{IsMessage, MessageValue, entries_of, entry_of};
 ghost use Rattle.ripng_wire.specs.Wire.{wire_fault};
 
 use crate::error::WireError;
@@ -23,7 +23,7 @@ pub struct Datagram<'a> {
 }
 
 impl<'a> Model for Datagram<'a> {
-    ghost Value = { Message };
+    ghost Value = { MessageValue };
 
     ghost view = { λ d. record { command = d.command; entries = entries_of d.body.now } };
 

@@ -12,7 +12,7 @@ use Rattle.ripngd_daemon.specs.declared.failure.Failure.TheVariants as failures
 use Rattle.ripngd_page.specs.declared.fault.ServeFault.{ServeFault}
 use Rattle.ripngd_page.specs.declared.fault.ServeFault.TheVariants as serving
 use Rattle.ripngd_command_line.specs.Asked.{Asks}
-use Rattle.ripngd_daemon.specs.Asking.{IsPrinted}
+use Rattle.ripngd_daemon.specs.Asking.{IsAnswerWritten}
 use Rattle.ripngd_daemon.specs.Checked.{IsChecked}
 use Rattle.ripngd_command_line.specs.CommandLine.{ripngd}
 use Rattle.ripngd_daemon.specs.Failing.{MayFail}
@@ -31,7 +31,7 @@ AnswersAsk holds (asks.Lab file) accepted old new = (script : List ℕ) × holds
 AnswersAsk holds (asks.Trace file) accepted old new = (script : List ℕ) × holds file.now script
 AnswersAsk holds (asks.Run order) accepted old new =
     (config : List ℕ) × holds order.config.now config × IsRan order config accepted old new
-AnswersAsk holds (asks.Ctl question) accepted old new = (answer : List ℕ) × IsPrinted answer accepted old new
+AnswersAsk holds (asks.Ctl question) accepted old new = (answer : List ℕ) × IsAnswerWritten answer accepted old new
 AnswersAsk holds (asks.Table file) accepted old new = (log : List ℕ) × holds file.now log
     × (text : List ℕ) × IsTabled log accepted text × Appends old new text
 AnswersAsk holds (asks.Page serve) accepted old new = accepted ≡ true

@@ -36,23 +36,23 @@ neighbors_answer n = (row_lines n.rows.items ++ other_lines n.others) ++ reply_l
 
 -- ---- what is done for a command, and answered at once
 -- the writer gained this and nothing is left to write, but where the writer failed
-abbrev pub Says : Option (List ℕ) → Rest → Option (List ℕ) → List ℕ → Type 0
-Says old rest new text = rest ≢ rests.Lost → (rest ≡ rests.Nothing) × Appends old new text
+abbrev pub GainsLines : Option (List ℕ) → Rest → Option (List ℕ) → List ℕ → Type 0
+GainsLines old rest new text = rest ≢ rests.Lost → (rest ≡ rests.Nothing) × Appends old new text
 
 -- a change was told to a router, and how that ended is what is said
 abbrev pub Obeyed : Change → Seen → Option (List ℕ) → Rest → Seen → Option (List ℕ) → Type 0
-Obeyed c a old rest b new = (reply : Reply) × Obeys c a reply b × Says old rest new (reply_line reply)
+Obeyed c a old rest b new = (reply : Reply) × Obeys c a reply b × GainsLines old rest new (reply_line reply)
 
 -- what was done and said for a command, or for a line that is of none: only a change changes the router
-abbrev pub Answers : Option Command → Counts → Neighbors → Losses → Seen → Option (List ℕ) → Rest → Seen → Option (List ℕ) → Type 0
-Answers None counts heard lost a old rest b new = (b ≡ a) × Says old rest new (reply_line replies.NoSuchCommand)
-Answers (Some commands.Routes) counts heard lost a old rest b new = (b ≡ a) × (rest ≡ rests.Routes None) × (new ≡ old)
-Answers (Some commands.Table) counts heard lost a old rest b new = (b ≡ a) × (rest ≡ rests.Table None) × (new ≡ old)
-Answers (Some commands.Counts) counts heard lost a old rest b new = (b ≡ a) × Says old rest new (counts_answer counts lost)
-Answers (Some commands.Neighbors) counts heard lost a old rest b new = (b ≡ a) × Says old rest new (neighbors_answer heard)
-Answers (Some commands.Stop) counts heard lost a old rest b new = (b ≡ a) × Says old rest new (reply_line replies.Done)
-Answers (Some (commands.Reconfigure c)) counts heard lost a old rest b new = Obeyed c a old rest b new
-Answers (Some (commands.Link c)) counts heard lost a old rest b new = (b ≡ a) × (reply : Reply) × Says old rest new (reply_line reply)
+abbrev pub AnswersCommand : Option Command → Counts → Neighbors → Losses → Seen → Option (List ℕ) → Rest → Seen → Option (List ℕ) → Type 0
+AnswersCommand None counts heard lost a old rest b new = (b ≡ a) × GainsLines old rest new (reply_line replies.NoSuchCommand)
+AnswersCommand (Some commands.Routes) counts heard lost a old rest b new = (b ≡ a) × (rest ≡ rests.Routes None) × (new ≡ old)
+AnswersCommand (Some commands.Table) counts heard lost a old rest b new = (b ≡ a) × (rest ≡ rests.Table None) × (new ≡ old)
+AnswersCommand (Some commands.Counts) counts heard lost a old rest b new = (b ≡ a) × GainsLines old rest new (counts_answer counts lost)
+AnswersCommand (Some commands.Neighbors) counts heard lost a old rest b new = (b ≡ a) × GainsLines old rest new (neighbors_answer heard)
+AnswersCommand (Some commands.Stop) counts heard lost a old rest b new = (b ≡ a) × GainsLines old rest new (reply_line replies.Done)
+AnswersCommand (Some (commands.Reconfigure c)) counts heard lost a old rest b new = Obeyed c a old rest b new
+AnswersCommand (Some (commands.Link c)) counts heard lost a old rest b new = (b ≡ a) × (reply : Reply) × GainsLines old rest new (reply_line reply)
 
 -- a router goes on behind every reply but that it ended
 abbrev pub GoesOn : Reply → Course → Type 0

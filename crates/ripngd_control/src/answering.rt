@@ -4,7 +4,7 @@ ghost use Rattle.std.specs.Prelude.{◌≡◌, ◌≢◌, ◌↔◌, IfOk, IsOk,
 ghost use Rattle.std.specs.Io.KnownBytes.{Appends};
 ghost use Rattle.ripngd_engine.specs.Seen.{seen};
 ghost use Rattle.ripngd_control.specs.declared.command.PeerChange.{PeerChange};
-ghost use Rattle.ripngd_control.specs.Answering.{Answers, Continues, GoesOn, Obeyed, Says, WritesEntries, WritesRoutes, counts_answer, neighbors_answer, reply_line};
+ghost use Rattle.ripngd_control.specs.Answering.{AnswersCommand, Continues, GoesOn, Obeyed, GainsLines, WritesEntries, WritesRoutes, counts_answer, neighbors_answer, reply_line};
 
 use crate::command::{Command, PeerChange};
 use crate::lines::{write_routes, write_table};
@@ -125,7 +125,7 @@ fn respond_to_peering<
     O: Write,
 >(engine: &mut Engine<S, L, C, R>, change: PeerChange, peering: &mut P, out: &mut O) -> Rest
     ensures same { engine.new ≡ engine.old }
-    ensures says { Says (O.contents out.old) result (O.contents out.new) (reply_line (P.Peering.ended peering.new)) }
+    ensures says { GainsLines (O.contents out.old) result (O.contents out.new) (reply_line (P.Peering.ended peering.new)) }
 {
     peering.order(change);
     engine.change_link(peering);
@@ -163,12 +163,12 @@ pub fn respond<
     out: &mut O,
 ) -> Response
     requires { engine.old.ended ≡ false }
-    ensures answers { Answers command counts heard.now lost (seen R.stream W.contents engine.old log.old) (O.contents out.old) result.rest
+    ensures answers { AnswersCommand command counts heard.now lost (seen R.stream W.contents engine.old log.old) (O.contents out.old) result.rest
         (seen R.stream W.contents engine.new log.new) (O.contents out.new) }
     ensures goes_on { result.course ≢ Course.Ended → engine.new.ended ≡ false }
     ensures stops { (result.course ≡ Course.Stop) ↔ (command ≡ Some Command.Stop) }
     ensures links { (c : PeerChange) → command ≡ Some (Command.Link c)
-        → Says (O.contents out.old) result.rest (O.contents out.new) (reply_line (P.Peering.ended peering.new)) }
+        → GainsLines (O.contents out.old) result.rest (O.contents out.new) (reply_line (P.Peering.ended peering.new)) }
 {
     match command {
         Some(Command::Routes) => going_on(Rest::Routes(None)),

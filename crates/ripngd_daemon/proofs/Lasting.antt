@@ -1,7 +1,7 @@
 -- Runs of a router that is told changes between its turns.
 use Rattle.std.proofs.Common.{◌≡◌, ◌∙◌, ◌≤◌, ◌+◌, ℕ, List, [], ◌∷◌, ◌++◌, refl, sym, ap, subst, arith, inl, inr, Option, Some}
 use Rattle.std.specs.Prelude.{◌⊎◌, None}
-use Rattle.ripngd_control.specs.Answering.{Answers}
+use Rattle.ripngd_control.specs.Answering.{AnswersCommand}
 use Rattle.ripngd_control.specs.declared.answering.Rest.{Rest}
 use Rattle.ripngd_control.specs.declared.command.Command.{Command}
 use Rattle.ripngd_control.specs.declared.command.Command.TheVariants as commands
@@ -9,21 +9,21 @@ use Rattle.ripngd_control.specs.declared.losses.Losses.{Losses}
 use Rattle.ripngd_watch.specs.declared.counts.Counts.{Counts}
 use Rattle.ripngd_watch.specs.declared.neighbors.Neighbors.{Neighbors}
 use Rattle.ripngd_engine.specs.Seen.{Ran, Seen}
-use Rattle.ripngd_daemon.specs.Controlled.{Deed, Turned, Told, Does, DoesAll, Heeds, LastsFor, TurnsAndHeeds, turns_in}
+use Rattle.ripngd_daemon.specs.Controlled.{TurnOrCommand, Turned, Commanded, DoesTurnOrCommand, DoesAll, Heeds, LastsFor, TurnsAndHeeds, turns_in}
 
 -- a deed more
-DoesAll-more : (deeds : List Deed) (d : Deed) (a m b : Seen) → DoesAll deeds a m → Does d m b → DoesAll (deeds ++ d ∷ []) a b
-DoesAll-more [] d a m b same does = let P : Seen → Type 0 = λ x. Does d x b in (b, subst P same does, refl)
+DoesAll-more : (deeds : List TurnOrCommand) (d : TurnOrCommand) (a m b : Seen) → DoesAll deeds a m → DoesTurnOrCommand d m b → DoesAll (deeds ++ d ∷ []) a b
+DoesAll-more [] d a m b same does = let P : Seen → Type 0 = λ x. DoesTurnOrCommand d x b in (b, subst P same does, refl)
 DoesAll-more (e ∷ deeds) d a m b all does = (all.0, all.1, DoesAll-more deeds d all.0 m b all.2 does)
 
-turns_in-append : (deeds more : List Deed) → turns_in (deeds ++ more) ≡ turns_in deeds + turns_in more
+turns_in-append : (deeds more : List TurnOrCommand) → turns_in (deeds ++ more) ≡ turns_in deeds + turns_in more
 turns_in-append [] more = omega arith
 turns_in-append (Turned ∷ deeds) more = omega (arith, turns_in-append deeds more)
-turns_in-append (Told c reply ∷ deeds) more = turns_in-append deeds more
+turns_in-append (Commanded c reply ∷ deeds) more = turns_in-append deeds more
 
 -- whatever the command, a router was told a change or is as it was
 pub heeds_command : (command : Option Command) (counts : Counts) (heard : Neighbors) (lost : Losses) (a : Seen) (old : Option (List ℕ)) (rest : Rest) (b : Seen) (new : Option (List ℕ))
-    → Answers command counts heard lost a old rest b new → Heeds a b
+    → AnswersCommand command counts heard lost a old rest b new → Heeds a b
 heeds_command None counts heard lost a old rest b new h = inl h.0
 heeds_command (Some commands.Routes) counts heard lost a old rest b new h = inl h.0
 heeds_command (Some commands.Table) counts heard lost a old rest b new h = inl h.0
@@ -49,9 +49,9 @@ lasts_turn turns a m b l ran = record {
 lasts_heed : (turns : ℕ) (a m b : Seen) → LastsFor turns a m → Heeds m b → LastsFor turns a b
 lasts_heed turns a m b l (inl same) = let P : Seen → Type 0 = λ x. LastsFor turns a x in subst P (sym same) l
 lasts_heed turns a m b l (inr told) = record {
-  deeds = l.deeds ++ Told told.0 told.1 ∷ [];
-  within = let w = l.within in omega (arith, turns_in-append l.deeds (Told told.0 told.1 ∷ []));
-  does = DoesAll-more l.deeds (Told told.0 told.1) a m b l.does told.2;
+  deeds = l.deeds ++ Commanded told.0 told.1 ∷ [];
+  within = let w = l.within in omega (arith, turns_in-append l.deeds (Commanded told.0 told.1 ∷ []));
+  does = DoesAll-more l.deeds (Commanded told.0 told.1) a m b l.does told.2;
 }
 
 pub LastsFor-more : (turns : ℕ) (a m b : Seen) → LastsFor turns a m → TurnsAndHeeds m b → LastsFor (turns + 1) a b

@@ -9,10 +9,10 @@ abbrev pub command_line : Command → List ℕ
 command_line c = control_text c ++ 10 ∷ []
 
 -- what is printed of an answer: all but a last line `ok`, or all of it, where its last line is `refused ..`
-abbrev pub IsAnswer : List ℕ → Bool → List ℕ → Type 0
-IsAnswer answer true text = answer ≡ text ++ codes "ok\n"
-IsAnswer answer false text = (text ≡ answer) × (before : List ℕ) × (why : List ℕ) × (answer ≡ before ++ (codes "refused " ++ why))
+abbrev pub IsPrintedAnswer : List ℕ → Bool → List ℕ → Type 0
+IsPrintedAnswer answer true text = answer ≡ text ++ codes "ok\n"
+IsPrintedAnswer answer false text = (text ≡ answer) × (before : List ℕ) × (why : List ℕ) × (answer ≡ before ++ (codes "refused " ++ why))
 
 -- the writer gained that
-abbrev pub IsPrinted : List ℕ → Bool → Option (List ℕ) → Option (List ℕ) → Type 0
-IsPrinted answer accepted old new = (text : List ℕ) × IsAnswer answer accepted text × Appends old new text
+abbrev pub IsAnswerWritten : List ℕ → Bool → Option (List ℕ) → Option (List ℕ) → Type 0
+IsAnswerWritten answer accepted old new = (text : List ℕ) × IsPrintedAnswer answer accepted text × Appends old new text

@@ -16,24 +16,24 @@ abbrev pub IsHeard : Command → List ℕ → Type 0
 IsHeard c heard = (line : List ℕ) × BeginsWith line heard × (control_text c ≡ line)
 
 -- a router made a turn, or was told a change, with this reply
-pub data Deed : Type 0 where
-  Turned : Deed
-  Told : Change → Reply → Deed
+pub data TurnOrCommand : Type 0 where
+  Turned : TurnOrCommand
+  Commanded : Change → Reply → TurnOrCommand
 
 -- how many of them are turns
-abbrev pub turns_in : List Deed → ℕ
+abbrev pub turns_in : List TurnOrCommand → ℕ
 turns_in [] = 0
 turns_in (Turned ∷ deeds) = 1 + turns_in deeds
-turns_in (Told c reply ∷ deeds) = turns_in deeds
+turns_in (Commanded c reply ∷ deeds) = turns_in deeds
 
-abbrev pub Does : Deed → Seen → Seen → Type 0
-Does Turned a b = Ran 1 a b
-Does (Told c reply) a b = Obeys c a reply b
+abbrev pub DoesTurnOrCommand : TurnOrCommand → Seen → Seen → Type 0
+DoesTurnOrCommand Turned a b = Ran 1 a b
+DoesTurnOrCommand (Commanded c reply) a b = Obeys c a reply b
 
 -- these deeds, one after another
-abbrev pub DoesAll : List Deed → Seen → Seen → Type 0
+abbrev pub DoesAll : List TurnOrCommand → Seen → Seen → Type 0
 DoesAll [] a b = b ≡ a
-DoesAll (d ∷ deeds) a b = (m : Seen) × Does d a m × DoesAll deeds m b
+DoesAll (d ∷ deeds) a b = (m : Seen) × DoesTurnOrCommand d a m × DoesAll deeds m b
 
 -- a router was told a change, or it is as it was
 abbrev pub Heeds : Seen → Seen → Type 0
@@ -45,7 +45,7 @@ TurnsAndHeeds a b = (m : Seen) × Ran 1 a m × Heeds m b
 
 -- a router made turns, at most so many, and was told changes between them
 pub record LastsFor (turns : ℕ) (a b : Seen) : Type 0 where
-  pub deeds : List Deed
+  pub deeds : List TurnOrCommand
   pub within : turns_in deeds ≤ turns
   pub does : DoesAll deeds a b
 

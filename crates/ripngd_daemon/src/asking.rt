@@ -3,7 +3,7 @@
 ghost use Rattle.std.specs.Prelude.{◌≡◌, ◌⊎◌, ◌≤◌, IfErr, IfOk, IfSome, List, OnOk, length, ℕ};
 ghost use Rattle.std.specs.Io.KnownBytes.{Appends};
 ghost use Rattle.ripngd_command_line.specs.declared.asked.Ask.TheVariants as asks;
-ghost use Rattle.ripngd_daemon.specs.Asking.{IsAnswer, IsPrinted, command_line};
+ghost use Rattle.ripngd_daemon.specs.Asking.{IsPrintedAnswer, IsAnswerWritten, command_line};
 ghost use Rattle.ripngd_daemon.specs.Failing.{MayFail};
 ghost use Rattle.ripngd_daemon.specs.declared.failure.Failure.TheVariants as failures;
 
@@ -69,7 +69,7 @@ fn last_line(answer: &[u8]) -> usize
 
 /// What is to be printed of an answer, and whether the router did what it was told; none where the answer breaks off.
 fn told_in(answer: &[u8]) -> Option<(&[u8], bool)>
-    ensures { IfSome result (λ told. IsAnswer answer.now told.1 told.0.now) }
+    ensures { IfSome result (λ told. IsPrintedAnswer answer.now told.1 told.0.now) }
 {
     let (lines, last) = answer.split_at(last_line(answer));
     if last == b"ok\n".as_slice() {
@@ -87,7 +87,7 @@ fn print_answer<'a, O: Write>(
     answer: &[u8],
     out: &mut O,
 ) -> Result<bool, Failure<'a>>
-    ensures answered { IfOk result (λ accepted. IsPrinted answer.now accepted (O.contents out.old) (O.contents out.new)) }
+    ensures answered { IfOk result (λ accepted. IsAnswerWritten answer.now accepted (O.contents out.old) (O.contents out.new)) }
     ensures failed { IfErr result (λ f. (f ≡ failures.Output) ⊎ (f ≡ failures.Answer socket.entry)) }
 {
     match told_in(answer) {
@@ -101,7 +101,7 @@ fn print_answer<'a, O: Write>(
 
 /// Says that words are no command, as a router says it of a line that is none.
 fn refuse<'a, O: Write>(out: &mut O) -> Result<bool, Failure<'a>>
-    ensures answered { IfOk result (λ accepted. (answer : List ℕ) × IsPrinted answer accepted (O.contents out.old) (O.contents out.new)) }
+    ensures answered { IfOk result (λ accepted. (answer : List ℕ) × IsAnswerWritten answer accepted (O.contents out.old) (O.contents out.new)) }
     ensures failed { IfErr result (λ f. f ≡ failures.Output) }
 {
     match writeln!(out, "{}", Reply::NoSuchCommand) {
@@ -117,7 +117,7 @@ fn ask<'a, R: Net + AllocGlobal, O: Write>(
     command: Command,
     out: &mut O,
 ) -> Result<bool, Failure<'a>>
-    ensures answered { IfOk result (λ accepted. (answer : List ℕ) × IsPrinted answer accepted (O.contents out.old) (O.contents out.new)) }
+    ensures answered { IfOk result (λ accepted. (answer : List ℕ) × IsAnswerWritten answer accepted (O.contents out.old) (O.contents out.new)) }
     ensures failed { IfErr result (λ f. (f ≡ failures.Output) ⊎ (f ≡ failures.Answer socket.entry) ⊎ (f ≡ failures.Ask socket.entry)) }
 {
     let Ok(mut stream) = UnixStream::connect(rt, socket) else {
@@ -140,7 +140,7 @@ pub fn ctl<'a, R: Net + AllocGlobal, O: Write>(
     question: Question<'a>,
     out: &mut O,
 ) -> Result<bool, Failure<'a>>
-    ensures answered { IfOk result (λ accepted. (answer : List ℕ) × IsPrinted answer accepted (O.contents out.old) (O.contents out.new)) }
+    ensures answered { IfOk result (λ accepted. (answer : List ℕ) × IsAnswerWritten answer accepted (O.contents out.old) (O.contents out.new)) }
     ensures failed { IfErr result (MayFail (asks.Ctl question.entry)) }
 {
     let Ok(words) = words_of(rt.alloc(), question) else {

@@ -4,14 +4,14 @@ use Rattle.std.specs.List.{All}
 use Rattle.std.specs.Io.KnownBytes.{Appends, Consumes}
 
 -- no byte is a line feed
-abbrev pub IsInLine : List ℕ → Type 0
-IsInLine bytes = All (λ b. b ≢ 10) bytes
+abbrev pub HasNoFeed : List ℕ → Type 0
+HasNoFeed bytes = All (λ b. b ≢ 10) bytes
 
 -- these bytes begin with this line and a line feed, and the line has none
 pub record BeginsWith (line bytes : List ℕ) : Type 0 where
   pub rest : List ℕ
   pub spelled : bytes ≡ line ++ (10 ∷ rest)
-  pub in_line : IsInLine line
+  pub in_line : HasNoFeed line
 
 -- what was heard grew by just what a stream gave, if that is known
 pub record Hears (before : Option (List ℕ)) (old : List ℕ) (after : Option (List ℕ)) (new : List ℕ) : Type 0 where

@@ -1,7 +1,7 @@
 //! What is heard of a client, and told to it: one read or one write a call.
 
 ghost use Rattle.std.specs.Prelude.{◌≡◌, ◌≢◌, ◌≤◌, ◌∷◌, ◌++◌, IfSome, List, vec_len, ℕ};
-ghost use Rattle.ripngd_door.specs.Lines.{BeginsWith, Hears, IsInLine, Tells};
+ghost use Rattle.ripngd_door.specs.Lines.{BeginsWith, Hears, HasNoFeed, Tells};
 
 use std::io::{ErrorKind, Read, Write};
 
@@ -24,7 +24,7 @@ pub enum Heard {
 /// The first line, without its line feed, and what comes after it.
 fn cut(bytes: &[u8]) -> Option<(&[u8], &[u8])>
     ensures spelled { IfSome result (λ parts. bytes.now ≡ parts.0.now ++ (10 ∷ parts.1.now)) }
-    ensures line { IfSome result (λ parts. IsInLine parts.0.now) }
+    ensures line { IfSome result (λ parts. HasNoFeed parts.0.now) }
 {
     let end = bytes.iter().position(|byte| *byte == b'\n')?;
     Some((&bytes[..end], &bytes[end + 1..]))

@@ -6,7 +6,7 @@ use Rattle.router_core.specs.Machine.{State, Moves, Reconfigures}
 use Rattle.router_core.specs.declared.answer.Answer.{Answer}
 use Rattle.router_core.specs.declared.reconfiguring.Change.{Change}
 use Rattle.ripngd_engine.specs.Telling.{Gains}
-use Rattle.ripngd_engine.specs.Watch.{Told}
+use Rattle.ripngd_engine.specs.Watch.{LinkReport}
 use Rattle.ripngd_engine.specs.Run.{one_moment}
 use Rattle.ripngd_engine.specs.Outlet.{OutletSeen, CarriesOut}
 use Rattle.ripngd_engine.specs.Seen.{Acts}
@@ -15,7 +15,7 @@ use Rattle.ripngd_engine.proofs.Tells.{Gains-nil}
 use Rattle.ripngd_engine.proofs.Steps.{around, carried, Carries-out, Shows-carried}
 
 module _ (o : OutletSeen) (router new_router : State) (lost : ℕ) (stream : Stream) (before after : Option (List ℕ)) (now : ℕ) (told : Gains before after (now ∷ [])) where
-  pub Acts-changed : {V : Type 0} (takes : V → Told → V → Type 0) (v w : V) (p : OutletSeen) (answer : Answer) (c : Change)
+  pub Acts-changed : {V : Type 0} (takes : V → LinkReport → V → Type 0) (v w : V) (p : OutletSeen) (answer : Answer) (c : Change)
       → Moves router (Reconfigures now c) answer new_router → CarriesOut takes v w o answer p
       → Acts (ReconfiguresOnce c) (around o router lost stream before) (around p new_router lost stream after)
   Acts-changed takes v w p answer c moves out = record {

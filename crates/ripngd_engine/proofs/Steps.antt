@@ -14,10 +14,10 @@ use Rattle.router_core.specs.Machine.{State, Happening, Arrives, Ticks, Moves, S
 use Rattle.router_core.specs.declared.answer.Answer.{Answer}
 use Rattle.ripngd_engine.specs.declared.link.Received.{Received}
 use Rattle.ripngd_engine.specs.Telling.{Gains}
-use Rattle.ripngd_engine.specs.Watch.{Told, WasTold}
+use Rattle.ripngd_engine.specs.Watch.{LinkReport, WasTold}
 use Rattle.ripngd_engine.specs.Log.{change_text, log_of}
 use Rattle.ripngd_engine.specs.Link.{Call, Gave, Silent, RecvFailed, Handed, Datagram, failed_sends, gave_call}
-use Rattle.ripngd_engine.specs.Run.{Machine, Trace, Sends, Step, Carries, FollowsUnless, TakesArrival, TakesIn, TicksOnce, TicksUnless, Turn, Turns, arrival, handed, arrival_told, sent, one_call, one_moment, no_step, followed_by, all_joined, counted}
+use Rattle.ripngd_engine.specs.Run.{Machine, Trace, Sends, MovedOrLost, Carries, FollowsUnless, TakesArrival, TakesIn, TicksOnce, TicksUnless, Turn, Turns, arrival, handed, arrival_told, sent, one_call, one_moment, no_step, followed_by, all_joined, counted}
 use Rattle.ripngd_engine.specs.Outlet.{OutletSeen, CarriesOut}
 use Rattle.ripngd_engine.specs.Seen.{Seen, Outside, Shows, Acts, Started, Listens, Ran, TurnsWatched, untouched}
 use Rattle.ripngd_engine.specs.declared.report.EngineFault.TheVariants.{LinkFault, OutOfMemory}
@@ -69,15 +69,15 @@ around o router lost_memory stream moments =
 
 -- a step, after which the source has these words left
 abbrev pub WithStream : Stream → Happening → ℕ → Machine → Trace → Machine → Type 0
-WithStream stream happening now m t n = Step (record m { stream = stream }) happening now t n
+WithStream stream happening now m t n = MovedOrLost (record m { stream = stream }) happening now t n
 
 -- what carrying out an answer did, where this was told first
-abbrev pub carried : List Told → ℕ → Answer → Sends → Trace
+abbrev pub carried : List LinkReport → ℕ → Answer → Sends → Trace
 carried first now answer sends =
     record { calls = handed sends; moments = now ∷ []; changes = answer.changes; told = first ++ sent sends }
 
-module _ {V : Type 0} (takes : V → Told → V → Type 0) (v w : V) (o p : OutletSeen) (answer : Answer) (out : CarriesOut takes v w o answer p) where
-  pub Shows-carried : (first : List Told) (lost new_lost : ℕ) (router new_router : State) (stream new_stream : Stream) (before after : Option (List ℕ)) (now : ℕ) → Gains before after (now ∷ [])
+module _ {V : Type 0} (takes : V → LinkReport → V → Type 0) (v w : V) (o p : OutletSeen) (answer : Answer) (out : CarriesOut takes v w o answer p) where
+  pub Shows-carried : (first : List LinkReport) (lost new_lost : ℕ) (router new_router : State) (stream new_stream : Stream) (before after : Option (List ℕ)) (now : ℕ) → Gains before after (now ∷ [])
       → Shows (around o router lost stream before).outside (carried first now answer out.hands.sends) (around p new_router new_lost new_stream after).outside
   Shows-carried first lost new_lost router new_router stream new_stream before after now told = record {
     calls = out.hands.calls;
@@ -87,7 +87,7 @@ module _ {V : Type 0} (takes : V → Told → V → Type 0) (v w : V) (o p : Out
     log_gains = out.log_gains;
   }
 
-  pub Carries-out : (first : List Told) (now : ℕ) (n : Machine) → n.ended ≡ p.ended → n.fib ≡ p.fib → Carries first now answer o.fib (carried first now answer out.hands.sends) n
+  pub Carries-out : (first : List LinkReport) (now : ℕ) (n : Machine) → n.ended ≡ p.ended → n.fib ≡ p.fib → Carries first now answer o.fib (carried first now answer out.hands.sends) n
   Carries-out first now n ended fib = record {
     sends = out.hands.sends;
     all_sends = out.hands.all_sends;
@@ -101,7 +101,7 @@ module _ {V : Type 0} (takes : V → Told → V → Type 0) (v w : V) (o p : Out
       let followed : FollowsUnless false o.fib answer.changes p.fib = subst (λ e. FollowsUnless e o.fib answer.changes p.fib) on out.fib in
       replays_to_one old p.fib new answer.changes (subst (λ f. Replays f answer.changes p.fib) same followed) replays
 
-module _ {V : Type 0} (takes : V → Told → V → Type 0) (o : OutletSeen) (router : State) (lost : ℕ) (stream new_stream : Stream) (before after : Option (List ℕ)) (now : ℕ) (happening : Happening) (told : Gains before after (now ∷ [])) where
+module _ {V : Type 0} (takes : V → LinkReport → V → Type 0) (o : OutletSeen) (router : State) (lost : ℕ) (stream new_stream : Stream) (before after : Option (List ℕ)) (now : ℕ) (happening : Happening) (told : Gains before after (now ∷ [])) where
   pub Acts-moved : (u v w : V) (p : OutletSeen) (answer : Answer) (new_router : State) → Moves router happening answer new_router
       → WasTold takes u (arrival_told happening answer) v → CarriesOut takes v w o answer p
       → ActsTold takes u w (WithStream new_stream happening now) (around o router lost stream before) (around p new_router lost new_stream after)
@@ -145,7 +145,7 @@ abbrev pub unused : Option (List Call) → Option (List ℕ) → OutletSeen
 unused calls text =
     record { calls = calls; text = text; fib = map_of.empty; ended = false; lost_sends = 0; log_failed = false }
 
-pub Started-carried : {V : Type 0} (takes : V → Told → V → Type 0) (v w : V) (config : Config) (stream : Stream) (calls : Option (List Call)) (before after text : Option (List ℕ)) (now : ℕ) (p : OutletSeen) (answer : Answer) (router : State)
+pub Started-carried : {V : Type 0} (takes : V → LinkReport → V → Type 0) (v w : V) (config : Config) (stream : Stream) (calls : Option (List Call)) (before after text : Option (List ℕ)) (now : ℕ) (p : OutletSeen) (answer : Answer) (router : State)
     → Gains before after (now ∷ []) → RouterStarts config now answer router → CarriesOut takes v w (unused calls text) answer p → p.ended ≡ false
     → Started config stream (untouched calls before text) (around p router 0 stream after)
 Started-carried takes v w config stream calls before after text now p answer router told starts out on = record {
@@ -162,7 +162,7 @@ Started-carried takes v w config stream calls before after text now p answer rou
   shows = Shows-carried takes v w (unused calls text) p answer out [] 0 0 router router stream stream before after now told;
 }
 
-pub Acts-ticks : {V : Type 0} (takes : V → Told → V → Type 0) (v w : V) (a b : Seen) (now word : ℕ) (stream : Stream) → (word, stream) ≡ next_u32 a.machine.stream
+pub Acts-ticks : {V : Type 0} (takes : V → LinkReport → V → Type 0) (v w : V) (a b : Seen) (now word : ℕ) (stream : Stream) → (word, stream) ≡ next_u32 a.machine.stream
     → ActsTold takes v w (WithStream stream (Ticks now word) now) a b → ActsTold takes v w TicksOnce a b
 Acts-ticks takes v w a b now word stream drawn it = record {
   acts = record {
@@ -173,7 +173,7 @@ Acts-ticks takes v w a b now word stream drawn it = record {
   told = it.told;
 }
 
-pub Acts-takes : {V : Type 0} (takes : V → Told → V → Type 0) (v w : V) (a b : Seen) (now : ℕ) (d : Datagram)
+pub Acts-takes : {V : Type 0} (takes : V → LinkReport → V → Type 0) (v w : V) (a b : Seen) (now : ℕ) (d : Datagram)
     → ActsTold takes v w (WithStream a.machine.stream (Arrives (arrival now d)) now) a b → ActsTold takes v w (TakesArrival d) a b
 Acts-takes takes v w a b now d it =
     record { acts = record { trace = it.acts.trace; does = (now, it.acts.does); shows = it.acts.shows }; told = it.told }
@@ -247,7 +247,7 @@ Turn-refused a b c o buffer going listens takes on = record {
 }
 
 -- the same, with what a watcher is told
-module _ {V : Type 0} (hears : V → Told → V → Type 0) where
+module _ {V : Type 0} (hears : V → LinkReport → V → Type 0) where
   pub Turn-whole-told : (u v w : V) (a b c d : Seen) (o : Option Received) (buffer : List ℕ) → a.machine.ended ≡ false → Listens (gave_call o buffer) a b
       → ActsTold hears u v (TakesReceived o buffer) b c → c.machine.ended ≡ false → ActsTold hears v w TicksOnce c d → ActsTold hears u w Turn a d
   unfolding Turn-whole
@@ -308,7 +308,7 @@ Ran-trans j k a b c first second = record {
 }
 
 -- ---- what a watcher is told of turns
-module _ {V : Type 0} (takes : V → Told → V → Type 0) where
+module _ {V : Type 0} (takes : V → LinkReport → V → Type 0) where
   -- so many turns were made, and a watcher was told of just them
   pub record RanTold (v w : V) (count : ℕ) (a b : Seen) : Type 0 where
     pub ran : Ran count a b

@@ -5,7 +5,7 @@ use Rattle.std.proofs.lemmas.List.{map-append}
 use Rattle.router_core.specs.declared.answer.Outgoing.{Outgoing}
 use Rattle.ripngd_engine.specs.Telling.{Gains}
 use Rattle.ripngd_engine.specs.Link.{Call, Gave, Silent, RecvFailed, Handed, failed_sends}
-use Rattle.ripngd_engine.specs.Watch.{Told, Sent, WasTold}
+use Rattle.ripngd_engine.specs.Watch.{LinkReport, Sent, WasTold}
 use Rattle.ripngd_engine.specs.Run.{Sends, handed, sent, counted}
 use Rattle.ripngd_engine.specs.Outlet.{HandsOver}
 
@@ -34,17 +34,17 @@ failed_sends-append (Silent ∷ xs) ys = failed_sends-append xs ys
 failed_sends-append (RecvFailed ∷ xs) ys = failed_sends-append xs ys
 
 -- a watcher was told some, and then others
-pub WasTold-append : {V : Type 0} (takes : V → Told → V → Type 0) (v : V) (ts : List Told) (u : V) (us : List Told) (w : V)
+pub WasTold-append : {V : Type 0} (takes : V → LinkReport → V → Type 0) (v : V) (ts : List LinkReport) (u : V) (us : List LinkReport) (w : V)
     → WasTold takes v ts u → WasTold takes u us w → WasTold takes v (ts ++ us) w
 WasTold-append takes v [] u us w p q = subst (λ x. WasTold takes x us w) p q
 WasTold-append takes v (t ∷ ts) u us w p q = (p.0, p.1, WasTold-append takes p.0 ts u us w p.2 q)
 
 -- no datagram was handed over
-pub HandsOver-nil : {V : Type 0} (takes : V → Told → V → Type 0) (v : V) (a : Option (List Call)) (lost : ℕ) → HandsOver takes v v a a [] lost lost
+pub HandsOver-nil : {V : Type 0} (takes : V → LinkReport → V → Type 0) (v : V) (a : Option (List Call)) (lost : ℕ) → HandsOver takes v v a a [] lost lost
 HandsOver-nil takes v a lost = record { sends = []; all_sends = refl; calls = Gains-nil a; count = omega arith; told = refl }
 
 -- some datagrams were handed over, and then another
-pub HandsOver-more : {V : Type 0} (takes : V → Told → V → Type 0) (u v w : V) (a b c : Option (List Call)) (datagrams : List Outgoing) (s : Outgoing) (went : Bool) (lost middle after : ℕ)
+pub HandsOver-more : {V : Type 0} (takes : V → LinkReport → V → Type 0) (u v w : V) (a b c : Option (List Call)) (datagrams : List Outgoing) (s : Outgoing) (went : Bool) (lost middle after : ℕ)
     → HandsOver takes u v a b datagrams lost middle → Gains b c (Handed s went ∷ []) → takes v (Sent s went) w → after ≡ counted middle (cond went 0 1)
     → HandsOver takes u w a c (datagrams ++ s ∷ []) lost after
 HandsOver-more takes u v w a b c datagrams s went lost middle after h g t e =

@@ -8,7 +8,7 @@ use Rattle.ripngd_engine.specs.Telling.{Gains}
 use Rattle.ripngd_engine.specs.Link.{Call, failed_sends}
 use Rattle.ripngd_engine.specs.Log.{log_of}
 use Rattle.ripngd_engine.specs.Run.{Sends, datagrams_of, handed, sent, counted, FollowsUnless}
-use Rattle.ripngd_engine.specs.Watch.{Told, WasTold}
+use Rattle.ripngd_engine.specs.Watch.{LinkReport, WasTold}
 use Rattle.ripngd_engine.specs.declared.outlet.Outlet.{Outlet}
 
 -- what an outlet holds, and its log
@@ -34,7 +34,7 @@ outlet_seen calls text o log =
 
 -- datagrams were handed to a link, each once and in order, failed or not, those that failed were counted, and a watcher
 -- was told of each
-pub record HandsOver {V : Type 0} (takes : V → Told → V → Type 0) (v w : V) (before after : Option (List Call)) (datagrams : List Outgoing) (lost lost_after : ℕ) : Type 0 where
+pub record HandsOver {V : Type 0} (takes : V → LinkReport → V → Type 0) (v w : V) (before after : Option (List Call)) (datagrams : List Outgoing) (lost lost_after : ℕ) : Type 0 where
   pub sends : Sends
   pub all_sends : datagrams_of sends ≡ datagrams
   pub calls : Gains before after (handed sends)
@@ -42,7 +42,7 @@ pub record HandsOver {V : Type 0} (takes : V → Told → V → Type 0) (v w : V
   pub told : WasTold takes v (sent sends) w
 
 -- an answer's datagrams were handed over, its changes followed, and a line written for each
-pub record CarriesOut {V : Type 0} (takes : V → Told → V → Type 0) (v w : V) (o : OutletSeen) (answer : Answer) (p : OutletSeen) : Type 0 where
+pub record CarriesOut {V : Type 0} (takes : V → LinkReport → V → Type 0) (v w : V) (o : OutletSeen) (answer : Answer) (p : OutletSeen) : Type 0 where
   pub hands : HandsOver takes v w o.calls p.calls answer.sends o.lost_sends p.lost_sends
   pub fib : FollowsUnless p.ended o.fib answer.changes p.fib
   pub log_ends : o.log_failed ≡ true → (p.log_failed ≡ true) × (p.text ≡ o.text)

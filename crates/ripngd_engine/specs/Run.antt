@@ -10,7 +10,7 @@ use Rattle.router_core.specs.Received.{Received}
 use Rattle.router_core.specs.declared.answer.Answer.{Answer}
 use Rattle.router_core.specs.declared.answer.Outgoing.{Outgoing}
 use Rattle.ripngd_engine.specs.Link.{Datagram, Call, Gave, Silent, RecvFailed, Handed}
-use Rattle.ripngd_engine.specs.Watch.{Told, Heard, Sent}
+use Rattle.ripngd_engine.specs.Watch.{LinkReport, Heard, Sent}
 use Rattle.ripngd_engine.specs.declared.watch.Arrived.{Arrived}
 
 -- what the turns of an engine go on from
@@ -27,7 +27,7 @@ pub record Trace : Type 0 where
   pub calls : List Call
   pub moments : List ℕ
   pub changes : List RouteChange
-  pub told : List Told
+  pub told : List LinkReport
 
 -- no step was made
 abbrev pub no_step : Trace
@@ -69,7 +69,7 @@ abbrev pub handed : Sends → List Call
 handed sends = map (λ s. Handed s.0 s.1) sends
 
 -- what a watcher is told of them
-abbrev pub sent : Sends → List Told
+abbrev pub sent : Sends → List LinkReport
 sent sends = map (λ s. Sent s.0 s.1) sends
 
 -- what a watcher is told of an arrival beside its answer
@@ -77,7 +77,7 @@ abbrev pub arrived : Received → Arrived
 arrived x = record { moment = x.now; iface = x.iface; source = x.source; source_port = x.source_port }
 
 -- what a watcher is told of an answer before that: an arrival and its bytes, with its fault and its notes
-abbrev pub arrival_told : Happening → Answer → List Told
+abbrev pub arrival_told : Happening → Answer → List LinkReport
 arrival_told (Arrives x) answer = Heard (arrived x) x.bytes answer.fault answer.notes ∷ []
 arrival_told (Ticks now word) answer = []
 arrival_told (Restarts now) answer = []
@@ -93,7 +93,7 @@ FollowsUnless refused old changes new = MatchBool refused (new ≡ old) (Replays
 
 -- an answer of the router was carried out: its datagrams were handed over, failed or not, and its changes followed. This
 -- was told first
-pub record Carries (first : List Told) (now : ℕ) (answer : Answer) (old : Forwarding) (t : Trace) (n : Machine) : Type 0 where
+pub record Carries (first : List LinkReport) (now : ℕ) (answer : Answer) (old : Forwarding) (t : Trace) (n : Machine) : Type 0 where
   pub sends : Sends
   pub all_sends : datagrams_of sends ≡ answer.sends
   pub trace : t ≡ record { calls = handed sends; moments = now ∷ []; changes = answer.changes; told = first ++ sent sends }
@@ -113,8 +113,8 @@ pub record Lost (m : Machine) (now : ℕ) (t : Trace) (n : Machine) : Type 0 whe
   pub machine : n ≡ record m { lost_memory = counted m.lost_memory 1 }
 
 -- a step of the router: its answer was carried out, or it was refused for memory
-abbrev pub Step : Machine → Happening → ℕ → Trace → Machine → Type 0
-Step m happening now t n = Moved m happening now t n ⊎ Lost m now t n
+abbrev pub MovedOrLost : Machine → Happening → ℕ → Trace → Machine → Type 0
+MovedOrLost m happening now t n = Moved m happening now t n ⊎ Lost m now t n
 
 -- ---- a start
 -- a router came up, and its first answer was carried out over an empty forwarding table
@@ -143,7 +143,7 @@ arrival now d =
 
 -- the arrival of a datagram, at the moment that the clock gave
 abbrev pub TakesArrival : Datagram → Machine → Trace → Machine → Type 0
-TakesArrival d m t n = (now : ℕ) × Step m (Arrives (arrival now d)) now t n
+TakesArrival d m t n = (now : ℕ) × MovedOrLost m (Arrives (arrival now d)) now t n
 
 -- what follows what `recv` gave: an arrival, if it gave a datagram
 abbrev pub TakesIn : Call → Machine → Trace → Machine → Type 0
@@ -158,7 +158,7 @@ pub record TicksOnce (m : Machine) (t : Trace) (n : Machine) : Type 0 where
   pub word : ℕ
   pub stream : Stream
   pub drawn : (word, stream) ≡ next_u32 m.stream
-  pub step : Step (record m { stream = stream }) (Ticks now word) now t n
+  pub step : MovedOrLost (record m { stream = stream }) (Ticks now word) now t n
 
 -- nothing follows a step whose changes were refused for memory
 abbrev pub TicksUnless : Bool → Machine → Trace → Machine → Type 0

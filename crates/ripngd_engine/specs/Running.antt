@@ -4,7 +4,7 @@ use Rattle.rand_core.specs.Stream.{Stream}
 use Rattle.ripngd_engine.specs.Link.{Call, RecvFailed, gave_call}
 use Rattle.ripngd_engine.specs.Run.{Machine, Trace, TakesIn, Turn}
 use Rattle.ripngd_engine.specs.Seen.{Seen, Acts, Listens}
-use Rattle.ripngd_engine.specs.Watch.{Told, WasTold}
+use Rattle.ripngd_engine.specs.Watch.{LinkReport, WasTold}
 use Rattle.ripngd_engine.specs.declared.link.Received.{Received}
 use Rattle.ripngd_engine.specs.declared.running.Running.{Running}
 use Rattle.ripngd_engine.specs.declared.running.TurnFault.{TurnFault}
@@ -40,12 +40,12 @@ abbrev pub TakesReceived : Option Received → List ℕ → Machine → Trace �
 TakesReceived received buffer m t n = TakesIn (gave_call received buffer) m t n
 
 -- something was done, the outside gained just that, and a watcher was told of just that
-pub record ActsTold {V : Type 0} (takes : V → Told → V → Type 0) (v w : V) (Does : Machine → Trace → Machine → Type 0) (a b : Seen) : Type 0 where
+pub record ActsTold {V : Type 0} (takes : V → LinkReport → V → Type 0) (v w : V) (Does : Machine → Trace → Machine → Type 0) (a b : Seen) : Type 0 where
   pub acts : Acts Does a b
   pub told : WasTold takes v acts.trace.told w
 
 -- a turn; or a `recv` that failed, and nothing else
-abbrev pub TurnAnswers : {V : Type 0} → (V → Told → V → Type 0) → V → V → Seen → Result (Unit {0}) TurnFault → Seen → Type 0
+abbrev pub TurnAnswers : {V : Type 0} → (V → LinkReport → V → Type 0) → V → V → Seen → Result (Unit {0}) TurnFault → Seen → Type 0
 TurnAnswers takes v w a (Ok u) b = ActsTold takes v w Turn a b × (b.machine.ended ≡ false)
 TurnAnswers takes v w a (Err NoMemory) b = ActsTold takes v w Turn a b × (b.machine.ended ≡ true)
 TurnAnswers takes v w a (Err NoLink) b = Listens RecvFailed a b × (w ≡ v)

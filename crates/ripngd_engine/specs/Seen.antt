@@ -8,7 +8,7 @@ use Rattle.router_core.specs.Machine.{State}
 use Rattle.ripngd_engine.specs.Telling.{Gains}
 use Rattle.ripngd_engine.specs.Link.{Call, RecvFailed, failed_sends}
 use Rattle.ripngd_engine.specs.Log.{log_of}
-use Rattle.ripngd_engine.specs.Watch.{Told, WasTold}
+use Rattle.ripngd_engine.specs.Watch.{LinkReport, WasTold}
 use Rattle.ripngd_engine.specs.Run.{Machine, Trace, ComesUp, Turns, all_joined, counted}
 use Rattle.ripngd_engine.specs.declared.report.EngineFault.{EngineFault}
 use Rattle.ripngd_engine.specs.declared.report.EngineFault.TheVariants.{LinkFault, OutOfMemory}
@@ -116,12 +116,12 @@ TurnsAnswer n a (Err (LinkFault done)) b = (b.machine.ended ≡ false) × (done 
 TurnsAnswer n a (Err OutOfMemory) b = (b.machine.ended ≡ true) × RanUntilRefused n a b
 
 -- what a watcher is told of the turns of such an answer
-abbrev pub told_in_turns : (n : ℕ) (a : Seen) (result : Result (Unit {0}) EngineFault) (b : Seen) → TurnsAnswer n a result b → List Told
+abbrev pub told_in_turns : (n : ℕ) (a : Seen) (result : Result (Unit {0}) EngineFault) (b : Seen) → TurnsAnswer n a result b → List LinkReport
 told_in_turns n a (Ok u) b answer = (all_joined answer.1.traces).told
 told_in_turns n a (Err (LinkFault done)) b answer = (all_joined answer.2.ran.traces).told
 told_in_turns n a (Err OutOfMemory) b answer = (all_joined answer.1.ran.traces).told
 
 -- such turns were made, and a watcher was told just what became of their arrivals and sends
-pub record TurnsWatched {V : Type 0} (takes : V → Told → V → Type 0) (v w : V) (n : ℕ) (a : Seen) (result : Result (Unit {0}) EngineFault) (b : Seen) : Type 0 where
+pub record TurnsWatched {V : Type 0} (takes : V → LinkReport → V → Type 0) (v w : V) (n : ℕ) (a : Seen) (result : Result (Unit {0}) EngineFault) (b : Seen) : Type 0 where
   pub answer : TurnsAnswer n a result b
   pub told : WasTold takes v (told_in_turns n a result b answer) w

@@ -7,11 +7,11 @@ use Rattle.ripngd_engine.specs.declared.watch.Arrived.{Arrived}
 
 -- an arrival and its bytes, with what the router answered of it; or a datagram that was handed to the link, and whether it was
 -- taken
-pub data Told : Type 0 where
-  Heard : Arrived → List ℕ → Option Fault → List Note → Told
-  Sent : Outgoing → Bool → Told
+pub data LinkReport : Type 0 where
+  Heard : Arrived → List ℕ → Option Fault → List Note → LinkReport
+  Sent : Outgoing → Bool → LinkReport
 
 -- a watcher was told just these, in order, where `takes` says what one telling makes of it
-abbrev pub WasTold : {V : Type 0} → (V → Told → V → Type 0) → V → List Told → V → Type 0
+abbrev pub WasTold : {V : Type 0} → (V → LinkReport → V → Type 0) → V → List LinkReport → V → Type 0
 WasTold takes v [] w = w ≡ v
 WasTold {V} takes v (t ∷ ts) w = (u : V) × takes v t u × WasTold takes u ts w

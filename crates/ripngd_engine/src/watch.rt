@@ -1,7 +1,7 @@
 //! Who is told what becomes of arrivals and sends, while an engine runs.
 
 ghost use Rattle.std.specs.Prelude.{⊤};
-ghost use Rattle.ripngd_engine.specs.Watch.{Told, Heard, Sent};
+ghost use Rattle.ripngd_engine.specs.Watch.{LinkReport, Heard, Sent};
 
 use prefix6::Addr6;
 use route_table::Moment;
@@ -23,7 +23,7 @@ pub struct Arrived {
 /// Who is told what becomes of arrivals and sends. It cannot fail, and changes nothing of the run.
 pub trait Watch {
     // What a telling makes of it: how it was, what it is told, and how it is then.
-    ghost takes: { Self → Told → Self → Type 0 };
+    ghost takes: { Self → LinkReport → Self → Type 0 };
 
     /// It is told of an arrival and its bytes, with the router's answer: why it was refused, or the notes on its entries.
     /// Arrivals that were lost, since memory was refused, are not told.

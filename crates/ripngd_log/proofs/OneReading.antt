@@ -10,7 +10,7 @@ use Rattle.fib.specs.declared.change.Hop.TheVariants.{Direct, Via}
 use Rattle.fib.specs.declared.change.RouteChange.{RouteChange}
 use Rattle.fib.specs.declared.change.RouteChange.TheVariants.{Install, Withdraw}
 use Rattle.ripngd_engine.specs.Log.{hop_text, change_text, log_of}
-use Rattle.ripngd_log.specs.Reading.{IsWritableHop, IsWritableChange, IsInLine, IsLogOf, IsFirstBadLine}
+use Rattle.ripngd_log.specs.Reading.{IsWritableHop, IsWritableChange, HasNoLineFeed, IsLogOf, IsFirstBadLine}
 use Rattle.ripngd_log.proofs.WordTexts.{addr_in_word, decimal_in_word, prefix_in_word, change_in_line}
 
 abbrev pub Lacks : ℕ → List ℕ → Type 0
@@ -64,10 +64,10 @@ module _ (addr_reads : (a : ℕ) → a < 2 ^ 128 → Reads (written_addr a) a) (
   front : (c : RouteChange) (cs : List RouteChange) (rest : List ℕ) → log_of (c ∷ cs) ++ rest ≡ change_text c ++ (10 ∷ (log_of cs ++ rest))
   front c cs rest = simp append_assoc refl
 
-  same_log : (cs ds : List RouteChange) (r s : List ℕ) → All IsWritableChange cs → All IsWritableChange ds → IsInLine r → IsInLine s → log_of cs ++ r ≡ log_of ds ++ s → cs ≡ ds
+  same_log : (cs ds : List RouteChange) (r s : List ℕ) → All IsWritableChange cs → All IsWritableChange ds → HasNoLineFeed r → HasNoLineFeed s → log_of cs ++ r ≡ log_of ds ++ s → cs ≡ ds
   same_log [] [] r s h k free other e = refl
-  same_log [] (d ∷ ds) r s h k free other e = absurd (has_it 10 (change_text d) (log_of ds ++ s) (subst IsInLine (e ∙ front d ds s) free))
-  same_log (c ∷ cs) [] r s h k free other e = absurd (has_it 10 (change_text c) (log_of cs ++ r) (subst IsInLine (sym e ∙ front c cs r) other))
+  same_log [] (d ∷ ds) r s h k free other e = absurd (has_it 10 (change_text d) (log_of ds ++ s) (subst HasNoLineFeed (e ∙ front d ds s) free))
+  same_log (c ∷ cs) [] r s h k free other e = absurd (has_it 10 (change_text c) (log_of cs ++ r) (subst HasNoLineFeed (sym e ∙ front c cs r) other))
   same_log (c ∷ cs) (d ∷ ds) r s h k free other e =
       let is_c = All-head IsWritableChange c cs h in
       let is_d = All-head IsWritableChange d ds k in
@@ -77,12 +77,12 @@ module _ (addr_reads : (a : ℕ) → a < 2 ^ 128 → Reads (written_addr a) a) (
   pub one_reading : (text : List ℕ) (cs ds : List RouteChange) → IsLogOf text cs → IsLogOf text ds → cs ≡ ds
   one_reading text cs ds h k = same_log cs ds h.rest k.rest h.lawful k.lawful h.unended k.unended (sym h.spelled ∙ k.spelled)
 
-  no_log : (cs ds : List RouteChange) (bad after r : List ℕ) → All IsWritableChange cs → All IsWritableChange ds → IsInLine bad → ((d : RouteChange) → IsWritableChange d → change_text d ≢ bad) → IsInLine r → log_of cs ++ (bad ++ (10 ∷ after)) ≢ log_of ds ++ r
-  no_log [] [] bad after r h k line none free e = has_it 10 bad after (subst IsInLine (sym e) free)
+  no_log : (cs ds : List RouteChange) (bad after r : List ℕ) → All IsWritableChange cs → All IsWritableChange ds → HasNoLineFeed bad → ((d : RouteChange) → IsWritableChange d → change_text d ≢ bad) → HasNoLineFeed r → log_of cs ++ (bad ++ (10 ∷ after)) ≢ log_of ds ++ r
+  no_log [] [] bad after r h k line none free e = has_it 10 bad after (subst HasNoLineFeed (sym e) free)
   no_log [] (d ∷ ds) bad after r h k line none free e =
       let is_d = All-head IsWritableChange d ds k in
       none d is_d (sym (one_split 10 bad after (change_text d) (log_of ds ++ r) line (change_in_line d is_d) (e ∙ front d ds r)).0)
-  no_log (c ∷ cs) [] bad after r h k line none free e = has_it 10 (change_text c) (log_of cs ++ (bad ++ (10 ∷ after))) (subst IsInLine (sym e ∙ front c cs _) free)
+  no_log (c ∷ cs) [] bad after r h k line none free e = has_it 10 (change_text c) (log_of cs ++ (bad ++ (10 ∷ after))) (subst HasNoLineFeed (sym e ∙ front c cs _) free)
   no_log (c ∷ cs) (d ∷ ds) bad after r h k line none free e =
       let is_c = All-head IsWritableChange c cs h in
       let is_d = All-head IsWritableChange d ds k in

@@ -21,7 +21,7 @@ use Rattle.fib.specs.declared.change.Hop.TheVariants.{Direct, Via}
 use Rattle.fib.specs.declared.change.RouteChange.{RouteChange}
 use Rattle.fib.specs.declared.change.RouteChange.TheVariants.{Install, Withdraw}
 use Rattle.ripngd_engine.specs.Log.{hop_text, route_text, change_text}
-use Rattle.ripngd_log.specs.Reading.{IsWritableHop, IsWritableChange, IsInLine}
+use Rattle.ripngd_log.specs.Reading.{IsWritableHop, IsWritableChange, HasNoLineFeed}
 use Rattle.ripngd_log.specs.Words.{IsInWord}
 
 -- past the space and before the first byte that is not ASCII
@@ -113,7 +113,7 @@ printable_change (Withdraw p) h =
 pub change_utf8 : (c : RouteChange) → IsWritableChange c → IsUtf8 (change_text c)
 change_utf8 c h = IsUtf8-from_ascii (change_text c) (IsAscii-from_all _ (All-weaker IsPrintable (λ b. b < 128) (λ b is. is.1) _ (printable_change c h)))
 
-pub change_in_line : (c : RouteChange) → IsWritableChange c → IsInLine (change_text c)
+pub change_in_line : (c : RouteChange) → IsWritableChange c → HasNoLineFeed (change_text c)
 change_in_line c h = All-weaker IsPrintable (λ b. b ≢ 10) (λ b is same. omega (arith, is.0)) _ (printable_change c h)
 
 -- a literal word

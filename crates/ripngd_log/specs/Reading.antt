@@ -23,15 +23,15 @@ IsWritableChange (Install p hop metric) = IsPrefix p × IsWritableHop hop × (me
 IsWritableChange (Withdraw p) = IsPrefix p
 
 -- no byte is a line feed (10)
-abbrev pub IsInLine : List ℕ → Type 0
-IsInLine text = All (λ b. b ≢ 10) text
+abbrev pub HasNoLineFeed : List ℕ → Type 0
+HasNoLineFeed text = All (λ b. b ≢ 10) text
 
 -- a line for each change, and the rest, which is of a line that has no end yet
 pub record IsLogOf (text : List ℕ) (changes : List RouteChange) : Type 0 where
   pub rest : List ℕ
   pub lawful : All IsWritableChange changes
   pub spelled : text ≡ log_of changes ++ rest
-  pub unended : IsInLine rest
+  pub unended : HasNoLineFeed rest
 
 -- the table that the changes make, one after another, where there was none
 pub record MakesTable (text : List ℕ) (table : Forwarding) : Type 0 where
@@ -46,7 +46,7 @@ pub record IsFirstBadLine (text : List ℕ) (line : ℕ) : Type 0 where
   pub after : List ℕ
   pub lawful : All IsWritableChange before
   pub spelled : text ≡ log_of before ++ bad ++ (10 ∷ after)
-  pub is_line : IsInLine bad
+  pub is_line : HasNoLineFeed bad
   pub numbered : line ≡ length before + 1
   pub no_change : (c : RouteChange) → IsWritableChange c → change_text c ≢ bad
 

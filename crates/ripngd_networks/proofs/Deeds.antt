@@ -17,8 +17,8 @@ use Rattle.ripng_world.specs.World.{World, Event, RouterMoves, Happens, arrival_
 use Rattle.ripng_phases.specs.Phases as phases
 use Rattle.ripngd_engine.specs.Link.{Call, Datagram, Gave, Silent, RecvFailed, Handed}
 use Rattle.ripngd_engine.specs.Run as engine
-use Rattle.ripngd_engine.specs.Run.{Machine, Trace, Sends, Step, Moved, ComesUp, arrival, counted, followed_by, one_call, handed, datagrams_of}
-use Rattle.ripngd_engine.specs.Watch.{Told, Heard}
+use Rattle.ripngd_engine.specs.Run.{Machine, Trace, Sends, MovedOrLost, Moved, ComesUp, arrival, counted, followed_by, one_call, handed, datagrams_of}
+use Rattle.ripngd_engine.specs.Watch.{LinkReport, Heard}
 use Rattle.ripngd_engine.specs.declared.watch.Arrived.{Arrived}
 use Rattle.ripngd_networks.specs.Daemons.{Act, Start, Listen, Tick, Reconfigure, Refuse, Deed, Does, Goes, Hears, in_force, reconfiguration_by}
 use Rattle.ripngd_networks.specs.Links.{handed_in, handed_by, IsCopyOf, IsOfAStranger}
@@ -63,7 +63,7 @@ pub record IsHeard (trace : Trace) (now : ℕ) (answer : Answer) : Type 0 where
   pub moments : trace.moments ≡ now ∷ []
   pub who : Arrived
   pub bytes : List ℕ
-  pub rest : List Told
+  pub rest : List LinkReport
   pub told : trace.told ≡ Heard who bytes answer.fault answer.notes ∷ rest
 
 -- it ticked at that moment, and noted nothing
@@ -94,19 +94,19 @@ IsIdle daemon (Reconfigure c) n = ⊥
 IsIdle daemon act n = ⊤
 
 -- what a deed is in a world: a step, or none
-abbrev pub IsStepOf : Network → World → ℕ → ℕ → Option Machine → Deed → Option ℕ → Machine → Option phases.Step → Type 0
+abbrev pub IsStepOf : Network → World → ℕ → ℕ → Option Machine → Deed → Option ℕ → Machine → Option phases.MovedOrLost → Type 0
 IsStepOf net w count router daemon deed number n None = IsIdle daemon deed.act n
 IsStepOf net w count router daemon deed number n (Some s) = Happens net w s.event s.answer s.after × IsEventOf count router deed.act number deed.trace s.event s.answer
 
 -- the world after it
-abbrev pub world_after : World → Option phases.Step → World
+abbrev pub world_after : World → Option phases.MovedOrLost → World
 world_after w None = w
 world_after w (Some s) = s.after
 
 -- so the world goes on with a deed
 pub record StepsOn (net : Network) (first : List Sent) (daemons : ℕ → Option Machine) (handed_over : List Sent) (done : List (ℕ × Change)) (w : World)
     (router : ℕ) (n : Machine) (deed : Deed) (number : Option ℕ) : Type 0 where
-  pub step : Option phases.Step
+  pub step : Option phases.MovedOrLost
   pub is : IsStepOf net w (length first) router (daemons router) deed number n step
   pub agrees : Agrees net first (with_daemon daemons router n) (handed_over ++ handed_by (record { router = router; deed = deed })) (done ++ change_done router deed) (world_after w step)
 
@@ -249,7 +249,7 @@ module _ (net : Network) (first : List Sent) (daemons : ℕ → Option Machine) 
     ticked_on : (number : Option ℕ) (t : Trace) (n : Machine) → Goes Tick m t n → Onward n (record { act = Tick; trace = t }) number
     ticked_on number t n did = by_step did.1.step
       where
-        by_step : Step (record m { stream = did.1.stream }) (Ticks did.1.now did.1.word) did.1.now t n → Onward n (record { act = Tick; trace = t }) number
+        by_step : MovedOrLost (record m { stream = did.1.stream }) (Ticks did.1.now did.1.word) did.1.now t n → Onward n (record { act = Tick; trace = t }) number
         by_step (inl moved) =
             let moves : Moves here.state (Ticks did.1.now did.1.word) moved.answer n.router = subst (λ s. Moves s (Ticks did.1.now did.1.word) moved.answer n.router) (sym was) moved.moves in
             moved_on (Ticks did.1.now did.1.word) moved.answer n moves (record { act = Tick; trace = t }) number (world.Tick router did.1.now did.1.word) refl
@@ -347,7 +347,7 @@ module _ (net : Network) (first : List Sent) (daemons : ℕ → Option Machine) 
     heard_on (Handed o went) number t n hears given = absurd hears.1
     heard_on (Gave d) number t n hears given = by_step hears.1.1
       where
-        by_step : Step m (Arrives (arrival hears.1.0 d)) hears.1.0 hears.0 n → Onward n (record { act = Listen (Gave d); trace = t }) number
+        by_step : MovedOrLost m (Arrives (arrival hears.1.0 d)) hears.1.0 hears.0 n → Onward n (record { act = Listen (Gave d); trace = t }) number
         by_step (inl moved) = given_on d number hears.1.0 hears.0 t n moved hears.2 given
         by_step (inr lost) =
             stayed_on n (record { act = Listen (Gave d); trace = t }) number (was ∙ sym (ap (λ (x : Machine). x.router) lost.machine)) (ap handed_in_trace hears.2 ∙ ap handed_in_trace lost.trace) refl

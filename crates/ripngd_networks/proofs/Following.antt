@@ -9,7 +9,7 @@ use Rattle.router_core.specs.Config.{Config}
 use Rattle.router_core.specs.Machine.{Happening, Arrives, Ticks, Restarts, Reconfigures, started, forwards_before}
 use Rattle.router_core.proofs.MovesReplay.{moves_replay}
 use Rattle.ripngd_engine.specs.Link.{Call, Gave, Silent, RecvFailed, Handed}
-use Rattle.ripngd_engine.specs.Run.{Machine, Trace, FollowsUnless, Step, arrival}
+use Rattle.ripngd_engine.specs.Run.{Machine, Trace, FollowsUnless, MovedOrLost, arrival}
 use Rattle.ripngd_networks.specs.Daemons.{Act, Start, Listen, Tick, Reconfigure, Refuse, Deed, Does, Goes, Hears, Lives, in_force}
 
 -- the forwarding table of a daemon that goes on
@@ -22,7 +22,7 @@ IfUp None = Unit {0}
 IfUp (Some m) = Follows m
 
 stepped : (m : Machine) (happening : Happening) (now : ℕ) (t : Trace) (n : Machine) → forwards_before m.router happening ≡ forwards m.router.table
-    → m.ended ≡ false → Follows m → Step m happening now t n → Follows n
+    → m.ended ≡ false → Follows m → MovedOrLost m happening now t n → Follows n
 stepped m happening now t n same going follows (inl moved) going_on =
     let replayed : Replays m.fib moved.answer.changes n.fib = subst (λ b. FollowsUnless b m.fib moved.answer.changes n.fib) going_on moved.carries.fib in
     replays_to_one (forwards m.router.table) n.fib (forwards n.router.table) moved.answer.changes

@@ -5,13 +5,13 @@ use Rattle.route_table.proofs.TableLaws.{Some-same}
 use Rattle.router_core.specs.Config.{Config}
 use Rattle.router_core.specs.Machine.{Happening, Arrives, Ticks}
 use Rattle.ripngd_engine.specs.Link.{Call, Gave, Silent, RecvFailed, Handed}
-use Rattle.ripngd_engine.specs.Run.{Machine, Trace, Step, arrival}
+use Rattle.ripngd_engine.specs.Run.{Machine, Trace, MovedOrLost, arrival}
 use Rattle.ripngd_networks.specs.Daemons.{Act, Start, Listen, Tick, Reconfigure, Refuse, Deed, Happened, Does, Hears, Lives, own_deeds}
 use Rattle.ripngd_networks.specs.OnTime.{IsPlain}
 
 -- ---- the count never falls
 
-step_up : (m : Machine) (happening : Happening) (now : ℕ) (t : Trace) (n : Machine) → Step m happening now t n → m.lost_memory ≤ n.lost_memory
+step_up : (m : Machine) (happening : Happening) (now : ℕ) (t : Trace) (n : Machine) → MovedOrLost m happening now t n → m.lost_memory ≤ n.lost_memory
 step_up m happening now t n (inl moved) = as_le m.lost_memory n.lost_memory moved.lost_memory
   where
     as_le : (a b : ℕ) → b ≡ a → a ≤ b

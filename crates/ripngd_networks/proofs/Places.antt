@@ -19,7 +19,7 @@ use Rattle.ripng_phases.specs.Phases.{Step, Takes, reached}
 use Rattle.ripng_phases.proofs.Along.{contains_from}
 use Rattle.ripngd_engine.specs.Link.{Datagram, Gave}
 use Rattle.ripngd_engine.specs.Run.{Machine}
-use Rattle.ripngd_engine.specs.Watch.{Told, Heard}
+use Rattle.ripngd_engine.specs.Watch.{LinkReport, Heard}
 use Rattle.ripngd_engine.specs.declared.watch.Arrived.{Arrived}
 use Rattle.ripngd_networks.specs.Daemons.{Listen, Tick, Happened, Lives, own_deeds}
 use Rattle.ripngd_networks.specs.Links.{LiveOn, handed_by, all_handed}
@@ -114,9 +114,9 @@ takes_all net first ends (p ∷ ps) daemons handed_over done w are good =
         notes : (s.answer.notes ≡ []) ⊎ ((now : ℕ) × IsHeard p.dated.happened.deed.trace now s.answer) → All (λ n. n.kind ≢ NoMemory) s.answer.notes
         notes (inl none) = subst (All (λ n. n.kind ≢ NoMemory)) (sym none) (All-nil (λ n. n.kind ≢ NoMemory))
         notes (inr heard) =
-            let it : Told = Heard heard.1.who heard.1.bytes s.answer.fault s.answer.notes in
+            let it : LinkReport = Heard heard.1.who heard.1.bytes s.answer.fault s.answer.notes in
             good.0.1 heard.1.who heard.1.bytes s.answer.fault s.answer.notes
-            (contains_from p.dated.happened.deed.trace.told it (subst (λ (xs : List Told). At xs it) (sym heard.1.told) (0, refl)))
+            (contains_from p.dated.happened.deed.trace.told it (subst (λ (xs : List LinkReport). At xs it) (sym heard.1.told) (0, refl)))
 
 module _ (net : Network) (before : List Happened) (daemons : ℕ → Option Machine) (history : List Dated) (start end : ℕ) (daemons' : ℕ → Option Machine)
     (go : GoOn net before daemons history start end daemons') (first : List Sent) (done : List (ℕ × Change)) (w : World) (agrees : Agrees net first daemons (all_handed before) done w) where

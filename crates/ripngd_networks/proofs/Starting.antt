@@ -5,7 +5,7 @@ use Rattle.router_core.specs.Machine.{State, Happening, Arrives, Ticks, Restarts
 use Rattle.router_core.specs.declared.answer.Answer.{Answer}
 use Rattle.ripng_world.specs.Network.{Network, config_of}
 use Rattle.ripngd_engine.specs.Link.{Call, Gave, Silent, RecvFailed, Handed}
-use Rattle.ripngd_engine.specs.Run.{Machine, Trace, Step, arrival}
+use Rattle.ripngd_engine.specs.Run.{Machine, Trace, MovedOrLost, arrival}
 use Rattle.ripngd_networks.specs.Daemons.{Act, Start, Listen, Tick, Reconfigure, Refuse, Deed, Does, Happened, Hears, Lives, own_deeds}
 use Rattle.ripngd_networks.specs.Links.{HaveRun}
 use Rattle.ripngd_networks.proofs.Running.{there_is}
@@ -29,7 +29,7 @@ moved_set old (Reconfigures now c) answer new set moves = subst IsSet (sym moves
     up : (a b n : ℕ) → b ≤ a + 45_000 → b ≤ max a n + 45_000
     up a b n e = omega arith
 
-stepped_set : (m : Machine) (happening : Happening) (now : ℕ) (t : Trace) (n : Machine) → IsSet m.router → Step m happening now t n → IsSet n.router
+stepped_set : (m : Machine) (happening : Happening) (now : ℕ) (t : Trace) (n : Machine) → IsSet m.router → MovedOrLost m happening now t n → IsSet n.router
 stepped_set m happening now t n set (inl moved) = moved_set m.router happening moved.answer n.router set moved.moves
 stepped_set m happening now t n set (inr lost) = subst (λ (x : Machine). IsSet x.router) (sym lost.machine) set
 

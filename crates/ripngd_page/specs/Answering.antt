@@ -65,29 +65,29 @@ abbrev pub IsWithoutMemory : Response → Type 0
 IsWithoutMemory = IsTextAnswer 503 (codes "out of memory\n")
 
 -- a text is answered where it has at most 32 MiB, else that it is too long
-abbrev pub IsPrinted : List ℕ → Response → Type 0
-IsPrinted text r = ((length text ≤ 33554432) × IsTextAnswer 200 text r) ⊎ ((33554432 < length text) × IsTooLong r)
+abbrev pub IsTextResponse : List ℕ → Response → Type 0
+IsTextResponse text r = ((length text ≤ 33554432) × IsTextAnswer 200 text r) ⊎ ((33554432 < length text) × IsTooLong r)
 
 -- the lines of a datagram are answered, or that there was no memory for them
 abbrev pub IsLinesAnswer : List ℕ → Response → Type 0
 IsLinesAnswer digits r =
-    ((accepted : Bool) × (text : List ℕ) × IsShown digits accepted text × IsPrinted text r) ⊎ (IsWithoutMemory r)
+    ((accepted : Bool) × (text : List ℕ) × IsShown digits accepted text × IsTextResponse text r) ⊎ (IsWithoutMemory r)
 
 -- some text is answered, up to 32 MiB, or why there is none; that it is a trace is not said here
 abbrev pub IsTraceAnswer : Response → Type 0
 IsTraceAnswer r = ((text : List ℕ) × (length text ≤ 33554432) × IsTextAnswer 200 text r) ⊎ (IsTooLong r) ⊎ (IsWithoutMemory r)
 
 -- the answer to what is asked, with this body
-abbrev pub IsAnswer : Asked → List ℕ → Response → Type 0
-IsAnswer asks.Stranger body r = IsTextAnswer 403 (codes "only the page itself may ask\n") r
-IsAnswer asks.Page body r = IsPageAnswer r
-IsAnswer asks.Trace body r = IsTraceAnswer r
-IsAnswer asks.Show body r =
+abbrev pub IsResponseTo : Asked → List ℕ → Response → Type 0
+IsResponseTo asks.Stranger body r = IsTextAnswer 403 (codes "only the page itself may ask\n") r
+IsResponseTo asks.Page body r = IsPageAnswer r
+IsResponseTo asks.Trace body r = IsTraceAnswer r
+IsResponseTo asks.Show body r =
     (¬ (IsUtf8 body) × IsTextAnswer 400 (codes "these are no digits\n") r) ⊎ (IsUtf8 body × IsLinesAnswer body r)
-IsAnswer asks.NotGet body r = IsMethodAnswer (codes "GET") r
-IsAnswer asks.NotPost body r = IsMethodAnswer (codes "POST") r
-IsAnswer asks.OtherPath body r = IsTextAnswer 404 (codes "there is no such page\n") r
+IsResponseTo asks.NotGet body r = IsMethodAnswer (codes "GET") r
+IsResponseTo asks.NotPost body r = IsMethodAnswer (codes "POST") r
+IsResponseTo asks.OtherPath body r = IsTextAnswer 404 (codes "there is no such page\n") r
 
 -- the response answers the request at a port
 abbrev pub Answers : ℕ → Request (List ℕ) → Response → Type 0
-Answers port request r = (asked : Asked) × IsRequested port (head_of request) asked × IsAnswer asked (body_of request) r
+Answers port request r = (asked : Asked) × IsRequested port (head_of request) asked × IsResponseTo asked (body_of request) r

@@ -4,7 +4,7 @@ ghost use Rattle.std.specs.Prelude.{◌≡◌, ◌⊎◌, ◌++◌, ◌∷◌, [
 ghost use Rattle.http_header.specs.FieldValue.{is_visible_text};
 ghost use Rattle.http_header.specs.FieldName.{is_header_name};
 ghost use Rattle.http_server.specs.Response.{IsBlank, fields_of};
-ghost use Rattle.ripngd_page.specs.Answering.{IsAnswer, IsLinesAnswer, IsMethodAnswer, IsPageAnswer, IsPrinted, IsTextAnswer, IsTooLong, IsWithoutMemory, fields_with, guards, unkept, unread};
+ghost use Rattle.ripngd_page.specs.Answering.{IsResponseTo, IsLinesAnswer, IsMethodAnswer, IsPageAnswer, IsTextResponse, IsTextAnswer, IsTooLong, IsWithoutMemory, fields_with, guards, unkept, unread};
 ghost use Rattle.ripngd_page.specs.Texts.{tail_text};
 
 use crate::asked::Asked;
@@ -28,7 +28,7 @@ pub(crate) fn answer(
     response: &mut Response,
 ) -> Result<(), AllocError>
     requires { IsBlank response.old }
-    ensures { OnOk result (IsAnswer asked body.now response.new) }
+    ensures { OnOk result (IsResponseTo asked body.now response.new) }
 {
     match asked {
         Asked::Stranger => say(
@@ -172,7 +172,7 @@ fn put_tail(body: &mut Rope) -> Result<(), AllocError>
 /// Answers with the trace of a script.
 fn answer_trace(alloc: Global, script: &[u8], response: &mut Response) -> Result<(), AllocError>
     requires { IsBlank response.old }
-    ensures { OnOk result (IsAnswer Asked.Trace script.now response.new) }
+    ensures { OnOk result (IsResponseTo Asked.Trace script.now response.new) }
 {
     let mut printed: Bounded<ANSWER_LIMIT> = Bounded::new(alloc);
     match traced(alloc, script, &mut printed) {
@@ -184,7 +184,7 @@ fn answer_trace(alloc: Global, script: &[u8], response: &mut Response) -> Result
 /// Answers with the lines of a datagram.
 fn answer_show(alloc: Global, digits: &[u8], response: &mut Response) -> Result<(), AllocError>
     requires { IsBlank response.old }
-    ensures { OnOk result (IsAnswer Asked.Show digits.now response.new) }
+    ensures { OnOk result (IsResponseTo Asked.Show digits.now response.new) }
 {
     match str::from_utf8(digits) {
         Ok(hex) => answer_digits(alloc, hex, response),
@@ -208,7 +208,7 @@ fn answer_digits(alloc: Global, hex: &str, response: &mut Response) -> Result<()
 /// Answers with lines, if they are not too many bytes.
 fn give_lines(lines: &[u8], response: &mut Response) -> Result<(), AllocError>
     requires { IsBlank response.old }
-    ensures { OnOk result (IsPrinted lines.now response.new) }
+    ensures { OnOk result (IsTextResponse lines.now response.new) }
 {
     if lines.len() > ANSWER_LIMIT {
         say_too_long(response)

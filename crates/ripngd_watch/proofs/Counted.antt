@@ -1,7 +1,7 @@
 -- Counts, one telling after another.
 use Rattle.std.proofs.Common.{◌≡◌, ℕ, ◌+◌, List, [], ◌∷◌, sym, arith, subst}
 use Rattle.ripngd_engine.specs.Run.{counted}
-use Rattle.ripngd_engine.specs.Watch.{Told, WasTold}
+use Rattle.ripngd_engine.specs.Watch.{LinkReport, WasTold}
 use Rattle.ripngd_watch.specs.Counting.{Counted}
 use Rattle.ripngd_watch.specs.declared.counts.Counts.{Counts}
 
@@ -22,7 +22,7 @@ Counted-none c = record {
   notes = λ place h. counted-none _;
 }
 
-pub Counted-more : (c d e : Counts) (t : Told) (ts : List Told) → Counted c (t ∷ []) d → Counted d ts e → Counted c (t ∷ ts) e
+pub Counted-more : (c d e : Counts) (t : LinkReport) (ts : List LinkReport) → Counted c (t ∷ []) d → Counted d ts e → Counted c (t ∷ ts) e
 Counted-more c d e t ts p q = record {
   arrivals = counted-more _ _ _ _ _ p.arrivals q.arrivals;
   sends = counted-more _ _ _ _ _ p.sends q.sends;
@@ -31,6 +31,6 @@ Counted-more c d e t ts p q = record {
   notes = λ place h. counted-more _ _ _ _ _ (p.notes place h) (q.notes place h);
 }
 
-pub Counted-all : (c d : Counts) (ts : List Told) → WasTold (λ v t w. Counted v (t ∷ []) w) c ts d → Counted c ts d
+pub Counted-all : (c d : Counts) (ts : List LinkReport) → WasTold (λ v t w. Counted v (t ∷ []) w) c ts d → Counted c ts d
 Counted-all c d [] h = subst (λ x. Counted c [] x) (sym h) (Counted-none c)
 Counted-all c d (t ∷ ts) h = Counted-more c h.0 d t ts h.1 (Counted-all h.0 d ts h.2)

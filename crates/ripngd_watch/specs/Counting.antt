@@ -5,21 +5,21 @@ use Rattle.router_core.specs.Faults.{fault_number}
 use Rattle.router_core.specs.Offers.{note_number}
 use Rattle.router_core.specs.declared.arrival.Fault.{Fault}
 use Rattle.ripngd_engine.specs.Run.{counted}
-use Rattle.ripngd_engine.specs.Watch.{Told, Heard, Sent}
+use Rattle.ripngd_engine.specs.Watch.{LinkReport, Heard, Sent}
 use Rattle.ripngd_watch.specs.declared.counts.Counts.{Counts}
 
 -- whether this is an arrival, as a count
-abbrev pub arrivals_in : Told → ℕ
+abbrev pub arrivals_in : LinkReport → ℕ
 arrivals_in (Heard a bytes fault notes) = 1
 arrivals_in (Sent s went) = 0
 
 -- whether this is a datagram that was handed to the link, as a count
-abbrev pub sends_in : Told → ℕ
+abbrev pub sends_in : LinkReport → ℕ
 sends_in (Heard a bytes fault notes) = 0
 sends_in (Sent s went) = 1
 
 -- whether this is a datagram that the link did not take, as a count
-abbrev pub failed_sends_in : Told → ℕ
+abbrev pub failed_sends_in : LinkReport → ℕ
 failed_sends_in (Heard a bytes fault notes) = 0
 failed_sends_in (Sent s went) = if went then 0 else 1
 
@@ -29,17 +29,17 @@ is_fault number None = 0
 is_fault number (Some fault) = if fault_number fault == number then 1 else 0
 
 -- the arrivals refused with the fault of that number
-abbrev pub faults_in : ℕ → Told → ℕ
+abbrev pub faults_in : ℕ → LinkReport → ℕ
 faults_in number (Heard a bytes fault notes) = is_fault number fault
 faults_in number (Sent s went) = 0
 
 -- the entries skipped with the note of that number
-abbrev pub notes_in : ℕ → Told → ℕ
+abbrev pub notes_in : ℕ → LinkReport → ℕ
 notes_in number (Heard a bytes fault notes) = count_by (λ n. note_number n.kind == number) notes
 notes_in number (Sent s went) = 0
 
 -- how many there are in all of them
-abbrev pub total : (Told → ℕ) → List Told → ℕ
+abbrev pub total : (LinkReport → ℕ) → List LinkReport → ℕ
 total f [] = 0
 total f (t ∷ ts) = f t + total f ts
 
@@ -48,7 +48,7 @@ abbrev pub no_counts : Counts
 no_counts = record { arrivals = 0; sends = 0; failed_sends = 0; faults = replicate 12 0; notes = replicate 5 0 }
 
 -- each count is that of before with how many there are in these, up to the greatest u64
-pub record Counted (c : Counts) (ts : List Told) (d : Counts) : Type 0 where
+pub record Counted (c : Counts) (ts : List LinkReport) (d : Counts) : Type 0 where
   pub arrivals : d.arrivals ≡ counted c.arrivals (total arrivals_in ts)
   pub sends : d.sends ≡ counted c.sends (total sends_in ts)
   pub failed_sends : d.failed_sends ≡ counted c.failed_sends (total failed_sends_in ts)

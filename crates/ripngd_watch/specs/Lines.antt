@@ -6,7 +6,7 @@ use Rattle.router_core.specs.Faults.{fault_number, fault_name}
 use Rattle.router_core.specs.Offers.{note_number, note_name}
 use Rattle.router_core.specs.declared.answer.Note.{Note}
 use Rattle.router_core.specs.declared.arrival.Fault.{Fault}
-use Rattle.ripngd_engine.specs.Watch.{Told, Heard, Sent}
+use Rattle.ripngd_engine.specs.Watch.{LinkReport, Heard, Sent}
 use Rattle.ripngd_engine.specs.declared.watch.Arrived.{Arrived}
 use Rattle.ripngd_watch.specs.Counting.{Counted}
 use Rattle.ripngd_watch.specs.declared.lines.DebugLines.{DebugLines}
@@ -35,12 +35,12 @@ abbrev pub note_lines : Arrived → List Note → List ℕ
 note_lines a notes = flat_map (λ n. note_text a n ++ 10 ∷ []) notes
 
 -- the lines of what is told
-abbrev pub lines_of : Told → List ℕ
+abbrev pub lines_of : LinkReport → List ℕ
 lines_of (Heard a bytes fault notes) = refusal_lines a fault ++ note_lines a notes
 lines_of (Sent s went) = []
 
 -- what a telling makes of a writer of lines: it is counted, and its lines are written, but none after a failed write
-pub record Writes {W : Type 0} (text : W → Option (List ℕ)) (v : DebugLines W) (t : Told) (w : DebugLines W) : Type 0 where
+pub record Writes {W : Type 0} (text : W → Option (List ℕ)) (v : DebugLines W) (t : LinkReport) (w : DebugLines W) : Type 0 where
   pub counts : Counted v.counts (t ∷ []) w.counts
   pub ends : v.failed ≡ true → (w.failed ≡ true) × (w.out ≡ v.out)
   pub gains : w.failed ≡ false → Appends (text v.out) (text w.out) (lines_of t)

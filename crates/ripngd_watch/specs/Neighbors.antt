@@ -6,7 +6,7 @@ use Rattle.router_core.specs.Offers.{note_number}
 use Rattle.router_core.specs.declared.answer.Note.{Note}
 use Rattle.router_core.specs.declared.arrival.Fault.{Fault}
 use Rattle.ripngd_engine.specs.Run.{counted}
-use Rattle.ripngd_engine.specs.Watch.{Told, Heard, Sent}
+use Rattle.ripngd_engine.specs.Watch.{LinkReport, Heard, Sent}
 use Rattle.ripngd_engine.specs.declared.watch.Arrived.{Arrived}
 use Rattle.ripngd_watch.specs.Counting.{is_fault}
 use Rattle.ripngd_watch.specs.declared.neighbors.Neighbor.{Neighbor}
@@ -79,6 +79,6 @@ CountsOf Counts a v w = (vec_capacity w.rows ≡ vec_capacity v.rows)
     ⊎ CountsOther Counts (place_of a v.rows.items) v w))
 
 -- what a telling makes of the rows: what is sent is nobody's
-abbrev pub Hears : Neighbors → Told → Neighbors → Type 0
+abbrev pub Hears : Neighbors → LinkReport → Neighbors → Type 0
 Hears v (Heard a bytes fault notes) w = CountsOf (λ c d. Tallied c a bytes fault notes d) a v w
 Hears v (Sent s went) w = w ≡ v

@@ -22,8 +22,8 @@ use Rattle.router_core.specs.Ageing.{aged, aged_by_clock, aged_table, without_ma
 use Rattle.router_core.specs.Changes.{change, forward}
 use Rattle.router_core.specs.Output.{selected}
 use Rattle.router_core.specs.Settling.{told_route, may_be_told}
-use Rattle.router_core.specs.declared.tell.Told.{Told}
-use Rattle.router_core.specs.declared.tell.Told.TheVariants.{Every, Changed}
+use Rattle.router_core.specs.declared.tell.Selection.{Selection}
+use Rattle.router_core.specs.declared.tell.Selection.TheVariants.{Every, Changed}
 
 abbrev pub Entry : Type 0
 Entry = Prefix6 × RouteValue
@@ -83,16 +83,16 @@ or_right true b h = absurd (true_false h)
     true_false t = cc
 or_right false b h = h
 
-pub not_told : (now : ℕ) (which : Told) (r : RouteValue) → may_be_told now which r ≡ false → told_route now which r ≡ None
+pub not_told : (now : ℕ) (which : Selection) (r : RouteValue) → may_be_told now which r ≡ false → told_route now which r ≡ None
 not_told now Every r h = absurd (cc)
 not_told now Changed r h =
     ap (option_and_then (λ left. cond (selected Changed left) (Some left) None)) (aged-kept now r (or_left (is_due now r) r.changed h))
     ∙ ap (λ b. cond b (Some r) None) (or_right (is_due now r) r.changed h)
 
-pub not_told-entry : (now : ℕ) (which : Told) (e : Entry) → may_be_told now which e.1 ≡ false → option_map {U = Entry} (λ y. (e.0, y)) (told_route now which e.1) ≡ None
+pub not_told-entry : (now : ℕ) (which : Selection) (e : Entry) → may_be_told now which e.1 ≡ false → option_map {U = Entry} (λ y. (e.0, y)) (told_route now which e.1) ≡ None
 not_told-entry now which e h = ap (option_map {U = Entry} (λ y. (e.0, y))) (not_told now which e.1 h)
 
-pub not_told-test : (now : ℕ) (which : Told) (e : Entry) → may_be_told now which e.1 ≡ false → is_some (told_route now which e.1) ≡ false
+pub not_told-test : (now : ℕ) (which : Selection) (e : Entry) → may_be_told now which e.1 ≡ false → is_some (told_route now which e.1) ≡ false
 not_told-test now which e h = ap is_some (not_told now which e.1 h)
 
 -- a regular update tells all
@@ -107,7 +107,7 @@ pub every_told-entries : (now : ℕ) (es : List Entry) → map_entries (aged now
 every_told-entries now [] = refl
 every_told-entries now (e ∷ es) = ap₂ (λ o l. cons_option (option_map (λ y. (e.0, y)) o) l) (sym (every_told now e.1)) (every_told-entries now es)
 
-told_one : (which : Told) (p : Prefix6) (o : Option RouteValue) (l : List Entry) (m : List Entry) → l ≡ filter (λ t. selected which t.1) m
+told_one : (which : Selection) (p : Prefix6) (o : Option RouteValue) (l : List Entry) (m : List Entry) → l ≡ filter (λ t. selected which t.1) m
     → cons_option (option_map (λ y. (p, y)) (option_and_then (λ left. cond (selected which left) (Some left) None) o)) l
     ≡ filter (λ t. selected which t.1) (cons_option (option_map (λ y. (p, y)) o) m)
 told_one which p None l m h = h
@@ -117,15 +117,15 @@ told_one which p (Some r) l m h = go (selected which r)
     go true = ap (λ k. (p, r) ∷ k) h
     go false = h
 
-told_are : (now : ℕ) (which : Told) (es : List Entry) → map_entries (told_route now which) es ≡ filter (λ t. selected which t.1) (map_entries (aged now) es)
+told_are : (now : ℕ) (which : Selection) (es : List Entry) → map_entries (told_route now which) es ≡ filter (λ t. selected which t.1) (map_entries (aged now) es)
 told_are now which [] = refl
 told_are now which (e ∷ es) = told_one which e.0 (aged now e.1) _ _ (told_are now which es)
 
 -- the routes that an update tells are those of the aged table that it selects
-pub told-entries : (now : ℕ) (which : Told) (t : Table) → map_entries (told_route now which) (entries t) ≡ filter (λ e. selected which e.1) (entries (aged_table now t))
+pub told-entries : (now : ℕ) (which : Selection) (t : Table) → map_entries (told_route now which) (entries t) ≡ filter (λ e. selected which e.1) (entries (aged_table now t))
 told-entries now which t = told_are now which (entries t) ∙ ap (filter (λ e. selected which e.1)) (sym (entries-map_values (aged now) t))
 
-any_one : (which : Told) (p : Prefix6) (o : Option RouteValue) (a : Bool) (m : List Entry) → a ≡ list_any (λ t. selected which t.1) m
+any_one : (which : Selection) (p : Prefix6) (o : Option RouteValue) (a : Bool) (m : List Entry) → a ≡ list_any (λ t. selected which t.1) m
     → (is_some (option_and_then (λ left. cond (selected which left) (Some left) None) o) || a) ≡ list_any (λ t. selected which t.1) (cons_option (option_map (λ y. (p, y)) o) m)
 any_one which p None a m h = h
 any_one which p (Some r) a m h = go (selected which r)
@@ -134,12 +134,12 @@ any_one which p (Some r) a m h = go (selected which r)
     go true = refl
     go false = h
 
-any_told : (now : ℕ) (which : Told) (es : List Entry) → list_any (λ t. is_some (told_route now which t.1)) es ≡ list_any (λ t. selected which t.1) (map_entries (aged now) es)
+any_told : (now : ℕ) (which : Selection) (es : List Entry) → list_any (λ t. is_some (told_route now which t.1)) es ≡ list_any (λ t. selected which t.1) (map_entries (aged now) es)
 any_told now which [] = refl
 any_told now which (e ∷ es) = any_one which e.0 (aged now e.1) _ _ (any_told now which es)
 
 -- there is a route to be told once all have aged where one is that has aged
-pub told-table : (now : ℕ) (which : Told) (t : Table) → list_any (λ t. is_some (told_route now which t.1)) (entries t) ≡ list_any (λ t. selected which t.1) (entries (aged_table now t))
+pub told-table : (now : ℕ) (which : Selection) (t : Table) → list_any (λ t. is_some (told_route now which t.1)) (entries t) ≡ list_any (λ t. selected which t.1) (entries (aged_table now t))
 told-table now which t = any_told now which (entries t) ∙ ap (list_any (λ t. selected which t.1)) (sym (entries-map_values (aged now) t))
 
 pub filter-all : {X : Type 0} (xs : List X) → xs ≡ filter (λ x. true) xs

@@ -25,8 +25,8 @@ use Rattle.router_core.specs.declared.answer.Answer.{Answer}
 use Rattle.router_core.specs.declared.answer.Note.{Note}
 use Rattle.router_core.specs.declared.answer.Outgoing.{Outgoing}
 use Rattle.router_core.specs.Settling.{told_route}
-use Rattle.router_core.specs.declared.tell.Told.{Told}
-use Rattle.router_core.specs.declared.tell.Told.TheVariants.{Every, Changed}
+use Rattle.router_core.specs.declared.tell.Selection.{Selection}
+use Rattle.router_core.specs.declared.tell.Selection.TheVariants.{Every, Changed}
 use Rattle.router_core.specs.declared.config.Interface.{Interface}
 use Rattle.router_core.proofs.AgeReplaying.{ageing_replays, starting_replays}
 use Rattle.router_core.proofs.AgedTables.{map_values-twice}
@@ -110,6 +110,6 @@ ticked_replays now was_told old new changes settled listed =
     by_mark false = refl
 
 -- no more routes are told than there are
-pub length-told : (now : ℕ) (which : Told) (t : Table) → length (map_entries (told_route now which) (map_of.entries t)) ≤ map_of.len t
+pub length-told : (now : ℕ) (which : Selection) (t : Table) → length (map_entries (told_route now which) (map_of.entries t)) ≤ map_of.len t
 length-told now which t =
     omega (arith, ap length (entries-map_values (told_route now which) t), map_of.len-entries (map_values (told_route now which) t), len-map_values (told_route now which) t)

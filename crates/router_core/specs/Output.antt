@@ -17,8 +17,8 @@ use Rattle.router_core.specs.Received.{Received}
 use Rattle.router_core.specs.declared.answer.Destination.{Destination}
 use Rattle.router_core.specs.declared.answer.Destination.TheVariants.{Group, Peer}
 use Rattle.router_core.specs.declared.answer.Outgoing.{Outgoing}
-use Rattle.router_core.specs.declared.tell.Told.{Told}
-use Rattle.router_core.specs.declared.tell.Told.TheVariants.{Every, Changed}
+use Rattle.router_core.specs.declared.tell.Selection.{Selection}
+use Rattle.router_core.specs.declared.tell.Selection.TheVariants.{Every, Changed}
 
 -- the route came from that interface
 abbrev pub is_learned_on : ℕ → Origin → Bool
@@ -52,7 +52,7 @@ abbrev pub is_changed : RouteValue → Bool
 is_changed r = r.changed
 
 -- the routes that an update tells
-abbrev pub selected : Told → RouteValue → Bool
+abbrev pub selected : Selection → RouteValue → Bool
 selected Every = every_route
 selected Changed = is_changed
 

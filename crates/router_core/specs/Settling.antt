@@ -4,14 +4,14 @@ use Rattle.route_table.specs.Route.{RouteValue}
 use Rattle.route_table.specs.Due.{is_due}
 use Rattle.router_core.specs.Ageing.{aged}
 use Rattle.router_core.specs.Output.{selected}
-use Rattle.router_core.specs.declared.tell.Told.{Told}
-use Rattle.router_core.specs.declared.tell.Told.TheVariants.{Every, Changed}
+use Rattle.router_core.specs.declared.tell.Selection.{Selection}
+use Rattle.router_core.specs.declared.tell.Selection.TheVariants.{Every, Changed}
 
 -- a route as an update tells it once it has aged, if the update tells it
-abbrev pub told_route : ℕ → Told → RouteValue → Option RouteValue
+abbrev pub told_route : ℕ → Selection → RouteValue → Option RouteValue
 told_route now which r = option_and_then (λ left. if selected which left then Some left else None) (aged now r)
 
 -- whether an update may tell a route: by a triggered one only what is due or marked
-abbrev pub may_be_told : ℕ → Told → RouteValue → Bool
+abbrev pub may_be_told : ℕ → Selection → RouteValue → Bool
 may_be_told now Every r = true
 may_be_told now Changed r = is_due now r || r.changed

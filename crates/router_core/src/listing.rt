@@ -10,7 +10,7 @@ ghost use Rattle.router_core.specs.Output.{selected};
 ghost use Rattle.router_core.specs.Settling.{told_route, may_be_told};
 
 use crate::age::age;
-use crate::tell::{Told, listed};
+use crate::tell::{Selection, listed};
 use prefix6::Prefix;
 use route_table::{Moment, Route, RouteStore};
 use std::alloc::{AllocError, Global};
@@ -40,20 +40,20 @@ fn walk_due_or_changed<S: RouteStore>(
 /// The first route past the prefix that the update may tell: a triggered one only what is due or marked.
 fn walk_told<S: RouteStore>(
     store: &S,
-    which: Told,
+    which: Selection,
     after: Option<Prefix>,
     now: Moment,
 ) -> Option<(Prefix, Route)>
     ensures { result ≡ first_where (may_be_told now which) after (entries (S.table store.now)) }
 {
     match which {
-        Told::Every => store.walk(after),
-        Told::Changed => walk_due_or_changed(store, after, now),
+        Selection::Every => store.walk(after),
+        Selection::Changed => walk_due_or_changed(store, after, now),
     }
 }
 
 /// A route as an update tells it once it has aged, if the update tells it.
-fn told_route(route: Route, which: Told, now: Moment) -> Option<Route>
+fn told_route(route: Route, which: Selection, now: Moment) -> Option<Route>
     ensures { result ≡ told_route now which route }
 {
     let left = age(route, now)?;
@@ -65,7 +65,7 @@ fn told_route(route: Route, which: Told, now: Moment) -> Option<Route>
 }
 
 /// Whether there is a route to be told once all have aged.
-pub fn has_told<S: RouteStore>(store: &S, which: Told, now: Moment) -> bool
+pub fn has_told<S: RouteStore>(store: &S, which: Selection, now: Moment) -> bool
     ensures { result ≡ list_any (λ t. selected which t.1) (entries (aged_table now (S.table store.now))) }
 {
     let mut after = None;
@@ -101,9 +101,9 @@ fn every_at<S: RouteStore>(
 
 /// A prefix and its route as a triggered update tells it once it has aged, if the update tells it.
 fn left_to_tell(prefix: Prefix, route: Route, now: Moment) -> Option<(Prefix, Route)>
-    ensures { result ≡ option_map (λ left. (prefix, left)) (told_route now Told.Changed route) }
+    ensures { result ≡ option_map (λ left. (prefix, left)) (told_route now Selection.Changed route) }
 {
-    told_route(route, Told::Changed, now).map(|left| (prefix, left))
+    told_route(route, Selection::Changed, now).map(|left| (prefix, left))
 }
 
 /// The routes that a triggered update tells, in the order of prefixes.
@@ -112,12 +112,12 @@ fn changed_at<S: RouteStore>(
     store: &S,
     now: Moment,
 ) -> Result<Vec<(Prefix, Route)>, AllocError>
-    ensures { IfOk result (λ v. v.items ≡ map_entries (told_route now Told.Changed) (entries (S.table store.now))) }
+    ensures { IfOk result (λ v. v.items ≡ map_entries (told_route now Selection.Changed) (entries (S.table store.now))) }
 {
     let mut routes = Vec::new(alloc);
     let mut after = None;
     for _ in 0..store.len() {
-        let Some(entry) = walk_told(store, Told::Changed, after, now) else {
+        let Some(entry) = walk_told(store, Selection::Changed, after, now) else {
             return Ok(routes);
         };
         if let Some(left) = left_to_tell(entry.0, entry.1, now) {
@@ -135,13 +135,13 @@ fn changed_at<S: RouteStore>(
 pub fn told_at<S: RouteStore>(
     alloc: Global,
     store: &S,
-    which: Told,
+    which: Selection,
     now: Moment,
 ) -> Result<Vec<(Prefix, Route)>, AllocError>
     ensures { IfOk result (λ v. v.items ≡ map_entries (told_route now which) (entries (S.table store.now))) }
 {
     match which {
-        Told::Every => every_at(alloc, store, now),
-        Told::Changed => changed_at(alloc, store, now),
+        Selection::Every => every_at(alloc, store, now),
+        Selection::Changed => changed_at(alloc, store, now),
     }
 }

@@ -27,7 +27,7 @@ use crate::listed::Listed;
 use crate::listing::{has_told, told_at};
 use crate::reply::reply;
 use crate::start::{changes_of_start, owned_routes, requests};
-use crate::tell::{Told, updates};
+use crate::tell::{Selection, updates};
 use crate::ticking::{changes_of_ageing, settle_all};
 use crate::timers::{HOLD_LEAST_MS, HOLD_SPREAD_MS, REGULAR_LEAST_MS, REGULAR_SPREAD_MS};
 use fib::RouteChange;
@@ -201,20 +201,20 @@ impl<S: RouteStore> Router<S> {
     }
 
     /// The update that is due.
-    fn update_due(&self, now: Moment) -> Option<Told>
+    fn update_due(&self, now: Moment) -> Option<Selection>
         ensures { result ≡ update_due self.now now }
     {
         if self.regular.reached(now) {
-            Some(Told::Every)
-        } else if self.hold.reached(now) && has_told(&self.store, Told::Changed, now) {
-            Some(Told::Changed)
+            Some(Selection::Every)
+        } else if self.hold.reached(now) && has_told(&self.store, Selection::Changed, now) {
+            Some(Selection::Changed)
         } else {
             None
         }
     }
 
     /// Whether an update has no datagram.
-    fn is_silent(&self, which: Told, now: Moment) -> bool
+    fn is_silent(&self, which: Selection, now: Moment) -> bool
         ensures { IsTrue result ↔ (update_of self.now now (Some which) ≡ []) }
     {
         self.config.is_quiet()
@@ -223,7 +223,7 @@ impl<S: RouteStore> Router<S> {
     }
 
     /// The datagrams of an update.
-    fn update(&self, due: Option<Told>, now: Moment) -> Result<Vec<Outgoing>, AllocError>
+    fn update(&self, due: Option<Selection>, now: Moment) -> Result<Vec<Outgoing>, AllocError>
         ensures spelled { IfOk result (λ sends. AreSpelled (update_of self.now now due) sends.items) }
         ensures few { IfOk result (λ sends. length sends.items ≤ map_of.len self.now.table * length self.now.config.interfaces) }
         ensures silent_is_free { update_of self.now now due ≡ [] → IsOk result }
@@ -239,21 +239,21 @@ impl<S: RouteStore> Router<S> {
     }
 
     /// When the next regular update is due, after an update.
-    fn next_regular(&self, due: Option<Told>, now: Moment, word: u32) -> Deadline
+    fn next_regular(&self, due: Option<Selection>, now: Moment, word: u32) -> Deadline
         ensures { result ≡ regular_after self.now now word due }
     {
         match due {
-            Some(Told::Every) => now.later(REGULAR_LEAST_MS + word % REGULAR_SPREAD_MS),
+            Some(Selection::Every) => now.later(REGULAR_LEAST_MS + word % REGULAR_SPREAD_MS),
             _ => self.regular,
         }
     }
 
     /// Until when triggered updates are held, after an update.
-    fn next_hold(&self, due: Option<Told>, now: Moment, word: u32) -> Deadline
+    fn next_hold(&self, due: Option<Selection>, now: Moment, word: u32) -> Deadline
         ensures { result ≡ hold_after self.now now word due }
     {
         match due {
-            Some(Told::Changed) => now.later(HOLD_LEAST_MS + word % HOLD_SPREAD_MS),
+            Some(Selection::Changed) => now.later(HOLD_LEAST_MS + word % HOLD_SPREAD_MS),
             _ => self.hold,
         }
     }

@@ -17,21 +17,21 @@ use std::alloc::{AllocError, Global};
 
 /// Which routes an update tells.
 #[derive(Clone, Copy, Debug, PartialEq, Eq)]
-pub enum Told {
+pub enum Selection {
     /// All of them.
     Every,
     /// Those that are marked as changed.
     Changed,
 }
 
-impl Told {
+impl Selection {
     /// Whether an update of this kind tells the route.
     pub fn selects(self, route: &Route) -> bool
         ensures { result ≡ selected self route.now }
     {
         match self {
-            Told::Every => true,
-            Told::Changed => route.is_changed(),
+            Selection::Every => true,
+            Selection::Changed => route.is_changed(),
         }
     }
 }

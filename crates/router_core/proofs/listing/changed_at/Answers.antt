@@ -6,7 +6,7 @@ use Rattle.route_table.specs.Table.{Table, map_entries}
 use Rattle.route_table.proofs.Walks.{IsEntryAt, filter_map-next}
 use Rattle.route_table.proofs.WalksWhere.{WalksWhere-entry, WalksWhere-next, WalksWhere-none, WalksWhere-end, PassesBy, listed_by, take_whole}
 use Rattle.router_core.specs.Settling.{told_route, may_be_told}
-use Rattle.router_core.specs.declared.tell.Told.TheVariants.{Changed}
+use Rattle.router_core.specs.declared.tell.Selection.TheVariants.{Changed}
 use Rattle.router_core.proofs.DueRoutes.{Entry, not_told-entry}
 use Rattle.router_core.proofs.listing.changed_at.Goals as goal
 use Rattle.router_core.proofs.listing.changed_at.Goals.{in-Some-left_to_tell+in_ok-push, in_default-left_to_tell}

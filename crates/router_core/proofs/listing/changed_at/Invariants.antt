@@ -3,7 +3,7 @@ use Rattle.std.specs.FinMap.{entries, len}
 use Rattle.route_table.specs.Table.{map_entries}
 use Rattle.route_table.proofs.WalksWhere.{WalksWhere}
 use Rattle.router_core.specs.Settling.{told_route}
-use Rattle.router_core.specs.declared.tell.Told.TheVariants.{Changed}
+use Rattle.router_core.specs.declared.tell.Selection.TheVariants.{Changed}
 use Rattle.router_core.proofs.listing.changed_at.Given as goal
 
 -- what is told of the routes that the walk has come past is listed

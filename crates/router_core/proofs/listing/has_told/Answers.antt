@@ -6,14 +6,14 @@ use Rattle.route_table.specs.Table.{Table}
 use Rattle.route_table.proofs.Walks.{list_any-next, list_any-found}
 use Rattle.route_table.proofs.WalksWhere.{WalksWhere-entry, WalksWhere-next, WalksWhere-none, WalksWhere-end, PassesBy, none_by, take_whole}
 use Rattle.router_core.specs.Settling.{told_route, may_be_told}
-use Rattle.router_core.specs.declared.tell.Told.{Told}
+use Rattle.router_core.specs.declared.tell.Selection.{Selection}
 use Rattle.router_core.proofs.DueRoutes.{told-table, not_told-test}
 use Rattle.router_core.proofs.listing.has_told.Goals as goal
 
-abbrev NoneOf : ℕ → Told → Table → ℕ → Type 0
+abbrev NoneOf : ℕ → Selection → Table → ℕ → Type 0
 NoneOf now which t i = list_any (λ e. is_some (told_route now which e.1)) (take i (entries t)) ≡ false
 
-by : (now : ℕ) (which : Told) (t : Table) → PassesBy (may_be_told now which) t (NoneOf now which t)
+by : (now : ℕ) (which : Selection) (t : Table) → PassesBy (may_be_told now which) t (NoneOf now which t)
 by now which t = none_by (may_be_told now which) (λ e. is_some (told_route now which e.1)) t (not_told-test now which)
 
 pub loop-preserved : goal.loop-preserved
