@@ -14,7 +14,7 @@ use Rattle.ripng_world.specs.declared.sent.Sent.{Sent}
 use Rattle.ripng_world.proofs.Among.{in_filter, in_map}
 use Rattle.ripng_world.proofs.AskedSynchronous.{to_pairs}
 use Rattle.ripng_world.proofs.Members.{At}
-use Rattle.ripng_phases.specs.Making.{AreReceivers, TellsSteps, IsRising, IsInMinute, IsHandedOn, IsTold, IsUnderway, IsKept, IsAdded, IsDeliveryAt, IsHanded}
+use Rattle.ripng_phases.specs.Making.{AreReceivers, TellsSteps, IsRising, IsInMinute, IsHandedOn, IsUpdateTold, IsUnderway, IsKept, IsAdded, IsDeliveryAt, IsHanded}
 use Rattle.ripng_phases.specs.Phases.{Step, Takes, events_of, reached}
 use Rattle.ripng_phases.specs.declared.course.Course.{Course}
 use Rattle.ripng_phases.specs.declared.course.Update.{Update}
@@ -32,9 +32,9 @@ is_receiver net d router iface linked elsewhere =
     ap (λ (p : Pair). is_other net d (p.router, p.iface)) (sym m.2) ∙ (in_filter (is_other net d) (interfaces_of net) m.0 m.1).1
 
 -- what was told goes on, as more is handed on
-pub told_on : (net : Network) (w : World) (steps more : List Step) (router : ℕ) (u : Update) (next next' : ℕ) (told : IsTold net w steps router u next)
+pub told_on : (net : Network) (w : World) (steps more : List Step) (router : ℕ) (u : Update) (next next' : ℕ) (told : IsUpdateTold net w steps router u next)
     → ((datagram : ℕ) (d : Sent) → next ≤ datagram → datagram < next' → u.first ≤ datagram → slice_get told.tick.after.sent datagram ≡ Some d → IsHandedOn net (events_of more) datagram d)
-    → IsTold net w (steps ++ more) router u next'
+    → IsUpdateTold net w (steps ++ more) router u next'
 told_on net w steps more router u next next' told later =
     record {
       before = told.before;
@@ -65,7 +65,7 @@ told_on net w steps more router u next next' told later =
         ]
 
 -- nothing more is handed on
-pub told_still : (net : Network) (w : World) (steps more : List Step) (router : ℕ) (u : Update) (next : ℕ) → IsTold net w steps router u next → IsTold net w (steps ++ more) router u next
+pub told_still : (net : Network) (w : World) (steps more : List Step) (router : ℕ) (u : Update) (next : ℕ) → IsUpdateTold net w steps router u next → IsUpdateTold net w (steps ++ more) router u next
 told_still net w steps more router u next told =
     told_on net w steps more router u next next told (λ datagram d late early first is. absurd (no datagram next late early))
   where
@@ -163,7 +163,7 @@ module _ {V : Type 0} (t : V → Told → V → Type 0) (s : LabValue × V) (fir
       after_is : b.0.world ≡ one.0.after
       after_is = ap (λ (x : World × V). x.0) one.2.5
 
-      new_told : IsTold s.0.network s.0.world (is.steps ++ one.0 ∷ []) router update course.next
+      new_told : IsUpdateTold s.0.network s.0.world (is.steps ++ one.0 ∷ []) router update course.next
       new_told =
           record {
             before = is.steps;
@@ -210,14 +210,14 @@ module _ {V : Type 0} (t : V → Told → V → Type 0) (s : LabValue × V) (fir
           until_end w le = within (length w.sent) course.until (length a.0.world.sent) (length b.0.world.sent) update.end le is.sent grown end_is
 
           by : (r : ℕ) (u : Update) → ((r ≡ router) × (u ≡ update)) ⊎ (slice_get course.told.items r ≡ Some (Some u))
-              → IsTold s.0.network s.0.world (is.steps ++ one.0 ∷ []) r u course.next × (u.end ≤ update.end)
+              → IsUpdateTold s.0.network s.0.world (is.steps ++ one.0 ∷ []) r u course.next × (u.end ≤ update.end)
           by r u (inr old) = (
             told_still s.0.network s.0.world is.steps (one.0 ∷ []) r u course.next (is.updates r u old).0,
             within u.end course.until (length a.0.world.sent) (length b.0.world.sent) update.end (is.updates r u old).1 is.sent grown end_is,
           )
           by r u (inl new) = (
-            subst (λ (n : ℕ). IsTold s.0.network s.0.world (is.steps ++ one.0 ∷ []) n u course.next) (sym new.0)
-                (subst (λ (v : Update). IsTold s.0.network s.0.world (is.steps ++ one.0 ∷ []) router v course.next) (sym new.1) new_told),
+            subst (λ (n : ℕ). IsUpdateTold s.0.network s.0.world (is.steps ++ one.0 ∷ []) n u course.next) (sym new.0)
+                (subst (λ (v : Update). IsUpdateTold s.0.network s.0.world (is.steps ++ one.0 ∷ []) router v course.next) (sym new.1) new_told),
             le_from (ap (λ (v : Update). v.end) new.1),
           )
 
@@ -262,7 +262,7 @@ module _ {V : Type 0} (t : V → Told → V → Type 0) (s : LabValue × V) (fir
         before_end : (datagram next sent end : ℕ) → datagram ≡ next → datagram < sent → end ≡ sent → next < end
         before_end datagram next sent end e p q = omega arith
 
-        all_handed : (r : ℕ) (u : Update) → slice_get course.told.items r ≡ Some (Some u) → (told : IsTold s.0.network s.0.world is.steps r u course.next)
+        all_handed : (r : ℕ) (u : Update) → slice_get course.told.items r ≡ Some (Some u) → (told : IsUpdateTold s.0.network s.0.world is.steps r u course.next)
             → (datagram : ℕ) (d : Sent) → course.next ≤ datagram → datagram < course.next + 1 → u.first ≤ datagram → slice_get told.tick.after.sent datagram ≡ Some d
             → IsHandedOn s.0.network (events_of h.steps) datagram d
         all_handed r u at told datagram d late early since sent_is to iface linked elsewhere =

@@ -90,7 +90,7 @@ IsHandedOn net events datagram d =
     → (moment : ℕ) × Contains events (Deliver datagram router iface moment)
 
 -- a regular update of the router, of which the datagrams before a number are handed on
-pub record IsTold (net : Network) (w : World) (steps : List Step) (router : ℕ) (update : Update) (next : ℕ) : Type 0 where
+pub record IsUpdateTold (net : Network) (w : World) (steps : List Step) (router : ℕ) (update : Update) (next : ℕ) : Type 0 where
   pub before : List Step
   pub tick : Step
   pub after : List Step
@@ -113,7 +113,7 @@ pub record IsUnderway {V : Type 0} (takes : V → Told → V → Type 0) (s : La
   pub ends : course.end ≡ begin + 60_000
   pub not_before : begin ≤ course.moment
   pub in_time : course.moment < begin + 60_000
-  pub updates : (router : ℕ) (u : Update) → slice_get course.told.items router ≡ Some (Some u) → IsTold s.0.network s.0.world steps router u course.next × (u.end ≤ course.until)
+  pub updates : (router : ℕ) (u : Update) → slice_get course.told.items router ≡ Some (Some u) → IsUpdateTold s.0.network s.0.world steps router u course.next × (u.end ≤ course.until)
   pub begun : length s.0.world.sent ≤ course.until
   pub sent : course.until ≤ length s'.0.world.sent
   pub next_in : course.next ≤ length s'.0.world.sent

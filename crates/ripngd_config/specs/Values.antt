@@ -25,8 +25,8 @@ abbrev pub IsTruth : Data → Bool → Type 0
 IsTruth d b = d ≡ boolean b
 
 -- the value at a key is read as x, or is not there and x is the default
-abbrev pub IsAt : {X : Type 0} → (Data → X → Type 0) → List ℕ → Option X → Members → X → Type 0
-IsAt ReadsAs key default ms x = MatchOption (get_member key ms) (default ≡ Some x) (λ d. ReadsAs d x)
+abbrev pub IsReadAt : {X : Type 0} → (Data → X → Type 0) → List ℕ → Option X → Members → X → Type 0
+IsReadAt ReadsAs key default ms x = MatchOption (get_member key ms) (default ≡ Some x) (λ d. ReadsAs d x)
 
 -- a table that is read as x
 abbrev pub IsItem : {X : Type 0} → (Members → X → Type 0) → Data → X → Type 0

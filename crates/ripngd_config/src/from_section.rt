@@ -5,7 +5,7 @@ ghost use Rattle.toml.specs.Data.{Members, get_member};
 ghost use Rattle.toml.specs.View.{items_view, table_view, view};
 ghost use Rattle.ripngd_config.specs.Faults.{RefusesAt};
 ghost use Rattle.ripngd_config.specs.Keys.{ArrayFault, HasFault, ItemFault, ItemsFault, Keys};
-ghost use Rattle.ripngd_config.specs.Values.{AreSections, AreTables, IsAt, IsItem};
+ghost use Rattle.ripngd_config.specs.Values.{AreSections, AreTables, IsReadAt, IsItem};
 
 use crate::fault::{ConfigFault, PathFault};
 use crate::values::Section;
@@ -76,7 +76,7 @@ pub(crate) fn tables_at<T: FromSection + Drop>(
     section: Section<'_>,
     key: &'static str,
 ) -> Result<Vec<T>, ConfigFault>
-    ensures read { IfOk result (λ v. IsAt (AreSections T.is_read) key.now (Some [])
+    ensures read { IfOk result (λ v. IsReadAt (AreSections T.is_read) key.now (Some [])
         (table_view section.entry.table.now) v.items) }
     ensures fault { IfErr result (RefusesAt (λ f.
         MatchOption (get_member key.now (table_view section.entry.table.now))

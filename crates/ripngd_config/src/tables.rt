@@ -5,7 +5,7 @@ ghost use Rattle.toml.specs.Data.{get_member};
 ghost use Rattle.toml.specs.View.{table_view};
 ghost use Rattle.ripngd_config.specs.Faults.{RefusesAt};
 ghost use Rattle.ripngd_config.specs.Keys.{NumberFault, document_keys, interface_keys, peer_keys, prefix_keys};
-ghost use Rattle.ripngd_config.specs.Values.{IsAt, IsSomeNumber};
+ghost use Rattle.ripngd_config.specs.Values.{IsReadAt, IsSomeNumber};
 
 use crate::fault::ConfigFault;
 use crate::from_section::{FromSection, tables_at};
@@ -54,7 +54,7 @@ static INTERFACE_KEYS: [&str; 6] = ["address", "cost", "mtu", "local_port", "gro
 
 /// The port at a key that may be left out.
 fn port_at(section: Section<'_>, key: &str) -> Result<Option<u16>, ConfigFault>
-    ensures read { IfOk result (IsAt (IsSomeNumber 1 65535) key.now (Some None) (table_view section.entry.table.now)) }
+    ensures read { IfOk result (IsReadAt (IsSomeNumber 1 65535) key.now (Some None) (table_view section.entry.table.now)) }
     ensures fault { IfErr result (RefusesAt (λ f.
         MatchOption (get_member key.now (table_view section.entry.table.now)) ⊥ (NumberFault f 1 65535))) }
 {

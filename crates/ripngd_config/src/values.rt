@@ -5,7 +5,7 @@ ghost use Rattle.toml.specs.Data.{get_member};
 ghost use Rattle.toml.specs.View.{table_view, view};
 ghost use Rattle.ripngd_config.specs.Faults.{RefusesAt};
 ghost use Rattle.ripngd_config.specs.Keys.{AddressFault, HasOnlyOf, HasOtherOf, is_listed, NumberFault, PrefixFault, TruthFault};
-ghost use Rattle.ripngd_config.specs.Values.{IsAddress, IsAt, IsNumber, IsPrefixValue, IsSomeNumber, IsTruth};
+ghost use Rattle.ripngd_config.specs.Values.{IsAddress, IsReadAt, IsNumber, IsPrefixValue, IsSomeNumber, IsTruth};
 
 use crate::fault::{ConfigFault, PathFault};
 use crate::table_path::TablePath;
@@ -45,7 +45,7 @@ impl<'a> Section<'a> {
         default: Option<u64>,
     ) -> Result<u64, ConfigFault>
         requires small { high < 2 ^ 63 }
-        ensures read { IfOk result (IsAt (IsNumber low high) key.now default (table_view self.now.table.now)) }
+        ensures read { IfOk result (IsReadAt (IsNumber low high) key.now default (table_view self.now.table.now)) }
         ensures fault { IfErr result (RefusesAt (λ f.
             MatchOption (get_member key.now (table_view self.now.table.now))
             ((f ≡ PathFault.MissingKey) × (default ≡ None)) (NumberFault f low high))) }
@@ -70,7 +70,7 @@ impl<'a> Section<'a> {
         high: u64,
     ) -> Result<Option<u64>, ConfigFault>
         requires small { high < 2 ^ 63 }
-        ensures read { IfOk result (IsAt (IsSomeNumber low high) key.now (Some None) (table_view self.now.table.now)) }
+        ensures read { IfOk result (IsReadAt (IsSomeNumber low high) key.now (Some None) (table_view self.now.table.now)) }
         ensures fault { IfErr result (RefusesAt (λ f.
             MatchOption (get_member key.now (table_view self.now.table.now)) ⊥ (NumberFault f low high))) }
     {
@@ -82,7 +82,7 @@ impl<'a> Section<'a> {
 
     /// The address at a key, which is required.
     pub fn address(&self, key: &str) -> Result<Addr6, ConfigFault>
-        ensures read { IfOk result (IsAt IsAddress key.now None (table_view self.now.table.now)) }
+        ensures read { IfOk result (IsReadAt IsAddress key.now None (table_view self.now.table.now)) }
         ensures fault { IfErr result (RefusesAt (λ f.
             MatchOption (get_member key.now (table_view self.now.table.now))
             (f ≡ PathFault.MissingKey) (AddressFault f))) }
@@ -101,7 +101,7 @@ impl<'a> Section<'a> {
 
     /// The prefix at a key, which is required.
     pub fn prefix(&self, key: &str) -> Result<Prefix, ConfigFault>
-        ensures read { IfOk result (IsAt IsPrefixValue key.now None (table_view self.now.table.now)) }
+        ensures read { IfOk result (IsReadAt IsPrefixValue key.now None (table_view self.now.table.now)) }
         ensures fault { IfErr result (RefusesAt (λ f.
             MatchOption (get_member key.now (table_view self.now.table.now))
             (f ≡ PathFault.MissingKey) (PrefixFault f))) }
@@ -120,7 +120,7 @@ impl<'a> Section<'a> {
 
     /// The truth value at a key, or the default.
     pub fn truth(&self, key: &str, default: bool) -> Result<bool, ConfigFault>
-        ensures read { IfOk result (IsAt IsTruth key.now (Some default) (table_view self.now.table.now)) }
+        ensures read { IfOk result (IsReadAt IsTruth key.now (Some default) (table_view self.now.table.now)) }
         ensures fault { IfErr result (RefusesAt (λ f.
             MatchOption (get_member key.now (table_view self.now.table.now)) ⊥ (TruthFault f))) }
     {

@@ -9,14 +9,14 @@ use Rattle.ripngd_engine.specs.Seen.{Seen}
 use Rattle.ripngd_watch.specs.Shown.{other_lines, row_lines}
 use Rattle.ripngd_watch.specs.declared.counts.Counts.{Counts}
 use Rattle.ripngd_watch.specs.declared.neighbors.Neighbors.{Neighbors}
-use Rattle.ripngd_control.specs.Answers.{Obeys, ShowsEntries, ShowsHeld, reply_text}
+use Rattle.ripngd_control.specs.Answers.{ObeysChange, ShowsEntries, ShowsHeld, reply_text}
 use Rattle.ripngd_control.specs.declared.answering.Course.{Course}
 use Rattle.ripngd_control.specs.declared.answering.Course.TheVariants.{GoOn, Ended}
 use Rattle.ripngd_control.specs.declared.answering.Rest.{Rest}
 use Rattle.ripngd_control.specs.declared.answering.Rest.TheVariants as rests
 use Rattle.ripngd_control.specs.declared.command.Command.{Command}
 use Rattle.ripngd_control.specs.declared.command.Command.TheVariants as commands
-use Rattle.ripngd_control.specs.Losses.{totals_text}
+use Rattle.ripngd_control.specs.Losses.{counts_and_losses_text}
 use Rattle.ripngd_control.specs.declared.losses.Losses.{Losses}
 use Rattle.ripngd_control.specs.declared.reply.Reply.{Reply}
 use Rattle.ripngd_control.specs.declared.reply.Reply.TheVariants as replies
@@ -28,7 +28,7 @@ reply_line reply = reply_text reply ++ 10 ∷ []
 
 -- what was counted and what was lost, and `ok`
 abbrev pub counts_answer : Counts → Losses → List ℕ
-counts_answer c l = totals_text (record { counts = c; lost = l }) ++ (10 ∷ (codes "ok" ++ 10 ∷ []))
+counts_answer c l = counts_and_losses_text (record { counts = c; lost = l }) ++ (10 ∷ (codes "ok" ++ 10 ∷ []))
 
 -- the lines of each sender, of all others together, and `ok`
 abbrev pub neighbors_answer : Neighbors → List ℕ
@@ -41,7 +41,7 @@ GainsLines old rest new text = rest ≢ rests.Lost → (rest ≡ rests.Nothing) 
 
 -- a change was told to a router, and how that ended is what is said
 abbrev pub Obeyed : Change → Seen → Option (List ℕ) → Rest → Seen → Option (List ℕ) → Type 0
-Obeyed c a old rest b new = (reply : Reply) × Obeys c a reply b × GainsLines old rest new (reply_line reply)
+Obeyed c a old rest b new = (reply : Reply) × ObeysChange c a reply b × GainsLines old rest new (reply_line reply)
 
 -- what was done and said for a command, or for a line that is of none: only a change changes the router
 abbrev pub AnswersCommand : Option Command → Counts → Neighbors → Losses → Seen → Option (List ℕ) → Rest → Seen → Option (List ℕ) → Type 0
@@ -55,9 +55,9 @@ AnswersCommand (Some (commands.Reconfigure c)) counts heard lost a old rest b ne
 AnswersCommand (Some (commands.Link c)) counts heard lost a old rest b new = (b ≡ a) × (reply : Reply) × GainsLines old rest new (reply_line reply)
 
 -- a router goes on behind every reply but that it ended
-abbrev pub GoesOn : Reply → Course → Type 0
-GoesOn replies.Ended course = course ≡ Ended
-GoesOn _ course = course ≡ GoOn
+abbrev pub RunsOn : Reply → Course → Type 0
+RunsOn replies.Ended course = course ≡ Ended
+RunsOn _ course = course ≡ GoOn
 
 -- ---- what is answered in pieces
 -- there is more to write, and nothing is said of it yet; or all was written, and that it was

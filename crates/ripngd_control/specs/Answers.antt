@@ -79,10 +79,10 @@ reply_text replies.NoSuchCommand = codes "refused 52 NoSuchCommand"
 reply_text replies.Ended = codes "refused 53 Ended"
 
 -- what a change did to an engine, by what is replied
-abbrev pub Obeys : Change → Seen → Reply → Seen → Type 0
-Obeys c a replies.Done b = (b.machine.ended ≡ false) × Acts (ReconfiguresOnce c) a b
-Obeys c a (replies.Refused why) b = (b.machine.ended ≡ false) × (why ≡ why_refused a.machine.router c) × Acts ReconfiguresNothing a b
-Obeys c a replies.NoSuchInterface b = (b ≡ a) × ¬ (NamesInterface a.machine.router.config c)
-Obeys c a (replies.LinkRefused number name) b = ⊥
-Obeys c a replies.NoSuchCommand b = ⊥
-Obeys c a replies.Ended b = (b.machine.ended ≡ true) × Acts (ReconfiguresOnce c) a b
+abbrev pub ObeysChange : Change → Seen → Reply → Seen → Type 0
+ObeysChange c a replies.Done b = (b.machine.ended ≡ false) × Acts (ReconfiguresOnce c) a b
+ObeysChange c a (replies.Refused why) b = (b.machine.ended ≡ false) × (why ≡ why_refused a.machine.router c) × Acts ReconfiguresNothing a b
+ObeysChange c a replies.NoSuchInterface b = (b ≡ a) × ¬ (NamesInterface a.machine.router.config c)
+ObeysChange c a (replies.LinkRefused number name) b = ⊥
+ObeysChange c a replies.NoSuchCommand b = ⊥
+ObeysChange c a replies.Ended b = (b.machine.ended ≡ true) × Acts (ReconfiguresOnce c) a b

@@ -4,7 +4,7 @@ ghost use Rattle.std.specs.Prelude.{◌≡◌, ◌≢◌, ◌↔◌, IfOk, IsOk,
 ghost use Rattle.std.specs.Io.KnownBytes.{Appends};
 ghost use Rattle.ripngd_engine.specs.Seen.{seen};
 ghost use Rattle.ripngd_control.specs.declared.command.PeerChange.{PeerChange};
-ghost use Rattle.ripngd_control.specs.Answering.{AnswersCommand, Continues, GoesOn, Obeyed, GainsLines, WritesEntries, WritesRoutes, counts_answer, neighbors_answer, reply_line};
+ghost use Rattle.ripngd_control.specs.Answering.{AnswersCommand, Continues, RunsOn, Obeyed, GainsLines, WritesEntries, WritesRoutes, counts_answer, neighbors_answer, reply_line};
 
 use crate::command::{Command, PeerChange};
 use crate::lines::{write_routes, write_table};
@@ -87,7 +87,7 @@ fn all_of(written: io::Result<()>) -> Rest
 
 /// Whether a router goes on behind a change with this reply.
 fn course_after(reply: Reply) -> Course
-    ensures { GoesOn reply result }
+    ensures { RunsOn reply result }
 {
     match reply {
         Reply::Ended => Course::Ended,

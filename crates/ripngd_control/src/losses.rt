@@ -1,7 +1,7 @@
 //! What a router and its link have lost, beside what was counted of it.
 
 ghost use Rattle.std.specs.Prelude.{◌≡◌, Some};
-ghost use Rattle.ripngd_control.specs.Losses.{log_text, lost_text, totals_text};
+ghost use Rattle.ripngd_control.specs.Losses.{failed_log_text, lost_text, counts_and_losses_text};
 
 use ripngd_engine::Report;
 use ripngd_watch::Counts;
@@ -30,8 +30,8 @@ pub struct Totals {
 #[derive(Clone, Copy)]
 struct LostText(Losses);
 
-fn log_text(failed: bool) -> &'static str
-    ensures { result.now ≡ log_text failed }
+fn failed_log_text(failed: bool) -> &'static str
+    ensures { result.now ≡ failed_log_text failed }
 {
     if failed { "\nlog failed" } else { "" }
 }
@@ -47,7 +47,7 @@ impl Display for LostText {
         } = self.0;
         let sends = report.lost_sends;
         let steps = report.lost_memory;
-        let log = log_text(report.log_failed);
+        let log = failed_log_text(report.log_failed);
         write!(
             f,
             "lost sends {sends} steps {steps} arrivals {arrivals}\nstrangers {strangers}{log}"
@@ -57,7 +57,7 @@ impl Display for LostText {
 
 /// The counts, and what was lost on lines behind them. The last line is not ended.
 impl Display for Totals {
-    ghost output = { λ t. Some (totals_text t) };
+    ghost output = { λ t. Some (counts_and_losses_text t) };
 
     fn fmt<W: fmt::Write>(&self, f: &mut fmt::Formatter<W>) -> fmt::Result {
         write!(f, "{}\n{}", self.counts, LostText(self.lost))

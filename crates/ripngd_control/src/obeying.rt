@@ -3,7 +3,7 @@
 ghost use Rattle.std.specs.Prelude.{◌≡◌, ◌<◌, ◌↔◌, IsTrue, false, length};
 ghost use Rattle.ripngd_engine.specs.Seen.{seen};
 ghost use Rattle.router_core.specs.Reconfiguring.{NamesInterface};
-ghost use Rattle.ripngd_control.specs.Answers.{Obeys};
+ghost use Rattle.ripngd_control.specs.Answers.{ObeysChange};
 
 use crate::reply::Reply;
 use rand_core::Rng;
@@ -29,7 +29,7 @@ pub fn obey<S: RouteStore, L: Link, C: TimeSource, R: Rng + Drop, W: Write>(
     log: &mut W,
 ) -> Reply
     requires { engine.old.ended ≡ false }
-    ensures { Obeys change (seen R.stream W.contents engine.old log.old) result
+    ensures { ObeysChange change (seen R.stream W.contents engine.old log.old) result
         (seen R.stream W.contents engine.new log.new) }
 {
     if !names_interface(engine.router().config(), &change) {

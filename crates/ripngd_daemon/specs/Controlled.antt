@@ -4,7 +4,7 @@ use Rattle.rand_core.specs.Stream.{Stream}
 use Rattle.fib.specs.Forwarding.{Forwarding}
 use Rattle.router_core.specs.Config.{Config as RouterValue}
 use Rattle.router_core.specs.declared.reconfiguring.Change.{Change}
-use Rattle.ripngd_control.specs.Answers.{Obeys}
+use Rattle.ripngd_control.specs.Answers.{ObeysChange}
 use Rattle.ripngd_control.specs.Commands.{control_text}
 use Rattle.ripngd_control.specs.declared.command.Command.{Command}
 use Rattle.ripngd_control.specs.declared.reply.Reply.{Reply}
@@ -28,7 +28,7 @@ turns_in (Commanded c reply ∷ deeds) = turns_in deeds
 
 abbrev pub DoesTurnOrCommand : TurnOrCommand → Seen → Seen → Type 0
 DoesTurnOrCommand Turned a b = Ran 1 a b
-DoesTurnOrCommand (Commanded c reply) a b = Obeys c a reply b
+DoesTurnOrCommand (Commanded c reply) a b = ObeysChange c a reply b
 
 -- these deeds, one after another
 abbrev pub DoesAll : List TurnOrCommand → Seen → Seen → Type 0
@@ -37,7 +37,7 @@ DoesAll (d ∷ deeds) a b = (m : Seen) × DoesTurnOrCommand d a m × DoesAll dee
 
 -- a router was told a change, or it is as it was
 abbrev pub Heeds : Seen → Seen → Type 0
-Heeds a b = (b ≡ a) ⊎ ((c : Change) × (reply : Reply) × Obeys c a reply b)
+Heeds a b = (b ≡ a) ⊎ ((c : Change) × (reply : Reply) × ObeysChange c a reply b)
 
 -- a router made a turn, and was then told a change, or was not
 abbrev pub TurnsAndHeeds : Seen → Seen → Type 0

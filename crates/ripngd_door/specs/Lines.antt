@@ -14,13 +14,13 @@ pub record BeginsWith (line bytes : List ℕ) : Type 0 where
   pub in_line : HasNoFeed line
 
 -- what was heard grew by just what a stream gave, if that is known
-pub record Hears (before : Option (List ℕ)) (old : List ℕ) (after : Option (List ℕ)) (new : List ℕ) : Type 0 where
+pub record GrowsByHeard (before : Option (List ℕ)) (old : List ℕ) (after : Option (List ℕ)) (new : List ℕ) : Type 0 where
   pub more : List ℕ
   pub given : Consumes before after more
   pub grown : new ≡ old ++ more
 
 -- a stream took so many bytes, the first of these, and the others are left
-pub record Tells (before : Option (List ℕ)) (old : List ℕ) (count : ℕ) (after : Option (List ℕ)) (new : List ℕ) : Type 0 where
+pub record ShrinksByTold (before : Option (List ℕ)) (old : List ℕ) (count : ℕ) (after : Option (List ℕ)) (new : List ℕ) : Type 0 where
   pub within : count ≤ length old
   pub taken : Appends before after (take count old)
   pub left : new ≡ drop count old

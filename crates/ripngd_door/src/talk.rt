@@ -1,7 +1,7 @@
 //! What is heard of a client, and told to it: one read or one write a call.
 
 ghost use Rattle.std.specs.Prelude.{◌≡◌, ◌≢◌, ◌≤◌, ◌∷◌, ◌++◌, IfSome, List, vec_len, ℕ};
-ghost use Rattle.ripngd_door.specs.Lines.{BeginsWith, Hears, HasNoFeed, Tells};
+ghost use Rattle.ripngd_door.specs.Lines.{BeginsWith, GrowsByHeard, HasNoFeed, ShrinksByTold};
 
 use std::io::{ErrorKind, Read, Write};
 
@@ -67,7 +67,7 @@ fn keep(bytes: &[u8], heard: &mut Vec<u8>) -> Heard
 /// Reads once, as much as a line may still have, and keeps it behind what was heard before.
 pub fn hear<T: Read>(stream: &mut T, heard: &mut Vec<u8>) -> Heard
     ensures heard { result ≢ Heard.Gone
-        → Hears (T.remaining stream.old) heard.old.items (T.remaining stream.new) heard.new.items }
+        → GrowsByHeard (T.remaining stream.old) heard.old.items (T.remaining stream.new) heard.new.items }
     ensures bounded { result ≢ Heard.Gone → vec_len heard.old ≤ LINE_LIMIT → vec_len heard.new ≤ LINE_LIMIT }
 {
     let mut bytes = [0_u8; LINE_LIMIT];
@@ -83,7 +83,7 @@ pub fn hear<T: Read>(stream: &mut T, heard: &mut Vec<u8>) -> Heard
 /// Writes once of what a client is still to be told, and answers how many bytes that took away; none where it would have to
 /// wait, and no number where the client went away.
 pub fn tell<T: Write>(stream: &mut T, answer: &mut Vec<u8>) -> Option<usize>
-    ensures { IfSome result (λ count. Tells (T.contents stream.old) answer.old.items count (T.contents stream.new) answer.new.items) }
+    ensures { IfSome result (λ count. ShrinksByTold (T.contents stream.old) answer.old.items count (T.contents stream.new) answer.new.items) }
 {
     match stream.write(answer.as_slice()) {
         Ok(count) => {

@@ -10,7 +10,7 @@ use Rattle.ripng_world.specs.Watching.{Told, WatchedRun, WatchedUntil, WatchedIn
 use Rattle.ripng_world.specs.World.{World, Event, Happens}
 use Rattle.ripng_world.proofs.Watched.{given_told}
 use Rattle.ripngd_lab.specs.Asides.{Aside, NextLine, Prints, Broken}
-use Rattle.ripngd_lab.specs.ScriptWatching.{Telling, Starts, Does, Turns, Notes, StartsAt, TellsAll, IsTold, FailsAtEvent, IsToldUntil, IsToldUnless, HasTold, is_failure, has_failed}
+use Rattle.ripngd_lab.specs.ScriptWatching.{Telling, Starts, Does, Turns, Notes, StartsAt, TellsAll, IsToldOfLab, FailsAtEvent, IsToldUntil, IsToldUnless, HasTold, is_failure, has_failed}
 use Rattle.ripngd_lab.specs.declared.stop.Stop.{Stop}
 use Rattle.ripngd_lab.specs.declared.stop.Stop.TheVariants.{Refused, Unmet, Failed}
 use Rattle.std.specs.declared.io.Error.{Error}
@@ -21,37 +21,37 @@ module _ {V : Type 0} (st : V → LabValue → ℕ → V → Type 0) (t f : V �
   all_on (x ∷ ts) us s mid s' first rest = (first.0, first.1, all_on ts us first.0 mid s' first.2 rest)
 
   -- nothing is told
-  pub untold : (s : Option LabValue × V) → IsTold st t n s s
+  pub untold : (s : Option LabValue × V) → IsToldOfLab st t n s s
   untold s = ([], refl)
 
   -- one telling after another
-  pub told_on : (s mid s' : Option LabValue × V) → IsTold st t n s mid → IsTold st t n mid s' → IsTold st t n s s'
+  pub told_on : (s mid s' : Option LabValue × V) → IsToldOfLab st t n s mid → IsToldOfLab st t n mid s' → IsToldOfLab st t n s s'
   told_on s mid s' first rest = (first.0 ++ rest.0, all_on first.0 rest.0 s mid s' first.1 rest.1)
 
-  pub until_on : (s mid s' : Option LabValue × V) → IsTold st t n s mid → IsToldUntil st t f n mid s' → IsToldUntil st t f n s s'
+  pub until_on : (s mid s' : Option LabValue × V) → IsToldOfLab st t n s mid → IsToldUntil st t f n mid s' → IsToldUntil st t f n s s'
   until_on s mid s' first rest = (rest.0, told_on s mid rest.0 first rest.1, rest.2)
 
   -- what told all has told all until then
-  pub told_until : (s s' : Option LabValue × V) → IsTold st t n s s' → IsToldUntil st t f n s s'
+  pub told_until : (s s' : Option LabValue × V) → IsToldOfLab st t n s s' → IsToldUntil st t f n s s'
   told_until s s' told = (s', told, inl (refl, inl refl))
 
   -- memory or the watcher failed, and nothing happened
   pub failed_still : (lab : Option LabValue) (v v' : V) → (v' ≡ v) ⊎ n v Broken v' → IsToldUntil st t f n (lab, v) (lab, v')
   failed_still lab v v' why = ((lab, v), untold (lab, v), inl (refl, why))
 
-  pub unless : (b : Bool) (s s' : Option LabValue × V) → IsTold st t n s s' → IsToldUnless b st t f n s s'
+  pub unless : (b : Bool) (s s' : Option LabValue × V) → IsToldOfLab st t n s s' → IsToldUnless b st t f n s s'
   unless false s s' told = told
   unless true s s' told = told_until s s' told
 
-  pub unless_on : (b : Bool) (s mid s' : Option LabValue × V) → IsTold st t n s mid → IsToldUnless b st t f n mid s' → IsToldUnless b st t f n s s'
+  pub unless_on : (b : Bool) (s mid s' : Option LabValue × V) → IsToldOfLab st t n s mid → IsToldUnless b st t f n mid s' → IsToldUnless b st t f n s s'
   unless_on false s mid s' first rest = told_on s mid s' first rest
   unless_on true s mid s' first rest = until_on s mid s' first rest
 
   -- whatever the outcome is
-  pub has_told : (r : Result ⊤ Stop) (s s' : Option LabValue × V) → IsTold st t n s s' → HasTold r st t f n s s'
+  pub has_told : (r : Result ⊤ Stop) (s s' : Option LabValue × V) → IsToldOfLab st t n s s' → HasTold r st t f n s s'
   has_told r s s' told = unless (has_failed r) s s' told
 
-  pub has_told_on : (r : Result ⊤ Stop) (s mid s' : Option LabValue × V) → IsTold st t n s mid → HasTold r st t f n mid s' → HasTold r st t f n s s'
+  pub has_told_on : (r : Result ⊤ Stop) (s mid s' : Option LabValue × V) → IsToldOfLab st t n s mid → HasTold r st t f n mid s' → HasTold r st t f n s s'
   has_told_on r s mid s' first rest = unless_on (has_failed r) s mid s' first rest
 
   -- another outcome that fails where the first does
@@ -59,11 +59,11 @@ module _ {V : Type 0} (st : V → LabValue → ℕ → V → Type 0) (t f : V �
   has_told_as r q s s' same told = subst (λ (b : Bool). IsToldUnless b st t f n s s') (sym same) told
 
   -- a line ends a script: it has told all, unless it failed
-  pub line_ends : (b : Bool) (k : Stop) (s mid s' : Option LabValue × V) → is_failure k ≡ b → IsTold st t n s mid → HasTold {X = ⊤} (Err k) st t f n mid s' → IsToldUnless b st t f n s s'
+  pub line_ends : (b : Bool) (k : Stop) (s mid s' : Option LabValue × V) → is_failure k ≡ b → IsToldOfLab st t n s mid → HasTold {X = ⊤} (Err k) st t f n mid s' → IsToldUnless b st t f n s s'
   line_ends b k s mid s' is first told = subst (λ (a : Bool). IsToldUnless a st t f n s s') is (unless_on (is_failure k) s mid s' first told)
 
   -- the watcher fails after all that was told
-  pub on_fault : {X : Type 0} (r : Result X Error) (s : Option LabValue × V) (lab : Option LabValue) (v v' : V) → IsTold st t n s (lab, v) → n v Broken v'
+  pub on_fault : {X : Type 0} (r : Result X Error) (s : Option LabValue × V) (lab : Option LabValue) (v v' : V) → IsToldOfLab st t n s (lab, v) → n v Broken v'
       → OnErr r ((end : Option LabValue) × IsToldUntil st t f n s (end, v'))
   on_fault (Ok x) s lab v v' told broken = tt
   on_fault (Err e) s lab v v' told broken = (lab, until_on s (lab, v) (lab, v') told (failed_still lab v v' (inr broken)))
@@ -73,7 +73,7 @@ module _ {V : Type 0} (st : V → LabValue → ℕ → V → Type 0) (t f : V �
   handed (Ok x) from s s' is told = absurd is
   handed (Err e) from s s' is told = subst (λ (b : Bool). IsToldUnless b st t f n s s') (sym (ap is_failure is)) told
 
-  pub handed_on : (r : Result ⊤ Stop) (from : Stop) (s mid s' : Option LabValue × V) → IsErrAnd r (λ e. e ≡ from) → IsTold st t n s mid → HasTold {X = ⊤} (Err from) st t f n mid s'
+  pub handed_on : (r : Result ⊤ Stop) (from : Stop) (s mid s' : Option LabValue × V) → IsErrAnd r (λ e. e ≡ from) → IsToldOfLab st t n s mid → HasTold {X = ⊤} (Err from) st t f n mid s'
       → HasTold r st t f n s s'
   handed_on r from s mid s' is first told = handed r from s s' is (has_told_on (Err from) s mid s' first told)
 
@@ -104,22 +104,22 @@ module _ {V : Type 0} (st : V → LabValue → ℕ → V → Type 0) (t f : V �
 
   -- ---- one telling
 
-  pub noted : (lab : Option LabValue) (v v' : V) → n v Prints v' → IsTold st t n (lab, v) (lab, v')
+  pub noted : (lab : Option LabValue) (v v' : V) → n v Prints v' → IsToldOfLab st t n (lab, v) (lab, v')
   noted lab v v' note = (Notes ∷ [], ((lab, v'), (refl, note), refl))
 
-  pub noted_on : (s : Option LabValue × V) (lab : Option LabValue) (v v' : V) → IsTold st t n s (lab, v) → n v Prints v' → IsTold st t n s (lab, v')
+  pub noted_on : (s : Option LabValue × V) (lab : Option LabValue) (v v' : V) → IsToldOfLab st t n s (lab, v) → n v Prints v' → IsToldOfLab st t n s (lab, v')
   noted_on s lab v v' told note = told_on s (lab, v) (lab, v') told (noted lab v v' note)
 
-  pub turned_on : (s : Option LabValue × V) (lab : Option LabValue) (v v' : V) (number : ℕ) → IsTold st t n s (lab, v) → n v (NextLine number) v' → IsTold st t n s (lab, v')
+  pub turned_on : (s : Option LabValue × V) (lab : Option LabValue) (v v' : V) (number : ℕ) → IsToldOfLab st t n s (lab, v) → n v (NextLine number) v' → IsToldOfLab st t n s (lab, v')
   turned_on s lab v v' number told note = told_on s (lab, v) (lab, v') told (Turns number ∷ [], ((lab, v'), (refl, note), refl))
 
-  pub started : (lab : LabValue) (now : ℕ) (v v' : V) → StartsAt lab now → st v lab now v' → IsTold st t n (None, v) (Some lab, v')
+  pub started : (lab : LabValue) (now : ℕ) (v v' : V) → StartsAt lab now → st v lab now v' → IsToldOfLab st t n (None, v) (Some lab, v')
   started lab now v v' starts told = (Starts now ∷ [], ((Some lab, v'), (refl, lab, refl, starts, told), refl))
 
   -- ---- what a lab does
 
   pub run_told : (net : Network) (es : List Event) (w w' : World) (v v' : V) (fits : World → Event → Answer → Type 0) → WatchedRun t fits net (w, v) es (w', v')
-      → IsTold st t n (Some (record { network = net; world = w }), v) (Some (record { network = net; world = w' }), v')
+      → IsToldOfLab st t n (Some (record { network = net; world = w }), v) (Some (record { network = net; world = w' }), v')
   run_told net [] w w' v v' fits is = ([], ap (λ (s : World × V). (Some (record { network = net; world = s.0 }), s.1)) is)
   run_told net (e ∷ es) w w' v v' fits is =
       let mid = is.0 in
@@ -134,17 +134,17 @@ module _ {V : Type 0} (st : V → LabValue → ℕ → V → Type 0) (t f : V �
 
   -- of a lab that keeps its network
   pub lab_told : (lab lab' : LabValue) (es : List Event) (v v' : V) (fits : World → Event → Answer → Type 0) → lab'.network ≡ lab.network
-      → WatchedRun t fits lab.network (lab.world, v) es (lab'.world, v') → IsTold st t n (Some lab, v) (Some lab', v')
+      → WatchedRun t fits lab.network (lab.world, v) es (lab'.world, v') → IsToldOfLab st t n (Some lab, v) (Some lab', v')
   lab_told lab lab' es v v' fits same run =
-      subst (λ (net : Network). IsTold st t n (Some lab, v) (Some (record { network = net; world = lab'.world }), v')) (sym same) (run_told lab.network es lab.world lab'.world v v' fits run)
+      subst (λ (net : Network). IsToldOfLab st t n (Some lab, v) (Some (record { network = net; world = lab'.world }), v')) (sym same) (run_told lab.network es lab.world lab'.world v v' fits run)
 
   -- so many tellings fail: none, or one
   pub until_none : (net : Network) (es : List Event) (w w' : World) (v v' : V) → WatchedUntil t f 0 net (w, v) es (w', v')
-      → IsTold st t n (Some (record { network = net; world = w }), v) (Some (record { network = net; world = w' }), v')
+      → IsToldOfLab st t n (Some (record { network = net; world = w }), v) (Some (record { network = net; world = w' }), v')
   until_none net es w w' v v' u = by_last u.last u.as_many u.failed
     where
       by_last : (last : List Event) → length last ≡ 0 → WatchedRun f any net u.before last (w', v')
-          → IsTold st t n (Some (record { network = net; world = w }), v) (Some (record { network = net; world = w' }), v')
+          → IsToldOfLab st t n (Some (record { network = net; world = w }), v) (Some (record { network = net; world = w' }), v')
       by_last [] none same = run_told net u.done w w' v v' any (subst (λ (s : World × V). WatchedRun t any net (w, v) u.done s) (sym same) u.run)
       by_last (e ∷ last) none failed = absurd (omega (arith, none))
 
@@ -175,7 +175,7 @@ module _ {V : Type 0} (st : V → LabValue → ℕ → V → Type 0) (t f : V �
 
   -- one step
   pub step_told : (lab lab' : LabValue) (e : Event) (given : Answer) (first : ℕ) (v v' : V) (happens : HappensGiving lab e given lab'.world) → lab'.network ≡ lab.network
-      → first ≡ length lab.world.sent → t v (record { lab = lab'; event = e; answer = given; first = first }) v' → IsTold st t n (Some lab, v) (Some lab', v')
+      → first ≡ length lab.world.sent → t v (record { lab = lab'; event = e; answer = given; first = first }) v' → IsToldOfLab st t n (Some lab, v) (Some lab', v')
   step_told lab lab' e given first v v' happens same first_is told = (
     Does e happens.0 ∷ [],
     (
@@ -187,10 +187,10 @@ module _ {V : Type 0} (st : V → LabValue → ℕ → V → Type 0) (t f : V �
 
   -- some of a run
   pub part_none : (lab lab' : LabValue) (es : List Event) (v v' : V) (k : ℕ) → k ≡ 0 → lab'.network ≡ lab.network → WatchedInPart t f k lab.network (lab.world, v) es (lab'.world, v')
-      → IsTold st t n (Some lab, v) (Some lab', v')
+      → IsToldOfLab st t n (Some lab, v) (Some lab', v')
   part_none lab lab' es v v' k few same stops =
       let p = subst (λ (m : ℕ). WatchedInPart t f m lab.network (lab.world, v) es (lab'.world, v')) few stops in
-      subst (λ (net : Network). IsTold st t n (Some lab, v) (Some (record { network = net; world = lab'.world }), v')) (sym same)
+      subst (λ (net : Network). IsToldOfLab st t n (Some lab, v) (Some (record { network = net; world = lab'.world }), v')) (sym same)
       (until_none lab.network p.part lab.world lab'.world v v' p.run)
 
   pub part_one : (lab lab' : LabValue) (es : List Event) (v v' : V) (k : ℕ) → k ≡ 1 → lab'.network ≡ lab.network → WatchedInPart t f k lab.network (lab.world, v) es (lab'.world, v')
@@ -202,14 +202,14 @@ module _ {V : Type 0} (st : V → LabValue → ℕ → V → Type 0) (t f : V �
 
   -- rounds
   pub rounds_told : (lab lab' : LabValue) (asked : List Asked) (v v' : V) → lab'.network ≡ lab.network → AreMadeTold t lab.network (lab.world, v) asked (lab'.world, v')
-      → IsTold st t n (Some lab, v) (Some lab', v')
+      → IsToldOfLab st t n (Some lab, v) (Some lab', v')
   rounds_told lab lab' asked v v' same made = lab_told lab lab' (events_of_rounds made.0) v v' any same made.2
 
   pub rounds_none : (lab lab' : LabValue) (asked : List Asked) (v v' : V) (k : ℕ) → k ≡ 0 → lab'.network ≡ lab.network → RoundsToldInPart t f k lab.network (lab.world, v) asked (lab'.world, v')
-      → IsTold st t n (Some lab, v) (Some lab', v')
+      → IsToldOfLab st t n (Some lab, v) (Some lab', v')
   rounds_none lab lab' asked v v' k few same stops =
       let p = subst (λ (m : ℕ). RoundsToldInPart t f m lab.network (lab.world, v) asked (lab'.world, v')) few stops in
-      subst (λ (net : Network). IsTold st t n (Some lab, v) (Some (record { network = net; world = lab'.world }), v')) (sym same)
+      subst (λ (net : Network). IsToldOfLab st t n (Some lab, v) (Some (record { network = net; world = lab'.world }), v')) (sym same)
       (told_on (Some lab, v) (Some (record { network = lab.network; world = p.begin.0 }), p.begin.1) (Some (record { network = lab.network; world = lab'.world }), v')
       (run_told lab.network (events_of_rounds p.told.0) lab.world p.begin.0 v p.begin.1 any p.told.2)
       (until_none lab.network p.in_part.events p.begin.0 lab'.world p.begin.1 v' p.in_part.run))

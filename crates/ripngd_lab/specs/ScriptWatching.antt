@@ -25,22 +25,22 @@ StartsAt lab now = (moments : List ℕ) × AllByRecursion (λ m. m ≡ now) mome
 
 -- one telling, and what it is of: a lab that starts, where there was none; an event that happens in the lab, with the
 -- router's answer; or nothing that happens in it
-abbrev pub Tells : {V : Type 0} → (V → LabValue → ℕ → V → Type 0) → (V → Told → V → Type 0) → (V → Aside → V → Type 0) → Telling → Option LabValue × V → Option LabValue × V → Type 0
-Tells starts takes notes (Starts now) s s' = (s.0 ≡ None) × (lab : LabValue) × (s'.0 ≡ Some lab) × StartsAt lab now × starts s.1 lab now s'.1
-Tells starts takes notes (Does e answer) s s' =
+abbrev pub TellsWatcher : {V : Type 0} → (V → LabValue → ℕ → V → Type 0) → (V → Told → V → Type 0) → (V → Aside → V → Type 0) → Telling → Option LabValue × V → Option LabValue × V → Type 0
+TellsWatcher starts takes notes (Starts now) s s' = (s.0 ≡ None) × (lab : LabValue) × (s'.0 ≡ Some lab) × StartsAt lab now × starts s.1 lab now s'.1
+TellsWatcher starts takes notes (Does e answer) s s' =
     (lab : LabValue) × (s.0 ≡ Some lab) × (lab' : LabValue) × (s'.0 ≡ Some lab') × (lab'.network ≡ lab.network) × Happens lab.network lab.world e answer lab'.world
     × takes s.1 (telling lab.network lab.world e answer lab'.world) s'.1
-Tells starts takes notes (Turns number) s s' = (s'.0 ≡ s.0) × notes s.1 (NextLine number) s'.1
-Tells starts takes notes Notes s s' = (s'.0 ≡ s.0) × notes s.1 Prints s'.1
+TellsWatcher starts takes notes (Turns number) s s' = (s'.0 ≡ s.0) × notes s.1 (NextLine number) s'.1
+TellsWatcher starts takes notes Notes s s' = (s'.0 ≡ s.0) × notes s.1 Prints s'.1
 
 -- one after another, and nothing else happens in the lab
 abbrev pub TellsAll : {V : Type 0} → (V → LabValue → ℕ → V → Type 0) → (V → Told → V → Type 0) → (V → Aside → V → Type 0) → Option LabValue × V → List Telling → Option LabValue × V → Type 0
 TellsAll starts takes notes s [] s' = s' ≡ s
-TellsAll {V} starts takes notes s (t ∷ ts) s' = (mid : Option LabValue × V) × Tells starts takes notes t s mid × TellsAll starts takes notes mid ts s'
+TellsAll {V} starts takes notes s (t ∷ ts) s' = (mid : Option LabValue × V) × TellsWatcher starts takes notes t s mid × TellsAll starts takes notes mid ts s'
 
 -- of all that happens in the lab the watcher is told, and of nothing else
-abbrev pub IsTold : {V : Type 0} → (V → LabValue → ℕ → V → Type 0) → (V → Told → V → Type 0) → (V → Aside → V → Type 0) → Option LabValue × V → Option LabValue × V → Type 0
-IsTold starts takes notes s s' = (ts : List Telling) × TellsAll starts takes notes s ts s'
+abbrev pub IsToldOfLab : {V : Type 0} → (V → LabValue → ℕ → V → Type 0) → (V → Told → V → Type 0) → (V → Aside → V → Type 0) → Option LabValue × V → Option LabValue × V → Type 0
+IsToldOfLab starts takes notes s s' = (ts : List Telling) × TellsAll starts takes notes s ts s'
 
 -- memory is refused, and nobody is told; or a telling fails that is of no event
 abbrev pub FailsAtRest : {V : Type 0} → (V → Aside → V → Type 0) → Option LabValue × V → Option LabValue × V → Type 0
@@ -55,7 +55,7 @@ FailsAtEvent fails s s' =
 -- the same up to where memory or the watcher failed: where nothing happened, or at an event, which stays done
 abbrev pub IsToldUntil : {V : Type 0} → (V → LabValue → ℕ → V → Type 0) → (V → Told → V → Type 0) → (V → Told → V → Type 0) → (V → Aside → V → Type 0) → Option LabValue × V → Option LabValue × V → Type 0
 IsToldUntil {V} starts takes fails notes s s' =
-    (before : Option LabValue × V) × IsTold starts takes notes s before × (FailsAtRest notes before s' ⊎ FailsAtEvent fails before s')
+    (before : Option LabValue × V) × IsToldOfLab starts takes notes s before × (FailsAtRest notes before s' ⊎ FailsAtEvent fails before s')
 
 -- whether a script ends because memory or the watcher failed
 abbrev pub is_failure : Stop → Bool
@@ -68,7 +68,7 @@ has_failed (Ok x) = false
 has_failed (Err stop) = is_failure stop
 
 abbrev pub IsToldUnless : {V : Type 0} → Bool → (V → LabValue → ℕ → V → Type 0) → (V → Told → V → Type 0) → (V → Told → V → Type 0) → (V → Aside → V → Type 0) → Option LabValue × V → Option LabValue × V → Type 0
-IsToldUnless false starts takes fails notes s s' = IsTold starts takes notes s s'
+IsToldUnless false starts takes fails notes s s' = IsToldOfLab starts takes notes s s'
 IsToldUnless true starts takes fails notes s s' = IsToldUntil starts takes fails notes s s'
 
 -- the same of an outcome: a line that is refused, or expects what is not so, has told all

@@ -2,7 +2,7 @@
 
 ghost use Rattle.std.specs.Prelude.{◌<◌, ◌≡◌, IfSome, None, OnErr, OnOk, Option, length};
 ghost use Rattle.ripng_world.specs.Labs.{LabValue};
-ghost use Rattle.ripngd_lab.specs.ScriptWatching.{HasTold, IsTold, IsToldUntil, has_failed, lab_in};
+ghost use Rattle.ripngd_lab.specs.ScriptWatching.{HasTold, IsToldOfLab, IsToldUntil, has_failed, lab_in};
 
 use crate::printer::Printer;
 use crate::refusal_name::RefusalName;
@@ -30,7 +30,7 @@ pub fn lab<W: Write>(alloc: Global, script: &[u8], out: &mut W) -> io::Result<bo
 /// # Errors
 /// `OutOfMemory` where memory was refused, else the fault of the watcher. What was told before stays told.
 pub fn watched<V: Watch>(alloc: Global, script: &[u8], watch: &mut V) -> io::Result<bool>
-    ensures told { OnOk result ((end : Option LabValue) × IsTold V.starts V.takes V.notes (None, watch.old) (end, watch.new)) }
+    ensures told { OnOk result ((end : Option LabValue) × IsToldOfLab V.starts V.takes V.notes (None, watch.old) (end, watch.new)) }
     ensures told_until { OnErr result ((end : Option LabValue) × IsToldUntil V.starts V.takes V.fails V.notes (None, watch.old) (end, watch.new)) }
 {
     let mut session = Session::new(alloc);

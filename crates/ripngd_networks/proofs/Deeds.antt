@@ -20,7 +20,7 @@ use Rattle.ripngd_engine.specs.Run as engine
 use Rattle.ripngd_engine.specs.Run.{Machine, Trace, Sends, MovedOrLost, Moved, ComesUp, arrival, counted, followed_by, one_call, handed, datagrams_of}
 use Rattle.ripngd_engine.specs.Watch.{LinkReport, Heard}
 use Rattle.ripngd_engine.specs.declared.watch.Arrived.{Arrived}
-use Rattle.ripngd_networks.specs.Daemons.{Act, Start, Listen, Tick, Reconfigure, Refuse, Deed, Does, Goes, Hears, in_force, reconfiguration_by}
+use Rattle.ripngd_networks.specs.Daemons.{Act, Start, Listen, Tick, Reconfigure, Refuse, Deed, Does, Goes, HearsCall, in_force, reconfiguration_by}
 use Rattle.ripngd_networks.specs.Links.{handed_in, handed_by, IsCopyOf, IsOfAStranger}
 use Rattle.ripngd_networks.specs.OnTime.{IsNumbered}
 use Rattle.ripngd_networks.proofs.Addresses.{addresses_of, fault_same, moves_addresses}
@@ -338,7 +338,7 @@ module _ (net : Network) (first : List Sent) (daemons : ℕ → Option Machine) 
             moved_on (Arrives (arrival now d)) moved.answer n moves (record { act = Listen (Gave d); trace = t }) None (world.Stranger router (arrival now d)) refl
             (intruded d now moved.answer n moves g) handed_here (now, refl, heard_then d now taken t n moved is)
 
-    heard_on : (call : Call) (number : Option ℕ) (t : Trace) (n : Machine) → Hears call m t n → IsNumbered net handed_over router (config_of node) (Listen call) number
+    heard_on : (call : Call) (number : Option ℕ) (t : Trace) (n : Machine) → HearsCall call m t n → IsNumbered net handed_over router (config_of node) (Listen call) number
         → Onward n (record { act = Listen call; trace = t }) number
     heard_on RecvFailed number t n hears given =
         stayed_on n (record { act = Listen RecvFailed; trace = t }) number (was ∙ sym (ap (λ (x : Machine). x.router) hears.1)) (ap handed_in_trace hears.0) refl tt

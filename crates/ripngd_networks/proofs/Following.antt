@@ -10,7 +10,7 @@ use Rattle.router_core.specs.Machine.{Happening, Arrives, Ticks, Restarts, Recon
 use Rattle.router_core.proofs.MovesReplay.{moves_replay}
 use Rattle.ripngd_engine.specs.Link.{Call, Gave, Silent, RecvFailed, Handed}
 use Rattle.ripngd_engine.specs.Run.{Machine, Trace, FollowsUnless, MovedOrLost, arrival}
-use Rattle.ripngd_networks.specs.Daemons.{Act, Start, Listen, Tick, Reconfigure, Refuse, Deed, Does, Goes, Hears, Lives, in_force}
+use Rattle.ripngd_networks.specs.Daemons.{Act, Start, Listen, Tick, Reconfigure, Refuse, Deed, Does, Goes, HearsCall, Lives, in_force}
 
 -- the forwarding table of a daemon that goes on
 abbrev pub Follows : Machine → Type 0
@@ -30,7 +30,7 @@ stepped m happening now t n same going follows (inl moved) going_on =
     (subst (λ f. Replays f moved.answer.changes (forwards n.router.table)) same (moves_replay m.router n.router happening moved.answer moved.moves))
 stepped m happening now t n same going follows (inr lost) going_on = subst Follows (sym lost.machine) follows going_on
 
-heard : (call : Call) (m : Machine) (t : Trace) (n : Machine) → m.ended ≡ false → Follows m → Hears call m t n → Follows n
+heard : (call : Call) (m : Machine) (t : Trace) (n : Machine) → m.ended ≡ false → Follows m → HearsCall call m t n → Follows n
 heard (Gave d) m t n going follows hears = stepped m (Arrives (arrival hears.1.0 d)) hears.1.0 hears.0 n refl going follows hears.1.1
 heard Silent m t n going follows hears = subst Follows (sym hears.1.1) follows
 heard RecvFailed m t n going follows hears = subst Follows (sym hears.1) follows

@@ -16,7 +16,7 @@ use Rattle.ripng_phases.proofs.Along.{contains_from}
 use Rattle.ripngd_engine.specs.Run.{Machine}
 use Rattle.ripngd_networks.specs.Daemons.{Happened}
 use Rattle.ripngd_networks.specs.Links.{handed_by, all_handed}
-use Rattle.ripngd_networks.specs.OnTime.{AreOnTime, Comes, Dated, GoOn, Gives, HappenFrom, IsRegular, undated}
+use Rattle.ripngd_networks.specs.OnTime.{AreOnTime, Comes, Dated, GoOn, GivesCopy, HappenFrom, IsRegular, undated}
 use Rattle.ripngd_networks.proofs.Deeds.{Agrees, IsEventOf, IsStateOf, IsStepOf, world_after}
 use Rattle.ripngd_networks.proofs.Events.{IsOwnTick, gift_of, plain_event, tick_of}
 use Rattle.ripngd_networks.proofs.Paced.{ComeInTime, IsSetBy, IsTickAt}
@@ -217,7 +217,7 @@ module _ (net : Network) (before : List Happened) (daemons : ℕ → Option Mach
             let l = located k.ys comes.given comes.stands in
             let parts : all ≡ (k.xs ++ k.p ∷ l.before) ++ l.here ∷ l.after =
             k.parts ∙ ap (λ zs. k.xs ++ k.p ∷ zs) l.parts ∙ sym (append_assoc k.xs (k.p ∷ l.before) (l.here ∷ l.after)) in
-            let gives = subst (λ (z : Dated). Gives z other comes.datagram (length (all_handed (before ++ undated (dated_of k.xs))) + slot.0)) (sym l.dated_is) comes.gives in
+            let gives = subst (λ (z : Dated). GivesCopy z other comes.datagram (length (all_handed (before ++ undated (dated_of k.xs))) + slot.0)) (sym l.dated_is) comes.gives in
             let g = delivered_here net before daemons history start end daemons' go first done w agrees (k.xs ++ k.p ∷ l.before) l.here l.after parts comes.datagram
             (length (all_handed (before ++ undated (dated_of k.xs))) + slot.0) gives.1 gives.2 in
             record {

@@ -12,7 +12,7 @@ use Rattle.ripngd_engine.specs.declared.report.ChangeFault.TheVariants.{Refused,
 use Rattle.ripngd_engine.specs.declared.report.EngineFault.{EngineFault}
 use Rattle.ripngd_engine.specs.declared.report.EngineFault.TheVariants.{LinkFault, OutOfMemory}
 use Rattle.ripngd_engine.proofs.Steps.{Shows-trans, Shows-listens}
-use Rattle.ripngd_networks.specs.Daemons.{Deed, Listen, Tick, Reconfigure, Refuse, Hears, Lives, traces_of}
+use Rattle.ripngd_networks.specs.Daemons.{Deed, Listen, Tick, Reconfigure, Refuse, HearsCall, Lives, traces_of}
 
 followed_by-no_step : (t : Trace) → followed_by t no_step ≡ t
 followed_by-no_step t = simp append-nil
@@ -49,7 +49,7 @@ led_on config m k n s t a b =
     }
 
 -- what was given is taken in
-taken_in : (call : Call) (m : Machine) (t : Trace) (n : Machine) → TakesIn call m t n → Hears call m (followed_by (one_call call) t) n
+taken_in : (call : Call) (m : Machine) (t : Trace) (n : Machine) → TakesIn call m t n → HearsCall call m (followed_by (one_call call) t) n
 taken_in (Gave d) m t n takes = (t, takes, refl)
 taken_in Silent m t n takes = (t, takes, refl)
 taken_in RecvFailed m t n takes = absurd takes

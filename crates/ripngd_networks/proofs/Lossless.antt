@@ -6,7 +6,7 @@ use Rattle.router_core.specs.Config.{Config}
 use Rattle.router_core.specs.Machine.{Happening, Arrives, Ticks}
 use Rattle.ripngd_engine.specs.Link.{Call, Gave, Silent, RecvFailed, Handed}
 use Rattle.ripngd_engine.specs.Run.{Machine, Trace, MovedOrLost, arrival}
-use Rattle.ripngd_networks.specs.Daemons.{Act, Start, Listen, Tick, Reconfigure, Refuse, Deed, Happened, Does, Hears, Lives, own_deeds}
+use Rattle.ripngd_networks.specs.Daemons.{Act, Start, Listen, Tick, Reconfigure, Refuse, Deed, Happened, Does, HearsCall, Lives, own_deeds}
 use Rattle.ripngd_networks.specs.OnTime.{IsPlain}
 
 -- ---- the count never falls
@@ -24,7 +24,7 @@ step_up m happening now t n (inr lost) = up m.lost_memory _ n.lost_memory (ap (�
 same_up : (m n : Machine) → n ≡ m → m.lost_memory ≤ n.lost_memory
 same_up m n e = subst (λ (x : Machine). m.lost_memory ≤ x.lost_memory) (sym e) (le_refl m.lost_memory)
 
-heard_up : (call : Call) (m : Machine) (t : Trace) (n : Machine) → Hears call m t n → m.lost_memory ≤ n.lost_memory
+heard_up : (call : Call) (m : Machine) (t : Trace) (n : Machine) → HearsCall call m t n → m.lost_memory ≤ n.lost_memory
 heard_up (Gave d) m t n hears = step_up m (Arrives (arrival hears.1.0 d)) hears.1.0 hears.0 n hears.1.1
 heard_up Silent m t n hears = same_up m n hears.1.1
 heard_up RecvFailed m t n hears = same_up m n hears.1

@@ -6,7 +6,7 @@ use Rattle.router_core.specs.declared.answer.Answer.{Answer}
 use Rattle.ripng_world.specs.Network.{Network, config_of}
 use Rattle.ripngd_engine.specs.Link.{Call, Gave, Silent, RecvFailed, Handed}
 use Rattle.ripngd_engine.specs.Run.{Machine, Trace, MovedOrLost, arrival}
-use Rattle.ripngd_networks.specs.Daemons.{Act, Start, Listen, Tick, Reconfigure, Refuse, Deed, Does, Happened, Hears, Lives, own_deeds}
+use Rattle.ripngd_networks.specs.Daemons.{Act, Start, Listen, Tick, Reconfigure, Refuse, Deed, Does, Happened, HearsCall, Lives, own_deeds}
 use Rattle.ripngd_networks.specs.Links.{HaveRun}
 use Rattle.ripngd_networks.proofs.Running.{there_is}
 use Rattle.ripngd_networks.proofs.Winding.{arrived_wound, ticked_wound}
@@ -36,7 +36,7 @@ stepped_set m happening now t n set (inr lost) = subst (λ (x : Machine). IsSet 
 same_set : (m n : Machine) → n ≡ m → IsSet m.router → IsSet n.router
 same_set m n e set = subst (λ (x : Machine). IsSet x.router) (sym e) set
 
-heard_set : (call : Call) (m : Machine) (t : Trace) (n : Machine) → IsSet m.router → Hears call m t n → IsSet n.router
+heard_set : (call : Call) (m : Machine) (t : Trace) (n : Machine) → IsSet m.router → HearsCall call m t n → IsSet n.router
 heard_set (Gave d) m t n set hears = stepped_set m (Arrives (arrival hears.1.0 d)) hears.1.0 hears.0 n set hears.1.1
 heard_set Silent m t n set hears = same_set m n hears.1.1 set
 heard_set RecvFailed m t n set hears = same_set m n hears.1 set

@@ -11,7 +11,7 @@ use Rattle.ripngd_engine.specs.Link.{Datagram}
 use Rattle.ripngd_engine.specs.Run.{Machine}
 use Rattle.ripngd_networks.specs.Daemons.{Happened, Lives, own_deeds}
 use Rattle.ripngd_networks.specs.Links.{LiveOn, handed_by, all_handed}
-use Rattle.ripngd_networks.specs.OnTime.{AreNumbered, AreOnTime, Comes, Dated, GoOn, Gives, HappenFrom, IsPlain, IsRegular, IsTickIn, undated}
+use Rattle.ripngd_networks.specs.OnTime.{AreNumbered, AreOnTime, Comes, Dated, GoOn, GivesCopy, HappenFrom, IsPlain, IsRegular, IsTickIn, undated}
 use Rattle.ripngd_networks.proofs.Lossless.{lives_from, lives_to, plain_own}
 use Rattle.ripngd_networks.proofs.Pairs.{undated_on}
 use Rattle.ripngd_networks.proofs.Places.{all_left, all_right, happen_first, plain_deeds}
@@ -116,7 +116,7 @@ module _ (net : Network) (before : List Happened) (daemons : ℕ → Option Mach
       less : (a b c : ℕ) → a < b → b ≤ c → a < c
       less a b c e f = omega arith
 
-  in_order : (a b c : List Dated) (s t : Dated) → early ≡ a ++ s ∷ (b ++ t ∷ c) → (router : ℕ) (d e : Datagram) (new old : ℕ) → Gives s router d new → Gives t router e old
+  in_order : (a b c : List Dated) (s t : Dated) → early ≡ a ++ s ∷ (b ++ t ∷ c) → (router : ℕ) (d e : Datagram) (new old : ℕ) → GivesCopy s router d new → GivesCopy t router e old
       → d.iface ≡ e.iface → d.source ≡ e.source → (before_it after_it : List Happened) → undated early ≡ before_it ++ after_it
       → old < length (all_handed (before ++ before_it)) → new < length (all_handed (before ++ before_it))
   in_order a b c s t parts router d e new old one two iface source before_it after_it deeds =

@@ -31,14 +31,14 @@ abbrev pub traces_of : List Deed → List Trace
 traces_of deeds = map (λ d. d.trace) deeds
 
 -- after this call of `recv` it takes in what was given; after one that failed, nothing
-abbrev pub Hears : Call → Machine → Trace → Machine → Type 0
-Hears RecvFailed m t n = (t ≡ one_call RecvFailed) × (n ≡ m)
-Hears call m t n = (taken : Trace) × TakesIn call m taken n × (t ≡ followed_by (one_call call) taken)
+abbrev pub HearsCall : Call → Machine → Trace → Machine → Type 0
+HearsCall RecvFailed m t n = (t ≡ one_call RecvFailed) × (n ≡ m)
+HearsCall call m t n = (taken : Trace) × TakesIn call m taken n × (t ≡ followed_by (one_call call) taken)
 
 -- a daemon that runs does so. One that wanted memory for its forwarding table has ended
 abbrev pub Goes : Act → Machine → Trace → Machine → Type 0
 Goes Start m t n = ⊥
-Goes (Listen call) m t n = (m.ended ≡ false) × Hears call m t n
+Goes (Listen call) m t n = (m.ended ≡ false) × HearsCall call m t n
 Goes Tick m t n = (m.ended ≡ false) × TicksOnce m t n
 Goes (Reconfigure c) m t n = (m.ended ≡ false) × ReconfiguresOnce c m t n
 Goes (Refuse c) m t n = (m.ended ≡ false) × ReconfiguresNothing m t n

@@ -104,15 +104,15 @@ pub record GoOn (net : Network) (before : List Happened) (daemons : ℕ → Opti
 -- ---- links that are on time
 
 -- by this deed a link gave a router that datagram, a copy of that of this number
-abbrev pub Gives : Dated → ℕ → Datagram → ℕ → Type 0
-Gives t router d number = (t.happened.router ≡ router) × (t.happened.deed.act ≡ Listen (Gave d)) × (t.number ≡ Some number)
+abbrev pub GivesCopy : Dated → ℕ → Datagram → ℕ → Type 0
+GivesCopy t router d number = (t.happened.router ≡ router) × (t.happened.deed.act ≡ Listen (Gave d)) × (t.number ≡ Some number)
 
 -- the datagram of that number comes to the interface before that moment
 pub record Comes (history : List Dated) (until number router iface : ℕ) : Type 0 where
   pub given : Dated
   pub stands : Contains history given
   pub datagram : Datagram
-  pub gives : Gives given router datagram number
+  pub gives : GivesCopy given router datagram number
   pub iface_is : datagram.iface ≡ iface
   pub in_time : given.at < until
 
@@ -137,7 +137,7 @@ pub record AreOnTime (net : Network) (before : List Happened) (daemons : ℕ →
   pub recent : (old new : List Dated) (t : Dated) (b : List Dated) → history ≡ (old ++ new) ++ t ∷ b → start + 13_000 ≤ t.at → AllByRecursion (λ s. s.at + 13_000 ≤ t.at) old
       → (number : ℕ) → t.number ≡ Some number → length (all_handed (before ++ undated old)) ≤ number
   -- nothing comes after what was handed over by a later deed from there: if it was handed over by then, so was what came before it
-  pub in_order : (a b c : List Dated) (s t : Dated) → history ≡ a ++ s ∷ (b ++ t ∷ c) → (router : ℕ) (d e : Datagram) (new old : ℕ) → Gives s router d new → Gives t router e old
+  pub in_order : (a b c : List Dated) (s t : Dated) → history ≡ a ++ s ∷ (b ++ t ∷ c) → (router : ℕ) (d e : Datagram) (new old : ℕ) → GivesCopy s router d new → GivesCopy t router e old
       → d.iface ≡ e.iface → d.source ≡ e.source → (early late : List Happened) → undated history ≡ early ++ late
       → old < length (all_handed (before ++ early)) → new < length (all_handed (before ++ early))
 

@@ -14,8 +14,8 @@ use Rattle.ripng_world.specs.World.{World, Event, Deliver, Stranger, Tick, Resta
 use Rattle.ripng_world.proofs.Running.{get_map}
 use Rattle.ripngd_lab.specs.Asides.{Aside, NextLine, Prints, Broken}
 use Rattle.ripngd_lab.specs.ScriptWatching.{Telling, Starts, Does, Turns, Notes, TellsAll, FailsAtRest, FailsAtEvent, IsToldUntil, StartsAt}
-use Rattle.ripngd_trace.specs.Events.{Tells}
-use Rattle.ripngd_trace.specs.Reading.{AreWritten, IsTracedUntil, IsWritten, Line, StartLine, EventLine, PrintLine, RefusedLine, LostLine, Shown, Shows, TellsOf, TellsScript, read_line, tables_in, tables_of}
+use Rattle.ripngd_trace.specs.Events.{RecordTells}
+use Rattle.ripngd_trace.specs.Reading.{AreWritten, IsTracedUntil, IsWritten, Line, StartLine, EventLine, PrintLine, RefusedLine, LostLine, Shown, ShowsTable, TellsOf, TellsScript, read_line, tables_in, tables_of}
 use Rattle.ripngd_trace.specs.Records.{LeadsTo}
 use Rattle.ripngd_trace.specs.Saying.{BreaksOff, Said, SaysAside, SaysEvent, SaysLost, SaysPrint, SaysRefused, SaysStart}
 use Rattle.ripngd_trace.specs.Starting.{TellsStart}
@@ -80,17 +80,17 @@ module _ (net : Network) (w : World) (e : Event) (answer : Answer) (mid : World)
       ∙ ap (λ (ts : List Table). slice_set ts takes.r.router move.1.new.table) is
 
   -- and shown
-  pub shown_after : (shown : List Shown) → AllZip Shows shown (tables_of w) → AllZip Shows (read_line shown (EventLine takes.r)) (tables_of mid)
+  pub shown_after : (shown : List Shown) → AllZip ShowsTable shown (tables_of w) → AllZip ShowsTable (read_line shown (EventLine takes.r)) (tables_of mid)
   shown_after shown shows =
-      subst (AllZip Shows (read_line shown (EventLine takes.r))) (sym led)
+      subst (AllZip ShowsTable (read_line shown (EventLine takes.r))) (sym led)
       (shows_set shown (tables_of w) takes.r.router move.1.old.table move.1.new.table takes.r.routes.items takes.r.gone.items shows
       (ap (λ (ts : List Table). slice_get ts takes.r.router) (sym is) ∙ was) leads)
 
 -- ---- one line
 
 -- a record that tells of a line tells of its own
-told_itself : (line : ℕ) (what : Told) (r : EventRecord) → Tells line what r → Tells r.line what r
-told_itself line what r t = subst (λ (n : ℕ). Tells n what r) (sym t.at_line) t
+told_itself : (line : ℕ) (what : Told) (r : EventRecord) → RecordTells line what r → RecordTells r.line what r
+told_itself line what r t = subst (λ (n : ℕ). RecordTells n what r) (sym t.at_line) t
 
 started_itself : (line : ℕ) (lab : LabValue) (now : ℕ) (r : StartRecord) → TellsStart line lab now r → TellsStart r.line lab r.now r
 started_itself line lab now r t =
@@ -101,7 +101,7 @@ abbrev pub LinesFrom : Option LabValue → List Shown → Said → Option LabVal
 LinesFrom lab shown said end said' = (lines : List Line) × TellsScript lab shown lines end × AreWritten lines said.written said'.written
 
 module _ (lab mid end : Option LabValue) (shown : List Shown) (said said1 said' : Said) where
-  line_on : (line : Line) → TellsOf line lab mid → AllZip Shows (read_line shown line) (tables_in mid) → IsWritten line said.written said1.written
+  line_on : (line : Line) → TellsOf line lab mid → AllZip ShowsTable (read_line shown line) (tables_in mid) → IsWritten line said.written said1.written
       → LinesFrom mid (read_line shown line) said1 end said' → LinesFrom lab shown said end said'
   line_on line tells shows writes rest = (line ∷ rest.0, (mid, tells, shows, rest.1), (said1.written, writes, rest.2))
 
@@ -114,7 +114,7 @@ module _ (lab mid end : Option LabValue) (shown : List Shown) (said said1 said' 
   )
 
   -- what a line prints or loses, or why it ends the script
-  aside_on : mid ≡ lab → AllZip Shows shown (tables_in mid) → SaysPrint said said1 ⊎ (SaysRefused said said1 ⊎ SaysLost said said1) → LinesFrom mid shown said1 end said' → LinesFrom lab shown said end said'
+  aside_on : mid ≡ lab → AllZip ShowsTable shown (tables_in mid) → SaysPrint said said1 ⊎ (SaysRefused said said1 ⊎ SaysLost said said1) → LinesFrom mid shown said1 end said' → LinesFrom lab shown said end said'
   aside_on same shows (inl p) rest = line_on (PrintLine p.r) (same, p.word_is) shows p.writes rest
   aside_on same shows (inr (inl p)) rest = line_on (RefusedLine p.r) (same, p.word_is) shows p.writes rest
   aside_on same shows (inr (inr p)) rest = line_on (LostLine p.r) (same, p.word_is) shows p.writes rest
@@ -130,7 +130,7 @@ module _ {V : Type 0} (f : V → Said) (st : V → LabValue → ℕ → V → Ty
     (starts : (a : V) (lab : LabValue) (now : ℕ) (b : V) → st a lab now b → SaysStart (f a) lab now (f b)) (takes : (a : V) (what : Told) (b : V) → t a what b → SaysEvent (f a) what (f b))
     (fails : (a : V) (what : Told) (b : V) → fl a what b → BreaksOff (f a) what (f b)) (notes : (a : V) (what : Aside) (b : V) → n a what b → SaysAside (f a) what (f b)) where
   pub lines_told : (ts : List Telling) (lab : Option LabValue) (v : V) (end : Option LabValue) (v' : V) (shown : List Shown)
-      → AllZip Shows shown (tables_in lab) → (f v).known ≡ tables_in lab → TellsAll st t n (lab, v) ts (end, v') → LinesFrom lab shown (f v) end (f v')
+      → AllZip ShowsTable shown (tables_in lab) → (f v).known ≡ tables_in lab → TellsAll st t n (lab, v) ts (end, v') → LinesFrom lab shown (f v) end (f v')
   lines_told [] lab v end v' shown shows known same =
       ([], ap (λ (s : Option LabValue × V). s.0) same, ap (λ (s : Option LabValue × V). (f s.1).written) same)
   lines_told (Starts now ∷ ts) lab v end v' shown shows known told =
@@ -139,8 +139,8 @@ module _ {V : Type 0} (f : V → Said) (st : V → LabValue → ℕ → V → Ty
       let l = begins.1 in
       let says : SaysStart (f v) l now (f mid.1) = starts v l now mid.1 begins.4 in
       let routers = says.tells.routers in
-      let shows1 : AllZip Shows (read_line shown (StartLine says.r)) (tables_in mid.0) =
-      subst (λ (o : Option LabValue). AllZip Shows (read_line shown (StartLine says.r)) (tables_in o)) (sym begins.2)
+      let shows1 : AllZip ShowsTable (read_line shown (StartLine says.r)) (tables_in mid.0) =
+      subst (λ (o : Option LabValue). AllZip ShowsTable (read_line shown (StartLine says.r)) (tables_in o)) (sym begins.2)
       (shows_started says.r.routers.items l.world.states routers.as_many (λ k r is. ((routers.each k r is).state, (routers.each k r is).state_is, (routers.each k r is).routes_lead))) in
       let known1 : (f mid.1).known ≡ tables_in mid.0 =
       says.known_is ∙ ap (λ (ts : List Table). ts ++ tables_of l.world) (known ∙ ap tables_in begins.0) ∙ sym (ap tables_in begins.2) in
@@ -155,9 +155,9 @@ module _ {V : Type 0} (f : V → Said) (st : V → LabValue → ℕ → V → Ty
       let what = telling l.network l.world e answer l1.world in
       let says : SaysEvent (f v) what (f mid.1) = takes v what mid.1 done.6 in
       let known0 : (f v).known ≡ tables_of l.world = known ∙ ap tables_in done.1 in
-      let shows0 : AllZip Shows shown (tables_of l.world) = subst (λ (o : Option LabValue). AllZip Shows shown (tables_in o)) done.1 shows in
-      let shows1 : AllZip Shows (read_line shown (EventLine says.r)) (tables_in mid.0) =
-      subst (λ (o : Option LabValue). AllZip Shows (read_line shown (EventLine says.r)) (tables_in o)) (sym done.3)
+      let shows0 : AllZip ShowsTable shown (tables_of l.world) = subst (λ (o : Option LabValue). AllZip ShowsTable shown (tables_in o)) done.1 shows in
+      let shows1 : AllZip ShowsTable (read_line shown (EventLine says.r)) (tables_in mid.0) =
+      subst (λ (o : Option LabValue). AllZip ShowsTable (read_line shown (EventLine says.r)) (tables_in o)) (sym done.3)
       (shown_after l.network l.world e answer l1.world done.5 (f v) (f mid.1) known0 says shown shows0) in
       let known1 : (f mid.1).known ≡ tables_in mid.0 =
       known_after l.network l.world e answer l1.world done.5 (f v) (f mid.1) known0 says ∙ sym (ap tables_in done.3) in
@@ -169,13 +169,13 @@ module _ {V : Type 0} (f : V → Said) (st : V → LabValue → ℕ → V → Ty
       let turns = told.1 in
       let turned : SaysAside (f v) (NextLine number) (f mid.1) = notes v (NextLine number) mid.1 turns.1 in
       none_on lab mid.0 end shown (f v) (f mid.1) (f v') turns.0 (ap (λ (s : Said). s.written) turned)
-      (lines_told ts mid.0 mid.1 end v' shown (subst (λ (o : Option LabValue). AllZip Shows shown (tables_in o)) (sym turns.0) shows)
+      (lines_told ts mid.0 mid.1 end v' shown (subst (λ (o : Option LabValue). AllZip ShowsTable shown (tables_in o)) (sym turns.0) shows)
       (ap (λ (s : Said). s.known) turned ∙ known ∙ sym (ap tables_in turns.0)) told.2)
   lines_told (Notes ∷ ts) lab v end v' shown shows known told =
       let mid = told.0 in
       let notes1 = told.1 in
       let prints : SaysAside (f v) Prints (f mid.1) = notes v Prints mid.1 notes1.1 in
-      let shows1 = subst (λ (o : Option LabValue). AllZip Shows shown (tables_in o)) (sym notes1.0) shows in
+      let shows1 = subst (λ (o : Option LabValue). AllZip ShowsTable shown (tables_in o)) (sym notes1.0) shows in
       aside_on lab mid.0 end shown (f v) (f mid.1) (f v') notes1.0 shows1 prints
       (lines_told ts mid.0 mid.1 end v' shown shows1 (aside_known (f v) (f mid.1) prints ∙ known ∙ sym (ap tables_in notes1.0)) told.2)
 

@@ -3,7 +3,7 @@ use Rattle.std.proofs.Common.{◌≡◌, ℕ, List, [], Option, None, subst₂, 
 use Rattle.ripng_world.specs.Labs.{LabValue}
 use Rattle.ripng_world.specs.Watching.{Told}
 use Rattle.ripngd_lab.specs.Asides.{Aside}
-use Rattle.ripngd_lab.specs.ScriptWatching.{IsTold, IsToldUntil}
+use Rattle.ripngd_lab.specs.ScriptWatching.{IsToldOfLab, IsToldUntil}
 use Rattle.ripngd_trace.specs.Reading.{IsTraced, IsTracedUntil}
 use Rattle.ripngd_trace.specs.Saying.{BreaksOff, Said, SaysAside, SaysEvent, SaysStart}
 use Rattle.ripngd_trace.specs.declared.tracer.Tracer.{Tracer}
@@ -28,7 +28,7 @@ module _ {W : Type 0} (contents : W → Option (List ℕ)) where
 
   module _ (v v' : Tracer W) (end : Option LabValue) where
     -- it holds the same reference to its writer
-    pub told_same : IsTold starts_by takes_by notes_by (None, v) (end, v') → v.out.ghost_name ≡ v'.out.ghost_name
+    pub told_same : IsToldOfLab starts_by takes_by notes_by (None, v) (end, v') → v.out.ghost_name ≡ v'.out.ghost_name
     told_same told =
         sym (kept (λ (t : Tracer W). t.out.ghost_name) starts_by takes_by fails_by notes_by (λ a l now b h. h.1) (λ a what b h. h.1) (λ a what b h. h.1) (λ a what b h. h.1) told.0 (None, v) (end, v') told.1)
 
@@ -38,7 +38,7 @@ module _ {W : Type 0} (contents : W → Option (List ℕ)) where
 
     module _ (old out : W) (nothing : v.known.items ≡ []) (first : v.out.now ≡ old) (last : out ≡ v'.out.now) where
       -- the writer has the lines
-      pub traced : IsTold starts_by takes_by notes_by (None, v) (end, v') → IsTraced (contents old) end (contents out)
+      pub traced : IsToldOfLab starts_by takes_by notes_by (None, v) (end, v') → IsTraced (contents old) end (contents out)
       traced told =
           subst₂ (λ (a b : W). IsTraced (contents a) end (contents b)) first (sym last)
           (lines_told said_by starts_by takes_by fails_by notes_by (λ a l now b h. h.0) (λ a what b h. h.0) (λ a what b h. h.0) (λ a what b h. h.0) told.0 None v end v' [] tt nothing told.1)

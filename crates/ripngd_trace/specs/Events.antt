@@ -58,12 +58,12 @@ SaysArrival x (told.Stranger iface source port hop_limit group bytes) =
 SaysArrival x _ = ⊥
 
 -- what happened, but for the router and the moment
-abbrev pub Says : LabValue → Event → Happened → Type 0
-Says lab (Deliver datagram router iface now) said = said ≡ told.Deliver datagram iface (sender_of lab datagram)
-Says lab (Stranger router x) said = SaysArrival x said
-Says lab (Tick router now word) said = said ≡ told.Tick word
-Says lab (Restart router now) said = said ≡ told.Restart
-Says lab (Reconfigure router now c) said = said ≡ change_told c
+abbrev pub SaysHappened : LabValue → Event → Happened → Type 0
+SaysHappened lab (Deliver datagram router iface now) said = said ≡ told.Deliver datagram iface (sender_of lab datagram)
+SaysHappened lab (Stranger router x) said = SaysArrival x said
+SaysHappened lab (Tick router now word) said = said ≡ told.Tick word
+SaysHappened lab (Restart router now) said = said ≡ told.Restart
+SaysHappened lab (Reconfigure router now c) said = said ≡ change_told c
 
 -- ---- the answer
 
@@ -112,12 +112,12 @@ sent_from first sent = enumerate_from first (drop first sent)
 -- ---- all of it
 
 -- the record, of this line of the script, says what is told of an event, and nothing else
-pub record Tells (line : ℕ) (what : Told) (r : EventRecord) : Type 0 where
+pub record RecordTells (line : ℕ) (what : Told) (r : EventRecord) : Type 0 where
   pub word_is : r.record.now ≡ codes "event"
   pub at_line : r.line ≡ line
   pub router_is : r.router ≡ router_of what.event
   pub moment_is : r.now ≡ moment_of what.event
-  pub happened : Says what.lab what.event r.event
+  pub happened : SaysHappened what.lab what.event r.event
   pub fault_is : option_map fault_said r.fault ≡ option_map fault_words what.answer.fault
   pub notes_are : map note_said r.notes.items ≡ map note_words what.answer.notes
   pub changes_are : r.changes.items ≡ map change_record what.answer.changes

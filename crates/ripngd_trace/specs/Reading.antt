@@ -9,7 +9,7 @@ use Rattle.ripng_world.specs.Labs.{LabValue}
 use Rattle.ripng_world.specs.Watching.{telling}
 use Rattle.ripng_world.specs.World.{World, Event, Happens}
 use Rattle.ripngd_lab.specs.ScriptWatching.{StartsAt}
-use Rattle.ripngd_trace.specs.Events.{Tells}
+use Rattle.ripngd_trace.specs.Events.{RecordTells}
 use Rattle.ripngd_trace.specs.Lines.{WritesLess, WritesRecord}
 use Rattle.ripngd_trace.specs.Records.{route_record, taken_out}
 use Rattle.ripngd_trace.specs.Starting.{TellsStart}
@@ -27,8 +27,8 @@ abbrev pub Shown : Type 0
 Shown = ByPrefix RouteRecord
 
 -- it shows a table: to each prefix there is the record of the route, or none where there is none
-abbrev pub Shows : Shown → Table → Type 0
-Shows shown table = (p : Prefix6) → map_of.get shown p ≡ option_map (route_record p) (map_of.get table p)
+abbrev pub ShowsTable : Shown → Table → Type 0
+ShowsTable shown table = (p : Prefix6) → map_of.get shown p ≡ option_map (route_record p) (map_of.get table p)
 
 -- once these routes are put in, one after another
 abbrev pub with_records : Shown → List RouteRecord → Shown
@@ -76,7 +76,7 @@ abbrev pub TellsOf : Line → Option LabValue → Option LabValue → Type 0
 TellsOf (StartLine r) before after = (before ≡ None) × (lab : LabValue) × (after ≡ Some lab) × StartsAt lab r.now × TellsStart r.line lab r.now r
 TellsOf (EventLine r) before after =
     (lab : LabValue) × (before ≡ Some lab) × (lab' : LabValue) × (after ≡ Some lab')
-    × (e : Event) × (answer : Answer) × HappensIn lab e answer lab' × Tells r.line (telling lab.network lab.world e answer lab'.world) r
+    × (e : Event) × (answer : Answer) × HappensIn lab e answer lab' × RecordTells r.line (telling lab.network lab.world e answer lab'.world) r
 TellsOf (PrintLine r) before after = (after ≡ before) × IsPrintWord r.record.now
 TellsOf (RefusedLine r) before after = (after ≡ before) × (r.record.now ≡ codes "refused")
 TellsOf (LostLine r) before after = (after ≡ before) × (r.record.now ≡ codes "lost")
@@ -87,7 +87,7 @@ TellsOf (LostLine r) before after = (after ≡ before) × (r.record.now ≡ code
 abbrev pub TellsScript : Option LabValue → List Shown → List Line → Option LabValue → Type 0
 TellsScript lab shown [] end = end ≡ lab
 TellsScript lab shown (line ∷ lines) end =
-    (mid : Option LabValue) × TellsOf line lab mid × AllZip Shows (read_line shown line) (tables_in mid) × TellsScript mid (read_line shown line) lines end
+    (mid : Option LabValue) × TellsOf line lab mid × AllZip ShowsTable (read_line shown line) (tables_in mid) × TellsScript mid (read_line shown line) lines end
 
 -- its record is written, as one line
 abbrev pub IsWritten : Line → Option (List ℕ) → Option (List ℕ) → Type 0

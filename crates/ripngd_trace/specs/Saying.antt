@@ -4,7 +4,7 @@ use Rattle.route_table.specs.Table.{Table}
 use Rattle.ripng_world.specs.Labs.{LabValue}
 use Rattle.ripng_world.specs.Watching.{Told}
 use Rattle.ripngd_lab.specs.Asides.{Aside, NextLine, Prints, Broken}
-use Rattle.ripngd_trace.specs.Events.{Tells}
+use Rattle.ripngd_trace.specs.Events.{RecordTells}
 use Rattle.ripngd_trace.specs.Lines.{WritesLess, WritesRecord}
 use Rattle.ripngd_trace.specs.Reading.{IsPrintWord, tables_of}
 use Rattle.ripngd_trace.specs.Records.{LeadsTo}
@@ -33,7 +33,7 @@ pub record SaysStart (said : Said) (lab : LabValue) (now : ℕ) (said' : Said) :
 -- own; that table is known from then on, and all others as they were
 pub record SaysEvent (said : Said) (what : Told) (said' : Said) : Type 0 where
   pub r : EventRecord
-  pub tells : Tells said.line what r
+  pub tells : RecordTells said.line what r
   pub listed : IfSome (slice_get said.known r.router) (λ before. IfSome (slice_get what.lab.world.states r.router) (λ state. LeadsTo before r.routes.items r.gone.items state.table))
   pub known_is : IfSome (slice_get what.lab.world.states r.router) (λ state. said'.known ≡ slice_set said.known r.router state.table)
   pub line_is : said'.line ≡ said.line

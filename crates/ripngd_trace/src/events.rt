@@ -3,7 +3,7 @@
 ghost use Rattle.std.specs.Prelude.{◌≡◌, IfOk};
 ghost use Rattle.ripng_world.specs.Events.{event_of};
 ghost use Rattle.ripng_world.specs.Rounds.{moment_of, router_of};
-ghost use Rattle.ripngd_trace.specs.Events.{Says, SaysArrival, change_told, sender_of};
+ghost use Rattle.ripngd_trace.specs.Events.{SaysHappened, SaysArrival, change_told, sender_of};
 
 use crate::network::addr_of;
 use crate::records::{Happened, SenderRecord};
@@ -87,7 +87,7 @@ pub fn happened<S: RouteStore>(
     lab: &Lab<S>,
     event: &Event<'_>,
 ) -> Result<Happened, AllocError>
-    ensures { IfOk result (Says lab.now (event_of event.entry.now)) }
+    ensures { IfOk result (SaysHappened lab.now (event_of event.entry.now)) }
 {
     match event {
         Event::Deliver {

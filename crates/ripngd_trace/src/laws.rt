@@ -2,14 +2,14 @@
 
 ghost use Rattle.std.specs.Prelude.{◌≡◌, [], None, Option};
 ghost use Rattle.ripng_world.specs.Labs.{LabValue};
-ghost use Rattle.ripngd_lab.specs.ScriptWatching.{IsTold, IsToldUntil};
+ghost use Rattle.ripngd_lab.specs.ScriptWatching.{IsToldOfLab, IsToldUntil};
 ghost use Rattle.ripngd_trace.specs.Reading.{IsTraced, IsTracedUntil};
 ghost use Rattle.ripngd_trace.specs.Saying.{BreaksOff, Said, SaysAside, SaysEvent, SaysStart};
 
 /// Whoever is told all that happens in a script's lab, knows no table before, and makes of each telling what the tracer makes of
 /// it, has traced the script: who reads the lines has each router's table after each of them.
 pub fn readers_know_each_table()
-    ensures told { (said said' : Said) (lab : Option LabValue) → said.known ≡ [] → IsTold SaysStart SaysEvent SaysAside (None, said) (lab, said')
+    ensures told { (said said' : Said) (lab : Option LabValue) → said.known ≡ [] → IsToldOfLab SaysStart SaysEvent SaysAside (None, said) (lab, said')
         → IsTraced said.written lab said'.written }
     ensures told_until { (said said' : Said) (lab : Option LabValue) → said.known ≡ [] → IsToldUntil SaysStart SaysEvent BreaksOff SaysAside (None, said) (lab, said')
         → IsTracedUntil said.written lab said'.written }

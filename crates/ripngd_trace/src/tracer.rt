@@ -3,7 +3,7 @@
 ghost use Rattle.std.specs.Prelude.{◌≡◌, [], ◌∷◌, ◌++◌, IfOk, IfSome, OnErr, OnOk, Option, Some, codes, slice_get, slice_set};
 ghost use Rattle.ripng_world.specs.Events.{event_of};
 ghost use Rattle.ripng_world.specs.Labs.{LabValue};
-ghost use Rattle.ripngd_trace.specs.Events.{Tells};
+ghost use Rattle.ripngd_trace.specs.Events.{RecordTells};
 ghost use Rattle.ripngd_trace.specs.Lines.{WritesLess, WritesRecord};
 ghost use Rattle.ripngd_trace.specs.Reading.{IsTraced, IsTracedUntil, tables_of};
 ghost use Rattle.ripngd_trace.specs.Records.{LeadsTo};
@@ -175,7 +175,7 @@ impl<'a, W: Write> Tracer<'a, W> {
         answer: &Answer,
         first: usize,
     ) -> Result<EventRecord, AllocError>
-        ensures tells { IfOk result (Tells self.old.line (record { lab = lab.now; event = event_of event.entry.now; answer = answer.now; first = first })) }
+        ensures tells { IfOk result (RecordTells self.old.line (record { lab = lab.now; event = event_of event.entry.now; answer = answer.now; first = first })) }
         ensures listed { IfOk result (λ r. IfSome (slice_get self.old.known.items r.router) (λ before. IfSome (slice_get lab.now.world.states r.router) (λ state.
             LeadsTo before r.routes.items r.gone.items state.table))) }
         ensures known { IfOk result (λ r. IfSome (slice_get lab.now.world.states r.router) (λ state. self.new.known.items ≡ slice_set self.old.known.items r.router state.table)) }

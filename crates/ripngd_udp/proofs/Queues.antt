@@ -4,7 +4,7 @@ use Rattle.std.specs.Prelude.{Option}
 use Rattle.router_core.specs.declared.answer.Outgoing.{Outgoing}
 use Rattle.ripngd_udp.specs.Peers.{OnLink}
 use Rattle.ripngd_udp.specs.Sending.{Try}
-use Rattle.ripngd_udp.specs.Queue.{Goes, SendsAll}
+use Rattle.ripngd_udp.specs.Queue.{SendsWaiting, SendsAll}
 
 -- some datagrams were sent, and then others
 pub SendsAll-append : (i : OnLink) (a b c : Option (List Try)) (ds es : List Outgoing) (f g : ℕ)
@@ -14,12 +14,12 @@ SendsAll-append i a b c (d ∷ ds) es f g h k =
     (h.0, h.1, h.2 + g, h.3, SendsAll-append i h.0 b c ds es h.2 g h.4 k, omega (arith, h.5))
 
 -- nothing was sent
-pub Goes-none : (i : OnLink) (a : Option (List Try)) (waits : List Outgoing) (count : ℕ) → Goes i a a waits waits count count
+pub Goes-none : (i : OnLink) (a : Option (List Try)) (waits : List Outgoing) (count : ℕ) → SendsWaiting i a a waits waits count count
 Goes-none i a waits count = record { sent = []; failed = 0; sends = (refl, refl); in_order = refl; counts = omega arith }
 
 -- some of what waited was sent, and then more
 pub Goes-more : (i : OnLink) (a b c : Option (List Try)) (waited middle left : List Outgoing) (m n k : ℕ)
-    → Goes i a b waited middle m n → Goes i b c middle left n k → Goes i a c waited left m k
+    → SendsWaiting i a b waited middle m n → SendsWaiting i b c middle left n k → SendsWaiting i a c waited left m k
 Goes-more i a b c waited middle left m n k g h =
     record {
       sent = g.sent ++ h.sent;

@@ -26,8 +26,8 @@ links_at (place ∷ places) [] = []
 links_at (place ∷ places) (peers ∷ lists) = on_link place peers ∷ links_at places lists
 
 -- one of the peers has the address
-abbrev pub has_address : List Peer → ℕ → Bool
-has_address peers addr = list_any (λ p. p.addr == addr) peers
+abbrev pub has_peer_address : List Peer → ℕ → Bool
+has_peer_address peers addr = list_any (λ p. p.addr == addr) peers
 
 -- the one port that gets what goes to a destination, if there is one
 abbrev pub shared_port : Destination → Place → Option ℕ
@@ -63,7 +63,7 @@ adding_fault links iface peer = first_reason (adding_reasons_at links (slice_get
 -- why a peer of that address is not removed from it
 abbrev pub removing_reasons_at : Option OnLink → ℕ → List (Bool × PeerRefused)
 removing_reasons_at None addr = (true, NoSuchInterface) ∷ []
-removing_reasons_at (Some i) addr = (not (has_address i.peers addr), NoSuchPeer) ∷ []
+removing_reasons_at (Some i) addr = (not (has_peer_address i.peers addr), NoSuchPeer) ∷ []
 
 -- the first reason not to remove it
 abbrev pub removing_fault : List OnLink → ℕ → ℕ → Option PeerRefused

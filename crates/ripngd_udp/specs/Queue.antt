@@ -3,18 +3,18 @@ use Rattle.std.specs.Prelude.{ℕ, ◌≡◌, ◌++◌, ◌+◌, ◌<◌, ◌==�
 use Rattle.router_core.specs.declared.answer.Outgoing.{Outgoing}
 use Rattle.ripngd_engine.specs.Run.{counted}
 use Rattle.ripngd_udp.specs.Peers.{OnLink}
-use Rattle.ripngd_udp.specs.Sending.{Delivers, Try, is_known}
+use Rattle.ripngd_udp.specs.Sending.{SendsToPeers, Try, is_known}
 
 -- these datagrams were sent one after the other, each once to each port that it means, and so many of them failed: those that
 -- did not go everywhere, or meant nobody
 abbrev pub SendsAll : OnLink → Option (List Try) → Option (List Try) → List Outgoing → ℕ → Type 0
 SendsAll i before after [] failed = (after ≡ before) × (failed ≡ 0)
 SendsAll i before after (d ∷ ds) failed =
-    (middle : Option (List Try)) × (ok : Bool) × (others : ℕ) × Delivers i before middle d.to d.bytes ok
+    (middle : Option (List Try)) × (ok : Bool) × (others : ℕ) × SendsToPeers i before middle d.to d.bytes ok
     × SendsAll i middle after ds others × (failed ≡ (if ok then 0 else 1) + others)
 
 -- some of what waited was sent, from the first on, the rest waits on, and those that failed were counted
-pub record Goes (i : OnLink) (before after : Option (List Try)) (waited left : List Outgoing) (count count_after : ℕ) : Type 0 where
+pub record SendsWaiting (i : OnLink) (before after : Option (List Try)) (waited left : List Outgoing) (count count_after : ℕ) : Type 0 where
   pub sent : List Outgoing
   pub failed : ℕ
   pub sends : SendsAll i before after sent failed
@@ -25,7 +25,7 @@ pub record Goes (i : OnLink) (before after : Option (List Try)) (waited left : L
 pub record SentAtOnce (i : OnLink) (before after : Option (List Try)) (waited left : List Outgoing) (d : Outgoing) (ok : Bool) : Type 0 where
   pub none_waited : waited ≡ []
   pub none_waits : left ≡ []
-  pub sends : Delivers i before after d.to d.bytes ok
+  pub sends : SendsToPeers i before after d.to d.bytes ok
 
 -- a datagram to somebody waits behind the others, fewer than 4,096, if that is the answer, or else is lost alone
 pub record Kept (i : OnLink) (before after : Option (List Try)) (waited left : List Outgoing) (d : Outgoing) (ok : Bool) : Type 0 where

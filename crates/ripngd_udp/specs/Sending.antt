@@ -67,7 +67,7 @@ is_known i to.Group = true
 is_known i (to.Peer addr port) = list_any (λ p. is_meant p (to.Peer addr port)) i.peers
 
 -- the bytes were sent to each port that is meant, and the answer is whether they went everywhere, and to somebody
-pub record Delivers (i : OnLink) (before after : Option (List Try)) (destination : Destination) (bytes : List ℕ) (ok : Bool) : Type 0 where
+pub record SendsToPeers (i : OnLink) (before after : Option (List Try)) (destination : Destination) (bytes : List ℕ) (ok : Bool) : Type 0 where
   pub went : Bool
   pub sends : SendsEach before after (ports_meant destination i) bytes went
   pub answer : ok ≡ (went && is_known i destination)

@@ -5,7 +5,7 @@ ghost use Rattle.std.specs.List.{find};
 ghost use Rattle.std.specs.Result.{result_err};
 ghost use Rattle.ripng_wire.specs.Wire.{first_reason};
 ghost use Rattle.ripngd_config.specs.Twice.{has_same};
-ghost use Rattle.ripngd_udp.specs.Peers.{ChangesLink, RefusesFor, adding_fault, has_address, is_group_port, is_port, links_at, on_link, peer_reasons, removing_fault, removing_reasons_at, shared_port, with_peer, without_peer};
+ghost use Rattle.ripngd_udp.specs.Peers.{ChangesLink, RefusesFor, adding_fault, has_peer_address, is_group_port, is_port, links_at, on_link, peer_reasons, removing_fault, removing_reasons_at, shared_port, with_peer, without_peer};
 
 use crate::peer_refused::PeerRefused;
 use prefix6::Addr6;
@@ -40,8 +40,8 @@ fn has_same(peers: &[Peer], peer: &Peer) -> bool
 }
 
 /// Whether one of the peers has an address.
-fn has_address(peers: &[Peer], addr: Addr6) -> bool
-    ensures { result ≡ has_address peers.now addr }
+fn has_peer_address(peers: &[Peer], addr: Addr6) -> bool
+    ensures { result ≡ has_peer_address peers.now addr }
 {
     peers.iter().any(|peer| peer.addr == addr)
 }
@@ -146,7 +146,7 @@ impl Neighborhood {
         ensures err { OnErr result (self.new ≡ self.old) }
         ensures why { result_err result ≡ first_reason (removing_reasons_at (Some self.old) addr) }
     {
-        if !has_address(self.peers.as_slice(), addr) {
+        if !has_peer_address(self.peers.as_slice(), addr) {
             return Err(PeerRefused::NoSuchPeer);
         }
         self.peers.retain(|peer| peer.addr != addr);

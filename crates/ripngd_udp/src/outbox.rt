@@ -2,7 +2,7 @@
 
 ghost use Rattle.std.specs.Prelude.{◌≡◌, ◌==◌, ◌+◌, ◌<◌, ◌≤◌, ◌-◌, ◌++◌, ◌∷◌, [], true, IfOk, is_ok, if◌then◌else◌, length};
 ghost use Rattle.ripngd_engine.specs.Run.{counted};
-ghost use Rattle.ripngd_udp.specs.Queue.{Goes, SentOrKept, goes_at_once};
+ghost use Rattle.ripngd_udp.specs.Queue.{SendsWaiting, SentOrKept, goes_at_once};
 
 use crate::neighborhood::Neighborhood;
 use crate::pace::Pace;
@@ -130,7 +130,7 @@ impl Outbox {
 
     /// Sends the first of what waits, if something does.
     fn send_first<C: Carrier>(&mut self, carrier: &mut C, neighborhood: &Neighborhood)
-        ensures sends { Goes neighborhood.now (C.tries carrier.old) (C.tries carrier.new) self.old.waiting.items self.new.waiting.items self.old.failed self.new.failed }
+        ensures sends { SendsWaiting neighborhood.now (C.tries carrier.old) (C.tries carrier.new) self.old.waiting.items self.new.waiting.items self.old.failed self.new.failed }
         ensures count { length self.new.waiting.items ≡ length self.old.waiting.items - 1 }
         ensures pace { self.new.pace ≡ self.old.pace }
     {
@@ -147,7 +147,7 @@ impl Outbox {
 
     /// Sends so many of what waits, or all.
     fn send_some<C: Carrier>(&mut self, carrier: &mut C, neighborhood: &Neighborhood, count: usize)
-        ensures sends { Goes neighborhood.now (C.tries carrier.old) (C.tries carrier.new) self.old.waiting.items self.new.waiting.items self.old.failed self.new.failed }
+        ensures sends { SendsWaiting neighborhood.now (C.tries carrier.old) (C.tries carrier.new) self.old.waiting.items self.new.waiting.items self.old.failed self.new.failed }
         ensures count { length self.new.waiting.items ≡ length self.old.waiting.items - count }
         ensures pace { self.new.pace ≡ self.old.pace }
     {
@@ -164,7 +164,7 @@ impl Outbox {
         neighborhood: &Neighborhood,
         now: u64,
     )
-        ensures sends { Goes neighborhood.now (C.tries carrier.old) (C.tries carrier.new) self.old.waiting.items self.new.waiting.items self.old.failed self.new.failed }
+        ensures sends { SendsWaiting neighborhood.now (C.tries carrier.old) (C.tries carrier.new) self.old.waiting.items self.new.waiting.items self.old.failed self.new.failed }
         ensures paced { length self.old.waiting.items - 16 ≤ length self.new.waiting.items }
         ensures due { self.old.pace.since + 4 ≤ now → length self.new.waiting.items ≡ length self.old.waiting.items - 16 }
         ensures anew { self.old.pace.since + 4 ≤ now
@@ -180,7 +180,7 @@ impl Outbox {
 
     /// Sends all that waits, at once.
     pub(crate) fn send_all<C: Carrier>(&mut self, carrier: &mut C, neighborhood: &Neighborhood)
-        ensures sends { Goes neighborhood.now (C.tries carrier.old) (C.tries carrier.new) self.old.waiting.items self.new.waiting.items self.old.failed self.new.failed }
+        ensures sends { SendsWaiting neighborhood.now (C.tries carrier.old) (C.tries carrier.new) self.old.waiting.items self.new.waiting.items self.old.failed self.new.failed }
         ensures all { self.new.waiting.items ≡ [] }
     {
         let count = self.waiting.len();

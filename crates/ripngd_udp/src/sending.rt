@@ -3,7 +3,7 @@
 ghost use Rattle.std.specs.Prelude.{◌≡◌, ℕ, [], ◌∷◌, List, Option, is_ok};
 ghost use Rattle.std.specs.List.{list_any};
 ghost use Rattle.ripngd_engine.specs.Telling.{Gains};
-ghost use Rattle.ripngd_udp.specs.Sending.{Delivers, SendsEach, Tries, Try, is_known, peer_ports, ports_meant, tried, went};
+ghost use Rattle.ripngd_udp.specs.Sending.{SendsToPeers, SendsEach, Tries, Try, is_known, peer_ports, ports_meant, tried, went};
 ghost use Rattle.ripngd_udp.specs.Udp.{is_meant};
 
 use crate::neighborhood::Neighborhood;
@@ -134,7 +134,7 @@ pub(crate) fn send<C: Carrier>(
     to: &Destination,
     bytes: &[u8],
 ) -> Result<(), LinkFault>
-    ensures { Delivers neighborhood.now (C.tries carrier.old) (C.tries carrier.new) to.now bytes.now (is_ok result) }
+    ensures { SendsToPeers neighborhood.now (C.tries carrier.old) (C.tries carrier.new) to.now bytes.now (is_ok result) }
 {
     let all_went = send_each(carrier, neighborhood, to, bytes);
     if all_went && is_known(neighborhood, to) {

@@ -15,13 +15,13 @@ use Rattle.ripngd_watch.specs.declared.tally.Tally.{Tally}
 
 -- ---- one sender
 -- whether an arrival is a Response without a fault
-abbrev pub is_taken : List ℕ → Option Fault → Bool
-is_taken bytes None = is_response bytes
-is_taken bytes (Some fault) = false
+abbrev pub is_sound_response : List ℕ → Option Fault → Bool
+is_sound_response bytes None = is_response bytes
+is_sound_response bytes (Some fault) = false
 
 -- the entries of a datagram: 20 bytes each, behind the first 4
-abbrev pub entries_in : List ℕ → ℕ
-entries_in bytes = (length bytes - 4) / 20
+abbrev pub rte_count : List ℕ → ℕ
+rte_count bytes = (length bytes - 4) / 20
 
 -- nothing came
 abbrev pub no_tally : Tally
@@ -31,9 +31,9 @@ no_tally = record { arrivals = 0; responses = 0; entries = 0; last = None; fault
 -- fault, its fault, and the notes on its entries
 pub record Tallied (c : Tally) (a : Arrived) (bytes : List ℕ) (fault : Option Fault) (notes : List Note) (d : Tally) : Type 0 where
   pub arrivals : d.arrivals ≡ counted c.arrivals 1
-  pub responses : d.responses ≡ counted c.responses (if is_taken bytes fault then 1 else 0)
-  pub entries : d.entries ≡ counted c.entries (if is_taken bytes fault then entries_in bytes else 0)
-  pub last : d.last ≡ (if is_taken bytes fault then Some a.moment else c.last)
+  pub responses : d.responses ≡ counted c.responses (if is_sound_response bytes fault then 1 else 0)
+  pub entries : d.entries ≡ counted c.entries (if is_sound_response bytes fault then rte_count bytes else 0)
+  pub last : d.last ≡ (if is_sound_response bytes fault then Some a.moment else c.last)
   pub refused : (place : ℕ) → place < 12 → slice_index_or d.faults place 0 ≡ counted (slice_index_or c.faults place 0) (is_fault (place + 1) fault)
   pub noted : (place : ℕ) → place < 5 → slice_index_or d.notes place 0
       ≡ counted (slice_index_or c.notes place 0) (count_by (λ n. note_number n.kind == place + 20) notes)
@@ -79,6 +79,6 @@ CountsOf Counts a v w = (vec_capacity w.rows ≡ vec_capacity v.rows)
     ⊎ CountsOther Counts (place_of a v.rows.items) v w))
 
 -- what a telling makes of the rows: what is sent is nobody's
-abbrev pub Hears : Neighbors → LinkReport → Neighbors → Type 0
-Hears v (Heard a bytes fault notes) w = CountsOf (λ c d. Tallied c a bytes fault notes d) a v w
-Hears v (Sent s went) w = w ≡ v
+abbrev pub CountsReport : Neighbors → LinkReport → Neighbors → Type 0
+CountsReport v (Heard a bytes fault notes) w = CountsOf (λ c d. Tallied c a bytes fault notes d) a v w
+CountsReport v (Sent s went) w = w ≡ v

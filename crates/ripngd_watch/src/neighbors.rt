@@ -2,7 +2,7 @@
 
 ghost use Rattle.std.specs.Prelude.{◌≡◌, ◌<◌, ◌≤◌, ◌⊎◌, ◌++◌, [], ℕ, None, OnOk, Some, length, slice_get, vec_capacity, vec_len};
 ghost use Rattle.std.specs.Io.KnownBytes.{Appends};
-ghost use Rattle.ripngd_watch.specs.Neighbors.{CountsKnown, CountsNew, CountsOf, Hears, Tallied, is_of, no_tally, place_of};
+ghost use Rattle.ripngd_watch.specs.Neighbors.{CountsKnown, CountsNew, CountsOf, CountsReport, Tallied, is_of, no_tally, place_of};
 ghost use Rattle.ripngd_watch.specs.Shown.{neighbor_text, other_lines, row_lines};
 
 use crate::tally::Tally;
@@ -155,7 +155,7 @@ impl Neighbors {
 }
 
 impl Watch for Neighbors {
-    ghost takes = { Hears };
+    ghost takes = { CountsReport };
 
     fn heard(&mut self, arrived: Arrived, bytes: &[u8], fault: Option<Fault>, notes: &[Note]) {
         let place = place_of(self.rows.as_slice(), &arrived);

@@ -3,7 +3,7 @@
 ghost use Rattle.std.specs.Prelude.{◌≡◌, Some, if◌then◌else◌, IsTrue, length};
 ghost use Rattle.ripng_wire.specs.Wire.{is_response};
 ghost use Rattle.ripngd_engine.specs.Run.{counted};
-ghost use Rattle.ripngd_watch.specs.Neighbors.{Tallied, entries_in, is_taken, no_tally};
+ghost use Rattle.ripngd_watch.specs.Neighbors.{Tallied, rte_count, is_sound_response, no_tally};
 ghost use Rattle.ripngd_watch.specs.Shown.{last_text, tally_text};
 
 use crate::counts::{count_fault, count_notes};
@@ -31,8 +31,8 @@ pub struct Tally {
 }
 
 /// Whether an arrival is a Response without a fault.
-fn is_taken(bytes: &[u8], fault: Option<Fault>) -> bool
-    ensures { result ≡ is_taken bytes.now fault }
+fn is_sound_response(bytes: &[u8], fault: Option<Fault>) -> bool
+    ensures { result ≡ is_sound_response bytes.now fault }
 {
     match fault {
         None => is_response(bytes),
@@ -49,8 +49,8 @@ fn is_response(bytes: &[u8]) -> bool
 }
 
 /// How many entries a datagram has.
-fn entries_in(bytes: &[u8]) -> u64
-    ensures { result ≡ entries_in bytes.now }
+fn rte_count(bytes: &[u8]) -> u64
+    ensures { result ≡ rte_count bytes.now }
 {
     (bytes.len().saturating_sub(4) / 20) as u64
 }
@@ -94,8 +94,8 @@ impl Tally {
         ensures { Tallied self.old arrived.now bytes.now fault notes.now self.new }
     {
         self.arrivals = self.arrivals.saturating_add(1);
-        if is_taken(bytes, fault) {
-            self.count_response(arrived.moment.ms(), entries_in(bytes));
+        if is_sound_response(bytes, fault) {
+            self.count_response(arrived.moment.ms(), rte_count(bytes));
         }
         count_fault(&mut self.faults, fault);
         count_notes(&mut self.notes, notes);

@@ -1,6 +1,6 @@
 use Rattle.std.proofs.Common.{Some}
-use Rattle.ripngd_lab.specs.ScriptWatching.{IsTold}
+use Rattle.ripngd_lab.specs.ScriptWatching.{IsToldOfLab}
 use Rattle.ripngd_lab.proofs.telling.hear.Given as goal
 
 abbrev pub invariant-loop-place : goal.invariant-loop-place
-invariant-loop-place g l = IsTold g.V.Watch-1.starts g.V.Watch-2.takes g.V.Watch-1.notes (Some l.fn.lab, l.fn.watch) (Some l.lab, l.watch)
+invariant-loop-place g l = IsToldOfLab g.V.Watch-1.starts g.V.Watch-2.takes g.V.Watch-1.notes (Some l.fn.lab, l.fn.watch) (Some l.lab, l.watch)

@@ -1,6 +1,6 @@
 use Rattle.std.proofs.Common.{None, Some, Option, ap, sym, subst}
 use Rattle.ripng_world.specs.Labs.{LabValue}
-use Rattle.ripngd_lab.specs.ScriptWatching.{IsTold, lab_in}
+use Rattle.ripngd_lab.specs.ScriptWatching.{IsToldOfLab, lab_in}
 use Rattle.ripngd_lab.proofs.ScriptWatching.{not_begun, told_from, untold_as, started}
 use Rattle.ripngd_lab.proofs.session.Session.obey.Goals as goal
 
@@ -11,7 +11,7 @@ returns-in_err-begin_lab-in-Cold g c =
 
 pub returns-in_ok-begin_lab-in-Cold : goal.returns-in_ok-begin_lab-in-Cold
 returns-in_ok-begin_lab-in-Cold g c =
-    subst (λ (l : Option LabValue). IsTold g.V.Watch-1.starts g.V.Watch-2.takes g.V.Watch-1.notes (l, c.args.watch.now) (Some c.in_ok-begin_lab-in-Cold.field-0, c.begin_lab.new.watch))
+    subst (λ (l : Option LabValue). IsToldOfLab g.V.Watch-1.starts g.V.Watch-2.takes g.V.Watch-1.notes (l, c.args.watch.now) (Some c.in_ok-begin_lab-in-Cold.field-0, c.begin_lab.new.watch))
     (sym (ap lab_in c.in-Listing.is))
     (started g.V.Watch-1.starts g.V.Watch-2.takes g.V.Watch-2.fails g.V.Watch-1.notes c.in_ok-begin_lab-in-Cold.field-0 c.in-Cold.now c.args.watch.now c.begin_lab.new.watch c.in_ok-begin_lab-in-Cold.ensures.started.0 c.in_ok-begin_lab-in-Cold.ensures.started.1)
 
