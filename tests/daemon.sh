@@ -677,6 +677,36 @@ a_running_router_is_told() {
     return $learned
 }
 
+# East does not know west at first, whose datagrams are those of a stranger; then it does, and then no more.
+a_running_router_meets_and_leaves_a_neighbor() {
+    neighbors
+    next_port
+    { interface e "$east_port" 9 "$port" && prefix 2001:db8:e::/48; } > "$folder/east.toml"
+    listening east -R "$folder/east.log" && local east=$pid && listening west -R "$folder/west.log" && local west=$pid || return
+    until_true strangers_came east || because "no strangers are counted" || return
+    answers east 1 "refused 51 NoSuchInterface" peer 1 fe80::f "$west_port" && answers east 1 "refused 61 BadPort" peer 0 fe80::f 0 &&
+        answers east 1 "refused 63 OwnAddress" peer 0 fe80::e "$west_port" &&
+        answers east 1 "refused 64 PeerTwice" peer 0 fe80::9 "$west_port" &&
+        answers east 1 "refused 66 NoSuchPeer" unpeer 0 fe80::f && answers east 0 "" peer 0 FE80:0::F "$west_port" &&
+        answers east 1 "refused 64 PeerTwice" peer 0 fe80::f "$west_port" &&
+        answers west 0 "" gain 2001:db8:2::/48 7 && answers east 0 "" gain 2001:db8:1::/48 7 || return
+    until_true grep -qx 'add 2001:db8:2::/48 metric 2 via fe80::f iface 0' "$folder/east.log" || because "east does not learn it" || return
+    until_true grep -qx 'add 2001:db8:1::/48 metric 2 via fe80::e iface 0' "$folder/west.log" || because "west does not learn it" || return
+    answers east 0 "" unpeer 0 fe80::f && answers east 1 "refused 66 NoSuchPeer" unpeer 0 fe80::f &&
+        answers west 0 "" gain 2001:db8:3::/48 7 || return
+    sleep 6
+    ! grep -q 2001:db8:3: "$folder/east.log" || because "east still hears west"
+    local left=$?
+    end "$east"
+    end "$west"
+    return $left
+}
+
+# `strangers_came NAME`: whether that router has counted a datagram of a stranger.
+strangers_came() {
+    ctl "$1" counts && grep -q '^strangers [1-9]' "$folder/out"
+}
+
 a_running_router_is_stopped() {
     alone stopped.toml
     listening stopped -d && local stopped=$pid || return
@@ -815,6 +845,7 @@ try three_neighbors_learn_a_large_table_at_once
 try a_running_router_is_asked
 try a_running_router_tells_of_its_neighbors
 try a_running_router_is_told
+try a_running_router_meets_and_leaves_a_neighbor
 try a_running_router_is_stopped
 try a_socket_of_a_router_that_is_gone_is_replaced
 try a_socket_that_others_may_write_to_is_refused

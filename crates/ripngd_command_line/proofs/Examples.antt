@@ -56,7 +56,12 @@ tag_has_two_bytes : fault_of ripngd (codes "ripngd" ∷ codes "run" ∷ codes "-
 unfolding clap_on_literals
 tag_has_two_bytes = refl
 
--- `ctl east.sock cost 0 16`: up to three words behind the path
+-- `ctl east.sock peer 0 fe80::9 5219`: up to four words behind the path
+peer_is_taken : takes ripngd (codes "ripngd" ∷ codes "ctl" ∷ codes "east.sock" ∷ codes "peer" ∷ codes "0" ∷ codes "fe80::9" ∷ codes "5219" ∷ []) ≡ true
+unfolding clap_on_literals
+peer_is_taken = refl
+
+-- `ctl east.sock cost 0 16`
 cost_is_taken : takes ripngd (codes "ripngd" ∷ codes "ctl" ∷ codes "east.sock" ∷ codes "cost" ∷ codes "0" ∷ codes "16" ∷ []) ≡ true
 unfolding clap_on_literals
 cost_is_taken = refl

@@ -39,6 +39,7 @@ pub record IsQuestion (question : Question) (rows : List Row) : Type 0 where
   pub command : first_of (codes "COMMAND") rows ≡ Some question.command.now
   pub what : option_map (λ s. s.now) question.what ≡ first_of (codes "WHAT") rows
   pub value : option_map (λ s. s.now) question.value ≡ first_of (codes "VALUE") rows
+  pub port : option_map (λ s. s.now) question.port ≡ first_of (codes "PORT") rows
 
 -- the rows of `page` order this, without a film
 pub record IsServed (serve : Serve) (rows : List Row) : Type 0 where

@@ -108,11 +108,12 @@ run_command =
     with_rule (with_rule (with_rule (with_rule (with_rule (with_rule (with_rule (new_app (codes "run"))
     quiet_option) debug_option) tag_option) log_option) turns_option) control_option) (positional (codes "CONFIG"))
 
--- `ctl PATH COMMAND [WHAT] [VALUE]`
+-- `ctl PATH COMMAND [WHAT] [VALUE] [PORT]`
 abbrev pub ctl_command : App
 ctl_command =
-    with_rule (with_rule (with_rule (with_rule (new_app (codes "ctl"))
-    (positional (codes "PATH"))) (positional (codes "COMMAND"))) (optional_rule (codes "WHAT"))) (optional_rule (codes "VALUE"))
+    with_rule (with_rule (with_rule (with_rule (with_rule (new_app (codes "ctl"))
+    (positional (codes "PATH"))) (positional (codes "COMMAND"))) (optional_rule (codes "WHAT"))) (optional_rule (codes "VALUE")))
+    (optional_rule (codes "PORT"))
 
 -- `page [--port N] [--requests N] [--film SCRIPT]`
 abbrev pub page_command : App

@@ -13,7 +13,7 @@ pub enum Ask<'a> {
     Trace(&'a str),
     /// `run [-q] [-d] [-t TAG] [-R FILE] [--turns N] [--control PATH] CONFIG`: one router that runs.
     Run(Order<'a>),
-    /// `ctl PATH COMMAND [WHAT] [VALUE]`: a router that runs is asked or told something.
+    /// `ctl PATH COMMAND [WHAT] [VALUE] [PORT]`: a router that runs is asked or told something.
     Ctl(Question<'a>),
     /// `table LOG`: the forwarding table that a file's log makes.
     Table(&'a str),
@@ -51,7 +51,7 @@ pub struct Order<'a> {
     pub config: &'a str,
 }
 
-/// What a router that runs is asked or told, in up to three words.
+/// What a router that runs is asked or told, in up to four words.
 #[derive(Clone, Copy, Debug, PartialEq, Eq)]
 pub struct Question<'a> {
     /// The path of its socket.
@@ -60,6 +60,8 @@ pub struct Question<'a> {
     pub command: &'a str,
     /// The interface or the prefix that it is about.
     pub what: Option<&'a str>,
-    /// The cost or the tag.
+    /// The cost, the tag, or the address of a neighbor.
     pub value: Option<&'a str>,
+    /// The port of a neighbor.
+    pub port: Option<&'a str>,
 }

@@ -147,7 +147,7 @@ fn run<'a>(alloc: Global) -> Result<Command<'a>, AllocError>
         .arg(required(alloc, "CONFIG", "The file of its configuration"))
 }
 
-/// `ctl PATH COMMAND [WHAT] [VALUE]`.
+/// `ctl PATH COMMAND [WHAT] [VALUE] [PORT]`.
 fn ctl<'a>(alloc: Global) -> Result<Command<'a>, AllocError>
     ensures { IfOk result (λ c. IsCommand c ctl_command) }
 {
@@ -161,7 +161,12 @@ fn ctl<'a>(alloc: Global) -> Result<Command<'a>, AllocError>
             "WHAT",
             "The interface or the prefix that it is about",
         ))?
-        .arg(optional(alloc, "VALUE", "The cost or the tag"))
+        .arg(optional(
+            alloc,
+            "VALUE",
+            "The cost, the tag, or the address of a neighbor",
+        ))?
+        .arg(optional(alloc, "PORT", "The port of a neighbor"))
 }
 
 /// `--port N`, from 0 to 65,535.
@@ -354,6 +359,7 @@ fn ctl_asked<'a>(matches: &ArgMatches<'a>) -> Option<Ask<'a>>
         command: text(matches, "COMMAND")?,
         what: text(matches, "WHAT"),
         value: text(matches, "VALUE"),
+        port: text(matches, "PORT"),
     }))
 }
 

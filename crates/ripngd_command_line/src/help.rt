@@ -61,9 +61,14 @@ What the router answers is printed. The commands are
   routes                 its routes, with their gateways and what is left of them
   table                  its forwarding table
   counts                 what came, was sent, refused and lost
+  neighbors              what came from each of its neighbors, and when last
   cost INTERFACE COST    the cost of an interface is another from now on
   gain PREFIX TAG        it owns a prefix more
   drop PREFIX            it owns that prefix no more
+  peer INTERFACE ADDRESS PORT
+                         a neighbor of that address stands at that port
+  unpeer INTERFACE ADDRESS
+                         no neighbor of that address is there any more
   stop                   it ends, as after its last turn
 Where the router refuses, it says `refused NR NAME`, and the exit status is 1;
 where nobody listens at PATH, it is 3.

@@ -22,9 +22,12 @@ const SILENCE: u64 = 10_000;
 /// The words of a question, a space between them.
 fn words_of(alloc: Global, question: Question<'_>) -> Result<String, AllocError> {
     let command = question.command;
-    match (question.what, question.value) {
-        (Some(what), Some(value)) => format!(in alloc; "{command} {what} {value}"),
-        (Some(what), None) => format!(in alloc; "{command} {what}"),
+    match (question.what, question.value, question.port) {
+        (Some(what), Some(value), Some(port)) => format!(in alloc;
+            "{command} {what} {value} {port}"
+        ),
+        (Some(what), Some(value), None) => format!(in alloc; "{command} {what} {value}"),
+        (Some(what), None, _) => format!(in alloc; "{command} {what}"),
         _ => format!(in alloc; "{command}"),
     }
 }

@@ -18,7 +18,7 @@ const FAULTS: [&[&str]; 21] = [
     &["ripngd", "run", "-t", "0x10", "file"],
     &["ripngd", "ctl"],
     &["ripngd", "ctl", "east.sock"],
-    &["ripngd", "ctl", "east.sock", "cost", "0", "1", "2"],
+    &["ripngd", "ctl", "east.sock", "cost", "0", "1", "2", "3"],
     &["ripngd", "table"],
     &["ripngd", "table", "log", "other"],
     &["ripngd", "page", "file"],

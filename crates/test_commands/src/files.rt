@@ -44,7 +44,7 @@ fn check_refuses_a_prefix_more_than_a_router_may_own(rt: HostRuntime) -> Result<
 
 /// Command lines on files, with their status and what they write to standard output or, with status 3, to standard
 /// error. The file `few.toml` has no interface, `few.lab` a router without one.
-const ON_FILES: [(&[&str], u8, &str); 13] = [
+const ON_FILES: [(&[&str], u8, &str); 15] = [
     (
         &["ripngd", "check", "few.toml"],
         1,
@@ -99,6 +99,24 @@ const ON_FILES: [(&[&str], u8, &str); 13] = [
         &["ripngd", "ctl", "absent.sock", "routes"],
         3,
         "ripngd: nobody listens at absent.sock\n",
+    ),
+    (
+        &[
+            "ripngd",
+            "ctl",
+            "absent.sock",
+            "peer",
+            "0",
+            "fe80::9",
+            "5219",
+        ],
+        3,
+        "ripngd: nobody listens at absent.sock\n",
+    ),
+    (
+        &["ripngd", "ctl", "absent.sock", "peer", "0", "fe80::9"],
+        1,
+        "refused 52 NoSuchCommand\n",
     ),
     (
         &["ripngd", "ctl", "absent.sock", "cost", "all", "1"],

@@ -10,4 +10,5 @@ returns c =
     let s1 = arg_added _ _ _ _ _ c.in_ok-arg.ensures c.required.ensures s0 in
     let s2 = arg_added _ _ _ _ _ c.in_ok-arg-2.ensures c.required-2.ensures s1 in
     let s3 = arg_added _ _ _ _ _ c.in_ok-arg-3.ensures c.optional.ensures s2 in
-    arg_added_ok _ _ _ _ c.arg-4.result c.arg-4.ensures c.optional-2.ensures s3
+    let s4 = arg_added _ _ _ _ _ c.in_ok-arg-4.ensures c.optional-2.ensures s3 in
+    arg_added_ok _ _ _ _ c.arg-5.result c.arg-5.ensures c.optional-3.ensures s4
