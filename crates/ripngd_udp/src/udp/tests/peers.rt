@@ -3,7 +3,8 @@
 use super::{addr, flood, given, holds, link_to, lists, outgoing, peer, place, port_of, socket};
 use crate::peer_refused::PeerRefused;
 use crate::udp::Udp;
-use ripngd_config::Place;
+use prefix6::Addr6;
+use ripngd_config::{Peer, Place};
 use ripngd_engine::Link;
 use router_core::Destination;
 use std::test::Fail;
@@ -37,11 +38,11 @@ fn peers_are_refused_by_number_and_name(rt: HostRuntime) -> Result<(), Fail> {
         (udp.remove_peer(1, addr(2)), 51, "NoSuchInterface"),
         (udp.remove_peer(0, addr(3)), 66, "NoSuchPeer"),
     ] {
-        let why = refused.err();
-        assert!(rt;
-            why.is_some_and(|why| why.number() == number && why.name() == name),
-            "{number} {name}"
-        );
+        let Err(why) = refused else {
+            return Err(Fail::from("it is not refused"));
+        };
+        assert_eq!(rt; why.number(), number);
+        assert!(rt; why.name() == name, "{number} {name}");
     }
     assert_eq!(rt; PeerRefused::OutOfMemory.number(), 67);
     Ok(())
@@ -54,12 +55,15 @@ fn an_interface_has_256_peers_at_most(rt: HostRuntime) -> Result<(), Fail> {
         assert!(rt; udp.add_peer(0, peer(number, u16::from(number))).is_ok());
     }
     assert!(rt; udp.add_peer(0, peer(0, 1_000)).is_ok());
-    let mut last = peer(0, 1_001);
-    last.addr = prefix6::Addr6::from_bits(1);
-    assert!(rt; udp.add_peer(0, last).is_ok());
-    last.addr = prefix6::Addr6::from_bits(2);
-    last.local_port = 1_002;
-    assert_eq!(rt; udp.add_peer(0, last), Err(PeerRefused::PeersFull));
+    let last = |bits, port| Peer {
+        addr: Addr6::from_bits(bits),
+        ..peer(0, port)
+    };
+    assert!(rt; udp.add_peer(0, last(1, 1_001)).is_ok());
+    assert_eq!(rt;
+        udp.add_peer(0, last(2, 1_002)),
+        Err(PeerRefused::PeersFull)
+    );
     Ok(())
 }
 
