@@ -106,7 +106,8 @@ fn show_turns<'a, R: Clock + AllocGlobal, W: Write, V: Counting, O: Write>(
     write_table(engine.fib(), out).map_err(|_| Failure::Output)
 }
 
-/// Starts a router over ports that are bound, runs it while clients ask and tell it, and sends what it still has to send.
+/// Starts a router over ports that are bound, runs it while clients ask and tell it, and sends what it still has to send. What
+/// it lost is left in `lost`, and what its watcher has counted in `counts`.
 pub(crate) fn run_controlled<'r, 'a, R: Clock + Net + AllocGlobal, W: Write, V: Counting, O: Write>(
     rt: &'r R,
     router: RouterConfig,
@@ -118,6 +119,7 @@ pub(crate) fn run_controlled<'r, 'a, R: Clock + Net + AllocGlobal, W: Write, V: 
     watch: &mut Both<V, Neighbors>,
     out: &mut O,
     lost: &mut Losses,
+    counts: &mut Counts,
 ) -> Result<(), Failure<'a>>
     requires { link.interfaces ≡ length router.interfaces }
     ensures shown { OnOk result (ShowsControlled router rng turns (O.contents out.old) (O.contents out.new)) }
@@ -126,6 +128,7 @@ pub(crate) fn run_controlled<'r, 'a, R: Clock + Net + AllocGlobal, W: Write, V: 
     let clock = Uptime::new(rt);
     let mut engine: Running<'r, R> = Engine::start(rt.alloc(), router, link, clock, rng, log)?;
     let outcome = show_turns(rt, &mut engine, desk, turns, log, watch, out);
+    *counts = watch.first.counted();
     let report = engine.report();
     let mut link = engine.into_link();
     link.finish();

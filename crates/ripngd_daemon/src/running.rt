@@ -26,7 +26,7 @@ use crate::warnings::write_echoes;
 use rand_pcg::Pcg32;
 use ripngd_command_line::Order;
 use ripngd_config::{Config, Peer, Place};
-use ripngd_control::{Losses, Totals};
+use ripngd_control::Losses;
 use ripngd_door::Door;
 use ripngd_engine::{Engine, Unwatched, Watch};
 use ripngd_udp::{Udp, Uptime};
@@ -223,33 +223,68 @@ fn run_at_desk<'r, 'a, R: Clock + Net + AllocGlobal, L: Log, O: Write, E: Write>
         "ripngd: running, {} interfaces",
         router.interfaces().len()
     );
-    let neighbors = Neighbors::new(rt.alloc());
+    let mut counts = Counts::new();
     if !debug {
         let mut watch = Both {
             first: Counts::new(),
-            second: neighbors,
+            second: Neighbors::new(rt.alloc()),
         };
         return run_controlled(
-            rt, router, link, rng, desk, turns, log, &mut watch, out, lost,
+            rt,
+            router,
+            link,
+            rng,
+            desk,
+            turns,
+            log,
+            &mut watch,
+            out,
+            lost,
+            &mut counts,
         );
     }
-    let mut watch = Both {
-        first: DebugLines::new(&mut *err),
-        second: neighbors,
-    };
-    let outcome = run_controlled(
-        rt, router, link, rng, desk, turns, log, &mut watch, out, lost,
-    );
-    let counts = watch.first.counts();
-    let _ = writeln!(
+    let outcome = run_debugged(
+        rt,
+        router,
+        link,
+        rng,
+        desk,
+        turns,
+        log,
+        out,
         err,
-        "{}",
-        Totals {
-            counts,
-            lost: *lost
-        }
+        lost,
+        &mut counts,
     );
+    let _ = writeln!(err, "{counts}");
     outcome
+}
+
+/// Runs a router at a desk, and writes what it refuses to `err`.
+fn run_debugged<'r, 'a, R: Clock + Net + AllocGlobal, L: Log, O: Write, E: Write>(
+    rt: &'r R,
+    router: RouterConfig,
+    link: Udp<'r, R>,
+    rng: Pcg32,
+    desk: &mut Desk,
+    turns: u32,
+    log: &mut L,
+    out: &mut O,
+    err: &mut E,
+    lost: &mut Losses,
+    counts: &mut Counts,
+) -> Result<(), Failure<'a>>
+    requires { link.interfaces ≡ length router.interfaces }
+    ensures shown { OnOk result (ShowsControlled router rng turns (O.contents out.old) (O.contents out.new)) }
+    ensures failed { IfErr result (FailsTurns turns) }
+{
+    let mut watch = Both {
+        first: DebugLines::new(err),
+        second: Neighbors::new(rt.alloc()),
+    };
+    run_controlled(
+        rt, router, link, rng, desk, turns, log, &mut watch, out, lost, counts,
+    )
 }
 
 /// Binds the ports, says that the router runs, and runs it.
@@ -282,14 +317,7 @@ fn run_alone<'a, R: Clock + Net + AllocGlobal, L: Log, O: Write, E: Write>(
     let mut lines = DebugLines::new(&mut *err);
     let outcome = run_bound(rt, router, link, rng, turns, log, &mut lines, out, lost);
     let counts = lines.counts();
-    let _ = writeln!(
-        err,
-        "{}",
-        Totals {
-            counts,
-            lost: *lost
-        }
-    );
+    let _ = writeln!(err, "{counts}");
     outcome
 }
 
