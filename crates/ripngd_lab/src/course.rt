@@ -7,6 +7,7 @@ use crate::doing::step;
 use crate::expecting::{Expected, Missed, meet};
 use crate::line::Line;
 use crate::outages::Outages;
+use crate::phase::make_phases;
 use crate::printing::Choice;
 use crate::refusal_name::RefusalName;
 use crate::round::{make_partial_rounds, make_round, make_rounds};
@@ -81,6 +82,11 @@ fn steer<V: Watch>(
         }
         Line::Rounds { moments } => {
             go_round(alloc, lab, &moments, &course.outages, watch)?;
+            course.unheard = lab.sent().len();
+            Ok(())
+        }
+        Line::Phases { phases, seed } => {
+            make_phases(alloc, lab, phases, seed, &course.outages, watch)?;
             course.unheard = lab.sent().len();
             Ok(())
         }
