@@ -28,10 +28,7 @@ pub enum Refusal {
     /// The rounds cannot go on.
     Rounds(RoundsRefused),
     /// The phases cannot go on from the one of that number, counted from 0.
-    Phases {
-        phase: usize,
-        refused: PhaseRefused,
-    },
+    Phases { phase: usize, refused: PhaseRefused },
 }
 
 /// What is not as a line expects. Its text is what is printed after `line L `.
