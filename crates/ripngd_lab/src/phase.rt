@@ -1,8 +1,11 @@
 //! Phases: stretches of a minute, by chance, in which all that matters gets through once, with no rounds.
 
-ghost use Rattle.std.specs.Prelude.{Some};
+ghost use Rattle.std.specs.Prelude.{IfErr, OnOk, Some};
+ghost use Rattle.ripng_phases.specs.Making.{AreMadePhases, HealsIn};
+ghost use Rattle.ripngd_lab.specs.Phasing.{AllTakePart, StopsPhases};
 ghost use Rattle.ripngd_lab.specs.ScriptWatching.{HasTold};
 
+use crate::doing::run_phases;
 use crate::outages::Outages;
 use crate::round::moment_after;
 use crate::stop::{Refusal, Stop};
@@ -10,10 +13,9 @@ use crate::watching::Watch;
 use crate::words::{BadLine, number};
 use rand_core::SeedableRng;
 use rand_pcg::Pcg32;
-use ripng_phases::{PhaseRefused, run_phases};
-use ripng_world::{Lab, Stopped};
+use ripng_world::Lab;
 use route_table::{Moment, TrieRoutes};
-use std::alloc::{AllocError, Global};
+use std::alloc::Global;
 
 /// The most phases of one line.
 const PHASES_LIMIT: usize = 1000;
@@ -49,7 +51,8 @@ pub fn latest_moment(lab: &Lab<TrieRoutes>) -> Option<Moment> {
     latest
 }
 
-/// So many phases are made, one after another, by the chance of a generator that starts from a seed.
+/// So many phases are made, one after another, by the chance of a generator that starts from a seed. 28 of them leave each table
+/// with the least costs of now, and nothing else below 16 hops, whatever happened before.
 ///
 /// # Errors
 /// `Outage` where a router is silent or a link is cut: nothing is then done. A router whose regular update is not due in time, a
@@ -63,22 +66,14 @@ pub fn make_phases<V: Watch>(
     watch: &mut V,
 ) -> Result<(), Stop>
     ensures told { HasTold result V.starts V.takes V.fails V.notes (Some lab.old, watch.old) (Some lab.new, watch.new) }
+    ensures all { OnOk result (AllTakePart outages.now) }
+    ensures made { OnOk result (AreMadePhases V.takes lab.old.network (lab.old.world, watch.old) phases (lab.new.world, watch.new)) }
+    ensures heals { OnOk result (HealsIn lab.old.network lab.old.world phases lab.new.world) }
+    ensures stopped { IfErr result (λ stop. StopsPhases V.takes V.fails outages.now (lab.old, watch.old) stop (lab.new, watch.new)) }
 {
     if !outages.are_none() {
         return Err(Stop::Refused(Refusal::Outage));
     }
     let mut rng = Pcg32::seed_from_u64(seed);
-    match run_phases(alloc, lab, phases, &mut rng, watch) {
-        (_, Ok(())) => Ok(()),
-        (phase, Err(Stopped::Refused(refused))) => Err(stop_at(phase, refused)),
-        (_, Err(Stopped::Failed(error))) => Err(Stop::Failed(error)),
-    }
-}
-
-/// Why a script ends where phases stop in one of them.
-fn stop_at(phase: usize, refused: PhaseRefused) -> Stop {
-    match refused {
-        PhaseRefused::OutOfMemory => Stop::from(AllocError),
-        _ => Stop::Refused(Refusal::Phases { phase, refused }),
-    }
+    run_phases(alloc, lab, phases, &mut rng, watch)
 }
