@@ -1,6 +1,6 @@
 -- What a watcher is told, one thing after another.
 use Rattle.std.specs.Prelude.{⊤}
-use Rattle.std.proofs.Common.{◌≡◌, ◌⊎◌, inl, inr, ℕ, List, [], ◌∷◌, ◌++◌, arith, length, Bool, true, false, Option, Some, None, Result, Ok, Err, IsErrAnd, OnErr, refl, ap, sym, subst}
+use Rattle.std.proofs.Common.{◌≡◌, ◌⊎◌, inl, inr, ℕ, List, [], ◌∷◌, ◌++◌, arith, length, Bool, true, false, Option, Some, None, Result, Ok, Err, IsErrAnd, OnErr, OnOk, refl, ap, sym, subst}
 use Rattle.router_core.specs.declared.answer.Answer.{Answer}
 use Rattle.ripng_world.specs.Asked.{Asked}
 use Rattle.ripng_world.specs.Labs.{LabValue, HappensGiving}
@@ -8,6 +8,7 @@ use Rattle.ripng_world.specs.Network.{Network}
 use Rattle.ripng_world.specs.Rounds.{events_of_rounds}
 use Rattle.ripng_world.specs.Watching.{Told, WatchedRun, WatchedUntil, WatchedInPart, AreMadeTold, RoundsToldInPart, any, telling, wanting}
 use Rattle.ripng_world.specs.World.{World, Event, Happens}
+use Rattle.ripng_world.specs.declared.watch.Stopped.{Stopped}
 use Rattle.ripng_world.specs.declared.watch.Stopped.TheVariants.{Refused as IsRefused, Failed as HasFailed}
 use Rattle.ripng_world.proofs.Watched.{given_told}
 use Rattle.ripng_phases.specs.Making.{AreMadeInPart, AreMadePhases, TellsSteps}
@@ -256,7 +257,7 @@ module _ {V : Type 0} (st : V → LabValue → ℕ → V → Type 0) (t f : V �
       subst (λ (net : Network). IsToldOfLab st t n (Some lab, v) (Some (record { network = net; world = lab'.world }), v')) (sym same)
       (told_on (Some lab, v) (Some (record { network = lab.network; world = p.before.0 }), p.before.1) (Some (record { network = lab.network; world = lab'.world }), v')
       (steps_told lab.network (steps_of p.phases ++ p.since) lab.world p.before.0 v p.before.1 p.told)
-      (run_told lab.network p.ends.0 p.before.0 lab'.world p.before.1 v' wanting p.ends.2))
+      (run_told lab.network p.ends.0 p.before.0 lab'.world p.before.1 v' wanting p.ends.1.1))
 
   -- the watcher failed in a phase, at its last event
   pub phases_one : (lab lab' : LabValue) (v v' : V) (count : ℕ) (error : Error) → lab'.network ≡ lab.network
@@ -265,13 +266,32 @@ module _ {V : Type 0} (st : V → LabValue → ℕ → V → Type 0) (t f : V �
       subst (λ (net : Network). IsToldUntil st t f n (Some lab, v) (Some (record { network = net; world = lab'.world }), v')) (sym same)
       (until_on (Some lab, v) (Some (record { network = lab.network; world = p.before.0 }), p.before.1) (Some (record { network = lab.network; world = lab'.world }), v')
       (steps_told lab.network (steps_of p.phases ++ p.since) lab.world p.before.0 v p.before.1 p.told)
-      (until_one lab.network p.ends.0 p.before.0 lab'.world p.before.1 v' (record { done = []; last = p.ends.0; events_are = refl; as_many = p.ends.1; before = p.before; run = refl; failed = p.ends.2 })))
+      (until_one lab.network p.ends.0 p.before.0 lab'.world p.before.1 v' (record { done = []; last = p.ends.0; events_are = refl; as_many = p.ends.1.0; before = p.before; run = refl; failed = p.ends.1.1 })))
+
+  -- phases stop: all that was done is told, up to where the watcher failed
+  pub phases_stopped : (lab lab' : LabValue) (v v' : V) (count : ℕ) (why : Stopped PhaseRefused Error) (stop : Stop) → lab'.network ≡ lab.network → IsStopAt count why stop
+      → AreMadeInPart t f lab.network (lab.world, v) count why (lab'.world, v') → HasTold {X = ⊤} (Err stop) st t f n (Some lab, v) (Some lab', v')
+  phases_stopped lab lab' v v' count (IsRefused refused) stop same is made =
+      has_told (Err stop) (Some lab, v) (Some lab', v') (phases_none lab lab' v v' count refused same made)
+  phases_stopped lab lab' v v' count (HasFailed error) stop same is made =
+      subst (λ (b : Bool). IsToldUnless b st t f n (Some lab, v) (Some lab', v')) (sym is) (phases_one lab lab' v v' count error same made)
+
+-- what holds of a result that is there
+pub on_ok : {X E P : Type 0} (r : Result X E) (x : X) → r ≡ Ok x → OnOk r P → P
+on_ok {X} {E} {P} r x is given = subst (λ (q : Result X E). OnOk q P) is given
+
+clash : false ≡ true → ⊥
+clash e = cc
+
+failed : {V : Type 0} (t f : V → Told → V → Type 0) (s s' : LabValue × V) (stop : Stop) → is_failure stop ≡ true → StopsInPhase t f s stop s'
+failed t f s s' (Refused why) is = absurd (clash is)
+failed t f s s' (Unmet unmet) is = absurd (clash is)
+failed t f s s' (Failed error) is = tt
 
 -- what a line says where phases stop
-pub stops_in : {V : Type 0} (t f : V → Told → V → Type 0) (s s' : LabValue × V) (phase : ℕ) (why : PhaseRefused) (stop : Stop) → IsStopAt phase why stop
-    → AreMadeInPart {F = Error} t f s.0.network (s.0.world, s.1) phase (IsRefused why) (s'.0.world, s'.1) → StopsInPhase t f s stop s'
-stops_in t f s s' phase (NoUpdateInTime router) stop is made = subst (λ (k : Stop). StopsInPhase t f s k s') (sym is) made
-stops_in t f s s' phase PastLastMoment stop is made = subst (λ (k : Stop). StopsInPhase t f s k s') (sym is) made
-stops_in t f s s' phase OutOfMemory (Refused why) is made = absurd (case is)
-stops_in t f s s' phase OutOfMemory (Unmet unmet) is made = absurd (case is)
-stops_in t f s s' phase OutOfMemory (Failed error) is made = tt
+pub stops_in : {V : Type 0} (t f : V → Told → V → Type 0) (s s' : LabValue × V) (phase : ℕ) (why : Stopped PhaseRefused Error) (stop : Stop) → IsStopAt phase why stop
+    → AreMadeInPart t f s.0.network (s.0.world, s.1) phase why (s'.0.world, s'.1) → StopsInPhase t f s stop s'
+stops_in t f s s' phase (IsRefused (NoUpdateInTime router)) stop is made = subst (λ (k : Stop). StopsInPhase t f s k s') (sym is) made
+stops_in t f s s' phase (IsRefused PastLastMoment) stop is made = subst (λ (k : Stop). StopsInPhase t f s k s') (sym is) made
+stops_in t f s s' phase (IsRefused OutOfMemory) stop is made = failed t f s s' stop is
+stops_in t f s s' phase (HasFailed error) stop is made = failed t f s s' stop is

@@ -1,9 +1,10 @@
 -- Phases of a script: when all takes part in them, and why they stop.
-use Rattle.std.specs.Prelude.{◌≡◌, ◌⊎◌, ℕ, ⊥, ⊤, true, []}
+use Rattle.std.specs.Prelude.{◌≡◌, ◌⊎◌, ℕ, ⊤, true, []}
 use Rattle.std.specs.declared.io.Error.{Error}
 use Rattle.ripng_world.specs.Labs.{LabValue}
 use Rattle.ripng_world.specs.Watching.{Told}
-use Rattle.ripng_world.specs.declared.watch.Stopped.TheVariants.{Refused as IsRefused}
+use Rattle.ripng_world.specs.declared.watch.Stopped.{Stopped}
+use Rattle.ripng_world.specs.declared.watch.Stopped.TheVariants.{Refused as IsRefused, Failed as HasFailed}
 use Rattle.ripng_phases.specs.Making.{AreMadeInPart}
 use Rattle.ripng_phases.specs.declared.refused.PhaseRefused.{PhaseRefused}
 use Rattle.ripng_phases.specs.declared.refused.PhaseRefused.TheVariants.{OutOfMemory}
@@ -17,10 +18,11 @@ use Rattle.ripngd_lab.specs.declared.stop.Stop.TheVariants.{Refused, Failed}
 abbrev pub AllTakePart : Outages → Type 0
 AllTakePart outages = (outages.silent.items ≡ []) × (outages.cut.items ≡ [])
 
--- what a script says where phases stop in the one of that number: the line is refused by it, but for want of memory
-abbrev pub IsStopAt : ℕ → PhaseRefused → Stop → Type 0
-IsStopAt phase OutOfMemory stop = is_failure stop ≡ true
-IsStopAt phase refused stop = stop ≡ Refused (Phases phase refused)
+-- what a script says where phases stop in the one of that number: the line is refused by it, unless memory or the watcher failed
+abbrev pub IsStopAt : ℕ → Stopped PhaseRefused Error → Stop → Type 0
+IsStopAt phase (HasFailed error) stop = is_failure stop ≡ true
+IsStopAt phase (IsRefused OutOfMemory) stop = is_failure stop ≡ true
+IsStopAt phase (IsRefused refused) stop = stop ≡ Refused (Phases phase refused)
 
 -- a line that is refused has made all phases before the one that it names, and some of that, up to where it could not go on
 abbrev pub StopsInPhase : {V : Type 0} → (V → Told → V → Type 0) → (V → Told → V → Type 0) → LabValue × V → Stop → LabValue × V → Type 0

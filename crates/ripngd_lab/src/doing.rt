@@ -12,6 +12,7 @@ use ripng_phases::PhaseRefused;
 use ripng_world::{Event, Lab, Round, Stopped};
 use route_table::{Moment, TrieRoutes};
 use std::alloc::{AllocError, Global};
+use std::io;
 
 /// An event happens.
 ///
@@ -89,17 +90,17 @@ pub fn run_phases<V: Watch, R: Rng>(
     let (phase, outcome) = ripng_phases::run_phases(alloc, lab, phases, rng, watch);
     match outcome {
         Ok(()) => Ok(()),
-        Err(Stopped::Refused(refused)) => Err(stop_at(phase, refused)),
-        Err(Stopped::Failed(error)) => Err(Stop::Failed(error)),
+        Err(why) => Err(stop_at(phase, why)),
     }
 }
 
 /// What a script says where phases stop in the one of that number.
-fn stop_at(phase: usize, refused: PhaseRefused) -> Stop
-    ensures { IsStopAt phase refused result }
+fn stop_at(phase: usize, why: Stopped<PhaseRefused, io::Error>) -> Stop
+    ensures { IsStopAt phase why result }
 {
-    match refused {
-        PhaseRefused::OutOfMemory => Stop::from(AllocError),
-        _ => Stop::Refused(Refusal::Phases { phase, refused }),
+    match why {
+        Stopped::Refused(PhaseRefused::OutOfMemory) => Stop::Failed(io::Error::from(AllocError)),
+        Stopped::Refused(refused) => Stop::Refused(Refusal::Phases { phase, refused }),
+        Stopped::Failed(error) => Stop::Failed(error),
     }
 }

@@ -2,7 +2,7 @@
 //! `rounds`, `tell` and `hear` would do, and nothing that a line says of one datagram or of one router; what is lost comes to
 //! nobody.
 
-ghost use Rattle.std.specs.Prelude.{◌≡◌, ◌++◌, ◌∷◌, [], ⊥, false, true, IsFalse, IsTrue, OnErr, OnOk};
+ghost use Rattle.std.specs.Prelude.{◌≡◌, ◌++◌, ◌∷◌, [], false, true, IsFalse, IsTrue, OnErr, OnOk};
 ghost use Rattle.ripng_world.specs.Events.{event_of};
 ghost use Rattle.ripngd_lab.specs.Losing.{brings_lost, is_lost};
 ghost use Rattle.ripngd_lab.specs.Phasing.{AllTakePart};
