@@ -1,5 +1,6 @@
 //! Outages: routers that are silent, links that are cut, and datagrams that are lost. The first two hold back what `round`,
-//! `rounds`, `tell` and `hear` would do, and nothing that a line says of one datagram or of one router; what is lost comes to
+//! `rounds`, `tell` and `hear` would do, let no `phases` be, and hold back nothing that a line says of one datagram or of one
+//! router; what is lost comes to
 //! nobody.
 
 ghost use Rattle.std.specs.Prelude.{◌≡◌, ◌++◌, ◌∷◌, [], false, true, IsFalse, IsTrue, OnErr, OnOk};
