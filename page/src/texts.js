@@ -28,6 +28,8 @@ const REASONS = new Map(Object.entries({
   AddressTwice: 'two interfaces of the router have one address', BadMtu: 'an MTU is 1,280 to 65,535',
   TooManyPrefixes: 'a router owns at most 1,024 prefixes', PrefixTwice: 'the prefix is owned twice',
   NoRegularUpdate: "the router's regular update is not due",
+  NoUpdateInTime: "the router's regular update is not due before the phase is over",
+  PastLastMoment: 'the phase would begin past the last moment', Outage: 'a router is silent or a link is cut',
 }));
 const reasonOf = name => REASONS.has(name) ? `: ${REASONS.get(name)}` : '';
 
@@ -44,6 +46,7 @@ export const LINES = [
   ['lose N', 'datagram N is lost: it comes to nobody from now on'],
   ['round NOW', 'every router ticks, then all that was sent comes'],
   ['rounds K NOW GAP', 'K rounds, at NOW and each GAP later'],
+  ['phases K SEED', 'K minutes, in each of which every regular update comes; the rest is chance, by the seed'],
   ['cut LINK', 'nothing crosses the link in tell, hear and rounds'],
   ['mend LINK', 'all crosses it again'],
   ['silent R', 'router R takes no part in them'],

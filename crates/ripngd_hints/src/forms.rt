@@ -5,7 +5,7 @@ use std::fmt;
 
 /// The forms of lines, as docs/FORMATS.md has them. A word in capitals is a part, and `..` at the end repeats K. Of forms that a line
 /// leaves at the same word, the first is what it is told of.
-pub const FORMS: [&str; 35] = [
+pub const FORMS: [&str; 36] = [
     "router NAME",
     "router quiet NAME",
     "router quiet",
@@ -28,6 +28,7 @@ pub const FORMS: [&str; 35] = [
     "drop R NOW PREFIX",
     "round NOW",
     "rounds ROUNDS NOW GAP",
+    "phases PHASES SEED",
     "silent R",
     "speaks R",
     "cut LINK",

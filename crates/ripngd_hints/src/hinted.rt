@@ -53,12 +53,13 @@ fn hint_of<'a>(
         Refusal::NameTwice => Ok(Some((ending.line, Hint::NameTwice))),
         Refusal::NoSuchLink => Ok(Some((ending.line, Hint::NoLink))),
         Refusal::DatagramLost => Ok(Some((ending.line, Hint::Lost))),
+        Refusal::Outage => Ok(Some((ending.line, Hint::Outage))),
         Refusal::Network(refused) => {
             let fault = fault_of(alloc, script, refused)?;
             Ok(fault.map(|fault| (fault.line, Hint::Network(fault.meaning))))
         }
         Refusal::Event(error) => Ok(hint_of_event(script, ending, error)),
-        Refusal::Rounds(_) => Ok(None),
+        Refusal::Rounds(_) | Refusal::Phases { .. } => Ok(None),
     }
 }
 

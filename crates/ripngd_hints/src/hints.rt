@@ -42,6 +42,8 @@ pub enum Hint<'a> {
     NoLink,
     /// The datagram is lost.
     Lost,
+    /// A router is silent, or a link is cut.
+    Outage,
     /// So many routers are there.
     Routers(usize),
     /// So many datagrams were sent.
@@ -140,6 +142,10 @@ fn write_place<W: fmt::Write>(hint: Hint<'_>, f: &mut fmt::Formatter<W>) -> fmt:
         Hint::NameTwice => write!(f, "an earlier router has that name"),
         Hint::NoLink => write!(f, "no iface is on that link"),
         Hint::Lost => write!(f, "an earlier line says that this datagram is lost"),
+        Hint::Outage => write!(
+            f,
+            "in phases all take part: a router is silent or a link is cut"
+        ),
         Hint::Routers(count) => write_count(count, "routers", f),
         Hint::Sent(count) => write_count(count, "datagrams that were sent", f),
         Hint::Told(count) => write_count(count, "datagrams of this tick", f),

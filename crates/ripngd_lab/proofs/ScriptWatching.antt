@@ -1,14 +1,21 @@
 -- What a watcher is told, one thing after another.
 use Rattle.std.specs.Prelude.{⊤}
-use Rattle.std.proofs.Common.{◌≡◌, ◌⊎◌, inl, inr, ℕ, List, [], ◌∷◌, ◌++◌, arith, length, Bool, true, false, Option, Some, None, Result, Ok, Err, IsErrAnd, OnErr, refl, ap, sym, subst}
+use Rattle.std.proofs.Common.{◌≡◌, ◌⊎◌, inl, inr, ℕ, List, [], ◌∷◌, ◌++◌, arith, length, Bool, true, false, Option, Some, None, Result, Ok, Err, IsErrAnd, OnErr, OnOk, refl, ap, sym, subst}
 use Rattle.router_core.specs.declared.answer.Answer.{Answer}
 use Rattle.ripng_world.specs.Asked.{Asked}
 use Rattle.ripng_world.specs.Labs.{LabValue, HappensGiving}
 use Rattle.ripng_world.specs.Network.{Network}
 use Rattle.ripng_world.specs.Rounds.{events_of_rounds}
-use Rattle.ripng_world.specs.Watching.{Told, WatchedRun, WatchedUntil, WatchedInPart, AreMadeTold, RoundsToldInPart, any, telling}
+use Rattle.ripng_world.specs.Watching.{Told, WatchedRun, WatchedUntil, WatchedInPart, AreMadeTold, RoundsToldInPart, any, telling, wanting}
 use Rattle.ripng_world.specs.World.{World, Event, Happens}
+use Rattle.ripng_world.specs.declared.watch.Stopped.{Stopped}
+use Rattle.ripng_world.specs.declared.watch.Stopped.TheVariants.{Refused as IsRefused, Failed as HasFailed}
 use Rattle.ripng_world.proofs.Watched.{given_told}
+use Rattle.ripng_phases.specs.Making.{AreMadeInPart, AreMadePhases, TellsSteps}
+use Rattle.ripng_phases.specs.Phases.{Step, steps_of}
+use Rattle.ripng_phases.specs.declared.refused.PhaseRefused.{PhaseRefused}
+use Rattle.ripng_phases.specs.declared.refused.PhaseRefused.TheVariants.{NoUpdateInTime, PastLastMoment, OutOfMemory}
+use Rattle.ripngd_lab.specs.Phasing.{IsStopAt, StopsInPhase}
 use Rattle.ripngd_lab.specs.Asides.{Aside, NextLine, Prints, Broken}
 use Rattle.ripngd_lab.specs.ScriptWatching.{Telling, Starts, Does, Turns, Notes, StartsAt, TellsAll, IsToldOfLab, FailsAtEvent, IsToldUntil, IsToldUnless, HasTold, is_failure, has_failed}
 use Rattle.ripngd_lab.specs.declared.stop.Stop.{Stop}
@@ -222,3 +229,69 @@ module _ {V : Type 0} (st : V → LabValue → ℕ → V → Type 0) (t f : V �
       (until_on (Some lab, v) (Some (record { network = lab.network; world = p.begin.0 }), p.begin.1) (Some (record { network = lab.network; world = lab'.world }), v')
       (run_told lab.network (events_of_rounds p.told.0) lab.world p.begin.0 v p.begin.1 any p.told.2)
       (until_one lab.network p.in_part.events p.begin.0 lab'.world p.begin.1 v' p.in_part.run))
+
+  -- steps of phases
+  pub steps_told : (net : Network) (steps : List Step) (w w' : World) (v v' : V) → TellsSteps t net (w, v) steps (w', v')
+      → IsToldOfLab st t n (Some (record { network = net; world = w }), v) (Some (record { network = net; world = w' }), v')
+  steps_told net [] w w' v v' is = ([], ap (λ (s : World × V). (Some (record { network = net; world = s.0 }), s.1)) is)
+  steps_told net (x ∷ steps) w w' v v' is =
+      let rest = steps_told net steps x.after w' is.0 v' is.5 in (
+        Does x.event x.answer ∷ rest.0,
+        (
+          (Some (record { network = net; world = x.after }), is.0),
+          (record { network = net; world = w }, refl, record { network = net; world = x.after }, refl, refl, is.2, is.4),
+          rest.1,
+        ),
+      )
+
+  pub phases_told : (lab lab' : LabValue) (v v' : V) (count : ℕ) → lab'.network ≡ lab.network → AreMadePhases t lab.network (lab.world, v) count (lab'.world, v')
+      → IsToldOfLab st t n (Some lab, v) (Some lab', v')
+  phases_told lab lab' v v' count same made =
+      subst (λ (net : Network). IsToldOfLab st t n (Some lab, v) (Some (record { network = net; world = lab'.world }), v')) (sym same)
+      (steps_told lab.network (steps_of made.phases) lab.world lab'.world v v' made.told)
+
+  -- phases are refused: all that was done is told
+  pub phases_none : (lab lab' : LabValue) (v v' : V) (count : ℕ) (why : PhaseRefused) → lab'.network ≡ lab.network
+      → AreMadeInPart {F = Error} t f lab.network (lab.world, v) count (IsRefused why) (lab'.world, v') → IsToldOfLab st t n (Some lab, v) (Some lab', v')
+  phases_none lab lab' v v' count why same p =
+      subst (λ (net : Network). IsToldOfLab st t n (Some lab, v) (Some (record { network = net; world = lab'.world }), v')) (sym same)
+      (told_on (Some lab, v) (Some (record { network = lab.network; world = p.before.0 }), p.before.1) (Some (record { network = lab.network; world = lab'.world }), v')
+      (steps_told lab.network (steps_of p.phases ++ p.since) lab.world p.before.0 v p.before.1 p.told)
+      (run_told lab.network p.ends.0 p.before.0 lab'.world p.before.1 v' wanting p.ends.1.1))
+
+  -- the watcher failed in a phase, at its last event
+  pub phases_one : (lab lab' : LabValue) (v v' : V) (count : ℕ) (error : Error) → lab'.network ≡ lab.network
+      → AreMadeInPart t f lab.network (lab.world, v) count (HasFailed error) (lab'.world, v') → IsToldUntil st t f n (Some lab, v) (Some lab', v')
+  phases_one lab lab' v v' count error same p =
+      subst (λ (net : Network). IsToldUntil st t f n (Some lab, v) (Some (record { network = net; world = lab'.world }), v')) (sym same)
+      (until_on (Some lab, v) (Some (record { network = lab.network; world = p.before.0 }), p.before.1) (Some (record { network = lab.network; world = lab'.world }), v')
+      (steps_told lab.network (steps_of p.phases ++ p.since) lab.world p.before.0 v p.before.1 p.told)
+      (until_one lab.network p.ends.0 p.before.0 lab'.world p.before.1 v' (record { done = []; last = p.ends.0; events_are = refl; as_many = p.ends.1.0; before = p.before; run = refl; failed = p.ends.1.1 })))
+
+  -- phases stop: all that was done is told, up to where the watcher failed
+  pub phases_stopped : (lab lab' : LabValue) (v v' : V) (count : ℕ) (why : Stopped PhaseRefused Error) (stop : Stop) → lab'.network ≡ lab.network → IsStopAt count why stop
+      → AreMadeInPart t f lab.network (lab.world, v) count why (lab'.world, v') → HasTold {X = ⊤} (Err stop) st t f n (Some lab, v) (Some lab', v')
+  phases_stopped lab lab' v v' count (IsRefused refused) stop same is made =
+      has_told (Err stop) (Some lab, v) (Some lab', v') (phases_none lab lab' v v' count refused same made)
+  phases_stopped lab lab' v v' count (HasFailed error) stop same is made =
+      subst (λ (b : Bool). IsToldUnless b st t f n (Some lab, v) (Some lab', v')) (sym is) (phases_one lab lab' v v' count error same made)
+
+-- what holds of a result that is there
+pub on_ok : {X E P : Type 0} (r : Result X E) (x : X) → r ≡ Ok x → OnOk r P → P
+on_ok {X} {E} {P} r x is given = subst (λ (q : Result X E). OnOk q P) is given
+
+clash : false ≡ true → ⊥
+clash e = cc
+
+failed : {V : Type 0} (t f : V → Told → V → Type 0) (s s' : LabValue × V) (stop : Stop) → is_failure stop ≡ true → StopsInPhase t f s stop s'
+failed t f s s' (Refused why) is = absurd (clash is)
+failed t f s s' (Unmet unmet) is = absurd (clash is)
+failed t f s s' (Failed error) is = tt
+
+-- what a line says where phases stop
+pub stops_in : {V : Type 0} (t f : V → Told → V → Type 0) (s s' : LabValue × V) (phase : ℕ) (why : Stopped PhaseRefused Error) (stop : Stop) → IsStopAt phase why stop
+    → AreMadeInPart t f s.0.network (s.0.world, s.1) phase why (s'.0.world, s'.1) → StopsInPhase t f s stop s'
+stops_in t f s s' phase (IsRefused (NoUpdateInTime router)) stop is made = subst (λ (k : Stop). StopsInPhase t f s k s') (sym is) made
+stops_in t f s s' phase (IsRefused PastLastMoment) stop is made = subst (λ (k : Stop). StopsInPhase t f s k s') (sym is) made
+stops_in t f s s' phase (IsRefused OutOfMemory) stop is made = failed t f s s' stop is
+stops_in t f s s' phase (HasFailed error) stop is made = failed t f s s' stop is

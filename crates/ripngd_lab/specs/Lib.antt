@@ -1,4 +1,5 @@
 pub mod Asides
 pub mod Expecting
 pub mod Losing
+pub mod Phasing
 pub mod ScriptWatching

@@ -2,6 +2,7 @@
 //! counted from the last one.
 
 use crate::names::Names;
+use crate::phase::end_of_phases;
 use crate::round::moment_after;
 use crate::words::{BadLine, moment, number};
 use route_table::Moment;
@@ -16,6 +17,8 @@ pub struct Context {
     pub last: Option<Moment>,
     /// How many datagrams were sent.
     pub sent: usize,
+    /// The last moment of all routers, if they have started.
+    pub latest: Option<Moment>,
 }
 
 impl Context {
@@ -25,6 +28,7 @@ impl Context {
             names: Names::new(alloc),
             last: None,
             sent: 0,
+            latest: None,
         }
     }
 
@@ -48,6 +52,13 @@ impl Context {
 
     fn moment_after(&self, gap: u64) -> Option<Moment> {
         moment_after(self.last?, gap, 1)
+    }
+
+    /// So many phases pass, if routers have started: the last moment is then that at which they are over.
+    pub fn pass_phases(&mut self, phases: usize) {
+        if let Some(latest) = self.latest {
+            self.last = end_of_phases(latest, phases);
+        }
     }
 
     /// A datagram: its number, or `last`, or `last-K`, the one that was sent so many before it.

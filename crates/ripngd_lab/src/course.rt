@@ -7,6 +7,7 @@ use crate::doing::step;
 use crate::expecting::{Expected, Missed, meet};
 use crate::line::Line;
 use crate::outages::Outages;
+use crate::phase::make_phases;
 use crate::printing::Choice;
 use crate::refusal_name::RefusalName;
 use crate::round::{make_partial_rounds, make_round, make_rounds};
@@ -63,8 +64,41 @@ pub fn run<V: Watch>(
     }
 }
 
-/// A line about many routers or datagrams at once.
+/// A line about many routers or datagrams at once, or about none.
 fn steer<V: Watch>(
+    alloc: Global,
+    lab: &mut Lab<TrieRoutes>,
+    course: &mut Course,
+    line: Line,
+    watch: &mut V,
+) -> Result<(), Stop>
+    ensures { HasTold result V.starts V.takes V.fails V.notes (Some lab.old, watch.old) (Some lab.new, watch.new) }
+{
+    match line {
+        Line::Hear { now, lost } => {
+            let first = course.unheard;
+            course.unheard = lab.sent().len();
+            hear_but(alloc, lab, (first, now), &lost, &course.outages, watch)
+        }
+        Line::Tell {
+            router,
+            now,
+            word,
+            lost,
+        } => {
+            let tick = Event::Tick { router, now, word };
+            let first = lab.sent().len();
+            step(lab, &tick, watch)?;
+            course.unheard = lab.sent().len();
+            hear_but(alloc, lab, (first, now), &lost, &course.outages, watch)
+        }
+        Line::Lose { datagram } => lose(lab, course, datagram, watch),
+        line => advance(alloc, lab, course, line, watch),
+    }
+}
+
+/// A line of rounds or phases, or one that nobody moves at. What rounds and phases sent is passed by.
+fn advance<V: Watch>(
     alloc: Global,
     lab: &mut Lab<TrieRoutes>,
     course: &mut Course,
@@ -84,24 +118,11 @@ fn steer<V: Watch>(
             course.unheard = lab.sent().len();
             Ok(())
         }
-        Line::Hear { now, lost } => {
-            let first = course.unheard;
+        Line::Phases { phases, seed } => {
+            make_phases(alloc, lab, phases, seed, &course.outages, watch)?;
             course.unheard = lab.sent().len();
-            hear_but(alloc, lab, (first, now), &lost, &course.outages, watch)
+            Ok(())
         }
-        Line::Tell {
-            router,
-            now,
-            word,
-            lost,
-        } => {
-            let tick = Event::Tick { router, now, word };
-            let first = lab.sent().len();
-            step(lab, &tick, watch)?;
-            course.unheard = lab.sent().len();
-            hear_but(alloc, lab, (first, now), &lost, &course.outages, watch)
-        }
-        Line::Lose { datagram } => lose(lab, course, datagram, watch),
         line => settle(lab, course, line),
     }
 }

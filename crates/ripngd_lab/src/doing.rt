@@ -1,12 +1,18 @@
 //! What a lab does, one way or another, while the watcher of a script is told. What routers answer is for the watcher alone.
 
-ghost use Rattle.std.specs.Prelude.{◌≡◌, All, Some, length};
+ghost use Rattle.std.specs.Prelude.{◌≡◌, All, IfErr, OnOk, Some, length};
+ghost use Rattle.ripng_phases.specs.Making.{AreMadePhases, HealsIn};
+ghost use Rattle.ripngd_lab.specs.Phasing.{IsStopAt, StopsInPhase};
 ghost use Rattle.ripngd_lab.specs.ScriptWatching.{HasTold};
 
-use crate::stop::Stop;
+use crate::stop::{Refusal, Stop};
 use crate::watching::Watch;
+use rand_core::Rng;
+use ripng_phases::PhaseRefused;
 use ripng_world::{Event, Lab, Round, Stopped};
 use route_table::{Moment, TrieRoutes};
+use std::alloc::{AllocError, Global};
+use std::io;
 
 /// An event happens.
 ///
@@ -61,5 +67,40 @@ pub fn run_rounds<V: Watch>(
         Ok(()) => Ok(()),
         Err(Stopped::Refused(why)) => Err(Stop::from(why)),
         Err(Stopped::Failed(error)) => Err(Stop::Failed(error)),
+    }
+}
+
+/// Phases are made by chance, and heal as [`ripng_phases::run_phases`] has it.
+///
+/// # Errors
+/// A regular update that is not due in time, a phase past the last moment; want of memory, or of the watcher. What was done
+/// before it stays done.
+pub fn run_phases<V: Watch, R: Rng>(
+    alloc: Global,
+    lab: &mut Lab<TrieRoutes>,
+    phases: usize,
+    rng: &mut R,
+    watch: &mut V,
+) -> Result<(), Stop>
+    ensures told { HasTold result V.starts V.takes V.fails V.notes (Some lab.old, watch.old) (Some lab.new, watch.new) }
+    ensures made { OnOk result (AreMadePhases V.takes lab.old.network (lab.old.world, watch.old) phases (lab.new.world, watch.new)) }
+    ensures heals { OnOk result (HealsIn lab.old.network lab.old.world phases lab.new.world) }
+    ensures stopped { IfErr result (λ stop. StopsInPhase V.takes V.fails (lab.old, watch.old) stop (lab.new, watch.new)) }
+{
+    let (phase, outcome) = ripng_phases::run_phases(alloc, lab, phases, rng, watch);
+    match outcome {
+        Ok(()) => Ok(()),
+        Err(why) => Err(stop_at(phase, why)),
+    }
+}
+
+/// What a script says where phases stop in the one of that number.
+fn stop_at(phase: usize, why: Stopped<PhaseRefused, io::Error>) -> Stop
+    ensures { IsStopAt phase why result }
+{
+    match why {
+        Stopped::Refused(PhaseRefused::OutOfMemory) => Stop::Failed(io::Error::from(AllocError)),
+        Stopped::Refused(refused) => Stop::Refused(Refusal::Phases { phase, refused }),
+        Stopped::Failed(error) => Stop::Failed(error),
     }
 }

@@ -10,6 +10,7 @@ mod line;
 mod names;
 mod outages;
 mod parts;
+mod phase;
 mod printer;
 mod printing;
 mod refusal_name;

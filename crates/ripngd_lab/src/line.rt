@@ -4,6 +4,7 @@ use crate::context::Context;
 use crate::expecting::Expected;
 use crate::foreign::{Foreign, read_foreign, read_request};
 use crate::names::is_name;
+use crate::phase::phase_count;
 use crate::printing::Choice;
 use crate::refusal_name::{RefusalName, refusal_name};
 use crate::round::moments_from;
@@ -68,6 +69,11 @@ pub enum Line {
     Rounds {
         moments: Vec<Moment>,
     },
+    /// `phases K SEED`: so many phases by chance, whose generator starts from that seed.
+    Phases {
+        phases: usize,
+        seed: u64,
+    },
     /// `silent R` and `speaks R`: whether a router takes part in rounds, and in what is told and heard.
     Silence {
         router: usize,
@@ -121,10 +127,11 @@ pub fn read_line(alloc: Global, text: &str, context: &mut Context) -> Result<Lin
     }
 }
 
-/// A line about many datagrams or rounds, or a plain one.
+/// A line about many datagrams, rounds or phases, or a plain one.
 fn read_many(alloc: Global, words: &[&str], context: &mut Context) -> Result<Line, Stop> {
     match words {
         ["rounds", count, now, gap] => read_rounds(alloc, count, now, gap, context),
+        ["phases", count, seed] => Ok(read_phases(count, seed, context)?),
         ["tell", router, now, word, lost @ ..] => Ok(Line::Tell {
             router: context.router(router)?,
             now: context.moment(now)?,
@@ -153,6 +160,14 @@ fn read_rounds(
         context.last = Some(*last);
     }
     Ok(Line::Rounds { moments })
+}
+
+/// `K SEED`. The last moment is then that at which the last phase is over, or the last that there is.
+fn read_phases(count: &str, seed: &str, context: &mut Context) -> Result<Line, BadLine> {
+    let phases = phase_count(count)?;
+    let seed = number(seed)?;
+    context.pass_phases(phases);
+    Ok(Line::Phases { phases, seed })
 }
 
 /// Nothing, or `but N ..`.

@@ -1,10 +1,12 @@
 //! Outages: routers that are silent, links that are cut, and datagrams that are lost. The first two hold back what `round`,
-//! `rounds`, `tell` and `hear` would do, and nothing that a line says of one datagram or of one router; what is lost comes to
+//! `rounds`, `tell` and `hear` would do, let no `phases` be, and hold back nothing that a line says of one datagram or of one
+//! router; what is lost comes to
 //! nobody.
 
-ghost use Rattle.std.specs.Prelude.{◌≡◌, ◌++◌, ◌∷◌, [], false, true, OnErr, OnOk};
+ghost use Rattle.std.specs.Prelude.{◌≡◌, ◌++◌, ◌∷◌, [], false, true, IsFalse, IsTrue, OnErr, OnOk};
 ghost use Rattle.ripng_world.specs.Events.{event_of};
 ghost use Rattle.ripngd_lab.specs.Losing.{brings_lost, is_lost};
+ghost use Rattle.ripngd_lab.specs.Phasing.{AllTakePart};
 
 use crate::stop::Refusal;
 use ripng_world::Event;
@@ -32,7 +34,10 @@ impl Outages {
     }
 
     /// Whether all routers and links take part.
-    pub fn are_none(&self) -> bool {
+    pub fn are_none(&self) -> bool
+        ensures none { IsTrue result → AllTakePart self.now }
+        ensures some { IsFalse result → AllTakePart self.now → ⊥ }
+    {
         self.silent.is_empty() && self.cut.is_empty()
     }
 

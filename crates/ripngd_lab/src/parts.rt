@@ -1,6 +1,7 @@
 //! Parts of a line, by the names that its form has for them: which words may stand for each.
 
 use crate::names::is_name;
+use crate::phase::phase_count;
 use crate::refusal_name::refusal_name;
 use crate::round::ROUNDS_LIMIT;
 use crate::words::{addr, count, metric, moment, number, prefix};
@@ -29,6 +30,8 @@ pub enum Part {
     Random,
     Rounds,
     Gap,
+    Phases,
+    Seed,
     Metric,
     Refusal,
     Text,
@@ -59,6 +62,8 @@ impl Part {
             "WORD" => Part::Random,
             "ROUNDS" => Part::Rounds,
             "GAP" => Part::Gap,
+            "PHASES" => Part::Phases,
+            "SEED" => Part::Seed,
             "METRIC" => Part::Metric,
             "REFUSAL" => Part::Refusal,
             "TEXT" => Part::Text,
@@ -91,6 +96,8 @@ impl Part {
             Part::Random => "a number from 0 to 4294967295",
             Part::Rounds => "how many rounds: a number from 1 to 1000",
             Part::Gap => "a number of milliseconds, so few that the last round is not past 2^60",
+            Part::Phases => "how many phases: a number from 1 to 1000",
+            Part::Seed => "a number from 0 to 18446744073709551615",
             Part::Metric => "a number from 1 to 16, or none",
             Part::Refusal => "the name of a refusal, like NotOwned, or BadLine",
             Part::Text => "the text to print",
@@ -106,7 +113,7 @@ impl Part {
             Part::Link | Part::Tag | Part::Port => number::<u16>(word).is_ok(),
             Part::Mtu | Part::Random => number::<u32>(word).is_ok(),
             Part::Place | Part::Iface => number::<usize>(word).is_ok(),
-            Part::Gap => number::<u64>(word).is_ok(),
+            Part::Gap | Part::Seed => number::<u64>(word).is_ok(),
             Part::Times => count(word).is_ok(),
             Part::Prefix => prefix(word).is_ok(),
             Part::Metric => metric(word).is_ok(),
@@ -126,6 +133,7 @@ impl Part {
             Part::Asked => word == "all" || prefix(word).is_ok(),
             Part::Bytes => word == "-" || are_pairs_of_digits(word.as_bytes()),
             Part::Rounds => is_count_of_rounds(word),
+            Part::Phases => phase_count(word).is_ok(),
             _ => false,
         }
     }

@@ -6,6 +6,7 @@ pub enum RefusalName {
     BadLine,
     NoSuchLink,
     DatagramLost,
+    Outage,
     NoSuchRouter,
     NoSuchInterface,
     NoSuchDatagram,
@@ -13,6 +14,8 @@ pub enum RefusalName {
     NotAStranger,
     ReconfigureRefused,
     NoRegularUpdate,
+    NoUpdateInTime,
+    PastLastMoment,
     BadCost,
     PrefixNotAllowed,
     AlreadyOwned,
@@ -22,10 +25,11 @@ pub enum RefusalName {
 }
 
 /// All of them.
-const NAMES: [RefusalName; 16] = [
+const NAMES: [RefusalName; 19] = [
     RefusalName::BadLine,
     RefusalName::NoSuchLink,
     RefusalName::DatagramLost,
+    RefusalName::Outage,
     RefusalName::NoSuchRouter,
     RefusalName::NoSuchInterface,
     RefusalName::NoSuchDatagram,
@@ -33,6 +37,8 @@ const NAMES: [RefusalName; 16] = [
     RefusalName::NotAStranger,
     RefusalName::ReconfigureRefused,
     RefusalName::NoRegularUpdate,
+    RefusalName::NoUpdateInTime,
+    RefusalName::PastLastMoment,
     RefusalName::BadCost,
     RefusalName::PrefixNotAllowed,
     RefusalName::AlreadyOwned,
@@ -48,6 +54,7 @@ impl RefusalName {
             RefusalName::BadLine => "BadLine",
             RefusalName::NoSuchLink => "NoSuchLink",
             RefusalName::DatagramLost => "DatagramLost",
+            RefusalName::Outage => "Outage",
             RefusalName::NoSuchRouter => "NoSuchRouter",
             RefusalName::NoSuchInterface => "NoSuchInterface",
             RefusalName::NoSuchDatagram => "NoSuchDatagram",
@@ -55,6 +62,8 @@ impl RefusalName {
             RefusalName::NotAStranger => "NotAStranger",
             RefusalName::ReconfigureRefused => "ReconfigureRefused",
             RefusalName::NoRegularUpdate => "NoRegularUpdate",
+            RefusalName::NoUpdateInTime => "NoUpdateInTime",
+            RefusalName::PastLastMoment => "PastLastMoment",
             RefusalName::BadCost => "BadCost",
             RefusalName::PrefixNotAllowed => "PrefixNotAllowed",
             RefusalName::AlreadyOwned => "AlreadyOwned",

@@ -7,6 +7,7 @@ ghost use Rattle.ripngd_lab.specs.ScriptWatching.{HasTold, StartsAt, has_failed,
 use crate::context::Context;
 use crate::course::{Course, run};
 use crate::line::{Line, read_line};
+use crate::phase::latest_moment;
 use crate::refusal_name::RefusalName;
 use crate::stop::Stop;
 use crate::watching::Watch;
@@ -56,6 +57,7 @@ impl Session {
     {
         if let Stage::Running(lab) = &self.stage {
             self.context.sent = lab.sent().len();
+            self.context.latest = latest_moment(lab);
         }
         read_line(alloc, words, &mut self.context)
     }

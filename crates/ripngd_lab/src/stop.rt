@@ -3,6 +3,7 @@
 use crate::expecting::Expected;
 use crate::refusal_name::RefusalName;
 use crate::words::BadLine;
+use ripng_phases::PhaseRefused;
 use ripng_world::{LabError, NetRefused, RoundsRefused};
 use std::alloc::{AllocError, AllocFailed};
 use std::{fmt, io};
@@ -18,12 +19,16 @@ pub enum Refusal {
     NoSuchLink,
     /// The datagram is lost.
     DatagramLost,
+    /// Phases are asked for while a router is silent or a link is cut.
+    Outage,
     /// The routers make no network.
     Network(NetRefused),
     /// The event cannot happen.
     Event(LabError),
     /// The rounds cannot go on.
     Rounds(RoundsRefused),
+    /// The phases cannot go on from the one of that number, counted from 0.
+    Phases { phase: usize, refused: PhaseRefused },
 }
 
 /// What is not as a line expects. Its text is what is printed after `line L `.
@@ -101,9 +106,11 @@ impl Refusal {
             Refusal::NameTwice => name == "NameTwice",
             Refusal::NoSuchLink => name == "NoSuchLink",
             Refusal::DatagramLost => name == "DatagramLost",
+            Refusal::Outage => name == "Outage",
             Refusal::Network(refused) => refused.name() == name,
             Refusal::Event(error) => error.name() == name || is_reason(*error, name),
             Refusal::Rounds(refused) => refused.name() == name,
+            Refusal::Phases { refused, .. } => refused.name() == name,
         }
     }
 }
@@ -185,9 +192,11 @@ impl fmt::Display for Refusal {
             Refusal::NameTwice => write!(f, "NameTwice"),
             Refusal::NoSuchLink => write!(f, "NoSuchLink"),
             Refusal::DatagramLost => write!(f, "DatagramLost"),
+            Refusal::Outage => write!(f, "Outage"),
             Refusal::Network(refused) => write_network(*refused, f),
             Refusal::Event(error) => write_event(*error, f),
             Refusal::Rounds(refused) => write_rounds(*refused, f),
+            Refusal::Phases { phase, refused } => write_phases(*phase, *refused, f),
         }
     }
 }
@@ -207,6 +216,19 @@ fn write_rounds<W: fmt::Write>(refused: RoundsRefused, f: &mut fmt::Formatter<W>
     match refused {
         RoundsRefused::NoRegularUpdate { round, router } => write!(f, " {round} {router}"),
         RoundsRefused::OutOfMemory { round } => write!(f, " {round}"),
+    }
+}
+
+/// Phases stop in one of them, and if for a regular update, at which router.
+fn write_phases<W: fmt::Write>(
+    phase: usize,
+    refused: PhaseRefused,
+    f: &mut fmt::Formatter<W>,
+) -> fmt::Result {
+    write!(f, "{} {} {phase}", refused.number(), refused.name())?;
+    match refused {
+        PhaseRefused::NoUpdateInTime { router } => write!(f, " {router}"),
+        PhaseRefused::PastLastMoment | PhaseRefused::OutOfMemory => Ok(()),
     }
 }
 

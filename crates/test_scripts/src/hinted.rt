@@ -7,7 +7,7 @@ use std::str;
 use std::test::Fail;
 
 /// Scripts whose last line is malformed, and what it should have been.
-const MALFORMED: [(&str, &str); 31] = [
+const MALFORMED: [(&str, &str); 34] = [
     (
         "router\niface fe80::1 1 65k 0",
         "line 2: word 3 of iface: MTU is a number from 1280 to 65535",
@@ -90,6 +90,18 @@ const MALFORMED: [(&str, &str); 31] = [
         "line 1: word 1 of rounds: ROUNDS is how many rounds: a number from 1 to 1000",
     ),
     (
+        "phases 1001 7",
+        "line 1: word 1 of phases: PHASES is how many phases: a number from 1 to 1000",
+    ),
+    (
+        "phases 28",
+        "line 1: word 2 of phases is wanting: SEED is a number from 0 to 18446744073709551615",
+    ),
+    (
+        "phase 28 7",
+        "line 1: no line begins with phase: is it phases?",
+    ),
+    (
         "stranger 0 0 0 fe80::9 521 255 all 0201",
         "line 1: word 7 of stranger: TO is group, or peer",
     ),
@@ -120,7 +132,7 @@ const MALFORMED: [(&str, &str); 31] = [
 ];
 
 /// Scripts whose last line is right but for where it stands, or what it counts.
-const MISPLACED: [(&str, &str); 17] = [
+const MISPLACED: [(&str, &str); 20] = [
     ("tick 0 0 0", "line 1: tick stands behind cold"),
     ("say  any text", "line 1: say stands behind cold"),
     ("hear", "line 1: hear stands behind cold"),
@@ -174,6 +186,15 @@ const MISPLACED: [(&str, &str); 17] = [
         "line 6: there are 2 routers, from 0 to 1",
     ),
     ("cold 0\nsilent 0", "line 2: there are no routers"),
+    ("phases 28 7", "line 1: phases stands behind cold"),
+    (
+        "router\niface fe80::1 1 1500 0\ncold 0\ncut 0\nphases 28 7",
+        "line 5: in phases all take part: a router is silent or a link is cut",
+    ),
+    (
+        "router\niface fe80::1 1 1500 0\ncold 0\nsilent 0\nphases 28 7",
+        "line 5: in phases all take part: a router is silent or a link is cut",
+    ),
 ];
 
 /// Scripts with a line that names a datagram that is not there, and how many are.

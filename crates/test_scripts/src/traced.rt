@@ -2,6 +2,7 @@
 
 mod examples;
 mod lines;
+mod phases;
 
 use ripngd_trace::trace;
 use std::alloc::Global;

@@ -178,6 +178,43 @@ tick 1 15000 0
 deliver 8 0 0 15000
 print
 </div>
+<div data-name="phases.lab"># A network heals with no rounds. It is that of healing.lab, a square whose link between routers 0 and 3 is dear, and the same is
+# lost and changed. Then 28 minutes pass. In each, every router makes a regular update that reaches its neighbors; when a router
+# ticks, which datagrams come late and which others are lost is left to chance, by the seed 7. A walk costs 1, and for each hop the
+# cost of the interface that receives.
+router
+iface fe80::a0 1 1280 0
+iface fe80::a1 9 1280 3
+own 2001:db8::/32 0
+router
+iface fe80::b0 1 1280 0
+iface fe80::b1 1 1280 1
+router
+iface fe80::c0 1 1280 1
+iface fe80::c1 1 1280 2
+router
+iface fe80::d0 1 1280 2
+iface fe80::d1 9 1280 3
+cold 0
+# All goes well for three rounds: each router has the walk to router 0 the cheap way around.
+rounds 3 0 15000
+# The prefix moves from router 0 to router 2, and the link between routers 0 and 1 costs 5 from now on. Routers 0 and 2 tell
+# it, and all of that is lost.
+drop 0 31000 2001:db8::/32
+gain 2 31000 2001:db8::/32 1
+cost 0 0 31000 5
+cost 1 0 31000 5
+tick 0 31000 0
+tick 2 31000 0
+# Router 3 knows of nothing, and tells its old route to router 0 over the dear link: 4 + 9 = 13. So the old owner believes in a
+# walk to itself, with the old tag.
+tell 3 45000 0 but 0
+print
+# The walks to router 2 cost 2 from its neighbors, and from router 0 by way of router 1 1 + 1 + 5 = 7; over the dear link it would
+# be 1 + 1 + 9 = 11. 28 phases leave each table with these, whatever the seed.
+phases 28 7
+print
+</div>
 <div data-name="rounds.lab"># Rounds from a cold start: in each, every router tells all that it has, and all of it arrives. After k rounds every router
 # has exactly the least cost over walks of at most k hops to the owner, router 0. A walk costs 1, and for each hop the cost
 # of the interface that receives; the link between routers 0 and 3 costs 12.

@@ -30,10 +30,10 @@ const OWNERS: [Owner; 3] = [
 ];
 
 /// A network up to its cold start, and its interfaces.
-type Network = (Vec<u8>, Vec<Port>);
+pub type Network = (Vec<u8>, Vec<Port>);
 
 /// The first so many routers, where each interface has one of four links and a cost of 1 to 6, by words.
-fn network(alloc: Global, routers: usize, words: &[usize]) -> Result<Network, Fail> {
+pub fn network(alloc: Global, routers: usize, words: &[usize]) -> Result<Network, Fail> {
     let mut script = Vec::new(alloc);
     let mut ports = Vec::new(alloc);
     for ((router, iface, addr), word) in PLACES.iter().zip(words) {

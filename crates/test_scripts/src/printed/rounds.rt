@@ -175,8 +175,20 @@ pub fn find_least(
     owners: &[Owner],
     rounds: usize,
 ) -> Result<bool, Fail> {
+    let lines = format!(in alloc; "{start}rounds {rounds} 0 15000")?;
+    leave_least(alloc, &lines, ports, owners, rounds)
+}
+
+/// Whether lines leave exactly the least costs of walks with so many hops, for each router and owned prefix.
+pub fn leave_least(
+    alloc: Global,
+    lines: &str,
+    ports: &[Port],
+    owners: &[Owner],
+    hops: usize,
+) -> Result<bool, Fail> {
     let mut script = Vec::new(alloc);
-    writeln!(&mut script, "{start}rounds {rounds} 0 15000\nprint")?;
+    writeln!(&mut script, "{lines}\nprint")?;
     let mut out = Vec::new(alloc);
     let mut same = lab(alloc, script.as_slice(), &mut out)?;
     let prints = str::from_utf8(out.as_slice())?;
@@ -184,7 +196,7 @@ pub fn find_least(
         for owner in owners {
             let from = (router, owner.1);
             let found = printed(alloc, prints, from)?;
-            same = same && found == least_cost(alloc, ports, owners, from, rounds)?;
+            same = same && found == least_cost(alloc, ports, owners, from, hops)?;
         }
     }
     Ok(same)

@@ -4,7 +4,7 @@ use super::{TWO, traced};
 use std::test::Fail;
 
 /// Lines behind the six that start two routers, with what the last of them writes.
-const LINES: [(&str, &str); 27] = [
+const LINES: [(&str, &str); 30] = [
     // The word sets the regular update: 10 + 15,000 + 30,007 mod 30,001.
     (
         "tick 0 10 30007",
@@ -191,6 +191,18 @@ deliver 1 1 0 31",
     (
         "rounds 2 10 14999",
         "{\"line\":7,\"record\":\"refused\",\"why\":\"41 NoRegularUpdate 1 0\"}",
+    ),
+    (
+        "tick 0 1152921504606846976 0\nphases 1 0",
+        "{\"line\":8,\"record\":\"refused\",\"why\":\"43 NoUpdateInTime 0 0\"}",
+    ),
+    (
+        "tick 1 1152921504606846976 0\nphases 2 0",
+        "{\"line\":8,\"record\":\"refused\",\"why\":\"43 NoUpdateInTime 0 1\"}",
+    ),
+    (
+        "silent 0\nphases 1 0",
+        "{\"line\":8,\"record\":\"refused\",\"why\":\"Outage\"}",
     ),
     (
         "expect 1 2001:db8::/32 5",

@@ -1,11 +1,7 @@
 use Rattle.std.proofs.Common.{Some}
-use Rattle.ripngd_lab.proofs.ScriptWatching.{untold, has_told, has_told_on}
+use Rattle.ripngd_lab.proofs.ScriptWatching.{has_told_on}
 use Rattle.ripngd_lab.proofs.course.steer.Goals as goal
 
 pub returns-in_ok-step-in-Tell : goal.returns-in_ok-step-in-Tell
 returns-in_ok-step-in-Tell g c =
     has_told_on g.V.Watch-1.starts g.V.Watch-2.takes g.V.Watch-2.fails g.V.Watch-1.notes c.hear_but-in-Tell.result (Some c.args.lab.now, c.args.watch.now) (Some c.step.new.lab, c.step.new.watch) (Some c.hear_but-in-Tell.new.lab, c.hear_but-in-Tell.new.watch) c.in_ok-step-in-Tell.ensures c.hear_but-in-Tell.ensures
-
-pub returns-in_default : goal.returns-in_default
-returns-in_default g c =
-    has_told g.V.Watch-1.starts g.V.Watch-2.takes g.V.Watch-2.fails g.V.Watch-1.notes c.settle.result (Some c.args.lab.now, c.args.watch.now) (Some c.args.lab.now, c.args.watch.now) (untold g.V.Watch-1.starts g.V.Watch-2.takes g.V.Watch-2.fails g.V.Watch-1.notes (Some c.args.lab.now, c.args.watch.now))

@@ -1,0 +1,35 @@
+-- Phases of a script: when all takes part in them, and why they stop.
+use Rattle.std.specs.Prelude.{◌≡◌, ◌⊎◌, ℕ, ⊤, true, []}
+use Rattle.std.specs.declared.io.Error.{Error}
+use Rattle.ripng_world.specs.Labs.{LabValue}
+use Rattle.ripng_world.specs.Watching.{Told}
+use Rattle.ripng_world.specs.declared.watch.Stopped.{Stopped}
+use Rattle.ripng_world.specs.declared.watch.Stopped.TheVariants.{Refused as IsRefused, Failed as HasFailed}
+use Rattle.ripng_phases.specs.Making.{AreMadeInPart}
+use Rattle.ripng_phases.specs.declared.refused.PhaseRefused.{PhaseRefused}
+use Rattle.ripng_phases.specs.declared.refused.PhaseRefused.TheVariants.{OutOfMemory}
+use Rattle.ripngd_lab.specs.ScriptWatching.{is_failure}
+use Rattle.ripngd_lab.specs.declared.outages.Outages.{Outages}
+use Rattle.ripngd_lab.specs.declared.stop.Refusal.TheVariants.{Outage, Phases}
+use Rattle.ripngd_lab.specs.declared.stop.Stop.{Stop}
+use Rattle.ripngd_lab.specs.declared.stop.Stop.TheVariants.{Refused, Failed}
+
+-- no router is silent, and no link is cut
+abbrev pub AllTakePart : Outages → Type 0
+AllTakePart outages = (outages.silent.items ≡ []) × (outages.cut.items ≡ [])
+
+-- what a script says where phases stop in the one of that number: the line is refused by it, unless memory or the watcher failed
+abbrev pub IsStopAt : ℕ → Stopped PhaseRefused Error → Stop → Type 0
+IsStopAt phase (HasFailed error) stop = is_failure stop ≡ true
+IsStopAt phase (IsRefused OutOfMemory) stop = is_failure stop ≡ true
+IsStopAt phase (IsRefused refused) stop = stop ≡ Refused (Phases phase refused)
+
+-- a line that is refused has made all phases before the one that it names, and some of that, up to where it could not go on
+abbrev pub StopsInPhase : {V : Type 0} → (V → Told → V → Type 0) → (V → Told → V → Type 0) → LabValue × V → Stop → LabValue × V → Type 0
+StopsInPhase takes fails s (Refused (Phases phase refused)) s' = AreMadeInPart {F = Error} takes fails s.0.network (s.0.world, s.1) phase (IsRefused refused) (s'.0.world, s'.1)
+StopsInPhase takes fails s (Failed error) s' = ⊤
+StopsInPhase takes fails s _ s' = ⊥
+
+-- something takes no part, and nothing was done; or so it is
+abbrev pub StopsPhases : {V : Type 0} → (V → Told → V → Type 0) → (V → Told → V → Type 0) → Outages → LabValue × V → Stop → LabValue × V → Type 0
+StopsPhases takes fails outages s stop s' = ((AllTakePart outages → ⊥) × (stop ≡ Refused Outage) × (s' ≡ s)) ⊎ (AllTakePart outages × StopsInPhase takes fails s stop s')

@@ -1,0 +1,79 @@
+//! Phases: stretches of a minute, by chance, in which all that matters gets through once, with no rounds.
+
+ghost use Rattle.std.specs.Prelude.{IfErr, OnOk, Some};
+ghost use Rattle.ripng_phases.specs.Making.{AreMadePhases, HealsIn};
+ghost use Rattle.ripngd_lab.specs.Phasing.{AllTakePart, StopsPhases};
+ghost use Rattle.ripngd_lab.specs.ScriptWatching.{HasTold};
+
+use crate::doing::run_phases;
+use crate::outages::Outages;
+use crate::round::moment_after;
+use crate::stop::{Refusal, Stop};
+use crate::watching::Watch;
+use crate::words::{BadLine, number};
+use rand_core::SeedableRng;
+use rand_pcg::Pcg32;
+use ripng_world::Lab;
+use route_table::{Moment, TrieRoutes};
+use std::alloc::Global;
+
+/// The most phases of one line.
+const PHASES_LIMIT: usize = 1000;
+
+/// How long a phase takes, in milliseconds.
+const PHASE_MS: u64 = 60_000;
+
+/// The last moment that there is, in milliseconds.
+const LAST_MS: u64 = 1 << 60;
+
+/// How many phases there are: a number from 1 to 1,000.
+pub fn phase_count(word: &str) -> Result<usize, BadLine> {
+    let count: usize = number(word)?;
+    if count == 0 || count > PHASES_LIMIT {
+        return Err(BadLine);
+    }
+    Ok(count)
+}
+
+/// When so many phases are over of which the first begins at a moment, or the last moment that there is.
+pub fn end_of_phases(begin: Moment, phases: usize) -> Option<Moment> {
+    moment_after(begin, PHASE_MS, phases as u64).or(Moment::new(LAST_MS))
+}
+
+/// The last moment of all routers, if there is one.
+pub fn latest_moment(lab: &Lab<TrieRoutes>) -> Option<Moment> {
+    let mut latest = None;
+    for number in 0..lab.routers() {
+        if let Some(router) = lab.router(number) {
+            latest = latest.max(Some(router.last()));
+        }
+    }
+    latest
+}
+
+/// So many phases are made, one after another, by the chance of a generator that starts from a seed. 28 of them leave each table
+/// with the least costs of now, and nothing else below 16 hops, whatever happened before.
+///
+/// # Errors
+/// `Outage` where a router is silent or a link is cut: nothing is then done. A router whose regular update is not due in time, a
+/// phase past the last moment, want of memory, or of the watcher. What was done before it stays done.
+pub fn make_phases<V: Watch>(
+    alloc: Global,
+    lab: &mut Lab<TrieRoutes>,
+    phases: usize,
+    seed: u64,
+    outages: &Outages,
+    watch: &mut V,
+) -> Result<(), Stop>
+    ensures told { HasTold result V.starts V.takes V.fails V.notes (Some lab.old, watch.old) (Some lab.new, watch.new) }
+    ensures all { OnOk result (AllTakePart outages.now) }
+    ensures made { OnOk result (AreMadePhases V.takes lab.old.network (lab.old.world, watch.old) phases (lab.new.world, watch.new)) }
+    ensures heals { OnOk result (HealsIn lab.old.network lab.old.world phases lab.new.world) }
+    ensures stopped { IfErr result (λ stop. StopsPhases V.takes V.fails outages.now (lab.old, watch.old) stop (lab.new, watch.new)) }
+{
+    if !outages.are_none() {
+        return Err(Stop::Refused(Refusal::Outage));
+    }
+    let mut rng = Pcg32::seed_from_u64(seed);
+    run_phases(alloc, lab, phases, &mut rng, watch)
+}
