@@ -5,6 +5,10 @@
 #[cfg(test)]
 mod films;
 #[cfg(test)]
+mod played;
+#[cfg(test)]
 mod requests;
+#[cfg(test)]
+mod serving;
 #[cfg(test)]
 mod sockets;
