@@ -63,6 +63,8 @@ pub struct Stage {
     /// How many connections were taken.
     taken: Cell<usize>,
     now_ms: Cell<u64>,
+    /// How often the clock can still be read.
+    pub readings: Cell<u32>,
     deeds: RefCell<Vec<Deed>>,
     /// What was written, by connection.
     told: RefCell<Vec<(usize, u8)>>,
@@ -76,6 +78,7 @@ impl Stage {
             given: Cell::new(0),
             taken: Cell::new(0),
             now_ms: Cell::new(0),
+            readings: Cell::new(u32::MAX),
             deeds: RefCell::new(Vec::new(alloc)),
             told: RefCell::new(Vec::new(alloc)),
         })
@@ -169,6 +172,11 @@ impl<'a> Alloc for Played<'a> {
 
 impl<'a> Clock for Played<'a> {
     fn monotonic(&self) -> io::Result<Duration> {
+        let left = self.stage.readings.get();
+        if left == 0 {
+            return Err(io::Error::from(ErrorKind::Other));
+        }
+        self.stage.readings.set(left.saturating_sub(1));
         Ok(Duration::from_millis(self.stage.now_ms.get()))
     }
 
