@@ -3,6 +3,7 @@
 
 use ripngd_config::read_config;
 use std::alloc::{AllocError, Global};
+use std::process::Abort;
 use std::test::Fail;
 
 /// A fault of a key: a line of a table that has it, or no line, where the key is missed; and what `check` says of it.
@@ -83,7 +84,8 @@ fn table_of(
 
 /// That of any two of the faults of a table the first is named, and each where it is alone.
 fn expect_first_of_each_pair(
-    rt: &HostRuntime,
+    rt: &impl Abort,
+    alloc: Global,
     head: &str,
     faults: &[KeyFault],
     needs: &[(&str, &str)],
@@ -91,8 +93,8 @@ fn expect_first_of_each_pair(
     for (index, first) in faults.iter().enumerate() {
         let none = ("# no more", "");
         for second in faults.iter().skip(index.saturating_add(1)).chain(&[none]) {
-            let text = table_of(rt.alloc(), head, (first.0, second.0), needs)?;
-            let given = refusal(rt.alloc(), text.as_str())?;
+            let text = table_of(alloc, head, (first.0, second.0), needs)?;
+            let given = refusal(alloc, text.as_str())?;
             assert_eq!(rt; given.as_str(), first.1, "of {text}");
         }
     }
@@ -101,23 +103,23 @@ fn expect_first_of_each_pair(
 
 #[test]
 fn the_first_faulty_key_of_the_top_is_named(rt: HostRuntime) -> Result<(), Fail> {
-    expect_first_of_each_pair(&rt, "", &TOP_FAULTS, &[])
+    expect_first_of_each_pair(&rt, rt.alloc(), "", &TOP_FAULTS, &[])
 }
 
 #[test]
 fn the_first_faulty_key_of_an_interface_is_named(rt: HostRuntime) -> Result<(), Fail> {
-    expect_first_of_each_pair(&rt, "[[interface]]\n", &INTERFACE_FAULTS, &INTERFACE_NEEDS)
+    expect_first_of_each_pair(&rt, rt.alloc(), "[[interface]]\n", &INTERFACE_FAULTS, &INTERFACE_NEEDS)
 }
 
 #[test]
 fn the_first_faulty_key_of_a_peer_is_named(rt: HostRuntime) -> Result<(), Fail> {
     let head = "[[interface]]\naddress = 'fe80::1'\ncost = 1\nlocal_port = 5211\n[[interface.peer]]\n";
-    expect_first_of_each_pair(&rt, head, &PEER_FAULTS, &PEER_NEEDS)
+    expect_first_of_each_pair(&rt, rt.alloc(), head, &PEER_FAULTS, &PEER_NEEDS)
 }
 
 #[test]
 fn the_first_faulty_key_of_a_prefix_is_named(rt: HostRuntime) -> Result<(), Fail> {
-    expect_first_of_each_pair(&rt, "[[prefix]]\n", &PREFIX_FAULTS, &PREFIX_NEEDS)
+    expect_first_of_each_pair(&rt, rt.alloc(), "[[prefix]]\n", &PREFIX_FAULTS, &PREFIX_NEEDS)
 }
 
 /// A required key that is missed comes at its place in the list, not behind those that are there.
