@@ -1,7 +1,7 @@
 //! Which stream each line goes to, and in which order; and a router of two interfaces with two peers each, of which every one has
 //! its own port, its own address and its own words.
 
-use crate::running::{free_port, outcome};
+use crate::running::{config_text, free_port, outcome};
 use ripngd::program;
 use std::alloc::Global;
 use std::io::{self, ErrorKind, Write};
@@ -11,9 +11,8 @@ use std::test::Fail;
 use std::time::Duration;
 
 /// Files, each with what it holds.
-const FILES: [(&str, &str); 6] = [
-    ("said.lab", "say hello\n"),
-    ("unsaid.lab", "say hello\nnone\n"),
+const FILES: [(&str, &str); 5] = [
+    ("said.lab", "cold 0\nsay hello\n"),
     ("said.log", "add 2001:db8::/32 metric 1 direct\n"),
     ("unsaid.log", "none\n"),
     (
@@ -75,10 +74,10 @@ fn each_line_goes_to_one_stream(rt: HostRuntime) -> Result<(), Fail> {
 
 #[test]
 fn a_refused_script_says_so_on_both_streams(rt: HostRuntime) -> Result<(), Fail> {
-    std::fs::write(&rt, "both.lab", "say hello\nnone\n")?;
+    std::fs::write(&rt, "both.lab", "cold 0\nsay hello\nnone\n")?;
     let (status, out, err) = outcome(&rt, &["ripngd", "lab", "both.lab"])?;
-    assert!(rt; status == 1 && out.as_slice() == b"hello\nline 2 refused BadLine\n".as_slice());
-    assert!(rt; err.as_slice().starts_with(b"ripngd: line 2: "));
+    assert!(rt; status == 1 && out.as_slice() == b"hello\nline 3 refused BadLine\n".as_slice());
+    assert!(rt; err.as_slice().starts_with(b"ripngd: line 3: "));
     let (status, out, err) = outcome(&rt, &["ripngd", "page", "--film", "both.lab"])?;
     assert!(rt; status == 1 && err.is_empty());
     assert!(rt; out.as_slice().ends_with(b"</html>\n"));
@@ -125,16 +124,16 @@ fn alone<N: Net>(net: &N, alloc: Global) -> Result<String, Fail> {
 fn what_failed_stands_behind_the_counts_and_what_was_lost_last(
     rt: HostRuntime,
 ) -> Result<(), Fail> {
-    std::fs::write(&rt, "last.toml", alone(&rt, rt.alloc())?.as_str())?;
+    let ports = ((1, free_port(&rt)?), (2, free_port(&rt)?));
+    let text = config_text(rt.alloc(), "2001:db8::/32", ports.0, ports.1)?;
+    std::fs::write(&rt, "last.toml", text.as_str())?;
     let words = ["ripngd", "run", "-d", "--turns", "1", "-R", "/dev/full", "last.toml"];
     let mut err = Vec::new(rt.alloc());
     assert_eq!(rt; program(&rt, &words, &mut Full, &mut err), 3);
-    let said = err.as_slice();
-    // The one datagram of the start is not among the counts, and no peer takes it.
-    assert!(rt; said.starts_with(b"ripngd: running, 1 interfaces\narrivals 0 sends "));
-    assert!(rt;
-        said.ends_with(b"\nripngd: cannot write stdout\nripngd: lost sends 2, lost steps 0, log failed\n")
-    );
+    let said = str::from_utf8(err.as_slice())?;
+    assert!(rt; said.starts_with("ripngd: running, 1 interfaces\narrivals 0 sends "), "{said}");
+    let end = "\nripngd: cannot write stdout\nripngd: lost sends 0, lost steps 0, log failed\n";
+    assert!(rt; said.ends_with(end), "{said}");
     Ok(())
 }
 
@@ -199,7 +198,7 @@ fn four_peers(alloc: Global, ports: [u16; 2], peers: &[(UdpSocket, u16)]) -> Res
     let mut text = String::new(alloc);
     for (iface, cost) in [(0_usize, 1), (1, 4)] {
         let own = iface.saturating_add(1);
-        let port = ports[iface];
+        let port = ports[iface % 2];
         text.push_str(format!(in alloc; "[[interface]]\naddress = 'fe80::{own}'\ncost = {cost}\nlocal_port = {port}\n")?.as_str())?;
         for (index, (_, local_port)) in peers.iter().enumerate() {
             if index / 2 == iface {
@@ -262,7 +261,7 @@ fn two_interfaces_have_two_peers_each_and_mix_none_up(rt: HostRuntime) -> Result
     for (index, (socket, _)) in peers.iter().enumerate() {
         let mut buffer = [0; 2_048];
         let (len, from) = socket.recv_from(&mut buffer)?;
-        assert!(rt; buffer[..len] == REQUEST && from.port() == ports[index / 2 % 2]);
+        assert!(rt; &buffer[..len] == REQUEST.as_slice() && from.port() == ports[index / 2 % 2]);
     }
     Ok(())
 }
