@@ -24,10 +24,20 @@ const FILES: [(&str, &str); 5] = [
 
 /// Command lines, each with its status, what standard output holds, and what standard error does.
 const STREAMS: [(&[&str], u8, &str, &str); 12] = [
-    (&["ripngd", "show", "02010000"], 0, "response entries 0\n", ""),
+    (
+        &["ripngd", "show", "02010000"],
+        0,
+        "response entries 0\n",
+        "",
+    ),
     (&["ripngd", "show", "02"], 1, "refused 1 Short\n", ""),
     (&["ripngd", "lab", "said.lab"], 0, "hello\n", ""),
-    (&["ripngd", "lab", "absent.lab"], 3, "", "ripngd: cannot read absent.lab\n"),
+    (
+        &["ripngd", "lab", "absent.lab"],
+        3,
+        "",
+        "ripngd: cannot read absent.lab\n",
+    ),
     (
         &["ripngd", "lab", "--trace", "absent.lab"],
         3,
@@ -40,16 +50,36 @@ const STREAMS: [(&[&str], u8, &str, &str); 12] = [
         "ok interfaces 1 prefixes 0 peers 0\n",
         "",
     ),
-    (&["ripngd", "check", "unsaid.toml"], 1, "refused 4 BadValue seed\n", ""),
-    (&["ripngd", "run", "unsaid.toml"], 1, "refused 4 BadValue seed\n", ""),
-    (&["ripngd", "run", "absent.toml"], 3, "", "ripngd: cannot read absent.toml\n"),
+    (
+        &["ripngd", "check", "unsaid.toml"],
+        1,
+        "refused 4 BadValue seed\n",
+        "",
+    ),
+    (
+        &["ripngd", "run", "unsaid.toml"],
+        1,
+        "refused 4 BadValue seed\n",
+        "",
+    ),
+    (
+        &["ripngd", "run", "absent.toml"],
+        3,
+        "",
+        "ripngd: cannot read absent.toml\n",
+    ),
     (
         &["ripngd", "table", "said.log"],
         0,
         "2001:db8::/32 metric 1 direct\n",
         "",
     ),
-    (&["ripngd", "table", "unsaid.log"], 1, "line 1 refused 1 BadLine\n", ""),
+    (
+        &["ripngd", "table", "unsaid.log"],
+        1,
+        "line 1 refused 1 BadLine\n",
+        "",
+    ),
     (
         &["ripngd", "run", "-R", "said.toml", "said.toml"],
         3,
@@ -127,11 +157,23 @@ fn what_failed_stands_behind_the_counts_and_what_was_lost_last(
     let ports = ((1, free_port(&rt)?), (2, free_port(&rt)?));
     let text = config_text(rt.alloc(), "2001:db8::/32", ports.0, ports.1)?;
     std::fs::write(&rt, "last.toml", text.as_str())?;
-    let words = ["ripngd", "run", "-d", "--turns", "1", "-R", "/dev/full", "last.toml"];
+    let words = [
+        "ripngd",
+        "run",
+        "-d",
+        "--turns",
+        "1",
+        "-R",
+        "/dev/full",
+        "last.toml",
+    ];
     let mut err = Vec::new(rt.alloc());
     assert_eq!(rt; program(&rt, &words, &mut Full, &mut err), 3);
     let said = str::from_utf8(err.as_slice())?;
-    assert!(rt; said.starts_with("ripngd: running, 1 interfaces\narrivals 0 sends "), "{said}");
+    assert!(rt;
+        said.starts_with("ripngd: running, 1 interfaces\narrivals 0 sends "),
+        "{said}"
+    );
     let end = "\nripngd: cannot write stdout\nripngd: lost sends 0, lost steps 0, log failed\n";
     assert!(rt; said.ends_with(end), "{said}");
     Ok(())
@@ -199,11 +241,15 @@ fn four_peers(alloc: Global, ports: [u16; 2], peers: &[(UdpSocket, u16)]) -> Res
     for (iface, cost) in [(0_usize, 1), (1, 4)] {
         let own = iface.saturating_add(1);
         let port = ports[iface % 2];
-        text.push_str(format!(in alloc; "[[interface]]\naddress = 'fe80::{own}'\ncost = {cost}\nlocal_port = {port}\n")?.as_str())?;
+        text.push_str(format!(in alloc;
+            "[[interface]]\naddress = 'fe80::{own}'\ncost = {cost}\nlocal_port = {port}\n"
+        )?.as_str())?;
         for (index, (_, local_port)) in peers.iter().enumerate() {
             if index / 2 == iface {
                 let address = format!(in alloc; "fe80::1{index}")?;
-                text.push_str(format!(in alloc; "[[interface.peer]]\naddress = '{address}'\nlocal_port = {local_port}\n")?.as_str())?;
+                text.push_str(format!(in alloc;
+                    "[[interface.peer]]\naddress = '{address}'\nlocal_port = {local_port}\n"
+                )?.as_str())?;
                 text.push_str(["", "port = 522\n", "hop_limit = 64\n", ""][index % 4])?;
             }
         }
@@ -240,7 +286,11 @@ fn two_interfaces_have_two_peers_each_and_mix_none_up(rt: HostRuntime) -> Result
         peers.push(peer(&rt)?)?;
     }
     let ports = [free_port(&rt)?, free_port(&rt)?];
-    std::fs::write(&rt, "four.toml", four_peers(rt.alloc(), ports, peers.as_slice())?.as_str())?;
+    std::fs::write(
+        &rt,
+        "four.toml",
+        four_peers(rt.alloc(), ports, peers.as_slice())?.as_str(),
+    )?;
     let responses = responses(rt.alloc())?;
     let mut out = Vec::new(rt.alloc());
     let mut err = Starting {

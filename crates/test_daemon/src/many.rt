@@ -17,7 +17,7 @@ use std::process::Abort;
 use std::test::Fail;
 
 /// How many routes one Response brings.
-const ROUTES: usize = 70;
+const ROUTES: u8 = 70;
 
 fn link_local(host: u32) -> Addr6 {
     Addr6::from_bits((0xfe80 << 112) + u128::from(host))
@@ -41,7 +41,7 @@ fn config(rt: &impl Abort, alloc: Global) -> Result<RouterConfig, AllocError>
 fn response(alloc: Global) -> Result<Datagram, AllocError> {
     let mut bytes = Vec::from_slice(alloc, &[2, 1, 0, 0])?;
     for number in 0..ROUTES {
-        bytes.extend_from_slice(&[0x20, 0x01, 0x0d, 0xb8, 0, number as u8, 0, 0])?;
+        bytes.extend_from_slice(&[0x20, 0x01, 0x0d, 0xb8, 0, number, 0, 0])?;
         bytes.extend_from_slice(&[0, 0, 0, 0, 0, 0, 0, 0, 0, 0, 48, 1])?;
     }
     Ok(Datagram {
@@ -60,28 +60,33 @@ fn lines(alloc: Global) -> Result<Vec<u8>, Fail> {
     for number in 0..ROUTES {
         match number {
             0 => writeln!(&mut text, "add 2001:db8::/48 metric 2 via fe80::2 iface 0")?,
-            _ => writeln!(&mut text, "add 2001:db8:{number:x}::/48 metric 2 via fe80::2 iface 0")?,
+            _ => writeln!(
+                &mut text,
+                "add 2001:db8:{number:x}::/48 metric 2 via fe80::2 iface 0"
+            )?,
         }
     }
     Ok(text)
 }
 
 /// What a turn in which the Response comes writes to a log of which one write fails, and whether the log has failed then.
-fn logged(
-    rt: &impl Abort,
-    alloc: Global,
-    failing: Option<u64>,
-) -> Result<(MemoryLog, bool), Fail> {
+fn logged(rt: &impl Abort, alloc: Global, failing: Option<u64>) -> Result<(MemoryLog, bool), Fail> {
     let zero = Moment::new(0).expect(rt, "a moment");
     let mut link = MemoryLink::new(alloc, 1);
     link.coming.push_back(Some(response(alloc)?))?;
     let mut log = MemoryLog::new(alloc);
     log.failing_write = failing;
     let clock = MemoryClock::new(alloc, VecDeque::new(alloc), zero);
-    let mut engine: Engine<TrieRoutes, MemoryLink, MemoryClock, SameWord> =
-        Engine::start(alloc, config(rt, alloc)?, link, clock, SameWord(0), &mut log)?;
+    let mut engine: Engine<TrieRoutes, MemoryLink, MemoryClock, SameWord> = Engine::start(
+        alloc,
+        config(rt, alloc)?,
+        link,
+        clock,
+        SameWord(0),
+        &mut log,
+    )?;
     engine.turns(2, &mut log)?;
-    assert_eq!(rt; engine.fib().len(), ROUTES);
+    assert_eq!(rt; engine.fib().len(), usize::from(ROUTES));
     let report = engine.report();
     assert_eq!(rt; (report.lost_sends, report.lost_memory), (0, 0));
     Ok((log, report.log_failed))
@@ -168,11 +173,17 @@ fn told(alloc: Global) -> Result<Vec<u8>, Fail> {
     let mut text = Vec::new(alloc);
     for (index, (_, words)) in FAULTS.iter().enumerate() {
         let iface = index % 2;
-        writeln!(&mut text, "{index} iface {iface} from fe80::2 port 521 refused {words}")?;
+        writeln!(
+            &mut text,
+            "{index} iface {iface} from fe80::2 port 521 refused {words}"
+        )?;
     }
     for entry in 0..75_usize {
         let words = NOTES[entry % 5].1;
-        writeln!(&mut text, "99 iface 1 from fe80::2 port 521 entry {entry} noted {words}")?;
+        writeln!(
+            &mut text,
+            "99 iface 1 from fe80::2 port 521 entry {entry} noted {words}"
+        )?;
     }
     Ok(text)
 }
@@ -183,7 +194,10 @@ fn each_fault_and_each_of_many_notes_has_its_line(rt: HostRuntime) -> Result<(),
     let mut lines = DebugLines::new(&mut text);
     tell(&rt, rt.alloc(), &mut lines)?;
     assert!(rt; !lines.failed());
-    assert_eq!(rt; (lines.counts().faults, lines.counts().notes), ([1; 12], [15; 5]));
+    assert_eq!(rt;
+        (lines.counts().faults, lines.counts().notes),
+        ([1; 12], [15; 5])
+    );
     assert!(rt; text.text() == told(rt.alloc())?.as_slice());
     Ok(())
 }
@@ -194,13 +208,25 @@ fn lines_are_left_alone_from_the_next_write_on(rt: HostRuntime) -> Result<(), Fa
     tell(&rt, rt.alloc(), &mut DebugLines::new(&mut whole))?;
     let last = whole.writes.saturating_sub(1);
     let behind = whole.writes;
-    for failing in [0, 1, 2, 7, whole.writes / 2, last.saturating_sub(20), last, behind] {
+    for failing in [
+        0,
+        1,
+        2,
+        7,
+        whole.writes / 2,
+        last.saturating_sub(20),
+        last,
+        behind,
+    ] {
         let mut text = MemoryLog::new(rt.alloc());
         text.failing_write = Some(failing);
         let mut lines = DebugLines::new(&mut text);
         tell(&rt, rt.alloc(), &mut lines)?;
         assert_eq!(rt; lines.failed(), failing < behind);
-        assert_eq!(rt; (lines.counts().arrivals, lines.counts().notes), (13, [15; 5]));
+        assert_eq!(rt;
+            (lines.counts().arrivals, lines.counts().notes),
+            (13, [15; 5])
+        );
         assert_eq!(rt; text.writes, failing.saturating_add(1).min(behind));
         assert!(rt; whole.text().starts_with(text.text()));
     }

@@ -12,9 +12,15 @@ type KeyFault = (&'static str, &'static str);
 /// The faults of a peer's keys, in the order of the list, and last a key that is none.
 const PEER_FAULTS: [KeyFault; 6] = [
     ("address = 1", "3 WrongType interface[0].peer[0].address"),
-    ("local_port = 0", "4 BadValue interface[0].peer[0].local_port"),
+    (
+        "local_port = 0",
+        "4 BadValue interface[0].peer[0].local_port",
+    ),
     ("port = 65536", "4 BadValue interface[0].peer[0].port"),
-    ("hop_limit = 256", "4 BadValue interface[0].peer[0].hop_limit"),
+    (
+        "hop_limit = 256",
+        "4 BadValue interface[0].peer[0].hop_limit",
+    ),
     ("group = 1", "3 WrongType interface[0].peer[0].group"),
     ("alpha = 1", "5 UnknownKey interface[0].peer[0].alpha"),
 ];
@@ -108,24 +114,43 @@ fn the_first_faulty_key_of_the_top_is_named(rt: HostRuntime) -> Result<(), Fail>
 
 #[test]
 fn the_first_faulty_key_of_an_interface_is_named(rt: HostRuntime) -> Result<(), Fail> {
-    expect_first_of_each_pair(&rt, rt.alloc(), "[[interface]]\n", &INTERFACE_FAULTS, &INTERFACE_NEEDS)
+    expect_first_of_each_pair(
+        &rt,
+        rt.alloc(),
+        "[[interface]]\n",
+        &INTERFACE_FAULTS,
+        &INTERFACE_NEEDS,
+    )
 }
 
 #[test]
 fn the_first_faulty_key_of_a_peer_is_named(rt: HostRuntime) -> Result<(), Fail> {
-    let head = "[[interface]]\naddress = 'fe80::1'\ncost = 1\nlocal_port = 5211\n[[interface.peer]]\n";
+    let head =
+        "[[interface]]\naddress = 'fe80::1'\ncost = 1\nlocal_port = 5211\n[[interface.peer]]\n";
     expect_first_of_each_pair(&rt, rt.alloc(), head, &PEER_FAULTS, &PEER_NEEDS)
 }
 
 #[test]
 fn the_first_faulty_key_of_a_prefix_is_named(rt: HostRuntime) -> Result<(), Fail> {
-    expect_first_of_each_pair(&rt, rt.alloc(), "[[prefix]]\n", &PREFIX_FAULTS, &PREFIX_NEEDS)
+    expect_first_of_each_pair(
+        &rt,
+        rt.alloc(),
+        "[[prefix]]\n",
+        &PREFIX_FAULTS,
+        &PREFIX_NEEDS,
+    )
 }
 
 /// A required key that is missed comes at its place in the list, not behind those that are there.
 const MISSED: [(&str, &str); 7] = [
-    ("[[interface]]\ncost = 'x'", "2 MissingKey interface[0].address"),
-    ("[[interface]]\naddress = 'fe80::1'\nmtu = 'x'", "2 MissingKey interface[0].cost"),
+    (
+        "[[interface]]\ncost = 'x'",
+        "2 MissingKey interface[0].address",
+    ),
+    (
+        "[[interface]]\naddress = 'fe80::1'\nmtu = 'x'",
+        "2 MissingKey interface[0].cost",
+    ),
     (
         "[[interface]]\naddress = 'fe80::1'\ncost = 1\ngroup_port = 0",
         "2 MissingKey interface[0].local_port",
@@ -188,7 +213,11 @@ const TABLES: [(&str, &str); 6] = [
 fn tables_are_read_before_they_are_compared(rt: HostRuntime) -> Result<(), Fail> {
     for (tail, line) in TABLES {
         let text = format!(in rt.alloc(); "{LINK}{tail}")?;
-        assert_eq!(rt; refusal(rt.alloc(), text.as_str())?.as_str(), line, "of {text}");
+        assert_eq!(rt;
+            refusal(rt.alloc(), text.as_str())?.as_str(),
+            line,
+            "of {text}"
+        );
     }
     Ok(())
 }

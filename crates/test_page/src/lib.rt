@@ -1,5 +1,5 @@
 //! Tests of the page (`ripngd_page`), through what it hands out: films, requests as bytes with what is answered (the longest in
-//! `longest`), the server over a network in memory (`serving`, over `played`), and over real sockets.
+//! `longest`), the server over a network in memory (`serving`, over `played` and `stage`), and over real sockets.
 #![tactic(auto)]
 
 #[cfg(test)]
@@ -14,3 +14,5 @@ mod requests;
 mod serving;
 #[cfg(test)]
 mod sockets;
+#[cfg(test)]
+mod stage;

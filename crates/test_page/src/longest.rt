@@ -20,23 +20,32 @@ fn answered(rt: &HostRuntime, mut request: &[u8]) -> Result<String, Fail> {
     Ok(String::from_str(rt.alloc(), str::from_utf8(bytes.as_slice())?)?)
 }
 
-/// A request at a path, whose body is as long as one may be: a beginning, and then one byte again and again.
-fn longest(alloc: Global, path: &str, begin: &str, filler: &str) -> Result<String, Fail> {
-    let mut request = format!(in alloc; "POST {path} HTTP/1.1\r\nHost: localhost:8532\r\nContent-Length: {BODY_LIMIT}\r\n\r\n{begin}")?;
-    for _ in begin.len()..BODY_LIMIT {
+/// A request at a path, whose body is as long as one may be: one byte again and again between a beginning and an end.
+fn longest(
+    alloc: Global,
+    path: &str,
+    begin: &str,
+    filler: &str,
+    end: &str,
+) -> Result<String, Fail> {
+    let mut request = format!(in alloc;
+        "POST {path} HTTP/1.1\r\nHost: localhost:8532\r\nContent-Length: {BODY_LIMIT}\r\n\r\n{begin}"
+    )?;
+    for _ in begin.len().saturating_add(end.len())..BODY_LIMIT {
         request.push_str(filler)?;
     }
+    request.push_str(end)?;
     Ok(request)
 }
 
 #[test]
 fn the_longest_digits_are_read(rt: HostRuntime) -> Result<(), Fail> {
     // 131,072 bytes, of which a datagram has 65,527 at most.
-    let digits = longest(rt.alloc(), "/show", "0201", "0")?;
+    let digits = longest(rt.alloc(), "/show", "0201", "0", "00")?;
     let answer = answered(&rt, digits.as_bytes())?;
     assert!(rt; answer.starts_with("HTTP/1.1 200"));
     assert!(rt; answer.ends_with("\r\n\r\nrefused 2 TooLong\n"));
-    let odd = longest(rt.alloc(), "/show", "0201", "x")?;
+    let odd = longest(rt.alloc(), "/show", "0201", "x", "0")?;
     assert!(rt; answered(&rt, odd.as_bytes())?.ends_with("\r\n\r\nrefused bad hex\n"));
     Ok(())
 }
@@ -44,15 +53,11 @@ fn the_longest_digits_are_read(rt: HostRuntime) -> Result<(), Fail> {
 #[test]
 fn the_longest_script_is_run(rt: HostRuntime) -> Result<(), Fail> {
     // A remark of one line, and as many empty lines as a script can have, with a line that is none behind them.
-    let remark = longest(rt.alloc(), "/trace", "#", "x")?;
+    let remark = longest(rt.alloc(), "/trace", "#", "x", "\n")?;
     assert!(rt; answered(&rt, remark.as_bytes())?.starts_with("HTTP/1.1 200"));
-    let mut lines = longest(rt.alloc(), "/trace", "", "\n")?;
-    lines.truncate(lines.len().saturating_sub(4));
-    lines.push_str("none")?;
+    let lines = longest(rt.alloc(), "/trace", "", "\n", "none")?;
     let answer = answered(&rt, lines.as_bytes())?;
     assert!(rt; answer.starts_with("HTTP/1.1 200"));
-    assert!(rt;
-        answer.ends_with("{\"line\":262141,\"record\":\"refused\",\"why\":\"BadLine\"}\n")
-    );
+    assert!(rt; answer.ends_with("{\"line\":262141,\"record\":\"refused\",\"why\":\"BadLine\"}\n"));
     Ok(())
 }

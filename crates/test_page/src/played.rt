@@ -1,146 +1,14 @@
-//! A network in memory, and a clock that goes on only while somebody waits: what comes on which connection is a script, and what is
-//! done to the connections is kept.
+//! A network in memory over a stage, and a clock that goes on only while somebody waits.
 
-use std::alloc::{AllocError, Global};
-use std::cell::{Cell, RefCell};
+use crate::stage::{Coming, Deed, Line, Stage, Then};
+use std::alloc::Global;
+use std::cell::Cell;
 use std::io::{self, ErrorKind, Read, Write};
 use std::net::{IpAddr, Ipv4Addr, Net, OpenListener, OpenStream, Shutdown, SocketAddr};
 use std::os::fd::{AsRawFd, RawFd};
 use std::random::RandomSource;
 use std::rt::Clock;
 use std::time::Duration;
-
-/// What comes on a connection when all that it gives has been read.
-#[derive(Clone, Copy, Debug, PartialEq, Eq)]
-pub enum Then {
-    /// Nothing, for ever: reads wait.
-    Waits,
-    /// Its end.
-    Ends,
-    /// Each read fails so.
-    Fails(ErrorKind),
-}
-
-/// A connection as it is played.
-#[derive(Clone, Copy, Debug)]
-pub struct Line {
-    /// What its reads give, one after another.
-    pub gives: &'static [&'static [u8]],
-    pub then: Then,
-    /// How many bytes a write takes at most; where it is 0, writes wait.
-    pub takes: usize,
-    /// Whether its timeouts can be set.
-    pub is_set: bool,
-}
-
-/// What an `accept` gives.
-#[derive(Clone, Copy, Debug)]
-pub enum Coming {
-    Line(Line),
-    Fails(ErrorKind),
-}
-
-/// What was done, with the number of the connection.
-#[derive(Clone, Copy, Debug, PartialEq, Eq)]
-pub enum Deed {
-    Bound(SocketAddr),
-    Taken(usize),
-    /// It was read, or a write was tried.
-    Asked(usize),
-    Flushed(usize),
-    Shut(usize, Shutdown),
-    /// It was closed at that moment, in milliseconds.
-    Closed(usize, u64),
-}
-
-/// What comes, what is done, and what time it is.
-#[derive(Drop)]
-pub struct Stage {
-    alloc: Global,
-    coming: Vec<Coming>,
-    /// How many of these were given.
-    given: Cell<usize>,
-    /// How many connections were taken.
-    taken: Cell<usize>,
-    now_ms: Cell<u64>,
-    /// How often the clock can still be read.
-    pub readings: Cell<u32>,
-    deeds: RefCell<Vec<Deed>>,
-    /// What was written, by connection.
-    told: RefCell<Vec<(usize, u8)>>,
-}
-
-impl Stage {
-    pub fn new(alloc: Global, coming: &[Coming]) -> Result<Stage, AllocError> {
-        Ok(Stage {
-            alloc,
-            coming: Vec::from_slice(alloc, coming)?,
-            given: Cell::new(0),
-            taken: Cell::new(0),
-            now_ms: Cell::new(0),
-            readings: Cell::new(u32::MAX),
-            deeds: RefCell::new(Vec::new(alloc)),
-            told: RefCell::new(Vec::new(alloc)),
-        })
-    }
-
-    fn note(&self, deed: Deed) {
-        if let Ok(mut deeds) = self.deeds.try_borrow_mut() {
-            let _ = deeds.push(deed);
-        }
-    }
-
-    fn wait(&self, ms: u64) {
-        self.now_ms.set(self.now_ms.get().saturating_add(ms));
-    }
-
-    fn keep(&self, number: usize, bytes: &[u8]) {
-        if let Ok(mut told) = self.told.try_borrow_mut() {
-            for byte in bytes {
-                let _ = told.push((number, *byte));
-            }
-        }
-    }
-
-    /// What was done, but for what was asked.
-    pub fn deeds(&self) -> Vec<Deed> {
-        let mut kept = Vec::new(self.alloc);
-        if let Ok(deeds) = self.deeds.try_borrow() {
-            for deed in deeds.iter() {
-                if !matches!(deed, Deed::Asked(_)) {
-                    let _ = kept.push(*deed);
-                }
-            }
-        }
-        kept
-    }
-
-    /// The connections that were asked, in order.
-    pub fn asked(&self) -> Vec<usize> {
-        let mut kept = Vec::new(self.alloc);
-        if let Ok(deeds) = self.deeds.try_borrow() {
-            for deed in deeds.iter() {
-                if let Deed::Asked(number) = deed {
-                    let _ = kept.push(*number);
-                }
-            }
-        }
-        kept
-    }
-
-    /// What was written on a connection.
-    pub fn told(&self, number: usize) -> Vec<u8> {
-        let mut bytes = Vec::new(self.alloc);
-        if let Ok(told) = self.told.try_borrow() {
-            for (of, byte) in told.iter() {
-                if *of == number {
-                    let _ = bytes.push(*byte);
-                }
-            }
-        }
-        bytes
-    }
-}
 
 /// The network over a stage, which binds any port of 127.0.0.1 but where binding is to fail.
 #[derive(Drop)]
@@ -166,18 +34,17 @@ impl<'a> Alloc for Played<'a> {
     type A = Global;
 
     fn alloc(&self) -> Global {
-        self.stage.alloc
+        self.stage.alloc()
     }
 }
 
 impl<'a> Clock for Played<'a> {
     fn monotonic(&self) -> io::Result<Duration> {
-        let left = self.stage.readings.get();
-        if left == 0 {
-            return Err(io::Error::from(ErrorKind::Other));
+        if self.stage.reads_clock() {
+            Ok(Duration::from_millis(self.stage.now_ms()))
+        } else {
+            Err(io::Error::from(ErrorKind::Other))
         }
-        self.stage.readings.set(left.saturating_sub(1));
-        Ok(Duration::from_millis(self.stage.now_ms.get()))
     }
 
     fn since_1970(&self) -> io::Result<Duration> {
@@ -251,31 +118,24 @@ impl<'a> OpenListener for Door<'a> {
 
     /// What comes next. Behind the last nobody comes: who waits for that is told that the network is gone.
     fn accept(&self) -> io::Result<(Wire<'a>, SocketAddr)> {
-        let given = self.stage.given.get();
-        let Some(coming) = self.stage.coming.get(given) else {
-            return Err(io::Error::from(if self.waits.get() {
-                ErrorKind::Other
-            } else {
-                ErrorKind::WouldBlock
-            }));
-        };
-        self.stage.given.set(given.saturating_add(1));
-        match coming {
-            Coming::Fails(kind) => Err(io::Error::from(*kind)),
-            Coming::Line(line) => {
-                let number = self.stage.taken.get();
-                self.stage.taken.set(number.saturating_add(1));
-                self.stage.note(Deed::Taken(number));
+        match self.stage.next() {
+            None if self.waits.get() => Err(io::Error::from(ErrorKind::Other)),
+            None => Err(io::Error::from(ErrorKind::WouldBlock)),
+            Some(Coming::Fails(kind)) => Err(io::Error::from(kind)),
+            Some(Coming::Line(line)) => {
                 let wire = Wire {
                     stage: self.stage,
-                    number,
-                    line: *line,
+                    number: self.stage.take(),
+                    line,
                     given: 0,
                     within: 0,
                     read_ms: Cell::new(1_000_000),
                     write_ms: Cell::new(1_000_000),
                 };
-                Ok((wire, SocketAddr::new(IpAddr::V4(Ipv4Addr::LOCALHOST), 50_000)))
+                Ok((
+                    wire,
+                    SocketAddr::new(IpAddr::V4(Ipv4Addr::LOCALHOST), 50_000),
+                ))
             }
         }
     }
@@ -301,7 +161,7 @@ impl<'a> Drop for Wire<'a> {
             read_ms: _,
             write_ms: _,
         } = self;
-        stage.note(Deed::Closed(number, stage.now_ms.get()));
+        stage.note(Deed::Closed(number, stage.now_ms()));
     }
 }
 
@@ -373,7 +233,10 @@ impl<'a> Write for Wire<'a> {
 /// The milliseconds of a timeout; without one it is long.
 fn millis(timeout: Option<Duration>) -> u64 {
     match timeout {
-        Some(timeout) => timeout.as_secs().saturating_mul(1_000).saturating_add(u64::from(timeout.subsec_millis())),
+        Some(timeout) => timeout
+            .as_secs()
+            .saturating_mul(1_000)
+            .saturating_add(u64::from(timeout.subsec_millis())),
         None => 1_000_000,
     }
 }

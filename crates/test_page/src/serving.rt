@@ -1,7 +1,8 @@
 //! The server over a network in memory: whom it serves, in which order, how long, and what ends it. Times and limits are those of
 //! page/README.md.
 
-use crate::played::{Coming, Deed, Line, Played, Stage, Then};
+use crate::played::Played;
+use crate::stage::{Coming, Deed, Line, Stage, Then};
 use ripngd_page::{ServeFault, Server, serve_page};
 use std::io::ErrorKind;
 use std::net::{IpAddr, Ipv4Addr, Shutdown, SocketAddr};
@@ -88,9 +89,19 @@ fn two_connections_have_each_its_own_answer(rt: HostRuntime) -> Result<(), Fail>
     let stage = Stage::new(rt.alloc(), &[Coming::Line(LOST), Coming::Line(ASKING)])?;
     assert_eq!(rt; served(&stage, Some(2)), Ok(()));
     assert!(rt; stage.told(0).as_slice().starts_with(b"HTTP/1.1 404"));
-    assert!(rt; stage.told(0).as_slice().ends_with(b"\r\n\r\nthere is no such page\n"));
+    assert!(rt;
+        stage
+            .told(0)
+            .as_slice()
+            .ends_with(b"\r\n\r\nthere is no such page\n")
+    );
     assert!(rt; stage.told(1).as_slice().starts_with(b"HTTP/1.1 200"));
-    assert!(rt; stage.told(1).as_slice().ends_with(b"\r\n\r\nresponse entries 0\n"));
+    assert!(rt;
+        stage
+            .told(1)
+            .as_slice()
+            .ends_with(b"\r\n\r\nresponse entries 0\n")
+    );
     Ok(())
 }
 
@@ -133,8 +144,18 @@ fn a_request_that_stops_is_told_so_after_two_seconds(rt: HostRuntime) -> Result<
     };
     let stage = Stage::new(rt.alloc(), &[Coming::Line(half)])?;
     assert_eq!(rt; served(&stage, Some(1)), Ok(()));
-    assert!(rt; stage.told(0).as_slice().starts_with(b"HTTP/1.1 408 Request Timeout\r\n"));
-    assert!(rt; stage.told(0).as_slice().ends_with(b"\r\n\r\na request has 2 seconds to come in, whole\n"));
+    assert!(rt;
+        stage
+            .told(0)
+            .as_slice()
+            .starts_with(b"HTTP/1.1 408 Request Timeout\r\n")
+    );
+    assert!(rt;
+        stage
+            .told(0)
+            .as_slice()
+            .ends_with(b"\r\n\r\na request has 2 seconds to come in, whole\n")
+    );
     // Who is told and does not close has half a second.
     assert_eq!(rt; closed(&stage, 0), Some(2_500));
     Ok(())
@@ -153,18 +174,30 @@ fn what_is_no_request_is_told_so(rt: HostRuntime) -> Result<(), Fail> {
     };
     let stage = Stage::new(rt.alloc(), &[Coming::Line(noise), Coming::Line(long)])?;
     assert_eq!(rt; served(&stage, Some(2)), Ok(()));
-    assert!(rt; stage.told(0).as_slice().starts_with(b"HTTP/1.1 400 Bad Request\r\n"));
-    assert!(rt; stage.told(0).as_slice().ends_with(b"\r\n\r\nthis is no request that can be read\n"));
-    assert!(rt; stage.told(1).as_slice().starts_with(b"HTTP/1.1 413 Payload Too Large\r\n"));
+    assert!(rt;
+        stage
+            .told(0)
+            .as_slice()
+            .starts_with(b"HTTP/1.1 400 Bad Request\r\n")
+    );
+    assert!(rt;
+        stage
+            .told(0)
+            .as_slice()
+            .ends_with(b"\r\n\r\nthis is no request that can be read\n")
+    );
+    assert!(rt;
+        stage
+            .told(1)
+            .as_slice()
+            .starts_with(b"HTTP/1.1 413 Payload Too Large\r\n")
+    );
     Ok(())
 }
 
 #[test]
 fn an_answer_has_thirty_seconds(rt: HostRuntime) -> Result<(), Fail> {
-    let deaf = Line {
-        takes: 0,
-        ..ASKING
-    };
+    let deaf = Line { takes: 0, ..ASKING };
     let stage = Stage::new(rt.alloc(), &[Coming::Line(deaf)])?;
     assert_eq!(rt; served(&stage, Some(1)), Ok(()));
     assert_eq!(rt; closed(&stage, 0), Some(30_000));
@@ -196,7 +229,11 @@ fn what_goes_wrong_on_a_connection_ends_that_one_alone(rt: HostRuntime) -> Resul
     };
     let stage = Stage::new(
         rt.alloc(),
-        &[Coming::Line(unset), Coming::Line(failing), Coming::Line(ASKING)],
+        &[
+            Coming::Line(unset),
+            Coming::Line(failing),
+            Coming::Line(ASKING),
+        ],
     )?;
     assert_eq!(rt; served(&stage, Some(1)), Ok(()));
     assert!(rt; closed(&stage, 0) == Some(0) && closed(&stage, 1) == Some(0));
@@ -207,7 +244,11 @@ fn what_goes_wrong_on_a_connection_ends_that_one_alone(rt: HostRuntime) -> Resul
 
 #[test]
 fn a_read_that_was_interrupted_is_made_again(rt: HostRuntime) -> Result<(), Fail> {
-    for kind in [ErrorKind::Interrupted, ErrorKind::TimedOut, ErrorKind::WouldBlock] {
+    for kind in [
+        ErrorKind::Interrupted,
+        ErrorKind::TimedOut,
+        ErrorKind::WouldBlock,
+    ] {
         let again = Line {
             then: Then::Fails(kind),
             ..SILENT
@@ -284,8 +325,10 @@ fn two_connections_take_turns(rt: HostRuntime) -> Result<(), Fail> {
     assert_eq!(rt; served(&stage, None), Err(ServeFault::Accept));
     let asked = stage.asked();
     assert!(rt; asked.len() > 900);
-    for pair in asked[2..900].windows(2) {
-        assert!(rt; pair[0] != pair[1]);
+    let mut before = None;
+    for number in asked.iter().skip(2).take(898) {
+        assert!(rt; before != Some(*number));
+        before = Some(*number);
     }
     Ok(())
 }
