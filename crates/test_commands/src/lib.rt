@@ -16,6 +16,8 @@ mod running;
 #[cfg(test)]
 mod shown;
 #[cfg(test)]
+mod streams;
+#[cfg(test)]
 mod tables;
 #[cfg(test)]
 mod writers;

@@ -9,7 +9,7 @@ use std::str;
 use std::test::Fail;
 
 /// A connection on which nothing came yet.
-fn connected(rt: &HostRuntime) -> io::Result<Connection> {
+pub fn connected(rt: &HostRuntime) -> io::Result<Connection> {
     let config = Config {
         max_body_len: BODY_LIMIT,
         ..Config::default()
@@ -18,7 +18,7 @@ fn connected(rt: &HostRuntime) -> io::Result<Connection> {
 }
 
 /// The bytes that a connection has to send.
-fn sent(alloc: Global, connection: &mut Connection) -> io::Result<Vec<u8>> {
+pub fn sent(alloc: Global, connection: &mut Connection) -> io::Result<Vec<u8>> {
     let mut bytes = Vec::new(alloc);
     for _ in 0..100 {
         connection.write_to(&mut bytes)?;
