@@ -5,10 +5,12 @@ mod answers;
 mod events;
 mod laws;
 mod network;
+mod offers;
 mod records;
 mod shown;
 mod tables;
 mod tracer;
+mod updates;
 mod writing;
 
 pub use laws::readers_know_each_table;

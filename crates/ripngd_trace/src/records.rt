@@ -60,6 +60,10 @@ pub struct EventRecord {
     /// Why an arrival was refused; then all lists are empty.
     pub fault: Option<FaultRecord>,
     pub notes: Vec<NoteRecord>,
+    /// What a delivered Response offered, but for entries that have a note.
+    pub offers: Vec<OfferRecord>,
+    /// Which update was due at a tick.
+    pub update: Option<UpdateRecord>,
     pub changes: Vec<ChangeRecord>,
     pub sent: Vec<SentRecord>,
     pub timers: Option<Timers>,
@@ -135,6 +139,34 @@ pub struct NoteRecord {
     pub entry: usize,
     pub number: u8,
     pub name: &'static str,
+}
+
+/// An offer, and the row of the table of adoption that it fell under (RFC 2080, section 2.4.2).
+#[derive(Clone, Copy, Debug, PartialEq, Eq, Serialize)]
+pub struct OfferRecord {
+    /// The entry that offers it.
+    pub entry: usize,
+    #[serde(serialize_with = "as_text")]
+    pub prefix: Prefix,
+    /// With the cost of the interface that it came on.
+    pub metric: u8,
+    pub tag: u16,
+    #[serde(serialize_with = "as_text")]
+    pub next_hop: Addr6,
+    pub number: u8,
+    pub name: &'static str,
+}
+
+/// Which update was due at a tick (RFC 2080, sections 2.3 and 2.5.1).
+#[derive(Clone, Copy, Debug, PartialEq, Eq, Serialize)]
+#[serde(rename_all = "lowercase")]
+pub enum UpdateRecord {
+    /// It told all routes.
+    Regular,
+    /// It told those that were marked.
+    Triggered,
+    /// A route is marked, and the pause behind the last triggered update is not over.
+    Held,
 }
 
 /// A change of the forwarding table.
