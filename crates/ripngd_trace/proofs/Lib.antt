@@ -1,3 +1,4 @@
+pub mod Getting
 pub mod Lines
 pub mod Listing
 pub mod Reading
@@ -5,3 +6,4 @@ pub mod Showing
 pub mod Starting
 pub mod Telling
 pub mod Tracing
+pub mod Updates

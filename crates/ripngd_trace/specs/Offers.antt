@@ -50,10 +50,15 @@ offer_words o held =
 abbrev pub offer_said : OfferRecord → ℕ × Prefix6 × ℕ × ℕ × ℕ × ℕ × List ℕ
 offer_said r = (r.entry, r.prefix, r.metric, r.tag, r.next_hop, r.number, r.name.now)
 
--- each offer whose entry has no note, by what the table and the offers in front of it left
+-- some of all offers, numbered from this one on, but for those whose entry has a note: each by what the table and all offers in
+-- front of it left
+abbrev pub words_from : Table → List Note → List Offered → ℕ → List Offered → List (ℕ × Prefix6 × ℕ × ℕ × ℕ × ℕ × List ℕ)
+words_from table notes all number some =
+    map (λ t. offer_words t.1 (route_behind table notes (take t.0 all) t.1.prefix)) (filter (λ t. not (is_noted notes t.1.offer.place)) (enumerate_from number some))
+
+-- all of them
 abbrev pub offers_words : Table → List Note → List Offered → List (ℕ × Prefix6 × ℕ × ℕ × ℕ × ℕ × List ℕ)
-offers_words table notes offers =
-    map (λ t. offer_words t.1 (route_behind table notes (take t.0 offers) t.1.prefix)) (filter (λ t. not (is_noted notes t.1.offer.place)) (enumerate_from 0 offers))
+offers_words table notes offers = words_from table notes offers 0 offers
 
 -- the records tell of all offers that an arrival brings to a router that had this table
 abbrev pub TellsArrival : Table → State → Received → List Note → List OfferRecord → Type 0
