@@ -186,9 +186,17 @@ module _ {V : Type 0} (f : V → Said) (st : V → LabValue → ℕ → V → Ty
       known_after l.network l.world e answer l1.world done.5 (f v) (f mid.1) known0 clocks0 says ∙ sym (ap tables_in done.3) in
       let clocks1 : (f mid.1).timers ≡ timers_of mid.0 =
       timers_after l.network l.world e answer l1.world done.5 (f v) (f mid.1) known0 clocks0 says ∙ sym (ap timers_of done.3) in
-      line_on lab mid.0 end shown (f v) (f mid.1) (f v') (EventLine says.r)
-      (l, done.1, l1, done.3, e, answer, (done.4, done.5), told_itself (f v).line what says.r says.tells,
-      explains l.network l.world e answer l1.world done.5 (f v) (f mid.1) known0 clocks0 says)
+      line_on lab mid.0 end shown (f v) (f mid.1) (f v') (EventLine says.r) (
+        l,
+        done.1,
+        l1,
+        done.3,
+        e,
+        answer,
+        (done.4, done.5),
+        told_itself (f v).line what says.r says.tells,
+        explains l.network l.world e answer l1.world done.5 (f v) (f mid.1) known0 clocks0 says,
+      )
       shows1 says.writes (lines_told ts mid.0 mid.1 end v' (read_line shown (EventLine says.r)) shows1 known1 clocks1 told.2)
   lines_told (Turns number ∷ ts) lab v end v' shown shows known clocks told =
       let mid = told.0 in
