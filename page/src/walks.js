@@ -78,8 +78,8 @@ export function offersOf({ steps, datagrams }, step) {
   const { record: { event, router, offers }, routers } = steps[step];
   if (offers.length === 0) return [];
   const entries = entriesOf(datagrams[event.datagram].bytes), { cost } = routers[router].interfaces[event.iface];
-  return offers.map(({ entry, prefix, metric, name }) => ({
-    prefix, told: entries[entry].metric, cost, offered: metric, outcome: OUTCOMES[name],
+  return offers.map(({ entry, prefix, metric, why }) => ({
+    prefix, told: entries[entry].metric, cost, offered: metric, outcome: OUTCOMES[why],
     before: routeAt(steps[step - 1], router, prefix)?.metric, after: routeAt(steps[step], router, prefix)?.metric,
   }));
 }

@@ -1,3 +1,4 @@
+pub mod DueUpdates
 pub mod Getting
 pub mod Lines
 pub mod Listing
@@ -6,4 +7,3 @@ pub mod Showing
 pub mod Starting
 pub mod Telling
 pub mod Tracing
-pub mod Updates

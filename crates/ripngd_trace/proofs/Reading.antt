@@ -26,7 +26,7 @@ use Rattle.ripngd_trace.specs.declared.records.StartRecord.{StartRecord}
 use Rattle.ripngd_trace.specs.declared.records.Timers.{Timers}
 use Rattle.ripngd_trace.proofs.Getting.{get_here}
 use Rattle.ripngd_trace.proofs.Showing.{shows_set, shows_started}
-use Rattle.ripngd_trace.proofs.Updates.{update_told}
+use Rattle.ripngd_trace.proofs.DueUpdates.{update_told}
 
 -- ---- one event
 

@@ -1,11 +1,11 @@
 -- What the record of an event says of offers: what each was, and which row of the table of adoption it fell under.
-use Rattle.std.specs.Prelude.{◌≡◌, ℕ, ◌<◌, ◌==◌, ◌&&◌, not, Bool, if◌then◌else◌, List, [], length, map, take, filter, fold, list_any, Option, Some, option_map, unwrap_or, slice_get}
-use Rattle.std.specs.List.{enumerate_from}
+use Rattle.std.specs.Prelude.{◌≡◌, ℕ, ◌<◌, ◌==◌, ◌&&◌, not, Bool, if◌then◌else◌, List, [], length, map, take, filter, fold, Option, Some, option_map, unwrap_or, slice_get}
+use Rattle.std.specs.List.{enumerate_from, list_any}
 use Rattle.std.specs.FinMap as map_of
 use Rattle.prefix6.specs.Prefix.{Prefix6, same_prefix}
 use Rattle.route_table.specs.Route.{RouteValue}
 use Rattle.route_table.specs.Table.{Table}
-use Rattle.router_core.specs.Adoption.{adopted, metric_through, reason, reason_name, reason_number}
+use Rattle.router_core.specs.Adoption.{adopted, metric_through, reason}
 use Rattle.router_core.specs.Faults.{ripng_port}
 use Rattle.router_core.specs.Machine.{State}
 use Rattle.router_core.specs.Offering.{Brings, Offered}
@@ -42,28 +42,32 @@ behind notes p held o = if same_prefix o.prefix p && not (is_noted notes o.offer
 abbrev pub route_behind : Table → List Note → List Offered → Prefix6 → Option RouteValue
 route_behind table notes offers p = fold (behind notes p) (map_of.get table p) offers
 
--- an offer by its entry, prefix, metric, tag and next hop, and by the number and the name of its row; and so the record of one
-abbrev pub offer_words : Offered → Option RouteValue → ℕ × Prefix6 × ℕ × ℕ × ℕ × ℕ × List ℕ
-offer_words o held =
-    (o.offer.place, o.prefix, metric_through o.gateway o.offer, o.offer.tag, o.offer.next_hop, reason_number (reason o.gateway held o.offer), reason_name (reason o.gateway held o.offer))
-
-abbrev pub offer_said : OfferRecord → ℕ × Prefix6 × ℕ × ℕ × ℕ × ℕ × List ℕ
-offer_said r = (r.entry, r.prefix, r.metric, r.tag, r.next_hop, r.number, r.name.now)
+-- an offer, and its row of the table of adoption
+abbrev pub offer_record : Offered → Option RouteValue → OfferRecord
+offer_record o held =
+    record {
+      entry = o.offer.place;
+      prefix = o.prefix;
+      metric = metric_through o.gateway o.offer;
+      tag = o.offer.tag;
+      next_hop = o.offer.next_hop;
+      why = reason o.gateway held o.offer;
+    }
 
 -- some of all offers, numbered from this one on, but for those whose entry has a note: each by what the table and all offers in
 -- front of it left
-abbrev pub words_from : Table → List Note → List Offered → ℕ → List Offered → List (ℕ × Prefix6 × ℕ × ℕ × ℕ × ℕ × List ℕ)
-words_from table notes all number some =
-    map (λ t. offer_words t.1 (route_behind table notes (take t.0 all) t.1.prefix)) (filter (λ t. not (is_noted notes t.1.offer.place)) (enumerate_from number some))
+abbrev pub records_from : Table → List Note → List Offered → ℕ → List Offered → List OfferRecord
+records_from table notes all number some =
+    map (λ t. offer_record t.1 (route_behind table notes (take t.0 all) t.1.prefix)) (filter (λ t. not (is_noted notes t.1.offer.place)) (enumerate_from number some))
 
 -- all of them
-abbrev pub offers_words : Table → List Note → List Offered → List (ℕ × Prefix6 × ℕ × ℕ × ℕ × ℕ × List ℕ)
-offers_words table notes offers = words_from table notes offers 0 offers
+abbrev pub offer_records : Table → List Note → List Offered → List OfferRecord
+offer_records table notes offers = records_from table notes offers 0 offers
 
 -- the records tell of all offers that an arrival brings to a router that had this table
 abbrev pub TellsArrival : Table → State → Received → List Note → List OfferRecord → Type 0
 TellsArrival table s x notes records =
-    x.iface < length s.config.interfaces → (offers : List Offered) × Brings s x offers × (map offer_said records ≡ offers_words table notes offers)
+    x.iface < length s.config.interfaces → (offers : List Offered) × Brings s x offers × (records ≡ offer_records table notes offers)
 
 -- the records tell of all offers of an event, by the tables before; of none where no datagram of the network comes
 abbrev pub TellsOffers : List Table → LabValue → Event → List Note → List OfferRecord → Type 0

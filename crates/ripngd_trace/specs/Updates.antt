@@ -1,6 +1,7 @@
 -- What the record of a tick says of updates: which was due.
-use Rattle.std.specs.Prelude.{◌≡◌, ℕ, ◌==◌, max, not, if◌then◌else◌, list_any, List, Option, Some, None, is_some, option_and_then, slice_get}
+use Rattle.std.specs.Prelude.{◌≡◌, ℕ, ◌==◌, max, not, if◌then◌else◌, List, Option, Some, None, is_some, option_and_then, slice_get}
 use Rattle.std.specs.FinMap as map_of
+use Rattle.std.specs.List.{list_any}
 use Rattle.route_table.specs.Due.{first_changed}
 use Rattle.router_core.specs.Ageing.{aged_table}
 use Rattle.router_core.specs.Machine.{State, is_regular_due, is_triggered_due}

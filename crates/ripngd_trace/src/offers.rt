@@ -2,7 +2,7 @@
 
 ghost use Rattle.std.specs.Prelude.{◌≡◌, IfOk, map};
 ghost use Rattle.ripng_world.specs.Events.{event_of};
-ghost use Rattle.ripngd_trace.specs.Offers.{TellsArrival, TellsOffers, came, is_noted, offer_said, offer_words, offers_words, route_behind};
+ghost use Rattle.ripngd_trace.specs.Offers.{TellsArrival, TellsOffers, came, is_noted, offer_record, offer_records, route_behind};
 
 use crate::network::addr_of;
 use crate::records::OfferRecord;
@@ -59,17 +59,15 @@ fn route_behind<S: RouteStore>(
 
 /// An offer, and the row of the table of adoption that it fell under.
 fn offer_record(offered: &Offered, held: Option<Route>) -> OfferRecord
-    ensures { offer_said result ≡ offer_words offered.now held }
+    ensures { result ≡ offer_record offered.now held }
 {
-    let row = offered.reason_of(held);
     OfferRecord {
         entry: offered.place(),
         prefix: offered.prefix(),
         metric: offered.metric(),
         tag: offered.tag(),
         next_hop: offered.next_hop(),
-        number: row.number(),
-        name: row.name(),
+        why: offered.reason_of(held),
     }
 }
 
@@ -80,10 +78,11 @@ fn offer_records<S: RouteStore>(
     notes: &[Note],
     offers: &[Offered],
 ) -> Result<Vec<OfferRecord>, AllocError>
-    ensures { IfOk result (λ records. map offer_said records.items ≡ offers_words (S.table known.now) notes.now offers.now) }
+    ensures { IfOk result (λ records. records.items ≡ offer_records (S.table known.now) notes.now offers.now) }
 {
     let mut records = Vec::new(alloc);
-    for (number, offered) in offers.iter().enumerate() {
+    for number in 0..offers.len() {
+        let offered = &offers[number];
         if !is_noted(notes, offered.place()) {
             let held = route_behind(known, notes, &offers[..number], offered.prefix());
             records.push(offer_record(offered, held))?;

@@ -1,8 +1,9 @@
 //! The records of a trace. Each is a line of JSON, whose members have the names of the fields and stand in their order.
 //! Moments and deadlines are in milliseconds, metrics and costs in hops; all numbers count from 0, but for lines.
 
-use crate::shown::{Shown, as_text, as_texts};
+use crate::shown::{Shown, as_name, as_text, as_texts};
 use prefix6::{Addr6, Prefix};
+use router_core::Reason;
 use serde::Serialize;
 
 /// The routers have started: the network, each router's first state, and what they sent.
@@ -153,8 +154,9 @@ pub struct OfferRecord {
     pub tag: u16,
     #[serde(serialize_with = "as_text")]
     pub next_hop: Addr6,
-    pub number: u8,
-    pub name: &'static str,
+    /// The row, by its name.
+    #[serde(serialize_with = "as_name")]
+    pub why: Reason,
 }
 
 /// Which update was due at a tick (RFC 2080, sections 2.3 and 2.5.1).

@@ -56,15 +56,15 @@ pub fn trace<W: Write>(alloc: Global, script: &[u8], out: &mut W) -> io::Result<
 
 /// The watcher that writes the records.
 #[derive(Drop)]
-struct Tracer<'a, W: Write> {
-    alloc: Global,
+pub struct Tracer<'a, W: Write> {
+    pub alloc: Global,
     /// The number of the script's line.
     line: usize,
     /// The table of each router, as a reader of the records knows it.
     known: Vec<TrieRoutes>,
     /// The timers of each router, as the last record of it has them.
     timers: Vec<Timers>,
-    out: &'a mut W,
+    pub out: &'a mut W,
 }
 
 /// What a reader has to be told of one of the tables that are known. Then it is known, and all others are as they were.
@@ -85,7 +85,7 @@ fn news_in(
 
 impl<'a, W: Write> Tracer<'a, W> {
     /// It is at no line yet, and knows no table.
-    fn new(alloc: Global, out: &'a mut W) -> Tracer<'a, W>
+    pub fn new(alloc: Global, out: &'a mut W) -> Tracer<'a, W>
         ensures known { result.known.items ≡ [] }
         ensures timers { result.timers.items ≡ [] }
         ensures out { result.out.now ≡ out.old }
@@ -146,7 +146,7 @@ impl<'a, W: Write> Tracer<'a, W> {
     }
 
     /// The start of the routers.
-    fn start_record(
+    pub fn start_record(
         &mut self,
         lab: &Lab<TrieRoutes>,
         now: Moment,
@@ -197,7 +197,7 @@ impl<'a, W: Write> Tracer<'a, W> {
     }
 
     /// An event that was done.
-    fn event_record(
+    pub fn event_record(
         &mut self,
         lab: &Lab<TrieRoutes>,
         event: &Event<'_>,

@@ -22,7 +22,7 @@ const LINES: [(&str, &str); 30] = [
 \"event\":{\"kind\":\"deliver\",\"datagram\":1,\"iface\":0,\
 \"sender\":{\"router\":0,\"iface\":0,\"addr\":\"fe80::a0\"}},\
 \"fault\":null,\"notes\":[],\
-\"offers\":[{\"entry\":0,\"prefix\":\"2001:db8::/32\",\"metric\":5,\"tag\":9,\"next_hop\":\"fe80::a0\",\"number\":2,\"name\":\"Added\"}],\"update\":null,\
+\"offers\":[{\"entry\":0,\"prefix\":\"2001:db8::/32\",\"metric\":5,\"tag\":9,\"next_hop\":\"fe80::a0\",\"why\":\"Added\"}],\"update\":null,\
 \"changes\":[{\"change\":\"add\",\"prefix\":\"2001:db8::/32\",\"metric\":5,\
 \"via\":{\"iface\":0,\"next_hop\":\"fe80::a0\"}}],\"sent\":[],\
 \"timers\":{\"last\":20,\"regular\":5,\"hold\":5,\"due\":{\"until\":180020,\"prefix\":\"2001:db8::/32\"}},\
@@ -37,7 +37,7 @@ const LINES: [(&str, &str); 30] = [
 \"event\":{\"kind\":\"deliver\",\"datagram\":1,\"iface\":0,\
 \"sender\":{\"router\":0,\"iface\":0,\"addr\":\"fe80::a0\"}},\
 \"fault\":null,\"notes\":[],\
-\"offers\":[{\"entry\":0,\"prefix\":\"2001:db8::/32\",\"metric\":5,\"tag\":9,\"next_hop\":\"fe80::a0\",\"number\":5,\"name\":\"Refreshed\"}],\"update\":null,\
+\"offers\":[{\"entry\":0,\"prefix\":\"2001:db8::/32\",\"metric\":5,\"tag\":9,\"next_hop\":\"fe80::a0\",\"why\":\"Refreshed\"}],\"update\":null,\
 \"changes\":[],\"sent\":[],\
 \"timers\":{\"last\":30,\"regular\":5,\"hold\":5,\"due\":{\"until\":180030,\"prefix\":\"2001:db8::/32\"}},\
 \"routes\":[{\"prefix\":\"2001:db8::/32\",\"metric\":5,\"tag\":9,\
@@ -196,7 +196,7 @@ deliver 1 1 0 31",
 \"sender\":{\"router\":0,\"iface\":0,\"addr\":\"fe80::a0\"}},\
 \"fault\":null,\"notes\":[],\
 \"offers\":[{\"entry\":0,\"prefix\":\"2001:db9::/32\",\"metric\":16,\"tag\":0,\
-\"next_hop\":\"fe80::a0\",\"number\":1,\"name\":\"Nothing\"}],\"update\":null,\
+\"next_hop\":\"fe80::a0\",\"why\":\"Nothing\"}],\"update\":null,\
 \"changes\":[],\"sent\":[],\
 \"timers\":{\"last\":31,\"regular\":5,\"hold\":5,\"due\":null},\"routes\":[],\"gone\":[]}",
     ),

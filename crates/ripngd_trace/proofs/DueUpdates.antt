@@ -1,6 +1,7 @@
 -- Which update was due at a tick, by the timers that it moved.
-use Rattle.std.proofs.Common.{◌≡◌, ◌≢◌, ◌∙◌, ◌≤◌, ◌+◌, ◌%◌, ◌==◌, ◌&&◌, ◌||◌, cond, refl, ap, sym, subst, arith, ℕ, max, not, nat_le, Bool, true, false, if◌then◌else◌, List, [], ◌∷◌, map, list_any, Option, Some, None, is_some, option_and_then, option_map, slice_get}
+use Rattle.std.proofs.Common.{◌≡◌, ◌≢◌, ◌∙◌, ◌≤◌, ◌+◌, ◌%◌, ◌==◌, ◌&&◌, ◌||◌, cond, refl, ap, sym, subst, arith, ℕ, max, not, nat_le, Bool, true, false, if◌then◌else◌, List, [], ◌∷◌, map, Option, Some, None, is_some, option_and_then, option_map, slice_get}
 use Rattle.std.specs.FinMap as map_of
+use Rattle.std.specs.List.{list_any}
 use Rattle.std.proofs.lemmas.Bool.Decides.{nat_tests}
 use Rattle.prefix6.specs.Prefix.{Prefix6}
 use Rattle.route_table.specs.Due.{first_changed, first_where}
