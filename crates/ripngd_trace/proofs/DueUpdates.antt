@@ -1,12 +1,12 @@
 -- Which update was due at a tick, by the timers that it moved.
-use Rattle.std.proofs.Common.{◌≡◌, ◌≢◌, ◌∙◌, ◌≤◌, ◌+◌, ◌%◌, ◌==◌, ◌&&◌, ◌||◌, cond, refl, ap, sym, subst, arith, ℕ, max, not, nat_le, Bool, true, false, if◌then◌else◌, List, [], ◌∷◌, map, Option, Some, None, is_some, option_and_then, option_map, slice_get}
+use Rattle.std.proofs.Common.{◌≡◌, ◌∙◌, ◌+◌, ◌%◌, ◌==◌, ◌&&◌, ◌||◌, cond, refl, ap, sym, arith, ℕ, max, not, nat_le, Bool, true, false, if◌then◌else◌, List, [], ◌∷◌, Option, Some, None, is_some, option_and_then, option_map, slice_get}
 use Rattle.std.specs.FinMap as map_of
 use Rattle.std.specs.List.{list_any}
 use Rattle.std.proofs.lemmas.Bool.Decides.{nat_tests}
 use Rattle.prefix6.specs.Prefix.{Prefix6}
 use Rattle.route_table.specs.Due.{first_changed, first_where}
 use Rattle.route_table.specs.Route.{RouteValue}
-use Rattle.route_table.specs.Table.{Table, is_past}
+use Rattle.route_table.specs.Table.{is_past}
 use Rattle.router_core.specs.Ageing.{aged_table, unmarked}
 use Rattle.router_core.specs.Machine.{State, is_regular_due, is_triggered_due, ticked}
 use Rattle.router_core.specs.Timers.{next_hold, next_regular}
@@ -18,18 +18,18 @@ use Rattle.ripngd_trace.proofs.Getting.{get_here}
 use Rattle.ripngd_trace.specs.Reading.{all_timers}
 use Rattle.ripngd_trace.specs.Records.{timers_in}
 use Rattle.ripngd_trace.specs.Updates.{TellsUpdate, due_at, due_update, update_by}
-use Rattle.ripngd_trace.specs.declared.records.Timers.{Timers}
 use Rattle.ripngd_trace.specs.declared.records.UpdateRecord.{UpdateRecord}
 use Rattle.ripngd_trace.specs.declared.records.UpdateRecord.TheVariants.{Regular, Triggered, Held}
 
 -- a walk finds a marked route exactly if there is one
 marks_found : (es : List (Prefix6 × RouteValue)) → is_some (first_where (λ r. r.changed) None es) ≡ list_any (λ t. t.1.changed) es
 marks_found [] = refl
-marks_found (e ∷ es) = by_mark e.1.changed
+marks_found (e ∷ es) = by_mark e.1.changed (marks_found es)
   where
-    by_mark : (b : Bool) → is_some (if b && is_past None e.0 then Some e else first_where (λ r. r.changed) None es) ≡ (b || list_any (λ t. t.1.changed) es)
-    by_mark true = refl
-    by_mark false = marks_found es
+    by_mark : (b : Bool) → is_some (first_where (λ r. r.changed) None es) ≡ list_any (λ t. t.1.changed) es
+        → is_some (if b && is_past None e.0 then Some e else first_where (λ r. r.changed) None es) ≡ (b || list_any (λ t. t.1.changed) es)
+    by_mark true rest = refl
+    by_mark false rest = rest
 
 -- each update moves its own timer
 regular_moves : (old now more : ℕ) → nat_le old now ≡ true → not (now + 15_000 + more == old) ≡ true
@@ -46,16 +46,16 @@ first_of_both true b is = refl
 first_of_both false b is = is
 
 module _ (s : State) (now word : ℕ) where
-  aged_as : State
+  abbrev aged_as : State
   aged_as = record s { table = aged_table now s.table; last = now }
 
-  regular_as : State
+  abbrev regular_as : State
   regular_as = record s { table = unmarked (aged_table now s.table); last = now; regular = next_regular now word }
 
-  triggered_as : State
+  abbrev triggered_as : State
   triggered_as = record s { table = unmarked (aged_table now s.table); last = now; hold = next_hold now word }
 
-  held_or_none : Option UpdateRecord
+  abbrev held_or_none : Option UpdateRecord
   held_or_none = if list_any (λ t. t.1.changed) (map_of.entries (aged_table now s.table)) then Some Held else None
 
   by_triggered : (b : Bool) → is_triggered_due s now ≡ b → update_by (timers_in s) (cond b triggered_as aged_as) ≡ cond b (Some Triggered) held_or_none

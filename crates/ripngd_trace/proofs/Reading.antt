@@ -1,9 +1,8 @@
 -- Who reads the lines of a trace has each router's table after each.
-use Rattle.std.proofs.Common.{◌≡◌, ◌⊎◌, inl, inr, ℕ, zero, suc, refl, ap, sym, subst, ◌∙◌, List, [], ◌∷◌, ◌++◌, map, Option, None, Some, IfSome, OnErr, OnOk, Result, Ok, Err, option_map, slice_get, slice_set}
+use Rattle.std.proofs.Common.{◌≡◌, ◌⊎◌, inl, inr, ℕ, refl, ap, sym, subst, subst₂, ◌∙◌, List, [], ◌∷◌, ◌++◌, map, Option, None, Some, IfSome, OnErr, OnOk, Result, Ok, Err, option_map, slice_get, slice_set}
 use Rattle.std.specs.List.{AllZip}
 use Rattle.std.proofs.lemmas.List.{map-set}
 use Rattle.route_table.specs.Table.{Table}
-use Rattle.route_table.proofs.TableLaws.{None-Some}
 use Rattle.router_core.specs.Machine.{State, Happening, Arrives, Ticks, Restarts, Reconfigures}
 use Rattle.router_core.specs.declared.answer.Answer.{Answer}
 use Rattle.ripng_world.specs.Network.{Network}
@@ -79,12 +78,15 @@ module _ (net : Network) (w : World) (e : Event) (answer : Answer) (mid : World)
       ∙ sym (map-set timers_in w.states (router_of e) move.1.new) ∙ ap (map timers_in) (sym move.1.states)
 
   -- and the record explains the event
-  pub explains : Explains (record { network = net; world = w }) e answer (record { network = net; world = mid }) takes.r
-  explains = record {
+  explains_it : Explains (record { network = net; world = w }) e answer (record { network = net; world = mid }) takes.r
+  explains_it = record {
     offers = subst (λ (ts : List Table). TellsOffers ts (record { network = net; world = mid }) e answer.notes takes.r.offers.items) is takes.offers;
     update = update_told net w e answer mid happens takes.r.update
         (subst (λ (ts : List Timers). TellsUpdate ts (record { network = net; world = mid }) e takes.r.update) clocks takes.update);
   }
+
+  pub explains : (l l1 : LabValue) → record { network = net; world = w } ≡ l → record { network = net; world = mid } ≡ l1 → Explains l e answer l1 takes.r
+  explains l l1 is_l is_l1 = subst₂ (λ (a b : LabValue). Explains a e answer b takes.r) is_l is_l1 explains_it
 
   leads : LeadsTo move.1.old.table takes.r.routes.items takes.r.gone.items move.1.new.table
   leads = of_some (slice_get mid.states takes.r.router) move.1.new _ is_now (of_some (slice_get said.known takes.r.router) move.1.old.table _ was takes.listed)
@@ -195,7 +197,7 @@ module _ {V : Type 0} (f : V → Said) (st : V → LabValue → ℕ → V → Ty
         answer,
         (done.4, done.5),
         told_itself (f v).line what says.r says.tells,
-        explains l.network l.world e answer l1.world done.5 (f v) (f mid.1) known0 clocks0 says,
+        explains l.network l.world e answer l1.world done.5 (f v) (f mid.1) known0 clocks0 says l l1 refl (ap (λ (n : Network). record { network = n; world = l1.world }) (sym done.4)),
       )
       shows1 says.writes (lines_told ts mid.0 mid.1 end v' (read_line shown (EventLine says.r)) shows1 known1 clocks1 told.2)
   lines_told (Turns number ∷ ts) lab v end v' shown shows known clocks told =

@@ -83,6 +83,15 @@ fn news_in(
     news_of(alloc, &mut known[router], table)
 }
 
+/// These are the timers of a router from now on, if there is such a router.
+fn know(known: &mut [Timers], router: usize, timers: Timers)
+    ensures { known.new ≡ slice_set known.old router timers }
+{
+    if router < known.len() {
+        known[router] = timers;
+    }
+}
+
 impl<'a, W: Write> Tracer<'a, W> {
     /// It is at no line yet, and knows no table.
     pub fn new(alloc: Global, out: &'a mut W) -> Tracer<'a, W>
@@ -189,11 +198,10 @@ impl<'a, W: Write> Tracer<'a, W> {
         ensures line { self.new.line ≡ self.old.line }
         ensures out { self.new.out ≡ self.old.out }
     {
-        let timers = timers_of(lab, router)?;
-        if let Some(known) = self.timers.get_mut(router) {
-            *known = timers;
+        if let Some(timers) = timers_of(lab, router) {
+            know(&mut self.timers, router, timers);
         }
-        Some(timers)
+        timers_of(lab, router)
     }
 
     /// An event that was done.

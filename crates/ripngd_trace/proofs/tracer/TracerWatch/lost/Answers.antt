@@ -1,4 +1,4 @@
-use Rattle.std.proofs.Common.{inl, inr}
+use Rattle.std.proofs.Common.{inr}
 use Rattle.ripngd_trace.proofs.Reading.{on_ok}
 use Rattle.ripngd_trace.proofs.tracer.TracerWatch.lost.Goals as goal
 
