@@ -29,6 +29,7 @@ answer_kept holds (asks.Check file) true old mid new (text, held, (config, is, w
 answer_kept holds (asks.Check file) false old mid new answer kept = answer
 answer_kept holds (asks.Lab file) accepted old mid new answer kept = answer
 answer_kept holds (asks.Trace file) accepted old mid new answer kept = answer
+answer_kept holds (asks.Explain file) accepted old mid new answer kept = answer
 answer_kept holds (asks.Run order) true old mid new (text, held, (config, is, shows)) kept =
     (text, held, (config, is, ordered_kept order.control config order.turns old mid new shows kept))
 answer_kept holds (asks.Run order) false old mid new answer kept = answer

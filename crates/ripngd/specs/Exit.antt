@@ -29,6 +29,7 @@ AnswersAsk holds (asks.Check file) accepted old new =
     (config : List ℕ) × holds file.now config × IsChecked config accepted old new
 AnswersAsk holds (asks.Lab file) accepted old new = (script : List ℕ) × holds file.now script
 AnswersAsk holds (asks.Trace file) accepted old new = (script : List ℕ) × holds file.now script
+AnswersAsk holds (asks.Explain file) accepted old new = (script : List ℕ) × holds file.now script
 AnswersAsk holds (asks.Run order) accepted old new =
     (config : List ℕ) × holds order.config.now config × IsRan order config accepted old new
 AnswersAsk holds (asks.Ctl question) accepted old new = (answer : List ℕ) × IsAnswerWritten answer accepted old new

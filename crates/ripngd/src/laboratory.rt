@@ -1,4 +1,4 @@
-//! `lab`: a network of routers, run from a script, and the trace of one.
+//! `lab`: a network of routers, run from a script, and the trace and the explanation of one.
 
 use ripngd_show::PrintFault;
 use std::alloc::Global;
@@ -31,4 +31,12 @@ pub(crate) fn lab_hinted<W: Write, E: Write>(
 /// `OutOfMemory` where memory was refused, else `Write`. Earlier records may have been written.
 pub fn trace<W: Write>(alloc: Global, script: &[u8], out: &mut W) -> Result<bool, PrintFault> {
     Ok(ripngd_trace::trace(alloc, script, out)?)
+}
+
+/// Runs a script, as [`ripngd_trace::explain`] does, and answers whether every line was done.
+///
+/// # Errors
+/// `OutOfMemory` where memory was refused, else `Write`. Earlier lines may have been written.
+pub fn explain<W: Write>(alloc: Global, script: &[u8], out: &mut W) -> Result<bool, PrintFault> {
+    Ok(ripngd_trace::explain(alloc, script, out)?)
 }

@@ -6,7 +6,7 @@ mod laboratory;
 mod status;
 mod subcommands;
 
-pub use laboratory::{lab, trace};
+pub use laboratory::{explain, lab, trace};
 pub use ripngd_command_line::{Ask, Order, Question, Serve, VERSION, ask};
 pub use ripngd_config::{Config, ConfigFault, Peer, read_config};
 pub use ripngd_daemon::{check, table};

@@ -7,7 +7,7 @@ ghost use Rattle.ripngd_daemon.specs.Failing.{MayFail};
 ghost use Rattle.ripngd_daemon.specs.declared.failure.Failure.TheVariants as failures;
 
 use crate::browser::serve;
-use crate::subcommands::{film_file, lab_file, show_digits, trace_file};
+use crate::subcommands::{explain_file, film_file, lab_file, show_digits, trace_file};
 use clap::error::ErrorKind;
 use ripngd_command_line::{Ask, ask};
 use ripngd_daemon::{
@@ -122,6 +122,7 @@ fn accepts<
         Ask::Check(file) => check_file(rt.alloc(), files, file, out),
         Ask::Lab(file) => lab_file(rt.alloc(), files, file, out, err),
         Ask::Trace(file) => trace_file(rt.alloc(), files, file, out),
+        Ask::Explain(file) => explain_file(rt.alloc(), files, file, out),
         Ask::Run(order) => run(rt, files, order, out, err, lost),
         Ask::Ctl(question) => ctl(rt, question, out),
         Ask::Table(file) => table_file(rt.alloc(), files, file, out),

@@ -9,7 +9,7 @@ ghost use Rattle.ripngd_page.specs.Film.{film_text, script_name};
 ghost use Rattle.ripngd_show.specs.Shown.{IsShown};
 
 use crate::browser::film;
-use crate::laboratory::{lab_hinted, trace};
+use crate::laboratory::{explain, lab_hinted, trace};
 use ripngd_daemon::{Failure, FileSource};
 use ripngd_show::show;
 use std::alloc::Global;
@@ -53,6 +53,19 @@ pub(crate) fn trace_file<'a, F: FileSource, O: Write>(
     ensures failed { IfErr result (MayFail (asks.Trace file.entry)) }
 {
     Ok(trace(alloc, files.read(file)?.as_slice(), out)?)
+}
+
+/// `lab --explain SCRIPT`: whether every line of the file was done.
+pub(crate) fn explain_file<'a, F: FileSource, O: Write>(
+    alloc: Global,
+    files: &F,
+    file: &'a str,
+    out: &mut O,
+) -> Result<bool, Failure<'a>>
+    ensures answered { IfOk result (λ accepted. (script : List ℕ) × F.holds files.now file.entry.now script) }
+    ensures failed { IfErr result (MayFail (asks.Explain file.entry)) }
+{
+    Ok(explain(alloc, files.read(file)?.as_slice(), out)?)
 }
 
 /// `page --film SCRIPT`: whether every line of the file was done.

@@ -55,7 +55,9 @@ IsAsked (asks.Show hex) name rows =
 IsAsked (asks.Check file) name rows =
     (name ≡ codes "check") × (first_of (codes "CONFIG") rows ≡ Some file.now)
 IsAsked (asks.Lab file) name rows =
-    (name ≡ codes "lab") × (first_of (codes "SCRIPT") rows ≡ Some file.now) × ¬ (IsSet rows (codes "trace"))
+    (name ≡ codes "lab") × (first_of (codes "SCRIPT") rows ≡ Some file.now) × ¬ (IsSet rows (codes "trace")) × ¬ (IsSet rows (codes "explain"))
+IsAsked (asks.Explain file) name rows =
+    (name ≡ codes "lab") × (first_of (codes "SCRIPT") rows ≡ Some file.now) × ¬ (IsSet rows (codes "trace")) × IsSet rows (codes "explain")
 IsAsked (asks.Trace file) name rows =
     (name ≡ codes "lab") × (first_of (codes "SCRIPT") rows ≡ Some file.now) × IsSet rows (codes "trace")
 IsAsked (asks.Run order) name rows = (name ≡ codes "run") × IsOrdered order rows

@@ -64,6 +64,10 @@ control_option = record (new_rule (codes "control")) { long = Some (codes "contr
 abbrev pub trace_option : Rule
 trace_option = record (new_rule (codes "trace")) { long = Some (codes "trace"); action = Some SetTrue }
 
+-- `--explain`
+abbrev pub explain_option : Rule
+explain_option = record (new_rule (codes "explain")) { long = Some (codes "explain"); action = Some SetTrue }
+
 -- `--port N`, from 0 to 65,535; 8532 if it is not given
 abbrev pub port_option : Rule
 port_option = record (new_rule (codes "port")) {
@@ -98,9 +102,9 @@ subcommand_required a = on_top (λ s. record s { subcommand_required = true }) a
 abbrev pub versioned : App → App
 versioned a = on_top (λ s. record s { has_version = true }) a
 
--- `lab [--trace] SCRIPT`
+-- `lab [--trace] [--explain] SCRIPT`
 abbrev pub lab_command : App
-lab_command = with_rule (with_rule (new_app (codes "lab")) trace_option) (positional (codes "SCRIPT"))
+lab_command = with_rule (with_rule (with_rule (new_app (codes "lab")) trace_option) explain_option) (positional (codes "SCRIPT"))
 
 -- `run [-q] [-d] [-t TAG] [-R FILE] [--turns N] [--control PATH] CONFIG`
 abbrev pub run_command : App

@@ -11,6 +11,8 @@ pub enum Ask<'a> {
     Lab(&'a str),
     /// `lab --trace SCRIPT`: all that happens as a file's script is run.
     Trace(&'a str),
+    /// `lab --explain SCRIPT`: the same in English.
+    Explain(&'a str),
     /// `run [-q] [-d] [-t TAG] [-R FILE] [--turns N] [--control PATH] CONFIG`: one router that runs.
     Run(Order<'a>),
     /// `ctl PATH COMMAND [WHAT] [VALUE] [PORT]`: a router that runs is asked or told something.

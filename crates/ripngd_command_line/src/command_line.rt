@@ -8,7 +8,7 @@ ghost use Rattle.clap.specs.Takes.{takes};
 ghost use Rattle.clap.specs.Walk.{Row, Text, first_of, rows_of};
 ghost use Rattle.clap.specs.Words.{found_of, kind_of, subcommand_rows_of};
 ghost use Rattle.ripngd_command_line.specs.Asked.{Asks, IsAsked, HasNumber, IsSet};
-ghost use Rattle.ripngd_command_line.specs.CommandLine.{IsArg, IsCommand, control_option, ctl_command, debug_option, film_option, lab_command, log_option, one_argument, optional_rule, page_command, port_option, positional, quiet_option, requests_option, ripngd, run_command, tag_option, trace_option, turns_option};
+ghost use Rattle.ripngd_command_line.specs.CommandLine.{IsArg, IsCommand, control_option, ctl_command, debug_option, explain_option, film_option, lab_command, log_option, one_argument, optional_rule, page_command, port_option, positional, quiet_option, requests_option, ripngd, run_command, tag_option, trace_option, turns_option};
 
 use crate::asked::{Ask, Order, Question, Serve};
 use crate::help;
@@ -120,7 +120,17 @@ fn trace<'a>(alloc: Global) -> Arg<'a>
         .help("Print a line of JSON for all that happens, in place of what the script prints")
 }
 
-/// `lab [--trace] SCRIPT`.
+/// `--explain`: a script's events are told in English, beside what its lines print.
+fn explain<'a>(alloc: Global) -> Arg<'a>
+    ensures { IsArg result explain_option }
+{
+    Arg::new(alloc, "explain")
+        .long("explain")
+        .action(ArgAction::SetTrue)
+        .help("Print a line of English for all that happens, beside what the script prints")
+}
+
+/// `lab [--trace] [--explain] SCRIPT`.
 fn lab<'a>(alloc: Global) -> Result<Command<'a>, AllocError>
     ensures { IfOk result (λ c. IsCommand c lab_command) }
 {
@@ -128,6 +138,7 @@ fn lab<'a>(alloc: Global) -> Result<Command<'a>, AllocError>
         .about("Run the network of routers that a script describes")
         .after_help(help::LAB)
         .arg(trace(alloc))?
+        .arg(explain(alloc))?
         .arg(required(alloc, "SCRIPT", "The file that holds it"))
 }
 
@@ -310,13 +321,15 @@ fn asked_of<'a>(name: &'a str, matches: &ArgMatches<'a>) -> Option<Ask<'a>>
     }
 }
 
-/// A laboratory, whose script is traced where the option was given.
+/// A laboratory, whose script is traced where that option was given, or else explained where the other was.
 fn lab_asked<'a>(matches: &ArgMatches<'a>) -> Option<Ask<'a>>
     ensures { IfSome result (λ a. IsAsked a (codes "lab") (rows_of (found_of matches.now))) }
 {
     let script = text(matches, "SCRIPT")?;
     Some(if is_set(matches, "trace") {
         Ask::Trace(script)
+    } else if is_set(matches, "explain") {
+        Ask::Explain(script)
     } else {
         Ask::Lab(script)
     })

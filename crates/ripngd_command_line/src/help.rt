@@ -37,9 +37,11 @@ The lines of a script make routers and links, and then deliver datagrams, let
 time pass, and change costs and prefixes. No socket and no clock takes part, so
 a script does the same whenever it is run. What its lines `print` and `sent` ask
 for is printed. The first line that is refused ends it, with exit status 1.
+With `--explain` a line of English says of each event what a router was given,
+what it made of it, and why.
 
 Example:
-  ripngd lab examples/line.lab";
+  ripngd lab --explain examples/line.lab";
 
 /// Of `run`.
 pub(crate) const RUN: &str = "\

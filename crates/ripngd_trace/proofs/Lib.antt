@@ -1,3 +1,5 @@
+pub mod DueUpdates
+pub mod Getting
 pub mod Lines
 pub mod Listing
 pub mod Reading

@@ -1,9 +1,8 @@
 -- Who reads the lines of a trace has each router's table after each.
-use Rattle.std.proofs.Common.{◌≡◌, ◌⊎◌, inl, inr, ℕ, zero, suc, refl, ap, sym, subst, ◌∙◌, List, [], ◌∷◌, ◌++◌, map, Option, None, Some, IfSome, OnErr, OnOk, Result, Ok, Err, option_map, slice_get, slice_set}
+use Rattle.std.proofs.Common.{◌≡◌, ◌⊎◌, inl, inr, ℕ, refl, ap, sym, subst, subst₂, ◌∙◌, List, [], ◌∷◌, ◌++◌, map, Option, None, Some, IfSome, OnErr, OnOk, Result, Ok, Err, option_map, slice_get, slice_set}
 use Rattle.std.specs.List.{AllZip}
 use Rattle.std.proofs.lemmas.List.{map-set}
 use Rattle.route_table.specs.Table.{Table}
-use Rattle.route_table.proofs.TableLaws.{None-Some}
 use Rattle.router_core.specs.Machine.{State, Happening, Arrives, Ticks, Restarts, Reconfigures}
 use Rattle.router_core.specs.declared.answer.Answer.{Answer}
 use Rattle.ripng_world.specs.Network.{Network}
@@ -15,13 +14,18 @@ use Rattle.ripng_world.proofs.Running.{get_map}
 use Rattle.ripngd_lab.specs.Asides.{Aside, NextLine, Prints, Broken}
 use Rattle.ripngd_lab.specs.ScriptWatching.{Telling, Starts, Does, Turns, Notes, TellsAll, FailsAtRest, FailsAtEvent, IsToldUntil, StartsAt}
 use Rattle.ripngd_trace.specs.Events.{RecordTells}
-use Rattle.ripngd_trace.specs.Reading.{AreWritten, IsTracedUntil, IsWritten, Line, StartLine, EventLine, PrintLine, RefusedLine, LostLine, Shown, ShowsTable, TellsOf, TellsScript, read_line, tables_in, tables_of}
-use Rattle.ripngd_trace.specs.Records.{LeadsTo}
+use Rattle.ripngd_trace.specs.Reading.{AreWritten, IsTracedUntil, IsWritten, Line, StartLine, EventLine, Explains, PrintLine, RefusedLine, LostLine, Shown, ShowsTable, TellsOf, TellsScript, all_timers, read_line, tables_in, tables_of, timers_of}
+use Rattle.ripngd_trace.specs.Offers.{TellsOffers}
+use Rattle.ripngd_trace.specs.Records.{LeadsTo, timers_in}
 use Rattle.ripngd_trace.specs.Saying.{BreaksOff, Said, SaysAside, SaysEvent, SaysLost, SaysPrint, SaysRefused, SaysStart}
 use Rattle.ripngd_trace.specs.Starting.{TellsStart}
 use Rattle.ripngd_trace.specs.declared.records.EventRecord.{EventRecord}
+use Rattle.ripngd_trace.specs.Updates.{TellsUpdate}
 use Rattle.ripngd_trace.specs.declared.records.StartRecord.{StartRecord}
+use Rattle.ripngd_trace.specs.declared.records.Timers.{Timers}
+use Rattle.ripngd_trace.proofs.Getting.{get_here}
 use Rattle.ripngd_trace.proofs.Showing.{shows_set, shows_started}
+use Rattle.ripngd_trace.proofs.DueUpdates.{update_told}
 
 -- ---- one event
 
@@ -32,11 +36,6 @@ moved net w (Stranger router x) answer w' h = (Arrives x, h.moves)
 moved net w (Tick router now word) answer w' h = (Ticks now word, h)
 moved net w (Restart router now) answer w' h = (Restarts now, h)
 moved net w (Reconfigure router now c) answer w' h = (Reconfigures now c, h)
-
-get_here : {X : Type 0} (xs : List X) (i : ℕ) (old x : X) → slice_get xs i ≡ Some old → slice_get (slice_set xs i x) i ≡ Some x
-get_here [] i old x is = absurd (None-Some old is)
-get_here (y ∷ ys) zero old x is = refl
-get_here (y ∷ ys) (suc i) old x is = get_here ys i old x is
 
 of_some : {X : Type 0} (o : Option X) (x : X) (P : X → Type 0) → o ≡ Some x → IfSome o P → P x
 of_some {X} o x P is h = subst (λ (p : Option X). IfSome p P) is h
@@ -49,7 +48,7 @@ pub on_err : {X E P Q : Type 0} (r : Result X E) → OnErr r P → (P → Q) →
 on_err (Ok x) p leads = tt
 on_err (Err e) p leads = leads p
 
-module _ (net : Network) (w : World) (e : Event) (answer : Answer) (mid : World) (happens : Happens net w e answer mid) (said said' : Said) (is : said.known ≡ tables_of w)
+module _ (net : Network) (w : World) (e : Event) (answer : Answer) (mid : World) (happens : Happens net w e answer mid) (said said' : Said) (is : said.known ≡ tables_of w) (clocks : said.timers ≡ all_timers w)
     (takes : SaysEvent said (telling net w e answer mid) said') where
   move : (what : Happening) × RouterMoves w (router_of e) what answer mid
   move = moved net w e answer mid happens
@@ -70,6 +69,24 @@ module _ (net : Network) (w : World) (e : Event) (answer : Answer) (mid : World)
       of_some (slice_get mid.states takes.r.router) move.1.new (λ (s : State). said'.known ≡ slice_set said.known takes.r.router s.table) is_now takes.known_is
       ∙ ap (λ (i : ℕ). slice_set said.known i move.1.new.table) takes.tells.router_is ∙ ap (λ (ts : List Table). slice_set ts (router_of e) move.1.new.table) is
       ∙ sym (map-set (λ (s : State). s.table) w.states (router_of e) move.1.new) ∙ ap (map (λ (s : State). s.table)) (sym move.1.states)
+
+  -- and its timers
+  pub timers_after : said'.timers ≡ all_timers mid
+  timers_after =
+      of_some (slice_get mid.states takes.r.router) move.1.new (λ (s : State). said'.timers ≡ slice_set said.timers takes.r.router (timers_in s)) is_now takes.timers_are
+      ∙ ap (λ (i : ℕ). slice_set said.timers i (timers_in move.1.new)) takes.tells.router_is ∙ ap (λ (ts : List Timers). slice_set ts (router_of e) (timers_in move.1.new)) clocks
+      ∙ sym (map-set timers_in w.states (router_of e) move.1.new) ∙ ap (map timers_in) (sym move.1.states)
+
+  -- and the record explains the event
+  explains_it : Explains (record { network = net; world = w }) e answer (record { network = net; world = mid }) takes.r
+  explains_it = record {
+    offers = subst (λ (ts : List Table). TellsOffers ts (record { network = net; world = mid }) e answer.notes takes.r.offers.items) is takes.offers;
+    update = update_told net w e answer mid happens takes.r.update
+        (subst (λ (ts : List Timers). TellsUpdate ts (record { network = net; world = mid }) e takes.r.update) clocks takes.update);
+  }
+
+  pub explains : (l l1 : LabValue) → record { network = net; world = w } ≡ l → record { network = net; world = mid } ≡ l1 → Explains l e answer l1 takes.r
+  explains l l1 is_l is_l1 = subst₂ (λ (a b : LabValue). Explains a e answer b takes.r) is_l is_l1 explains_it
 
   leads : LeadsTo move.1.old.table takes.r.routes.items takes.r.gone.items move.1.new.table
   leads = of_some (slice_get mid.states takes.r.router) move.1.new _ is_now (of_some (slice_get said.known takes.r.router) move.1.old.table _ was takes.listed)
@@ -124,16 +141,21 @@ aside_known said said' (inl p) = p.known_is
 aside_known said said' (inr (inl p)) = p.known_is
 aside_known said said' (inr (inr p)) = p.known_is
 
+aside_timers : (said said' : Said) → SaysPrint said said' ⊎ (SaysRefused said said' ⊎ SaysLost said said') → said'.timers ≡ said.timers
+aside_timers said said' (inl p) = p.timers_are
+aside_timers said said' (inr (inl p)) = p.timers_are
+aside_timers said said' (inr (inr p)) = p.timers_are
+
 -- ---- a script, as one is told of it who makes of each telling what the tracer makes of it
 
 module _ {V : Type 0} (f : V → Said) (st : V → LabValue → ℕ → V → Type 0) (t fl : V → Told → V → Type 0) (n : V → Aside → V → Type 0)
     (starts : (a : V) (lab : LabValue) (now : ℕ) (b : V) → st a lab now b → SaysStart (f a) lab now (f b)) (takes : (a : V) (what : Told) (b : V) → t a what b → SaysEvent (f a) what (f b))
     (fails : (a : V) (what : Told) (b : V) → fl a what b → BreaksOff (f a) what (f b)) (notes : (a : V) (what : Aside) (b : V) → n a what b → SaysAside (f a) what (f b)) where
   pub lines_told : (ts : List Telling) (lab : Option LabValue) (v : V) (end : Option LabValue) (v' : V) (shown : List Shown)
-      → AllZip ShowsTable shown (tables_in lab) → (f v).known ≡ tables_in lab → TellsAll st t n (lab, v) ts (end, v') → LinesFrom lab shown (f v) end (f v')
-  lines_told [] lab v end v' shown shows known same =
+      → AllZip ShowsTable shown (tables_in lab) → (f v).known ≡ tables_in lab → (f v).timers ≡ timers_of lab → TellsAll st t n (lab, v) ts (end, v') → LinesFrom lab shown (f v) end (f v')
+  lines_told [] lab v end v' shown shows known clocks same =
       ([], ap (λ (s : Option LabValue × V). s.0) same, ap (λ (s : Option LabValue × V). (f s.1).written) same)
-  lines_told (Starts now ∷ ts) lab v end v' shown shows known told =
+  lines_told (Starts now ∷ ts) lab v end v' shown shows known clocks told =
       let mid = told.0 in
       let begins = told.1 in
       let l = begins.1 in
@@ -144,10 +166,12 @@ module _ {V : Type 0} (f : V → Said) (st : V → LabValue → ℕ → V → Ty
       (shows_started says.r.routers.items l.world.states routers.as_many (λ k r is. ((routers.each k r is).state, (routers.each k r is).state_is, (routers.each k r is).routes_lead))) in
       let known1 : (f mid.1).known ≡ tables_in mid.0 =
       says.known_is ∙ ap (λ (ts : List Table). ts ++ tables_of l.world) (known ∙ ap tables_in begins.0) ∙ sym (ap tables_in begins.2) in
+      let clocks1 : (f mid.1).timers ≡ timers_of mid.0 =
+      says.timers_are ∙ ap (λ (ts : List Timers). ts ++ all_timers l.world) (clocks ∙ ap timers_of begins.0) ∙ sym (ap timers_of begins.2) in
       line_on lab mid.0 end shown (f v) (f mid.1) (f v') (StartLine says.r)
       (begins.0, l, begins.2, subst (StartsAt l) (sym says.tells.moment_is) begins.3, started_itself (f v).line l now says.r says.tells)
-      shows1 says.writes (lines_told ts mid.0 mid.1 end v' (read_line shown (StartLine says.r)) shows1 known1 told.2)
-  lines_told (Does e answer ∷ ts) lab v end v' shown shows known told =
+      shows1 says.writes (lines_told ts mid.0 mid.1 end v' (read_line shown (StartLine says.r)) shows1 known1 clocks1 told.2)
+  lines_told (Does e answer ∷ ts) lab v end v' shown shows known clocks told =
       let mid = told.0 in
       let done = told.1 in
       let l = done.0 in
@@ -155,37 +179,51 @@ module _ {V : Type 0} (f : V → Said) (st : V → LabValue → ℕ → V → Ty
       let what = telling l.network l.world e answer l1.world in
       let says : SaysEvent (f v) what (f mid.1) = takes v what mid.1 done.6 in
       let known0 : (f v).known ≡ tables_of l.world = known ∙ ap tables_in done.1 in
+      let clocks0 : (f v).timers ≡ all_timers l.world = clocks ∙ ap timers_of done.1 in
       let shows0 : AllZip ShowsTable shown (tables_of l.world) = subst (λ (o : Option LabValue). AllZip ShowsTable shown (tables_in o)) done.1 shows in
       let shows1 : AllZip ShowsTable (read_line shown (EventLine says.r)) (tables_in mid.0) =
       subst (λ (o : Option LabValue). AllZip ShowsTable (read_line shown (EventLine says.r)) (tables_in o)) (sym done.3)
-      (shown_after l.network l.world e answer l1.world done.5 (f v) (f mid.1) known0 says shown shows0) in
+      (shown_after l.network l.world e answer l1.world done.5 (f v) (f mid.1) known0 clocks0 says shown shows0) in
       let known1 : (f mid.1).known ≡ tables_in mid.0 =
-      known_after l.network l.world e answer l1.world done.5 (f v) (f mid.1) known0 says ∙ sym (ap tables_in done.3) in
-      line_on lab mid.0 end shown (f v) (f mid.1) (f v') (EventLine says.r)
-      (l, done.1, l1, done.3, e, answer, (done.4, done.5), told_itself (f v).line what says.r says.tells)
-      shows1 says.writes (lines_told ts mid.0 mid.1 end v' (read_line shown (EventLine says.r)) shows1 known1 told.2)
-  lines_told (Turns number ∷ ts) lab v end v' shown shows known told =
+      known_after l.network l.world e answer l1.world done.5 (f v) (f mid.1) known0 clocks0 says ∙ sym (ap tables_in done.3) in
+      let clocks1 : (f mid.1).timers ≡ timers_of mid.0 =
+      timers_after l.network l.world e answer l1.world done.5 (f v) (f mid.1) known0 clocks0 says ∙ sym (ap timers_of done.3) in
+      line_on lab mid.0 end shown (f v) (f mid.1) (f v') (EventLine says.r) (
+        l,
+        done.1,
+        l1,
+        done.3,
+        e,
+        answer,
+        (done.4, done.5),
+        told_itself (f v).line what says.r says.tells,
+        explains l.network l.world e answer l1.world done.5 (f v) (f mid.1) known0 clocks0 says l l1 refl (ap (λ (n : Network). record { network = n; world = l1.world }) (sym done.4)),
+      )
+      shows1 says.writes (lines_told ts mid.0 mid.1 end v' (read_line shown (EventLine says.r)) shows1 known1 clocks1 told.2)
+  lines_told (Turns number ∷ ts) lab v end v' shown shows known clocks told =
       let mid = told.0 in
       let turns = told.1 in
       let turned : SaysAside (f v) (NextLine number) (f mid.1) = notes v (NextLine number) mid.1 turns.1 in
       none_on lab mid.0 end shown (f v) (f mid.1) (f v') turns.0 (ap (λ (s : Said). s.written) turned)
       (lines_told ts mid.0 mid.1 end v' shown (subst (λ (o : Option LabValue). AllZip ShowsTable shown (tables_in o)) (sym turns.0) shows)
-      (ap (λ (s : Said). s.known) turned ∙ known ∙ sym (ap tables_in turns.0)) told.2)
-  lines_told (Notes ∷ ts) lab v end v' shown shows known told =
+      (ap (λ (s : Said). s.known) turned ∙ known ∙ sym (ap tables_in turns.0))
+      (ap (λ (s : Said). s.timers) turned ∙ clocks ∙ sym (ap timers_of turns.0)) told.2)
+  lines_told (Notes ∷ ts) lab v end v' shown shows known clocks told =
       let mid = told.0 in
       let notes1 = told.1 in
       let prints : SaysAside (f v) Prints (f mid.1) = notes v Prints mid.1 notes1.1 in
       let shows1 = subst (λ (o : Option LabValue). AllZip ShowsTable shown (tables_in o)) (sym notes1.0) shows in
       aside_on lab mid.0 end shown (f v) (f mid.1) (f v') notes1.0 shows1 prints
-      (lines_told ts mid.0 mid.1 end v' shown shows1 (aside_known (f v) (f mid.1) prints ∙ known ∙ sym (ap tables_in notes1.0)) told.2)
+      (lines_told ts mid.0 mid.1 end v' shown shows1 (aside_known (f v) (f mid.1) prints ∙ known ∙ sym (ap tables_in notes1.0))
+      (aside_timers (f v) (f mid.1) prints ∙ clocks ∙ sym (ap timers_of notes1.0)) told.2)
 
   -- up to where memory or the tracer failed
-  pub until_told : (v : V) (end : Option LabValue) (v' : V) → (f v).known ≡ [] → IsToldUntil st t fl n (None, v) (end, v')
+  pub until_told : (v : V) (end : Option LabValue) (v' : V) → (f v).known ≡ [] → (f v).timers ≡ [] → IsToldUntil st t fl n (None, v) (end, v')
       → IsTracedUntil (f v).written end (f v').written
-  until_told v end v' known until = by_why until.2
+  until_told v end v' known clocks until = by_why until.2
     where
       traced : LinesFrom None [] (f v) until.0.0 (f until.0.1)
-      traced = lines_told until.1.0 None v until.0.0 until.0.1 [] tt known until.1.1
+      traced = lines_told until.1.0 None v until.0.0 until.0.1 [] tt known clocks until.1.1
 
       by_why : FailsAtRest n until.0 (end, v') ⊎ FailsAtEvent fl until.0 (end, v') → IsTracedUntil (f v).written end (f v').written
       by_why (inl (same, inl unsaid)) = (until.0.0, (f until.0.1).written, traced, inl same, inl (ap (λ (x : V). (f x).written) unsaid))

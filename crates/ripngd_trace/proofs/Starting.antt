@@ -1,22 +1,21 @@
 -- Routers that have started, one more after another, and their tables.
-use Rattle.std.proofs.Common.{◌≡◌, ◌≤◌, ℕ, zero, suc, refl, ap, sym, arith, ◌∙◌, List, [], ◌∷◌, ◌++◌, take, length, option_map, Some, None, slice_get}
+use Rattle.std.proofs.Common.{◌≡◌, ◌≤◌, ℕ, zero, suc, refl, ap, sym, arith, ◌∙◌, List, [], ◌∷◌, ◌++◌, map, take, length, option_map, Some, None, slice_get}
 use Rattle.route_table.proofs.TableLaws.{None-Some}
 use Rattle.router_core.specs.Machine.{State}
 use Rattle.router_core.proofs.HearingSteps.{take_push}
 use Rattle.ripng_world.specs.World.{World}
 use Rattle.ripng_world.proofs.Running.{get_map}
-use Rattle.ripngd_trace.specs.Reading.{tables_of}
 
 pub length_push : {X : Type 0} (xs : List X) (x : X) → length (xs ++ x ∷ []) ≡ suc (length xs)
 length_push [] x = refl
 length_push (y ∷ xs) x = ap suc (length_push xs x)
 
--- with the record of the next router its table is known
-pub known_more : {X : Type 0} (w : World) (records : List X) (r : X) (state : State) → slice_get w.states (length records) ≡ Some state
-    → take (length (records ++ r ∷ [])) (tables_of w) ≡ take (length records) (tables_of w) ++ state.table ∷ []
-known_more w records r state is =
-    ap (λ (n : ℕ). take n (tables_of w)) (length_push records r)
-    ∙ take_push (tables_of w) (length records) state.table (get_map (λ (s : State). s.table) w.states (length records) ∙ ap (option_map (λ (s : State). s.table)) is)
+-- with the record of the next router, what it says of its state is known
+pub known_more : {X Y : Type 0} (f : State → Y) (w : World) (records : List X) (r : X) (state : State) → slice_get w.states (length records) ≡ Some state
+    → take (length (records ++ r ∷ [])) (map f w.states) ≡ take (length records) (map f w.states) ++ f state ∷ []
+known_more f w records r state is =
+    ap (λ (n : ℕ). take n (map f w.states)) (length_push records r)
+    ∙ take_push (map f w.states) (length records) (f state) (get_map f w.states (length records) ∙ ap (option_map f) is)
 
 -- behind the last one there is none
 pub all_there : {X : Type 0} (xs : List X) (n : ℕ) → slice_get xs n ≡ None → length xs ≤ n

@@ -11,7 +11,7 @@ use Rattle.ripngd_trace.proofs.Reading.{kept, kept_until, lines_told, until_told
 
 module _ {W : Type 0} (contents : W → Option (List ℕ)) where
   abbrev said_by : Tracer W → Said
-  said_by t = record { line = t.line; known = t.known.items; written = contents t.out.now }
+  said_by t = record { line = t.line; known = t.known.items; timers = t.timers.items; written = contents t.out.now }
 
   -- its ghost members
   abbrev starts_by : Tracer W → LabValue → ℕ → Tracer W → Type 0
@@ -36,14 +36,14 @@ module _ {W : Type 0} (contents : W → Option (List ℕ)) where
     until_same until =
         sym (kept_until (λ (t : Tracer W). t.out.ghost_name) starts_by takes_by fails_by notes_by (λ a l now b h. h.1) (λ a what b h. h.1) (λ a what b h. h.1) (λ a what b h. h.1) (None, v) (end, v') until)
 
-    module _ (old out : W) (nothing : v.known.items ≡ []) (first : v.out.now ≡ old) (last : out ≡ v'.out.now) where
+    module _ (old out : W) (nothing : v.known.items ≡ []) (untimed : v.timers.items ≡ []) (first : v.out.now ≡ old) (last : out ≡ v'.out.now) where
       -- the writer has the lines
       pub traced : IsToldOfLab starts_by takes_by notes_by (None, v) (end, v') → IsTraced (contents old) end (contents out)
       traced told =
           subst₂ (λ (a b : W). IsTraced (contents a) end (contents b)) first (sym last)
-          (lines_told said_by starts_by takes_by fails_by notes_by (λ a l now b h. h.0) (λ a what b h. h.0) (λ a what b h. h.0) (λ a what b h. h.0) told.0 None v end v' [] tt nothing told.1)
+          (lines_told said_by starts_by takes_by fails_by notes_by (λ a l now b h. h.0) (λ a what b h. h.0) (λ a what b h. h.0) (λ a what b h. h.0) told.0 None v end v' [] tt nothing untimed told.1)
 
       pub traced_until : IsToldUntil starts_by takes_by fails_by notes_by (None, v) (end, v') → IsTracedUntil (contents old) end (contents out)
       traced_until until =
           subst₂ (λ (a b : W). IsTracedUntil (contents a) end (contents b)) first (sym last)
-          (until_told said_by starts_by takes_by fails_by notes_by (λ a l now b h. h.0) (λ a what b h. h.0) (λ a what b h. h.0) (λ a what b h. h.0) v end v' nothing until)
+          (until_told said_by starts_by takes_by fails_by notes_by (λ a l now b h. h.0) (λ a what b h. h.0) (λ a what b h. h.0) (λ a what b h. h.0) v end v' nothing untimed until)

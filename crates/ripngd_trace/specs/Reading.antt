@@ -11,14 +11,17 @@ use Rattle.ripng_world.specs.World.{World, Event, Happens}
 use Rattle.ripngd_lab.specs.ScriptWatching.{StartsAt}
 use Rattle.ripngd_trace.specs.Events.{RecordTells}
 use Rattle.ripngd_trace.specs.Lines.{WritesLess, WritesRecord}
-use Rattle.ripngd_trace.specs.Records.{route_record, taken_out}
+use Rattle.ripngd_trace.specs.Offers.{TellsOffers}
+use Rattle.ripngd_trace.specs.Records.{route_record, taken_out, timers_in}
 use Rattle.ripngd_trace.specs.Starting.{TellsStart}
+use Rattle.ripngd_trace.specs.Updates.{due_at}
 use Rattle.ripngd_trace.specs.declared.records.EventRecord.{EventRecord}
 use Rattle.ripngd_trace.specs.declared.records.PrintRecord.{PrintRecord}
 use Rattle.ripngd_trace.specs.declared.records.LostRecord.{LostRecord}
 use Rattle.ripngd_trace.specs.declared.records.RefusedRecord.{RefusedRecord}
 use Rattle.ripngd_trace.specs.declared.records.RouteRecord.{RouteRecord}
 use Rattle.ripngd_trace.specs.declared.records.StartRecord.{StartRecord}
+use Rattle.ripngd_trace.specs.declared.records.Timers.{Timers}
 
 -- ---- what a reader has
 
@@ -58,10 +61,18 @@ read_line shown (LostLine r) = shown
 abbrev pub tables_of : World → List Table
 tables_of w = map (λ s. s.table) w.states
 
+-- the timers of each router
+abbrev pub all_timers : World → List Timers
+all_timers w = map timers_in w.states
+
 -- the same of a script's lab, which has no routers before its start
 abbrev pub tables_in : Option LabValue → List Table
 tables_in None = []
 tables_in (Some lab) = tables_of lab.world
+
+abbrev pub timers_of : Option LabValue → List Timers
+timers_of None = []
+timers_of (Some lab) = all_timers lab.world
 
 -- an event happens in a lab, with this answer
 abbrev pub HappensIn : LabValue → Event → Answer → LabValue → Type 0
@@ -71,12 +82,17 @@ HappensIn lab e answer lab' = (lab'.network ≡ lab.network) × Happens lab.netw
 abbrev pub IsPrintWord : List ℕ → Type 0
 IsPrintWord word = (word ≡ codes "print") ⊎ ((word ≡ codes "sent") ⊎ (word ≡ codes "say"))
 
+-- a record of an event has the offers and the update of it, by the lab before and the lab after
+pub record Explains (lab : LabValue) (e : Event) (answer : Answer) (lab' : LabValue) (r : EventRecord) : Type 0 where
+  pub offers : TellsOffers (tables_of lab.world) lab' e answer.notes r.offers.items
+  pub update : r.update ≡ due_at lab e
+
 -- a line tells what becomes of a script's lab: it starts; an event happens in it; or nothing does, as the line's word says
 abbrev pub TellsOf : Line → Option LabValue → Option LabValue → Type 0
 TellsOf (StartLine r) before after = (before ≡ None) × (lab : LabValue) × (after ≡ Some lab) × StartsAt lab r.now × TellsStart r.line lab r.now r
 TellsOf (EventLine r) before after =
     (lab : LabValue) × (before ≡ Some lab) × (lab' : LabValue) × (after ≡ Some lab')
-    × (e : Event) × (answer : Answer) × HappensIn lab e answer lab' × RecordTells r.line (telling lab.network lab.world e answer lab'.world) r
+    × (e : Event) × (answer : Answer) × HappensIn lab e answer lab' × RecordTells r.line (telling lab.network lab.world e answer lab'.world) r × Explains lab e answer lab' r
 TellsOf (PrintLine r) before after = (after ≡ before) × IsPrintWord r.record.now
 TellsOf (RefusedLine r) before after = (after ≡ before) × (r.record.now ≡ codes "refused")
 TellsOf (LostLine r) before after = (after ≡ before) × (r.record.now ≡ codes "lost")

@@ -6,36 +6,45 @@ use Rattle.ripng_world.specs.Watching.{Told}
 use Rattle.ripngd_lab.specs.Asides.{Aside, NextLine, Prints, Broken}
 use Rattle.ripngd_trace.specs.Events.{RecordTells}
 use Rattle.ripngd_trace.specs.Lines.{WritesLess, WritesRecord}
-use Rattle.ripngd_trace.specs.Reading.{IsPrintWord, tables_of}
-use Rattle.ripngd_trace.specs.Records.{LeadsTo}
+use Rattle.ripngd_trace.specs.Offers.{TellsOffers}
+use Rattle.ripngd_trace.specs.Reading.{IsPrintWord, all_timers, tables_of}
+use Rattle.ripngd_trace.specs.Records.{LeadsTo, timers_in}
 use Rattle.ripngd_trace.specs.Starting.{TellsStart}
+use Rattle.ripngd_trace.specs.Updates.{TellsUpdate}
 use Rattle.ripngd_trace.specs.declared.records.EventRecord.{EventRecord}
 use Rattle.ripngd_trace.specs.declared.records.PrintRecord.{PrintRecord}
 use Rattle.ripngd_trace.specs.declared.records.LostRecord.{LostRecord}
 use Rattle.ripngd_trace.specs.declared.records.RefusedRecord.{RefusedRecord}
 use Rattle.ripngd_trace.specs.declared.records.StartRecord.{StartRecord}
+use Rattle.ripngd_trace.specs.declared.records.Timers.{Timers}
 
--- the line of the script that it is at, the table of each router as a reader of its records knows it, and what is written
+-- the line of the script that it is at, the table and the timers of each router as a reader of its records knows them, and what is
+-- written
 pub record Said : Type 0 where
   pub line : ℕ
   pub known : List Table
+  pub timers : List Timers
   pub written : Option (List ℕ)
 
--- of the start it writes a record that tells of it, as one line, and each router's table is known from then on
+-- of the start it writes a record that tells of it, as one line, and each router's table and timers are known from then on
 pub record SaysStart (said : Said) (lab : LabValue) (now : ℕ) (said' : Said) : Type 0 where
   pub r : StartRecord
   pub tells : TellsStart said.line lab now r
   pub known_is : said'.known ≡ said.known ++ tables_of lab.world
+  pub timers_are : said'.timers ≡ said.timers ++ all_timers lab.world
   pub line_is : said'.line ≡ said.line
   pub writes : WritesRecord r said.written said'.written
 
--- of an event it writes a record that tells of it, as one line, and leads from the table known of its router to that router's
--- own; that table is known from then on, and all others as they were
+-- of an event it writes a record that tells of it, of its offers and of its update, as one line, and leads from the table known of
+-- its router to that router's own; that table and its timers are known from then on, and all others as they were
 pub record SaysEvent (said : Said) (what : Told) (said' : Said) : Type 0 where
   pub r : EventRecord
   pub tells : RecordTells said.line what r
   pub listed : IfSome (slice_get said.known r.router) (λ before. IfSome (slice_get what.lab.world.states r.router) (λ state. LeadsTo before r.routes.items r.gone.items state.table))
+  pub offers : TellsOffers said.known what.lab what.event what.answer.notes r.offers.items
+  pub update : TellsUpdate said.timers what.lab what.event r.update
   pub known_is : IfSome (slice_get what.lab.world.states r.router) (λ state. said'.known ≡ slice_set said.known r.router state.table)
+  pub timers_are : IfSome (slice_get what.lab.world.states r.router) (λ state. said'.timers ≡ slice_set said.timers r.router (timers_in state))
   pub line_is : said'.line ≡ said.line
   pub writes : WritesRecord r said.written said'.written
 
@@ -48,6 +57,7 @@ pub record SaysPrint (said said' : Said) : Type 0 where
   pub r : PrintRecord
   pub word_is : IsPrintWord r.record.now
   pub known_is : said'.known ≡ said.known
+  pub timers_are : said'.timers ≡ said.timers
   pub writes : WritesRecord r said.written said'.written
 
 -- so of why a line ends the script
@@ -55,6 +65,7 @@ pub record SaysRefused (said said' : Said) : Type 0 where
   pub r : RefusedRecord
   pub word_is : r.record.now ≡ codes "refused"
   pub known_is : said'.known ≡ said.known
+  pub timers_are : said'.timers ≡ said.timers
   pub writes : WritesRecord r said.written said'.written
 
 -- and so that a line lost a datagram
@@ -62,6 +73,7 @@ pub record SaysLost (said said' : Said) : Type 0 where
   pub r : LostRecord
   pub word_is : r.record.now ≡ codes "lost"
   pub known_is : said'.known ≡ said.known
+  pub timers_are : said'.timers ≡ said.timers
   pub writes : WritesRecord r said.written said'.written
 
 -- of the number of the next line it writes nothing, and knows it; of what a line prints or loses, or why it ends the script, a record

@@ -3,13 +3,18 @@
 
 mod answers;
 mod events;
+mod explaining;
 mod laws;
 mod network;
+mod offers;
 mod records;
+mod sentences;
 mod shown;
 mod tables;
 mod tracer;
+mod updates;
 mod writing;
 
+pub use explaining::explain;
 pub use laws::readers_know_each_table;
 pub use tracer::trace;

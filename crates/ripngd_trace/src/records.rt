@@ -1,8 +1,9 @@
 //! The records of a trace. Each is a line of JSON, whose members have the names of the fields and stand in their order.
 //! Moments and deadlines are in milliseconds, metrics and costs in hops; all numbers count from 0, but for lines.
 
-use crate::shown::{Shown, as_text, as_texts};
+use crate::shown::{Shown, as_name, as_text, as_texts};
 use prefix6::{Addr6, Prefix};
+use router_core::Reason;
 use serde::Serialize;
 
 /// The routers have started: the network, each router's first state, and what they sent.
@@ -60,6 +61,10 @@ pub struct EventRecord {
     /// Why an arrival was refused; then all lists are empty.
     pub fault: Option<FaultRecord>,
     pub notes: Vec<NoteRecord>,
+    /// What a delivered Response offered, but for entries that have a note.
+    pub offers: Vec<OfferRecord>,
+    /// Which update was due at a tick.
+    pub update: Option<UpdateRecord>,
     pub changes: Vec<ChangeRecord>,
     pub sent: Vec<SentRecord>,
     pub timers: Option<Timers>,
@@ -135,6 +140,35 @@ pub struct NoteRecord {
     pub entry: usize,
     pub number: u8,
     pub name: &'static str,
+}
+
+/// An offer, and the row of the table of adoption that it fell under (RFC 2080, section 2.4.2).
+#[derive(Clone, Copy, Debug, PartialEq, Eq, Serialize)]
+pub struct OfferRecord {
+    /// The entry that offers it.
+    pub entry: usize,
+    #[serde(serialize_with = "as_text")]
+    pub prefix: Prefix,
+    /// With the cost of the interface that it came on.
+    pub metric: u8,
+    pub tag: u16,
+    #[serde(serialize_with = "as_text")]
+    pub next_hop: Addr6,
+    /// The row, by its name.
+    #[serde(serialize_with = "as_name")]
+    pub why: Reason,
+}
+
+/// Which update was due at a tick (RFC 2080, sections 2.3 and 2.5.1).
+#[derive(Clone, Copy, Debug, PartialEq, Eq, Serialize)]
+#[serde(rename_all = "lowercase")]
+pub enum UpdateRecord {
+    /// It told all routes.
+    Regular,
+    /// It told those that were marked.
+    Triggered,
+    /// A route is marked, and the pause behind the last triggered update is not over.
+    Held,
 }
 
 /// A change of the forwarding table.

@@ -1,5 +1,6 @@
 //! Values that a record has as their text.
 
+use router_core::Reason;
 use serde::{Described, Serialize, Serializer};
 use std::fmt::Display;
 
@@ -9,6 +10,14 @@ use std::fmt::Display;
 /// Of the format.
 pub fn as_text<T: Display, S: Serializer>(value: &T, out: &mut S) -> Result<(), S::Error> {
     out.collect_str(value)
+}
+
+/// Writes a row of the table of adoption as its name.
+///
+/// # Errors
+/// Of the format.
+pub fn as_name<S: Serializer>(row: &Reason, out: &mut S) -> Result<(), S::Error> {
+    out.collect_str(&row.name())
 }
 
 /// Writes values as a list of the texts that they print.

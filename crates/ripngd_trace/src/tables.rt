@@ -71,7 +71,7 @@ fn due_of<S: RouteStore>(router: &Router<S>) -> Option<DueRecord>
 }
 
 /// The timers of a router.
-fn timers_in<S: RouteStore>(router: &Router<S>) -> Timers
+pub fn timers_in<S: RouteStore>(router: &Router<S>) -> Timers
     ensures { result ≡ timers_in router.now }
 {
     Timers {

@@ -1,22 +1,26 @@
 //! A script, traced.
 
-ghost use Rattle.std.specs.Prelude.{◌≡◌, [], ◌∷◌, ◌++◌, IfOk, IfSome, OnErr, OnOk, Option, Some, codes, slice_get, slice_set};
+ghost use Rattle.std.specs.Prelude.{◌≡◌, [], ◌∷◌, ◌++◌, IfOk, IfSome, OnErr, OnOk, Option, Some, codes, option_map, slice_get, slice_set};
 ghost use Rattle.ripng_world.specs.Events.{event_of};
 ghost use Rattle.ripng_world.specs.Labs.{LabValue};
 ghost use Rattle.ripngd_trace.specs.Events.{RecordTells};
 ghost use Rattle.ripngd_trace.specs.Lines.{WritesLess, WritesRecord};
-ghost use Rattle.ripngd_trace.specs.Reading.{IsTraced, IsTracedUntil, tables_of};
-ghost use Rattle.ripngd_trace.specs.Records.{LeadsTo};
+ghost use Rattle.ripngd_trace.specs.Offers.{TellsOffers};
+ghost use Rattle.ripngd_trace.specs.Reading.{IsTraced, IsTracedUntil, all_timers, tables_of};
+ghost use Rattle.ripngd_trace.specs.Records.{LeadsTo, timers_in};
 ghost use Rattle.ripngd_trace.specs.Saying.{BreaksOff, SaysAside, SaysEvent, SaysStart};
 ghost use Rattle.ripngd_trace.specs.Starting.{AreTold, TellsRouter, TellsStart};
+ghost use Rattle.ripngd_trace.specs.Updates.{TellsUpdate};
 
 use crate::answers::{change_records, fault_record, note_records, sent_since};
 use crate::events::{happened, moment_of, router_of};
 use crate::network::{interface_records, owned_records};
+use crate::offers::offers_of;
 use crate::records::{
-    EventRecord, LostRecord, PrintRecord, RefusedRecord, RouterRecord, StartRecord,
+    EventRecord, LostRecord, PrintRecord, RefusedRecord, RouterRecord, StartRecord, Timers,
 };
-use crate::tables::{News, news_of, timers_of};
+use crate::tables::{News, news_of, timers_in, timers_of};
+use crate::updates::update_of;
 use crate::writing::write_record;
 use ripng_world::{Event, Lab};
 use ripngd_lab::{Choice, Refusal, Unmet, Watch, print_routes, print_sent, watched};
@@ -42,6 +46,7 @@ pub fn trace<W: Write>(alloc: Global, script: &[u8], out: &mut W) -> io::Result<
         alloc: _,
         line: _,
         known: _known,
+        timers: _timers,
         out: written,
     } = tracer;
     // No effect at run time. The proof reads what `out` holds from this use of the reference.
@@ -51,13 +56,15 @@ pub fn trace<W: Write>(alloc: Global, script: &[u8], out: &mut W) -> io::Result<
 
 /// The watcher that writes the records.
 #[derive(Drop)]
-struct Tracer<'a, W: Write> {
-    alloc: Global,
+pub struct Tracer<'a, W: Write> {
+    pub alloc: Global,
     /// The number of the script's line.
     line: usize,
     /// The table of each router, as a reader of the records knows it.
     known: Vec<TrieRoutes>,
-    out: &'a mut W,
+    /// The timers of each router, as the last record of it has them.
+    timers: Vec<Timers>,
+    pub out: &'a mut W,
 }
 
 /// What a reader has to be told of one of the tables that are known. Then it is known, and all others are as they were.
@@ -76,10 +83,20 @@ fn news_in(
     news_of(alloc, &mut known[router], table)
 }
 
+/// These are the timers of a router from now on, if there is such a router.
+fn know(known: &mut [Timers], router: usize, timers: Timers)
+    ensures { known.new ≡ slice_set known.old router timers }
+{
+    if router < known.len() {
+        known[router] = timers;
+    }
+}
+
 impl<'a, W: Write> Tracer<'a, W> {
     /// It is at no line yet, and knows no table.
-    fn new(alloc: Global, out: &'a mut W) -> Tracer<'a, W>
+    pub fn new(alloc: Global, out: &'a mut W) -> Tracer<'a, W>
         ensures known { result.known.items ≡ [] }
+        ensures timers { result.timers.items ≡ [] }
         ensures out { result.out.now ≡ out.old }
         ensures same_reference { result.out.ghost_name ≡ out.entry.ghost_name }
     {
@@ -87,6 +104,7 @@ impl<'a, W: Write> Tracer<'a, W> {
             alloc,
             line: 0,
             known: Vec::new(alloc),
+            timers: Vec::new(alloc),
             out,
         }
     }
@@ -100,12 +118,14 @@ impl<'a, W: Write> Tracer<'a, W> {
     ) -> Result<RouterRecord, AllocError>
         ensures tells { IfOk result (λ r. slice_get lab.now.world.states number ≡ Some router.now → TellsRouter lab.now number r) }
         ensures known { OnOk result (self.new.known.items ≡ self.old.known.items ++ router.now.table ∷ []) }
+        ensures timers { OnOk result (self.new.timers.items ≡ self.old.timers.items ++ timers_in router.now ∷ []) }
         ensures line { self.new.line ≡ self.old.line }
         ensures out { self.new.out ≡ self.old.out }
     {
         let mut known = TrieRoutes::empty(self.alloc);
         let news = news_of(self.alloc, &mut known, router.routes())?;
         self.known.push(known)?;
+        self.timers.push(timers_in(router))?;
         let config = router.config();
         let interfaces = interface_records(self.alloc, lab, number, config)?;
         let prefixes = owned_records(self.alloc, config)?;
@@ -122,6 +142,7 @@ impl<'a, W: Write> Tracer<'a, W> {
     fn router_records(&mut self, lab: &Lab<TrieRoutes>) -> Result<Vec<RouterRecord>, AllocError>
         ensures tells { IfOk result (λ records. AreTold lab.now records.items) }
         ensures known { OnOk result (self.new.known.items ≡ self.old.known.items ++ tables_of lab.now.world) }
+        ensures timers { OnOk result (self.new.timers.items ≡ self.old.timers.items ++ all_timers lab.now.world) }
         ensures line { self.new.line ≡ self.old.line }
         ensures out { self.new.out ≡ self.old.out }
     {
@@ -134,13 +155,14 @@ impl<'a, W: Write> Tracer<'a, W> {
     }
 
     /// The start of the routers.
-    fn start_record(
+    pub fn start_record(
         &mut self,
         lab: &Lab<TrieRoutes>,
         now: Moment,
     ) -> Result<StartRecord, AllocError>
         ensures tells { IfOk result (TellsStart self.old.line lab.now now) }
         ensures known { OnOk result (self.new.known.items ≡ self.old.known.items ++ tables_of lab.now.world) }
+        ensures timers { OnOk result (self.new.timers.items ≡ self.old.timers.items ++ all_timers lab.now.world) }
         ensures line { self.new.line ≡ self.old.line }
         ensures out { self.new.out ≡ self.old.out }
     {
@@ -158,6 +180,7 @@ impl<'a, W: Write> Tracer<'a, W> {
         ensures listed { IfOk result (λ news. IfSome (slice_get self.old.known.items router) (λ before. IfSome (slice_get lab.now.world.states router) (λ state.
             LeadsTo before news.routes.items news.gone.items state.table))) }
         ensures known { OnOk result (IfSome (slice_get lab.now.world.states router) (λ state. self.new.known.items ≡ slice_set self.old.known.items router state.table)) }
+        ensures timers { self.new.timers ≡ self.old.timers }
         ensures line { self.new.line ≡ self.old.line }
         ensures out { self.new.out ≡ self.old.out }
     {
@@ -167,8 +190,22 @@ impl<'a, W: Write> Tracer<'a, W> {
         }
     }
 
+    /// The timers of a router, as the next record has them. They are known from then on.
+    fn timers_at(&mut self, lab: &Lab<TrieRoutes>, router: usize) -> Option<Timers>
+        ensures told { result ≡ option_map timers_in (slice_get lab.now.world.states router) }
+        ensures timers { IfSome (slice_get lab.now.world.states router) (λ state. self.new.timers.items ≡ slice_set self.old.timers.items router (timers_in state)) }
+        ensures known { self.new.known ≡ self.old.known }
+        ensures line { self.new.line ≡ self.old.line }
+        ensures out { self.new.out ≡ self.old.out }
+    {
+        if let Some(timers) = timers_of(lab, router) {
+            know(&mut self.timers, router, timers);
+        }
+        timers_of(lab, router)
+    }
+
     /// An event that was done.
-    fn event_record(
+    pub fn event_record(
         &mut self,
         lab: &Lab<TrieRoutes>,
         event: &Event<'_>,
@@ -178,11 +215,16 @@ impl<'a, W: Write> Tracer<'a, W> {
         ensures tells { IfOk result (RecordTells self.old.line (record { lab = lab.now; event = event_of event.entry.now; answer = answer.now; first = first })) }
         ensures listed { IfOk result (λ r. IfSome (slice_get self.old.known.items r.router) (λ before. IfSome (slice_get lab.now.world.states r.router) (λ state.
             LeadsTo before r.routes.items r.gone.items state.table))) }
+        ensures offers { IfOk result (λ r. TellsOffers self.old.known.items lab.now (event_of event.entry.now) answer.now.notes r.offers.items) }
+        ensures update { IfOk result (λ r. TellsUpdate self.old.timers.items lab.now (event_of event.entry.now) r.update) }
         ensures known { IfOk result (λ r. IfSome (slice_get lab.now.world.states r.router) (λ state. self.new.known.items ≡ slice_set self.old.known.items r.router state.table)) }
+        ensures timers { IfOk result (λ r. IfSome (slice_get lab.now.world.states r.router) (λ state. self.new.timers.items ≡ slice_set self.old.timers.items r.router (timers_in state))) }
         ensures line { self.new.line ≡ self.old.line }
         ensures out { self.new.out ≡ self.old.out }
     {
         let router = router_of(event);
+        let offers = offers_of(self.alloc, lab, self.known.as_slice(), event, answer)?;
+        let update = update_of(lab, self.timers.as_slice(), event);
         let news = self.news_at(lab, router)?;
         Ok(EventRecord {
             line: self.line,
@@ -192,9 +234,11 @@ impl<'a, W: Write> Tracer<'a, W> {
             event: happened(self.alloc, lab, event)?,
             fault: fault_record(answer.fault),
             notes: note_records(self.alloc, answer.notes.as_slice())?,
+            offers,
+            update,
             changes: change_records(self.alloc, answer.changes.as_slice())?,
             sent: sent_since(self.alloc, lab, first)?,
-            timers: timers_of(lab, router),
+            timers: self.timers_at(lab, router),
             routes: news.routes,
             gone: news.gone,
         })
@@ -205,6 +249,7 @@ impl<'a, W: Write> Tracer<'a, W> {
         ensures whole { OnOk result ((r : PrintRecord) × (r.«record».now ≡ word.now) × WritesRecord r (W.contents self.old.out.now) (W.contents self.new.out.now)) }
         ensures broken { OnErr result (WritesLess (W.contents self.old.out.now) (W.contents self.new.out.now)) }
         ensures known { self.new.known.items ≡ self.old.known.items }
+        ensures timers { self.new.timers.items ≡ self.old.timers.items }
         ensures same_reference { self.new.out.ghost_name ≡ self.old.out.ghost_name }
     {
         let text = str::from_utf8(prints).unwrap_or("");
@@ -221,6 +266,7 @@ impl<'a, W: Write> Tracer<'a, W> {
         ensures whole { OnOk result ((r : LostRecord) × (r.«record».now ≡ codes "lost") × (r.datagram ≡ datagram) × WritesRecord r (W.contents self.old.out.now) (W.contents self.new.out.now)) }
         ensures broken { OnErr result (WritesLess (W.contents self.old.out.now) (W.contents self.new.out.now)) }
         ensures known { self.new.known.items ≡ self.old.known.items }
+        ensures timers { self.new.timers.items ≡ self.old.timers.items }
         ensures same_reference { self.new.out.ghost_name ≡ self.old.out.ghost_name }
     {
         let record = LostRecord {
@@ -236,6 +282,7 @@ impl<'a, W: Write> Tracer<'a, W> {
         ensures whole { OnOk result ((r : RefusedRecord) × (r.«record».now ≡ codes "refused") × WritesRecord r (W.contents self.old.out.now) (W.contents self.new.out.now)) }
         ensures broken { OnErr result (WritesLess (W.contents self.old.out.now) (W.contents self.new.out.now)) }
         ensures known { self.new.known.items ≡ self.old.known.items }
+        ensures timers { self.new.timers.items ≡ self.old.timers.items }
         ensures same_reference { self.new.out.ghost_name ≡ self.old.out.ghost_name }
     {
         let record = RefusedRecord {
@@ -250,10 +297,10 @@ impl<'a, W: Write> Tracer<'a, W> {
 impl<'a, W: Write> ripng_world::Watch<TrieRoutes> for Tracer<'a, W> {
     type Fault = io::Error;
 
-    ghost takes = { λ old what new. SaysEvent (record { line = old.line; known = old.known.items; written = W.contents old.out.now }) what (record { line = new.line; known = new.known.items; written = W.contents new.out.now })
+    ghost takes = { λ old what new. SaysEvent (record { line = old.line; known = old.known.items; timers = old.timers.items; written = W.contents old.out.now }) what (record { line = new.line; known = new.known.items; timers = new.timers.items; written = W.contents new.out.now })
         × (new.out.ghost_name ≡ old.out.ghost_name) };
 
-    ghost fails = { λ old what new. BreaksOff (record { line = old.line; known = old.known.items; written = W.contents old.out.now }) what (record { line = new.line; known = new.known.items; written = W.contents new.out.now })
+    ghost fails = { λ old what new. BreaksOff (record { line = old.line; known = old.known.items; timers = old.timers.items; written = W.contents old.out.now }) what (record { line = new.line; known = new.known.items; timers = new.timers.items; written = W.contents new.out.now })
         × (new.out.ghost_name ≡ old.out.ghost_name) };
 
     fn happened(
@@ -269,10 +316,10 @@ impl<'a, W: Write> ripng_world::Watch<TrieRoutes> for Tracer<'a, W> {
 }
 
 impl<'a, W: Write> Watch for Tracer<'a, W> {
-    ghost starts = { λ old lab now new. SaysStart (record { line = old.line; known = old.known.items; written = W.contents old.out.now }) lab now (record { line = new.line; known = new.known.items; written = W.contents new.out.now })
+    ghost starts = { λ old lab now new. SaysStart (record { line = old.line; known = old.known.items; timers = old.timers.items; written = W.contents old.out.now }) lab now (record { line = new.line; known = new.known.items; timers = new.timers.items; written = W.contents new.out.now })
         × (new.out.ghost_name ≡ old.out.ghost_name) };
 
-    ghost notes = { λ old what new. SaysAside (record { line = old.line; known = old.known.items; written = W.contents old.out.now }) what (record { line = new.line; known = new.known.items; written = W.contents new.out.now })
+    ghost notes = { λ old what new. SaysAside (record { line = old.line; known = old.known.items; timers = old.timers.items; written = W.contents old.out.now }) what (record { line = new.line; known = new.known.items; timers = new.timers.items; written = W.contents new.out.now })
         × (new.out.ghost_name ≡ old.out.ghost_name) };
 
     fn at_line(&mut self, number: usize) {

@@ -3,6 +3,7 @@
 #![tactic(auto)]
 
 #[cfg(test)]
+mod explained;
 mod hinted;
 #[cfg(test)]
 mod printed;

@@ -9,7 +9,9 @@ const LINES: [(&str, &str); 30] = [
     (
         "tick 0 10 30007",
         "{\"line\":7,\"record\":\"event\",\"router\":0,\"now\":10,\"event\":{\"kind\":\"tick\",\"word\":30007},\
-\"fault\":null,\"notes\":[],\"changes\":[],\
+\"fault\":null,\"notes\":[],\
+\"offers\":[],\"update\":\"regular\",\
+\"changes\":[],\
 \"sent\":[{\"datagram\":1,\"router\":0,\"iface\":0,\"peer\":null,\
 \"bytes\":\"0201000020010db800000000000000000000000000092001\"}],\
 \"timers\":{\"last\":10,\"regular\":15016,\"hold\":5,\"due\":null},\"routes\":[],\"gone\":[]}",
@@ -20,6 +22,7 @@ const LINES: [(&str, &str); 30] = [
 \"event\":{\"kind\":\"deliver\",\"datagram\":1,\"iface\":0,\
 \"sender\":{\"router\":0,\"iface\":0,\"addr\":\"fe80::a0\"}},\
 \"fault\":null,\"notes\":[],\
+\"offers\":[{\"entry\":0,\"prefix\":\"2001:db8::/32\",\"metric\":5,\"tag\":9,\"next_hop\":\"fe80::a0\",\"why\":\"Added\"}],\"update\":null,\
 \"changes\":[{\"change\":\"add\",\"prefix\":\"2001:db8::/32\",\"metric\":5,\
 \"via\":{\"iface\":0,\"next_hop\":\"fe80::a0\"}}],\"sent\":[],\
 \"timers\":{\"last\":20,\"regular\":5,\"hold\":5,\"due\":{\"until\":180020,\"prefix\":\"2001:db8::/32\"}},\
@@ -33,7 +36,9 @@ const LINES: [(&str, &str); 30] = [
         "{\"line\":9,\"record\":\"event\",\"router\":1,\"now\":30,\
 \"event\":{\"kind\":\"deliver\",\"datagram\":1,\"iface\":0,\
 \"sender\":{\"router\":0,\"iface\":0,\"addr\":\"fe80::a0\"}},\
-\"fault\":null,\"notes\":[],\"changes\":[],\"sent\":[],\
+\"fault\":null,\"notes\":[],\
+\"offers\":[{\"entry\":0,\"prefix\":\"2001:db8::/32\",\"metric\":5,\"tag\":9,\"next_hop\":\"fe80::a0\",\"why\":\"Refreshed\"}],\"update\":null,\
+\"changes\":[],\"sent\":[],\
 \"timers\":{\"last\":30,\"regular\":5,\"hold\":5,\"due\":{\"until\":180030,\"prefix\":\"2001:db8::/32\"}},\
 \"routes\":[{\"prefix\":\"2001:db8::/32\",\"metric\":5,\"tag\":9,\
 \"gateway\":{\"iface\":0,\"from\":\"fe80::a0\",\"next_hop\":\"fe80::a0\"},\"until\":180030,\"marked\":true}],\
@@ -45,7 +50,8 @@ const LINES: [(&str, &str); 30] = [
         "{\"line\":8,\"record\":\"event\",\"router\":1,\"now\":21,\
 \"event\":{\"kind\":\"deliver\",\"datagram\":0,\"iface\":0,\
 \"sender\":{\"router\":0,\"iface\":0,\"addr\":\"fe80::a0\"}},\
-\"fault\":null,\"notes\":[],\"changes\":[],\"sent\":[],\
+\"fault\":null,\"notes\":[],\
+\"offers\":[],\"update\":null,\"changes\":[],\"sent\":[],\
 \"timers\":{\"last\":50,\"regular\":15050,\"hold\":5,\"due\":null},\"routes\":[],\"gone\":[]}",
     ),
     // A router is its own stranger.
@@ -54,7 +60,8 @@ const LINES: [(&str, &str); 30] = [
         "{\"line\":8,\"record\":\"event\",\"router\":0,\"now\":20,\
 \"event\":{\"kind\":\"deliver\",\"datagram\":1,\"iface\":0,\
 \"sender\":{\"router\":0,\"iface\":0,\"addr\":\"fe80::a0\"}},\
-\"fault\":{\"number\":9,\"name\":\"OwnAddress\"},\"notes\":[],\"changes\":[],\"sent\":[],\
+\"fault\":{\"number\":9,\"name\":\"OwnAddress\"},\"notes\":[],\
+\"offers\":[],\"update\":null,\"changes\":[],\"sent\":[],\
 \"timers\":{\"last\":20,\"regular\":15010,\"hold\":5,\"due\":null},\"routes\":[],\"gone\":[]}",
     ),
     (
@@ -62,7 +69,8 @@ const LINES: [(&str, &str); 30] = [
         "{\"line\":7,\"record\":\"event\",\"router\":1,\"now\":22,\
 \"event\":{\"kind\":\"stranger\",\"iface\":0,\"source\":\"fe80::9\",\"port\":521,\"hop_limit\":254,\
 \"group\":true,\"bytes\":\"02010000\"},\
-\"fault\":{\"number\":10,\"name\":\"HopLimit\"},\"notes\":[],\"changes\":[],\"sent\":[],\
+\"fault\":{\"number\":10,\"name\":\"HopLimit\"},\"notes\":[],\
+\"offers\":[],\"update\":null,\"changes\":[],\"sent\":[],\
 \"timers\":{\"last\":22,\"regular\":5,\"hold\":5,\"due\":null},\"routes\":[],\"gone\":[]}",
     ),
     (
@@ -70,7 +78,8 @@ const LINES: [(&str, &str); 30] = [
         "{\"line\":7,\"record\":\"event\",\"router\":1,\"now\":22,\
 \"event\":{\"kind\":\"stranger\",\"iface\":0,\"source\":\"::\",\"port\":0,\"hop_limit\":0,\
 \"group\":false,\"bytes\":\"\"},\
-\"fault\":{\"number\":1,\"name\":\"Short\"},\"notes\":[],\"changes\":[],\"sent\":[],\
+\"fault\":{\"number\":1,\"name\":\"Short\"},\"notes\":[],\
+\"offers\":[],\"update\":null,\"changes\":[],\"sent\":[],\
 \"timers\":{\"last\":22,\"regular\":5,\"hold\":5,\"due\":null},\"routes\":[],\"gone\":[]}",
     ),
     // Whoever asks for the whole table is answered at its own address and port.
@@ -79,7 +88,8 @@ const LINES: [(&str, &str); 30] = [
         "{\"line\":7,\"record\":\"event\",\"router\":0,\"now\":30,\
 \"event\":{\"kind\":\"stranger\",\"iface\":0,\"source\":\"fe80::99\",\"port\":520,\"hop_limit\":255,\
 \"group\":false,\"bytes\":\"010100000000000000000000000000000000000000000010\"},\
-\"fault\":null,\"notes\":[],\"changes\":[],\
+\"fault\":null,\"notes\":[],\
+\"offers\":[],\"update\":null,\"changes\":[],\
 \"sent\":[{\"datagram\":1,\"router\":0,\"iface\":0,\"peer\":{\"addr\":\"fe80::99\",\"port\":520},\
 \"bytes\":\"0201000020010db800000000000000000000000000092001\"}],\
 \"timers\":{\"last\":30,\"regular\":5,\"hold\":5,\"due\":null},\"routes\":[],\"gone\":[]}",
@@ -91,13 +101,15 @@ deliver 1 1 0 31",
         "{\"line\":8,\"record\":\"event\",\"router\":1,\"now\":31,\
 \"event\":{\"kind\":\"deliver\",\"datagram\":1,\"iface\":0,\
 \"sender\":{\"router\":0,\"iface\":0,\"addr\":\"fe80::a0\"}},\
-\"fault\":null,\"notes\":[{\"entry\":0,\"number\":20,\"name\":\"BadLength\"}],\"changes\":[],\"sent\":[],\
+\"fault\":null,\"notes\":[{\"entry\":0,\"number\":20,\"name\":\"BadLength\"}],\
+\"offers\":[],\"update\":null,\"changes\":[],\"sent\":[],\
 \"timers\":{\"last\":31,\"regular\":5,\"hold\":5,\"due\":null},\"routes\":[],\"gone\":[]}",
     ),
     (
         "restart 0 40",
         "{\"line\":7,\"record\":\"event\",\"router\":0,\"now\":40,\"event\":{\"kind\":\"restart\"},\
 \"fault\":null,\"notes\":[],\
+\"offers\":[],\"update\":null,\
 \"changes\":[{\"change\":\"add\",\"prefix\":\"2001:db8::/32\",\"metric\":1,\"via\":null}],\
 \"sent\":[{\"datagram\":1,\"router\":0,\"iface\":0,\"peer\":null,\
 \"bytes\":\"010100000000000000000000000000000000000000000010\"}],\
@@ -107,13 +119,15 @@ deliver 1 1 0 31",
     (
         "tick 0 10 0\ndeliver 1 1 0 20\nrestart 1 7",
         "{\"line\":9,\"record\":\"event\",\"router\":1,\"now\":7,\"event\":{\"kind\":\"restart\"},\
-\"fault\":null,\"notes\":[],\"changes\":[],\"sent\":[],\
+\"fault\":null,\"notes\":[],\
+\"offers\":[],\"update\":null,\"changes\":[],\"sent\":[],\
 \"timers\":{\"last\":7,\"regular\":7,\"hold\":7,\"due\":null},\"routes\":[],\"gone\":[\"2001:db8::/32\"]}",
     ),
     (
         "cost 1 0 30 2",
         "{\"line\":7,\"record\":\"event\",\"router\":1,\"now\":30,\"event\":{\"kind\":\"cost\",\"iface\":0,\"cost\":2},\
-\"fault\":null,\"notes\":[],\"changes\":[],\"sent\":[],\
+\"fault\":null,\"notes\":[],\
+\"offers\":[],\"update\":null,\"changes\":[],\"sent\":[],\
 \"timers\":{\"last\":30,\"regular\":5,\"hold\":5,\"due\":null},\"routes\":[],\"gone\":[]}",
     ),
     (
@@ -121,6 +135,7 @@ deliver 1 1 0 31",
         "{\"line\":7,\"record\":\"event\",\"router\":1,\"now\":30,\
 \"event\":{\"kind\":\"gain\",\"prefix\":\"2001:db8:1::/48\",\"tag\":7},\
 \"fault\":null,\"notes\":[],\
+\"offers\":[],\"update\":null,\
 \"changes\":[{\"change\":\"add\",\"prefix\":\"2001:db8:1::/48\",\"metric\":1,\"via\":null}],\"sent\":[],\
 \"timers\":{\"last\":30,\"regular\":5,\"hold\":5,\"due\":null},\
 \"routes\":[{\"prefix\":\"2001:db8:1::/48\",\"metric\":1,\"tag\":7,\"gateway\":null,\"until\":null,\"marked\":true}],\
@@ -130,7 +145,8 @@ deliver 1 1 0 31",
         "drop 0 30 2001:db8::/32",
         "{\"line\":7,\"record\":\"event\",\"router\":0,\"now\":30,\
 \"event\":{\"kind\":\"drop\",\"prefix\":\"2001:db8::/32\"},\
-\"fault\":null,\"notes\":[],\"changes\":[{\"change\":\"del\",\"prefix\":\"2001:db8::/32\"}],\"sent\":[],\
+\"fault\":null,\"notes\":[],\
+\"offers\":[],\"update\":null,\"changes\":[{\"change\":\"del\",\"prefix\":\"2001:db8::/32\"}],\"sent\":[],\
 \"timers\":{\"last\":30,\"regular\":5,\"hold\":5,\"due\":{\"until\":120030,\"prefix\":\"2001:db8::/32\"}},\
 \"routes\":[{\"prefix\":\"2001:db8::/32\",\"metric\":16,\"tag\":9,\"gateway\":null,\"until\":120030,\"marked\":true}],\
 \"gone\":[]}",
@@ -139,25 +155,58 @@ deliver 1 1 0 31",
     (
         "drop 0 30 2001:db8::/32\ntick 0 120030 0",
         "{\"line\":8,\"record\":\"event\",\"router\":0,\"now\":120030,\"event\":{\"kind\":\"tick\",\"word\":0},\
-\"fault\":null,\"notes\":[],\"changes\":[],\"sent\":[],\
+\"fault\":null,\"notes\":[],\
+\"offers\":[],\"update\":\"regular\",\
+\"changes\":[],\"sent\":[],\
 \"timers\":{\"last\":120030,\"regular\":135030,\"hold\":5,\"due\":null},\"routes\":[],\"gone\":[\"2001:db8::/32\"]}",
     ),
     // A triggered update clears the mark, and holds the next for 1,000 + 4,002 mod 4,001.
     (
         "tick 0 10 0\ngain 0 20 2001:db8:1::/48 7\ntick 0 30 4002",
         "{\"line\":9,\"record\":\"event\",\"router\":0,\"now\":30,\"event\":{\"kind\":\"tick\",\"word\":4002},\
-\"fault\":null,\"notes\":[],\"changes\":[],\
+\"fault\":null,\"notes\":[],\
+\"offers\":[],\"update\":\"triggered\",\
+\"changes\":[],\
 \"sent\":[{\"datagram\":2,\"router\":0,\"iface\":0,\"peer\":null,\
 \"bytes\":\"0201000020010db800010000000000000000000000073001\"}],\
 \"timers\":{\"last\":30,\"regular\":15010,\"hold\":1031,\"due\":null},\
 \"routes\":[{\"prefix\":\"2001:db8:1::/48\",\"metric\":1,\"tag\":7,\"gateway\":null,\"until\":null,\"marked\":false}],\
 \"gone\":[]}",
     ),
+    // A mark waits until the hold of 1,000 after the last triggered update is over.
+    (
+        "tick 0 10 0\ngain 0 20 2001:db8:1::/48 7\ntick 0 30 0\ngain 0 40 2001:db8:2::/48 7\ntick 0 50 0",
+        "{\"line\":11,\"record\":\"event\",\"router\":0,\"now\":50,\"event\":{\"kind\":\"tick\",\"word\":0},\
+\"fault\":null,\"notes\":[],\"offers\":[],\"update\":\"held\",\"changes\":[],\"sent\":[],\
+\"timers\":{\"last\":50,\"regular\":15010,\"hold\":1030,\"due\":null},\"routes\":[],\"gone\":[]}",
+    ),
+    // Nothing waits, and nothing is marked.
+    (
+        "tick 0 10 0\ntick 0 50 0",
+        "{\"line\":8,\"record\":\"event\",\"router\":0,\"now\":50,\"event\":{\"kind\":\"tick\",\"word\":0},\
+\"fault\":null,\"notes\":[],\"offers\":[],\"update\":null,\"changes\":[],\"sent\":[],\
+\"timers\":{\"last\":50,\"regular\":15010,\"hold\":5,\"due\":null},\"routes\":[],\"gone\":[]}",
+    ),
+    // Who asks for a prefix that is not there is told 16, and so is the other router, which makes nothing of it.
+    (
+        "stranger 0 0 30 fe80::99 521 255 peer 0101000020010db900000000000000000000000000002001
+deliver 1 1 0 31",
+        "{\"line\":8,\"record\":\"event\",\"router\":1,\"now\":31,\
+\"event\":{\"kind\":\"deliver\",\"datagram\":1,\"iface\":0,\
+\"sender\":{\"router\":0,\"iface\":0,\"addr\":\"fe80::a0\"}},\
+\"fault\":null,\"notes\":[],\
+\"offers\":[{\"entry\":0,\"prefix\":\"2001:db9::/32\",\"metric\":16,\"tag\":0,\
+\"next_hop\":\"fe80::a0\",\"why\":\"Nothing\"}],\"update\":null,\
+\"changes\":[],\"sent\":[],\
+\"timers\":{\"last\":31,\"regular\":5,\"hold\":5,\"due\":null},\"routes\":[],\"gone\":[]}",
+    ),
     // A live route expires; a quiet router tells nobody.
     (
         "tick 0 10 0\ndeliver 1 1 0 20\ntick 1 180020 0",
         "{\"line\":9,\"record\":\"event\",\"router\":1,\"now\":180020,\"event\":{\"kind\":\"tick\",\"word\":0},\
-\"fault\":null,\"notes\":[],\"changes\":[{\"change\":\"del\",\"prefix\":\"2001:db8::/32\"}],\"sent\":[],\
+\"fault\":null,\"notes\":[],\
+\"offers\":[],\"update\":\"regular\",\
+\"changes\":[{\"change\":\"del\",\"prefix\":\"2001:db8::/32\"}],\"sent\":[],\
 \"timers\":{\"last\":180020,\"regular\":195020,\"hold\":5,\"due\":{\"until\":300020,\"prefix\":\"2001:db8::/32\"}},\
 \"routes\":[{\"prefix\":\"2001:db8::/32\",\"metric\":16,\"tag\":9,\
 \"gateway\":{\"iface\":0,\"from\":\"fe80::a0\",\"next_hop\":\"fe80::a0\"},\"until\":300020,\"marked\":false}],\

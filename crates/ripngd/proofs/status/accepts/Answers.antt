@@ -24,6 +24,12 @@ returns-in-Trace-clause-answered g c = rw c.in-Trace.is c.trace_file.ensures.ans
 pub returns-in-Trace-clause-failed : goal.returns-in-Trace-clause-failed
 returns-in-Trace-clause-failed g c = rw c.in-Trace.is c.trace_file.ensures.failed
 
+pub returns-in-Explain-clause-answered : goal.returns-in-Explain-clause-answered
+returns-in-Explain-clause-answered g c = rw c.in-Explain.is c.explain_file.ensures.answered
+
+pub returns-in-Explain-clause-failed : goal.returns-in-Explain-clause-failed
+returns-in-Explain-clause-failed g c = rw c.in-Explain.is c.explain_file.ensures.failed
+
 pub returns-in-Run-clause-answered : goal.returns-in-Run-clause-answered
 returns-in-Run-clause-answered g c = rw c.in-Run.is c.run.ensures.ran
 

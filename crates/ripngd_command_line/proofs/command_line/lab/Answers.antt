@@ -8,4 +8,5 @@ pub returns : goal.returns
 returns c =
     let s0 : IsCommand c.after_help.result (new_app (codes "lab")) = record { app_is = search rules; local = search rules } in
     let s1 = arg_added _ _ _ _ _ c.in_ok-arg.ensures c.trace.ensures s0 in
-    arg_added_ok _ _ _ _ c.arg-2.result c.arg-2.ensures c.required.ensures s1
+    let s2 = arg_added _ _ _ _ _ c.in_ok-arg-2.ensures c.explain.ensures s1 in
+    arg_added_ok _ _ _ _ c.arg-3.result c.arg-3.ensures c.required.ensures s2

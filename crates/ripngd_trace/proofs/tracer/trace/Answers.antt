@@ -9,7 +9,7 @@ returns-clause-traced g c =
     (λ h.
     let same = told_same g.W.Write.contents c.new-tracer.result c.watched-outcome.new.watch h.0 h.1 in
     let new = c.new-tracer.ensures.same_reference in
-    (h.0, traced g.W.Write.contents c.new-tracer.result c.watched-outcome.new.watch h.0 _ _ c.new-tracer.ensures.known c.new-tracer.ensures.out (search (rules, same, new)) h.1))
+    (h.0, traced g.W.Write.contents c.new-tracer.result c.watched-outcome.new.watch h.0 _ _ c.new-tracer.ensures.known c.new-tracer.ensures.timers c.new-tracer.ensures.out (search (rules, same, new)) h.1))
 
 pub returns-clause-traced_until : goal.returns-clause-traced_until
 returns-clause-traced_until g c =
@@ -17,4 +17,4 @@ returns-clause-traced_until g c =
     (λ h.
     let same = until_same g.W.Write.contents c.new-tracer.result c.watched-outcome.new.watch h.0 h.1 in
     let new = c.new-tracer.ensures.same_reference in
-    (h.0, traced_until g.W.Write.contents c.new-tracer.result c.watched-outcome.new.watch h.0 _ _ c.new-tracer.ensures.known c.new-tracer.ensures.out (search (rules, same, new)) h.1))
+    (h.0, traced_until g.W.Write.contents c.new-tracer.result c.watched-outcome.new.watch h.0 _ _ c.new-tracer.ensures.known c.new-tracer.ensures.timers c.new-tracer.ensures.out (search (rules, same, new)) h.1))

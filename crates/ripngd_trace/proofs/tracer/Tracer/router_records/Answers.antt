@@ -4,9 +4,11 @@ use Rattle.std.proofs.lemmas.List.{length-map, take_all}
 use Rattle.std.proofs.lemmas.Option.{slice_get_within}
 use Rattle.route_table.specs.Table.{Table}
 use Rattle.router_core.specs.Machine.{State}
-use Rattle.ripngd_trace.specs.Reading.{tables_of}
+use Rattle.ripngd_trace.specs.Reading.{all_timers, tables_of}
+use Rattle.ripngd_trace.specs.Records.{timers_in}
 use Rattle.ripngd_trace.specs.Starting.{TellsRouter}
 use Rattle.ripngd_trace.specs.declared.records.RouterRecord.{RouterRecord}
+use Rattle.ripngd_trace.specs.declared.records.Timers.{Timers}
 use Rattle.ripngd_trace.proofs.Listing.{each_pushed}
 use Rattle.ripngd_trace.proofs.Starting.{all_there, known_more, length_push}
 use Rattle.ripngd_trace.proofs.tracer.Tracer.router_records.Goals as goal
@@ -18,6 +20,7 @@ loop-router-preserved g c =
     let r = c.in_ok-record.record in
     let s = c.in-Some.router.now in
     let known = c.args.self.now.known.items in
+    let clocks = c.args.self.now.timers.items in
     let pushed = c.in_ok-push.ensures.items in
     let n : c.len.result ≡ length records = omega (arith, c.len.ensures, c.loop-router.records.ok.0) in
     let m : c.len-in-Some.result ≡ length records = omega (arith, c.len-in-Some.ensures, c.loop-router.records.ok.0) in
@@ -27,8 +30,12 @@ loop-router-preserved g c =
     record {
       known = c.in_ok-record.ensures.known ∙ ap (λ (ts : List Table). ts ++ s.table ∷ []) c.loop-router.invariant.known
           ∙ append_assoc known (take (length records) (tables_of w)) (s.table ∷ [])
-          ∙ ap (λ (ts : List Table). known ++ ts) (sym (known_more w records r s here))
+          ∙ ap (λ (ts : List Table). known ++ ts) (sym (known_more (λ (x : State). x.table) w records r s here))
           ∙ ap (λ (rs : List RouterRecord). known ++ take (length rs) (tables_of w)) (sym pushed);
+      timers = c.in_ok-record.ensures.timers ∙ ap (λ (ts : List Timers). ts ++ timers_in s ∷ []) c.loop-router.invariant.timers
+          ∙ append_assoc clocks (take (length records) (all_timers w)) (timers_in s ∷ [])
+          ∙ ap (λ (ts : List Timers). clocks ++ ts) (sym (known_more timers_in w records r s here))
+          ∙ ap (λ (rs : List RouterRecord). clocks ++ take (length rs) (all_timers w)) (sym pushed);
       line = c.in_ok-record.ensures.line ∙ c.loop-router.invariant.line;
       out = c.in_ok-record.ensures.out ∙ c.loop-router.invariant.out;
       few = subst (λ (rs : List RouterRecord). length rs ≤ length w.states) (sym pushed) (omega (arith, length_push records r, slice_get_within w.states (length records) s here));
@@ -55,3 +62,13 @@ returns-clause-known g c =
     c.loop-router.invariant.known
     ∙ ap (λ (ts : List Table). c.args.self.now.known.items ++ ts)
     (take_all (length records) (tables_of w) (omega (arith, all_there w.states (length records) none, length-map w.states (λ (s : State). s.table))))
+
+pub returns-clause-timers : goal.returns-clause-timers
+returns-clause-timers g c =
+    let w = c.args.lab.now.world in
+    let records = c.loop-router.records.items in
+    let n : c.len.result ≡ length records = omega (arith, c.len.ensures, c.loop-router.records.ok.0) in
+    let none : slice_get w.states (length records) ≡ None = ap (slice_get w.states) (sym n) ∙ sym c.router.ensures.value ∙ ap option_copied c.in_default.is in
+    c.loop-router.invariant.timers
+    ∙ ap (λ (ts : List Timers). c.args.self.now.timers.items ++ ts)
+    (take_all (length records) (all_timers w) (omega (arith, all_there w.states (length records) none, length-map w.states timers_in)))

@@ -1,5 +1,5 @@
 use Rattle.std.proofs.Common.{◌≡◌, ◌≤◌, ◌-◌, ◌++◌, ℕ, Some, length, slice_get, take}
-use Rattle.ripngd_trace.specs.Reading.{tables_of}
+use Rattle.ripngd_trace.specs.Reading.{all_timers, tables_of}
 use Rattle.ripngd_trace.specs.Starting.{TellsRouter}
 use Rattle.ripngd_trace.specs.declared.records.RouterRecord.{RouterRecord}
 use Rattle.ripngd_trace.proofs.tracer.Tracer.router_records.Given as goal
@@ -7,6 +7,7 @@ use Rattle.ripngd_trace.proofs.tracer.Tracer.router_records.Given as goal
 abbrev pub invariant-loop-router : goal.invariant-loop-router
 invariant-loop-router g l = record {
   known : l.self.known.items ≡ l.fn.self.known.items ++ take (length l.records.items) (tables_of l.lab.world);
+  timers : l.self.timers.items ≡ l.fn.self.timers.items ++ take (length l.records.items) (all_timers l.lab.world);
   line : l.self.line ≡ l.fn.self.line;
   out : l.self.out ≡ l.fn.self.out;
   few : length l.records.items ≤ length l.lab.world.states;

@@ -13,6 +13,7 @@ returns-clause-starts g c =
         r = c.in_ok-record.record;
         tells = c.in_ok-record.ensures.tells;
         known_is = c.in_ok-record.ensures.known;
+        timers_are = c.in_ok-record.ensures.timers;
         line_is = c.in_ok-record.ensures.line;
         writes = writes;
       },

@@ -13,7 +13,10 @@ returns-clause-takes g c =
         r = c.in_ok-record.record;
         tells = c.in_ok-record.ensures.tells;
         listed = c.in_ok-record.ensures.listed;
+        offers = c.in_ok-record.ensures.offers;
+        update = c.in_ok-record.ensures.update;
         known_is = c.in_ok-record.ensures.known;
+        timers_are = c.in_ok-record.ensures.timers;
         line_is = c.in_ok-record.ensures.line;
         writes = writes;
       },

@@ -1,0 +1,77 @@
+-- What the record of an event says of offers: what each was, and which row of the table of adoption it fell under.
+use Rattle.std.specs.Prelude.{◌≡◌, ℕ, ◌<◌, ◌==◌, ◌&&◌, not, Bool, if◌then◌else◌, List, [], length, map, take, filter, fold, Option, Some, unwrap_or, slice_get}
+use Rattle.std.specs.List.{enumerate_from, list_any}
+use Rattle.std.specs.FinMap as map_of
+use Rattle.prefix6.specs.Prefix.{Prefix6, same_prefix}
+use Rattle.route_table.specs.Route.{RouteValue}
+use Rattle.route_table.specs.Table.{Table}
+use Rattle.router_core.specs.Adoption.{adopted, metric_through, reason}
+use Rattle.router_core.specs.Faults.{ripng_port}
+use Rattle.router_core.specs.Machine.{State}
+use Rattle.router_core.specs.Offering.{Brings, Offered}
+use Rattle.router_core.specs.Received.{Received}
+use Rattle.router_core.specs.declared.answer.Note.{Note}
+use Rattle.ripng_world.specs.Labs.{LabValue}
+use Rattle.ripng_world.specs.World.{Event, Deliver, is_to_group}
+use Rattle.ripng_world.specs.declared.sent.Sent.{Sent}
+use Rattle.ripngd_trace.specs.Events.{addr_at}
+use Rattle.ripngd_trace.specs.declared.records.OfferRecord.{OfferRecord}
+
+-- a datagram of the network as it comes to an interface of its link
+abbrev pub came : LabValue → Sent → ℕ → ℕ → Received
+came lab d iface now =
+    record {
+      now = now;
+      iface = iface;
+      source = unwrap_or (addr_at lab d.router d.iface) 0;
+      source_port = ripng_port;
+      hop_limit = 255;
+      to_group = is_to_group d.to;
+      bytes = d.bytes;
+    }
+
+-- one of the notes is of that entry
+abbrev pub is_noted : List Note → ℕ → Bool
+is_noted notes place = list_any (λ n. n.entry == place) notes
+
+-- what an offer makes of the route to a prefix, if it is for this one and its entry has no note
+abbrev pub behind : List Note → Prefix6 → Option RouteValue → Offered → Option RouteValue
+behind notes p held o = if same_prefix o.prefix p && not (is_noted notes o.offer.place) then adopted o.gateway held o.offer else held
+
+-- the route to a prefix behind some offers, one after another
+abbrev pub route_behind : Table → List Note → List Offered → Prefix6 → Option RouteValue
+route_behind table notes offers p = fold (behind notes p) (map_of.get table p) offers
+
+-- an offer, and its row of the table of adoption
+abbrev pub offer_record : Offered → Option RouteValue → OfferRecord
+offer_record o held =
+    record {
+      entry = o.offer.place;
+      prefix = o.prefix;
+      metric = metric_through o.gateway o.offer;
+      tag = o.offer.tag;
+      next_hop = o.offer.next_hop;
+      why = reason o.gateway held o.offer;
+    }
+
+-- some of all offers, numbered from this one on, but for those whose entry has a note: each by what the table and all offers in
+-- front of it left
+abbrev pub records_from : Table → List Note → List Offered → ℕ → List Offered → List OfferRecord
+records_from table notes all number some =
+    map (λ t. offer_record t.1 (route_behind table notes (take t.0 all) t.1.prefix)) (filter (λ t. not (is_noted notes t.1.offer.place)) (enumerate_from number some))
+
+-- all of them
+abbrev pub offer_records : Table → List Note → List Offered → List OfferRecord
+offer_records table notes offers = records_from table notes offers 0 offers
+
+-- the records tell of all offers that an arrival brings to a router that had this table
+abbrev pub TellsArrival : Table → State → Received → List Note → List OfferRecord → Type 0
+TellsArrival table s x notes records =
+    x.iface < length s.config.interfaces → (offers : List Offered) × Brings s x offers × (records ≡ offer_records table notes offers)
+
+-- the records tell of all offers of an event, by the tables before; of none where no datagram of the network comes
+abbrev pub TellsOffers : List Table → LabValue → Event → List Note → List OfferRecord → Type 0
+TellsOffers tables lab (Deliver datagram router iface now) notes records =
+    (table : Table) (s : State) (sent : Sent) → slice_get tables router ≡ Some table → slice_get lab.world.states router ≡ Some s → slice_get lab.world.sent datagram ≡ Some sent
+    → TellsArrival table s (came lab sent iface now) notes records
+TellsOffers tables lab _ notes records = records ≡ []

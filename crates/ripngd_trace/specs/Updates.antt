@@ -1,0 +1,39 @@
+-- What the record of a tick says of updates: which was due.
+use Rattle.std.specs.Prelude.{◌≡◌, ℕ, ◌==◌, max, not, if◌then◌else◌, List, Option, Some, None, is_some, option_and_then, slice_get}
+use Rattle.std.specs.FinMap as map_of
+use Rattle.std.specs.List.{list_any}
+use Rattle.route_table.specs.Due.{first_changed}
+use Rattle.router_core.specs.Ageing.{aged_table}
+use Rattle.router_core.specs.Machine.{State, is_regular_due, is_triggered_due}
+use Rattle.ripng_world.specs.Labs.{LabValue}
+use Rattle.ripng_world.specs.World.{Event, Tick}
+use Rattle.ripngd_trace.specs.declared.records.Timers.{Timers}
+use Rattle.ripngd_trace.specs.declared.records.UpdateRecord.{UpdateRecord}
+use Rattle.ripngd_trace.specs.declared.records.UpdateRecord.TheVariants.{Regular, Triggered, Held}
+
+-- which update is due at a tick: a regular one; else, if a route is marked, a triggered one, or one that is held
+abbrev pub due_update : State → ℕ → Option UpdateRecord
+due_update s now =
+    if is_regular_due s now then Some Regular
+    else if is_triggered_due s now then Some Triggered
+    else if list_any (λ t. t.1.changed) (map_of.entries (aged_table now s.table)) then Some Held
+    else None
+
+-- which was due at an event, by the lab before
+abbrev pub due_at : LabValue → Event → Option UpdateRecord
+due_at lab (Tick router now word) = option_and_then (λ s. due_update s (max s.last now)) (slice_get lab.world.states router)
+due_at lab _ = None
+
+-- the same by the timers of before and the router as it is now: each update moves its own timer
+abbrev pub update_by : Timers → State → Option UpdateRecord
+update_by before s =
+    if not (s.regular == before.regular) then Some Regular
+    else if not (s.hold == before.hold) then Some Triggered
+    else if is_some (first_changed None s.table) then Some Held
+    else None
+
+-- and by the timers of all routers before
+abbrev pub TellsUpdate : List Timers → LabValue → Event → Option UpdateRecord → Type 0
+TellsUpdate timers lab (Tick router now word) update =
+    (before : Timers) (s : State) → slice_get timers router ≡ Some before → slice_get lab.world.states router ≡ Some s → update ≡ update_by before s
+TellsUpdate timers lab _ update = update ≡ None

@@ -1,0 +1,96 @@
+//! A script, explained: a line of English for all that happens in it.
+
+ghost use Rattle.std.specs.Prelude.{⊤};
+
+use crate::sentences::Seconds;
+use crate::tracer::Tracer;
+use ripng_world::{Event, Lab};
+use ripngd_lab::{Choice, Refusal, Unmet, Watch, print_routes, print_sent, watched};
+use route_table::{Moment, TrieRoutes};
+use router_core::Answer;
+use std::alloc::Global;
+use std::io::{self, Write};
+
+/// Runs a script as [`ripngd_lab::lab`] does, and answers whether every line was done. Beside what its lines print, a line of
+/// English is written to `out` for the cold start and for each event: what a router was given, what it made of it, and why.
+/// docs/FORMATS.md has its parts. They say what [`trace`](crate::trace) has in its records.
+///
+/// # Errors
+/// `OutOfMemory` where memory was refused, else the fault of `out`.
+pub fn explain<W: Write>(alloc: Global, script: &[u8], out: &mut W) -> io::Result<bool> {
+    let mut explainer = Explainer {
+        line: 0,
+        tracer: Tracer::new(alloc, out),
+    };
+    watched(alloc, script, &mut explainer)
+}
+
+/// The watcher that writes the lines. Of its tracer it takes the records.
+#[derive(Drop)]
+struct Explainer<'a, W: Write> {
+    /// The number of the script's line.
+    line: usize,
+    tracer: Tracer<'a, W>,
+}
+
+impl<'a, W: Write> ripng_world::Watch<TrieRoutes> for Explainer<'a, W> {
+    type Fault = io::Error;
+
+    ghost takes = { λ _ _ _. ⊤ };
+
+    ghost fails = { λ _ _ _. ⊤ };
+
+    fn happened(
+        &mut self,
+        lab: &Lab<TrieRoutes>,
+        event: &Event<'_>,
+        answer: &Answer,
+        first: usize,
+    ) -> io::Result<()> {
+        let record = self.tracer.event_record(lab, event, answer, first)?;
+        writeln!(self.tracer.out, "{record}")
+    }
+}
+
+impl<'a, W: Write> Watch for Explainer<'a, W> {
+    ghost starts = { λ _ _ _ _. ⊤ };
+
+    ghost notes = { λ _ _ _. ⊤ };
+
+    fn at_line(&mut self, number: usize) {
+        self.line = number;
+    }
+
+    fn started(&mut self, lab: &Lab<TrieRoutes>, now: Moment) -> io::Result<()> {
+        let record = self.tracer.start_record(lab, now)?;
+        let (begin, routers, sent) = (Seconds(record.now), record.routers.len(), record.sent.len());
+        writeln!(
+            self.tracer.out,
+            "{begin} {routers} routers start; {sent} datagrams are sent"
+        )
+    }
+
+    fn routes_asked(&mut self, lab: &Lab<TrieRoutes>, choice: &Choice) -> io::Result<()> {
+        print_routes(lab, choice, self.tracer.out)
+    }
+
+    fn datagrams_asked(&mut self, lab: &Lab<TrieRoutes>, asked: Option<usize>) -> io::Result<()> {
+        print_sent(self.tracer.alloc, lab, asked, self.tracer.out)
+    }
+
+    fn said(&mut self, text: &str) -> io::Result<()> {
+        writeln!(self.tracer.out, "{text}")
+    }
+
+    fn lost(&mut self, datagram: usize) -> io::Result<()> {
+        writeln!(self.tracer.out, "datagram {datagram} is lost")
+    }
+
+    fn refused(&mut self, why: &Refusal) -> io::Result<()> {
+        writeln!(self.tracer.out, "line {} refused {why}", self.line)
+    }
+
+    fn unmet(&mut self, unmet: &Unmet) -> io::Result<()> {
+        writeln!(self.tracer.out, "line {} {unmet}", self.line)
+    }
+}

@@ -1,0 +1,145 @@
+//! Records of what a Response offers, and of why each offer is adopted or is not (RFC 2080, section 2.4.2).
+
+ghost use Rattle.std.specs.Prelude.{◌≡◌, IfOk, map};
+ghost use Rattle.ripng_world.specs.Events.{event_of};
+ghost use Rattle.ripngd_trace.specs.Offers.{TellsArrival, TellsOffers, came, is_noted, offer_record, offer_records, route_behind};
+
+use crate::network::addr_of;
+use crate::records::OfferRecord;
+use prefix6::{Addr6, Prefix};
+use ripng_world::{Event, Lab, Sent};
+use route_table::{Moment, Route, RouteStore, TrieRoutes};
+use router_core::{Answer, Arrival, Destination, MAX_HOP_LIMIT, Note, Offered, RIPNG_PORT, Router};
+use std::alloc::{AllocError, Global};
+
+/// A datagram of the network as it comes to an interface of its link.
+fn came<'a, S: RouteStore>(
+    lab: &Lab<S>,
+    datagram: &'a Sent,
+    iface: usize,
+    now: Moment,
+) -> Arrival<'a>
+    ensures { result ≡ came lab.now datagram.now iface now }
+{
+    Arrival {
+        now,
+        iface,
+        source: addr_of(lab, datagram.router, datagram.iface).unwrap_or(Addr6::from_bits(0)),
+        source_port: RIPNG_PORT,
+        hop_limit: MAX_HOP_LIMIT,
+        to_group: matches!(datagram.to, Destination::Group),
+        bytes: datagram.bytes.as_slice(),
+    }
+}
+
+/// Whether one of the notes is of the entry at a place.
+fn is_noted(notes: &[Note], place: usize) -> bool
+    ensures { result ≡ is_noted notes.now place }
+{
+    notes.iter().any(|note| note.entry == place)
+}
+
+/// The route to a prefix that some offers leave, one after another, but for those of noted entries.
+fn route_behind<S: RouteStore>(
+    known: &S,
+    notes: &[Note],
+    offers: &[Offered],
+    prefix: Prefix,
+) -> Option<Route>
+    ensures { result ≡ route_behind (S.table known.now) notes.now offers.now prefix }
+{
+    let mut held = known.get(&prefix);
+    for offered in offers {
+        if offered.prefix() == prefix && !is_noted(notes, offered.place()) {
+            held = offered.adopted(held);
+        }
+    }
+    held
+}
+
+/// An offer, and the row of the table of adoption that it fell under.
+fn offer_record(offered: &Offered, held: Option<Route>) -> OfferRecord
+    ensures { result ≡ offer_record offered.now held }
+{
+    OfferRecord {
+        entry: offered.place(),
+        prefix: offered.prefix(),
+        metric: offered.metric(),
+        tag: offered.tag(),
+        next_hop: offered.next_hop(),
+        why: offered.reason_of(held),
+    }
+}
+
+/// The offers of a Response in order, each by what the table and those in front of it left, but for those of noted entries.
+fn offer_records<S: RouteStore>(
+    alloc: Global,
+    known: &S,
+    notes: &[Note],
+    offers: &[Offered],
+) -> Result<Vec<OfferRecord>, AllocError>
+    ensures { IfOk result (λ records. records.items ≡ offer_records (S.table known.now) notes.now offers.now) }
+{
+    let mut records = Vec::new(alloc);
+    for number in 0..offers.len() {
+        let offered = &offers[number];
+        if !is_noted(notes, offered.place()) {
+            let held = route_behind(known, notes, &offers[..number], offered.prefix());
+            records.push(offer_record(offered, held))?;
+        }
+    }
+    Ok(records)
+}
+
+/// What a datagram of the network offered to the router that it came to, by the table that is known of that router.
+fn delivered(
+    alloc: Global,
+    router: &Router<TrieRoutes>,
+    known: &TrieRoutes,
+    arrival: &Arrival<'_>,
+    notes: &[Note],
+) -> Result<Vec<OfferRecord>, AllocError>
+    ensures { IfOk result (λ records. TellsArrival known.now router.now arrival.entry.now notes.now records.items) }
+{
+    if arrival.iface >= router.config().interfaces().len() {
+        return Ok(Vec::new(alloc));
+    }
+    let offers = router.offers(arrival)?;
+    offer_records(alloc, known, notes, offers.as_slice())
+}
+
+/// What an event offered to the router that moved, by the tables that are known of all routers. Only a delivery offers
+/// anything: a datagram of no router brings no Response that is heard.
+///
+/// # Errors
+/// Want of memory.
+pub fn offers_of(
+    alloc: Global,
+    lab: &Lab<TrieRoutes>,
+    known: &[TrieRoutes],
+    event: &Event<'_>,
+    answer: &Answer,
+) -> Result<Vec<OfferRecord>, AllocError>
+    ensures { IfOk result (λ records. TellsOffers known.now lab.now (event_of event.entry.now) answer.now.notes records.items) }
+{
+    let &Event::Deliver {
+        datagram,
+        router,
+        iface,
+        now,
+    } = event
+    else {
+        return Ok(Vec::new(alloc));
+    };
+    match (
+        known.get(router),
+        lab.router(router),
+        lab.sent().get(datagram),
+    ) {
+        (Some(known), Some(moved), Some(sent)) => {
+            let arrival = came(lab, sent, iface, now);
+            delivered(alloc, moved, known, &arrival, answer.notes.as_slice())
+        }
+        _ => Ok(Vec::new(alloc)),
+    }
+}
