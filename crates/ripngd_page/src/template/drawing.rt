@@ -282,13 +282,13 @@ function detailOf(state) {
     ${thing ? DETAILS[thing.kind](state, thing) : html`${offersText(trace, step)}${choices(state, lose)}`}`;}
 function offersText(trace, step) {
   const { record: { event, router } } = trace.steps[step];
-  const offers = ['deliver', 'stranger'].includes(event?.kind) ? offersOf(trace, step) : [];
+  const offers = event ? offersOf(trace, step) : [];
   const rowOfOffer = ({ prefix, told, cost, offered, before = 'nothing', after = 'nothing', outcome }) => html`<tr>
     <td>${prefix}</td><td>${told}</td>
     <td>${told} + ${cost}${told + cost > offered ? ', at most 16,' : ''} = ${offered}</td>
     <td>${before}</td><td>${after}</td><td>${outcome}</td></tr>`;
   return offers.length === 0 ? '' : html`<table id="offers"><caption>What R${router} makes of it</caption>
-    ${headsOf(['prefix', 'told', 'with the cost', 'held before', 'holds now', ''])}
+    ${headsOf(['prefix', 'told', 'with the cost', 'held before', 'holds now', 'why'])}
     <tbody>${offers.map(rowOfOffer)}</tbody></table>`;}
 function routeDetail(state, { router, prefix }) {
   const { trace, step } = state, entry = trace.steps[step].routers[router].table.get(prefix);

@@ -156,18 +156,19 @@ function withoutRings(routers) {
     way.push(router);}
   return { way, rings };}
 const wayText = routers => routers.map(router => `R${router}`).join(' → ');
+const OUTCOMES = {
+  Nothing: 'unreachable, and nothing is held', Added: 'nothing was held: taken', Owned: 'its own route stays',
+  GivenUp: 'its gateway gives it up: lost', Refreshed: 'its gateway: refreshed', Cheaper: 'cheaper: taken',
+  Older: 'equal, and half of the timeout has passed: taken', Dearer: 'dearer: nothing changes',
+  Young: 'equal, and half of the timeout has not passed: nothing changes', Revived: 'held at 16: taken',
+  Gone: 'held at 16, as told: nothing changes',};
 function offersOf({ steps, datagrams }, step) {
-  const { record: { event, router, fault, notes }, routers } = steps[step];
-  const { bytes } = event.kind === 'deliver' ? datagrams[event.datagram] : event;
-  if (fault || !bytes.startsWith('02')) return [];
-  const { cost } = routers[router].interfaces[event.iface], skipped = new Set(notes.map(({ entry }) => entry));
-  const isRoute = ({ metric }, number) => metric !== 255 && !skipped.has(number);
-  return entriesOf(bytes).filter(isRoute).map(({ prefix, metric }) => {
-    const before = routeAt(steps[step - 1], router, prefix), after = routeAt(steps[step], router, prefix);
-    const isTaken = before?.metric !== after?.metric || before?.gateway?.from !== after?.gateway?.from;
-    const outcome = isTaken ? 'taken' : before?.until !== after?.until ? 'heard again' : 'no better';
-    const offered = Math.min(UNREACHABLE, metric + cost);
-    return { prefix, told: metric, cost, offered, before: before?.metric, after: after?.metric, outcome };});}
+  const { record: { event, router, offers }, routers } = steps[step];
+  if (offers.length === 0) return [];
+  const entries = entriesOf(datagrams[event.datagram].bytes), { cost } = routers[router].interfaces[event.iface];
+  return offers.map(({ entry, prefix, metric, why }) => ({
+    prefix, told: entries[entry].metric, cost, offered: metric, outcome: OUTCOMES[why],
+    before: routeAt(steps[step - 1], router, prefix)?.metric, after: routeAt(steps[step], router, prefix)?.metric,}));}
 function metricRuns(trace, router, prefix) {
   const runs = [];
   trace.steps.forEach((state, step) => {
