@@ -1,7 +1,8 @@
 #!/usr/bin/env bash
 # The merge gate, from nothing: proofs, edits that must be refused, tests and programs (`rt ci`); then the examples, real daemons,
-# flooded networks, networks that heal, and the page, run by the program that this built; then calls whose growths are refused. Its last
-# line, `N passed, M failed`, counts them all.
+# flooded networks, networks that heal, the page, and the companion on real links, run by the program that this built; then calls
+# whose growths are refused. What needs a package of the system (tests/packages.txt) says where it is skipped. Its last line,
+# `N passed, M failed`, counts them all.
 set -u
 cd "$(dirname "$0")/.." || exit 1
 
@@ -31,12 +32,14 @@ tests/healing.sh "$program" | tee "$folder/healings"
 [ "${PIPESTATUS[0]}" = 0 ] || status=1
 tests/page.sh "$program" | tee "$folder/pages"
 [ "${PIPESTATUS[0]}" = 0 ] || status=1
+tests/links.sh "$program" | tee "$folder/links"
+[ "${PIPESTATUS[0]}" = 0 ] || status=1
 tests/growth.sh | tee "$folder/growths"
 [ "${PIPESTATUS[0]}" = 0 ] || status=1
 
 passed=0
 failed=0
-for said in proofs examples daemons floods healings pages growths; do
+for said in proofs examples daemons floods healings pages links growths; do
     passed=$((passed + $(counted passed "$folder/$said")))
     failed=$((failed + $(counted failed "$folder/$said")))
 done

@@ -1,6 +1,6 @@
 //! A command whose writer fails says so, whichever write it was, and writes no more.
 
-use ripngd::{PrintFault, check, lab, show, trace};
+use ripngd::{PrintFault, check, explain, lab, show, trace};
 use std::alloc::Global;
 use std::io::{self, ErrorKind, Write};
 use std::test::Fail;
@@ -49,6 +49,7 @@ enum Command {
     Check,
     Lab,
     Trace,
+    Explain,
 }
 
 /// A writer that refuses one of its writes, by its number from 1, and keeps what all others bring.
@@ -86,6 +87,7 @@ fn run<W: Write>(
         Command::Check => check(alloc, text.as_bytes(), out),
         Command::Lab => lab(alloc, text.as_bytes(), out),
         Command::Trace => trace(alloc, text.as_bytes(), out),
+        Command::Explain => explain(alloc, text.as_bytes(), out),
     }
 }
 
@@ -168,6 +170,18 @@ fn each_write_of_a_trace(rt: HostRuntime) -> Result<(), Fail> {
     for refused in ["cold 0\nloud\n", "router\ncold 0\n", "cold 0\ntick 0 0 0\n"] {
         assert!(rt;
             writes_of(rt.alloc(), Command::Trace, refused)? > 0,
+            "at {refused}"
+        );
+    }
+    Ok(())
+}
+
+#[test]
+fn each_write_of_an_explanation(rt: HostRuntime) -> Result<(), Fail> {
+    assert!(rt; writes_of(rt.alloc(), Command::Explain, NETWORK)? > 14);
+    for refused in ["cold 0\nloud\n", "router\ncold 0\n", "cold 0\ntick 0 0 0\n"] {
+        assert!(rt;
+            writes_of(rt.alloc(), Command::Explain, refused)? > 0,
             "at {refused}"
         );
     }

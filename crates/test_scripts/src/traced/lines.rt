@@ -4,7 +4,7 @@ use super::{TWO, traced};
 use std::test::Fail;
 
 /// Lines behind the six that start two routers, with what the last of them writes.
-const LINES: [(&str, &str); 30] = [
+const LINES: [(&str, &str); 33] = [
     // The word sets the regular update: 10 + 15,000 + 30,007 mod 30,001.
     (
         "tick 0 10 30007",
