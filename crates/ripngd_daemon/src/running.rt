@@ -26,7 +26,7 @@ use crate::warnings::write_echoes;
 use rand_pcg::Pcg32;
 use ripngd_command_line::Order;
 use ripngd_config::{Config, Peer, Place};
-use ripngd_control::{Losses, Totals};
+use ripngd_control::Losses;
 use ripngd_door::Door;
 use ripngd_engine::{Engine, Unwatched, Watch};
 use ripngd_udp::{Udp, Uptime};
@@ -241,14 +241,7 @@ fn run_at_desk<'r, 'a, R: Clock + Net + AllocGlobal, L: Log, O: Write, E: Write>
         rt, router, link, rng, desk, turns, log, &mut watch, out, lost,
     );
     let counts = watch.first.counts();
-    let _ = writeln!(
-        err,
-        "{}",
-        Totals {
-            counts,
-            lost: *lost
-        }
-    );
+    let _ = writeln!(err, "{counts}");
     outcome
 }
 
@@ -282,14 +275,7 @@ fn run_alone<'a, R: Clock + Net + AllocGlobal, L: Log, O: Write, E: Write>(
     let mut lines = DebugLines::new(&mut *err);
     let outcome = run_bound(rt, router, link, rng, turns, log, &mut lines, out, lost);
     let counts = lines.counts();
-    let _ = writeln!(
-        err,
-        "{}",
-        Totals {
-            counts,
-            lost: *lost
-        }
-    );
+    let _ = writeln!(err, "{counts}");
     outcome
 }
 

@@ -2,18 +2,19 @@
 
 use crate::shown::ONE_ROUTE;
 use ripngd::{PrintFault, program};
-use std::io::{self, Write};
+use std::io::{self, ErrorKind, Write};
 
-/// A writer that takes some writes and flushes, and then fails at each.
+/// A writer that takes some writes and flushes, and then fails at each, always for one cause.
 #[derive(Drop)]
 struct Failing {
     left: usize,
+    cause: ErrorKind,
 }
 
 impl Failing {
     fn step(&mut self) -> io::Result<()> {
         if self.left == 0 {
-            return Err(io::Error::from(io::ErrorKind::BrokenPipe));
+            return Err(io::Error::from(self.cause));
         }
         self.left -= 1;
         Ok(())
@@ -34,28 +35,41 @@ impl Write for Failing {
 /// More writes than a text of two lines takes.
 const MANY: usize = 100;
 
+/// Runs the words on writers that fail after each number of writes and flushes, the last of which is the flush, and compares
+/// what standard error says.
+fn fails_at_each_write(rt: HostRuntime, words: &[&str], cause: ErrorKind, said: &str) {
+    let mut out = Failing { left: MANY, cause };
+    let mut err = Vec::new(rt.alloc());
+    assert_eq!(rt; program(&rt, words, &mut out, &mut err), 0);
+    let steps = MANY.saturating_sub(out.left);
+    for left in 0..steps {
+        let mut out = Failing { left, cause };
+        let mut err = Vec::new(rt.alloc());
+        assert_eq!(rt; program(&rt, words, &mut out, &mut err), 3, "after {left}");
+        assert!(rt; err.as_slice() == said.as_bytes(), "after {left}");
+    }
+}
+
 #[test]
 fn a_failed_write_or_flush_of_standard_output_is_status_3(rt: HostRuntime) {
     for words in [["ripngd", "show", ONE_ROUTE], ["ripngd", "help", "show"]] {
-        let mut out = Failing { left: MANY };
-        let mut err = Vec::new(rt.alloc());
-        assert_eq!(rt; program(&rt, &words, &mut out, &mut err), 0);
-        // The last of these is the flush.
-        let steps = MANY.saturating_sub(out.left);
-        for left in 0..steps {
-            let mut out = Failing { left };
-            let mut err = Vec::new(rt.alloc());
-            assert_eq!(rt; program(&rt, &words, &mut out, &mut err), 3, "after {left}");
-            assert!(rt; err.as_slice() == b"ripngd: cannot write stdout\n".as_slice());
-        }
+        fails_at_each_write(rt, &words, ErrorKind::StorageFull, "ripngd: cannot write stdout\n");
+    }
+}
+
+#[test]
+fn nothing_is_said_where_who_reads_has_gone_away(rt: HostRuntime) {
+    for words in [["ripngd", "show", ONE_ROUTE], ["ripngd", "help", "show"]] {
+        fails_at_each_write(rt, &words, ErrorKind::BrokenPipe, "");
     }
 }
 
 #[test]
 fn a_failed_standard_error_changes_no_status(rt: HostRuntime) {
-    let mut none = Failing { left: 0 };
+    let cause = ErrorKind::StorageFull;
+    let mut none = Failing { left: 0, cause };
     let mut out = Vec::new(rt.alloc());
-    let mut err = Failing { left: 0 };
+    let mut err = Failing { left: 0, cause };
     assert_eq!(rt;
         program(&rt, &["ripngd", "show", "02"], &mut out, &mut err),
         1
@@ -69,7 +83,7 @@ fn a_failed_standard_error_changes_no_status(rt: HostRuntime) {
 
 #[test]
 fn want_of_memory_and_a_failed_writer_have_their_numbers(rt: HostRuntime) {
-    let refused = PrintFault::from(io::Error::from(io::ErrorKind::OutOfMemory));
-    let broken = PrintFault::from(io::Error::from(io::ErrorKind::BrokenPipe));
+    let refused = PrintFault::from(io::Error::from(ErrorKind::OutOfMemory));
+    let broken = PrintFault::from(io::Error::from(ErrorKind::BrokenPipe));
     assert_eq!(rt; (refused.number(), broken.number()), (1, 2));
 }
