@@ -225,26 +225,48 @@ fn run_at_desk<'r, 'a, R: Clock + Net + AllocGlobal, L: Log, O: Write, E: Write>
         "ripngd: running, {} interfaces",
         router.interfaces().len()
     );
-    let neighbors = Neighbors::new(rt.alloc());
     let mut counts = Counts::new();
     if !debug {
         let mut watch = Both {
             first: Counts::new(),
-            second: neighbors,
+            second: Neighbors::new(rt.alloc()),
         };
         return run_controlled(
             rt, router, link, rng, desk, limit, log, &mut watch, out, lost, &mut counts,
         );
     }
-    let mut watch = Both {
-        first: DebugLines::new(&mut *err),
-        second: neighbors,
-    };
-    let outcome = run_controlled(
-        rt, router, link, rng, desk, limit, log, &mut watch, out, lost, &mut counts,
+    let outcome = run_debugged(
+        rt, router, link, rng, desk, limit, log, out, err, lost, &mut counts,
     );
     let _ = writeln!(err, "{counts}");
     outcome
+}
+
+/// Runs a router at a desk, and writes what it refuses to `err`.
+fn run_debugged<'r, 'a, R: Clock + Net + AllocGlobal, L: Log, O: Write, E: Write>(
+    rt: &'r R,
+    router: RouterConfig,
+    link: Udp<'r, R>,
+    rng: Pcg32,
+    desk: &mut Desk,
+    limit: Limit,
+    log: &mut L,
+    out: &mut O,
+    err: &mut E,
+    lost: &mut Losses,
+    counts: &mut Counts,
+) -> Result<(), Failure<'a>>
+    requires { link.interfaces ≡ length router.interfaces }
+    ensures shown { OnOk result (ShowsControlled router rng limit (O.contents out.old) (O.contents out.new)) }
+    ensures failed { IfErr result (FailsTurns limit.turns) }
+{
+    let mut watch = Both {
+        first: DebugLines::new(err),
+        second: Neighbors::new(rt.alloc()),
+    };
+    run_controlled(
+        rt, router, link, rng, desk, limit, log, &mut watch, out, lost, counts,
+    )
 }
 
 /// Binds the ports, says that the router runs, and runs it.
