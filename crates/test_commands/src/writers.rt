@@ -37,15 +37,15 @@ const MANY: usize = 100;
 
 /// Runs the words on writers that fail after each number of writes and flushes, the last of which is the flush, and compares
 /// what standard error says.
-fn fails_at_each_write(rt: HostRuntime, words: &[&str], cause: ErrorKind, said: &str) {
+fn fails_at_each_write(rt: &HostRuntime, words: &[&str], cause: ErrorKind, said: &str) {
     let mut out = Failing { left: MANY, cause };
     let mut err = Vec::new(rt.alloc());
-    assert_eq!(rt; program(&rt, words, &mut out, &mut err), 0);
+    assert_eq!(rt; program(rt, words, &mut out, &mut err), 0);
     let steps = MANY.saturating_sub(out.left);
     for left in 0..steps {
         let mut out = Failing { left, cause };
         let mut err = Vec::new(rt.alloc());
-        assert_eq!(rt; program(&rt, words, &mut out, &mut err), 3, "after {left}");
+        assert_eq!(rt; program(rt, words, &mut out, &mut err), 3, "after {left}");
         assert!(rt; err.as_slice() == said.as_bytes(), "after {left}");
     }
 }
@@ -53,14 +53,14 @@ fn fails_at_each_write(rt: HostRuntime, words: &[&str], cause: ErrorKind, said: 
 #[test]
 fn a_failed_write_or_flush_of_standard_output_is_status_3(rt: HostRuntime) {
     for words in [["ripngd", "show", ONE_ROUTE], ["ripngd", "help", "show"]] {
-        fails_at_each_write(rt, &words, ErrorKind::StorageFull, "ripngd: cannot write stdout\n");
+        fails_at_each_write(&rt, &words, ErrorKind::StorageFull, "ripngd: cannot write stdout\n");
     }
 }
 
 #[test]
 fn nothing_is_said_where_who_reads_has_gone_away(rt: HostRuntime) {
     for words in [["ripngd", "show", ONE_ROUTE], ["ripngd", "help", "show"]] {
-        fails_at_each_write(rt, &words, ErrorKind::BrokenPipe, "");
+        fails_at_each_write(&rt, &words, ErrorKind::BrokenPipe, "");
     }
 }
 
