@@ -1,5 +1,5 @@
 -- What a run shows is of a router that started, and made its turns.
-use Rattle.std.proofs.Common.{◌≡◌, ℕ, List, Option, Result, Ok, Err, refl}
+use Rattle.std.proofs.Common.{◌≡◌, ◌+◌, ℕ, suc, List, Option, Result, Ok, Err, refl, subst, arith}
 use Rattle.std.specs.Prelude.{None, OnOk}
 use Rattle.std.specs.Io.KnownBytes.{Appends}
 use Rattle.rand_pcg.specs.Lcg.{Lcg}
@@ -7,10 +7,16 @@ use Rattle.router_core.specs.Config.{Config as RouterValue}
 use Rattle.ripngd_engine.specs.Seen.{Seen, Started, untouched}
 use Rattle.ripngd_daemon.specs.declared.failure.Failure.{Failure}
 use Rattle.ripngd_daemon.specs.Controlled.{LastsFor}
-use Rattle.ripngd_daemon.specs.Ending.{RanUntil}
+use Rattle.ripngd_daemon.specs.Ending.{RanInTime, RanTurns, RanUntil}
 use Rattle.ripngd_daemon.specs.declared.limit.Limit.{Limit}
 use Rattle.ripngd_daemon.specs.Ran.{ShowsBound, ShowsControlled, words_of}
 use Rattle.ripngd_daemon.specs.Tabled.{table_text}
+
+-- a turn more
+pub RanTurns-more : (seconds : Option ℕ) (n : ℕ) (a m b : Seen) → RanTurns seconds n a m → RanInTime seconds m b → RanTurns seconds (n + 1) a b
+RanTurns-more seconds n a m b ran step =
+    let one_more : suc n ≡ n + 1 = omega arith in
+    subst (λ k. RanTurns seconds k a b) one_more (m, ran, step)
 
 -- by whatever the turns answered
 pub shows_turns : (router : RouterValue) (rng : Lcg) (limit : Limit) (log : Option (List ℕ)) (begun done : Seen) (old new : Option (List ℕ))

@@ -77,7 +77,7 @@ fn make_turns<'a, R: Clock + AllocGlobal, W: Write, V: Counting>(
     ensures failed { IfErr result (FailsTurns limit.turns) }
 {
     for done in 0..limit.turns {
-        if is_over(limit.seconds, engine.router().last()) {
+        if is_over(limit.seconds, engine) {
             return Ok(());
         }
         match turn(rt, engine, desk, log, watch) {

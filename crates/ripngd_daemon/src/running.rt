@@ -350,7 +350,7 @@ fn make_turns<'a, R: Clock, W: Write, V: Watch>(
     ensures failed { IfErr result (FailsTurns limit.turns) }
 {
     for done in 0..limit.turns {
-        if is_over(limit.seconds, engine.router().last()) {
+        if is_over(limit.seconds, engine) {
             return Ok(());
         }
         match engine.turns_watched(1, log, watch) {
