@@ -58,16 +58,34 @@ impl Peering for PeerDesk {
     }
 }
 
+/// A peer that comes.
+fn add<R: Clock>(link: &mut Udp<'_, R>, iface: usize, addr: Addr6, port: u16) -> Reply
+    ensures { link.new.interfaces ≡ link.old.interfaces }
+{
+    reply_to(link.add_peer(iface, plain_peer(addr, port)))
+}
+
+/// A peer that goes.
+fn remove<R: Clock>(link: &mut Udp<'_, R>, iface: usize, addr: Addr6) -> Reply
+    ensures { link.new.interfaces ≡ link.old.interfaces }
+{
+    reply_to(link.remove_peer(iface, addr))
+}
+
+/// A change of the peers, and what is replied to it.
+fn change_peers<R: Clock>(link: &mut Udp<'_, R>, change: PeerChange) -> Reply
+    ensures { link.new.interfaces ≡ link.old.interfaces }
+{
+    match change {
+        PeerChange::Add { iface, addr, port } => add(link, iface, addr, port),
+        PeerChange::Remove { iface, addr } => remove(link, iface, addr),
+    }
+}
+
 impl<'r, R: Clock> LinkChange<Udp<'r, R>> for PeerDesk {
     fn make(&mut self, link: &mut Udp<'r, R>) {
-        match self.change {
-            Some(PeerChange::Add { iface, addr, port }) => {
-                self.reply = reply_to(link.add_peer(iface, plain_peer(addr, port)));
-            }
-            Some(PeerChange::Remove { iface, addr }) => {
-                self.reply = reply_to(link.remove_peer(iface, addr));
-            }
-            None => {}
+        if let Some(change) = self.change {
+            self.reply = change_peers(link, change);
         }
     }
 }

@@ -232,11 +232,31 @@ fn run_at_desk<'r, 'a, R: Clock + Net + AllocGlobal, L: Log, O: Write, E: Write>
             second: Neighbors::new(rt.alloc()),
         };
         return run_controlled(
-            rt, router, link, rng, desk, limit, log, &mut watch, out, lost, &mut counts,
+            rt,
+            router,
+            link,
+            rng,
+            desk,
+            limit,
+            log,
+            &mut watch,
+            out,
+            lost,
+            &mut counts,
         );
     }
     let outcome = run_debugged(
-        rt, router, link, rng, desk, limit, log, out, err, lost, &mut counts,
+        rt,
+        router,
+        link,
+        rng,
+        desk,
+        limit,
+        log,
+        out,
+        err,
+        lost,
+        &mut counts,
     );
     let _ = writeln!(err, "{counts}");
     outcome

@@ -53,7 +53,12 @@ fn fails_at_each_write(rt: &HostRuntime, words: &[&str], cause: ErrorKind, said:
 #[test]
 fn a_failed_write_or_flush_of_standard_output_is_status_3(rt: HostRuntime) {
     for words in [["ripngd", "show", ONE_ROUTE], ["ripngd", "help", "show"]] {
-        fails_at_each_write(&rt, &words, ErrorKind::StorageFull, "ripngd: cannot write stdout\n");
+        fails_at_each_write(
+            &rt,
+            &words,
+            ErrorKind::StorageFull,
+            "ripngd: cannot write stdout\n",
+        );
     }
 }
 
