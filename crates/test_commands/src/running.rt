@@ -248,7 +248,10 @@ fn a_quiet_run_sends_nothing_and_makes_the_turns_that_are_ordered(
     Ok(())
 }
 
-/// How long a run with these options lasts, which ends as after its last turn.
+/// How long a run with these options lasts.
+///
+/// # Errors
+/// Where it does not end as after its last turn.
 fn lasted(rt: &HostRuntime, file: &str, options: [&str; 4]) -> Result<Duration, Fail> {
     let ports = ((1, free_port(rt)?), (2, free_port(rt)?));
     let text = config_text(rt.alloc(), "2001:db8::/32", ports.0, ports.1)?;
@@ -258,8 +261,10 @@ fn lasted(rt: &HostRuntime, file: &str, options: [&str; 4]) -> Result<Duration, 
     let before = Instant::now(rt)?;
     let (status, out, err) = outcome(rt, &words)?;
     let passed = before.elapsed(rt)?;
-    assert!(rt; status == 0 && err.as_slice() == b"ripngd: running, 1 interfaces\n".as_slice());
-    assert!(rt; out.as_slice() == b"2001:db8::/32 metric 1 direct\n".as_slice());
+    let has_run = status == 0 && err.as_slice() == b"ripngd: running, 1 interfaces\n".as_slice();
+    if !has_run || out.as_slice() != b"2001:db8::/32 metric 1 direct\n".as_slice() {
+        return Err(Fail::from("it did not end as after its last turn"));
+    }
     Ok(passed)
 }
 
