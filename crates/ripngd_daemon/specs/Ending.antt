@@ -1,5 +1,5 @@
 -- When a run ends of itself.
-use Rattle.std.specs.Prelude.{◌≡◌, ◌≤◌, ◌*◌, ◌⊎◌, ℕ, ⊥, Option, None, Some}
+use Rattle.std.specs.Prelude.{◌≡◌, ◌≤◌, ◌*◌, ◌⊎◌, ℕ, zero, suc, Option, None, Some}
 use Rattle.ripngd_engine.specs.Seen.{Ran, Seen}
 use Rattle.ripngd_daemon.specs.declared.limit.Limit.{Limit}
 
@@ -14,7 +14,7 @@ RanInTime seconds a b = (¬ (IsOver seconds a.machine.router.last)) × Ran 1 a b
 
 -- so many turns, one after another
 abbrev pub RanTurns : Option ℕ → ℕ → Seen → Seen → Type 0
-RanTurns seconds 0 a b = b ≡ a
+RanTurns seconds zero a b = b ≡ a
 RanTurns seconds (suc n) a b = (m : Seen) × RanTurns seconds n a m × RanInTime seconds m b
 
 -- turns were made until there were so many, or the seconds had passed

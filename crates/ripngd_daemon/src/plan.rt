@@ -2,6 +2,7 @@
 
 ghost use Rattle.std.specs.Prelude.{◌≡◌, IfErr, IfOk};
 ghost use Rattle.ripngd_config.specs.Configuration.{HasOneEach, IsConfigured, RefusesConfig};
+ghost use Rattle.ripngd_daemon.specs.Ran.{limit_of};
 
 use crate::limit::Limit;
 use ripngd_command_line::Order;
@@ -33,8 +34,7 @@ pub(crate) fn plan_of<'a>(
     text: &[u8],
 ) -> Result<Plan<'a>, ConfigFault>
     ensures configured { IfOk result (λ plan. IsConfigured text.now order.entry.tag order.entry.quiet plan.config) }
-    ensures turns { IfOk result (λ plan. plan.limit.turns ≡ order.entry.turns) }
-    ensures seconds { IfOk result (λ plan. plan.limit.seconds ≡ order.entry.seconds) }
+    ensures limit { IfOk result (λ plan. plan.limit ≡ limit_of order.entry) }
     ensures debug { IfOk result (λ plan. plan.debug ≡ order.entry.debug) }
     ensures log { IfOk result (λ plan. plan.log ≡ order.entry.log) }
     ensures control { IfOk result (λ plan. plan.control ≡ order.entry.control) }

@@ -1,3 +1,4 @@
+use Rattle.std.proofs.Common.{refl}
 use Rattle.ripngd_daemon.proofs.Turns.{RanTurns-more}
 use Rattle.ripngd_daemon.proofs.running.make_turns.Goals as goal
 
@@ -7,3 +8,6 @@ loop-done-preserved g c =
       going = ran.0;
       ran = RanTurns-more c.args.limit.seconds c.loop-done.done _ _ _ c.loop-done.invariant.ran (c.is_over.ensures.in_time c.if-is_over.false, ran.1);
     }
+
+pub loop-done-init : goal.loop-done-init
+loop-done-init g c = record { going = c.requires; ran = refl }
