@@ -39,8 +39,9 @@ use std::io::{self, Write};
 use std::net::Net;
 use std::rt::{Clock, Files};
 
-/// Runs the router of a configuration until it has made its turns or its seconds have passed, and then writes its forwarding table, a line for each entry. Each
-/// change of a route is a line of the log, if a file is named for it, whose old contents are lost once all ports are bound.
+/// Runs the router of a configuration until it has made its turns or its seconds have passed, and then writes its
+/// forwarding table, a line for each entry. Each change of a route is a line of the log, if a file is named for it, whose old
+/// contents are lost once all ports are bound.
 /// A configuration that is refused is written as `refused ..`, before that file is touched, and the answer is then false.
 /// What the router lost is left in `lost`, also where it ended early. `err` gets the line `ripngd: running, N interfaces` once
 /// all ports are bound and the log is emptied, and before it one for each interface that is its own peer. Where the router is
