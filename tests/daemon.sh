@@ -361,6 +361,26 @@ a_file_that_is_not_there_is_named() {
         same "standard error" "$(cat "$folder/err")" "ripngd: cannot write $folder/absent/log"
 }
 
+# Turns wait for 50 milliseconds each, so a million of them take longer than two seconds; three take less than a minute.
+seconds_end_a_router_as_its_last_turn_does() {
+    alone timed.toml
+    local before=$SECONDS
+    run run --seconds 2 --turns 1000000 -R "$folder/timed.log" "$folder/timed.toml"
+    local lasted=$((SECONDS - before))
+    same status "$status" 0 &&
+        same "the table" "$(cat "$folder/out")" "2001:db8::/32 metric 1 direct" &&
+        same "the log" "$(cat "$folder/timed.log")" "add 2001:db8::/32 metric 1 direct" &&
+        same "standard error" "$(said "$folder/err")" "" || return
+    [ "$lasted" -ge 1 ] && [ "$lasted" -le 12 ] || because "it lasted $lasted seconds" || return
+    before=$SECONDS
+    run run --seconds 60 --turns 3 "$folder/timed.toml"
+    same status "$status" 0 && [ $((SECONDS - before)) -lt 25 ] || because "it did not end after its turns" || return
+    listening timed_door --seconds 2 && finish "$pid" || return
+    same "the status of one that listens" "$status" 0
+    run run --seconds 0 "$folder/timed.toml"
+    same "the status of no second" "$status" 2
+}
+
 a_fault_of_the_command_line_is_told() {
     run run --turns 0 "$folder/here.toml"
     same status "$status" 2 && same output "$(cat "$folder/out")" "" || return
@@ -835,6 +855,7 @@ try a_log_goes_to_standard_output
 try a_router_says_that_it_runs
 try a_refused_configuration_leaves_the_log
 try a_file_that_is_not_there_is_named
+try seconds_end_a_router_as_its_last_turn_does
 try a_fault_of_the_command_line_is_told
 try a_quiet_daemon_learns_and_tells_nothing
 try one_of_sixteen_interfaces_is_busy

@@ -80,3 +80,13 @@ command_is_missing = refl
 control_is_taken : takes ripngd (codes "ripngd" ∷ codes "run" ∷ codes "--control" ∷ codes "east.sock" ∷ codes "c" ∷ []) ≡ true
 unfolding clap_on_literals
 control_is_taken = refl
+
+-- `run --seconds 5 --turns=3 c`: both may be given
+seconds_are_taken : takes ripngd (codes "ripngd" ∷ codes "run" ∷ codes "--seconds" ∷ codes "5" ∷ codes "--turns=3" ∷ codes "c" ∷ []) ≡ true
+unfolding clap_on_literals
+seconds_are_taken = refl
+
+-- `run --seconds 0 c`
+seconds_are_some : fault_of ripngd (codes "ripngd" ∷ codes "run" ∷ codes "--seconds" ∷ codes "0" ∷ codes "c" ∷ []) ≡ ValueValidation ∷ []
+unfolding clap_on_literals
+seconds_are_some = refl

@@ -1,5 +1,5 @@
 -- What the words of a command line ask of ripngd.
-use Rattle.std.specs.Prelude.{◌≡◌, ◌≤◌, ℕ, List, Some, None, codes, option_map, IsTrue, ◌↔◌}
+use Rattle.std.specs.Prelude.{◌≡◌, ◌≤◌, ℕ, List, Option, Some, None, codes, option_map, IsTrue, ◌↔◌}
 use Rattle.std.specs.Str.Parse.{digits_value, without_leading_plus}
 use Rattle.clap.specs.Walk.{Row, Text, first_of, one_of}
 use Rattle.clap.specs.Simple.{subcommand_of}
@@ -22,6 +22,11 @@ HasNumber rows id n = (text : Text) × (one_of id rows ≡ Some text) × (decima
 abbrev pub IsSet : List Row → Text → Type 0
 IsSet rows id = one_of id rows ≡ Some (codes "true")
 
+-- these seconds were given; or none were
+abbrev pub AreSeconds : Option ℕ → List Row → Type 0
+AreSeconds (Some n) rows = HasNumber rows (codes "seconds") n × (1 ≤ n)
+AreSeconds None rows = first_of (codes "seconds") rows ≡ None
+
 -- the rows of `run` order this
 pub record IsOrdered (order : Order) (rows : List Row) : Type 0 where
   pub quiet : IsTrue order.quiet ↔ IsSet rows (codes "quiet")
@@ -30,6 +35,7 @@ pub record IsOrdered (order : Order) (rows : List Row) : Type 0 where
   pub log : option_map (λ s. s.now) order.log ≡ first_of (codes "log") rows
   pub turns : HasNumber rows (codes "turns") order.turns
   pub some : 1 ≤ order.turns
+  pub seconds : AreSeconds order.seconds rows
   pub control : option_map (λ s. s.now) order.control ≡ first_of (codes "control") rows
   pub config : first_of (codes "CONFIG") rows ≡ Some order.config.now
 

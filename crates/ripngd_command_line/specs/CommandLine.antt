@@ -56,6 +56,14 @@ turns_option = record (new_rule (codes "turns")) {
   defaults = codes "4294967295" ∷ [];
 }
 
+-- `--seconds N`, from 1 to 4,294,967,295
+abbrev pub seconds_option : Rule
+seconds_option = record (new_rule (codes "seconds")) {
+  long = Some (codes "seconds");
+  value_names = 1;
+  parser = Some (parsers.Signed (pos 1) (pos 4294967295));
+}
+
 -- `--control PATH`
 abbrev pub control_option : Rule
 control_option = record (new_rule (codes "control")) { long = Some (codes "control"); value_names = 1 }
@@ -106,11 +114,11 @@ versioned a = on_top (λ s. record s { has_version = true }) a
 abbrev pub lab_command : App
 lab_command = with_rule (with_rule (with_rule (new_app (codes "lab")) trace_option) explain_option) (positional (codes "SCRIPT"))
 
--- `run [-q] [-d] [-t TAG] [-R FILE] [--turns N] [--control PATH] CONFIG`
+-- `run [-q] [-d] [-t TAG] [-R FILE] [--turns N] [--seconds N] [--control PATH] CONFIG`
 abbrev pub run_command : App
 run_command =
-    with_rule (with_rule (with_rule (with_rule (with_rule (with_rule (with_rule (new_app (codes "run"))
-    quiet_option) debug_option) tag_option) log_option) turns_option) control_option) (positional (codes "CONFIG"))
+    with_rule (with_rule (with_rule (with_rule (with_rule (with_rule (with_rule (with_rule (new_app (codes "run"))
+    quiet_option) debug_option) tag_option) log_option) turns_option) seconds_option) control_option) (positional (codes "CONFIG"))
 
 -- `ctl PATH COMMAND [WHAT] [VALUE] [PORT]`
 abbrev pub ctl_command : App

@@ -7,8 +7,8 @@ ghost use Rattle.clap.specs.Simple.{subcommand_of};
 ghost use Rattle.clap.specs.Takes.{takes};
 ghost use Rattle.clap.specs.Walk.{Row, Text, first_of, rows_of};
 ghost use Rattle.clap.specs.Words.{found_of, kind_of, subcommand_rows_of};
-ghost use Rattle.ripngd_command_line.specs.Asked.{Asks, IsAsked, HasNumber, IsSet};
-ghost use Rattle.ripngd_command_line.specs.CommandLine.{IsArg, IsCommand, control_option, ctl_command, debug_option, explain_option, film_option, lab_command, log_option, one_argument, optional_rule, page_command, port_option, positional, quiet_option, requests_option, ripngd, run_command, tag_option, trace_option, turns_option};
+ghost use Rattle.ripngd_command_line.specs.Asked.{AreSeconds, Asks, IsAsked, HasNumber, IsSet};
+ghost use Rattle.ripngd_command_line.specs.CommandLine.{IsArg, IsCommand, control_option, ctl_command, debug_option, explain_option, film_option, lab_command, log_option, one_argument, optional_rule, page_command, port_option, positional, quiet_option, requests_option, ripngd, run_command, seconds_option, tag_option, trace_option, turns_option};
 
 use crate::asked::{Ask, Order, Question, Serve};
 use crate::help;
@@ -83,6 +83,17 @@ fn turns<'a>(alloc: Global) -> Arg<'a>
         .help("End after N turns, each with one datagram at most, and print the forwarding table")
 }
 
+/// `--seconds N`, from 1 to 4,294,967,295.
+fn seconds<'a>(alloc: Global) -> Arg<'a>
+    ensures { IsArg result seconds_option }
+{
+    Arg::new(alloc, "seconds")
+        .long("seconds")
+        .value_name("N")
+        .value_parser(value_parser!(u32).range(1..))
+        .help("End after N seconds, as after the last turn, if that comes first")
+}
+
 /// `--control PATH`.
 fn control<'a>(alloc: Global) -> Arg<'a>
     ensures { IsArg result control_option }
@@ -142,7 +153,7 @@ fn lab<'a>(alloc: Global) -> Result<Command<'a>, AllocError>
         .arg(required(alloc, "SCRIPT", "The file that holds it"))
 }
 
-/// `run [-q] [-d] [-t TAG] [-R FILE] [--turns N] [--control PATH] CONFIG`.
+/// `run [-q] [-d] [-t TAG] [-R FILE] [--turns N] [--seconds N] [--control PATH] CONFIG`.
 fn run<'a>(alloc: Global) -> Result<Command<'a>, AllocError>
     ensures { IfOk result (λ c. IsCommand c run_command) }
 {
@@ -154,6 +165,7 @@ fn run<'a>(alloc: Global) -> Result<Command<'a>, AllocError>
         .arg(tag(alloc))?
         .arg(log(alloc))?
         .arg(turns(alloc))?
+        .arg(seconds(alloc))?
         .arg(control(alloc))?
         .arg(required(alloc, "CONFIG", "The file of its configuration"))
 }
@@ -358,6 +370,7 @@ fn run_asked<'a>(matches: &ArgMatches<'a>) -> Option<Ask<'a>>
         tag: tag_given(matches)?,
         log: text(matches, "log"),
         turns: turns_given(matches)?,
+        seconds: seconds_given(matches)?,
         control: text(matches, "control"),
         config: text(matches, "CONFIG")?,
     }))
@@ -402,6 +415,21 @@ fn turns_given(matches: &ArgMatches<'_>) -> Option<u32>
 {
     let turns = matches.get_one::<u32>("turns")?;
     if turns == 0 { None } else { Some(turns) }
+}
+
+/// The seconds that were given, or that none were.
+fn seconds_given(matches: &ArgMatches<'_>) -> Option<Option<u32>>
+    ensures { IfSome result (λ seconds. AreSeconds seconds (rows_of (found_of matches.now))) }
+{
+    if text(matches, "seconds").is_none() {
+        return Some(None);
+    }
+    let seconds = matches.get_one::<u32>("seconds")?;
+    if seconds == 0 {
+        None
+    } else {
+        Some(Some(seconds))
+    }
 }
 
 fn port_given(matches: &ArgMatches<'_>) -> Option<u16>

@@ -47,10 +47,11 @@ Example:
 pub(crate) const RUN: &str = "\
 Each interface of the router is a socket on 127.0.0.1, and each of its neighbors
 another program there. It learns routes from its neighbors and tells them its
-own, until it has made its turns or a signal ends it. In a turn it takes in one
-datagram at the most, and then does what time has made due. After the last turn
-it prints its forwarding table. What it lost is said on standard error, and with
-`-d` each datagram and entry that it refuses, with counts of all at the end.
+own, until it has made its turns, its seconds are over, or a signal ends it. In
+a turn it takes in one datagram at the most, and then does what time has made
+due. After the last turn it prints its forwarding table. What it lost is said on
+standard error, and with `-d` each datagram and entry that it refuses, with
+counts of all at the end.
 With `--control` it can be asked, told and ended while it runs (`help ctl`).
 
 Example, of two routers that learn from each other:

@@ -1,27 +1,35 @@
 -- What a run shows is of a router that started, and made its turns.
-use Rattle.std.proofs.Common.{◌≡◌, ℕ, List, Option, Result, Ok, Err, refl}
+use Rattle.std.proofs.Common.{◌≡◌, ◌+◌, ℕ, suc, List, Option, Result, Ok, Err, refl, subst, arith}
 use Rattle.std.specs.Prelude.{None, OnOk}
 use Rattle.std.specs.Io.KnownBytes.{Appends}
 use Rattle.rand_pcg.specs.Lcg.{Lcg}
 use Rattle.router_core.specs.Config.{Config as RouterValue}
-use Rattle.ripngd_engine.specs.Seen.{Ran, Seen, Started, untouched}
+use Rattle.ripngd_engine.specs.Seen.{Seen, Started, untouched}
 use Rattle.ripngd_daemon.specs.declared.failure.Failure.{Failure}
 use Rattle.ripngd_daemon.specs.Controlled.{LastsFor}
+use Rattle.ripngd_daemon.specs.Ending.{RanInTime, RanTurns, RanUntil}
+use Rattle.ripngd_daemon.specs.declared.limit.Limit.{Limit}
 use Rattle.ripngd_daemon.specs.Ran.{ShowsBound, ShowsControlled, words_of}
 use Rattle.ripngd_daemon.specs.Tabled.{table_text}
 
+-- a turn more
+pub RanTurns-more : (seconds : Option ℕ) (n : ℕ) (a m b : Seen) → RanTurns seconds n a m → RanInTime seconds m b → RanTurns seconds (n + 1) a b
+RanTurns-more seconds n a m b ran step =
+    let one_more : suc n ≡ n + 1 = omega arith in
+    subst (λ k. RanTurns seconds k a b) one_more (m, ran, step)
+
 -- by whatever the turns answered
-pub shows_turns : (router : RouterValue) (rng : Lcg) (turns : ℕ) (log : Option (List ℕ)) (begun done : Seen) (old new : Option (List ℕ))
+pub shows_turns : (router : RouterValue) (rng : Lcg) (limit : Limit) (log : Option (List ℕ)) (begun done : Seen) (old new : Option (List ℕ))
     (r : Result (Unit {0}) Failure) → Started router (words_of rng) (untouched None None log) begun
-    → OnOk r (Ran turns begun done) → OnOk r (Appends old new (table_text done.machine.fib)) → OnOk r (ShowsBound router rng turns old new)
-shows_turns router rng turns log begun done old new (Ok u) started ran shown =
+    → OnOk r (RanUntil limit begun done) → OnOk r (Appends old new (table_text done.machine.fib)) → OnOk r (ShowsBound router rng limit old new)
+shows_turns router rng limit log begun done old new (Ok u) started ran shown =
     (done.machine.fib, record { log = log; begun = begun; done = done; started = started; ran = ran; table_is = refl }, shown)
-shows_turns router rng turns log begun done old new (Err e) started ran shown = tt
+shows_turns router rng limit log begun done old new (Err e) started ran shown = tt
 
 -- or that made some of them, and was told changes between them
-pub shows_controlled : (router : RouterValue) (rng : Lcg) (turns : ℕ) (log : Option (List ℕ)) (begun done : Seen) (old new : Option (List ℕ))
+pub shows_controlled : (router : RouterValue) (rng : Lcg) (limit : Limit) (log : Option (List ℕ)) (begun done : Seen) (old new : Option (List ℕ))
     (r : Result (Unit {0}) Failure) → Started router (words_of rng) (untouched None None log) begun
-    → OnOk r (LastsFor turns begun done) → OnOk r (Appends old new (table_text done.machine.fib)) → OnOk r (ShowsControlled router rng turns old new)
-shows_controlled router rng turns log begun done old new (Ok u) started lasted shown =
+    → OnOk r (LastsFor limit.seconds limit.turns begun done) → OnOk r (Appends old new (table_text done.machine.fib)) → OnOk r (ShowsControlled router rng limit old new)
+shows_controlled router rng limit log begun done old new (Ok u) started lasted shown =
     (done.machine.fib, record { log = log; begun = begun; done = done; started = started; lasted = lasted; table_is = refl }, shown)
-shows_controlled router rng turns log begun done old new (Err e) started lasted shown = tt
+shows_controlled router rng limit log begun done old new (Err e) started lasted shown = tt

@@ -10,6 +10,8 @@ use Rattle.ripngd_control.specs.declared.command.Command.{Command}
 use Rattle.ripngd_control.specs.declared.reply.Reply.{Reply}
 use Rattle.ripngd_door.specs.Lines.{BeginsWith}
 use Rattle.ripngd_engine.specs.Seen.{Ran, Seen, Started, untouched}
+use Rattle.ripngd_daemon.specs.Ending.{RanInTime}
+use Rattle.ripngd_daemon.specs.declared.limit.Limit.{Limit}
 
 -- this command is the first line of what was heard
 abbrev pub IsHeard : Command → List ℕ → Type 0
@@ -26,14 +28,15 @@ turns_in [] = 0
 turns_in (Turned ∷ deeds) = 1 + turns_in deeds
 turns_in (Commanded c reply ∷ deeds) = turns_in deeds
 
-abbrev pub DoesTurnOrCommand : TurnOrCommand → Seen → Seen → Type 0
-DoesTurnOrCommand Turned a b = Ran 1 a b
-DoesTurnOrCommand (Commanded c reply) a b = ObeysChange c a reply b
+-- a turn is made while the seconds have not passed
+abbrev pub DoesTurnOrCommand : Option ℕ → TurnOrCommand → Seen → Seen → Type 0
+DoesTurnOrCommand seconds Turned a b = RanInTime seconds a b
+DoesTurnOrCommand seconds (Commanded c reply) a b = ObeysChange c a reply b
 
 -- these deeds, one after another
-abbrev pub DoesAll : List TurnOrCommand → Seen → Seen → Type 0
-DoesAll [] a b = b ≡ a
-DoesAll (d ∷ deeds) a b = (m : Seen) × DoesTurnOrCommand d a m × DoesAll deeds m b
+abbrev pub DoesAll : Option ℕ → List TurnOrCommand → Seen → Seen → Type 0
+DoesAll seconds [] a b = b ≡ a
+DoesAll seconds (d ∷ deeds) a b = (m : Seen) × DoesTurnOrCommand seconds d a m × DoesAll seconds deeds m b
 
 -- a router was told a change, or it is as it was
 abbrev pub Heeds : Seen → Seen → Type 0
@@ -43,18 +46,18 @@ Heeds a b = (b ≡ a) ⊎ ((c : Change) × (reply : Reply) × ObeysChange c a re
 abbrev pub TurnsAndHeeds : Seen → Seen → Type 0
 TurnsAndHeeds a b = (m : Seen) × Ran 1 a m × Heeds m b
 
--- a router made turns, at most so many, and was told changes between them
-pub record LastsFor (turns : ℕ) (a b : Seen) : Type 0 where
+-- a router made turns, at most so many and each while its seconds had not passed, and was told changes between them
+pub record LastsFor (seconds : Option ℕ) (turns : ℕ) (a b : Seen) : Type 0 where
   pub deeds : List TurnOrCommand
   pub within : turns_in deeds ≤ turns
-  pub does : DoesAll deeds a b
+  pub does : DoesAll seconds deeds a b
 
--- a router of this configuration started with these random words, over a link and a clock that tell nothing, and lasted for at
--- most so many turns; this is its forwarding table then
-pub record IsControlled (router : RouterValue) (words : Stream) (turns : ℕ) (table : Forwarding) : Type 0 where
+-- a router of this configuration started with these random words, over a link and a clock that tell nothing, and lasted for its
+-- limit at most; this is its forwarding table then
+pub record IsControlled (router : RouterValue) (words : Stream) (limit : Limit) (table : Forwarding) : Type 0 where
   pub log : Option (List ℕ)  -- what stood in its log
   pub begun : Seen
   pub done : Seen
   pub started : Started router words (untouched None None log) begun
-  pub lasted : LastsFor turns begun done
+  pub lasted : LastsFor limit.seconds limit.turns begun done
   pub table_is : table ≡ done.machine.fib

@@ -11,6 +11,7 @@ ghost use Rattle.ripngd_daemon.specs.Tabled.{table_text};
 use crate::desk::Desk;
 use crate::failure::Failure;
 use crate::forwarding::write_table;
+use crate::limit::{Limit, is_over};
 use crate::losses::with_link;
 use crate::router::Running;
 use rand_pcg::Pcg32;
@@ -58,7 +59,7 @@ fn turn<R: Clock + AllocGlobal, W: Write, V: Counting>(
     Ok(desk.look(rt, engine, watch.first.counted(), &watch.second, log))
 }
 
-/// Makes turns until it has made so many, or is told to stop.
+/// Makes turns until the limit, or until it is told to stop.
 ///
 /// # Errors
 /// `Link` with the turns before the one that failed; `OutOfMemory`.
@@ -66,16 +67,19 @@ fn make_turns<'a, R: Clock + AllocGlobal, W: Write, V: Counting>(
     rt: &R,
     engine: &mut Running<'_, R>,
     desk: &mut Desk,
-    turns: u32,
+    limit: Limit,
     log: &mut W,
     watch: &mut Both<V, Neighbors>,
 ) -> Result<(), Failure<'a>>
     requires { engine.old.ended ≡ false }
-    ensures lasts { OnOk result (LastsFor turns (seen words_of W.contents engine.old log.old)
+    ensures lasts { OnOk result (LastsFor limit.seconds limit.turns (seen words_of W.contents engine.old log.old)
         (seen words_of W.contents engine.new log.new)) }
-    ensures failed { IfErr result (FailsTurns turns) }
+    ensures failed { IfErr result (FailsTurns limit.turns) }
 {
-    for done in 0..turns {
+    for done in 0..limit.turns {
+        if is_over(limit.seconds, engine) {
+            return Ok(());
+        }
         match turn(rt, engine, desk, log, watch) {
             Ok(Course::GoOn) => {}
             Ok(Course::Stop) => return Ok(()),
@@ -91,18 +95,18 @@ fn show_turns<'a, R: Clock + AllocGlobal, W: Write, V: Counting, O: Write>(
     rt: &R,
     engine: &mut Running<'_, R>,
     desk: &mut Desk,
-    turns: u32,
+    limit: Limit,
     log: &mut W,
     watch: &mut Both<V, Neighbors>,
     out: &mut O,
 ) -> Result<(), Failure<'a>>
     requires { engine.old.ended ≡ false }
-    ensures lasts { OnOk result (LastsFor turns (seen words_of W.contents engine.old log.old)
+    ensures lasts { OnOk result (LastsFor limit.seconds limit.turns (seen words_of W.contents engine.old log.old)
         (seen words_of W.contents engine.new log.new)) }
     ensures shown { OnOk result (Appends (O.contents out.old) (O.contents out.new) (table_text engine.new.fib)) }
-    ensures failed { IfErr result (FailsTurns turns) }
+    ensures failed { IfErr result (FailsTurns limit.turns) }
 {
-    make_turns(rt, engine, desk, turns, log, watch)?;
+    make_turns(rt, engine, desk, limit, log, watch)?;
     write_table(engine.fib(), out).map_err(|_| Failure::Output)
 }
 
@@ -114,7 +118,7 @@ pub(crate) fn run_controlled<'r, 'a, R: Clock + Net + AllocGlobal, W: Write, V: 
     link: Udp<'r, R>,
     rng: Pcg32,
     desk: &mut Desk,
-    turns: u32,
+    limit: Limit,
     log: &mut W,
     watch: &mut Both<V, Neighbors>,
     out: &mut O,
@@ -122,12 +126,12 @@ pub(crate) fn run_controlled<'r, 'a, R: Clock + Net + AllocGlobal, W: Write, V: 
     counts: &mut Counts,
 ) -> Result<(), Failure<'a>>
     requires { link.interfaces ≡ length router.interfaces }
-    ensures shown { OnOk result (ShowsControlled router rng turns (O.contents out.old) (O.contents out.new)) }
-    ensures failed { IfErr result (FailsTurns turns) }
+    ensures shown { OnOk result (ShowsControlled router rng limit (O.contents out.old) (O.contents out.new)) }
+    ensures failed { IfErr result (FailsTurns limit.turns) }
 {
     let clock = Uptime::new(rt);
     let mut engine: Running<'r, R> = Engine::start(rt.alloc(), router, link, clock, rng, log)?;
-    let outcome = show_turns(rt, &mut engine, desk, turns, log, watch, out);
+    let outcome = show_turns(rt, &mut engine, desk, limit, log, watch, out);
     *counts = watch.first.counted();
     let report = engine.report();
     let mut link = engine.into_link();

@@ -8,6 +8,7 @@ mod controlled;
 mod desk;
 mod failure;
 mod forwarding;
+mod limit;
 mod losses;
 mod peering;
 mod plan;

@@ -2,7 +2,9 @@
 
 ghost use Rattle.std.specs.Prelude.{◌≡◌, IfErr, IfOk};
 ghost use Rattle.ripngd_config.specs.Configuration.{HasOneEach, IsConfigured, RefusesConfig};
+ghost use Rattle.ripngd_daemon.specs.Ran.{limit_of};
 
+use crate::limit::Limit;
 use ripngd_command_line::Order;
 use ripngd_config::{Config, ConfigFault, read_config};
 use std::alloc::Global;
@@ -12,8 +14,8 @@ use std::alloc::Global;
 pub(crate) struct Plan<'a> {
     /// What the router runs on.
     pub(crate) config: Config,
-    /// How many turns it makes.
-    pub(crate) turns: u32,
+    /// When it ends of itself.
+    pub(crate) limit: Limit,
     /// Whether what it refuses is written to standard error.
     pub(crate) debug: bool,
     /// The file that gets its log.
@@ -32,7 +34,7 @@ pub(crate) fn plan_of<'a>(
     text: &[u8],
 ) -> Result<Plan<'a>, ConfigFault>
     ensures configured { IfOk result (λ plan. IsConfigured text.now order.entry.tag order.entry.quiet plan.config) }
-    ensures turns { IfOk result (λ plan. plan.turns ≡ order.entry.turns) }
+    ensures limit { IfOk result (λ plan. plan.limit ≡ limit_of order.entry) }
     ensures debug { IfOk result (λ plan. plan.debug ≡ order.entry.debug) }
     ensures log { IfOk result (λ plan. plan.log ≡ order.entry.log) }
     ensures control { IfOk result (λ plan. plan.control ≡ order.entry.control) }
@@ -42,7 +44,10 @@ pub(crate) fn plan_of<'a>(
     let config = read_config(alloc, text, order.tag, order.quiet)?;
     Ok(Plan {
         config,
-        turns: order.turns,
+        limit: Limit {
+            turns: order.turns,
+            seconds: order.seconds,
+        },
         debug: order.debug,
         log: order.log,
         control: order.control,

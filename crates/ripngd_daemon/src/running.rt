@@ -3,7 +3,8 @@
 ghost use Rattle.std.specs.Prelude.{◌≡◌, ◌≢◌, Err, IfErr, IfOk, List, OnOk, Some, false, length, map, option_map, vec_len, ℕ};
 ghost use Rattle.std.specs.Io.KnownBytes.{Appends};
 ghost use Rattle.ripngd_config.specs.Configuration.{HasOneEach};
-ghost use Rattle.ripngd_engine.specs.Seen.{Ran, seen};
+ghost use Rattle.ripngd_engine.specs.Seen.{seen};
+ghost use Rattle.ripngd_daemon.specs.Ending.{RanUntil};
 ghost use Rattle.ripngd_command_line.specs.declared.asked.Ask.TheVariants as asks;
 ghost use Rattle.ripngd_daemon.specs.Failing.{FailsLogged, FailsPlanned, FailsTurns, MayFail};
 ghost use Rattle.ripngd_daemon.specs.Ran.{IsRan, ShowsBound, ShowsControlled, ShowsOrdered, ShowsTurns, words_of};
@@ -17,6 +18,7 @@ use crate::controlled::run_controlled;
 use crate::desk::Desk;
 use crate::failure::Failure;
 use crate::forwarding::write_table;
+use crate::limit::{Limit, is_over};
 use crate::losses::with_link;
 use crate::plan::{Plan, plan_of};
 use crate::reading::FileSource;
@@ -28,7 +30,7 @@ use ripngd_command_line::Order;
 use ripngd_config::{Config, Peer, Place};
 use ripngd_control::Losses;
 use ripngd_door::Door;
-use ripngd_engine::{Engine, Unwatched, Watch};
+use ripngd_engine::{Engine, EngineFault, Unwatched, Watch};
 use ripngd_udp::{Udp, Uptime};
 use ripngd_watch::{Both, Counts, DebugLines, Neighbors};
 use router_core::RouterConfig;
@@ -37,8 +39,9 @@ use std::io::{self, Write};
 use std::net::Net;
 use std::rt::{Clock, Files};
 
-/// Runs the router of a configuration for some turns, and then writes its forwarding table, a line for each entry. Each
-/// change of a route is a line of the log, if a file is named for it, whose old contents are lost once all ports are bound.
+/// Runs the router of a configuration until it has made its turns or its seconds have passed, and then writes its
+/// forwarding table, a line for each entry. Each change of a route is a line of the log, if a file is named for it, whose old
+/// contents are lost once all ports are bound.
 /// A configuration that is refused is written as `refused ..`, before that file is touched, and the answer is then false.
 /// What the router lost is left in `lost`, also where it ended early. `err` gets the line `ripngd: running, N interfaces` once
 /// all ports are bound and the log is emptied, and before it one for each interface that is its own peer. Where the router is
@@ -90,9 +93,9 @@ fn run_plan<'a, R: Files<File = File> + Print + Clock + Net + AllocGlobal, O: Wr
     lost: &mut Losses,
 ) -> Result<(), Failure<'a>>
     requires { HasOneEach plan.config }
-    ensures shown { OnOk result (ShowsOrdered plan.entry.control plan.entry.config plan.entry.turns
+    ensures shown { OnOk result (ShowsOrdered plan.entry.control plan.entry.config plan.entry.limit
         (O.contents out.old) (O.contents out.new)) }
-    ensures failed { IfErr result (FailsPlanned plan.entry.turns (option_map (λ s. s.now) plan.entry.log)
+    ensures failed { IfErr result (FailsPlanned plan.entry.limit.turns (option_map (λ s. s.now) plan.entry.log)
         (option_map (λ s. s.now) plan.entry.control)) }
 {
     match plan.log {
@@ -137,22 +140,22 @@ fn run_logged<'a, R: Files + Clock + Net + AllocGlobal, L: Log, O: Write, E: Wri
     lost: &mut Losses,
 ) -> Result<(), Failure<'a>>
     requires { HasOneEach plan.config }
-    ensures shown { OnOk result (ShowsOrdered plan.entry.control plan.entry.config plan.entry.turns
+    ensures shown { OnOk result (ShowsOrdered plan.entry.control plan.entry.config plan.entry.limit
         (O.contents out.old) (O.contents out.new)) }
-    ensures failed { IfErr result (FailsPlanned plan.entry.turns (option_map (λ s. s.now) plan.entry.log)
+    ensures failed { IfErr result (FailsPlanned plan.entry.limit.turns (option_map (λ s. s.now) plan.entry.log)
         (option_map (λ s. s.now) plan.entry.control)) }
 {
     let Plan {
         config,
-        turns,
+        limit,
         debug,
         log: name,
         control,
     } = plan;
     let _ = write_echoes(&config, err);
     match control {
-        None => run_alone(rt, config, turns, debug, name, log, out, err, lost),
-        Some(path) => run_at(rt, path, config, turns, debug, name, log, out, err, lost),
+        None => run_alone(rt, config, limit, debug, name, log, out, err, lost),
+        Some(path) => run_at(rt, path, config, limit, debug, name, log, out, err, lost),
     }
 }
 
@@ -171,7 +174,7 @@ fn run_at<'a, R: Files + Clock + Net + AllocGlobal, L: Log, O: Write, E: Write>(
     rt: &R,
     path: &'a str,
     config: Config,
-    turns: u32,
+    limit: Limit,
     debug: bool,
     name: Option<&'a str>,
     log: &mut L,
@@ -180,8 +183,8 @@ fn run_at<'a, R: Files + Clock + Net + AllocGlobal, L: Log, O: Write, E: Write>(
     lost: &mut Losses,
 ) -> Result<(), Failure<'a>>
     requires { HasOneEach config }
-    ensures shown { OnOk result (ShowsControlled config.router config.rng turns (O.contents out.old) (O.contents out.new)) }
-    ensures failed { IfErr result (FailsPlanned turns (option_map (λ s. s.now) name.entry) (Some path.entry.now)) }
+    ensures shown { OnOk result (ShowsControlled config.router config.rng limit (O.contents out.old) (O.contents out.new)) }
+    ensures failed { IfErr result (FailsPlanned limit.turns (option_map (λ s. s.now) name.entry) (Some path.entry.now)) }
 {
     let Config {
         router,
@@ -192,7 +195,7 @@ fn run_at<'a, R: Files + Clock + Net + AllocGlobal, L: Log, O: Write, E: Write>(
     let link = Udp::bind(rt, rt.alloc(), places.as_slice(), peers)?;
     let mut desk = open_desk(rt, path)?;
     let outcome = run_at_desk(
-        rt, router, link, rng, &mut desk, turns, debug, name, log, out, err, lost,
+        rt, router, link, rng, &mut desk, limit, debug, name, log, out, err, lost,
     );
     desk.close(rt, path);
     outcome
@@ -205,7 +208,7 @@ fn run_at_desk<'r, 'a, R: Clock + Net + AllocGlobal, L: Log, O: Write, E: Write>
     link: Udp<'r, R>,
     rng: Pcg32,
     desk: &mut Desk,
-    turns: u32,
+    limit: Limit,
     debug: bool,
     name: Option<&'a str>,
     log: &mut L,
@@ -214,8 +217,8 @@ fn run_at_desk<'r, 'a, R: Clock + Net + AllocGlobal, L: Log, O: Write, E: Write>
     lost: &mut Losses,
 ) -> Result<(), Failure<'a>>
     requires { link.interfaces ≡ length router.interfaces }
-    ensures shown { OnOk result (ShowsControlled router rng turns (O.contents out.old) (O.contents out.new)) }
-    ensures failed { IfErr result (FailsLogged turns (option_map (λ s. s.now) name.entry)) }
+    ensures shown { OnOk result (ShowsControlled router rng limit (O.contents out.old) (O.contents out.new)) }
+    ensures failed { IfErr result (FailsLogged limit.turns (option_map (λ s. s.now) name.entry)) }
 {
     empty_log(name, log)?;
     let _ = writeln!(
@@ -235,7 +238,7 @@ fn run_at_desk<'r, 'a, R: Clock + Net + AllocGlobal, L: Log, O: Write, E: Write>
             link,
             rng,
             desk,
-            turns,
+            limit,
             log,
             &mut watch,
             out,
@@ -249,7 +252,7 @@ fn run_at_desk<'r, 'a, R: Clock + Net + AllocGlobal, L: Log, O: Write, E: Write>
         link,
         rng,
         desk,
-        turns,
+        limit,
         log,
         out,
         err,
@@ -267,7 +270,7 @@ fn run_debugged<'r, 'a, R: Clock + Net + AllocGlobal, L: Log, O: Write, E: Write
     link: Udp<'r, R>,
     rng: Pcg32,
     desk: &mut Desk,
-    turns: u32,
+    limit: Limit,
     log: &mut L,
     out: &mut O,
     err: &mut E,
@@ -275,15 +278,15 @@ fn run_debugged<'r, 'a, R: Clock + Net + AllocGlobal, L: Log, O: Write, E: Write
     counts: &mut Counts,
 ) -> Result<(), Failure<'a>>
     requires { link.interfaces ≡ length router.interfaces }
-    ensures shown { OnOk result (ShowsControlled router rng turns (O.contents out.old) (O.contents out.new)) }
-    ensures failed { IfErr result (FailsTurns turns) }
+    ensures shown { OnOk result (ShowsControlled router rng limit (O.contents out.old) (O.contents out.new)) }
+    ensures failed { IfErr result (FailsTurns limit.turns) }
 {
     let mut watch = Both {
         first: DebugLines::new(err),
         second: Neighbors::new(rt.alloc()),
     };
     run_controlled(
-        rt, router, link, rng, desk, turns, log, &mut watch, out, lost, counts,
+        rt, router, link, rng, desk, limit, log, &mut watch, out, lost, counts,
     )
 }
 
@@ -291,7 +294,7 @@ fn run_debugged<'r, 'a, R: Clock + Net + AllocGlobal, L: Log, O: Write, E: Write
 fn run_alone<'a, R: Clock + Net + AllocGlobal, L: Log, O: Write, E: Write>(
     rt: &R,
     config: Config,
-    turns: u32,
+    limit: Limit,
     debug: bool,
     name: Option<&'a str>,
     log: &mut L,
@@ -300,8 +303,8 @@ fn run_alone<'a, R: Clock + Net + AllocGlobal, L: Log, O: Write, E: Write>(
     lost: &mut Losses,
 ) -> Result<(), Failure<'a>>
     requires { HasOneEach config }
-    ensures shown { OnOk result (ShowsTurns config turns (O.contents out.old) (O.contents out.new)) }
-    ensures failed { IfErr result (FailsLogged turns (option_map (λ s. s.now) name.entry)) }
+    ensures shown { OnOk result (ShowsTurns config limit (O.contents out.old) (O.contents out.new)) }
+    ensures failed { IfErr result (FailsLogged limit.turns (option_map (λ s. s.now) name.entry)) }
 {
     let Config {
         router,
@@ -312,10 +315,10 @@ fn run_alone<'a, R: Clock + Net + AllocGlobal, L: Log, O: Write, E: Write>(
     let link = bind_and_empty(rt, places.as_slice(), peers, name, log)?;
     let _ = writeln!(err, "ripngd: running, {} interfaces", places.len());
     if !debug {
-        return run_bound(rt, router, link, rng, turns, log, &mut Unwatched, out, lost);
+        return run_bound(rt, router, link, rng, limit, log, &mut Unwatched, out, lost);
     }
     let mut lines = DebugLines::new(&mut *err);
-    let outcome = run_bound(rt, router, link, rng, turns, log, &mut lines, out, lost);
+    let outcome = run_bound(rt, router, link, rng, limit, log, &mut lines, out, lost);
     let counts = lines.counts();
     let _ = writeln!(err, "{counts}");
     outcome
@@ -327,19 +330,19 @@ fn run_bound<'r, 'a, R: Clock + Net + AllocGlobal, W: Write, V: Watch, O: Write>
     router: RouterConfig,
     link: Udp<'r, R>,
     rng: Pcg32,
-    turns: u32,
+    limit: Limit,
     log: &mut W,
     watch: &mut V,
     out: &mut O,
     lost: &mut Losses,
 ) -> Result<(), Failure<'a>>
     requires { link.interfaces ≡ length router.interfaces }
-    ensures shown { OnOk result (ShowsBound router rng turns (O.contents out.old) (O.contents out.new)) }
-    ensures failed { IfErr result (FailsTurns turns) }
+    ensures shown { OnOk result (ShowsBound router rng limit (O.contents out.old) (O.contents out.new)) }
+    ensures failed { IfErr result (FailsTurns limit.turns) }
 {
     let clock = Uptime::new(rt);
     let mut engine: Running<'r, R> = Engine::start(rt.alloc(), router, link, clock, rng, log)?;
-    let outcome = show_turns(&mut engine, turns, log, watch, out);
+    let outcome = show_turns(&mut engine, limit, log, watch, out);
     let report = engine.report();
     let mut link = engine.into_link();
     link.finish();
@@ -352,20 +355,48 @@ fn run_bound<'r, 'a, R: Clock + Net + AllocGlobal, W: Write, V: Watch, O: Write>
     outcome
 }
 
-/// Makes the turns, and then writes the forwarding table.
+/// Makes turns until the limit.
+///
+/// # Errors
+/// `Link` with the turns before the one that failed; `OutOfMemory`.
+fn make_turns<'a, R: Clock, W: Write, V: Watch>(
+    engine: &mut Running<'_, R>,
+    limit: Limit,
+    log: &mut W,
+    watch: &mut V,
+) -> Result<(), Failure<'a>>
+    requires { engine.old.ended ≡ false }
+    ensures ran { OnOk result (RanUntil limit (seen words_of W.contents engine.old log.old)
+        (seen words_of W.contents engine.new log.new)) }
+    ensures failed { IfErr result (FailsTurns limit.turns) }
+{
+    for done in 0..limit.turns {
+        if is_over(limit.seconds, engine) {
+            return Ok(());
+        }
+        match engine.turns_watched(1, log, watch) {
+            Ok(()) => {}
+            Err(EngineFault::LinkFault { .. }) => return Err(Failure::Link(done)),
+            Err(EngineFault::OutOfMemory) => return Err(Failure::OutOfMemory),
+        }
+    }
+    Ok(())
+}
+
+/// Makes turns until the limit, and then writes the forwarding table.
 fn show_turns<'a, R: Clock, W: Write, V: Watch, O: Write>(
     engine: &mut Running<'_, R>,
-    turns: u32,
+    limit: Limit,
     log: &mut W,
     watch: &mut V,
     out: &mut O,
 ) -> Result<(), Failure<'a>>
     requires { engine.old.ended ≡ false }
-    ensures ran { OnOk result (Ran turns (seen words_of W.contents engine.old log.old)
+    ensures ran { OnOk result (RanUntil limit (seen words_of W.contents engine.old log.old)
         (seen words_of W.contents engine.new log.new)) }
     ensures shown { OnOk result (Appends (O.contents out.old) (O.contents out.new) (table_text engine.new.fib)) }
-    ensures failed { IfErr result (FailsTurns turns) }
+    ensures failed { IfErr result (FailsTurns limit.turns) }
 {
-    engine.turns_watched(turns, log, watch)?;
+    make_turns(engine, limit, log, watch)?;
     write_table(engine.fib(), out).map_err(|_| Failure::Output)
 }

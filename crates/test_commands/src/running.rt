@@ -248,6 +248,38 @@ fn a_quiet_run_sends_nothing_and_makes_the_turns_that_are_ordered(
     Ok(())
 }
 
+/// How long a run with these options lasts.
+///
+/// # Errors
+/// Where it does not end as after its last turn.
+fn lasted(rt: &HostRuntime, file: &str, options: [&str; 4]) -> Result<Duration, Fail> {
+    let ports = ((1, free_port(rt)?), (2, free_port(rt)?));
+    let text = config_text(rt.alloc(), "2001:db8::/32", ports.0, ports.1)?;
+    std::fs::write(rt, file, text.as_str())?;
+    let [first, second, third, fourth] = options;
+    let words = ["ripngd", "run", first, second, third, fourth, file];
+    let before = Instant::now(rt)?;
+    let (status, out, err) = outcome(rt, &words)?;
+    let passed = before.elapsed(rt)?;
+    let has_run = status == 0 && err.as_slice() == b"ripngd: running, 1 interfaces\n".as_slice();
+    if !has_run || out.as_slice() != b"2001:db8::/32 metric 1 direct\n".as_slice() {
+        return Err(Fail::from("it did not end as after its last turn"));
+    }
+    Ok(passed)
+}
+
+#[test]
+fn a_run_ends_after_its_turns_or_its_seconds_whichever_comes_first(
+    rt: HostRuntime,
+) -> Result<(), Fail> {
+    let by_time = lasted(&rt, "seconds.toml", ["--seconds", "1", "--turns", "100000"])?;
+    // Its clock begins after the program does, and a turn waits up to 50 ms.
+    assert!(rt; Duration::from_millis(950) <= by_time && by_time < Duration::from_millis(9_000));
+    let by_turns = lasted(&rt, "turns.toml", ["--seconds", "60", "--turns", "3"])?;
+    assert!(rt; by_turns < Duration::from_millis(30_000));
+    Ok(())
+}
+
 #[test]
 fn a_refused_configuration_leaves_the_log_as_it_was(rt: HostRuntime) -> Result<(), Fail> {
     std::fs::write(&rt, "no_interface.toml", "seed = 1\n")?;

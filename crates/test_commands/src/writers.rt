@@ -3,6 +3,7 @@
 use crate::shown::ONE_ROUTE;
 use ripngd::{PrintFault, program};
 use std::io::{self, ErrorKind, Write};
+use std::test::Fail;
 
 /// A writer that takes some writes and flushes, and then fails at each, always for one cause.
 #[derive(Drop)]
@@ -35,42 +36,48 @@ impl Write for Failing {
 /// More writes than a text of two lines takes.
 const MANY: usize = 100;
 
-/// Whether the words, run on this writer that fails, end with status 3 and say just this on standard error.
-fn fails(rt: &HostRuntime, words: &[&str], mut out: Failing, said: &str) -> bool {
-    let mut err = Vec::new(rt.alloc());
-    let status = program(rt, words, &mut out, &mut err);
-    status == 3 && err.as_slice() == said.as_bytes()
-}
-
-/// Whether it is so after each number of writes and flushes that the words make, the last of which is the flush.
-fn fails_at_each_write(rt: &HostRuntime, words: &[&str], cause: ErrorKind, said: &str) -> bool {
+/// Runs the words on writers that fail after each number of writes and flushes, the last of which is the flush.
+///
+/// # Errors
+/// Where that is not status 3, or standard error says something else.
+fn fails_at_each_write(
+    rt: &HostRuntime,
+    words: &[&str],
+    cause: ErrorKind,
+    said: &str,
+) -> Result<(), Fail> {
     let mut out = Failing { left: MANY, cause };
     let mut err = Vec::new(rt.alloc());
     if program(rt, words, &mut out, &mut err) != 0 {
-        return false;
+        return Err(Fail::from("a run that nothing disturbs fails"));
     }
     let steps = MANY.saturating_sub(out.left);
     for left in 0..steps {
-        if !fails(rt, words, Failing { left, cause }, said) {
-            return false;
+        let mut out = Failing { left, cause };
+        let mut err = Vec::new(rt.alloc());
+        let status = program(rt, words, &mut out, &mut err);
+        if status != 3 || err.as_slice() != said.as_bytes() {
+            return Err(Fail::from("a failed write is not told as it should be"));
         }
     }
-    steps > 0
+    Ok(())
 }
 
 #[test]
-fn a_failed_write_or_flush_of_standard_output_is_status_3(rt: HostRuntime) {
+fn a_failed_write_or_flush_of_standard_output_is_status_3(rt: HostRuntime) -> Result<(), Fail> {
     for words in [["ripngd", "show", ONE_ROUTE], ["ripngd", "help", "show"]] {
         let said = "ripngd: cannot write stdout\n";
-        assert!(rt; fails_at_each_write(&rt, &words, ErrorKind::StorageFull, said));
+        fails_at_each_write(&rt, &words, ErrorKind::StorageFull, said)?;
     }
+    Ok(())
 }
 
 #[test]
-fn nothing_is_said_where_who_reads_has_gone_away(rt: HostRuntime) {
+fn nothing_is_said_where_who_reads_has_gone_away(rt: HostRuntime) -> Result<(), Fail> {
     for words in [["ripngd", "show", ONE_ROUTE], ["ripngd", "help", "show"]] {
-        assert!(rt; fails_at_each_write(&rt, &words, ErrorKind::BrokenPipe, ""));
+        fails_at_each_write(&rt, &words, ErrorKind::BrokenPipe, "")?;
     }
+    Ok(())
 }
 
 #[test]

@@ -12,5 +12,6 @@ returns c =
     let s3 = arg_added _ _ _ _ _ c.in_ok-arg-3.ensures c.tag.ensures s2 in
     let s4 = arg_added _ _ _ _ _ c.in_ok-arg-4.ensures c.log.ensures s3 in
     let s5 = arg_added _ _ _ _ _ c.in_ok-arg-5.ensures c.turns.ensures s4 in
-    let s6 = arg_added _ _ _ _ _ c.in_ok-arg-6.ensures c.control.ensures s5 in
-    arg_added_ok _ _ _ _ c.arg-7.result c.arg-7.ensures c.required.ensures s6
+    let s6 = arg_added _ _ _ _ _ c.in_ok-arg-6.ensures c.seconds.ensures s5 in
+    let s7 = arg_added _ _ _ _ _ c.in_ok-arg-7.ensures c.control.ensures s6 in
+    arg_added_ok _ _ _ _ c.arg-8.result c.arg-8.ensures c.required.ensures s7

@@ -8,5 +8,5 @@ use Rattle.ripngd_daemon.proofs.controlled.make_turns.Given as goal
 abbrev pub invariant-loop-done : goal.invariant-loop-done
 invariant-loop-done g l = record {
   going : l.engine.ended ≡ false;
-  lasts : LastsFor l.done (seen words_of g.W.Write.contents l.fn.engine l.fn.log) (seen words_of g.W.Write.contents l.engine l.log);
+  lasts : LastsFor l.fn.limit.seconds l.done (seen words_of g.W.Write.contents l.fn.engine l.fn.log) (seen words_of g.W.Write.contents l.engine l.log);
 }

@@ -1,0 +1,12 @@
+use Rattle.std.proofs.Common.{◌≡◌, false}
+use Rattle.ripngd_engine.specs.Seen.{seen}
+use Rattle.ripngd_daemon.specs.Ending.{RanTurns}
+use Rattle.ripngd_daemon.specs.Ran.{words_of}
+use Rattle.ripngd_daemon.proofs.running.make_turns.Given as goal
+
+-- the turns so far were made
+abbrev pub invariant-loop-done : goal.invariant-loop-done
+invariant-loop-done g l = record {
+  going : l.engine.ended ≡ false;
+  ran : RanTurns l.fn.limit.seconds l.done (seen words_of g.W.Write.contents l.fn.engine l.fn.log) (seen words_of g.W.Write.contents l.engine l.log);
+}
