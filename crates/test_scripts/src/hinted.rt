@@ -285,18 +285,17 @@ fn told(alloc: Global, script: &str) -> Result<String, Fail> {
     Ok(format!(in alloc; "{}", str::from_utf8(err.as_slice())?)?)
 }
 
-/// What is told of a script is this hint.
-fn expect_hint(rt: &impl Abort, alloc: Global, script: &str, hint: &str) -> Result<(), Fail> {
+/// Whether what is told of a script is this hint.
+fn is_told(alloc: Global, script: &str, hint: &str) -> Result<bool, Fail> {
     let told = told(alloc, script)?;
     let wanted = format!(in alloc; "ripngd: {hint}\n")?;
-    assert!(rt; told.as_str() == wanted.as_str(), "{told}");
-    Ok(())
+    Ok(told.as_str() == wanted.as_str())
 }
 
 #[test]
 fn a_malformed_line_is_told_what_it_should_have_been(rt: HostRuntime) -> Result<(), Fail> {
     for (script, hint) in MALFORMED {
-        expect_hint(&rt, rt.alloc(), script, hint)?;
+        assert!(rt; is_told(rt.alloc(), script, hint)?, "{hint}");
     }
     Ok(())
 }
@@ -314,7 +313,7 @@ fn a_line_that_is_no_text_is_told_so(rt: HostRuntime) -> Result<(), Fail> {
 #[test]
 fn a_line_of_the_right_words_is_told_its_place(rt: HostRuntime) -> Result<(), Fail> {
     for (script, hint) in MISPLACED {
-        expect_hint(&rt, rt.alloc(), script, hint)?;
+        assert!(rt; is_told(rt.alloc(), script, hint)?, "{hint}");
     }
     Ok(())
 }
@@ -322,7 +321,7 @@ fn a_line_of_the_right_words_is_told_its_place(rt: HostRuntime) -> Result<(), Fa
 #[test]
 fn it_is_told_how_many_datagrams_there_are(rt: HostRuntime) -> Result<(), Fail> {
     for (script, hint) in DATAGRAMS {
-        expect_hint(&rt, rt.alloc(), script, hint)?;
+        assert!(rt; is_told(rt.alloc(), script, hint)?, "{hint}");
     }
     Ok(())
 }
@@ -330,7 +329,7 @@ fn it_is_told_how_many_datagrams_there_are(rt: HostRuntime) -> Result<(), Fail> 
 #[test]
 fn the_line_with_the_fault_of_a_network_is_named(rt: HostRuntime) -> Result<(), Fail> {
     for (script, hint) in NETWORKS {
-        expect_hint(&rt, rt.alloc(), script, hint)?;
+        assert!(rt; is_told(rt.alloc(), script, hint)?, "{hint}");
     }
     Ok(())
 }
