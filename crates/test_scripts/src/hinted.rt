@@ -2,7 +2,6 @@
 
 use ripngd_hints::lab_hinted;
 use std::alloc::Global;
-use std::process::Abort;
 use std::str;
 use std::test::Fail;
 
