@@ -94,19 +94,19 @@ IsIdle daemon (Reconfigure c) n = ⊥
 IsIdle daemon act n = ⊤
 
 -- what a deed is in a world: a step, or none
-abbrev pub IsStepOf : Network → World → ℕ → ℕ → Option Machine → Deed → Option ℕ → Machine → Option phases.MovedOrLost → Type 0
+abbrev pub IsStepOf : Network → World → ℕ → ℕ → Option Machine → Deed → Option ℕ → Machine → Option phases.Step → Type 0
 IsStepOf net w count router daemon deed number n None = IsIdle daemon deed.act n
 IsStepOf net w count router daemon deed number n (Some s) = Happens net w s.event s.answer s.after × IsEventOf count router deed.act number deed.trace s.event s.answer
 
 -- the world after it
-abbrev pub world_after : World → Option phases.MovedOrLost → World
+abbrev pub world_after : World → Option phases.Step → World
 world_after w None = w
 world_after w (Some s) = s.after
 
 -- so the world goes on with a deed
 pub record StepsOn (net : Network) (first : List Sent) (daemons : ℕ → Option Machine) (handed_over : List Sent) (done : List (ℕ × Change)) (w : World)
     (router : ℕ) (n : Machine) (deed : Deed) (number : Option ℕ) : Type 0 where
-  pub step : Option phases.MovedOrLost
+  pub step : Option phases.Step
   pub is : IsStepOf net w (length first) router (daemons router) deed number n step
   pub agrees : Agrees net first (with_daemon daemons router n) (handed_over ++ handed_by (record { router = router; deed = deed })) (done ++ change_done router deed) (world_after w step)
 
