@@ -5,7 +5,7 @@ use Rattle.ripngd_command_line.specs.declared.asked.Ask.{Ask}
 use Rattle.ripngd_command_line.specs.declared.asked.Ask.TheVariants as asks
 use Rattle.ripngd_config.specs.declared.configuration.Config.{Config}
 use Rattle.ripngd_daemon.specs.Ran.{ShowsOrdered, limit_of}
-use Rattle.ripngd_daemon.specs.declared.limit.Limit.{Limit}
+use Rattle.ripngd_command_line.specs.declared.asked.Order.{Order}
 use Rattle.ripngd.specs.Exit.{AnswersAsk}
 
 -- what was appended stays
@@ -16,10 +16,10 @@ appends_kept text (Some xs) (Some ys) None wrote kept = absurd kept
 appends_kept text (Some xs) (Some ys) (Some zs) wrote kept = kept ∙ wrote
 
 -- of a run too, whether its router is told changes or not
-ordered_kept : {A : Type 0} (control : Option A) (config : Config) (limit : Limit) (old mid new : Option (List ℕ))
-    → ShowsOrdered control config limit old mid → Keeps mid new → ShowsOrdered control config limit old new
-ordered_kept None config limit old mid new (table, made, wrote) kept = (table, made, appends_kept _ old mid new wrote kept)
-ordered_kept (Some path) config limit old mid new (table, made, wrote) kept = (table, made, appends_kept _ old mid new wrote kept)
+ordered_kept : {A : Type 0} (control : Option A) (config : Config) (order : Order) (old mid new : Option (List ℕ))
+    → ShowsOrdered control config (limit_of order) old mid → Keeps mid new → ShowsOrdered control config (limit_of order) old new
+ordered_kept None config order old mid new (table, made, wrote) kept = (table, made, appends_kept _ old mid new wrote kept)
+ordered_kept (Some path) config order old mid new (table, made, wrote) kept = (table, made, appends_kept _ old mid new wrote kept)
 
 -- whatever was asked
 pub answer_kept : (holds : List ℕ → List ℕ → Type 0) (ask : Ask) (accepted : Bool) (old mid new : Option (List ℕ))
@@ -32,7 +32,7 @@ answer_kept holds (asks.Lab file) accepted old mid new answer kept = answer
 answer_kept holds (asks.Trace file) accepted old mid new answer kept = answer
 answer_kept holds (asks.Explain file) accepted old mid new answer kept = answer
 answer_kept holds (asks.Run order) true old mid new (text, held, (config, is, shows)) kept =
-    (text, held, (config, is, ordered_kept order.control config (limit_of order) old mid new shows kept))
+    (text, held, (config, is, ordered_kept order.control config order old mid new shows kept))
 answer_kept holds (asks.Run order) false old mid new answer kept = answer
 answer_kept holds (asks.Ctl question) accepted old mid new (answer, (text, is, wrote)) kept =
     (answer, (text, is, appends_kept text old mid new wrote kept))

@@ -13,8 +13,21 @@ is_done Refused zero = let bad : 1 ≡ 0 = zero in absurd (omega arith)
 is_done Usage zero = let bad : 2 ≡ 0 = zero in absurd (omega arith)
 is_done Failed zero = let bad : 3 ≡ 0 = zero in absurd (omega arith)
 
+-- and 1 that of what is refused
+is_refused : (s : Status) → tag_of the_type s ≡ 1 → s ≡ Refused
+is_refused Done one = let bad : 0 ≡ 1 = one in absurd (omega arith)
+is_refused Refused one = refl
+is_refused Usage one = let bad : 2 ≡ 1 = one in absurd (omega arith)
+is_refused Failed one = let bad : 3 ≡ 1 = one in absurd (omega arith)
+
 pub returns-clause-done : goal.returns-clause-done
 returns-clause-done g c = elim c.match-outcome.branch [
-  | in-Ok w ↦ λ zero. c.outcome.ensures.done (w.in-Ok.is ∙ ap Ok (sym w.status-is ∙ is_done c.match-outcome.status zero))
+  | in-Ok w ↦ λ zero. rw w.out-is (c.outcome.ensures.done (w.in-Ok.is ∙ ap Ok (sym w.status-is ∙ is_done c.match-outcome.status zero)))
   | in-Err w ↦ λ zero. absurd (let failed = w.status-is ∙ w.report-status.ensures in let done = is_done c.match-outcome.status zero in cc)
+]
+
+pub returns-clause-refused : goal.returns-clause-refused
+returns-clause-refused g c = elim c.match-outcome.branch [
+  | in-Ok w ↦ λ one. rw w.out-is (c.outcome.ensures.refused (w.in-Ok.is ∙ ap Ok (sym w.status-is ∙ is_refused c.match-outcome.status one)))
+  | in-Err w ↦ λ one. absurd (let failed = w.status-is ∙ w.report-status.ensures in let refused = is_refused c.match-outcome.status one in cc)
 ]
