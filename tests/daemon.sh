@@ -375,8 +375,9 @@ seconds_end_a_router_as_its_last_turn_does() {
     before=$SECONDS
     run run --seconds 60 --turns 3 "$folder/timed.toml"
     same status "$status" 0 && [ $((SECONDS - before)) -lt 25 ] || because "it did not end after its turns" || return
+    alone timed_door.toml
     listening timed_door --seconds 2 && finish "$pid" || return
-    same "the status of one that listens" "$status" 0
+    same "the status of one that listens" "$status" 0 || return
     run run --seconds 0 "$folder/timed.toml"
     same "the status of no second" "$status" 2
 }

@@ -79,6 +79,7 @@ def a_flood(net, program):
     ours = Ours(o, program, {"to-b": {}, "to-s": {"peers": 8}}, ["2001:db8:2::/48"])
     bird = Bird(b, {"to-o": 1}, ["2001:db8:1::/48"])
     until(REGULAR, "BIRD has learned", lambda: "2001:db8:2::/48" in bird.table())
+    until(REGULAR, "BIRD's first prefix is learned", lambda: ours.table().get("2001:db8:1::/48") == 2)
     before = len(list(pathlib.Path(f"/proc/{ours.process.pid}/fd").iterdir()))
     stranger(s, "flood")
     bird.own(["2001:db8:1::/48", "2001:db8:10::/48"])
