@@ -223,10 +223,10 @@ fn lines_are_left_alone_from_the_next_write_on(rt: HostRuntime) -> Result<(), Fa
         let mut lines = DebugLines::new(&mut text);
         tell(&rt, rt.alloc(), &mut lines)?;
         assert_eq!(rt; lines.failed(), failing < behind);
-        assert_eq!(rt;
-            (lines.counts().arrivals, lines.counts().notes),
-            (13, [15; 5])
-        );
+        let counts = lines.counts();
+        let notes = counts.notes;
+        assert_eq!(rt; counts.arrivals, 13);
+        assert_eq!(rt; notes, [15; 5]);
         assert_eq!(rt; text.writes, failing.saturating_add(1).min(behind));
         assert!(rt; whole.text().starts_with(text.text()));
     }
