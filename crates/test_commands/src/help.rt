@@ -19,7 +19,7 @@ const EXAMPLES: [(&str, &str); 7] = [
         "\n  ripngd show 0201000020010db800000000000000000000000000002001\n",
     ),
     ("check", "\n  ripngd check examples/east.toml\n"),
-    ("lab", "\n  ripngd lab examples/line.lab\n"),
+    ("lab", "\n  ripngd lab --explain examples/line.lab\n"),
     (
         "run",
         "\n  ripngd run --turns 400 -R east.log examples/east.toml &\n  ripngd run --turns 400 examples/west.toml\n",
