@@ -5,7 +5,7 @@ use Rattle.prefix6.specs.Prefix.{Prefix6}
 use Rattle.route_table.specs.Route.{RouteValue, infinity}
 use Rattle.route_table.specs.Table.{Table, table_limit}
 use Rattle.ripng_world.specs.Network.{Network, Node, Owns}
-use Rattle.ripng_world.specs.Walks.{IsLeast, IsWithin}
+use Rattle.ripng_world.specs.Walks.{IsLeast, IsLeastWithin}
 use Rattle.router_core.specs.Machine.{State}
 use Rattle.ripng_world.specs.World.{World}
 
@@ -20,8 +20,8 @@ FitsTables net =
 
 -- the routes below infinity have exactly the least costs within so many hops
 pub record IsConverged (net : Network) (k router : ℕ) (table : Table) : Type 0 where
-  pub least : (p : Prefix6) (r : RouteValue) → map_of.get table p ≡ Some r → r.metric < infinity → IsWithin net k router p r.metric
-  pub found : (p : Prefix6) (metric : ℕ) → IsWithin net k router p metric → (r : RouteValue) × (map_of.get table p ≡ Some r) × (r.metric ≡ metric)
+  pub least : (p : Prefix6) (r : RouteValue) → map_of.get table p ≡ Some r → r.metric < infinity → IsLeastWithin net k router p r.metric
+  pub found : (p : Prefix6) (metric : ℕ) → IsLeastWithin net k router p metric → (r : RouteValue) × (map_of.get table p ≡ Some r) × (r.metric ≡ metric)
 
 -- so are all tables
 abbrev pub AreConverged : Network → ℕ → World → Type 0

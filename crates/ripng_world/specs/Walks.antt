@@ -92,7 +92,7 @@ abbrev pub IsLeast : Network → ℕ → Prefix6 → ℕ → Type 0
 IsLeast net from p metric = IsLeastBy (λ metric' tag walk. Reaches net from p metric' tag walk) metric
 
 -- the least cost of walks of at most k hops, and only up to 15
-pub record IsWithin (net : Network) (k from : ℕ) (p : Prefix6) (metric : ℕ) : Type 0 where
+pub record IsLeastWithin (net : Network) (k from : ℕ) (p : Prefix6) (metric : ℕ) : Type 0 where
   pub reached : (tag : ℕ) × (walk : List Hop) × (length walk ≤ k) × Reaches net from p metric tag walk
   pub least : (metric' tag : ℕ) (walk : List Hop) → length walk ≤ k → Reaches net from p metric' tag walk → metric ≤ metric'
   pub usable : metric < infinity
