@@ -5,7 +5,8 @@
 #
 # A line for each case, `ok NAME` or `FAILED NAME: why`, and last `N passed, M failed`. The exit status is 0 exactly where M is 0.
 # Needs root, name spaces of the network, iproute2, Python 3.11, BIRD 2 and FRR (Debian's packages iproute2, bird2 and frr): where one
-# is missing a line `skipped: ..` says so, and nothing is tried. The cases run side by side, and take some three minutes.
+# is missing a line `skipped: ..` says so, and nothing is tried. The cases run side by side, and take some three minutes. One more,
+# `ten_minutes`, is played only where it is named: a ring under loss whose routers and companions die and are started again.
 set -u
 
 root=$(realpath "$(dirname "$0")/..")

@@ -8,11 +8,14 @@ import tempfile
 
 import edges
 import networks
+import soak
 from spaces import Net, Wrong
 
 CASES = [networks.a_line, networks.a_ring, networks.a_lossy_cable, networks.many_routes]
 CASES += [edges.a_stranger, edges.many_neighbors, edges.a_flood, edges.a_killed_companion]
 CASES += [edges.addresses_come_and_go, edges.links_come_and_go, edges.the_page, edges.no_privilege]
+# Played only where it is named.
+LONG = [soak.ten_minutes]
 
 
 def play(case, program, folder):
@@ -29,11 +32,11 @@ def play(case, program, folder):
 
 def main():
     program, names = sys.argv[1], sys.argv[2:]
-    chosen = [case for case in CASES if not names or case.__name__ in names]
+    chosen = [case for case in CASES + LONG if case.__name__ in names] if names else CASES
     failed = 0
     with tempfile.TemporaryDirectory() as folder:
         pathlib.Path(folder).chmod(0o755)
-        with concurrent.futures.ThreadPoolExecutor(len(CASES)) as pool:
+        with concurrent.futures.ThreadPoolExecutor(len(chosen) or 1) as pool:
             played = {pool.submit(play, case, program, folder): case.__name__ for case in chosen}
             for done in concurrent.futures.as_completed(played):
                 why = done.result()

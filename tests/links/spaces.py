@@ -133,7 +133,7 @@ class Ours:
     """This router with its companion."""
 
     def __init__(self, space, program, links, prefixes=(), words=(), by=()):
-        self.space, self.program, self.by = space, program, by
+        self.space, self.program, self.by, self.devices = space, program, by, list(links)
         self.config, self.run, self.words = space.folder / "links.toml", space.folder / "run", words
         lines = ['user = "nobody"', f'program = "{program}"', f'folder = "{self.run}"']
         for device, keys in links.items():

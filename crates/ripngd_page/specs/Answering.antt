@@ -9,6 +9,7 @@ use Rattle.http_uri.specs.Uri.{uri_path}
 use Rattle.ripngd_show.specs.Shown.{IsShown}
 use Rattle.ripngd_page.specs.declared.asked.Asked.{Asked}
 use Rattle.ripngd_page.specs.declared.asked.Asked.TheVariants as asks
+use Rattle.ripngd_page.specs.Film.{IsTrace}
 use Rattle.ripngd_page.specs.Texts.{examples_text, page_with}
 use Rattle.ripngd_page.specs.Welcome.{IsWelcome}
 
@@ -73,9 +74,9 @@ abbrev pub IsLinesAnswer : List ℕ → Response → Type 0
 IsLinesAnswer digits r =
     ((accepted : Bool) × (text : List ℕ) × IsShown digits accepted text × IsTextResponse text r) ⊎ (IsWithoutMemory r)
 
--- some text is answered, up to 32 MiB, or why there is none; that it is a trace is not said here
+-- a trace is answered, up to 32 MiB, or why there is none
 abbrev pub IsTraceAnswer : Response → Type 0
-IsTraceAnswer r = ((text : List ℕ) × (length text ≤ 33554432) × IsTextAnswer 200 text r) ⊎ (IsTooLong r) ⊎ (IsWithoutMemory r)
+IsTraceAnswer r = ((text : List ℕ) × IsTrace text × (length text ≤ 33554432) × IsTextAnswer 200 text r) ⊎ (IsTooLong r) ⊎ (IsWithoutMemory r)
 
 -- the answer to what is asked, with this body
 abbrev pub IsResponseTo : Asked → List ℕ → Response → Type 0

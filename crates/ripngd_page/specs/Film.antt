@@ -1,8 +1,14 @@
 -- What a film is: the page with one script and its trace in it (the format is this project's choice).
-use Rattle.std.specs.Prelude.{ℕ, Bool, true, false, ◌&&◌, List, [], ◌∷◌, ◌++◌, codes, ◌==◌, if◌then◌else◌, unwrap_or}
+use Rattle.std.specs.Prelude.{ℕ, Bool, true, false, ◌&&◌, List, [], ◌∷◌, ◌++◌, Option, Some, codes, ◌==◌, if◌then◌else◌, unwrap_or}
 use Rattle.std.specs.List.{flat_map}
 use Rattle.std.specs.Path.{path_file_name}
+use Rattle.ripng_world.specs.Labs.{LabValue}
+use Rattle.ripngd_trace.specs.Reading.{IsTraced}
 use Rattle.ripngd_page.specs.Texts.{page_with}
+
+-- a trace: its records tell all that became of a lab, to a reader who had nothing
+abbrev pub IsTrace : List ℕ → Type 0
+IsTrace text = (lab : Option LabValue) × IsTraced (Some []) lab (Some text)
 
 -- a byte as it stands within an element, or between the quotation marks of an attribute
 abbrev pub escaped_byte : Bool → ℕ → List ℕ

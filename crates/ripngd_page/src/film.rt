@@ -1,8 +1,10 @@
 //! A film: the page with one script and its trace in it, which needs no server.
 
-ghost use Rattle.std.specs.Prelude.{◌≡◌, ℕ, List, Err, IfOk, OnOk};
+ghost use Rattle.std.specs.Prelude.{◌≡◌, ℕ, List, Option, Err, IfOk, OnOk};
 ghost use Rattle.std.specs.Io.KnownBytes.{Appends};
-ghost use Rattle.ripngd_page.specs.Film.{before_name, element_start, film_text, script_name, script_element};
+ghost use Rattle.ripng_world.specs.Labs.{LabValue};
+ghost use Rattle.ripngd_trace.specs.Reading.{IsTraced};
+ghost use Rattle.ripngd_page.specs.Film.{IsTrace, before_name, element_start, film_text, script_name, script_element};
 ghost use Rattle.ripngd_page.specs.Texts.{front_with, tail_text};
 
 use crate::escaping::write_escaped;
@@ -23,7 +25,7 @@ pub fn write_film<W: Write>(
     script: &[u8],
     out: &mut W,
 ) -> Result<bool, PrintFault>
-    ensures film { OnOk result ((trace : List ℕ)
+    ensures film { OnOk result ((trace : List ℕ) × IsTrace trace
         × Appends (W.contents out.old) (W.contents out.new) (film_text (script_name file.now) script.now trace)) }
     ensures out_of_memory { result ≡ Err PrintFault.OutOfMemory → out.new ≡ out.old }
 {
@@ -47,7 +49,7 @@ struct Film {
 impl Film {
     /// The film of the script that a file holds. A write to memory fails for want of it alone.
     fn of(alloc: Global, file: &str, script: &[u8]) -> Result<Film, AllocError>
-        ensures { IfOk result (λ film. (trace : List ℕ) × (film.text.items ≡ film_text (script_name file.now) script.now trace)) }
+        ensures { IfOk result (λ film. (trace : List ℕ) × IsTrace trace × (film.text.items ≡ film_text (script_name file.now) script.now trace)) }
     {
         let mut trace = Vec::new(alloc);
         let Ok(done) = traced(alloc, script, &mut trace) else {
@@ -73,7 +75,9 @@ pub(crate) fn traced<W: Write>(
     alloc: Global,
     script: &[u8],
     out: &mut W,
-) -> Result<bool, PrintFault> {
+) -> Result<bool, PrintFault>
+    ensures { OnOk result ((lab : Option LabValue) × IsTraced (W.contents out.old) lab (W.contents out.new)) }
+{
     Ok(ripngd_trace::trace(alloc, script, out)?)
 }
 
