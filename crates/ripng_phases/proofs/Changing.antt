@@ -1,10 +1,10 @@
 -- In which of several phases some table last changed, as one more is made.
-use Rattle.std.proofs.Common.{◌≡◌, ◌≢◌, ◌⊎◌, inl, inr, ℕ, suc, ◌+◌, ◌<◌, ◌≤◌, Bool, true, false, List, [], ◌∷◌, ◌++◌, length, take, Option, Some, None, refl, ap, sym, subst, ◌∙◌, arith}
+use Rattle.std.proofs.Common.{◌≡◌, ◌⊎◌, inl, inr, ℕ, suc, ◌+◌, ◌<◌, ◌≤◌, Bool, true, false, List, [], ◌∷◌, ◌++◌, length, Option, Some, None, refl, ap, sym, subst, ◌∙◌, arith}
 use Rattle.std.specs.Prelude.{◌↔◌, IsTrue}
 use Rattle.std.proofs.lemmas.List.{length-append, take-append-le, take_all}
 use Rattle.ripng_world.specs.Network.{Network}
 use Rattle.ripng_world.specs.World.{World}
-use Rattle.ripng_phases.specs.Changing.{ChangesIn, IsLastChange, last_change, shown_after, shown_in}
+use Rattle.ripng_phases.specs.Changing.{IsLastChange, last_change, shown_after, shown_in}
 use Rattle.ripng_phases.specs.Phases.{Step, reached, steps_of}
 
 module _ (net : Network) (w : World) (phases : List (List Step)) (steps : List Step) where
@@ -86,5 +86,5 @@ module _ (net : Network) (w : World) (phases : List (List Step)) (steps : List S
     next_change last true count is compared was = changes_before last (compared.0 refl) was
     next_change last false count is compared was = subst (λ (n : ℕ). IsLastChange net w (phases ++ steps ∷ []) (Some n)) is (changes_here (λ same. false_is_true (compared.1 same)))
       where
-        false_is_true : IsTrue false → ⊥
-        false_is_true e = absurd e
+        false_is_true : false ≡ true → ⊥
+        false_is_true e = cc

@@ -267,6 +267,7 @@ fn compare_phase<S: RouteStore, V: Watch<S>, R: Rng>(
     ensures network { lab.new.network ≡ lab.old.network }
     ensures made { IfOk result (λ r. IsMadePhase V.takes (lab.old, watch.old) first begin r.0 (lab.new, watch.new)) }
     ensures stopped { IfErr result (λ why. IsCutShort V.takes V.fails (lab.old, watch.old) first begin why (lab.new, watch.new)) }
+    ensures in_time { OnOk result (begin ≤ 2 ^ 60) }
     ensures compared { IfOk result (λ r. IsTrue r.1 ↔ (shown_in lab.old.network lab.new.world ≡ shown_in lab.old.network lab.old.world)) }
 {
     let before = show(alloc, lab)?;

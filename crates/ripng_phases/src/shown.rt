@@ -52,8 +52,8 @@ fn show<S: RouteStore>(
     ensures { OnOk result (shown.new.items ≡ shown.old.items ++ map (shown_route number) (map_of.entries router.now.table)) }
 {
     let routes = routes_in(alloc, router.routes())?;
-    for (prefix, route) in routes {
-        shown.push(shown_route(number, prefix, route))?;
+    for (prefix, route) in &routes {
+        shown.push(shown_route(number, *prefix, *route))?;
     }
     Ok(())
 }

@@ -1,6 +1,6 @@
-use Rattle.std.proofs.Common.{◌≡◌, ℕ, length, refl, subst, ◌∙◌, ap, arith}
+use Rattle.std.proofs.Common.{◌≡◌, ℕ, ◌+◌, Option, length, refl, sym, subst, ◌∙◌, ap, arith}
 use Rattle.ripng_phases.specs.Making.{AreMadePhases, HealsIn}
-use Rattle.ripng_phases.proofs.Together.{all_heal, all_made, in_part, none_so_far, one_more}
+use Rattle.ripng_phases.proofs.Together.{AreSoFar, all_heal, all_made, in_part, none_so_far, one_more}
 use Rattle.ripng_phases.proofs.making.run_phases.Goals as goal
 
 pub loop-done-init : goal.loop-done-init
@@ -22,8 +22,10 @@ loop-done-preserved g c =
     record {
       network = c.in-Ok.ensures.network ∙ c.loop-done.invariant.network;
       so_far =
-          one_more g.V.Watch.takes c.args.lab.now.network (c.args.lab.now.world, c.args.watch.now) c.loop-done.done c.loop-done.begin c.loop-done.first c.loop-done.last (c.loop-done.lab, c.loop-done.watch) c.loop-done.invariant.so_far
-          c.loop-done.invariant.network c.in-Ok.next c.in-Ok.stays (c.compare_phase.new.lab, c.compare_phase.new.watch) c.in-Ok.ensures.made c.in-Ok.ensures.compared;
+          subst (λ (last : Option ℕ). AreSoFar g.V.Watch.takes c.args.lab.now.network (c.args.lab.now.world, c.args.watch.now) (c.loop-done.done + 1) (c.loop-done.begin + 60_000) c.in-Ok.next last (c.compare_phase.new.lab.world, c.compare_phase.new.watch))
+          (sym c.last_change-last.ensures)
+          (one_more g.V.Watch.takes c.args.lab.now.network (c.args.lab.now.world, c.args.watch.now) c.loop-done.done c.loop-done.begin c.loop-done.first c.loop-done.last (c.loop-done.lab, c.loop-done.watch) c.loop-done.invariant.so_far
+          c.loop-done.invariant.network c.in-Ok.next c.in-Ok.stays (c.compare_phase.new.lab, c.compare_phase.new.watch) c.in-Ok.ensures.made c.in-Ok.ensures.compared);
       begins = let b = c.loop-done.invariant.begins in (b.0, b.1, (let e = b.2 in omega (arith, e)));
       within = c.in-Ok.ensures.made.next_in;
     }
