@@ -34,6 +34,7 @@ pub mod ByMinutes
 pub mod Timely
 pub mod Rounds
 pub mod Tells
+pub mod Changing
 pub mod Going
 pub mod Outcomes
 pub mod Together

@@ -109,6 +109,27 @@ module _ {V F : Type 0} (t f : V → Told → V → Type 0) where
   makes_handed (Ok y) why s first begin new is cut = absurd is
   makes_handed (Err e) why s first begin new is cut = subst (λ (x : Stopped PhaseRefused F). IsCutShort t f s first begin x new) (sym is) cut
 
+  -- memory is refused behind a phase
+  pub cut_behind : (s : LabValue × V) (first begin next : ℕ) (s' : LabValue × V) → IsMadePhase t s first begin next s' → IsCutShort {F = F} t f s first begin (Refused OutOfMemory) s'
+  cut_behind s first begin next s' made =
+      record {
+        network = made.network;
+        steps = made.steps;
+        before = (s'.0.world, s'.1);
+        tells = made.tells;
+        in_minute = made.in_minute;
+        high = next;
+        in_order = made.in_order;
+        ends = nothing_last F t f s.0.network (s'.0.world, s'.1) OutOfMemory;
+        too_late = tt;
+      }
+
+  -- a phase that is compared, and stops, hands its error on
+  pub cut_handed : {X : Type 0} (r : Result X (Stopped PhaseRefused F)) (from why : Stopped PhaseRefused F) (s : LabValue × V) (first begin : ℕ) (s' : LabValue × V) → IsErrAnd r (λ e. e ≡ from) → from ≡ why
+      → IsCutShort t f s first begin why s' → IfErr r (λ e. IsCutShort t f s first begin e s')
+  cut_handed (Ok x) from why s first begin s' is same cut = absurd is
+  cut_handed (Err e) from why s first begin s' is same cut = subst (λ (x : Stopped PhaseRefused F). IsCutShort t f s first begin x s') (sym (is ∙ same)) cut
+
   -- a router ticks, or is cut short at it
   pub goes_nudged : (r : Result ⊤ (Stopped PhaseRefused F)) (old new : LabValue × V) (course : Course) (router word : ℕ) → new.0.network ≡ old.0.network
       → OnOk r (WatchedRun t heard old.0.network (old.0.world, old.1) (Tick router course.moment word ∷ []) (new.0.world, new.1))

@@ -1,5 +1,6 @@
 -- Phases that are made one after another.
-use Rattle.std.proofs.Common.{◌≡◌, ℕ, ◌+◌, ◌*◌, ◌<◌, ◌≤◌, List, [], ◌∷◌, ◌++◌, length, refl, ap, sym, subst, ◌∙◌, arith, append-nil, le_trans}
+use Rattle.std.proofs.Common.{◌≡◌, ℕ, ◌+◌, ◌*◌, ◌<◌, ◌≤◌, Bool, Option, None, List, [], ◌∷◌, ◌++◌, length, refl, ap, sym, subst, ◌∙◌, arith, append-nil, le_trans}
+use Rattle.std.specs.Prelude.{◌↔◌, IsTrue}
 use Rattle.std.proofs.lemmas.Grind.{flat_map-append}
 use Rattle.std.proofs.lemmas.List.{length-append}
 use Rattle.ripng_world.specs.Labs.{LabValue, HasRun}
@@ -9,10 +10,12 @@ use Rattle.ripng_world.specs.World.{World}
 use Rattle.ripng_world.specs.declared.watch.Stopped.{Stopped}
 use Rattle.ripng_world.proofs.Each.{each_at_place}
 use Rattle.ripng_world.proofs.Members.{at_from_contains}
+use Rattle.ripng_phases.specs.Changing.{IsLastChange, last_change, shown_in}
 use Rattle.ripng_phases.specs.Making.{AreMadeInPart, AreMadePhases, HealsIn, IsCutShort, IsInMinute, IsLast, IsLatest, IsMadePhase, IsTooLate, TellsSteps}
 use Rattle.ripng_phases.specs.Phases.{Step, Before, IsBegun, IsHeardUpdate, IsMomentIn, IsPhase, Phases, PhasesAfter, BegunAfter, before_next, events_of, reached, steps_of}
 use Rattle.ripng_phases.specs.declared.refused.PhaseRefused.{PhaseRefused}
 use Rattle.ripng_phases.proofs.Begun.{phases_begun}
+use Rattle.ripng_phases.proofs.Changing.{next_change}
 use Rattle.ripng_phases.proofs.Healing.{heals_in_phases}
 use Rattle.ripng_phases.proofs.Runs.{phases_take, reached_on, takes_reached}
 use Rattle.ripng_phases.proofs.Tells.{near_of, not_overtaken, recent_of, tells_on, tells_take}
@@ -58,25 +61,30 @@ past_moments [] steps past w router x m = m
 past_moments (y ∷ phases) steps past w router x m = past_moments phases steps (before_next w y) (reached w y) router x m
 
 -- phases so far, and where the next begins
-pub record AreSoFar {V : Type 0} (t : V → Told → V → Type 0) (net : Network) (s : World × V) (count begin first : ℕ) (s' : World × V) : Type 0 where
+pub record AreSoFar {V : Type 0} (t : V → Told → V → Type 0) (net : Network) (s : World × V) (count begin first : ℕ) (last : Option ℕ) (s' : World × V) : Type 0 where
   pub phases : List (List Step)
   pub as_many : length phases ≡ count
   pub are : Phases net s.0 phases s'.0
+  pub changed : IsLastChange net s.0 phases last
   pub told : TellsSteps t net s (steps_of phases) s'
   pub recent : (past_after nothing_before s.0 phases).first ≤ first
   pub moments : (router x : ℕ) → (past_after nothing_before s.0 phases).moments router x → (begin ≤ x + 60_000) × (x < begin)
 
 module _ {V : Type 0} (t : V → Told → V → Type 0) (net : Network) (s : World × V) where
-  pub none_so_far : (begin first : ℕ) → AreSoFar t net s 0 begin first s
-  none_so_far begin first = record { phases = []; as_many = refl; are = refl; told = refl; recent = zero_least first; moments = λ router x m. absurd m }
+  pub none_so_far : (begin first : ℕ) → AreSoFar t net s 0 begin first None s
+  none_so_far begin first = record { phases = []; as_many = refl; are = refl; changed = λ phase early. absurd (none phase early); told = refl; recent = zero_least first; moments = λ router x m. absurd m }
     where
       zero_least : (n : ℕ) → 0 ≤ n
       zero_least n = omega arith
 
-  module _ (count begin first : ℕ) (a : LabValue × V) (so_far : AreSoFar t net s count begin first (a.0.world, a.1)) (same : a.0.network ≡ net) where
+      none : (n : ℕ) → n < 0 → ⊥
+      none n e = omega (arith, e)
+
+  module _ (count begin first : ℕ) (last : Option ℕ) (a : LabValue × V) (so_far : AreSoFar t net s count begin first last (a.0.world, a.1)) (same : a.0.network ≡ net) where
     -- one more phase
-    pub one_more : (next : ℕ) (b : LabValue × V) → IsMadePhase t a first begin next b → AreSoFar t net s (count + 1) (begin + 60_000) next (b.0.world, b.1)
-    one_more next b m =
+    pub one_more : (next : ℕ) (stays : Bool) (b : LabValue × V) → IsMadePhase t a first begin next b → IsTrue stays ↔ (shown_in a.0.network b.0.world ≡ shown_in a.0.network a.0.world)
+        → AreSoFar t net s (count + 1) (begin + 60_000) next (last_change last stays count) (b.0.world, b.1)
+    one_more next stays b m compared =
         let tells : TellsSteps t net (a.0.world, a.1) m.steps (b.0.world, b.1) = subst (λ (n : Network). TellsSteps t n (a.0.world, a.1) m.steps (b.0.world, b.1)) same m.tells in
         let phase : IsPhase net (past_after nothing_before s.0 so_far.phases) a.0.world m.steps b.0.world =
         record {
@@ -88,17 +96,24 @@ module _ {V : Type 0} (t : V → Told → V → Type 0) (net : Network) (s : Wor
         } in
         let flat : steps_of (so_far.phases ++ m.steps ∷ []) ≡ steps_of so_far.phases ++ m.steps =
         flat_map-append (λ (xs : List Step). xs) so_far.phases (m.steps ∷ []) ∙ ap (λ (xs : List Step). steps_of so_far.phases ++ xs) (append-nil m.steps) in
-        let here : a.0.world ≡ reached s.0 (steps_of so_far.phases) = takes_reached net (steps_of so_far.phases) s.0 a.0.world (phases_take net so_far.phases _ s.0 a.0.world so_far.are) in
+        let here : a.0.world ≡ reached s.0 (steps_of so_far.phases) = reached_by so_far.phases a.0.world so_far.are in
         record {
           phases = so_far.phases ++ m.steps ∷ [];
           as_many = length-append so_far.phases (m.steps ∷ []) ∙ ap (λ (n : ℕ). n + 1) so_far.as_many;
           are = phases_more net so_far.phases nothing_before s.0 a.0.world b.0.world m.steps so_far.are phase;
+          changed =
+              next_change net s.0 so_far.phases m.steps a.0.world b.0.world here
+              (reached_by (so_far.phases ++ m.steps ∷ []) b.0.world (phases_more net so_far.phases nothing_before s.0 a.0.world b.0.world m.steps so_far.are phase))
+              last stays count so_far.as_many (subst (λ (n : Network). IsTrue stays ↔ (shown_in n b.0.world ≡ shown_in n a.0.world)) same compared) so_far.changed;
           told = subst (λ (xs : List Step). TellsSteps t net s xs (b.0.world, b.1)) (sym flat)
               (tells_on t net (steps_of so_far.phases) m.steps s (a.0.world, a.1) (b.0.world, b.1) so_far.told tells);
           recent = subst (λ (n : ℕ). n ≤ next) (sym (past_first so_far.phases m.steps nothing_before s.0)) (subst (λ (w : World). length w.sent ≤ next) here m.handed_on);
           moments = λ router x k. in_minute m x router (past_moments so_far.phases m.steps nothing_before s.0 router x k);
         }
       where
+        reached_by : (phases : List (List Step)) (w : World) → Phases net s.0 phases w → w ≡ reached s.0 (steps_of phases)
+        reached_by phases w are = takes_reached net (steps_of phases) s.0 w (phases_take net phases _ s.0 w are)
+
         in_minute : (m : IsMadePhase t a first begin next b) (x router : ℕ) → IsMomentIn m.steps router x → (begin + 60_000 ≤ x + 60_000) × (x < begin + 60_000)
         in_minute m x router k =
             let p = at_from_contains (events_of m.steps) k.event k.happens in
@@ -129,10 +144,10 @@ module _ {V : Type 0} (t : V → Told → V → Type 0) (net : Network) (s : Wor
           too_late = subst (λ (n : ℕ). IsTooLate why n b.0.world) begin_is m.too_late;
         }
 
-  pub all_made : (count begin first : ℕ) (s' : World × V) → AreSoFar t net s count begin first s' → AreMadePhases t net s count s'
-  all_made count begin first s' so_far = record { phases = so_far.phases; as_many = so_far.as_many; are = so_far.are; told = so_far.told }
+  pub all_made : (count begin first : ℕ) (last : Option ℕ) (s' : World × V) → AreSoFar t net s count begin first last s' → AreMadePhases t net s count last s'
+  all_made count begin first last s' so_far = record { phases = so_far.phases; as_many = so_far.as_many; are = so_far.are; changed = so_far.changed; told = so_far.told }
 
-  pub all_heal : (count : ℕ) (s' : World × V) → HasRun net s.0 → AreMadePhases t net s count s' → HealsIn net s.0 count s'.0
-  all_heal count s' has_run made = λ noisy fits many.
+  pub all_heal : (count : ℕ) (last : Option ℕ) (s' : World × V) → HasRun net s.0 → AreMadePhases t net s count last s' → HealsIn net s.0 count s'.0
+  all_heal count last s' has_run made = λ noisy fits many.
       heals_in_phases net has_run.moments has_run.events made.phases [] has_run.cold s.0 s'.0 has_run.lawful noisy has_run.is_cold has_run.run fits
       (phases_begun net made.phases _ s.0 s'.0 made.are) (subst (λ (n : ℕ). 28 ≤ n) (sym made.as_many) many)

@@ -1,3 +1,4 @@
+pub mod Changing
 pub mod Phases
 pub mod Minutes
 pub mod Refusing

@@ -15,6 +15,7 @@ use Rattle.ripng_world.specs.declared.network.NetInterface.{NetInterface}
 use Rattle.ripng_world.specs.declared.sent.Sent.{Sent}
 use Rattle.ripng_world.specs.declared.watch.Stopped.{Stopped}
 use Rattle.ripng_world.specs.declared.watch.Stopped.TheVariants.{Refused}
+use Rattle.ripng_phases.specs.Changing.{IsLastChange}
 use Rattle.ripng_phases.specs.Phases.{Step, IsOrdinary, IsHeardUpdate, Phases, Begun, events_of, reached, steps_of}
 use Rattle.ripng_phases.specs.declared.course.Course.{Course}
 use Rattle.ripng_phases.specs.declared.course.Update.{Update}
@@ -36,11 +37,12 @@ IsLast takes fails net s why s' = (last : List Event) × EndsAt takes fails net 
 
 -- ---- what is asked of a phase
 
--- so many phases are made, and the watcher is told of just their events
-pub record AreMadePhases {V : Type 0} (takes : V → Told → V → Type 0) (net : Network) (s : World × V) (count : ℕ) (s' : World × V) : Type 0 where
+-- so many phases are made, the last change of a table is in one of them or in none, and the watcher is told of just their events
+pub record AreMadePhases {V : Type 0} (takes : V → Told → V → Type 0) (net : Network) (s : World × V) (count : ℕ) (last : Option ℕ) (s' : World × V) : Type 0 where
   pub phases : List (List Step)
   pub as_many : length phases ≡ count
   pub are : Phases net s.0 phases s'.0
+  pub changed : IsLastChange net s.0 phases last
   pub told : TellsSteps takes net s (steps_of phases) s'
 
 -- the regular update of a router is not due before the minute is over, or ever; or the minute begins past all moments

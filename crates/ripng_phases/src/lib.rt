@@ -10,6 +10,7 @@ mod course;
 mod laws;
 mod making;
 mod refused;
+mod shown;
 
 pub use laws::{
     heals_in_minutes, heals_in_phases, phases_are_run, phases_go_on, phases_keep_routes_backed,

@@ -5,14 +5,18 @@
 //! lost. Then each router that has not told its regular update does, and what was sent up to the last one of these is handed on.
 //! What is left comes in the next phase.
 
-ghost use Rattle.std.specs.Prelude.{◌≡◌, ℕ, ◌+◌, ◌^◌, ◌<◌, ◌≤◌, ◌⊎◌, max, IfErr, IfOk, IfSome, OnOk, None, Some, length, slice_get};
+ghost use Rattle.std.specs.Prelude.{◌≡◌, ◌↔◌, ℕ, ◌+◌, ◌^◌, ◌<◌, ◌≤◌, ◌⊎◌, max, IfErr, IfOk, IfSome, IsTrue, OnOk, None, Some, length, slice_get};
 ghost use Rattle.router_core.specs.Machine.{State};
-ghost use Rattle.ripng_phases.specs.Making.{AreMadeInPart, AreMadePhases, GoesOn, HealsIn, IsFresh, IsLatest, MakesPhase};
+ghost use Rattle.ripng_world.specs.declared.watch.Stopped.TheVariants.{Refused};
+ghost use Rattle.ripng_phases.specs.Changing.{last_change, shown_in};
+ghost use Rattle.ripng_phases.specs.Making.{AreMadeInPart, AreMadePhases, GoesOn, HealsIn, IsCutShort, IsFresh, IsLatest, IsMadePhase, MakesPhase};
 ghost use Rattle.ripng_phases.specs.declared.course.Update.{Update as UpdateValue};
+ghost use Rattle.ripng_phases.specs.declared.refused.PhaseRefused.TheVariants.{OutOfMemory};
 
 use crate::acting::{announce, hand_on, is_due, nudge};
 use crate::course::{Course, PHASE_MS};
 use crate::refused::PhaseRefused;
+use crate::shown::{ShownRoute, are_same, shown_routes};
 use rand_core::Rng;
 use ripng_world::{Lab, Stopped, Watch};
 use route_table::{Moment, RouteStore};
@@ -236,6 +240,49 @@ fn make_phase<S: RouteStore, V: Watch<S>, R: Rng>(
     Ok(course.next)
 }
 
+/// What all routers hold, as a phase begins or is over.
+fn show<S: RouteStore, F>(
+    alloc: Global,
+    lab: &Lab<S>,
+) -> Result<Vec<ShownRoute>, Stopped<PhaseRefused, F>>
+    ensures shown { IfOk result (λ shown. shown.items ≡ shown_in lab.now.network lab.now.world) }
+    ensures memory { IfErr result (λ why. why ≡ Refused OutOfMemory) }
+{
+    match shown_routes(alloc, lab) {
+        Ok(shown) => Ok(shown),
+        Err(_) => Err(Stopped::Refused(PhaseRefused::OutOfMemory)),
+    }
+}
+
+/// One phase, as [`make_phase`] has it. Says, too, whether all tables are then as they were before.
+fn compare_phase<S: RouteStore, V: Watch<S>, R: Rng>(
+    alloc: Global,
+    lab: &mut Lab<S>,
+    begin: u64,
+    first: usize,
+    rng: &mut R,
+    watch: &mut V,
+) -> Result<(usize, bool), Stopped<PhaseRefused, V::Fault>>
+    requires { first ≤ length lab.old.world.sent }
+    ensures network { lab.new.network ≡ lab.old.network }
+    ensures made { IfOk result (λ r. IsMadePhase V.takes (lab.old, watch.old) first begin r.0 (lab.new, watch.new)) }
+    ensures stopped { IfErr result (λ why. IsCutShort V.takes V.fails (lab.old, watch.old) first begin why (lab.new, watch.new)) }
+    ensures in_time { OnOk result (begin ≤ 2 ^ 60) }
+    ensures compared { IfOk result (λ r. IsTrue r.1 ↔ (shown_in lab.old.network lab.new.world ≡ shown_in lab.old.network lab.old.world)) }
+{
+    let before = show(alloc, lab)?;
+    let next = make_phase(alloc, lab, begin, first, rng, watch)?;
+    let after = show(alloc, lab)?;
+    Ok((next, are_same(&after, &before)))
+}
+
+/// The last phase in which some table changed, once this one is made.
+fn last_change(last: Option<usize>, stays: bool, phase: usize) -> Option<usize>
+    ensures { result ≡ last_change last stays phase }
+{
+    if stays { last } else { Some(phase) }
+}
+
 /// The last moment of all routers.
 fn latest<S: RouteStore>(lab: &Lab<S>) -> u64
     ensures { IsLatest lab.now.world.states (length lab.now.network) result }
@@ -250,7 +297,8 @@ fn latest<S: RouteStore>(lab: &Lab<S>) -> u64
 }
 
 /// Phases are made one after another, by chance, until one is refused, and a watcher is told of each event. Says how many were
-/// made. 28 of them leave each table with the least costs of now, and nothing else below 16 hops, whatever happened before.
+/// made; and if all were, in which of them, numbered from 0, some table last changed, but for clocks and marks, or that none did.
+/// 28 of them leave each table with the least costs of now, and nothing else below 16 hops, whatever happened before.
 ///
 /// The first begins at the last moment of all routers, and brings no datagram that was sent before it.
 ///
@@ -264,22 +312,29 @@ pub fn run_phases<S: RouteStore, V: Watch<S>, R: Rng>(
     phases: usize,
     rng: &mut R,
     watch: &mut V,
-) -> (usize, Result<(), Stopped<PhaseRefused, V::Fault>>)
+) -> (
+    usize,
+    Result<Option<usize>, Stopped<PhaseRefused, V::Fault>>,
+)
     ensures network { lab.new.network ≡ lab.old.network }
     ensures all { OnOk result.1 (result.0 ≡ phases) }
-    ensures made { OnOk result.1 (AreMadePhases V.takes lab.old.network (lab.old.world, watch.old) result.0 (lab.new.world, watch.new)) }
+    ensures made { IfOk result.1 (λ last. AreMadePhases V.takes lab.old.network (lab.old.world, watch.old) result.0 last (lab.new.world, watch.new)) }
     ensures heals { OnOk result.1 (HealsIn lab.old.network lab.old.world result.0 lab.new.world) }
     ensures stopped { IfErr result.1 (λ why. AreMadeInPart V.takes V.fails lab.old.network (lab.old.world, watch.old) result.0 why (lab.new.world, watch.new)) }
 {
     lab.has_run();
     let mut begin = latest(lab);
     let mut first = lab.sent().len();
+    let mut last = None;
     for done in 0..phases {
-        match make_phase(alloc, lab, begin, first, rng, watch) {
-            Ok(next) => first = next,
+        match compare_phase(alloc, lab, begin, first, rng, watch) {
+            Ok((next, stays)) => {
+                first = next;
+                last = last_change(last, stays, done);
+            }
             Err(stopped) => return (done, Err(stopped)),
         }
         begin += PHASE_MS;
     }
-    (phases, Ok(()))
+    (phases, Ok(last))
 }

@@ -16,8 +16,8 @@ use Rattle.ripng_phases.specs.Phases.{Step, steps_of}
 use Rattle.ripng_phases.specs.declared.refused.PhaseRefused.{PhaseRefused}
 use Rattle.ripng_phases.specs.declared.refused.PhaseRefused.TheVariants.{NoUpdateInTime, PastLastMoment, OutOfMemory}
 use Rattle.ripngd_lab.specs.Phasing.{IsStopAt, StopsInPhase}
-use Rattle.ripngd_lab.specs.Asides.{Aside, NextLine, Prints, Broken}
-use Rattle.ripngd_lab.specs.ScriptWatching.{Telling, Starts, Does, Turns, Notes, StartsAt, TellsAll, IsToldOfLab, FailsAtEvent, IsToldUntil, IsToldUnless, HasTold, is_failure, has_failed}
+use Rattle.ripngd_lab.specs.Asides.{Aside, NextLine, Prints, CountsPhases, Broken}
+use Rattle.ripngd_lab.specs.ScriptWatching.{Telling, Starts, Does, Turns, Notes, Counts, StartsAt, TellsAll, IsToldOfLab, FailsAtEvent, IsToldUntil, IsToldUnless, HasTold, is_failure, has_failed}
 use Rattle.ripngd_lab.specs.declared.stop.Stop.{Stop}
 use Rattle.ripngd_lab.specs.declared.stop.Stop.TheVariants.{Refused, Unmet, Failed}
 use Rattle.std.specs.declared.io.Error.{Error}
@@ -116,6 +116,10 @@ module _ {V : Type 0} (st : V → LabValue → ℕ → V → Type 0) (t f : V �
 
   pub noted_on : (s : Option LabValue × V) (lab : Option LabValue) (v v' : V) → IsToldOfLab st t n s (lab, v) → n v Prints v' → IsToldOfLab st t n s (lab, v')
   noted_on s lab v v' told note = told_on s (lab, v) (lab, v') told (noted lab v v' note)
+
+  pub counted_on : (s : Option LabValue × V) (lab : Option LabValue) (v v' : V) (phases : ℕ) (last : Option ℕ) → IsToldOfLab st t n s (lab, v) → n v (CountsPhases phases last) v'
+      → IsToldOfLab st t n s (lab, v')
+  counted_on s lab v v' phases last told note = told_on s (lab, v) (lab, v') told (Counts phases last ∷ [], ((lab, v'), (refl, note), refl))
 
   pub turned_on : (s : Option LabValue × V) (lab : Option LabValue) (v v' : V) (number : ℕ) → IsToldOfLab st t n s (lab, v) → n v (NextLine number) v' → IsToldOfLab st t n s (lab, v')
   turned_on s lab v v' number told note = told_on s (lab, v) (lab, v') told (Turns number ∷ [], ((lab, v'), (refl, note), refl))
@@ -244,9 +248,9 @@ module _ {V : Type 0} (st : V → LabValue → ℕ → V → Type 0) (t f : V �
         ),
       )
 
-  pub phases_told : (lab lab' : LabValue) (v v' : V) (count : ℕ) → lab'.network ≡ lab.network → AreMadePhases t lab.network (lab.world, v) count (lab'.world, v')
+  pub phases_told : (lab lab' : LabValue) (v v' : V) (count : ℕ) (last : Option ℕ) → lab'.network ≡ lab.network → AreMadePhases t lab.network (lab.world, v) count last (lab'.world, v')
       → IsToldOfLab st t n (Some lab, v) (Some lab', v')
-  phases_told lab lab' v v' count same made =
+  phases_told lab lab' v v' count last same made =
       subst (λ (net : Network). IsToldOfLab st t n (Some lab, v) (Some (record { network = net; world = lab'.world }), v')) (sym same)
       (steps_told lab.network (steps_of made.phases) lab.world lab'.world v v' made.told)
 

@@ -1,13 +1,14 @@
 -- Phases of a script: when all takes part in them, and why they stop.
-use Rattle.std.specs.Prelude.{◌≡◌, ◌⊎◌, ℕ, ⊤, true, []}
+use Rattle.std.specs.Prelude.{◌≡◌, ◌⊎◌, ℕ, ⊤, true, [], Option}
 use Rattle.std.specs.declared.io.Error.{Error}
 use Rattle.ripng_world.specs.Labs.{LabValue}
 use Rattle.ripng_world.specs.Watching.{Told}
 use Rattle.ripng_world.specs.declared.watch.Stopped.{Stopped}
 use Rattle.ripng_world.specs.declared.watch.Stopped.TheVariants.{Refused as IsRefused, Failed as HasFailed}
-use Rattle.ripng_phases.specs.Making.{AreMadeInPart}
+use Rattle.ripng_phases.specs.Making.{AreMadeInPart, AreMadePhases}
 use Rattle.ripng_phases.specs.declared.refused.PhaseRefused.{PhaseRefused}
 use Rattle.ripng_phases.specs.declared.refused.PhaseRefused.TheVariants.{OutOfMemory}
+use Rattle.ripngd_lab.specs.Asides.{Aside, CountsPhases}
 use Rattle.ripngd_lab.specs.ScriptWatching.{is_failure}
 use Rattle.ripngd_lab.specs.declared.outages.Outages.{Outages}
 use Rattle.ripngd_lab.specs.declared.stop.Refusal.TheVariants.{Outage, Phases}
@@ -17,6 +18,11 @@ use Rattle.ripngd_lab.specs.declared.stop.Stop.TheVariants.{Refused, Failed}
 -- no router is silent, and no link is cut
 abbrev pub AllTakePart : Outages → Type 0
 AllTakePart outages = (outages.silent.items ≡ []) × (outages.cut.items ≡ [])
+
+-- so many phases are made, and then the watcher is told how many, and which of them last changed some table
+abbrev pub AreMadeAndCounted : {V : Type 0} → (V → Told → V → Type 0) → (V → Aside → V → Type 0) → LabValue × V → ℕ → LabValue × V → Type 0
+AreMadeAndCounted {V} takes notes s phases s' =
+    (v : V) × (last : Option ℕ) × AreMadePhases takes s.0.network (s.0.world, s.1) phases last (s'.0.world, v) × notes v (CountsPhases phases last) s'.1
 
 -- what a script says where phases stop in the one of that number: the line is refused by it, unless memory or the watcher failed
 abbrev pub IsStopAt : ℕ → Stopped PhaseRefused Error → Stop → Type 0

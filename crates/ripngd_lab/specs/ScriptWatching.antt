@@ -5,19 +5,20 @@ use Rattle.router_core.specs.declared.answer.Answer.{Answer}
 use Rattle.ripng_world.specs.Labs.{LabValue}
 use Rattle.ripng_world.specs.Watching.{Told, telling}
 use Rattle.ripng_world.specs.World.{Event, Happens, IsCold}
-use Rattle.ripngd_lab.specs.Asides.{Aside, NextLine, Prints, Broken}
+use Rattle.ripngd_lab.specs.Asides.{Aside, NextLine, Prints, CountsPhases, Broken}
 use Rattle.ripngd_lab.specs.declared.session.Stage.{Stage}
 use Rattle.ripngd_lab.specs.declared.session.Stage.TheVariants.{Listing, Running}
 use Rattle.ripngd_lab.specs.declared.stop.Stop.{Stop}
 use Rattle.ripngd_lab.specs.declared.stop.Stop.TheVariants.{Refused, Unmet, Failed}
 
 -- what a watcher is told: that all routers have started, at one moment; that an event was done, with its answer; the number of
--- the script's next line; or what a line prints, or why it ends the script
+-- the script's next line; what a line prints, or why it ends the script; or how many phases a line has made, and which last changed some table
 pub data Telling : Type 0 where
   Starts : (now : ℕ) → Telling
   Does : Event → Answer → Telling
   Turns : (number : ℕ) → Telling
   Notes : Telling
+  Counts : (phases : ℕ) → (last : Option ℕ) → Telling
 
 -- all routers of a network have started at one moment
 abbrev pub StartsAt : LabValue → ℕ → Type 0
@@ -32,6 +33,7 @@ TellsWatcher starts takes notes (Does e answer) s s' =
     × takes s.1 (telling lab.network lab.world e answer lab'.world) s'.1
 TellsWatcher starts takes notes (Turns number) s s' = (s'.0 ≡ s.0) × notes s.1 (NextLine number) s'.1
 TellsWatcher starts takes notes Notes s s' = (s'.0 ≡ s.0) × notes s.1 Prints s'.1
+TellsWatcher starts takes notes (Counts phases last) s s' = (s'.0 ≡ s.0) × notes s.1 (CountsPhases phases last) s'.1
 
 -- one after another, and nothing else happens in the lab
 abbrev pub TellsAll : {V : Type 0} → (V → LabValue → ℕ → V → Type 0) → (V → Told → V → Type 0) → (V → Aside → V → Type 0) → Option LabValue × V → List Telling → Option LabValue × V → Type 0

@@ -1,6 +1,6 @@
 //! What a lab does, one way or another, while the watcher of a script is told. What routers answer is for the watcher alone.
 
-ghost use Rattle.std.specs.Prelude.{◌≡◌, All, IfErr, OnOk, Some, length};
+ghost use Rattle.std.specs.Prelude.{◌≡◌, All, IfErr, IfOk, OnOk, Some, length};
 ghost use Rattle.ripng_phases.specs.Making.{AreMadePhases, HealsIn};
 ghost use Rattle.ripngd_lab.specs.Phasing.{IsStopAt, StopsInPhase};
 ghost use Rattle.ripngd_lab.specs.ScriptWatching.{HasTold};
@@ -70,7 +70,7 @@ pub fn run_rounds<V: Watch>(
     }
 }
 
-/// Phases are made by chance, and heal as [`ripng_phases::run_phases`] has it.
+/// Phases are made by chance, and heal as [`ripng_phases::run_phases`] has it. Says in which of them some table last changed.
 ///
 /// # Errors
 /// A regular update that is not due in time, a phase past the last moment; want of memory, or of the watcher. What was done
@@ -81,15 +81,15 @@ pub fn run_phases<V: Watch, R: Rng>(
     phases: usize,
     rng: &mut R,
     watch: &mut V,
-) -> Result<(), Stop>
+) -> Result<Option<usize>, Stop>
     ensures told { HasTold result V.starts V.takes V.fails V.notes (Some lab.old, watch.old) (Some lab.new, watch.new) }
-    ensures made { OnOk result (AreMadePhases V.takes lab.old.network (lab.old.world, watch.old) phases (lab.new.world, watch.new)) }
+    ensures made { IfOk result (λ last. AreMadePhases V.takes lab.old.network (lab.old.world, watch.old) phases last (lab.new.world, watch.new)) }
     ensures heals { OnOk result (HealsIn lab.old.network lab.old.world phases lab.new.world) }
     ensures stopped { IfErr result (λ stop. StopsInPhase V.takes V.fails (lab.old, watch.old) stop (lab.new, watch.new)) }
 {
     let (phase, outcome) = ripng_phases::run_phases(alloc, lab, phases, rng, watch);
     match outcome {
-        Ok(()) => Ok(()),
+        Ok(last) => Ok(last),
         Err(why) => Err(stop_at(phase, why)),
     }
 }

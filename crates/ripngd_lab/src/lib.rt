@@ -24,6 +24,7 @@ mod words;
 
 pub use expecting::{Expected, Missed, meet};
 pub use parts::Part;
+pub use phase::MadePhases;
 pub use printer::{Ending, Printer};
 pub use printing::{Choice, print_routes, print_sent};
 pub use refusal_name::RefusalName;

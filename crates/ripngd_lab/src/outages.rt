@@ -1,7 +1,6 @@
 //! Outages: routers that are silent, links that are cut, and datagrams that are lost. The first two hold back what `round`,
 //! `rounds`, `tell` and `hear` would do, let no `phases` be, and hold back nothing that a line says of one datagram or of one
-//! router; what is lost comes to
-//! nobody.
+//! router; what is lost comes to nobody.
 
 ghost use Rattle.std.specs.Prelude.{◌≡◌, ◌++◌, ◌∷◌, [], false, true, IsFalse, IsTrue, OnErr, OnOk};
 ghost use Rattle.ripng_world.specs.Events.{event_of};

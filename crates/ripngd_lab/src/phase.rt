@@ -1,8 +1,8 @@
 //! Phases: stretches of a minute, by chance, in which all that matters gets through once, with no rounds.
 
 ghost use Rattle.std.specs.Prelude.{IfErr, OnOk, Some};
-ghost use Rattle.ripng_phases.specs.Making.{AreMadePhases, HealsIn};
-ghost use Rattle.ripngd_lab.specs.Phasing.{AllTakePart, StopsPhases};
+ghost use Rattle.ripng_phases.specs.Making.{HealsIn};
+ghost use Rattle.ripngd_lab.specs.Phasing.{AllTakePart, AreMadeAndCounted, StopsPhases};
 ghost use Rattle.ripngd_lab.specs.ScriptWatching.{HasTold};
 
 use crate::doing::run_phases;
@@ -16,6 +16,7 @@ use rand_pcg::Pcg32;
 use ripng_world::Lab;
 use route_table::{Moment, TrieRoutes};
 use std::alloc::Global;
+use std::fmt;
 
 /// The most phases of one line.
 const PHASES_LIMIT: usize = 1000;
@@ -25,6 +26,25 @@ const PHASE_MS: u64 = 60_000;
 
 /// The last moment that there is, in milliseconds.
 const LAST_MS: u64 = 1 << 60;
+
+/// What became of a line of phases.
+#[derive(Clone, Copy, Debug, PartialEq, Eq)]
+pub struct MadePhases {
+    /// How many were made.
+    pub phases: usize,
+    /// In which of them, numbered from 0, the table of some router last changed, but for how long a route lives on.
+    pub last: Option<usize>,
+}
+
+impl fmt::Display for MadePhases {
+    fn fmt<W: fmt::Write>(&self, f: &mut fmt::Formatter<W>) -> fmt::Result {
+        write!(f, "phases {} last change ", self.phases)?;
+        match self.last {
+            Some(last) => write!(f, "{last}"),
+            None => write!(f, "none"),
+        }
+    }
+}
 
 /// How many phases there are: a number from 1 to 1,000.
 pub fn phase_count(word: &str) -> Result<usize, BadLine> {
@@ -51,8 +71,9 @@ pub fn latest_moment(lab: &Lab<TrieRoutes>) -> Option<Moment> {
     latest
 }
 
-/// So many phases are made, one after another, by the chance of a generator that starts from a seed. 28 of them leave each table
-/// with the least costs of now, and nothing else below 16 hops, whatever happened before.
+/// So many phases are made, one after another, by the chance of a generator that starts from a seed, and the watcher is told in
+/// which of them some table last changed. 28 of them leave each table with the least costs of now, and nothing else below 16 hops,
+/// whatever happened before.
 ///
 /// # Errors
 /// `Outage` where a router is silent or a link is cut: nothing is then done. A router whose regular update is not due in time, a
@@ -67,7 +88,7 @@ pub fn make_phases<V: Watch>(
 ) -> Result<(), Stop>
     ensures told { HasTold result V.starts V.takes V.fails V.notes (Some lab.old, watch.old) (Some lab.new, watch.new) }
     ensures all { OnOk result (AllTakePart outages.now) }
-    ensures made { OnOk result (AreMadePhases V.takes lab.old.network (lab.old.world, watch.old) phases (lab.new.world, watch.new)) }
+    ensures made { OnOk result (AreMadeAndCounted V.takes V.notes (lab.old, watch.old) phases (lab.new, watch.new)) }
     ensures heals { OnOk result (HealsIn lab.old.network lab.old.world phases lab.new.world) }
     ensures stopped { IfErr result (λ stop. StopsPhases V.takes V.fails outages.now (lab.old, watch.old) stop (lab.new, watch.new)) }
 {
@@ -75,5 +96,6 @@ pub fn make_phases<V: Watch>(
         return Err(Stop::Refused(Refusal::Outage));
     }
     let mut rng = Pcg32::seed_from_u64(seed);
-    run_phases(alloc, lab, phases, &mut rng, watch)
+    let last = run_phases(alloc, lab, phases, &mut rng, watch)?;
+    Ok(watch.phases_made(&MadePhases { phases, last })?)
 }

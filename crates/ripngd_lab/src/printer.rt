@@ -2,6 +2,7 @@
 
 ghost use Rattle.std.specs.Prelude.{⊤};
 
+use crate::phase::MadePhases;
 use crate::printing::{Choice, print_routes, print_sent};
 use crate::stop::{Refusal, Unmet};
 use crate::watching::Watch;
@@ -110,6 +111,10 @@ impl<'a, W: Write> Watch for Printer<'a, W> {
 
     fn lost(&mut self, _datagram: usize) -> io::Result<()> {
         Ok(())
+    }
+
+    fn phases_made(&mut self, made: &MadePhases) -> io::Result<()> {
+        writeln!(self.out, "{made}")
     }
 
     fn refused(&mut self, why: &Refusal) -> io::Result<()> {

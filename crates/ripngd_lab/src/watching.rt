@@ -2,8 +2,9 @@
 
 ghost use Rattle.std.specs.Prelude.{ℕ, OnErr, OnOk};
 ghost use Rattle.ripng_world.specs.Labs.{LabValue};
-ghost use Rattle.ripngd_lab.specs.Asides.{Aside, Broken, NextLine, Prints};
+ghost use Rattle.ripngd_lab.specs.Asides.{Aside, Broken, CountsPhases, NextLine, Prints};
 
+use crate::phase::MadePhases;
 use crate::printing::Choice;
 use crate::stop::{Refusal, Unmet};
 use ripng_world::Lab;
@@ -48,6 +49,11 @@ pub trait Watch: ripng_world::Watch<TrieRoutes, Fault = io::Error> {
     /// The line `lose`: the datagram of this number is lost.
     fn lost(&mut self, datagram: usize) -> io::Result<()>
         ensures notes { OnOk result (notes self.old Prints self.new) }
+        ensures broken { OnErr result (notes self.old Broken self.new) };
+
+    /// The line `phases`: how many were made, and in which of them tables last changed.
+    fn phases_made(&mut self, made: &MadePhases) -> io::Result<()>
+        ensures notes { OnOk result (notes self.old (CountsPhases made.now.phases made.now.last) self.new) }
         ensures broken { OnErr result (notes self.old Broken self.new) };
 
     /// The line is refused, and ends the script.

@@ -11,13 +11,13 @@ use Rattle.ripng_world.specs.Labs.{LabValue}
 use Rattle.ripng_world.specs.Watching.{Told, telling}
 use Rattle.ripng_world.specs.World.{World, Event, Deliver, Stranger, Tick, Restart, Reconfigure, Happens, RouterMoves, arrival_of}
 use Rattle.ripng_world.proofs.Running.{get_map}
-use Rattle.ripngd_lab.specs.Asides.{Aside, NextLine, Prints, Broken}
-use Rattle.ripngd_lab.specs.ScriptWatching.{Telling, Starts, Does, Turns, Notes, TellsAll, FailsAtRest, FailsAtEvent, IsToldUntil, StartsAt}
+use Rattle.ripngd_lab.specs.Asides.{Aside, NextLine, Prints, CountsPhases, Broken}
+use Rattle.ripngd_lab.specs.ScriptWatching.{Telling, Starts, Does, Turns, Notes, Counts, TellsAll, FailsAtRest, FailsAtEvent, IsToldUntil, StartsAt}
 use Rattle.ripngd_trace.specs.Events.{RecordTells}
-use Rattle.ripngd_trace.specs.Reading.{AreWritten, IsTracedUntil, IsWritten, Line, StartLine, EventLine, Explains, PrintLine, RefusedLine, LostLine, Shown, ShowsTable, TellsOf, TellsScript, all_timers, read_line, tables_in, tables_of, timers_of}
+use Rattle.ripngd_trace.specs.Reading.{AreWritten, IsTracedUntil, IsWritten, Line, StartLine, EventLine, Explains, PrintLine, RefusedLine, LostLine, PhasesLine, Shown, ShowsTable, TellsOf, TellsScript, all_timers, read_line, tables_in, tables_of, timers_of}
 use Rattle.ripngd_trace.specs.Offers.{TellsOffers}
 use Rattle.ripngd_trace.specs.Records.{LeadsTo, timers_in}
-use Rattle.ripngd_trace.specs.Saying.{BreaksOff, Said, SaysAside, SaysEvent, SaysLost, SaysPrint, SaysRefused, SaysStart}
+use Rattle.ripngd_trace.specs.Saying.{BreaksOff, Said, SaysAside, SaysEvent, SaysLost, SaysPhases, SaysPrint, SaysRefused, SaysStart}
 use Rattle.ripngd_trace.specs.Starting.{TellsStart}
 use Rattle.ripngd_trace.specs.declared.records.EventRecord.{EventRecord}
 use Rattle.ripngd_trace.specs.Updates.{TellsUpdate}
@@ -217,6 +217,14 @@ module _ {V : Type 0} (f : V → Said) (st : V → LabValue → ℕ → V → Ty
       (lines_told ts mid.0 mid.1 end v' shown shows1 (aside_known (f v) (f mid.1) prints ∙ known ∙ sym (ap tables_in notes1.0))
       (aside_timers (f v) (f mid.1) prints ∙ clocks ∙ sym (ap timers_of notes1.0)) told.2)
 
+  lines_told (Counts phases last ∷ ts) lab v end v' shown shows known clocks told =
+      let mid = told.0 in
+      let counts = told.1 in
+      let says : SaysPhases (f v) phases last (f mid.1) = notes v (CountsPhases phases last) mid.1 counts.1 in
+      let shows1 = subst (λ (o : Option LabValue). AllZip ShowsTable shown (tables_in o)) (sym counts.0) shows in
+      line_on lab mid.0 end shown (f v) (f mid.1) (f v') (PhasesLine says.r) (counts.0, says.word_is) shows1 says.writes
+      (lines_told ts mid.0 mid.1 end v' shown shows1 (says.known_is ∙ known ∙ sym (ap tables_in counts.0)) (says.timers_are ∙ clocks ∙ sym (ap timers_of counts.0)) told.2)
+
   -- up to where memory or the tracer failed
   pub until_told : (v : V) (end : Option LabValue) (v' : V) → (f v).known ≡ [] → (f v).timers ≡ [] → IsToldUntil st t fl n (None, v) (end, v')
       → IsTracedUntil (f v).written end (f v').written
@@ -241,6 +249,7 @@ module _ {V N : Type 0} (place : V → N) (st : V → LabValue → ℕ → V →
   kept (Does e answer ∷ ts) s s' told = kept ts told.0 s' told.2 ∙ takes s.1 _ told.0.1 told.1.6
   kept (Turns number ∷ ts) s s' told = kept ts told.0 s' told.2 ∙ notes s.1 (NextLine number) told.0.1 told.1.1
   kept (Notes ∷ ts) s s' told = kept ts told.0 s' told.2 ∙ notes s.1 Prints told.0.1 told.1.1
+  kept (Counts phases last ∷ ts) s s' told = kept ts told.0 s' told.2 ∙ notes s.1 (CountsPhases phases last) told.0.1 told.1.1
 
   pub kept_until : (s s' : Option LabValue × V) → IsToldUntil st t fl n s s' → place s'.1 ≡ place s.1
   kept_until s s' until = by_why until.2 ∙ kept until.1.0 s until.0 until.1.1

@@ -18,6 +18,7 @@ use Rattle.ripngd_trace.specs.Updates.{due_at}
 use Rattle.ripngd_trace.specs.declared.records.EventRecord.{EventRecord}
 use Rattle.ripngd_trace.specs.declared.records.PrintRecord.{PrintRecord}
 use Rattle.ripngd_trace.specs.declared.records.LostRecord.{LostRecord}
+use Rattle.ripngd_trace.specs.declared.records.PhasesRecord.{PhasesRecord}
 use Rattle.ripngd_trace.specs.declared.records.RefusedRecord.{RefusedRecord}
 use Rattle.ripngd_trace.specs.declared.records.RouteRecord.{RouteRecord}
 use Rattle.ripngd_trace.specs.declared.records.StartRecord.{StartRecord}
@@ -38,13 +39,15 @@ abbrev pub with_records : Shown → List RouteRecord → Shown
 with_records shown [] = shown
 with_records shown (r ∷ records) = with_records (map_of.insert shown r.prefix r) records
 
--- a line of a trace: the record of a start, of an event, of what a line of the script prints, or of why it ends the script
+-- a line of a trace: the record of a start, of an event, of what a line of the script prints, loses or has made, or of why it ends the
+-- script
 pub data Line : Type 0 where
   StartLine : StartRecord → Line
   EventLine : EventRecord → Line
   PrintLine : PrintRecord → Line
   RefusedLine : RefusedRecord → Line
   LostLine : LostRecord → Line
+  PhasesLine : PhasesRecord → Line
 
 -- what a reader has of each router once it has read a line: of a start each router's routes; of an event what it had, but of the
 -- router that moved without what is gone and with the routes that are told; else what it had
@@ -54,6 +57,7 @@ read_line shown (EventLine r) = slice_set shown r.router (with_records (taken_ou
 read_line shown (PrintLine r) = shown
 read_line shown (RefusedLine r) = shown
 read_line shown (LostLine r) = shown
+read_line shown (PhasesLine r) = shown
 
 -- ---- what there is to know
 
@@ -96,6 +100,7 @@ TellsOf (EventLine r) before after =
 TellsOf (PrintLine r) before after = (after ≡ before) × IsPrintWord r.record.now
 TellsOf (RefusedLine r) before after = (after ≡ before) × (r.record.now ≡ codes "refused")
 TellsOf (LostLine r) before after = (after ≡ before) × (r.record.now ≡ codes "lost")
+TellsOf (PhasesLine r) before after = (after ≡ before) × (r.record.now ≡ codes "phases")
 
 -- ---- a trace
 
@@ -112,6 +117,7 @@ IsWritten (EventLine r) = WritesRecord r
 IsWritten (PrintLine r) = WritesRecord r
 IsWritten (RefusedLine r) = WritesRecord r
 IsWritten (LostLine r) = WritesRecord r
+IsWritten (PhasesLine r) = WritesRecord r
 
 -- so is that of each of these, in order, and nothing else
 abbrev pub AreWritten : List Line → Option (List ℕ) → Option (List ℕ) → Type 0

@@ -3,7 +3,7 @@ use Rattle.std.specs.Prelude.{◌≡◌, ◌⊎◌, ℕ, List, ◌++◌, Option,
 use Rattle.route_table.specs.Table.{Table}
 use Rattle.ripng_world.specs.Labs.{LabValue}
 use Rattle.ripng_world.specs.Watching.{Told}
-use Rattle.ripngd_lab.specs.Asides.{Aside, NextLine, Prints, Broken}
+use Rattle.ripngd_lab.specs.Asides.{Aside, NextLine, Prints, CountsPhases, Broken}
 use Rattle.ripngd_trace.specs.Events.{RecordTells}
 use Rattle.ripngd_trace.specs.Lines.{WritesLess, WritesRecord}
 use Rattle.ripngd_trace.specs.Offers.{TellsOffers}
@@ -14,6 +14,7 @@ use Rattle.ripngd_trace.specs.Updates.{TellsUpdate}
 use Rattle.ripngd_trace.specs.declared.records.EventRecord.{EventRecord}
 use Rattle.ripngd_trace.specs.declared.records.PrintRecord.{PrintRecord}
 use Rattle.ripngd_trace.specs.declared.records.LostRecord.{LostRecord}
+use Rattle.ripngd_trace.specs.declared.records.PhasesRecord.{PhasesRecord}
 use Rattle.ripngd_trace.specs.declared.records.RefusedRecord.{RefusedRecord}
 use Rattle.ripngd_trace.specs.declared.records.StartRecord.{StartRecord}
 use Rattle.ripngd_trace.specs.declared.records.Timers.{Timers}
@@ -76,8 +77,20 @@ pub record SaysLost (said said' : Said) : Type 0 where
   pub timers_are : said'.timers ≡ said.timers
   pub writes : WritesRecord r said.written said'.written
 
--- of the number of the next line it writes nothing, and knows it; of what a line prints or loses, or why it ends the script, a record
+-- so of how many phases a line has made, with that number, and with which of them last changed some table
+pub record SaysPhases (said : Said) (phases : ℕ) (last : Option ℕ) (said' : Said) : Type 0 where
+  pub r : PhasesRecord
+  pub word_is : r.record.now ≡ codes "phases"
+  pub phases_are : r.phases ≡ phases
+  pub last_is : r.last ≡ last
+  pub known_is : said'.known ≡ said.known
+  pub timers_are : said'.timers ≡ said.timers
+  pub writes : WritesRecord r said.written said'.written
+
+-- of the number of the next line it writes nothing, and knows it; of what a line prints, loses or has made, or why it ends the script,
+-- a record
 abbrev pub SaysAside : Said → Aside → Said → Type 0
 SaysAside said (NextLine number) said' = said' ≡ record said { line = number }
 SaysAside said Prints said' = SaysPrint said said' ⊎ (SaysRefused said said' ⊎ SaysLost said said')
+SaysAside said (CountsPhases phases last) said' = SaysPhases said phases last said'
 SaysAside said Broken said' = WritesLess said.written said'.written

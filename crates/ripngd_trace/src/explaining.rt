@@ -5,7 +5,7 @@ ghost use Rattle.std.specs.Prelude.{⊤};
 use crate::sentences::Seconds;
 use crate::tracer::Tracer;
 use ripng_world::{Event, Lab};
-use ripngd_lab::{Choice, Refusal, Unmet, Watch, print_routes, print_sent, watched};
+use ripngd_lab::{Choice, MadePhases, Refusal, Unmet, Watch, print_routes, print_sent, watched};
 use route_table::{Moment, TrieRoutes};
 use router_core::Answer;
 use std::alloc::Global;
@@ -84,6 +84,10 @@ impl<'a, W: Write> Watch for Explainer<'a, W> {
 
     fn lost(&mut self, datagram: usize) -> io::Result<()> {
         writeln!(self.tracer.out, "datagram {datagram} is lost")
+    }
+
+    fn phases_made(&mut self, made: &MadePhases) -> io::Result<()> {
+        writeln!(self.tracer.out, "{made}")
     }
 
     fn refused(&mut self, why: &Refusal) -> io::Result<()> {

@@ -285,6 +285,16 @@ pub struct LostRecord {
     pub datagram: usize,
 }
 
+/// A line has made so many phases.
+#[derive(Clone, Copy, Debug, PartialEq, Eq, Serialize)]
+pub struct PhasesRecord {
+    pub line: usize,
+    pub record: &'static str,
+    pub phases: usize,
+    /// In which of them, numbered from 0, the table of some router last changed, but for how long a route lives on.
+    pub last: Option<usize>,
+}
+
 /// A line was refused, or expected what is not so, and ended the script.
 #[derive(Drop, Serialize)]
 pub struct RefusedRecord<'a> {

@@ -8,7 +8,7 @@ ghost use Rattle.ripngd_trace.specs.Lines.{WritesLess, WritesRecord};
 ghost use Rattle.ripngd_trace.specs.Offers.{TellsOffers};
 ghost use Rattle.ripngd_trace.specs.Reading.{IsTraced, IsTracedUntil, all_timers, tables_of};
 ghost use Rattle.ripngd_trace.specs.Records.{LeadsTo, timers_in};
-ghost use Rattle.ripngd_trace.specs.Saying.{BreaksOff, SaysAside, SaysEvent, SaysStart};
+ghost use Rattle.ripngd_trace.specs.Saying.{BreaksOff, SaysAside, SaysEvent, SaysPhases, SaysStart};
 ghost use Rattle.ripngd_trace.specs.Starting.{AreTold, TellsRouter, TellsStart};
 ghost use Rattle.ripngd_trace.specs.Updates.{TellsUpdate};
 
@@ -17,13 +17,14 @@ use crate::events::{happened, moment_of, router_of};
 use crate::network::{interface_records, owned_records};
 use crate::offers::offers_of;
 use crate::records::{
-    EventRecord, LostRecord, PrintRecord, RefusedRecord, RouterRecord, StartRecord, Timers,
+    EventRecord, LostRecord, PhasesRecord, PrintRecord, RefusedRecord, RouterRecord, StartRecord,
+    Timers,
 };
 use crate::tables::{News, news_of, timers_in, timers_of};
 use crate::updates::update_of;
 use crate::writing::write_record;
 use ripng_world::{Event, Lab};
-use ripngd_lab::{Choice, Refusal, Unmet, Watch, print_routes, print_sent, watched};
+use ripngd_lab::{Choice, MadePhases, Refusal, Unmet, Watch, print_routes, print_sent, watched};
 use route_table::{Moment, RouteStore, TrieRoutes};
 use router_core::{Answer, Router};
 use std::alloc::{AllocError, Global};
@@ -277,6 +278,22 @@ impl<'a, W: Write> Tracer<'a, W> {
         write_record(self.alloc, &record, self.out)
     }
 
+    /// A line that has made phases.
+    fn write_phases(&mut self, made: &MadePhases) -> io::Result<()>
+        ensures whole { OnOk result (SaysPhases (record { line = self.old.line; known = self.old.known.items; timers = self.old.timers.items; written = W.contents self.old.out.now }) made.now.phases made.now.last
+            (record { line = self.new.line; known = self.new.known.items; timers = self.new.timers.items; written = W.contents self.new.out.now })) }
+        ensures broken { OnErr result (WritesLess (W.contents self.old.out.now) (W.contents self.new.out.now)) }
+        ensures same_reference { self.new.out.ghost_name ≡ self.old.out.ghost_name }
+    {
+        let record = PhasesRecord {
+            line: self.line,
+            record: "phases",
+            phases: made.phases,
+            last: made.last,
+        };
+        write_record(self.alloc, &record, self.out)
+    }
+
     /// A line that ends the script, and why.
     fn write_refused(&mut self, why: &str) -> io::Result<()>
         ensures whole { OnOk result ((r : RefusedRecord) × (r.«record».now ≡ codes "refused") × WritesRecord r (W.contents self.old.out.now) (W.contents self.new.out.now)) }
@@ -349,6 +366,10 @@ impl<'a, W: Write> Watch for Tracer<'a, W> {
 
     fn lost(&mut self, datagram: usize) -> io::Result<()> {
         self.write_lost(datagram)
+    }
+
+    fn phases_made(&mut self, made: &MadePhases) -> io::Result<()> {
+        self.write_phases(made)
     }
 
     fn refused(&mut self, why: &Refusal) -> io::Result<()> {

@@ -2,6 +2,7 @@
 
 mod changing;
 mod expecting;
+mod last_change;
 mod phases;
 mod random_rounds;
 mod reading;

@@ -44,7 +44,7 @@ const LINES = [
   ['lose N', 'datagram N is lost: it comes to nobody from now on'],
   ['round NOW', 'every router ticks, then all that was sent comes'],
   ['rounds K NOW GAP', 'K rounds, at NOW and each GAP later'],
-  ['phases K SEED', 'K minutes, in each of which every regular update comes; the rest is chance, by the seed'],
+  ['phases K SEED', 'K minutes, in each of which every regular update comes; the rest is chance. Says which last changed a table'],
   ['cut LINK', 'nothing crosses the link in tell, hear and rounds'],
   ['mend LINK', 'all crosses it again'],
   ['silent R', 'router R takes no part in them'],
@@ -82,11 +82,12 @@ const HAPPENED = {
   cost: event => `has cost ${event.cost} at interface ${event.iface}`,
   gain: event => `owns ${event.prefix} with tag ${event.tag}`,
   drop: event => `gives up ${event.prefix}`,};
-function describe({ record, why, routers, router, event, sent, changes, prints, datagram }) {
+function describe({ record, why, routers, router, event, sent, changes, prints, datagram, phases, last }) {
   if (record === 'start') return `cold start of ${plural(routers.length, 'router')}, ${sent.length} sent`;
   if (record === 'refused' && why.startsWith('expected')) return why;
   if (record === 'refused') return `refused ${why}${reasonOf(why.split(' ').findLast(word => REASONS.has(word)))}`;
   if (record === 'lost') return `datagram ${datagram} is lost`;
+  if (record === 'phases') return `${plural(phases, 'phase')}, ${last === null ? 'no table changed' : `last change in ${last}`}`;
   if (record !== 'event') return `${record}: ${plural(prints.length, 'line')}`;
   const becomes = ({ change, metric }) => change === 'add' ? `at ${metric}` : 'withdrawn';
   const one = changes.map(change => `, ${change.prefix} ${becomes(change)}`);

@@ -211,7 +211,7 @@ tick 2 31000 0
 tell 3 45000 0 but 0
 print
 # The walks to router 2 cost 2 from its neighbors, and from router 0 by way of router 1 1 + 1 + 5 = 7; over the dear link it would
-# be 1 + 1 + 9 = 11. 28 phases leave each table with these, whatever the seed.
+# be 1 + 1 + 9 = 11. 28 phases leave each table with these, whatever the seed; which of them last changes a table is chance, too.
 phases 28 7
 print
 </div>

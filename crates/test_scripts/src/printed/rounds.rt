@@ -158,7 +158,7 @@ fn printed(alloc: Global, prints: &str, from: (usize, &str)) -> Result<Option<us
     for line in prints.lines() {
         let words: Vec<&str> = line.split(' ').collect(alloc)?;
         if let [router, prefix, _, metric, ..] = words.as_slice()
-            && router.parse::<usize>()? == from.0
+            && router.parse::<usize>() == Ok(from.0)
             && *prefix == from.1
         {
             return Ok(Some(metric.parse::<usize>()?));

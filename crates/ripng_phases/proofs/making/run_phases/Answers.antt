@@ -1,6 +1,6 @@
-use Rattle.std.proofs.Common.{◌≡◌, ℕ, length, refl, subst, ◌∙◌, ap, arith}
+use Rattle.std.proofs.Common.{◌≡◌, ℕ, ◌+◌, Option, length, refl, sym, subst, ◌∙◌, ap, arith}
 use Rattle.ripng_phases.specs.Making.{AreMadePhases, HealsIn}
-use Rattle.ripng_phases.proofs.Together.{all_heal, all_made, in_part, none_so_far, one_more}
+use Rattle.ripng_phases.proofs.Together.{AreSoFar, all_heal, all_made, in_part, none_so_far, one_more}
 use Rattle.ripng_phases.proofs.making.run_phases.Goals as goal
 
 pub loop-done-init : goal.loop-done-init
@@ -14,16 +14,18 @@ loop-done-init g c =
 
 pub returns-in-Err-clause-stopped : goal.returns-in-Err-clause-stopped
 returns-in-Err-clause-stopped g c =
-    in_part g.V.Watch.takes c.args.lab.now.network (c.args.lab.now.world, c.args.watch.now) c.loop-done.done c.loop-done.begin c.loop-done.first (c.loop-done.lab, c.loop-done.watch) c.loop-done.invariant.so_far c.loop-done.invariant.network
-    g.V.Watch.fails c.in-Err.stopped (c.make_phase.new.lab, c.make_phase.new.watch) c.loop-done.invariant.begins.0 c.loop-done.invariant.begins.1 c.loop-done.invariant.begins.2 c.in-Err.ensures.made
+    in_part g.V.Watch.takes c.args.lab.now.network (c.args.lab.now.world, c.args.watch.now) c.loop-done.done c.loop-done.begin c.loop-done.first c.loop-done.last (c.loop-done.lab, c.loop-done.watch) c.loop-done.invariant.so_far c.loop-done.invariant.network
+    g.V.Watch.fails c.in-Err.stopped (c.compare_phase.new.lab, c.compare_phase.new.watch) c.loop-done.invariant.begins.0 c.loop-done.invariant.begins.1 c.loop-done.invariant.begins.2 c.in-Err.ensures.stopped
 
 pub loop-done-preserved : goal.loop-done-preserved
 loop-done-preserved g c =
     record {
       network = c.in-Ok.ensures.network ∙ c.loop-done.invariant.network;
       so_far =
-          one_more g.V.Watch.takes c.args.lab.now.network (c.args.lab.now.world, c.args.watch.now) c.loop-done.done c.loop-done.begin c.loop-done.first (c.loop-done.lab, c.loop-done.watch) c.loop-done.invariant.so_far
-          c.loop-done.invariant.network c.in-Ok.next (c.make_phase.new.lab, c.make_phase.new.watch) c.in-Ok.ensures.made;
+          subst (λ (last : Option ℕ). AreSoFar g.V.Watch.takes c.args.lab.now.network (c.args.lab.now.world, c.args.watch.now) (c.loop-done.done + 1) (c.loop-done.begin + 60_000) c.in-Ok.next last (c.compare_phase.new.lab.world, c.compare_phase.new.watch))
+          (sym c.last_change-last.ensures)
+          (one_more g.V.Watch.takes c.args.lab.now.network (c.args.lab.now.world, c.args.watch.now) c.loop-done.done c.loop-done.begin c.loop-done.first c.loop-done.last (c.loop-done.lab, c.loop-done.watch) c.loop-done.invariant.so_far
+          c.loop-done.invariant.network c.in-Ok.next c.in-Ok.stays (c.compare_phase.new.lab, c.compare_phase.new.watch) c.in-Ok.ensures.made c.in-Ok.ensures.compared);
       begins = let b = c.loop-done.invariant.begins in (b.0, b.1, (let e = b.2 in omega (arith, e)));
       within = c.in-Ok.ensures.made.next_in;
     }
@@ -31,12 +33,12 @@ loop-done-preserved g c =
 pub returns-clause-made : goal.returns-clause-made
 returns-clause-made g c =
     let all : c.loop-done.done ≡ c.args.phases = omega (arith, c.loop-done-test.false, c.loop-done.auto.done-end) in
-    subst (λ (n : ℕ). AreMadePhases g.V.Watch.takes c.args.lab.now.network (c.args.lab.now.world, c.args.watch.now) n (c.loop-done.lab.world, c.loop-done.watch)) all
-    (all_made g.V.Watch.takes c.args.lab.now.network (c.args.lab.now.world, c.args.watch.now) c.loop-done.done c.loop-done.begin c.loop-done.first (c.loop-done.lab.world, c.loop-done.watch) c.loop-done.invariant.so_far)
+    subst (λ (n : ℕ). AreMadePhases g.V.Watch.takes c.args.lab.now.network (c.args.lab.now.world, c.args.watch.now) n c.loop-done.last (c.loop-done.lab.world, c.loop-done.watch)) all
+    (all_made g.V.Watch.takes c.args.lab.now.network (c.args.lab.now.world, c.args.watch.now) c.loop-done.done c.loop-done.begin c.loop-done.first c.loop-done.last (c.loop-done.lab.world, c.loop-done.watch) c.loop-done.invariant.so_far)
 
 pub returns-clause-heals : goal.returns-clause-heals
 returns-clause-heals g c =
     let all : c.loop-done.done ≡ c.args.phases = omega (arith, c.loop-done-test.false, c.loop-done.auto.done-end) in
     subst (λ (n : ℕ). HealsIn c.args.lab.now.network c.args.lab.now.world n c.loop-done.lab.world) all
-    (all_heal g.V.Watch.takes c.args.lab.now.network (c.args.lab.now.world, c.args.watch.now) c.loop-done.done (c.loop-done.lab.world, c.loop-done.watch) c.has_run.ensures
-    (all_made g.V.Watch.takes c.args.lab.now.network (c.args.lab.now.world, c.args.watch.now) c.loop-done.done c.loop-done.begin c.loop-done.first (c.loop-done.lab.world, c.loop-done.watch) c.loop-done.invariant.so_far))
+    (all_heal g.V.Watch.takes c.args.lab.now.network (c.args.lab.now.world, c.args.watch.now) c.loop-done.done c.loop-done.last (c.loop-done.lab.world, c.loop-done.watch) c.has_run.ensures
+    (all_made g.V.Watch.takes c.args.lab.now.network (c.args.lab.now.world, c.args.watch.now) c.loop-done.done c.loop-done.begin c.loop-done.first c.loop-done.last (c.loop-done.lab.world, c.loop-done.watch) c.loop-done.invariant.so_far))

@@ -1,12 +1,12 @@
-use Rattle.std.proofs.lemmas.Result.{IfErr-at_err}
-use Rattle.ripng_phases.specs.Making.{AreMadeInPart}
-use Rattle.ripngd_lab.proofs.ScriptWatching.{on_ok, phases_told, phases_stopped, stops_in}
+use Rattle.std.proofs.lemmas.Result.{IfErr-at_err, IfOk-at_ok}
+use Rattle.ripng_phases.specs.Making.{AreMadeInPart, AreMadePhases}
+use Rattle.ripngd_lab.proofs.ScriptWatching.{phases_told, phases_stopped, stops_in}
 use Rattle.ripngd_lab.proofs.doing.run_phases.Goals as goal
 
 pub returns-in-Ok-clause-told : goal.returns-in-Ok-clause-told
 returns-in-Ok-clause-told g c =
-    phases_told g.V.Watch-1.starts g.V.Watch-2.takes g.V.Watch-2.fails g.V.Watch-1.notes c.args.lab.now c.run_phases-phase.new.lab c.args.watch.now c.run_phases-phase.new.watch c.run_phases-phase.result.0 c.run_phases-phase.ensures.network
-    (on_ok c.run_phases-phase.result.1 c.in-Ok.field-0 c.in-Ok.is c.run_phases-phase.ensures.made)
+    phases_told g.V.Watch-1.starts g.V.Watch-2.takes g.V.Watch-2.fails g.V.Watch-1.notes c.args.lab.now c.run_phases-phase.new.lab c.args.watch.now c.run_phases-phase.new.watch c.run_phases-phase.result.0 c.in-Ok.last c.run_phases-phase.ensures.network
+    (IfOk-at_ok (λ last. AreMadePhases g.V.Watch-2.takes c.args.lab.now.network (c.args.lab.now.world, c.args.watch.now) c.run_phases-phase.result.0 last (c.run_phases-phase.new.lab.world, c.run_phases-phase.new.watch)) c.in-Ok.is c.run_phases-phase.ensures.made)
 
 pub returns-in-Err-clause-told : goal.returns-in-Err-clause-told
 returns-in-Err-clause-told g c =

@@ -1,0 +1,82 @@
+//! What all routers of a network hold, as scripts print it: all of each route but its clock and its mark.
+
+ghost use Rattle.std.specs.Prelude.{◌≡◌, ◌++◌, ◌↔◌, IfOk, IsTrue, OnOk, length, map};
+ghost use Rattle.std.specs.FinMap as map_of;
+ghost use Rattle.ripng_phases.specs.Changing.{shown_below, shown_route};
+
+use prefix6::Prefix;
+use ripng_world::Lab;
+use route_table::{Origin, Route, RouteStore};
+use router_core::Router;
+use std::alloc::{AllocError, Global};
+
+/// A route of a router, but for its clock and its mark.
+#[derive(Clone, Copy, Debug, PartialEq, Eq)]
+pub struct ShownRoute {
+    pub router: usize,
+    pub prefix: Prefix,
+    pub metric: u8,
+    pub tag: u16,
+    pub origin: Origin,
+}
+
+/// What is shown of a route.
+fn shown_route(router: usize, prefix: Prefix, route: Route) -> ShownRoute
+    ensures { result ≡ shown_route router (prefix, route) }
+{
+    ShownRoute {
+        router,
+        prefix,
+        metric: route.metric(),
+        tag: route.tag(),
+        origin: route.origin(),
+    }
+}
+
+/// All routes of a table, in order.
+fn routes_in<S: RouteStore>(alloc: Global, table: &S) -> Result<Vec<(Prefix, Route)>, AllocError>
+    ensures { IfOk result (λ routes. routes.items ≡ map_of.entries (S.table table.now)) }
+{
+    let mut routes = Vec::with_capacity(alloc, table.len())?;
+    table.list(&mut routes);
+    Ok(routes)
+}
+
+/// The routes of the router of a number are shown behind others.
+fn show<S: RouteStore>(
+    alloc: Global,
+    number: usize,
+    router: &Router<S>,
+    shown: &mut Vec<ShownRoute>,
+) -> Result<(), AllocError>
+    ensures { OnOk result (shown.new.items ≡ shown.old.items ++ map (shown_route number) (map_of.entries router.now.table)) }
+{
+    let routes = routes_in(alloc, router.routes())?;
+    for (prefix, route) in &routes {
+        shown.push(shown_route(number, *prefix, *route))?;
+    }
+    Ok(())
+}
+
+/// What all routers hold, router by router, and of each in the order of prefixes.
+pub fn shown_routes<S: RouteStore>(
+    alloc: Global,
+    lab: &Lab<S>,
+) -> Result<Vec<ShownRoute>, AllocError>
+    ensures { IfOk result (λ shown. shown.items ≡ shown_below lab.now.world.states (length lab.now.network)) }
+{
+    let mut shown = Vec::new(alloc);
+    for number in 0..lab.routers() {
+        if let Some(router) = lab.router(number) {
+            show(alloc, number, router, &mut shown)?;
+        }
+    }
+    Ok(shown)
+}
+
+/// Whether two showings are the same.
+pub fn are_same(before: &[ShownRoute], after: &[ShownRoute]) -> bool
+    ensures { IsTrue result ↔ (before.now ≡ after.now) }
+{
+    before == after
+}
