@@ -77,7 +77,7 @@ film_of() {
     play film "$folder/film.html" || return
     local steps
     steps=$("$program" lab --trace "$1" | wc -l)
-    same "what is shown" "$(sed -n 's/^print //p' "$folder/report")" "$("$program" lab "$1" | grep -v '^line [0-9]* refused')" &&
+    same "what is shown" "$(sed -n 's/^print //p' "$folder/report")" "$("$program" lab "$1" | grep -v -e '^line [0-9]* refused' -e '^phases ')" &&
         same "the number of steps" "$(sed -n 's/^steps //p' "$folder/report")" "$steps" &&
         same "the step gone back to" "$(grep -o '^step 1 of [0-9]*' "$folder/report")" "step 1 of $steps" || return
     [ "$(sed -n 's/^walks //p' "$folder/report")" -gt 0 ] || because "no walk was seen"

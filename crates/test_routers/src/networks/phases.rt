@@ -15,7 +15,7 @@ use std::test::Fail;
 /// The last moment that there is.
 const LAST_MS: u64 = 1 << 60;
 
-type Outcome = Result<(), Stopped<PhaseRefused, Infallible>>;
+type Outcome = Result<Option<usize>, Stopped<PhaseRefused, Infallible>>;
 
 /// So many phases by chance, from that seed.
 fn phases(alloc: Global, lab: &mut Lab<SortedRoutes>, count: usize, seed: u64) -> (usize, Outcome) {
@@ -23,16 +23,19 @@ fn phases(alloc: Global, lab: &mut Lab<SortedRoutes>, count: usize, seed: u64) -
     run_phases(alloc, lab, count, &mut rng, &mut Unwatched)
 }
 
-/// The first router owns the prefix. The way round is as dear as its link: 1 + 1 + 1 hops, and 9.
+/// The first router owns the prefix. The way round is as dear as its link: 1 + 1 + 1 hops, and 9. Nothing changes once it is found:
+/// the phases that are made then have no last change.
 #[test]
 fn phases_find_the_least_costs(rt: HostRuntime) -> Result<(), Fail> {
     let alloc = rt.alloc();
     for seed in 0..8 {
         let mut lab = square_at(alloc, moment(0)?)?;
         let (made, outcome) = phases(alloc, &mut lab, 28, seed);
-        outcome.ok().ok_or("phases")?;
+        assert!(rt; outcome.ok().ok_or("phases")?.is_some());
         assert_eq!(rt; made, 28);
         assert_eq!(rt; metrics(&lab)?, [1, 2, 3, 4]);
+        let (_, outcome) = phases(alloc, &mut lab, 2, seed);
+        assert_eq!(rt; outcome.ok().ok_or("phases")?, None);
     }
     Ok(())
 }
