@@ -7,6 +7,7 @@ ghost use Rattle.ripngd_udp.specs.Peers.{ChangesLink, RefusesFor, adding_fault, 
 ghost use Rattle.ripngd_udp.specs.Sockets.{failed_of, strangers_of};
 ghost use Rattle.ripngd_udp.specs.Udp.{NamesPortOf, link_number, new_link};
 
+use crate::bind_cause::BindCause;
 use crate::endpoint::Endpoint;
 use crate::neighborhood::neighborhoods_at;
 use crate::peer_refused::PeerRefused;
@@ -25,8 +26,8 @@ use thiserror::Error;
 #[derive(Clone, Copy, Debug, PartialEq, Eq, Error)]
 pub enum UdpError {
     /// 1: no socket could be had at this port of 127.0.0.1.
-    #[error("cannot bind {0}")]
-    Bind(u16),
+    #[error("cannot bind {port}: {cause}")]
+    Bind { port: u16, cause: BindCause },
     /// 2: there was no memory.
     #[error("out of memory")]
     OutOfMemory,
@@ -38,7 +39,7 @@ impl UdpError {
         ensures { result ≡ link_number self }
     {
         match self {
-            UdpError::Bind(_) => 1,
+            UdpError::Bind { .. } => 1,
             UdpError::OutOfMemory => 2,
         }
     }
@@ -63,8 +64,13 @@ fn endpoints_at<N: Net>(net: &N, alloc: Global, places: &[Place]) -> Result<Vec<
     let wait = wait_of(places.len());
     let mut endpoints = Vec::new(alloc);
     for place in places {
-        let Ok(endpoint) = Endpoint::open(net, alloc, place.local_port, wait) else {
-            return Err(UdpError::Bind(place.local_port));
+        let port = place.local_port;
+        let endpoint = match Endpoint::open(net, alloc, port, wait) {
+            Ok(endpoint) => endpoint,
+            Err(error) => {
+                let cause = BindCause::of(&error);
+                return Err(UdpError::Bind { port, cause });
+            }
         };
         endpoints.push(endpoint).map_err(|_| UdpError::OutOfMemory)?;
     }
@@ -91,7 +97,7 @@ impl<'a, R: Clock> Udp<'a, R> {
     /// An interface at each place, in order, with its peers.
     ///
     /// # Errors
-    /// `Bind` with the first local port that cannot be bound. What was bound before is given up.
+    /// `Bind` with the first local port that cannot be bound, and why. What was bound before is given up.
     pub fn bind(
         rt: &'a R,
         alloc: Global,
