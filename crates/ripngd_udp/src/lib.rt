@@ -8,9 +8,12 @@ mod neighborhood;
 mod outbox;
 mod pace;
 mod peer_refused;
+mod reading;
 mod sending;
+mod socket;
 mod sockets;
 mod udp;
+mod waiting;
 
 pub use clock::Uptime;
 pub use neighborhood::PEER_LIMIT;
