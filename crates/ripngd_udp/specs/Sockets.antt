@@ -1,5 +1,5 @@
 -- The sockets of all interfaces.
-use Rattle.std.specs.Prelude.{ℕ, ◌==◌, ◌&&◌, ◌+◌, ◌-◌, ◌^◌, ◌≤◌, not, Bool, List, [], ◌∷◌, Option, None, Some, if◌then◌else◌, length, min, nat_le}
+use Rattle.std.specs.Prelude.{ℕ, ◌==◌, ◌&&◌, ◌+◌, ◌-◌, ◌^◌, ◌≤◌, not, Bool, List, [], ◌∷◌, Option, None, Some, if◌then◌else◌, drop, length, min}
 use Rattle.std.specs.List.{list_all, sum_by}
 use Rattle.std.specs.Option.{option_or}
 use Rattle.ripngd_udp.specs.Queue.{until_open}
@@ -26,14 +26,18 @@ none_heard endpoints = list_all has_none endpoints
 abbrev pub is_quiet : {S : Type 0} → Endpoint S → Bool
 is_quiet e = has_none e && not e.ready
 
--- the first interface, counted from a number, that has at least another number and at which a datagram waits for the router
-abbrev pub first_heard : {S : Type 0} → ℕ → ℕ → List (Endpoint S) → Option ℕ
-first_heard least number [] = None
-first_heard least number (e ∷ es) = if nat_le least number && not (has_none e) then Some number else first_heard least (number + 1) es
+-- the first at which a datagram waits for the router, of interfaces that are counted from a number
+abbrev pub first_from : {S : Type 0} → ℕ → List (Endpoint S) → Option ℕ
+first_from number [] = None
+first_from number (e ∷ es) = if has_none e then first_from (number + 1) es else Some number
+
+-- the first from an interface on
+abbrev pub first_heard : {S : Type 0} → ℕ → List (Endpoint S) → Option ℕ
+first_heard least endpoints = first_from least (drop least endpoints)
 
 -- which interface is served: the first from the next one on at which a datagram waits, and else the first of all
 abbrev pub served : {S : Type 0} → ℕ → List (Endpoint S) → Option ℕ
-served next endpoints = option_or (first_heard next 0 endpoints) (first_heard 0 0 endpoints)
+served next endpoints = option_or (first_heard next endpoints) (first_heard 0 endpoints)
 
 -- how long it is until more may be sent on an interface where something waits, at most so long, and so long where nothing does
 abbrev pub until_due : {S : Type 0} → ℕ → Endpoint S → ℕ → ℕ
@@ -44,10 +48,10 @@ abbrev pub until_any_due : {S : Type 0} → ℕ → List (Endpoint S) → ℕ �
 until_any_due now [] most = most
 until_any_due now (e ∷ es) most = until_any_due now es (until_due now e most)
 
--- how long may be waited at a moment of a turn that ends at another and may wait so long yet: not at all where something has come or
--- a socket is to be read, else to the end of the turn, or until more may be sent
-abbrev pub limit_of : {S : Type 0} → ℕ → ℕ → ℕ → List (Endpoint S) → ℕ
-limit_of now end left endpoints = if list_all is_quiet endpoints then until_any_due now endpoints (min (end - now) left) else 0
+-- how long may be waited at a moment of a turn that ends at another: not at all where something has come or a socket is to be read,
+-- else to the end of the turn, 50 milliseconds at most, or until more may be sent
+abbrev pub limit_of : {S : Type 0} → ℕ → ℕ → List (Endpoint S) → ℕ
+limit_of now end endpoints = if list_all is_quiet endpoints then until_any_due now endpoints (min (end - now) 50) else 0
 
 -- how many sends failed late on all interfaces together, up to the greatest u64
 abbrev pub failed_of : {S : Type 0} → List (Endpoint S) → ℕ

@@ -25,7 +25,7 @@ const TAKEN_AT_ONCE: u32 = 512;
 /// The socket of an interface.
 #[derive(Drop)]
 pub(crate) struct Endpoint<S> {
-    socket: S,
+    pub(crate) socket: S,
     outbox: Outbox,
     inbox: Inbox,
     /// How many datagrams came from where none of the peers stands.

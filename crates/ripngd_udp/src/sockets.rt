@@ -1,7 +1,7 @@
 //! The sockets of all interfaces: when they are read, when they are sent to, and how long they are waited for.
 
 ghost use Rattle.std.specs.Prelude.{◌≡◌, ◌<◌, ◌≤◌, ◌⊎◌, [], ◌∷◌, ℕ, List, true, IfOk, IfSome, IsNone, length, vec_len};
-ghost use Rattle.std.specs.List.{list_all, sum};
+ghost use Rattle.std.specs.List.{All, list_all};
 ghost use Rattle.ripngd_engine.specs.Telling.{Gains};
 ghost use Rattle.ripngd_udp.specs.Sockets.{failed_of, is_quiet, limit_of, lost_of, none_heard, none_waits, strangers_of, until_any_due};
 
@@ -138,14 +138,14 @@ impl<'a, R: Clock, S: Carrier + Source + Drop, W: Waiting + Drop> Sockets<'a, R,
         left
     }
 
-    /// How long may be waited at a moment of a turn that ends at another and may wait so long yet, in milliseconds: not at all
-    /// where something has come or a socket is to be read, and else to its end, or until more may be sent.
-    fn limit(&self, now: u64, end: u64, left: u64) -> u64
-        ensures limit { result ≡ limit_of now end left self.now.endpoints.items }
-        ensures most { result ≤ left }
+    /// How long may be waited at a moment of a turn that ends at another, in milliseconds: not at all where something has come
+    /// or a socket is to be read, and else to its end, 50 at most, or until more may be sent.
+    fn limit(&self, now: u64, end: u64) -> u64
+        ensures limit { result ≡ limit_of now end self.now.endpoints.items }
+        ensures most { result ≤ 50 }
     {
         if self.is_quiet() {
-            self.until_due(now, end.saturating_sub(now).min(left))
+            self.until_due(now, end.saturating_sub(now).min(WAIT_MS))
         } else {
             0
         }
@@ -215,7 +215,7 @@ impl<'a, R: Clock, S: Carrier + Source + Drop, W: Waiting + Drop> Sockets<'a, R,
     /// # Errors
     /// Where a socket could not be read, or they could not be waited for.
     pub(crate) fn recv(&mut self, buffer: &mut [u8]) -> Result<Option<Received>, LinkFault>
-        ensures waits { (limits : List ℕ) × Gains (W.waits self.old.waiting) (W.waits self.new.waiting) limits × (sum limits ≤ 50) }
+        ensures waits { (limits : List ℕ) × Gains (W.waits self.old.waiting) (W.waits self.new.waiting) limits × All (λ l. l ≤ 50) limits }
         ensures interface { IfOk result (λ o. IfSome o (λ r. r.iface < vec_len self.old.endpoints)) }
         ensures within { IfOk result (λ o. IfSome o (λ r. r.len ≤ length buffer.new)) }
         ensures failed { failed_of self.old.endpoints.items ≤ failed_of self.new.endpoints.items }
@@ -225,14 +225,12 @@ impl<'a, R: Clock, S: Carrier + Source + Drop, W: Waiting + Drop> Sockets<'a, R,
         ensures strangers { strangers_of self.old.endpoints.items ≤ strangers_of self.new.endpoints.items }
     {
         let end = self.clock.now().ms().saturating_add(WAIT_MS);
-        let mut left = WAIT_MS;
         for _ in 0..LOOKS {
             self.send_due();
             let now = self.clock.now().ms();
-            let limit = self.limit(now, end, left);
+            let limit = self.limit(now, end);
             let given = self.poll(limit, buffer)?;
-            left -= limit;
-            if given.is_some() || left == 0 || self.clock.now().ms() >= end {
+            if given.is_some() || self.clock.now().ms() >= end {
                 return Ok(given);
             }
         }
@@ -264,10 +262,10 @@ impl<'a, R: Clock, S: Carrier + Source + Drop, W: Waiting + Drop> Sockets<'a, R,
         ensures all { none_waits self.new.endpoints.items ≡ true }
     {
         for _ in 0..LAST_WAITS {
+            self.send_due();
             if self.has_sent() {
                 return;
             }
-            self.send_due();
             let now = self.clock.now().ms();
             let nap = self.until_due(now, NAP_MS);
             thread::sleep(self.rt, Duration::from_millis(nap));

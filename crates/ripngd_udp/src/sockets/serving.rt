@@ -11,22 +11,23 @@ use ripngd_engine::Received;
 use std::rt::Clock;
 
 impl<R: Clock, S: Carrier + Source + Drop, W: Waiting + Drop> Sockets<'_, R, S, W> {
-    /// The first interface, of those that have at least a number, at which a datagram waits.
+    /// The first interface from one on at which a datagram waits.
     fn first_heard(&self, least: usize) -> Option<usize>
-        ensures { result ≡ first_heard least 0 self.now.endpoints.items }
+        ensures first { result ≡ first_heard least self.now.endpoints.items }
+        ensures interface { IfSome result (λ i. i < vec_len self.now.endpoints) }
     {
-        let mut found = None;
-        for (iface, endpoint) in self.endpoints.iter().enumerate() {
-            if found.is_none() && least <= iface && !endpoint.has_none() {
-                found = Some(iface);
+        for iface in least..self.endpoints.len() {
+            if !self.endpoints[iface].has_none() {
+                return Some(iface);
             }
         }
-        found
+        None
     }
 
     /// The interface whose turn it is, of those at which a datagram waits.
     fn served(&self) -> Option<usize>
-        ensures { result ≡ served self.now.next self.now.endpoints.items }
+        ensures turn { result ≡ served self.now.next self.now.endpoints.items }
+        ensures interface { IfSome result (λ i. i < vec_len self.now.endpoints) }
     {
         self.first_heard(self.next).or(self.first_heard(0))
     }

@@ -1,0 +1,19 @@
+use Rattle.std.proofs.Common.{◌+◌, List, arith, ap, sum_by, take}
+use Rattle.std.proofs.lemmas.List.Sums.{sum_by_more}
+use Rattle.ripngd_udp.specs.declared.endpoint.Endpoint.{Endpoint}
+use Rattle.ripngd_udp.proofs.sockets.telling.Sockets.strangers.Goals as goal
+
+pub loop-endpoint-preserved : goal.loop-endpoint-preserved
+loop-endpoint-preserved g c =
+    let endpoints = c.deref-endpoint-items.result.now in
+    let i = c.loop-endpoint.endpoint-index in
+    omega (
+      arith,
+      c.loop-endpoint.invariant,
+      c.strangers.ensures,
+      c.saturating_add-strangers.ensures,
+      ap (λ (e : Endpoint g.row.S). e.strangers) c.endpoint-item.is,
+      ap (λ (es : List (Endpoint g.row.S)). sum_by (λ e. e.strangers) (take i es)) c.deref-endpoint-items.ensures.value,
+      ap (λ (es : List (Endpoint g.row.S)). sum_by (λ e. e.strangers) (take (i + 1) es)) c.deref-endpoint-items.ensures.value,
+      sum_by_more (λ (e : Endpoint g.row.S). e.strangers) endpoints i c.endpoint-item.result c.loop-endpoint-test.true,
+    )
