@@ -18,6 +18,8 @@ Takes-none i t a = ([], Gains-nil t, refl)
 -- it was read once more
 pub Takes-more : (i : OnLink) (s t u : Option (List Read)) (a b c : Intake) (more : Result Bool LinkFault) → Takes i s t a b
     → (read : Read) × Gains t u (read ∷ []) × Brings i read b c more → Takes i s u a c
-Takes-more i s t u a b c more so_far last =
-    (so_far.0 ++ last.0 ∷ [], Gains-trans s t u so_far.0 (last.0 ∷ []) so_far.1 last.1,
-     BringsAll-append i so_far.0 (last.0 ∷ []) a b c so_far.2 (c, more, last.2, refl))
+Takes-more i s t u a b c more so_far last = (
+  so_far.0 ++ last.0 ∷ [],
+  Gains-trans s t u so_far.0 (last.0 ∷ []) so_far.1 last.1,
+  BringsAll-append i so_far.0 (last.0 ∷ []) a b c so_far.2 (c, more, last.2, refl),
+)

@@ -282,3 +282,4 @@ fn a_peer_that_is_not_up_fails_no_later_turn(rt: HostRuntime) -> Result<(), Fail
 
 mod pacing;
 mod peers;
+mod standing;
