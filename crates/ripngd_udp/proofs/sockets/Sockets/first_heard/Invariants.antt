@@ -1,6 +1,6 @@
 use Rattle.std.proofs.Common.{◌≡◌, drop, vec_len}
 use Rattle.ripngd_udp.specs.Sockets.{first_from}
-use Rattle.ripngd_udp.proofs.sockets.serving.Sockets.first_heard.Given as goal
+use Rattle.ripngd_udp.proofs.sockets.Sockets.first_heard.Given as goal
 
 -- it is the first of those that are left
 abbrev pub invariant-loop-iface : goal.invariant-loop-iface

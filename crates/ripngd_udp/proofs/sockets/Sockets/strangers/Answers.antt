@@ -1,7 +1,7 @@
 use Rattle.std.proofs.Common.{◌+◌, List, arith, ap, sum_by, take}
 use Rattle.std.proofs.lemmas.List.Sums.{sum_by_more}
 use Rattle.ripngd_udp.specs.declared.endpoint.Endpoint.{Endpoint}
-use Rattle.ripngd_udp.proofs.sockets.telling.Sockets.strangers.Goals as goal
+use Rattle.ripngd_udp.proofs.sockets.Sockets.strangers.Goals as goal
 
 pub loop-endpoint-preserved : goal.loop-endpoint-preserved
 loop-endpoint-preserved g c =
