@@ -1,3 +1,6 @@
 pub mod Sendings
 pub mod Queues
 pub mod Found
+pub mod Waits
+pub mod Serving
+pub mod Readings

@@ -9,9 +9,12 @@ mod neighborhood;
 mod outbox;
 mod pace;
 mod peer_refused;
+mod reading;
 mod sending;
+mod socket;
 mod sockets;
 mod udp;
+mod waiting;
 
 pub use bind_cause::BindCause;
 pub use clock::Uptime;

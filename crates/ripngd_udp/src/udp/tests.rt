@@ -1,7 +1,7 @@
 //! A link of sockets: what it gives, what it drops and what it sends. Every port is one that the system chose, so that
 //! runs side by side do not meet.
 
-use crate::endpoint::local;
+use crate::socket::local;
 use crate::udp::Udp;
 use prefix6::Addr6;
 use ripngd_config::{Peer, Place};
