@@ -4,3 +4,4 @@ pub mod Found
 pub mod Waits
 pub mod Serving
 pub mod Readings
+pub mod Turns

@@ -23,3 +23,8 @@ Takes-more i s t u a b c more so_far last = (
   Gains-trans s t u so_far.0 (last.0 ∷ []) so_far.1 last.1,
   BringsAll-append i so_far.0 (last.0 ∷ []) a b c so_far.2 (c, more, last.2, refl),
 )
+
+-- it was read some times, and then again
+pub Takes-then : (i : OnLink) (s t u : Option (List Read)) (a b c : Intake) → Takes i s t a b → Takes i t u b c → Takes i s u a c
+Takes-then i s t u a b c h k =
+    (h.0 ++ k.0, Gains-trans s t u h.0 k.0 h.1 k.1, BringsAll-append i h.0 k.0 a b c h.2 k.2)

@@ -6,3 +6,4 @@ pub mod Queue
 pub mod Inbox
 pub mod Reading
 pub mod Sockets
+pub mod Turns

@@ -177,8 +177,9 @@ impl<S: Carrier + Source> Endpoint<S> {
             (Gives iface self.old.inbox.heard.items self.new.inbox.heard.items buffer.new) }
         ensures interface { IfSome result (λ r. r.iface ≡ iface) }
         ensures within { IfSome result (λ r. r.len ≤ length buffer.new) }
-        ensures same { (self.new.outbox ≡ self.old.outbox) × (self.new.strangers ≡ self.old.strangers)
-            × (self.new.inbox.lost ≡ self.old.inbox.lost) × (length buffer.new ≡ length buffer.old) }
+        ensures same { self.new ≡ record self.old { inbox = self.new.inbox } }
+        ensures lost { self.new.inbox.lost ≡ self.old.inbox.lost }
+        ensures len { length buffer.new ≡ length buffer.old }
     {
         self.inbox.next(iface, buffer)
     }
@@ -192,7 +193,7 @@ impl<S: Carrier + Source> Endpoint<S> {
     ) -> Result<(), LinkFault>
         ensures failed { self.new.outbox.failed ≡ self.old.outbox.failed }
         ensures strangers { self.new.strangers ≡ self.old.strangers }
-        ensures heard { self.new.inbox ≡ self.old.inbox }
+        ensures heard { (self.new.inbox ≡ self.old.inbox) × (self.new.ready ≡ self.old.ready) }
     {
         self.outbox
             .send(&mut self.socket, neighborhood, outgoing, now)
@@ -204,7 +205,7 @@ impl<S: Carrier + Source> Endpoint<S> {
         ensures due { self.old.outbox.pace.since + 4 ≤ now
             → length self.new.outbox.waiting.items ≡ length self.old.outbox.waiting.items - 16 }
         ensures strangers { self.new.strangers ≡ self.old.strangers }
-        ensures heard { self.new.inbox ≡ self.old.inbox }
+        ensures heard { (self.new.inbox ≡ self.old.inbox) × (self.new.ready ≡ self.old.ready) }
     {
         self.outbox.send_due(&mut self.socket, neighborhood, now);
     }
@@ -214,7 +215,7 @@ impl<S: Carrier + Source> Endpoint<S> {
         ensures all { self.new.outbox.waiting.items ≡ [] }
         ensures failed { self.old.outbox.failed ≤ self.new.outbox.failed }
         ensures strangers { self.new.strangers ≡ self.old.strangers }
-        ensures heard { self.new.inbox ≡ self.old.inbox }
+        ensures heard { (self.new.inbox ≡ self.old.inbox) × (self.new.ready ≡ self.old.ready) }
     {
         self.outbox.send_all(&mut self.socket, neighborhood);
     }

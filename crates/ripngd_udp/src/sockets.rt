@@ -1,9 +1,10 @@
 //! The sockets of all interfaces: when they are read, when they are sent to, and how long they are waited for.
 
-ghost use Rattle.std.specs.Prelude.{◌≡◌, ◌<◌, ◌≤◌, ◌⊎◌, [], ◌∷◌, true, IfOk, IfSome, IsNone, length, vec_len};
-ghost use Rattle.std.specs.List.{list_all};
+ghost use Rattle.std.specs.Prelude.{◌≡◌, ◌<◌, ◌≤◌, ◌⊎◌, [], ◌∷◌, ℕ, List, true, IfOk, IfSome, IsNone, OnErr, OnOk, length, take, vec_len};
+ghost use Rattle.std.specs.List.{All, list_all};
 ghost use Rattle.ripngd_engine.specs.Telling.{Gains};
 ghost use Rattle.ripngd_udp.specs.Sockets.{failed_of, is_quiet, limit_of, lost_of, none_heard, none_waits, strangers_of, until_any_due};
+ghost use Rattle.ripngd_udp.specs.Turns.{TakesOnEach, inboxes, tell_all};
 
 use crate::clock::Uptime;
 use crate::endpoint::Endpoint;
@@ -77,7 +78,8 @@ impl<'a, R: Clock, S: Carrier + Source + Drop, W: Waiting + Drop> Sockets<'a, R,
         ensures same { vec_len self.new.endpoints ≡ vec_len self.old.endpoints }
         ensures on_links { self.new.neighborhoods ≡ self.old.neighborhoods }
         ensures strangers { strangers_of self.new.endpoints.items ≡ strangers_of self.old.endpoints.items }
-        ensures heard { lost_of self.new.endpoints.items ≡ lost_of self.old.endpoints.items }
+        ensures heard { inboxes self.new.endpoints.items ≡ inboxes self.old.endpoints.items }
+        ensures lost { lost_of self.new.endpoints.items ≡ lost_of self.old.endpoints.items }
         ensures waits { self.new.waiting ≡ self.old.waiting }
     {
         let now = self.clock.now().ms();
@@ -94,7 +96,8 @@ impl<'a, R: Clock, S: Carrier + Source + Drop, W: Waiting + Drop> Sockets<'a, R,
         ensures same { vec_len self.new.endpoints ≡ vec_len self.old.endpoints }
         ensures on_links { self.new.neighborhoods ≡ self.old.neighborhoods }
         ensures strangers { strangers_of self.new.endpoints.items ≡ strangers_of self.old.endpoints.items }
-        ensures heard { lost_of self.new.endpoints.items ≡ lost_of self.old.endpoints.items }
+        ensures heard { inboxes self.new.endpoints.items ≡ inboxes self.old.endpoints.items }
+        ensures lost { lost_of self.new.endpoints.items ≡ lost_of self.old.endpoints.items }
         ensures all { none_waits self.new.endpoints.items ≡ true }
     {
         for iface in 0..self.endpoints.len() {
@@ -158,6 +161,9 @@ impl<'a, R: Clock, S: Carrier + Source + Drop, W: Waiting + Drop> Sockets<'a, R,
     fn look(&mut self, limit: u64) -> Result<(), LinkFault>
         requires { (limit ≡ 0) ⊎ (list_all is_quiet self.old.endpoints.items ≡ true) }
         ensures waits { Gains (W.waits self.old.waiting) (W.waits self.new.waiting) (limit ∷ []) }
+        ensures told { OnOk result (self.new.endpoints.items
+            ≡ tell_all (take (vec_len self.old.endpoints) (W.tells self.new.waiting)) self.old.endpoints.items) }
+        ensures err { OnErr result (self.new.endpoints ≡ self.old.endpoints) }
         ensures failed { failed_of self.new.endpoints.items ≡ failed_of self.old.endpoints.items }
         ensures lost { lost_of self.new.endpoints.items ≡ lost_of self.old.endpoints.items }
         ensures same { vec_len self.new.endpoints ≡ vec_len self.old.endpoints }
@@ -183,6 +189,7 @@ impl<'a, R: Clock, S: Carrier + Source + Drop, W: Waiting + Drop> Sockets<'a, R,
         ensures on_links { self.new.neighborhoods ≡ self.old.neighborhoods }
         ensures strangers { strangers_of self.old.endpoints.items ≤ strangers_of self.new.endpoints.items }
         ensures waits { self.new.waiting ≡ self.old.waiting }
+        ensures taken { TakesOnEach S.reads self.old.neighborhoods.items self.old.endpoints.items self.new.endpoints.items }
     {
         for iface in 0..self.endpoints.len() {
             if let Some(endpoint) = self.endpoints.get_mut(iface) {
@@ -215,6 +222,7 @@ impl<'a, R: Clock, S: Carrier + Source + Drop, W: Waiting + Drop> Sockets<'a, R,
     /// # Errors
     /// Where a socket could not be read, or they could not be waited for.
     pub(crate) fn recv(&mut self, buffer: &mut [u8]) -> Result<Option<Received>, LinkFault>
+        ensures waits { (limits : List ℕ) × Gains (W.waits self.old.waiting) (W.waits self.new.waiting) limits × All (λ l. l ≤ 50) limits }
         ensures interface { IfOk result (λ o. IfSome o (λ r. r.iface < vec_len self.old.endpoints)) }
         ensures within { IfOk result (λ o. IfSome o (λ r. r.len ≤ length buffer.new)) }
         ensures failed { failed_of self.old.endpoints.items ≤ failed_of self.new.endpoints.items }

@@ -1,6 +1,6 @@
 //! The wait for datagrams: at all sockets of a link at once, by the system's own list of those that have something to read.
 
-ghost use Rattle.std.specs.Prelude.{[], ◌∷◌, ℕ, List, Option};
+ghost use Rattle.std.specs.Prelude.{◌≡◌, [], ◌∷◌, ℕ, List, Option, slice_get};
 ghost use Rattle.ripngd_engine.specs.Telling.{Gains};
 
 use mio::unix::SourceFd;
@@ -18,6 +18,9 @@ pub(crate) trait Waiting {
     // How long each wait so far could last, in milliseconds, where it tells them.
     ghost waits: { Self → Option (List ℕ) };
 
+    // The interfaces of the sockets that the last wait told of.
+    ghost tells: { Self → List ℕ };
+
     /// Waits for so many milliseconds at most, until some socket has something to read.
     ///
     /// # Errors
@@ -26,7 +29,8 @@ pub(crate) trait Waiting {
         ensures gained { Gains (waits self.old) (waits self.new) (limit_ms ∷ []) };
 
     /// The interface of the first socket that the last wait told of, of the second, and so on.
-    fn told(&self, place: usize) -> Option<usize>;
+    fn told(&self, place: usize) -> Option<usize>
+        ensures { result ≡ slice_get (tells self.now) place };
 }
 
 /// The system's list of sockets.
@@ -56,10 +60,14 @@ impl Polled {
 }
 
 impl Waiting for Polled {
-    ghost use Rattle.std.specs.Prelude.{None};
+    ghost use Rattle.std.specs.Prelude.{None, map};
+    ghost use Rattle.mio.specs.Event.{event_token};
+    ghost use Rattle.mio.specs.Events.{items};
 
     // The system promises nothing.
     ghost waits = { λ _. None };
+
+    ghost tells = { λ p. map (λ e. (event_token e).0) (items p.events) };
 
     fn wait(&mut self, limit_ms: u64) -> Result<(), LinkFault> {
         let limit = Duration::from_millis(limit_ms);

@@ -2,6 +2,7 @@
 
 ghost use Rattle.std.specs.Prelude.{◌≡◌, ◌+◌, ◌<◌, ◌≤◌, true, IfSome, IsNone, Some, length, vec_len};
 ghost use Rattle.ripngd_udp.specs.Sockets.{failed_of, first_heard, lost_of, none_heard, served, strangers_of};
+ghost use Rattle.ripngd_udp.specs.Turns.{GivesOne};
 
 use super::Sockets;
 use crate::reading::Source;
@@ -35,6 +36,7 @@ impl<R: Clock, S: Carrier + Source + Drop, W: Waiting + Drop> Sockets<'_, R, S, 
     /// The first datagram of the interface whose turn it is. The one behind it is served next.
     pub(super) fn give(&mut self, buffer: &mut [u8]) -> Option<Received>
         ensures turn { IfSome result (λ r. (served self.old.next self.old.endpoints.items ≡ Some r.iface) × (self.new.next ≡ r.iface + 1)) }
+        ensures given { IfSome result (GivesOne self.old.endpoints.items self.new.endpoints.items buffer.new) }
         ensures silent { IsNone result → none_heard self.new.endpoints.items ≡ true }
         ensures interface { IfSome result (λ r. r.iface < vec_len self.old.endpoints) }
         ensures within { IfSome result (λ r. r.len ≤ length buffer.new) }

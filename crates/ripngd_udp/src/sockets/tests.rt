@@ -1,5 +1,5 @@
-//! When the sockets of two interfaces are read, what they give and send, and how long a turn waits. Sockets, the wait and the clock
-//! are doubles that keep what they were asked.
+//! The sockets of two interfaces: when they are read, what they give and send, and how long a turn waits. Sockets, the wait and
+//! the clock are doubles that keep what they were asked.
 
 use super::Sockets;
 use crate::endpoint::Endpoint;
@@ -16,7 +16,7 @@ use std::alloc::{AllocError, Global};
 use std::cell::Cell;
 use std::collections::VecDeque;
 use std::io::{self, ErrorKind};
-use std::net::{IpAddr, Ipv4Addr, SocketAddr};
+use std::net::SocketAddr;
 use std::rt::Clock;
 use std::test::Fail;
 use std::time::Duration;
@@ -111,6 +111,8 @@ impl Waiting for Telling<'_> {
     ghost use Rattle.std.specs.Prelude.{None};
 
     ghost waits = { λ _. None };
+
+    ghost tells = { λ t. t.told.items };
 
     fn wait(&mut self, limit_ms: u64) -> Result<(), LinkFault> {
         self.limits.push(limit_ms).map_err(|_| LinkFault)?;
@@ -254,161 +256,5 @@ fn sent(sockets: &Doubles<'_>, iface: usize, ports: (u16, u16)) -> Option<u8> {
     Some(number)
 }
 
-#[test]
-fn an_idle_turn_waits_once_and_reads_no_socket(rt: HostRuntime) -> Result<(), Fail> {
-    let clock = clock_at_0();
-    let mut sockets = doubles(&clock, rt.alloc())?;
-    assert_eq!(rt; given(&mut sockets)?, None);
-    assert!(rt; waits(&sockets) == [50].as_slice());
-    assert_eq!(rt; (reads(&sockets, 0), reads(&sockets, 1)), (0, 0));
-    assert_eq!(rt; clock.now_ms.get(), 50);
-    Ok(())
-}
-
-#[test]
-fn what_comes_is_read_at_once_and_no_other_socket_is(rt: HostRuntime) -> Result<(), Fail> {
-    let clock = clock_at_0();
-    let mut sockets = doubles(&clock, rt.alloc())?;
-    comes(&mut sockets, 1, &[byte_of(5, 7), byte_of(4, 8)])?;
-    assert_eq!(rt; given(&mut sockets)?, Some((1, 5, 7)));
-    assert_eq!(rt; given(&mut sockets)?, Some((1, 4, 8)));
-    // The second datagram was there, so the second turn did not wait.
-    assert!(rt; waits(&sockets) == [50, 0].as_slice());
-    // Two datagrams and one silence, after which the socket is left until it is told of.
-    assert_eq!(rt; (reads(&sockets, 0), reads(&sockets, 1)), (0, 3));
-    assert_eq!(rt; given(&mut sockets)?, None);
-    assert_eq!(rt; (reads(&sockets, 0), reads(&sockets, 1)), (0, 3));
-    assert_eq!(rt; clock.now_ms.get(), 50);
-    Ok(())
-}
-
-#[test]
-fn interfaces_are_served_in_turn(rt: HostRuntime) -> Result<(), Fail> {
-    let clock = clock_at_0();
-    let mut sockets = doubles(&clock, rt.alloc())?;
-    comes(
-        &mut sockets,
-        0,
-        &[byte_of(2, 0), byte_of(3, 1), byte_of(2, 2), byte_of(2, 3)],
-    )?;
-    comes(&mut sockets, 1, &[byte_of(4, 4), byte_of(5, 5)])?;
-    for wanted in [
-        (0, 2, 0),
-        (1, 4, 4),
-        (0, 3, 1),
-        (1, 5, 5),
-        (0, 2, 2),
-        (0, 2, 3),
-    ] {
-        assert_eq!(rt; given(&mut sockets)?, Some(wanted));
-    }
-    assert_eq!(rt; given(&mut sockets)?, None);
-    Ok(())
-}
-
-#[test]
-fn a_neighbor_without_end_takes_no_room_of_another_interface(rt: HostRuntime) -> Result<(), Fail> {
-    let clock = clock_at_0();
-    let mut sockets = doubles(&clock, rt.alloc())?;
-    comes(&mut sockets, 0, &[])?;
-    if let Some(endpoint) = sockets.endpoints.get_mut(0) {
-        endpoint.socket.then = byte_of(2, 9);
-    }
-    // A turn takes in 512 and gives one: after 32 turns 16,352 wait, so the next has room for 32, and each later one for one.
-    for _ in 0..40 {
-        assert_eq!(rt; given(&mut sockets)?, Some((0, 2, 9)));
-    }
-    assert_eq!(rt; sockets.lost_arrivals(), 8);
-    comes(&mut sockets, 1, &[byte_of(4, 1), byte_of(5, 2)])?;
-    for wanted in [(1, 4, 1), (0, 2, 9), (1, 5, 2), (0, 2, 9)] {
-        assert_eq!(rt; given(&mut sockets)?, Some(wanted));
-    }
-    assert_eq!(rt; sockets.strangers(), 0);
-    Ok(())
-}
-
-#[test]
-fn a_stranger_is_dropped_and_does_not_end_the_wait(rt: HostRuntime) -> Result<(), Fail> {
-    let clock = clock_at_0();
-    let mut sockets = doubles(&clock, rt.alloc())?;
-    let elsewhere = SocketAddr::new(IpAddr::V4(Ipv4Addr::new(127, 0, 0, 2)), 5_002);
-    // A peer's port at another address, another port, and a peer of the other interface.
-    comes(
-        &mut sockets,
-        0,
-        &[
-            Answer::Byte(elsewhere, 1),
-            Answer::Byte(local(5_006), 2),
-            byte_of(4, 3),
-        ],
-    )?;
-    assert_eq!(rt; given(&mut sockets)?, None);
-    assert_eq!(rt; (sockets.strangers(), sockets.lost_arrivals()), (3, 0));
-    assert!(rt; waits(&sockets) == [50, 50].as_slice());
-    assert_eq!(rt; clock.now_ms.get(), 50);
-    Ok(())
-}
-
-#[test]
-fn a_read_that_fails_is_told_and_one_that_is_interrupted_comes_again(
-    rt: HostRuntime,
-) -> Result<(), Fail> {
-    let clock = clock_at_0();
-    let mut sockets = doubles(&clock, rt.alloc())?;
-    comes(
-        &mut sockets,
-        0,
-        &[Answer::Nothing(Unread::Interrupted), byte_of(2, 1)],
-    )?;
-    assert_eq!(rt; given(&mut sockets)?, Some((0, 2, 1)));
-    assert!(rt; waits(&sockets) == [50, 0].as_slice());
-    comes(
-        &mut sockets,
-        1,
-        &[Answer::Nothing(Unread::Failed), byte_of(4, 2)],
-    )?;
-    assert_eq!(rt; given(&mut sockets), Err(LinkFault));
-    assert_eq!(rt; given(&mut sockets)?, Some((1, 4, 2)));
-    Ok(())
-}
-
-#[test]
-fn what_waits_goes_at_its_pace_while_a_turn_waits(rt: HostRuntime) -> Result<(), Fail> {
-    let clock = clock_at_0();
-    let mut sockets = doubles(&clock, rt.alloc())?;
-    send(&mut sockets, rt.alloc(), 0, 36)?;
-    send(&mut sockets, rt.alloc(), 1, 3)?;
-    assert_eq!(rt; sent(&sockets, 0, (5_002, 5_003)), Some(16));
-    assert_eq!(rt; sent(&sockets, 1, (5_004, 5_005)), Some(3));
-    assert_eq!(rt; given(&mut sockets)?, None);
-    // 16 more after four milliseconds, and the last 4 after as many again.
-    assert!(rt; waits(&sockets) == [4, 4, 42].as_slice());
-    assert_eq!(rt; sent(&sockets, 0, (5_002, 5_003)), Some(36));
-    assert_eq!(rt; clock.now_ms.get(), 50);
-    Ok(())
-}
-
-#[test]
-fn a_turn_ends_in_time_though_it_was_disturbed(rt: HostRuntime) -> Result<(), Fail> {
-    let clock = clock_at_0();
-    let mut sockets = doubles(&clock, rt.alloc())?;
-    send(&mut sockets, rt.alloc(), 1, 17)?;
-    clock.now_ms.set(3);
-    // One millisecond is left of the pause, and 49 of the turn.
-    assert_eq!(rt; given(&mut sockets)?, None);
-    assert!(rt; waits(&sockets) == [1, 49].as_slice());
-    assert_eq!(rt; clock.now_ms.get(), 53);
-    Ok(())
-}
-
-#[test]
-fn the_end_of_a_run_sleeps_no_longer_than_the_pace_asks(rt: HostRuntime) -> Result<(), Fail> {
-    let clock = clock_at_0();
-    let mut sockets = doubles(&clock, rt.alloc())?;
-    send(&mut sockets, rt.alloc(), 0, 40)?;
-    sockets.finish();
-    assert_eq!(rt; sent(&sockets, 0, (5_002, 5_003)), Some(40));
-    assert_eq!(rt; clock.now_ms.get(), 8);
-    assert_eq!(rt; sockets.failed_sends(), 0);
-    Ok(())
-}
+mod pacing;
+mod taking;
