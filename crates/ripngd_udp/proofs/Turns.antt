@@ -1,12 +1,14 @@
 -- What a turn does at the sockets of all interfaces, one after another.
-use Rattle.std.proofs.Common.{◌≡◌, ◌∙◌, ◌+◌, ◌<◌, ◌≤◌, ℕ, zero, suc, Bool, true, false, Option, List, None, Some, [], ◌∷◌, ◌++◌, length, set, get_or, take, ap, sym, refl, arith}
-use Rattle.std.specs.Prelude.{⊤, ⊥, slice_get}
-use Rattle.ripngd_engine.specs.Telling.{Gains}
+use Rattle.std.proofs.Common.{◌≡◌, ◌∙◌, ◌+◌, ◌<◌, ◌≤◌, ℕ, zero, suc, Bool, true, false, Option, List, None, Some, [], ◌∷◌, ◌++◌, length, set, get_or, take, ap, sym, subst, refl, arith}
+use Rattle.std.specs.Prelude.{IfSome, MatchOption, slice_get}
+use Rattle.std.proofs.Math.Seq.{map-set_same}
+use Rattle.ripngd_engine.specs.declared.link.Received.{Received}
 use Rattle.ripngd_udp.proofs.Readings.{Takes-none, Takes-then}
 use Rattle.ripngd_udp.specs.Peers.{OnLink}
-use Rattle.ripngd_udp.specs.Reading.{Read, Takes}
+use Rattle.ripngd_udp.specs.Reading.{Read}
 use Rattle.ripngd_udp.specs.Sockets.{intake}
-use Rattle.ripngd_udp.specs.Turns.{TakesIfTold, TakesOnEach, tell_all, tell_at}
+use Rattle.ripngd_udp.specs.Inbox.{Gives}
+use Rattle.ripngd_udp.specs.Turns.{GivesOne, TakesIfTold, TakesOnEach, inboxes, tell_all, tell_at}
 use Rattle.ripngd_udp.specs.declared.endpoint.Endpoint.{Endpoint}
 
 module _ {S : Type 0} where
@@ -34,7 +36,7 @@ module _ {S : Type 0} where
       }
 
   -- one socket was read more
-  pub takes_on_one_more : (reads : S → Option (List Read)) (links : List OnLink) (es fs : List (Endpoint S)) (k : ℕ) (d : OnLink) (e g : Endpoint S)
+  takes_on_one_more : (reads : S → Option (List Read)) (links : List OnLink) (es fs : List (Endpoint S)) (k : ℕ) (d : OnLink) (e g : Endpoint S)
       → k < length fs → TakesOnEach reads links es fs → TakesIfTold reads (get_or links k d) (get_or fs k e) g
       → TakesOnEach reads links es (set fs k g)
   takes_on_one_more reads [] [] [] k d e g lt h one = absurd (omega (arith, lt))
@@ -45,32 +47,84 @@ module _ {S : Type 0} where
   takes_on_one_more reads (i ∷ is) (a ∷ es) (f ∷ fs) zero d e g lt h one = (takes_again reads i a f g h.0 one, h.1)
   takes_on_one_more reads (i ∷ is) (a ∷ es) (f ∷ fs) (suc k) d e g lt h one = (h.0, takes_on_one_more reads is es fs k d e g (omega (arith, lt)) h.1 one)
 
-  tell_all-append : (ks : List ℕ) (k : ℕ) (es : List (Endpoint S)) → tell_all (ks ++ k ∷ []) es ≡ tell_at k (tell_all ks es)
-  tell_all-append [] k es = refl
-  tell_all-append (j ∷ ks) k es = tell_all-append ks k (tell_at j es)
+  -- the same, where it is known which interface and which socket that is
+  pub takes_on_one : (reads : S → Option (List Read)) (links : List OnLink) (es fs : List (Endpoint S)) (k : ℕ) (i : OnLink) (f g : Endpoint S)
+      → k < length fs → i ≡ get_or links k i → f ≡ get_or fs k f → TakesOnEach reads links es fs → TakesIfTold reads i f g
+      → TakesOnEach reads links es (set fs k g)
+  takes_on_one reads links es fs k i f g lt i_is f_is h one =
+      takes_on_one_more reads links es fs k i f g lt h
+      (subst (λ (x : OnLink). TakesIfTold reads x (get_or fs k f) g) i_is (subst (λ (x : Endpoint S). TakesIfTold reads i x g) f_is one))
 
-  -- the socket of one more interface is told of
-  pub tell_at-within : (k : ℕ) (es : List (Endpoint S)) (d : Endpoint S) → k < length es → set es k (record (get_or es k d) { ready = true }) ≡ tell_at k es
+  -- the socket of an interface is told of
+  tell_at-within : (k : ℕ) (es : List (Endpoint S)) (d : Endpoint S) → k < length es → set es k (record (get_or es k d) { ready = true }) ≡ tell_at k es
   tell_at-within k [] d lt = absurd (omega (arith, lt))
   tell_at-within zero (e ∷ es) d lt = refl
   tell_at-within (suc k) (e ∷ es) d lt = ap (λ (l : List (Endpoint S)). e ∷ l) (tell_at-within k es d (omega (arith, lt)))
 
   -- there is no such interface
-  pub tell_at-past : (k : ℕ) (es : List (Endpoint S)) → length es ≤ k → tell_at k es ≡ es
+  tell_at-past : (k : ℕ) (es : List (Endpoint S)) → length es ≤ k → tell_at k es ≡ es
   tell_at-past k [] h = refl
   tell_at-past zero (e ∷ es) h = absurd (omega (arith, h))
   tell_at-past (suc k) (e ∷ es) h = ap (λ (l : List (Endpoint S)). e ∷ l) (tell_at-past k es (omega (arith, h)))
 
   -- one more was told of
-  pub tell_all-more : (ks : List ℕ) (n k : ℕ) (es : List (Endpoint S)) → slice_get ks n ≡ Some k
+  tell_all-more : (ks : List ℕ) (n k : ℕ) (es : List (Endpoint S)) → slice_get ks n ≡ Some k
       → tell_all (take (n + 1) ks) es ≡ tell_at k (tell_all (take n ks) es)
   tell_all-more [] n k es h = absurd (cc)
   tell_all-more (j ∷ ks) zero k es h = let same : j ≡ k = cc in ap (λ (x : ℕ). tell_at x es) same
-  tell_all-more (j ∷ ks) (suc n) k es h = tell_all-more ks n k (tell_at j es) h
+  tell_all-more (j ∷ ks) (suc n) k es h =
+      let s : suc n + 1 ≡ suc (n + 1) = omega arith in
+      rw s (tell_all-more ks n k (tell_at j es) h)
 
   -- no more were
-  pub tell_all-end : (ks : List ℕ) (n : ℕ) (es : List (Endpoint S)) → slice_get ks n ≡ None
+  tell_all-end : (ks : List ℕ) (n : ℕ) (es : List (Endpoint S)) → slice_get ks n ≡ None
       → tell_all (take (n + 1) ks) es ≡ tell_all (take n ks) es
-  tell_all-end [] n es h = refl
+  tell_all-end [] zero es h = refl
+  tell_all-end [] (suc n) es h =
+      let s : suc n + 1 ≡ suc (n + 1) = omega arith in
+      rw s refl
   tell_all-end (j ∷ ks) zero es h = absurd (cc)
-  tell_all-end (j ∷ ks) (suc n) es h = tell_all-end ks n (tell_at j es) h
+  tell_all-end (j ∷ ks) (suc n) es h =
+      let s : suc n + 1 ≡ suc (n + 1) = omega arith in
+      rw s (tell_all-end ks n (tell_at j es) h)
+
+  -- the socket of one more interface is marked
+  pub told_one : (ks : List ℕ) (n k : ℕ) (before es : List (Endpoint S)) (e f : Endpoint S) → slice_get ks n ≡ Some k → k < length es
+      → e ≡ get_or es k e → f ≡ record e { ready = true } → es ≡ tell_all (take n ks) before
+      → set es k f ≡ tell_all (take (n + 1) ks) before
+  told_one ks n k before es e f is lt e_is f_is so_far =
+      ap (λ (x : Endpoint S). set es k x) (f_is ∙ ap (λ (x : Endpoint S). record x { ready = true }) e_is)
+      ∙ tell_at-within k es e lt
+      ∙ ap (λ (l : List (Endpoint S)). tell_at k l) so_far
+      ∙ sym (tell_all-more ks n k before is)
+
+  -- there is no such interface
+  pub told_past : (ks : List ℕ) (n k : ℕ) (before es : List (Endpoint S)) → slice_get ks n ≡ Some k → length es ≤ k
+      → es ≡ tell_all (take n ks) before → es ≡ tell_all (take (n + 1) ks) before
+  told_past ks n k before es is past so_far =
+      sym (tell_at-past k es past) ∙ ap (λ (l : List (Endpoint S)). tell_at k l) so_far ∙ sym (tell_all-more ks n k before is)
+
+  -- all that were told of are marked
+  pub told_end : (ks : List ℕ) (n : ℕ) (before es : List (Endpoint S)) → slice_get ks n ≡ None
+      → es ≡ tell_all (take n ks) before → es ≡ tell_all (take (n + 1) ks) before
+  told_end ks n before es is so_far = so_far ∙ sym (tell_all-end ks n before is)
+
+  -- a socket is replaced by one with the same inbox
+  pub inboxes_kept : (es : List (Endpoint S)) (k : ℕ) (e f : Endpoint S) → e ≡ get_or es k e → f.inbox ≡ e.inbox
+      → inboxes (set es k f) ≡ inboxes es
+  inboxes_kept es k e f e_is same =
+      map-set_same (λ (x : Endpoint S). x.inbox) es k f e (same ∙ ap (λ (x : Endpoint S). x.inbox) e_is)
+
+  -- what the socket of an interface gives
+  pub gives_one : (es : List (Endpoint S)) (k : ℕ) (e f : Endpoint S) (buffer : List ℕ) (o : Option Received) (none : Type 0) → slice_get es k ≡ Some e
+      → f ≡ record e { inbox = f.inbox } → IfSome o (λ r. r.iface ≡ k)
+      → MatchOption o none (Gives k e.inbox.heard.items f.inbox.heard.items buffer) → IfSome o (GivesOne es (set es k f) buffer)
+  gives_one es k e f buffer None none was same at gives = tt
+  gives_one es k e f buffer (Some r) none was same at gives =
+      record {
+        from = e;
+        left = f.inbox;
+        was = rw at was;
+        is = rw at (ap (λ (x : Endpoint S). set es k x) same);
+        gives = rw at gives;
+      }

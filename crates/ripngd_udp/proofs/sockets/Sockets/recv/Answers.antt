@@ -1,8 +1,28 @@
-use Rattle.std.proofs.Common.{◌≡◌, [], refl, rules}
-use Rattle.std.proofs.lemmas.List.Elements.{All-nil}
-use Rattle.ripngd_udp.proofs.Sendings.{Gains-nil}
+use Rattle.std.proofs.Common.{rules, ◌≡◌, [], ◌∷◌}
+use Rattle.ripngd_engine.specs.Telling.{Gains}
 use Rattle.ripngd_udp.proofs.Waits.{waits-more}
 use Rattle.ripngd_udp.proofs.sockets.Sockets.recv.Goals as goal
 
 pub returns-in_err-given-clause-waits : goal.returns-in_err-given-clause-waits
-returns-in_err-given-clause-waits g c = waits-more _ _ _ c.limit-limit.result c.limit-limit.ensures.most c.loop.invariant.0 c.poll.ensures.waits
+returns-in_err-given-clause-waits g c =
+    let more : Gains (g.W.Waiting.waits c.loop.self.waiting) (g.W.Waiting.waits c.poll.new.self.waiting) (c.limit-limit.result ∷ []) =
+    rw (← c.send_due.ensures.waits) c.poll.ensures.waits in
+    waits-more _ _ _ c.limit-limit.result c.limit-limit.ensures.most c.loop.invariant.0 more
+
+pub returns-then-is_some-clause-waits : goal.returns-then-is_some-clause-waits
+returns-then-is_some-clause-waits g c =
+    let more : Gains (g.W.Waiting.waits c.loop.self.waiting) (g.W.Waiting.waits c.poll.new.self.waiting) (c.limit-limit.result ∷ []) =
+    rw (← c.send_due.ensures.waits) c.poll.ensures.waits in
+    waits-more _ _ _ c.limit-limit.result c.limit-limit.ensures.most c.loop.invariant.0 more
+
+pub loop-preserved : goal.loop-preserved
+loop-preserved g c =
+    let more : Gains (g.W.Waiting.waits c.loop.self.waiting) (g.W.Waiting.waits c.poll.new.self.waiting) (c.limit-limit.result ∷ []) =
+    rw (← c.send_due.ensures.waits) c.poll.ensures.waits in (
+      waits-more _ _ _ c.limit-limit.result c.limit-limit.ensures.most c.loop.invariant.0 more,
+      search rules,
+      search rules,
+      search rules,
+      search rules,
+      search rules,
+    )
