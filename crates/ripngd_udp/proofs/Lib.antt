@@ -5,3 +5,4 @@ pub mod Waits
 pub mod Serving
 pub mod Readings
 pub mod Turns
+pub mod Counts

@@ -124,7 +124,7 @@ module _ {S : Type 0} where
       record {
         from = e;
         left = f.inbox;
-        was = rw at was;
-        is = rw at (ap (λ (x : Endpoint S). set es k x) same);
-        gives = rw at gives;
+        was = subst (λ (x : ℕ). slice_get es x ≡ Some e) (sym at) was;
+        is = subst (λ (x : ℕ). set es k f ≡ set es x (record e { inbox = f.inbox })) (sym at) (ap (λ (x : Endpoint S). set es k x) same);
+        gives = subst (λ (x : ℕ). Gives x e.inbox.heard.items f.inbox.heard.items buffer r) (sym at) gives;
       }
