@@ -18,7 +18,7 @@ print_fails ask printing.Write = tt
 
 -- of a link that is bound
 pub link_fails : (turns : ℕ) (fault : UdpError) → FailsTurns turns (failure_of_link fault)
-link_fails turns (link.Bind port) order same = refl
+link_fails turns (link.Bind port cause) order same = refl
 link_fails turns link.OutOfMemory order same = tt
 
 -- of an engine's turns

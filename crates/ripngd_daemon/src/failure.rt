@@ -114,7 +114,7 @@ impl From<UdpError> for Failure<'_> {
 
     fn from(fault: UdpError) -> Self {
         match fault {
-            UdpError::Bind(port) => Failure::Bind(port),
+            UdpError::Bind { port, .. } => Failure::Bind(port),
             UdpError::OutOfMemory => Failure::OutOfMemory,
         }
     }

@@ -216,7 +216,6 @@ module _ {V : Type 0} (f : V → Said) (st : V → LabValue → ℕ → V → Ty
       aside_on lab mid.0 end shown (f v) (f mid.1) (f v') notes1.0 shows1 prints
       (lines_told ts mid.0 mid.1 end v' shown shows1 (aside_known (f v) (f mid.1) prints ∙ known ∙ sym (ap tables_in notes1.0))
       (aside_timers (f v) (f mid.1) prints ∙ clocks ∙ sym (ap timers_of notes1.0)) told.2)
-
   lines_told (Counts phases last ∷ ts) lab v end v' shown shows known clocks told =
       let mid = told.0 in
       let counts = told.1 in

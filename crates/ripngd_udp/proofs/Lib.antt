@@ -1,3 +1,8 @@
 pub mod Sendings
 pub mod Queues
 pub mod Found
+pub mod Waits
+pub mod Serving
+pub mod Readings
+pub mod Turns
+pub mod Counts

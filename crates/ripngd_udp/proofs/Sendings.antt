@@ -15,7 +15,7 @@ use Rattle.ripngd_udp.specs.Udp.{is_meant}
 use Rattle.ripngd_udp.specs.Sending.{Sending, SendsEach, Tries, Try, peer_ports, tried, went}
 
 -- nothing was called
-Gains-nil : {X : Type 0} (a : Option (List X)) → Gains a a []
+pub Gains-nil : {X : Type 0} (a : Option (List X)) → Gains a a []
 Gains-nil None = refl
 Gains-nil (Some x) = sym (append-nil x)
 
@@ -24,7 +24,7 @@ Gains-none None c ys p q = q
 Gains-none (Some b) c ys p q = absurd (cc)
 
 -- some calls, and then others
-Gains-trans : {X : Type 0} (a b c : Option (List X)) (xs ys : List X) → Gains a b xs → Gains b c ys → Gains a c (xs ++ ys)
+pub Gains-trans : {X : Type 0} (a b c : Option (List X)) (xs ys : List X) → Gains a b xs → Gains b c ys → Gains a c (xs ++ ys)
 Gains-trans None b c xs ys p q = Gains-none b c ys p q
 Gains-trans (Some a) None None xs ys p q = tt
 Gains-trans (Some a) None (Some c) xs ys p q = absurd (cc)

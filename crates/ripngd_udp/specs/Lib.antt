@@ -4,4 +4,6 @@ pub mod Standing
 pub mod Sending
 pub mod Queue
 pub mod Inbox
+pub mod Reading
 pub mod Sockets
+pub mod Turns

@@ -1,5 +1,5 @@
 -- How datagrams wait to be sent on an interface, and go out.
-use Rattle.std.specs.Prelude.{ℕ, ◌≡◌, ◌++◌, ◌+◌, ◌<◌, ◌==◌, ◌&&◌, ◌||◌, Bool, MatchBool, true, if◌then◌else◌, List, [], ◌∷◌, Option, length, nat_le, nat_lt}
+use Rattle.std.specs.Prelude.{ℕ, ◌≡◌, ◌++◌, ◌+◌, ◌-◌, ◌<◌, ◌==◌, ◌&&◌, ◌||◌, Bool, MatchBool, true, if◌then◌else◌, List, [], ◌∷◌, Option, length, nat_le, nat_lt}
 use Rattle.router_core.specs.declared.answer.Outgoing.{Outgoing}
 use Rattle.ripngd_engine.specs.Run.{counted}
 use Rattle.ripngd_udp.specs.Peers.{OnLink}
@@ -37,6 +37,10 @@ pub record Kept (i : OnLink) (before after : Option (List Try)) (waited left : L
 -- one datagram may go at a moment: four milliseconds have passed since datagrams were counted anew, or some are left of that count
 abbrev pub may_go : ℕ → ℕ → ℕ → Bool
 may_go since left now = nat_le (since + 4) now || nat_lt 0 left
+
+-- how long it is until one may go, in milliseconds: not at all where some are left, else until four have passed
+abbrev pub until_open : ℕ → ℕ → ℕ → ℕ
+until_open since left now = if nat_lt 0 left then 0 else 4 - (now - since)
 
 -- none waits, and one may go
 abbrev pub goes_at_once : List Outgoing → ℕ → ℕ → ℕ → Bool

@@ -25,12 +25,12 @@ new_link places lists =
 
 -- a port that is named is the local port of one of these places
 abbrev pub NamesPortOf : List Place → UdpError → Type 0
-NamesPortOf places (Bind port) = Contains (map (λ p. p.local_port) places) port
+NamesPortOf places (Bind port cause) = Contains (map (λ p. p.local_port) places) port
 NamesPortOf places OutOfMemory = ⊤
 
 -- the numbers of these faults
 abbrev pub link_number : UdpError → ℕ
-link_number (Bind port) = 1
+link_number (Bind port cause) = 1
 link_number OutOfMemory = 2
 
 -- a datagram of so many bytes, as one of the peer

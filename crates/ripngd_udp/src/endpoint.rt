@@ -1,67 +1,37 @@
-//! The socket of an interface, at a port of 127.0.0.1.
+//! The socket of an interface, with what came in by it and what waits to be sent by it.
 
-ghost use Rattle.std.specs.Prelude.{◌≡◌, ◌==◌, ◌+◌, ◌-◌, ◌<◌, ◌≤◌, ◌↔◌, ◌⊎◌, [], true, if◌then◌else◌, IfErr, IfOk, IsTrue, MatchOption, Ok, Some, length};
-ghost use Rattle.std.specs.IoError.{error_kind};
-ghost use Rattle.std.specs.Net.Socket.{IsPlainSocket};
-ghost use Rattle.ripngd_engine.specs.Run.{counted};
-ghost use Rattle.ripngd_udp.specs.Inbox.{Keeps};
-ghost use Rattle.ripngd_udp.specs.Standing.{local_port_of, peer_at};
-ghost use Rattle.ripngd_udp.specs.Sockets.{GrowsUpTo};
+ghost use Rattle.std.specs.Prelude.{◌≡◌, ◌==◌, ◌+◌, ◌-◌, ◌≤◌, [], ◌∷◌, true, false, IfSome, MatchOption, Ok, length};
+ghost use Rattle.ripngd_engine.specs.Telling.{Gains};
+ghost use Rattle.ripngd_udp.specs.Inbox.{Gives};
+ghost use Rattle.ripngd_udp.specs.Reading.{Brings, Leaves, Read, Takes, TakesIn};
+ghost use Rattle.ripngd_udp.specs.Standing.{peer_at};
+ghost use Rattle.ripngd_udp.specs.Sockets.{GrowsUpTo, has_none, intake, is_quiet, until_due};
 
 use crate::inbox::Inbox;
 use crate::neighborhood::Neighborhood;
 use crate::outbox::Outbox;
-use crate::sending::{Carrier, Tried};
+use crate::reading::{Source, Unread};
+use crate::sending::Carrier;
+use crate::socket::local_port_of;
 use ripngd_config::Peer;
-use ripngd_engine::LinkFault;
+use ripngd_engine::{LinkFault, Received};
 use router_core::Outgoing;
 use std::alloc::Global;
-use std::io;
-use std::io::ErrorKind;
-use std::net::{IpAddr, Ipv4Addr, Net, SocketAddr, UdpSocket};
-use std::time::Duration;
+use std::net::SocketAddr;
 
 /// How many datagrams are taken in from one socket before the others are looked at: more than it holds.
 const TAKEN_AT_ONCE: u32 = 512;
 
-/// The socket of an interface, with what waits to be sent by it.
+/// The socket of an interface.
 #[derive(Drop)]
-pub(crate) struct Endpoint {
-    socket: UdpSocket,
+pub(crate) struct Endpoint<S> {
+    pub(crate) socket: S,
     outbox: Outbox,
+    inbox: Inbox,
     /// How many datagrams came from where none of the peers stands.
     strangers: u64,
-    /// Whether the socket is in the mode in which its calls wait.
-    waits: bool,
-}
-
-/// A port of 127.0.0.1.
-pub(crate) fn local(port: u16) -> SocketAddr
-    ensures here { local_port_of result ≡ Some port }
-    ensures plain { IsPlainSocket result port }
-{
-    SocketAddr::new(IpAddr::V4(Ipv4Addr::new(127, 0, 0, 1)), port)
-}
-
-/// The port of 127.0.0.1 that an address is, if it is one.
-fn local_port_of(from: SocketAddr) -> Option<u16>
-    ensures { result ≡ local_port_of from }
-{
-    match from.ip() {
-        IpAddr::V4(ip) if ip.octets() == [127, 0, 0, 1] => Some(from.port()),
-        _ => None,
-    }
-}
-
-/// Whether an error of a socket only says that no datagram came: also where a signal ended the wait for one.
-pub(crate) fn is_silence(error: &io::Error) -> bool
-    ensures { IsTrue result ↔ ((error_kind error.now ≡ ErrorKind.WouldBlock) ⊎ (error_kind error.now ≡ ErrorKind.TimedOut)
-        ⊎ (error_kind error.now ≡ ErrorKind.Interrupted)) }
-{
-    matches!(
-        error.kind(),
-        ErrorKind::WouldBlock | ErrorKind::TimedOut | ErrorKind::Interrupted
-    )
+    /// Whether there may be something to read: it was told of, and no read has found nothing since.
+    ready: bool,
 }
 
 /// The first peer of an interface that stands where a datagram came from.
@@ -71,82 +41,28 @@ fn peer_at(neighborhood: &Neighborhood, from: SocketAddr) -> Option<Peer>
     neighborhood.peer_at(local_port_of(from)?)
 }
 
-/// What an answer of the system to a datagram of `len` bytes says.
-fn tried(answer: &io::Result<usize>, len: usize) -> Tried
-    ensures count { IfOk answer.now (λ count. (result ≡ Tried.Sent) ↔ (count ≡ len)) }
-    ensures interrupted { IfErr answer.now (λ error. (result ≡ Tried.Interrupted) ↔ (error_kind error ≡ ErrorKind.Interrupted)) }
-{
-    match answer {
-        Ok(count) if *count == len => Tried::Sent,
-        Err(error) if error.kind() == ErrorKind::Interrupted => Tried::Interrupted,
-        _ => Tried::Failed,
-    }
-}
-
-impl Carrier for UdpSocket {
-    ghost use Rattle.std.specs.Prelude.{None};
-
-    ghost tries = { λ _. None };
-
-    fn try_send(&mut self, port: u16, bytes: &[u8]) -> Tried {
-        tried(&self.send_to(bytes, local(port)), bytes.len())
-    }
-}
-
-impl Endpoint {
-    /// A socket at a port, whose calls do not wait at first, and later so long at most.
-    pub(crate) fn open<N: Net>(
-        net: &N,
-        alloc: Global,
-        local_port: u16,
-        wait: Duration,
-    ) -> io::Result<Endpoint>
-        ensures { IfOk result (λ endpoint. (endpoint.outbox.failed ≡ 0) × (endpoint.strangers ≡ 0)) }
+impl<S: Carrier + Source> Endpoint<S> {
+    /// A socket by which nothing has come or gone.
+    pub(crate) fn new(socket: S, alloc: Global) -> Endpoint<S>
+        ensures { (result.outbox.failed ≡ 0) × (result.strangers ≡ 0) × (result.inbox.lost ≡ 0) }
     {
-        let socket = UdpSocket::bind(net, local(local_port))?;
-        socket.set_read_timeout(Some(wait))?;
-        socket.set_write_timeout(Some(wait))?;
-        socket.set_nonblocking(true)?;
-        Ok(Endpoint {
+        Endpoint {
             socket,
             outbox: Outbox::new(alloc),
+            inbox: Inbox::new(alloc),
             strangers: 0,
-            waits: false,
-        })
-    }
-
-    /// Takes in a datagram that is there, or else waits for one if it may. The socket's mode is changed only where it is
-    /// another than the last time, and before a datagram is taken.
-    fn recv_from(&mut self, buffer: &mut [u8], may_wait: bool) -> io::Result<(usize, SocketAddr)>
-        ensures within { IfOk result (λ r. r.0 ≤ length buffer.new) }
-        ensures same { (length buffer.new ≡ length buffer.old) × (self.new.outbox ≡ self.old.outbox) × (self.new.strangers ≡ self.old.strangers) }
-    {
-        if self.waits != may_wait {
-            self.socket.set_nonblocking(!may_wait)?;
-            self.waits = may_wait;
+            ready: false,
         }
-        self.socket.recv_from(buffer)
     }
 
     /// Keeps a datagram as one of the peer that stands where it came from, and answers whether to look for another. One that
     /// is not kept is counted, and so is one of a stranger, which is dropped.
-    fn keep(
-        &mut self,
-        neighborhood: &Neighborhood,
-        iface: usize,
-        from: SocketAddr,
-        bytes: &[u8],
-        inbox: &mut Inbox,
-    ) -> bool
-        requires { iface < inbox.old.interfaces }
-        ensures found { MatchOption (peer_at neighborhood.now from)
-            ((result ≡ true) × (inbox.new ≡ inbox.old) × (self.new.strangers ≡ counted self.old.strangers 1))
-            (λ peer. Keeps inbox.old.heard.items inbox.new.heard.items iface peer bytes.now result
-            × (inbox.new.lost ≡ counted inbox.old.lost (if result then 0 else 1)) × (self.new.strangers ≡ self.old.strangers)) }
-        ensures same { (inbox.new.interfaces ≡ inbox.old.interfaces) × (self.new.outbox ≡ self.old.outbox) }
+    fn keep(&mut self, neighborhood: &Neighborhood, from: SocketAddr, bytes: &[u8]) -> bool
+        ensures found { TakesIn neighborhood.now from bytes.now (intake self.old) (intake self.new) result }
+        ensures same { (self.new.outbox ≡ self.old.outbox) × (self.new.socket ≡ self.old.socket) }
     {
         match peer_at(neighborhood, from) {
-            Some(peer) => inbox.keep(iface, peer, bytes),
+            Some(peer) => self.inbox.keep(peer, bytes),
             None => {
                 self.strangers = self.strangers.saturating_add(1);
                 true
@@ -154,28 +70,43 @@ impl Endpoint {
         }
     }
 
+    /// Leaves the socket, which gave no datagram.
+    ///
+    /// # Errors
+    /// Where it failed.
+    fn leave(&mut self, why: Unread) -> Result<bool, LinkFault>
+        ensures left { Leaves why (intake self.old) (intake self.new) result }
+        ensures same { (self.new.outbox ≡ self.old.outbox) × (self.new.socket ≡ self.old.socket) }
+    {
+        match why {
+            Unread::Silence => {
+                self.ready = false;
+                Ok(false)
+            }
+            Unread::Interrupted => Ok(false),
+            Unread::Failed => Err(LinkFault),
+        }
+    }
+
     /// Takes in one datagram, by way of a buffer, and answers whether to look for another.
     ///
     /// # Errors
     /// Where the socket could not be read.
-    pub(crate) fn take_one(
+    fn take_one(
         &mut self,
         neighborhood: &Neighborhood,
-        iface: usize,
         buffer: &mut [u8],
-        inbox: &mut Inbox,
-        may_wait: bool,
     ) -> Result<bool, LinkFault>
-        requires { iface < inbox.old.interfaces }
-        ensures lost { GrowsUpTo 1 inbox.old.lost inbox.new.lost }
+        ensures taken { (read : Read) × Gains (S.reads self.old.socket) (S.reads self.new.socket) (read ∷ [])
+            × Brings neighborhood.now read (intake self.old) (intake self.new) result }
+        ensures lost { GrowsUpTo 1 self.old.inbox.lost self.new.inbox.lost }
         ensures strangers { GrowsUpTo 1 self.old.strangers self.new.strangers }
-        ensures more { result ≡ Ok true → inbox.new.lost ≡ inbox.old.lost }
-        ensures same { (inbox.new.interfaces ≡ inbox.old.interfaces) × (self.new.outbox ≡ self.old.outbox) }
+        ensures more { result ≡ Ok true → self.new.inbox.lost ≡ self.old.inbox.lost }
+        ensures same { (self.new.outbox ≡ self.old.outbox) × (length buffer.new ≡ length buffer.old) }
     {
-        match self.recv_from(buffer, may_wait) {
-            Ok((len, from)) => Ok(self.keep(neighborhood, iface, from, &buffer[..len], inbox)),
-            Err(error) if is_silence(&error) => Ok(false),
-            Err(_) => Err(LinkFault),
+        match self.socket.try_read(buffer) {
+            Ok((len, from)) => Ok(self.keep(neighborhood, from, &buffer[..len])),
+            Err(why) => self.leave(why),
         }
     }
 
@@ -183,24 +114,74 @@ impl Endpoint {
     ///
     /// # Errors
     /// Where the socket could not be read.
-    pub(crate) fn take_all(
-        &mut self,
-        neighborhood: &Neighborhood,
-        iface: usize,
-        buffer: &mut [u8],
-        inbox: &mut Inbox,
-    ) -> Result<(), LinkFault>
-        requires { iface < inbox.old.interfaces }
-        ensures lost { GrowsUpTo 1 inbox.old.lost inbox.new.lost }
+    fn take_told(&mut self, neighborhood: &Neighborhood, buffer: &mut [u8]) -> Result<(), LinkFault>
+        ensures taken { Takes neighborhood.now (S.reads self.old.socket) (S.reads self.new.socket) (intake self.old) (intake self.new) }
+        ensures lost { GrowsUpTo 1 self.old.inbox.lost self.new.inbox.lost }
         ensures strangers { self.old.strangers ≤ self.new.strangers }
-        ensures same { (inbox.new.interfaces ≡ inbox.old.interfaces) × (self.new.outbox ≡ self.old.outbox) }
+        ensures same { (self.new.outbox ≡ self.old.outbox) × (length buffer.new ≡ length buffer.old) }
     {
         for _ in 0..TAKEN_AT_ONCE {
-            if !self.take_one(neighborhood, iface, buffer, inbox, false)? {
+            if !self.take_one(neighborhood, buffer)? {
                 return Ok(());
             }
         }
         Ok(())
+    }
+
+    /// Takes in what is there, if the socket was told of, until there is no room for one, which is lost.
+    ///
+    /// # Errors
+    /// Where the socket could not be read.
+    pub(crate) fn take_all(
+        &mut self,
+        neighborhood: &Neighborhood,
+        buffer: &mut [u8],
+    ) -> Result<(), LinkFault>
+        ensures unread { self.old.ready ≡ false → self.new ≡ self.old }
+        ensures taken { Takes neighborhood.now (S.reads self.old.socket) (S.reads self.new.socket) (intake self.old) (intake self.new) }
+        ensures lost { GrowsUpTo 1 self.old.inbox.lost self.new.inbox.lost }
+        ensures strangers { self.old.strangers ≤ self.new.strangers }
+        ensures same { (self.new.outbox ≡ self.old.outbox) × (length buffer.new ≡ length buffer.old) }
+    {
+        if self.ready {
+            self.take_told(neighborhood, buffer)
+        } else {
+            Ok(())
+        }
+    }
+
+    /// The socket is told of: something may be read.
+    pub(crate) fn tell(&mut self)
+        ensures told { self.new ≡ record self.old { ready = true } }
+    {
+        self.ready = true;
+    }
+
+    /// Whether nothing that came waits for the router.
+    pub(crate) fn has_none(&self) -> bool
+        ensures { result ≡ has_none self.now }
+    {
+        self.inbox.is_empty()
+    }
+
+    /// Whether nothing that came waits for the router, and the socket is not to be read.
+    pub(crate) fn is_quiet(&self) -> bool
+        ensures { result ≡ is_quiet self.now }
+    {
+        self.inbox.is_empty() && !self.ready
+    }
+
+    /// Puts the first datagram into a buffer, as much of it as fits, as one that came to an interface.
+    pub(crate) fn next(&mut self, iface: usize, buffer: &mut [u8]) -> Option<Received>
+        ensures first { MatchOption result ((self.old.inbox.heard.items ≡ []) × (self.new.inbox.heard.items ≡ []))
+            (Gives iface self.old.inbox.heard.items self.new.inbox.heard.items buffer.new) }
+        ensures interface { IfSome result (λ r. r.iface ≡ iface) }
+        ensures within { IfSome result (λ r. r.len ≤ length buffer.new) }
+        ensures same { self.new ≡ record self.old { inbox = self.new.inbox } }
+        ensures lost { self.new.inbox.lost ≡ self.old.inbox.lost }
+        ensures len { length buffer.new ≡ length buffer.old }
+    {
+        self.inbox.next(iface, buffer)
     }
 
     /// Sends to each peer that is meant, in its turn, at a moment in milliseconds.
@@ -212,6 +193,7 @@ impl Endpoint {
     ) -> Result<(), LinkFault>
         ensures failed { self.new.outbox.failed ≡ self.old.outbox.failed }
         ensures strangers { self.new.strangers ≡ self.old.strangers }
+        ensures heard { (self.new.inbox ≡ self.old.inbox) × (self.new.ready ≡ self.old.ready) }
     {
         self.outbox
             .send(&mut self.socket, neighborhood, outgoing, now)
@@ -223,6 +205,7 @@ impl Endpoint {
         ensures due { self.old.outbox.pace.since + 4 ≤ now
             → length self.new.outbox.waiting.items ≡ length self.old.outbox.waiting.items - 16 }
         ensures strangers { self.new.strangers ≡ self.old.strangers }
+        ensures heard { (self.new.inbox ≡ self.old.inbox) × (self.new.ready ≡ self.old.ready) }
     {
         self.outbox.send_due(&mut self.socket, neighborhood, now);
     }
@@ -232,6 +215,7 @@ impl Endpoint {
         ensures all { self.new.outbox.waiting.items ≡ [] }
         ensures failed { self.old.outbox.failed ≤ self.new.outbox.failed }
         ensures strangers { self.new.strangers ≡ self.old.strangers }
+        ensures heard { (self.new.inbox ≡ self.old.inbox) × (self.new.ready ≡ self.old.ready) }
     {
         self.outbox.send_all(&mut self.socket, neighborhood);
     }
@@ -243,11 +227,30 @@ impl Endpoint {
         self.outbox.is_empty()
     }
 
+    /// How long it is at a moment until more may be sent, where something waits, at most so long, and so long where nothing
+    /// does; in milliseconds.
+    pub(crate) fn until_due(&self, now: u64, most: u64) -> u64
+        ensures { result ≡ until_due now self.now most }
+    {
+        if self.outbox.is_empty() {
+            most
+        } else {
+            most.min(self.outbox.until_open(now))
+        }
+    }
+
     /// How many datagrams could not be sent when they had waited.
     pub(crate) fn failed(&self) -> u64
         ensures { result ≡ self.now.outbox.failed }
     {
         self.outbox.failed()
+    }
+
+    /// How many datagrams of its peers were lost for want of room or memory.
+    pub(crate) fn lost(&self) -> u64
+        ensures { result ≡ self.now.inbox.lost }
+    {
+        self.inbox.lost()
     }
 
     /// How many datagrams came from where none of the peers stands.

@@ -1,8 +1,7 @@
-//! What neighbors sent and the router has not taken in yet. A socket holds little, so it is emptied into here while the
-//! router works.
+//! What neighbors sent to an interface and the router has not taken in yet. A socket holds little, so it is emptied into here
+//! while the router works. Each interface has room of its own: a neighbor who sends without end takes none of another's.
 
-ghost use Rattle.std.specs.Prelude.{◌≡◌, ◌<◌, ◌≤◌, ◌↔◌, [], MatchOption, IfSome, IsTrue, if◌then◌else◌, is_ok, length, min, take};
-ghost use Rattle.std.specs.List.{All};
+ghost use Rattle.std.specs.Prelude.{◌≡◌, ◌==◌, ◌≤◌, ◌↔◌, [], MatchOption, IfSome, IsTrue, if◌then◌else◌, is_ok, length, min, take};
 ghost use Rattle.ripngd_engine.specs.Run.{counted};
 ghost use Rattle.ripngd_udp.specs.Inbox.{Gives, HasRoom, Keeps, MayWait, bytes_of};
 
@@ -11,7 +10,7 @@ use ripngd_engine::Received;
 use std::alloc::{AllocError, Global};
 use std::collections::VecDeque;
 
-/// How many datagrams wait at most: more than a whole table from each neighbor on 16 interfaces has.
+/// How many datagrams wait at most: more than a whole table from each of 16 neighbors has.
 const ROOM: usize = 16_384;
 
 /// How many bytes they have together at most, 32 MiB: as many as 16,384 datagrams of 2,048 bytes, more than any update's.
@@ -20,24 +19,19 @@ const ROOM_BYTES: usize = 32 << 20;
 /// A datagram of a neighbor.
 #[derive(Drop)]
 pub(crate) struct Heard {
-    /// The interface that it came to.
-    pub(crate) iface: usize,
     pub(crate) peer: Peer,
     pub(crate) bytes: Vec<u8>,
 }
 
-/// Datagrams that came in, in order.
+/// Datagrams that came to an interface, in order.
 #[derive(Drop)]
 pub(crate) struct Inbox {
     heard: VecDeque<Heard>,
     /// How many bytes they have together.
     held: usize,
-    /// How many interfaces the link has.
-    interfaces: usize,
     /// How many datagrams were lost for want of room or memory.
     lost: u64,
     alloc: Global,
-    ghost inside: { All (λ h. h.iface < interfaces) heard.items },
     ghost summed: { held ≡ bytes_of heard.items },
     ghost room: { MayWait heard.items },
 }
@@ -55,13 +49,12 @@ fn copy_into(buffer: &mut [u8], bytes: &[u8]) -> usize
 
 impl Inbox {
     /// Where nothing has come in.
-    pub(crate) fn new(alloc: Global, interfaces: usize) -> Inbox
-        ensures { (result.heard.items ≡ []) × (result.interfaces ≡ interfaces) × (result.lost ≡ 0) }
+    pub(crate) fn new(alloc: Global) -> Inbox
+        ensures { (result.heard.items ≡ []) × (result.lost ≡ 0) }
     {
         Inbox {
             heard: VecDeque::new(alloc),
             held: 0,
-            interfaces,
             lost: 0,
             alloc,
         }
@@ -83,41 +76,46 @@ impl Inbox {
 
     /// Keeps a datagram of a neighbor behind the others, and answers whether there was room and memory for it. Without it
     /// is lost alone, and counted.
-    pub(crate) fn keep(&mut self, iface: usize, peer: Peer, bytes: &[u8]) -> bool
-        requires { iface < self.old.interfaces }
-        ensures kept { Keeps self.old.heard.items self.new.heard.items iface peer bytes.now result }
+    pub(crate) fn keep(&mut self, peer: Peer, bytes: &[u8]) -> bool
+        ensures kept { Keeps self.old.heard.items self.new.heard.items peer bytes.now result }
         ensures room { MayWait self.new.heard.items }
         ensures lost { self.new.lost ≡ counted self.old.lost (if result then 0 else 1) }
-        ensures same { self.new.interfaces ≡ self.old.interfaces }
     {
-        let kept = self.has_room(bytes.len()) && self.push(iface, peer, bytes).is_ok();
+        let kept = self.has_room(bytes.len()) && self.push(peer, bytes).is_ok();
         if !kept {
             self.lost = self.lost.saturating_add(1);
         }
         kept
     }
 
-    fn push(&mut self, iface: usize, peer: Peer, bytes: &[u8]) -> Result<(), AllocError>
-        requires interface { iface < self.old.interfaces }
-        requires room { HasRoom self.old.heard.items (length bytes.now) }
-        ensures kept { Keeps self.old.heard.items self.new.heard.items iface peer bytes.now (is_ok result) }
-        ensures same { (self.new.interfaces ≡ self.old.interfaces) × (self.new.lost ≡ self.old.lost) }
+    fn push(&mut self, peer: Peer, bytes: &[u8]) -> Result<(), AllocError>
+        requires { HasRoom self.old.heard.items (length bytes.now) }
+        ensures kept { Keeps self.old.heard.items self.new.heard.items peer bytes.now (is_ok result) }
+        ensures same { self.new.lost ≡ self.old.lost }
     {
         let len = bytes.len();
         let bytes = Vec::from_slice(self.alloc, bytes)?;
-        self.heard.push_back(Heard { iface, peer, bytes })?;
+        self.heard.push_back(Heard { peer, bytes })?;
         self.held += len;
         Ok(())
     }
 
-    /// Puts the first datagram into a buffer, as much of it as fits.
-    pub(crate) fn next(&mut self, buffer: &mut [u8]) -> Option<Received>
-        ensures first { MatchOption result ((self.old.heard.items ≡ []) × (self.new.heard.items ≡ [])) (Gives self.old.heard.items self.new.heard.items buffer.new) }
-        ensures interface { IfSome result (λ r. r.iface < self.old.interfaces) }
-        ensures within { IfSome result (λ r. r.len ≤ length buffer.new) }
-        ensures same { (self.new.interfaces ≡ self.old.interfaces) × (self.new.lost ≡ self.old.lost) }
+    /// Whether nothing waits.
+    pub(crate) fn is_empty(&self) -> bool
+        ensures { result ≡ (length self.now.heard.items == 0) }
     {
-        let Heard { iface, peer, bytes } = self.heard.pop_front()?;
+        self.heard.is_empty()
+    }
+
+    /// Puts the first datagram into a buffer, as much of it as fits, as one that came to an interface.
+    pub(crate) fn next(&mut self, iface: usize, buffer: &mut [u8]) -> Option<Received>
+        ensures first { MatchOption result ((self.old.heard.items ≡ []) × (self.new.heard.items ≡ []))
+            (Gives iface self.old.heard.items self.new.heard.items buffer.new) }
+        ensures interface { IfSome result (λ r. r.iface ≡ iface) }
+        ensures within { IfSome result (λ r. r.len ≤ length buffer.new) }
+        ensures same { (self.new.lost ≡ self.old.lost) × (length buffer.new ≡ length buffer.old) }
+    {
+        let Heard { peer, bytes } = self.heard.pop_front()?;
         self.held -= bytes.len();
         let len = copy_into(buffer, bytes.as_slice());
         Some(Received {
@@ -152,16 +150,11 @@ mod tests {
         vec![in alloc; 7; len]
     }
 
-    /// Whether a datagram on the first interface is kept.
-    fn keeps(inbox: &mut Inbox, bytes: &[u8]) -> bool {
-        inbox.interfaces > 0 && inbox.keep(0, neighbor(), bytes)
-    }
-
     /// How many of so many datagrams are kept.
     fn kept(inbox: &mut Inbox, bytes: &[u8], count: usize) -> usize {
         let mut kept: usize = 0;
         for _ in 0..count {
-            if keeps(inbox, bytes) {
+            if inbox.keep(neighbor(), bytes) {
                 kept = kept.saturating_add(1);
             }
         }
@@ -170,19 +163,19 @@ mod tests {
 
     #[test]
     fn datagrams_wait_up_to_32_mib_together(rt: HostRuntime) -> Result<(), Fail> {
-        let mut inbox = Inbox::new(rt.alloc(), 1);
+        let mut inbox = Inbox::new(rt.alloc());
         let longest = of_length(rt.alloc(), 65_535)?;
         // 512 of the longest leave 512 of the 33,554,432 bytes.
         assert_eq!(rt; kept(&mut inbox, &longest, 512), 512);
-        assert!(rt; !keeps(&mut inbox, &of_length(rt.alloc(), 513)?));
+        assert!(rt; !inbox.keep(neighbor(), &of_length(rt.alloc(), 513)?));
         assert_eq!(rt; inbox.lost(), 1);
-        assert!(rt; keeps(&mut inbox, &of_length(rt.alloc(), 512)?));
+        assert!(rt; inbox.keep(neighbor(), &of_length(rt.alloc(), 512)?));
         assert_eq!(rt; inbox.lost(), 1);
-        assert!(rt; !keeps(&mut inbox, b"h"));
+        assert!(rt; !inbox.keep(neighbor(), b"h"));
         assert_eq!(rt; inbox.lost(), 2);
         // The router takes the first of them, and so there is room for another.
-        assert!(rt; inbox.next(&mut [0; 16]).is_some());
-        assert!(rt; keeps(&mut inbox, &longest));
+        assert!(rt; inbox.next(0, &mut [0; 16]).is_some());
+        assert!(rt; inbox.keep(neighbor(), &longest));
         assert_eq!(rt; inbox.lost(), 2);
         Ok(())
     }

@@ -1,6 +1,7 @@
 //! What a router of `ripngd` runs on: a link of UDP sockets on loopback, and the system's clock.
 #![tactic(auto)]
 
+mod bind_cause;
 mod clock;
 mod endpoint;
 mod inbox;
@@ -8,10 +9,14 @@ mod neighborhood;
 mod outbox;
 mod pace;
 mod peer_refused;
+mod reading;
 mod sending;
+mod socket;
 mod sockets;
 mod udp;
+mod waiting;
 
+pub use bind_cause::BindCause;
 pub use clock::Uptime;
 pub use neighborhood::PEER_LIMIT;
 pub use peer_refused::PeerRefused;

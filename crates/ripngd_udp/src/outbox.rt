@@ -2,7 +2,7 @@
 
 ghost use Rattle.std.specs.Prelude.{◌≡◌, ◌==◌, ◌+◌, ◌<◌, ◌≤◌, ◌-◌, ◌++◌, ◌∷◌, [], true, IfOk, is_ok, if◌then◌else◌, length};
 ghost use Rattle.ripngd_engine.specs.Run.{counted};
-ghost use Rattle.ripngd_udp.specs.Queue.{SendsWaiting, SentOrKept, goes_at_once};
+ghost use Rattle.ripngd_udp.specs.Queue.{SendsWaiting, SentOrKept, goes_at_once, until_open};
 
 use crate::neighborhood::Neighborhood;
 use crate::pace::Pace;
@@ -70,6 +70,13 @@ impl Outbox {
         ensures { result ≡ self.now.failed }
     {
         self.failed
+    }
+
+    /// How long it is at a moment until more may be sent, in milliseconds.
+    pub(crate) fn until_open(&self, now: u64) -> u64
+        ensures { result ≡ until_open self.now.pace.since self.now.pace.left now }
+    {
+        self.pace.until_open(now)
     }
 
     /// Keeps a datagram behind the others.

@@ -2,6 +2,7 @@
 //! whole update, and what does not fit is lost without a word.
 
 ghost use Rattle.std.specs.Prelude.{◌≡◌, ◌+◌, ◌-◌, ◌<◌, ◌≤◌, min};
+ghost use Rattle.ripngd_udp.specs.Queue.{until_open};
 
 /// How many datagrams go to a peer without a pause.
 const AT_ONCE: usize = 16;
@@ -45,5 +46,16 @@ impl Pace {
         let taken = wanted.min(self.left);
         self.left -= taken;
         taken
+    }
+
+    /// How long it is at a moment until one may go, in milliseconds.
+    pub(crate) fn until_open(&self, now: u64) -> u64
+        ensures { result ≡ until_open self.now.since self.now.left now }
+    {
+        if self.left > 0 {
+            0
+        } else {
+            PAUSE_MS.saturating_sub(now.saturating_sub(self.since))
+        }
     }
 }

@@ -1,20 +1,19 @@
-//! The sockets of all interfaces: when they are read, when they are sent to, and when they are waited for.
+//! The sockets of all interfaces: when they are read, when they are sent to, and how long they are waited for.
 
-ghost use Rattle.std.specs.Prelude.{◌≡◌, true, ◌<◌, ◌≤◌, [], IfErr, IfOk, IfSome, IsNone, None, OnErr, OnOk, length, vec_len};
-ghost use Rattle.std.specs.Result.{result_err};
-ghost use Rattle.ripngd_udp.specs.Peers.{ChangesLink, RefusesFor, adding_fault, removing_fault, with_peer, without_peer};
-ghost use Rattle.ripngd_udp.specs.Sockets.{failed_of, none_waits, strangers_of};
+ghost use Rattle.std.specs.Prelude.{◌≡◌, ◌<◌, ◌≤◌, ◌⊎◌, [], ◌∷◌, ℕ, List, true, IfOk, IfSome, IsNone, OnErr, OnOk, length, take, vec_len};
+ghost use Rattle.std.specs.List.{All, list_all};
+ghost use Rattle.ripngd_engine.specs.Telling.{Gains};
+ghost use Rattle.ripngd_udp.specs.Sockets.{failed_of, is_quiet, limit_of, lost_of, none_heard, none_waits, strangers_of, until_any_due};
+ghost use Rattle.ripngd_udp.specs.Turns.{TakesOnEach, inboxes, tell_all};
 
 use crate::clock::Uptime;
 use crate::endpoint::Endpoint;
-use crate::inbox::Inbox;
-use crate::neighborhood::{Neighborhood, add_peer, remove_peer};
-use crate::peer_refused::PeerRefused;
-use prefix6::Addr6;
-use ripngd_config::Peer;
+use crate::neighborhood::Neighborhood;
+use crate::reading::Source;
+use crate::sending::Carrier;
+use crate::waiting::Waiting;
 use ripngd_engine::{LinkFault, Received, TimeSource};
 use router_core::Outgoing;
-use std::alloc::Global;
 use std::rt::Clock;
 use std::thread;
 use std::time::Duration;
@@ -22,58 +21,44 @@ use std::time::Duration;
 /// How long a turn waits for a datagram at most, in milliseconds.
 const WAIT_MS: u64 = 50;
 
-/// How long it waits at one of several sockets, in milliseconds: less than it takes to fill another.
-const WAIT_EACH_MS: u64 = 5;
+/// How often a turn looks at most, whatever comes.
+const LOOKS: u32 = 64;
 
-/// How long it waits where something is still to be sent, in milliseconds.
-const NAP_MS: u64 = 1;
-
-/// How often a turn waits at most, whatever the clock tells.
-const WAITS: u32 = 64;
+/// How long the end of a run sleeps at most before it looks again, in milliseconds.
+const NAP_MS: u64 = 4;
 
 /// How often the last datagrams wait at most, whatever the clock tells: longer than any may.
 const LAST_WAITS: u32 = 4_096;
 
-/// How long the socket of one of so many interfaces waits for a datagram.
-pub(crate) fn wait_of(interfaces: usize) -> Duration {
-    Duration::from_millis(if interfaces <= 1 {
-        WAIT_MS
-    } else {
-        WAIT_EACH_MS
-    })
-}
-
 /// The sockets of a link, with what came in by them.
 #[derive(Drop)]
-pub(crate) struct Sockets<'a, R: Clock> {
-    endpoints: Vec<Endpoint>,
+pub(crate) struct Sockets<'a, R: Clock, S, W> {
+    endpoints: Vec<Endpoint<S>>,
     /// Who is on the link of each interface.
     neighborhoods: Vec<Neighborhood>,
-    inbox: Inbox,
+    waiting: W,
     rt: &'a R,
     clock: Uptime<'a, R>,
-    /// The interface that is waited for next.
+    /// The interface that is served next.
     next: usize,
-    ghost same_interfaces: { inbox.interfaces ≡ vec_len endpoints },
     ghost same_links: { vec_len neighborhoods ≡ vec_len endpoints },
 }
 
-impl<'a, R: Clock> Sockets<'a, R> {
-    /// These sockets, before anything has come in.
+impl<'a, R: Clock, S: Carrier + Source + Drop, W: Waiting + Drop> Sockets<'a, R, S, W> {
+    /// These sockets, which are waited for so.
     pub(crate) fn new(
         rt: &'a R,
-        alloc: Global,
-        endpoints: Vec<Endpoint>,
+        endpoints: Vec<Endpoint<S>>,
         neighborhoods: Vec<Neighborhood>,
-    ) -> Sockets<'a, R>
+        waiting: W,
+    ) -> Sockets<'a, R, S, W>
         requires { vec_len neighborhoods ≡ vec_len endpoints }
-        ensures { (result.endpoints ≡ endpoints) × (result.neighborhoods ≡ neighborhoods) × (result.inbox.lost ≡ 0) }
+        ensures { (result.endpoints ≡ endpoints) × (result.neighborhoods ≡ neighborhoods) }
     {
-        let inbox = Inbox::new(alloc, endpoints.len());
         Sockets {
             endpoints,
             neighborhoods,
-            inbox,
+            waiting,
             rt,
             clock: Uptime::new(rt),
             next: 0,
@@ -93,7 +78,9 @@ impl<'a, R: Clock> Sockets<'a, R> {
         ensures same { vec_len self.new.endpoints ≡ vec_len self.old.endpoints }
         ensures on_links { self.new.neighborhoods ≡ self.old.neighborhoods }
         ensures strangers { strangers_of self.new.endpoints.items ≡ strangers_of self.old.endpoints.items }
-        ensures heard { self.new.inbox ≡ self.old.inbox }
+        ensures heard { inboxes self.new.endpoints.items ≡ inboxes self.old.endpoints.items }
+        ensures lost { lost_of self.new.endpoints.items ≡ lost_of self.old.endpoints.items }
+        ensures waits { self.new.waiting ≡ self.old.waiting }
     {
         let now = self.clock.now().ms();
         for iface in 0..self.endpoints.len() {
@@ -109,7 +96,8 @@ impl<'a, R: Clock> Sockets<'a, R> {
         ensures same { vec_len self.new.endpoints ≡ vec_len self.old.endpoints }
         ensures on_links { self.new.neighborhoods ≡ self.old.neighborhoods }
         ensures strangers { strangers_of self.new.endpoints.items ≡ strangers_of self.old.endpoints.items }
-        ensures heard { self.new.inbox ≡ self.old.inbox }
+        ensures heard { inboxes self.new.endpoints.items ≡ inboxes self.old.endpoints.items }
+        ensures lost { lost_of self.new.endpoints.items ≡ lost_of self.old.endpoints.items }
         ensures all { none_waits self.new.endpoints.items ≡ true }
     {
         for iface in 0..self.endpoints.len() {
@@ -130,91 +118,128 @@ impl<'a, R: Clock> Sockets<'a, R> {
         has_sent
     }
 
-    /// Takes in what is there.
-    fn take_all(&mut self, buffer: &mut [u8]) -> Result<(), LinkFault>
+    /// Whether nothing that came waits for the router, and no socket is to be read.
+    fn is_quiet(&self) -> bool
+        ensures { result ≡ list_all is_quiet self.now.endpoints.items }
+    {
+        let mut quiet = true;
+        for endpoint in self.endpoints.iter() {
+            quiet &= endpoint.is_quiet();
+        }
+        quiet
+    }
+
+    /// How long it is at a moment until more may be sent on some interface, and at most so long; in milliseconds.
+    fn until_due(&self, now: u64, most: u64) -> u64
+        ensures until { result ≡ until_any_due now self.now.endpoints.items most }
+        ensures most { result ≤ most }
+    {
+        let mut left = most;
+        for endpoint in self.endpoints.iter() {
+            left = endpoint.until_due(now, left);
+        }
+        left
+    }
+
+    /// How long may be waited at a moment of a turn that ends at another, in milliseconds: not at all where something has come
+    /// or a socket is to be read, and else to its end, 50 at most, or until more may be sent.
+    fn limit(&self, now: u64, end: u64) -> u64
+        ensures limit { result ≡ limit_of now end self.now.endpoints.items }
+        ensures most { result ≤ 50 }
+    {
+        if self.is_quiet() {
+            self.until_due(now, end.saturating_sub(now).min(WAIT_MS))
+        } else {
+            0
+        }
+    }
+
+    /// Waits at all sockets at once, for so many milliseconds at most, and puts down which are told of.
+    ///
+    /// # Errors
+    /// Where the system does not tell.
+    fn look(&mut self, limit: u64) -> Result<(), LinkFault>
+        requires { (limit ≡ 0) ⊎ (list_all is_quiet self.old.endpoints.items ≡ true) }
+        ensures waits { Gains (W.waits self.old.waiting) (W.waits self.new.waiting) (limit ∷ []) }
+        ensures told { OnOk result (self.new.endpoints.items
+            ≡ tell_all (take (vec_len self.old.endpoints) (W.tells self.new.waiting)) self.old.endpoints.items) }
+        ensures err { OnErr result (self.new.endpoints ≡ self.old.endpoints) }
         ensures failed { failed_of self.new.endpoints.items ≡ failed_of self.old.endpoints.items }
-        ensures lost { self.old.inbox.lost ≤ self.new.inbox.lost }
+        ensures lost { lost_of self.new.endpoints.items ≡ lost_of self.old.endpoints.items }
         ensures same { vec_len self.new.endpoints ≡ vec_len self.old.endpoints }
         ensures on_links { self.new.neighborhoods ≡ self.old.neighborhoods }
-        ensures strangers { strangers_of self.old.endpoints.items ≤ strangers_of self.new.endpoints.items }
+        ensures strangers { strangers_of self.new.endpoints.items ≡ strangers_of self.old.endpoints.items }
     {
-        for iface in 0..self.endpoints.len() {
-            if let Some(endpoint) = self.endpoints.get_mut(iface) {
-                endpoint.take_all(&self.neighborhoods[iface], iface, buffer, &mut self.inbox)?;
+        self.waiting.wait(limit)?;
+        for place in 0..self.endpoints.len() {
+            if let Some(iface) = self.waiting.told(place) {
+                if let Some(endpoint) = self.endpoints.get_mut(iface) {
+                    endpoint.tell();
+                }
             }
         }
         Ok(())
     }
 
-    /// Waits a little where nothing has come in: until more may be sent, or for a datagram of the next interface.
-    fn wait(&mut self, buffer: &mut [u8]) -> Result<(), LinkFault>
-        requires { self.old.inbox.heard.items ≡ [] }
+    /// Takes in what is there at the sockets that are told of.
+    fn take_all(&mut self, buffer: &mut [u8]) -> Result<(), LinkFault>
         ensures failed { failed_of self.new.endpoints.items ≡ failed_of self.old.endpoints.items }
-        ensures lost { self.old.inbox.lost ≤ self.new.inbox.lost }
+        ensures lost { lost_of self.old.endpoints.items ≤ lost_of self.new.endpoints.items }
         ensures same { vec_len self.new.endpoints ≡ vec_len self.old.endpoints }
         ensures on_links { self.new.neighborhoods ≡ self.old.neighborhoods }
         ensures strangers { strangers_of self.old.endpoints.items ≤ strangers_of self.new.endpoints.items }
+        ensures waits { self.new.waiting ≡ self.old.waiting }
+        ensures taken { TakesOnEach S.reads self.old.neighborhoods.items self.old.endpoints.items self.new.endpoints.items }
     {
-        if !self.has_sent() {
-            thread::sleep(self.rt, Duration::from_millis(NAP_MS));
-            return Ok(());
+        for iface in 0..self.endpoints.len() {
+            if let Some(endpoint) = self.endpoints.get_mut(iface) {
+                endpoint.take_all(&self.neighborhoods[iface], buffer)?;
+            }
         }
-        let iface = if self.next < self.endpoints.len() {
-            self.next
-        } else {
-            0
-        };
-        self.next = iface + 1;
-        match self.endpoints.get_mut(iface) {
-            Some(endpoint) => endpoint
-                .take_one(
-                    &self.neighborhoods[iface],
-                    iface,
-                    buffer,
-                    &mut self.inbox,
-                    true,
-                )
-                .map(|_| ()),
-            None => Ok(()),
-        }
+        Ok(())
     }
 
-    /// Sends what is due and gives the next datagram, if one is there.
-    fn poll(&mut self, buffer: &mut [u8]) -> Result<Option<Received>, LinkFault>
-        ensures silent { IfOk result (λ o. IsNone o → self.new.inbox.heard.items ≡ []) }
+    /// Waits as long as it may where nothing has come, and gives the next datagram, if one is there.
+    fn poll(&mut self, limit: u64, buffer: &mut [u8]) -> Result<Option<Received>, LinkFault>
+        requires { (limit ≡ 0) ⊎ (list_all is_quiet self.old.endpoints.items ≡ true) }
+        ensures waits { Gains (W.waits self.old.waiting) (W.waits self.new.waiting) (limit ∷ []) }
+        ensures silent { IfOk result (λ o. IsNone o → none_heard self.new.endpoints.items ≡ true) }
         ensures interface { IfOk result (λ o. IfSome o (λ r. r.iface < vec_len self.old.endpoints)) }
         ensures within { IfOk result (λ o. IfSome o (λ r. r.len ≤ length buffer.new)) }
-        ensures failed { failed_of self.old.endpoints.items ≤ failed_of self.new.endpoints.items }
-        ensures lost { self.old.inbox.lost ≤ self.new.inbox.lost }
+        ensures failed { failed_of self.new.endpoints.items ≡ failed_of self.old.endpoints.items }
+        ensures lost { lost_of self.old.endpoints.items ≤ lost_of self.new.endpoints.items }
         ensures same { vec_len self.new.endpoints ≡ vec_len self.old.endpoints }
         ensures on_links { self.new.neighborhoods ≡ self.old.neighborhoods }
         ensures strangers { strangers_of self.old.endpoints.items ≤ strangers_of self.new.endpoints.items }
     {
-        self.send_due();
+        self.look(limit)?;
         self.take_all(buffer)?;
-        Ok(self.inbox.next(buffer))
+        Ok(self.give(buffer))
     }
 
-    /// The next datagram: one that is there, or else the first that comes in 50 ms.
+    /// The next datagram: one that is there, or else the first that comes in 50 ms. What waits is sent as far as it may go.
     ///
     /// # Errors
-    /// Where a socket could not be read.
+    /// Where a socket could not be read, or they could not be waited for.
     pub(crate) fn recv(&mut self, buffer: &mut [u8]) -> Result<Option<Received>, LinkFault>
+        ensures waits { (limits : List ℕ) × Gains (W.waits self.old.waiting) (W.waits self.new.waiting) limits × All (λ l. l ≤ 50) limits }
         ensures interface { IfOk result (λ o. IfSome o (λ r. r.iface < vec_len self.old.endpoints)) }
         ensures within { IfOk result (λ o. IfSome o (λ r. r.len ≤ length buffer.new)) }
         ensures failed { failed_of self.old.endpoints.items ≤ failed_of self.new.endpoints.items }
-        ensures lost { self.old.inbox.lost ≤ self.new.inbox.lost }
+        ensures lost { lost_of self.old.endpoints.items ≤ lost_of self.new.endpoints.items }
         ensures same { vec_len self.new.endpoints ≡ vec_len self.old.endpoints }
         ensures on_links { self.new.neighborhoods ≡ self.old.neighborhoods }
         ensures strangers { strangers_of self.old.endpoints.items ≤ strangers_of self.new.endpoints.items }
     {
-        let begun = self.clock.now().ms();
-        for _ in 0..WAITS {
-            let given = self.poll(buffer)?;
-            if given.is_some() || self.clock.now().ms() >= begun.saturating_add(WAIT_MS) {
+        let end = self.clock.now().ms().saturating_add(WAIT_MS);
+        for _ in 0..LOOKS {
+            self.send_due();
+            let now = self.clock.now().ms();
+            let limit = self.limit(now, end);
+            let given = self.poll(limit, buffer)?;
+            if given.is_some() || self.clock.now().ms() >= end {
                 return Ok(given);
             }
-            self.wait(buffer)?;
         }
         Ok(None)
     }
@@ -222,7 +247,7 @@ impl<'a, R: Clock> Sockets<'a, R> {
     /// Sends a datagram in its turn, on the interface that it names.
     pub(crate) fn send(&mut self, outgoing: &Outgoing) -> Result<(), LinkFault>
         ensures failed { failed_of self.new.endpoints.items ≡ failed_of self.old.endpoints.items }
-        ensures lost { self.new.inbox.lost ≡ self.old.inbox.lost }
+        ensures lost { lost_of self.new.endpoints.items ≡ lost_of self.old.endpoints.items }
         ensures same { vec_len self.new.endpoints ≡ vec_len self.old.endpoints }
         ensures on_links { self.new.neighborhoods ≡ self.old.neighborhoods }
         ensures strangers { strangers_of self.new.endpoints.items ≡ strangers_of self.old.endpoints.items }
@@ -237,75 +262,26 @@ impl<'a, R: Clock> Sockets<'a, R> {
     /// Sends all that waits, at the pace of the neighbors.
     pub(crate) fn finish(&mut self)
         ensures failed { failed_of self.old.endpoints.items ≤ failed_of self.new.endpoints.items }
-        ensures lost { self.new.inbox.lost ≡ self.old.inbox.lost }
+        ensures lost { lost_of self.new.endpoints.items ≡ lost_of self.old.endpoints.items }
         ensures same { vec_len self.new.endpoints ≡ vec_len self.old.endpoints }
         ensures on_links { self.new.neighborhoods ≡ self.old.neighborhoods }
         ensures strangers { strangers_of self.new.endpoints.items ≡ strangers_of self.old.endpoints.items }
         ensures all { none_waits self.new.endpoints.items ≡ true }
     {
         for _ in 0..LAST_WAITS {
+            self.send_due();
             if self.has_sent() {
                 return;
             }
-            self.send_due();
-            thread::sleep(self.rt, Duration::from_millis(NAP_MS));
+            let now = self.clock.now().ms();
+            let nap = self.until_due(now, NAP_MS);
+            thread::sleep(self.rt, Duration::from_millis(nap));
         }
         self.send_all();
     }
-
-    /// How many datagrams could not be sent when they had waited.
-    pub(crate) fn failed_sends(&self) -> u64
-        ensures { result ≡ failed_of self.now.endpoints.items }
-    {
-        let mut failed: u64 = 0;
-        for endpoint in self.endpoints.iter() {
-            failed = failed.saturating_add(endpoint.failed());
-        }
-        failed
-    }
-
-    /// How many datagrams came from where none of the peers stands.
-    pub(crate) fn strangers(&self) -> u64
-        ensures { result ≡ strangers_of self.now.endpoints.items }
-    {
-        let mut strangers: u64 = 0;
-        for endpoint in self.endpoints.iter() {
-            strangers = strangers.saturating_add(endpoint.strangers());
-        }
-        strangers
-    }
-
-    /// An interface has a peer more.
-    ///
-    /// # Errors
-    /// The first reason to refuse it, or want of memory.
-    pub(crate) fn add_peer(&mut self, iface: usize, peer: Peer) -> Result<(), PeerRefused>
-        ensures added { OnOk result (ChangesLink (λ i. with_peer i peer) iface self.old.neighborhoods.items self.new.neighborhoods.items) }
-        ensures passes { OnOk result (adding_fault self.old.neighborhoods.items iface peer ≡ None) }
-        ensures refused { IfErr result (RefusesFor (adding_fault self.old.neighborhoods.items iface peer)) }
-        ensures err { OnErr result (self.new.neighborhoods.items ≡ self.old.neighborhoods.items) }
-        ensures same { (self.new.endpoints ≡ self.old.endpoints) × (self.new.inbox ≡ self.old.inbox) }
-    {
-        add_peer(&mut self.neighborhoods, iface, peer)
-    }
-
-    /// An interface has the peer of an address no longer.
-    ///
-    /// # Errors
-    /// The first reason to refuse it.
-    pub(crate) fn remove_peer(&mut self, iface: usize, addr: Addr6) -> Result<(), PeerRefused>
-        ensures removed { OnOk result (ChangesLink (λ i. without_peer i addr) iface self.old.neighborhoods.items self.new.neighborhoods.items) }
-        ensures refused { result_err result ≡ removing_fault self.old.neighborhoods.items iface addr }
-        ensures err { OnErr result (self.new.neighborhoods.items ≡ self.old.neighborhoods.items) }
-        ensures same { (self.new.endpoints ≡ self.old.endpoints) × (self.new.inbox ≡ self.old.inbox) }
-    {
-        remove_peer(&mut self.neighborhoods, iface, addr)
-    }
-
-    /// How many datagrams of neighbors were lost since there was no room or no memory to keep them.
-    pub(crate) fn lost_arrivals(&self) -> u64
-        ensures { result ≡ self.now.inbox.lost }
-    {
-        self.inbox.lost()
-    }
 }
+
+mod serving;
+mod telling;
+#[cfg(test)]
+mod tests;

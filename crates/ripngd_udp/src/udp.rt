@@ -4,20 +4,24 @@
 ghost use Rattle.std.specs.Prelude.{◌≡◌, ◌≤◌, IfErr, IfOk, None, OnErr, OnOk, length, map, vec_len};
 ghost use Rattle.std.specs.Result.{result_err};
 ghost use Rattle.ripngd_udp.specs.Peers.{ChangesLink, RefusesFor, adding_fault, removing_fault, with_peer, without_peer};
-ghost use Rattle.ripngd_udp.specs.Sockets.{failed_of, strangers_of};
+ghost use Rattle.ripngd_udp.specs.Sockets.{failed_of, lost_of, strangers_of};
 ghost use Rattle.ripngd_udp.specs.Udp.{NamesPortOf, link_number, new_link};
 
+use crate::bind_cause::BindCause;
 use crate::endpoint::Endpoint;
 use crate::neighborhood::neighborhoods_at;
 use crate::peer_refused::PeerRefused;
-use crate::sockets::{Sockets, wait_of};
+use crate::socket::socket_at;
+use crate::sockets::Sockets;
+use crate::waiting::Polled;
+use mio::Events;
 use prefix6::Addr6;
 use ripngd_config::{Peer, Place};
 use ripngd_engine::{Link, LinkFault, Received};
 use router_core::Outgoing;
 use std::alloc::Global;
 use std::marker::Model;
-use std::net::Net;
+use std::net::{Net, UdpSocket};
 use std::rt::Clock;
 use thiserror::Error;
 
@@ -25,8 +29,8 @@ use thiserror::Error;
 #[derive(Clone, Copy, Debug, PartialEq, Eq, Error)]
 pub enum UdpError {
     /// 1: no socket could be had at this port of 127.0.0.1.
-    #[error("cannot bind {0}")]
-    Bind(u16),
+    #[error("cannot bind {port}: {cause}")]
+    Bind { port: u16, cause: BindCause },
     /// 2: there was no memory.
     #[error("out of memory")]
     OutOfMemory,
@@ -38,7 +42,7 @@ impl UdpError {
         ensures { result ≡ link_number self }
     {
         match self {
-            UdpError::Bind(_) => 1,
+            UdpError::Bind { .. } => 1,
             UdpError::OutOfMemory => 2,
         }
     }
@@ -51,22 +55,60 @@ impl UdpError {
 /// milliseconds later, by `recv` or at last by `finish`.
 #[derive(Drop)]
 pub struct Udp<'a, R: Clock> {
-    sockets: Sockets<'a, R>,
+    sockets: Sockets<'a, R, UdpSocket, Polled>,
 }
 
-/// A socket at the local port of each place, in order.
-fn endpoints_at<N: Net>(net: &N, alloc: Global, places: &[Place]) -> Result<Vec<Endpoint>, UdpError>
-    ensures count { IfOk result (λ endpoints. vec_len endpoints ≡ length places.now) }
-    ensures lost { IfOk result (λ endpoints. (failed_of endpoints.items ≡ 0) × (strangers_of endpoints.items ≡ 0)) }
+/// What is said where the sockets of places could not be waited for: that the first of them could not be bound.
+fn unwatched(places: &[Place]) -> UdpError
+    ensures { NamesPortOf places.now result }
+{
+    match places.first() {
+        Some(place) => UdpError::Bind {
+            port: place.local_port,
+            cause: BindCause::Other,
+        },
+        None => UdpError::OutOfMemory,
+    }
+}
+
+/// What tells of the sockets of places, as long as it tells of none.
+fn polled_for<N: Net>(net: &N, alloc: Global, places: &[Place]) -> Result<Polled, UdpError>
     ensures refused { IfErr result (NamesPortOf places.now) }
 {
-    let wait = wait_of(places.len());
+    let Ok(events) = Events::with_capacity(alloc, places.len().max(1)) else {
+        return Err(UdpError::OutOfMemory);
+    };
+    match Polled::new(net, events) {
+        Ok(polled) => Ok(polled),
+        Err(_) => Err(unwatched(places)),
+    }
+}
+
+/// A socket at the local port of each place, in order, of which is told under its number.
+fn endpoints_at<N: Net>(
+    net: &N,
+    alloc: Global,
+    polled: &Polled,
+    places: &[Place],
+) -> Result<Vec<Endpoint<UdpSocket>>, UdpError>
+    ensures count { IfOk result (λ endpoints. vec_len endpoints ≡ length places.now) }
+    ensures lost { IfOk result (λ endpoints. (failed_of endpoints.items ≡ 0) × (lost_of endpoints.items ≡ 0)
+        × (strangers_of endpoints.items ≡ 0)) }
+    ensures refused { IfErr result (NamesPortOf places.now) }
+{
     let mut endpoints = Vec::new(alloc);
     for place in places {
-        let Ok(endpoint) = Endpoint::open(net, alloc, place.local_port, wait) else {
-            return Err(UdpError::Bind(place.local_port));
+        let port = place.local_port;
+        let socket = match socket_at(net, polled, endpoints.len(), port) {
+            Ok(socket) => socket,
+            Err(error) => {
+                let cause = BindCause::of(&error);
+                return Err(UdpError::Bind { port, cause });
+            }
         };
-        endpoints.push(endpoint).map_err(|_| UdpError::OutOfMemory)?;
+        endpoints
+            .push(Endpoint::new(socket, alloc))
+            .map_err(|_| UdpError::OutOfMemory)?;
     }
     Ok(endpoints)
 }
@@ -74,7 +116,7 @@ fn endpoints_at<N: Net>(net: &N, alloc: Global, places: &[Place]) -> Result<Vec<
 impl<'a, R: Clock> Model for Udp<'a, R> {
     ghost use Rattle.std.specs.Prelude.{vec_len};
     ghost use Rattle.ripngd_udp.specs.Udp.{LinkState};
-    ghost use Rattle.ripngd_udp.specs.Sockets.{failed_of, strangers_of};
+    ghost use Rattle.ripngd_udp.specs.Sockets.{failed_of, lost_of, strangers_of};
 
     ghost Value = { LinkState };
 
@@ -82,7 +124,7 @@ impl<'a, R: Clock> Model for Udp<'a, R> {
       interfaces = vec_len link.sockets.endpoints;
       on_links = link.sockets.neighborhoods.items;
       failed_sends = failed_of link.sockets.endpoints.items;
-      lost_arrivals = link.sockets.inbox.lost;
+      lost_arrivals = lost_of link.sockets.endpoints.items;
       strangers = strangers_of link.sockets.endpoints.items;
     } };
 }
@@ -91,7 +133,7 @@ impl<'a, R: Clock> Udp<'a, R> {
     /// An interface at each place, in order, with its peers.
     ///
     /// # Errors
-    /// `Bind` with the first local port that cannot be bound. What was bound before is given up.
+    /// `Bind` with the first local port that cannot be bound, and why. What was bound before is given up.
     pub fn bind(
         rt: &'a R,
         alloc: Global,
@@ -119,12 +161,13 @@ impl<'a, R: Clock> Udp<'a, R> {
         ensures bound { IfOk result (λ link. link ≡ new_link places.now (map (λ v. v.items) peers.items)) }
         ensures refused { IfErr result (NamesPortOf places.now) }
     {
-        let endpoints = endpoints_at(net, alloc, places)?;
+        let polled = polled_for(net, alloc, places)?;
+        let endpoints = endpoints_at(net, alloc, &polled, places)?;
         let neighborhoods = neighborhoods_at(alloc, places, peers).map_err(
             |_| UdpError::OutOfMemory,
         )?;
         Ok(Udp {
-            sockets: Sockets::new(rt, alloc, endpoints, neighborhoods),
+            sockets: Sockets::new(rt, endpoints, neighborhoods, polled),
         })
     }
 
@@ -173,8 +216,8 @@ impl<'a, R: Clock> Udp<'a, R> {
         self.sockets.failed_sends()
     }
 
-    /// How many datagrams of neighbors were lost: 16,384 waited, or it would have made them longer than 32 MiB together, or
-    /// there was no memory to keep it.
+    /// How many datagrams of neighbors were lost: 16,384 waited on its interface, or it would have made them longer than 32 MiB
+    /// together, or there was no memory to keep it.
     pub fn lost_arrivals(&self) -> u64
         ensures { result ≡ self.now.lost_arrivals }
     {
@@ -190,7 +233,7 @@ impl<'a, R: Clock> Udp<'a, R> {
 }
 
 /// A call of `recv` first sends what has waited long enough, and takes in what is there on all sockets. While datagrams
-/// come it does not wait. Else it waits up to 50 ms for one.
+/// come it does not wait. Else it waits up to 50 ms for one, at all sockets at once. Interfaces are served in turn.
 impl<R: Clock> Link for Udp<'_, R> {
     ghost use Rattle.std.specs.Prelude.{None, ◌≡◌, ◌<◌, ◌≤◌, IfOk, IfSome, length};
 

@@ -69,7 +69,7 @@ fn bind_again<R: Clock + Net>(rt: &R, alloc: Global, places: &[Place; 5]) -> Out
     match Udp::bind(rt, alloc, places, peers).err() {
         None => Outcome::Refused,
         Some(UdpError::OutOfMemory) => Outcome::Wrong("memory was refused a second time"),
-        Some(UdpError::Bind(_)) => Outcome::Wrong("a bind that was refused memory held a port"),
+        Some(UdpError::Bind { .. }) => Outcome::Wrong("a bind that was refused memory held a port"),
     }
 }
 
@@ -84,7 +84,7 @@ pub fn outcome_of_bind<R: Clock + Net>(rt: &R, alloc: Global) -> Outcome {
     match Udp::bind(rt, alloc, &places, peers).err() {
         None => Outcome::Undisturbed,
         Some(UdpError::OutOfMemory) => bind_again(rt, alloc, &places),
-        Some(UdpError::Bind(_)) => Outcome::Wrong(
+        Some(UdpError::Bind { .. }) => Outcome::Wrong(
             "a bind that was refused memory should say so, and named a port",
         ),
     }

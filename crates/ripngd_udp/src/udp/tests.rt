@@ -1,8 +1,8 @@
 //! A link of sockets: what it gives, what it drops and what it sends. Every port is one that the system chose, so that
 //! runs side by side do not meet.
 
-use crate::endpoint::local;
-use crate::udp::{Udp, UdpError};
+use crate::socket::local;
+use crate::udp::Udp;
 use prefix6::Addr6;
 use ripngd_config::{Peer, Place};
 use ripngd_engine::{Link, LinkFault, Received};
@@ -208,27 +208,6 @@ fn where_nothing_comes_a_turn_waits_and_gives_none(rt: HostRuntime) -> Result<()
 }
 
 #[test]
-fn a_port_in_use_is_named(rt: HostRuntime) -> Result<(), Fail> {
-    let holder = socket(&rt)?;
-    let used = port_of(&holder)?;
-    let peers = lists(rt.alloc(), &[], 2)?;
-    if peers.len() != 2 {
-        return Err(Fail::from("two lists"));
-    }
-    // At port 0 the system chooses a free one.
-    let refused = Udp::bind(&rt, rt.alloc(), &[place(0), place(used)], peers).err();
-    assert_eq!(rt; refused, Some(UdpError::Bind(used)));
-    assert_eq!(rt;
-        (
-            UdpError::Bind(used).number(),
-            UdpError::OutOfMemory.number()
-        ),
-        (1, 2)
-    );
-    Ok(())
-}
-
-#[test]
 fn the_group_is_each_peer(rt: HostRuntime) -> Result<(), Fail> {
     let first = socket(&rt)?;
     let second = socket(&rt)?;
@@ -280,5 +259,6 @@ fn a_peer_that_is_not_up_fails_no_later_turn(rt: HostRuntime) -> Result<(), Fail
     Ok(())
 }
 
+mod binding;
 mod pacing;
 mod peers;

@@ -12,8 +12,8 @@ loop-endpoint-preserved g c =
       c.loop-endpoint.invariant,
       c.failed.ensures,
       c.saturating_add-failed.ensures,
-      ap (λ (e : Endpoint). e.outbox.failed) c.endpoint-item.is,
-      ap (λ (es : List Endpoint). sum_by (λ e. e.outbox.failed) (take i es)) c.deref-endpoint-items.ensures.value,
-      ap (λ (es : List Endpoint). sum_by (λ e. e.outbox.failed) (take (i + 1) es)) c.deref-endpoint-items.ensures.value,
-      sum_by_more (λ (e : Endpoint). e.outbox.failed) endpoints i c.endpoint-item.result c.loop-endpoint-test.true,
+      ap (λ (e : Endpoint _). e.outbox.failed) c.endpoint-item.is,
+      ap (λ (es : List (Endpoint _)). sum_by (λ e. e.outbox.failed) (take i es)) c.deref-endpoint-items.ensures.value,
+      ap (λ (es : List (Endpoint _)). sum_by (λ e. e.outbox.failed) (take (i + 1) es)) c.deref-endpoint-items.ensures.value,
+      sum_by_more (λ (e : Endpoint _). e.outbox.failed) endpoints i c.endpoint-item.result c.loop-endpoint-test.true,
     )

@@ -12,8 +12,8 @@ loop-endpoint-preserved g c =
       c.loop-endpoint.invariant,
       c.strangers.ensures,
       c.saturating_add-strangers.ensures,
-      ap (λ (e : Endpoint). e.strangers) c.endpoint-item.is,
-      ap (λ (es : List Endpoint). sum_by (λ e. e.strangers) (take i es)) c.deref-endpoint-items.ensures.value,
-      ap (λ (es : List Endpoint). sum_by (λ e. e.strangers) (take (i + 1) es)) c.deref-endpoint-items.ensures.value,
-      sum_by_more (λ (e : Endpoint). e.strangers) endpoints i c.endpoint-item.result c.loop-endpoint-test.true,
+      ap (λ (e : Endpoint _). e.strangers) c.endpoint-item.is,
+      ap (λ (es : List (Endpoint _)). sum_by (λ e. e.strangers) (take i es)) c.deref-endpoint-items.ensures.value,
+      ap (λ (es : List (Endpoint _)). sum_by (λ e. e.strangers) (take (i + 1) es)) c.deref-endpoint-items.ensures.value,
+      sum_by_more (λ (e : Endpoint _). e.strangers) endpoints i c.endpoint-item.result c.loop-endpoint-test.true,
     )
