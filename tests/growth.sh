@@ -44,9 +44,9 @@ lab.round 315 359
 log.read 386 399
 engine.start 385 397
 engine.turns 348 396
-link.bind 393 398
-link.send 360 370
-link.recv 381 395
+link.bind 391 398
+link.send 358 368
+link.recv 379 393
 '
 
 [ $# = 0 ] || calls=$(grep -F -- "$1 " <<< "$calls")
