@@ -4,6 +4,8 @@
 mod asked;
 mod command_line;
 mod help;
+mod options;
+mod subcommands;
 
 pub use asked::{Ask, Order, Question, Serve};
 pub use command_line::ask;

@@ -2,7 +2,7 @@ use Rattle.std.proofs.Common.{codes, rules}
 use Rattle.clap.specs.Simple.{new_app}
 use Rattle.ripngd_command_line.specs.CommandLine.{IsCommand}
 use Rattle.ripngd_command_line.proofs.Commands.{arg_added, arg_added_ok}
-use Rattle.ripngd_command_line.proofs.command_line.ctl.Goals as goal
+use Rattle.ripngd_command_line.proofs.subcommands.ctl.Goals as goal
 
 pub returns : goal.returns
 returns c =

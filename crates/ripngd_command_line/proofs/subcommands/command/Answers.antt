@@ -2,7 +2,7 @@ use Rattle.std.proofs.Common.{codes}
 use Rattle.clap.specs.Simple.{new_app}
 use Rattle.ripngd_command_line.specs.CommandLine.{IsCommand}
 use Rattle.ripngd_command_line.proofs.Commands.{about_set, after_help_set, required_set, version_set, subcommand_added, subcommand_added_ok}
-use Rattle.ripngd_command_line.proofs.command_line.command.Goals as goal
+use Rattle.ripngd_command_line.proofs.subcommands.command.Goals as goal
 
 pub returns : goal.returns
 returns c =
