@@ -7,6 +7,8 @@ mod checking;
 mod controlled;
 mod desk;
 mod failure;
+mod follower;
+mod following;
 mod forwarding;
 mod limit;
 mod losses;
@@ -17,6 +19,7 @@ mod router;
 mod run_log;
 mod running;
 mod subcommands;
+mod telling;
 mod visit;
 mod warnings;
 

@@ -160,11 +160,11 @@ fn run_logged<'a, R: Files + Clock + Net + AllocGlobal, L: Log, O: Write, E: Wri
 }
 
 /// Opens the door at a path.
-fn open_desk<'a, R: Files + Net>(rt: &R, path: &'a str) -> Result<Desk, Failure<'a>>
+fn open_desk<'a, R: Files + Net + AllocGlobal>(rt: &R, path: &'a str) -> Result<Desk, Failure<'a>>
     ensures { IfErr result (λ f. (why : DoorFault) × (f ≡ failures.Listen path.entry why)) }
 {
     match Door::open(rt, path) {
-        Ok(door) => Ok(Desk::new(door)),
+        Ok(door) => Ok(Desk::new(rt.alloc(), door)),
         Err(why) => Err(Failure::Listen(path, why)),
     }
 }
