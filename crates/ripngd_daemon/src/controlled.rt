@@ -135,8 +135,14 @@ pub(crate) fn run_controlled<'r, 'a, R: Clock + Net + AllocGlobal, W: Write, V: 
 {
     let clock = Uptime::new(rt);
     let mut journal = Journal::new(rt.alloc(), log);
-    let mut engine: Running<'r, R> =
-        Engine::start(rt.alloc(), router, link, clock, rng, &mut journal)?;
+    let mut engine: Running<'r, R> = Engine::start(
+        rt.alloc(),
+        router,
+        link,
+        clock,
+        rng,
+        &mut journal,
+    )?;
     let outcome = show_turns(rt, &mut engine, desk, limit, &mut journal, watch, out);
     *counts = watch.first.counted();
     let report = with_log(engine.report(), journal.has_failed());

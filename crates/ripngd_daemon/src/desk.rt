@@ -124,24 +124,14 @@ impl Desk {
     }
 
     /// Lets a client follow from now on.
-    fn admit<R: Clock + AllocGlobal>(
-        &mut self,
-        rt: &R,
-        visit: Visit,
-        engine: &Running<'_, R>,
-    ) {
+    fn admit<R: Clock + AllocGlobal>(&mut self, rt: &R, visit: Visit, engine: &Running<'_, R>) {
         if let Ok(follower) = Follower::new(rt.alloc(), visit.telling, engine.fib()) {
             let _ = self.followers.push_back(follower);
         }
     }
 
     /// Goes on with a client: it follows from now on, or is told what it may be told now.
-    fn serve<R: Clock + AllocGlobal>(
-        &mut self,
-        rt: &R,
-        mut visit: Visit,
-        engine: &Running<'_, R>,
-    ) {
+    fn serve<R: Clock + AllocGlobal>(&mut self, rt: &R, mut visit: Visit, engine: &Running<'_, R>) {
         if visit.is_to_follow() {
             if self.followers.len() < FOLLOWERS && !engine.report().log_failed {
                 return self.admit(rt, visit, engine);

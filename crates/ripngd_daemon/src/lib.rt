@@ -11,6 +11,7 @@ mod follower;
 mod following;
 mod forwarding;
 mod limit;
+mod listening;
 mod losses;
 mod peering;
 mod plan;

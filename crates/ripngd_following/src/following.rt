@@ -1,8 +1,6 @@
 //! What somebody who follows a forwarding table is still to be told.
 
-ghost use Rattle.std.specs.Prelude.{◌≡◌, ◌≤◌, ◌++◌, IfOk, OnOk, false, true, vec_len};
-ghost use Rattle.fib.specs.Entries.{listed};
-ghost use Rattle.ripngd_following.specs.Following.{TellsOn, add_lines, ok_line, still_to_tell};
+ghost use Rattle.std.specs.Prelude.{◌≤◌, vec_len};
 
 use crate::lines::{PIECE, write_adds};
 use fib::{Fib, Hop};
@@ -28,6 +26,10 @@ pub struct Following {
 }
 
 impl Following {
+    ghost use Rattle.std.specs.Prelude.{◌≡◌, ◌++◌, IfOk, OnOk, false, true};
+    ghost use Rattle.fib.specs.Entries.{listed};
+    ghost use Rattle.ripngd_following.specs.Following.{TellsOn, add_lines, ok_line, still_to_tell};
+
     /// The beginning: all of the table is still to be told.
     ///
     /// # Errors
