@@ -1,6 +1,5 @@
 -- A text has one last run.
-use Rattle.std.proofs.Common.{◌≡◌, ◌≢◌, ℕ, ◌+◌, List, [], ◌∷◌, ◌++◌, All, refl, sym, ap, ◌∙◌, subst, inl, inr, append_assoc}
-use Rattle.std.specs.Prelude.{◌⊎◌, flat_map}
+use Rattle.std.proofs.Common.{◌≡◌, ◌≢◌, ℕ, List, [], ◌∷◌, ◌++◌, All, refl, sym, ap, ◌∙◌, subst, inl, inr, append_assoc}
 use Rattle.std.proofs.lemmas.List.Elements.{All-head, All-tail, All-append}
 use Rattle.ripngd_log.specs.Runs.{EndsInStart, HasNoLineFeed, HasPassed, IsLastRun, lines_text, start_text}
 use Rattle.ripngd_log.proofs.OneReading.{one_split, has_it}
@@ -72,6 +71,6 @@ one_run text run other n m h k =
     let q = k.has_passed in
     let e = sym (text_is text run h.rest n h.passed p) ∙ text_is text other k.rest m k.passed q in
     let all = same_lines (p.before ++ p.lines) (q.before ++ q.lines) h.rest k.rest
-        (All-append HasNoLineFeed p.before p.lines p.are_lines p.in_run) (All-append HasNoLineFeed q.before q.lines q.are_lines q.in_run) h.unended k.unended e in
+    (All-append HasNoLineFeed p.before p.lines p.are_lines p.in_run) (All-append HasNoLineFeed q.before q.lines q.are_lines q.in_run) h.unended k.unended e in
     let parts = same_start p.before q.before p.lines q.lines p.begun q.begun p.none_later q.none_later all.0 in
     p.run_is ∙ ap (λ l. lines_text l ++ h.rest) parts.1 ∙ ap (λ r. lines_text q.lines ++ r) all.1 ∙ sym q.run_is

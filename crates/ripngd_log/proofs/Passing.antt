@@ -1,5 +1,5 @@
 -- What a line more makes of what was passed.
-use Rattle.std.proofs.Common.{◌≡◌, ◌≢◌, ℕ, ◌+◌, List, [], ◌∷◌, ◌++◌, All, length, refl, sym, ap, ◌∙◌, inl, inr, arith, append_assoc}
+use Rattle.std.proofs.Common.{◌≡◌, ◌≢◌, ℕ, ◌+◌, List, [], ◌∷◌, ◌++◌, refl, sym, ap, ◌∙◌, inl, inr, arith, append_assoc}
 use Rattle.std.proofs.lemmas.Grind.{common_steps}
 use Rattle.std.proofs.lemmas.List.Elements.{All-nil, All-cons, All-append}
 use Rattle.ripngd_log.specs.Runs.{HasNoLineFeed, HasPassed, lines_text, start_text}
@@ -28,7 +28,7 @@ one_more lines line rest after e =
 -- a line that is no start
 pub passed_line : (text run rest line after : List ℕ) (n m : ℕ) → HasPassed text run rest n m → HasNoLineFeed line → rest ≡ line ++ (10 ∷ after)
     → line ≢ start_text → HasPassed text run after n (m + 1)
-passed_line text run rest line after n m h is_line e no = record {
+passed_line text run rest line after n m h is_line e other = record {
   before = h.before;
   lines = h.lines ++ line ∷ [];
   spelled = h.spelled;
@@ -36,7 +36,7 @@ passed_line text run rest line after n m h is_line e no = record {
   are_lines = h.are_lines;
   in_run = All-append HasNoLineFeed h.lines (line ∷ []) h.in_run (All-cons HasNoLineFeed line [] is_line (All-nil HasNoLineFeed));
   begun = h.begun;
-  none_later = All-append (λ l. l ≢ start_text) h.lines (line ∷ []) h.none_later (All-cons (λ l. l ≢ start_text) line [] no (All-nil (λ l. l ≢ start_text)));
+  none_later = All-append (λ l. l ≢ start_text) h.lines (line ∷ []) h.none_later (All-cons (λ l. l ≢ start_text) line [] other (All-nil (λ l. l ≢ start_text)));
   skipped_is = h.skipped_is;
   passed_is = let was = h.passed_is in grind (arith, common_steps);
 }

@@ -14,11 +14,7 @@ use fib::{Fib, RouteChange};
 use std::alloc::Global;
 
 /// The changes of the lines of a run that have an end. So many lines stand before it.
-fn read_changes(
-    alloc: Global,
-    text: &[u8],
-    skipped: usize,
-) -> Result<Vec<RouteChange>, LogFault>
+fn read_changes(alloc: Global, text: &[u8], skipped: usize) -> Result<Vec<RouteChange>, LogFault>
     requires { skipped + length text.now < 2 ^ 64 }
     ensures log { IfOk result (λ changes. IsRunOf text.now changes.items) }
     ensures refused { IfErr result (RefusesRun text.now skipped) }

@@ -1,13 +1,14 @@
 use Rattle.std.proofs.Common.{◌∷◌, ◌++◌, ◌+◌, length, refl, sym, ap, ◌∙◌, subst, append_assoc, arith}
 use Rattle.std.proofs.lemmas.Grind.{common_steps}
 use Rattle.ripngd_engine.specs.Log.{log_of}
+use Rattle.ripngd_log.specs.Reading.{IsFirstBadOfRun}
 use Rattle.ripngd_log.specs.Words.{PushesLine}
 use Rattle.ripngd_log.proofs.reading.read_changes.Goals as goal
 
 pub returns-then-not-branch-clause-refused : goal.returns-then-not-branch-clause-refused
 returns-then-not-branch-clause-refused c =
     let none = subst (λ is_one. PushesLine c.in-Some.line.now is_one c.loop-line.changes.items c.push_line.new.changes.items) c.if-not-branch.true c.in_ok-push_line.ensures.read in
-    let bad = record {
+    let bad : IsFirstBadOfRun c.args.text.now (length c.loop-line.changes.items + 1) = record {
       before = c.loop-line.changes.items;
       bad = c.in-Some.line.now;
       after = c.in-Some.after.now;
