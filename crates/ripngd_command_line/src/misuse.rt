@@ -14,7 +14,7 @@ For more information, try '--help'.
 
 /// Whether the log of a run is a file.
 fn is_file(log: Option<&str>) -> bool
-    ensures { IsTrue result ↔ IsFile (option_map (λ s. s.now) log) }
+    ensures { IsTrue result ↔ IsFile (option_map (λ s. s.now) log.entry) }
 {
     match log {
         Some(name) => name != "-",

@@ -1,12 +1,13 @@
-use Rattle.std.proofs.Common.{codes, rules}
+use Rattle.std.proofs.Common.{codes}
 use Rattle.clap.specs.Simple.{new_app}
 use Rattle.ripngd_command_line.specs.CommandLine.{IsCommand}
-use Rattle.ripngd_command_line.proofs.Commands.{arg_added, arg_added_ok}
+use Rattle.ripngd_command_line.proofs.Commands.{about_set, after_help_set, arg_added, arg_added_ok}
 use Rattle.ripngd_command_line.proofs.subcommands.run.Goals as goal
 
 pub returns : goal.returns
 returns c =
-    let s0 : IsCommand c.after_help.result (new_app (codes "run")) = record { app_is = search rules; local = search rules } in
+    let made : IsCommand c.new.result (new_app (codes "run")) = record { app_is = c.new.ensures.app; local = c.new.ensures.local } in
+    let s0 = after_help_set _ _ _ _ c.after_help.ensures (about_set _ _ _ _ c.about.ensures made) in
     let s1 = arg_added _ _ _ _ _ c.in_ok-arg.ensures c.quiet.ensures s0 in
     let s2 = arg_added _ _ _ _ _ c.in_ok-arg-2.ensures c.debug.ensures s1 in
     let s3 = arg_added _ _ _ _ _ c.in_ok-arg-3.ensures c.tag.ensures s2 in
