@@ -2,7 +2,7 @@
 
 ghost use Rattle.std.specs.Prelude.{◌≡◌, ◌≢◌, IfErr, IfOk, OnOk, false, length};
 ghost use Rattle.std.specs.Io.KnownBytes.{Appends};
-ghost use Rattle.ripngd_engine.specs.Seen.{seen};
+ghost use Rattle.ripngd_engine.specs.Seen.{Ran, seen};
 ghost use Rattle.ripngd_following.specs.Following.{kept_lines};
 ghost use Rattle.ripngd_daemon.specs.Controlled.{LastsFor, TurnsAndHeeds, unlogged};
 ghost use Rattle.ripngd_daemon.specs.Failing.{FailsTurns};
@@ -44,6 +44,19 @@ impl<W: Write> Counting for DebugLines<W> {
     }
 }
 
+/// Makes a turn. The journal keeps a line for each change that it made.
+fn step<R: Clock + AllocGlobal, W: Write, V: Watch>(
+    engine: &mut Running<'_, R>,
+    journal: &mut Journal<W>,
+    watch: &mut V,
+) -> Result<(), EngineFault>
+    requires { engine.old.ended ≡ false }
+    ensures ran { OnOk result (Ran 1 (seen words_of kept_lines engine.old journal.old) (seen words_of kept_lines engine.new journal.new)) }
+    ensures goes_on { OnOk result (engine.new.ended ≡ false) }
+{
+    engine.turns_watched(1, journal, watch)
+}
+
 /// Makes a turn, and looks at the clients.
 fn turn<R: Clock + AllocGlobal, W: Write, V: Counting>(
     rt: &R,
@@ -57,7 +70,7 @@ fn turn<R: Clock + AllocGlobal, W: Write, V: Counting>(
         (unlogged (seen words_of kept_lines engine.new journal.new))) }
     ensures goes_on { IfOk result (λ course. course ≢ Course.Ended → engine.new.ended ≡ false) }
 {
-    engine.turns_watched(1, journal, watch)?;
+    step(engine, journal, watch)?;
     Ok(desk.look(rt, engine, watch.first.counted(), &watch.second, journal))
 }
 

@@ -7,5 +7,5 @@ use Rattle.ripngd_daemon.proofs.controlled.turn.Goals as goal
 
 pub returns-clause-does : goal.returns-clause-does
 returns-clause-does g c =
-    let turned = seen words_of kept_lines c.turns_watched.new.self c.turns_watched.new.log in
-    let ran = c.in_ok-turns_watched.ensures.runs c.requires in (unlogged turned, ran_unlogged 1 _ turned ran.1, c.look.ensures.heeds)
+    let turned = seen words_of kept_lines c.step.new.engine c.step.new.journal in
+    (unlogged turned, ran_unlogged 1 _ turned c.in_ok-step.ensures.ran, c.look.ensures.heeds)
