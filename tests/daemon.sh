@@ -290,6 +290,29 @@ a_second_start_leaves_the_logs() {
         same "the log that is emptied" "$(cat "$folder/other.log")" "add 2001:db8::/32 metric 1 direct"
 }
 
+# A router that a signal ended, perhaps within a line, and one that goes on in its log: neither keeps the routes of the other.
+a_router_goes_on_in_the_log_of_another() {
+    alone onward.toml
+    start onward run -R "$folder/onward.log" "$folder/onward.toml" && local onward=$pid
+    until_true grep -q '^add 2001:db8::' "$folder/onward.log" || because "it did not come up" || return
+    end "$onward"
+    printf 'add ::/0 metric 2 via fe80::2 iface 0\nadd 2001:d' >> "$folder/onward.log"
+    run run --append --turns 1 -R "$folder/onward.log" "$folder/onward.toml"
+    same status "$status" 0 &&
+        same "the log" "$(cat "$folder/onward.log")" "add 2001:db8::/32 metric 1 direct
+add ::/0 metric 2 via fe80::2 iface 0
+add 2001:d
+start
+add 2001:db8::/32 metric 1 direct" &&
+        shows_table onward "2001:db8::/32 metric 1 direct" || return
+    run run --append --turns 1 -R /dev/full "$folder/onward.toml"
+    same "the status where no start can be written" "$status" 3 &&
+        same "standard error" "$(cat "$folder/err")" "ripngd: cannot write /dev/full" || return
+    run run --append --turns 1 -R - "$folder/onward.toml"
+    same "the status on standard output" "$status" 2 && same output "$(cat "$folder/out")" "" &&
+        same "the first word on standard error" "$(head -n 1 "$folder/err")" "error: '--append' goes with '-R FILE', where FILE is not '-'"
+}
+
 # Another program copies a log and empties it, as `copytruncate` of logrotate(8) does.
 a_log_that_is_emptied_goes_on_at_its_end() {
     neighbors
@@ -742,6 +765,109 @@ a_running_router_is_stopped() {
         same "standard error" "$(cat "$folder/err")" "ripngd: nobody listens at $folder/stopped.sock"
 }
 
+# `follow NAME WHO`: follows that router, printing to WHO.out; the id is in `$pid`.
+follow() {
+    start "$2" ctl "$folder/$1.sock" changes
+}
+
+# `has_followed NAME TABLE`: whether these are the lines of the table that what NAME.out has makes.
+has_followed() {
+    run table "$folder/$1.out"
+    same "the status of table $1.out" "$status" 0 && same "the table that $1 has followed" "$(cat "$folder/out")" "$2"
+}
+
+# One follows from the start on, and one from later on: both are told the table first, and each change behind it. The desk serves
+# others meanwhile.
+a_running_router_is_followed() {
+    neighbors
+    listening east && local east=$pid && follow east early && local early=$pid || return
+    until_true grep -qx 'add 2001:db8:e::/48 metric 1 direct' "$folder/early.out" || because "no table comes" || return
+    start west run "$folder/west.toml" && local west=$pid
+    until_true grep -qx 'add 2001:db8:f::/48 metric 2 via fe80::f iface 0' "$folder/early.out" || because "no change comes" || return
+    answers east 0 "" gain 2001:db8:1::/48 7 && answers east 0 "" drop 2001:db8:1::/48 &&
+        answers east 0 "" gain 2001:db8:2::/48 7 || return
+    until_true grep -qx 'add 2001:db8:2::/48 metric 1 direct' "$folder/early.out" || because "what is gained is not told" || return
+    same "what was told first" "$(cat "$folder/early.out")" "add 2001:db8:e::/48 metric 1 direct
+add 2001:db8:f::/48 metric 2 via fe80::f iface 0
+add 2001:db8:1::/48 metric 1 direct
+del 2001:db8:1::/48
+add 2001:db8:2::/48 metric 1 direct" || return
+    follow east late && local late=$pid
+    until_true has_followed late "2001:db8:2::/48 metric 1 direct
+2001:db8:e::/48 metric 1 direct
+2001:db8:f::/48 metric 2 via fe80::f iface 0" || because "$why" || return
+    answers east 0 "" drop 2001:db8:2::/48 || return
+    local left="2001:db8:e::/48 metric 1 direct
+2001:db8:f::/48 metric 2 via fe80::f iface 0"
+    until_true has_followed early "$left" && until_true has_followed late "$left" || because "$why" || return
+    answers east 0 "$left" table && answers east 0 "" stop || return
+    finish "$late" && same "the status of who followed" "$status" 3 &&
+        same "standard error" "$(cat "$folder/late.err")" "ripngd: no whole answer from $folder/east.sock"
+    local followed=$?
+    end "$early"
+    end "$east"
+    end "$west"
+    return $followed
+}
+
+# A table is fed to a router while one follows that reads nothing, and is let go, and another that misses nothing.
+who_follows_and_takes_nothing_is_let_go() {
+    next_port
+    local at=$port
+    open_feed "$at" && local from=$feed || return
+    interface 1 "$at" 2 "$feed_port" > "$folder/followed.toml"
+    listening followed -R "$folder/followed.log" && local followed=$pid && follow followed keen && local keen=$pid || return
+    speak followed "s.send(b'changes\\n'); time.sleep(8); print(got().count('\\n') < $routes)" > "$folder/slow" &
+    local slow=$!
+    feed "$from" 0e "$routes" && told_all followed "$routes" 2 || return
+    wait "$slow"
+    same "whether the slow one missed lines" "$(cat "$folder/slow")" True || return
+    ctl followed table
+    local table
+    table=$(cat "$folder/out")
+    same "the number of lines of the table" "$(wc -l < "$folder/out")" "$routes" &&
+        { until_true has_followed keen "$table" || because "who reads misses lines"; }
+    local kept=$?
+    end "$keen"
+    end "$followed"
+    exec {from}>&-
+    return $kept
+}
+
+# Sixteen may follow, and another once one of them has gone.
+as_many_follow_as_may() {
+    alone many.toml
+    listening many && local many=$pid || return
+    speak many 'def head(f):
+    text = b""
+    while not text.endswith((b"ok\n", b"Follow\n")):
+        part = f.recv(99)
+        if not part:
+            break
+        text += part
+    return text.decode()
+def follow():
+    f = socket.socket(socket.AF_UNIX)
+    f.settimeout(20)
+    f.connect(sys.argv[1])
+    f.send(b"changes\n")
+    return f
+s.send(b"changes\n")
+head(s)
+more = [follow() for _ in range(15)]
+heads = [head(f) for f in more]
+print(len(set(heads)), head(follow()), end="")
+more[0].close()
+time.sleep(0.5)
+print(head(follow()), end="")' > "$folder/many"
+    same "what is answered" "$(cat "$folder/many")" "1 refused 54 CannotFollow
+add 2001:db8::/32 metric 1 direct
+ok"
+    local answered=$?
+    end "$many"
+    return $answered
+}
+
 # A socket that a killed router has left; and one at which a router answers, which is not disturbed by a second start.
 a_socket_of_a_router_that_is_gone_is_replaced() {
     alone gone.toml
@@ -850,6 +976,7 @@ try a_full_standard_output_is_told
 try a_reader_that_goes_away_is_not_told
 try a_port_in_use_is_named
 try a_second_start_leaves_the_logs
+try a_router_goes_on_in_the_log_of_another
 try a_log_that_is_emptied_goes_on_at_its_end
 try a_log_that_is_the_configuration_is_refused
 try a_log_goes_to_standard_output
@@ -868,6 +995,9 @@ try a_running_router_is_asked
 try a_running_router_tells_of_its_neighbors
 try a_running_router_is_told
 try a_running_router_meets_and_leaves_a_neighbor
+try a_running_router_is_followed
+try who_follows_and_takes_nothing_is_let_go
+try as_many_follow_as_may
 try a_running_router_is_stopped
 try a_socket_of_a_router_that_is_gone_is_replaced
 try a_socket_that_others_may_write_to_is_refused

@@ -11,7 +11,7 @@ use Rattle.ripngd_daemon.specs.declared.failure.Failure.{Failure}
 use Rattle.ripngd_daemon.specs.declared.failure.Failure.TheVariants as failures
 use Rattle.ripngd_page.specs.declared.fault.ServeFault.{ServeFault}
 use Rattle.ripngd_page.specs.declared.fault.ServeFault.TheVariants as serving
-use Rattle.ripngd_command_line.specs.Asked.{Asks}
+use Rattle.ripngd_command_line.specs.Asked.{Asks, IsMisused}
 use Rattle.ripngd_daemon.specs.Asking.{IsAnswerWritten}
 use Rattle.ripngd_daemon.specs.Checked.{IsChecked}
 use Rattle.ripngd_command_line.specs.CommandLine.{ripngd}
@@ -57,9 +57,9 @@ FailsWords words failure = (ask : Ask) × Asks words ask × MayFail ask failure
 abbrev pub AsksForHelp : List Text → Type 0
 AsksForHelp words = IsAmong DisplayHelp (fault_of ripngd words) ⊎ IsAmong DisplayVersion (fault_of ripngd words)
 
--- the words have a fault
+-- the words have a fault, or make no sense together
 abbrev pub HaveFault : List Text → Type 0
-HaveFault words = fault_of ripngd words ≢ []
+HaveFault words = (fault_of ripngd words ≢ []) ⊎ ((ask : Ask) × Asks words ask × IsMisused ask)
 
 -- what a fault of the page's server is to the program
 abbrev pub failure_of_serve : ServeFault → Failure

@@ -90,3 +90,13 @@ seconds_are_taken = refl
 seconds_are_some : fault_of ripngd (codes "ripngd" ∷ codes "run" ∷ codes "--seconds" ∷ codes "0" ∷ codes "c" ∷ []) ≡ ValueValidation ∷ []
 unfolding clap_on_literals
 seconds_are_some = refl
+
+-- `run --append -R log c`
+append_is_taken : takes ripngd (codes "ripngd" ∷ codes "run" ∷ codes "--append" ∷ codes "-R" ∷ codes "log" ∷ codes "c" ∷ []) ≡ true
+unfolding clap_on_literals
+append_is_taken = refl
+
+-- `ctl east.sock changes`
+changes_are_taken : takes ripngd (codes "ripngd" ∷ codes "ctl" ∷ codes "east.sock" ∷ codes "changes" ∷ []) ≡ true
+unfolding clap_on_literals
+changes_are_taken = refl

@@ -1,5 +1,5 @@
 -- What the words of a command line ask of ripngd.
-use Rattle.std.specs.Prelude.{◌≡◌, ◌≤◌, ℕ, List, Option, Some, None, codes, option_map, IsTrue, ◌↔◌}
+use Rattle.std.specs.Prelude.{◌≡◌, ◌≢◌, ◌≤◌, ℕ, List, Option, Some, None, codes, option_map, IsTrue, ◌↔◌}
 use Rattle.std.specs.Str.Parse.{digits_value, without_leading_plus}
 use Rattle.clap.specs.Walk.{Row, Text, first_of, one_of}
 use Rattle.clap.specs.Simple.{subcommand_of}
@@ -33,11 +33,26 @@ pub record IsOrdered (order : Order) (rows : List Row) : Type 0 where
   pub debug : IsTrue order.debug ↔ IsSet rows (codes "debug")
   pub tag : HasNumber rows (codes "tag") order.tag
   pub log : option_map (λ s. s.now) order.log ≡ first_of (codes "log") rows
+  pub append : IsTrue order.append ↔ IsSet rows (codes "append")
   pub turns : HasNumber rows (codes "turns") order.turns
   pub some : 1 ≤ order.turns
   pub seconds : AreSeconds order.seconds rows
   pub control : option_map (λ s. s.now) order.control ≡ first_of (codes "control") rows
   pub config : first_of (codes "CONFIG") rows ≡ Some order.config.now
+
+-- the log of a run is a file
+abbrev pub IsFile : Option Text → Type 0
+IsFile None = ⊥
+IsFile (Some name) = name ≢ codes "-"
+
+-- a run is to go on in a log, and that is no file
+abbrev pub IsMisordered : Order → Type 0
+IsMisordered order = IsTrue order.append × ¬ (IsFile (option_map (λ s. s.now) order.log))
+
+-- what is asked makes no sense, though each word of it may be given
+abbrev pub IsMisused : Ask → Type 0
+IsMisused (asks.Run order) = IsMisordered order
+IsMisused _ = ⊥
 
 -- the rows of `ctl` ask this
 pub record IsQuestion (question : Question) (rows : List Row) : Type 0 where

@@ -106,6 +106,7 @@ fn run_asked<'a>(matches: &ArgMatches<'a>) -> Option<Ask<'a>>
         debug: is_set(matches, "debug"),
         tag: tag_given(matches)?,
         log: text(matches, "log"),
+        append: is_set(matches, "append"),
         turns: turns_given(matches)?,
         seconds: seconds_given(matches)?,
         control: text(matches, "control"),

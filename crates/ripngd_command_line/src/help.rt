@@ -63,6 +63,8 @@ pub(crate) const CTL: &str = "\
 What the router answers is printed. The commands are
   routes                 its routes, with their gateways and what is left of them
   table                  its forwarding table
+  changes                its forwarding table, and then each change of it as it
+                         comes, until a signal ends this
   counts                 what came, was sent, refused and lost
   neighbors              what came from each of its neighbors, and when last
   cost INTERFACE COST    the cost of an interface is another from now on
@@ -83,8 +85,10 @@ Example, of a router that was started with `run --control east.sock`:
 pub(crate) const TABLE: &str = "\
 The table that the changes of the log make is printed, a line for each prefix,
 as `run` prints it at its end. The router of the log may still run: a last line
-that it has not written to its end is left out. Where a line is that of no
-change, its number is printed instead, and the exit status is 1.
+that it has not written to its end is left out. Where a router has gone on in
+the log of another by `--append`, only what stands behind the last line `start`
+counts. Where a line is that of no change, its number is printed instead, and
+the exit status is 1.
 
 Example:
   ripngd table east.log";

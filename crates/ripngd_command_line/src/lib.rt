@@ -4,9 +4,11 @@
 mod asked;
 mod command_line;
 mod help;
+mod misuse;
 mod options;
 mod subcommands;
 
 pub use asked::{Ask, Order, Question, Serve};
 pub use command_line::ask;
 pub use help::VERSION;
+pub use misuse::{APPEND_NEEDS_A_FILE, is_misused};

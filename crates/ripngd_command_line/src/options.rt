@@ -1,7 +1,7 @@
 //! The options and arguments of the subcommands.
 
 ghost use Rattle.std.specs.Prelude.{codes};
-ghost use Rattle.ripngd_command_line.specs.CommandLine.{IsArg, control_option, debug_option, explain_option, film_option, log_option, optional_rule, port_option, positional, quiet_option, requests_option, seconds_option, tag_option, trace_option, turns_option};
+ghost use Rattle.ripngd_command_line.specs.CommandLine.{IsArg, append_option, control_option, debug_option, explain_option, film_option, log_option, optional_rule, port_option, positional, quiet_option, requests_option, seconds_option, tag_option, trace_option, turns_option};
 
 use clap::{Arg, ArgAction, value_parser};
 use std::alloc::Global;
@@ -57,8 +57,18 @@ pub(crate) fn log<'a>(alloc: Global) -> Arg<'a>
     ensures { IsArg result log_option }
 {
     Arg::new(alloc, "log").short('R').value_name("FILE").help(
-        "Write a line to FILE at each change of a route; what FILE held is lost",
+        "Write a line to FILE at each change of a route; what FILE held is lost, but for --append",
     )
+}
+
+/// `--append`: the log is not emptied.
+pub(crate) fn append<'a>(alloc: Global) -> Arg<'a>
+    ensures { IsArg result append_option }
+{
+    Arg::new(alloc, "append")
+        .long("append")
+        .action(ArgAction::SetTrue)
+        .help("Keep what the FILE of -R holds, and write a line `start` behind it")
 }
 
 /// `--turns N`, from 1 to 4,294,967,295.

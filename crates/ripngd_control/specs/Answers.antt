@@ -77,6 +77,7 @@ reply_text (replies.LinkRefused number name) = codes "refused " ++ (decimal numb
 reply_text replies.NoSuchInterface = codes "refused 51 NoSuchInterface"
 reply_text replies.NoSuchCommand = codes "refused 52 NoSuchCommand"
 reply_text replies.Ended = codes "refused 53 Ended"
+reply_text replies.CannotFollow = codes "refused 54 CannotFollow"
 
 -- what a change did to an engine, by what is replied
 abbrev pub ObeysChange : Change → Seen → Reply → Seen → Type 0
@@ -85,4 +86,5 @@ ObeysChange c a (replies.Refused why) b = (b.machine.ended ≡ false) × (why �
 ObeysChange c a replies.NoSuchInterface b = (b ≡ a) × ¬ (NamesInterface a.machine.router.config c)
 ObeysChange c a (replies.LinkRefused number name) b = ⊥
 ObeysChange c a replies.NoSuchCommand b = ⊥
+ObeysChange c a replies.CannotFollow b = ⊥
 ObeysChange c a replies.Ended b = (b.machine.ended ≡ true) × Acts (ReconfiguresOnce c) a b

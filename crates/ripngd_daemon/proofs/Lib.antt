@@ -1,3 +1,4 @@
+mod Unlogged
 pub mod Failing
 pub mod Turns
 pub mod Lasting

@@ -6,7 +6,8 @@ use Rattle.rand_pcg.specs.Lcg.{Lcg}
 use Rattle.router_core.specs.Config.{Config as RouterValue}
 use Rattle.ripngd_engine.specs.Seen.{Seen, Started, untouched}
 use Rattle.ripngd_daemon.specs.declared.failure.Failure.{Failure}
-use Rattle.ripngd_daemon.specs.Controlled.{LastsFor}
+use Rattle.ripngd_daemon.proofs.Unlogged.{started_unlogged}
+use Rattle.ripngd_daemon.specs.Controlled.{LastsFor, unlogged}
 use Rattle.ripngd_daemon.specs.Ending.{RanInTime, RanTurns, RanUntil}
 use Rattle.ripngd_daemon.specs.declared.limit.Limit.{Limit}
 use Rattle.ripngd_daemon.specs.Ran.{ShowsBound, ShowsControlled, words_of}
@@ -29,7 +30,16 @@ shows_turns router rng limit log begun done old new (Err e) started ran shown = 
 -- or that made some of them, and was told changes between them
 pub shows_controlled : (router : RouterValue) (rng : Lcg) (limit : Limit) (log : Option (List ℕ)) (begun done : Seen) (old new : Option (List ℕ))
     (r : Result (Unit {0}) Failure) → Started router (words_of rng) (untouched None None log) begun
-    → OnOk r (LastsFor limit.seconds limit.turns begun done) → OnOk r (Appends old new (table_text done.machine.fib)) → OnOk r (ShowsControlled router rng limit old new)
-shows_controlled router rng limit log begun done old new (Ok u) started lasted shown =
-    (done.machine.fib, record { log = log; begun = begun; done = done; started = started; lasted = lasted; table_is = refl }, shown)
+    → OnOk r (LastsFor limit.seconds limit.turns (unlogged begun) done) → OnOk r (Appends old new (table_text done.machine.fib)) → OnOk r (ShowsControlled router rng limit old new)
+shows_controlled router rng limit log begun done old new (Ok u) started lasted shown = (
+  done.machine.fib,
+  record {
+    begun = unlogged begun;
+    done = done;
+    started = started_unlogged router (words_of rng) (untouched None None log) begun started;
+    lasted = lasted;
+    table_is = refl;
+  },
+  shown,
+)
 shows_controlled router rng limit log begun done old new (Err e) started lasted shown = tt

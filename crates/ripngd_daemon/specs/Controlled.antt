@@ -38,6 +38,10 @@ abbrev pub DoesAll : Option ℕ → List TurnOrCommand → Seen → Seen → Typ
 DoesAll seconds [] a b = b ≡ a
 DoesAll seconds (d ∷ deeds) a b = (m : Seen) × DoesTurnOrCommand seconds d a m × DoesAll seconds deeds m b
 
+-- what is seen of an engine and of what stands around it, but for what stands in its log
+abbrev pub unlogged : Seen → Seen
+unlogged a = record a { outside = record a.outside { text = None } }
+
 -- a router was told a change, or it is as it was
 abbrev pub Heeds : Seen → Seen → Type 0
 Heeds a b = (b ≡ a) ⊎ ((c : Change) × (reply : Reply) × ObeysChange c a reply b)
@@ -52,12 +56,11 @@ pub record LastsFor (seconds : Option ℕ) (turns : ℕ) (a b : Seen) : Type 0 w
   pub within : turns_in deeds ≤ turns
   pub does : DoesAll seconds deeds a b
 
--- a router of this configuration started with these random words, over a link and a clock that tell nothing, and lasted for its
+-- a router of this configuration started with these random words, over a link, a clock and a log that tell nothing, and lasted for its
 -- limit at most; this is its forwarding table then
 pub record IsControlled (router : RouterValue) (words : Stream) (limit : Limit) (table : Forwarding) : Type 0 where
-  pub log : Option (List ℕ)  -- what stood in its log
   pub begun : Seen
   pub done : Seen
-  pub started : Started router words (untouched None None log) begun
+  pub started : Started router words (untouched None None None) begun
   pub lasted : LastsFor limit.seconds limit.turns begun done
   pub table_is : table ≡ done.machine.fib

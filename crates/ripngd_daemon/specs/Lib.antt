@@ -4,6 +4,7 @@ pub mod Said
 pub mod Losses
 pub mod Checked
 pub mod Tabled
+pub mod Beginning
 pub mod Ending
 pub mod Controlled
 pub mod Ran

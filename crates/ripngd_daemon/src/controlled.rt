@@ -2,8 +2,9 @@
 
 ghost use Rattle.std.specs.Prelude.{◌≡◌, ◌≢◌, IfErr, IfOk, OnOk, false, length};
 ghost use Rattle.std.specs.Io.KnownBytes.{Appends};
-ghost use Rattle.ripngd_engine.specs.Seen.{seen};
-ghost use Rattle.ripngd_daemon.specs.Controlled.{LastsFor, TurnsAndHeeds};
+ghost use Rattle.ripngd_engine.specs.Seen.{Ran, seen};
+ghost use Rattle.ripngd_following.specs.Following.{kept_lines};
+ghost use Rattle.ripngd_daemon.specs.Controlled.{LastsFor, TurnsAndHeeds, unlogged};
 ghost use Rattle.ripngd_daemon.specs.Failing.{FailsTurns};
 ghost use Rattle.ripngd_daemon.specs.Ran.{ShowsControlled, words_of};
 ghost use Rattle.ripngd_daemon.specs.Tabled.{table_text};
@@ -12,11 +13,12 @@ use crate::desk::Desk;
 use crate::failure::Failure;
 use crate::forwarding::write_table;
 use crate::limit::{Limit, is_over};
-use crate::losses::with_link;
+use crate::losses::{with_link, with_log};
 use crate::router::Running;
 use rand_pcg::Pcg32;
 use ripngd_control::{Course, Losses};
 use ripngd_engine::{Engine, EngineFault, Watch};
+use ripngd_following::Journal;
 use ripngd_udp::{Udp, Uptime};
 use ripngd_watch::{Both, Counts, DebugLines, Neighbors};
 use router_core::RouterConfig;
@@ -42,21 +44,34 @@ impl<W: Write> Counting for DebugLines<W> {
     }
 }
 
+/// Makes a turn. The journal keeps a line for each change that it made.
+fn step<R: Clock + AllocGlobal, W: Write, V: Watch>(
+    engine: &mut Running<'_, R>,
+    journal: &mut Journal<W>,
+    watch: &mut V,
+) -> Result<(), EngineFault>
+    requires { engine.old.ended ≡ false }
+    ensures ran { OnOk result (Ran 1 (seen words_of kept_lines engine.old journal.old) (seen words_of kept_lines engine.new journal.new)) }
+    ensures goes_on { OnOk result (engine.new.ended ≡ false) }
+{
+    engine.turns_watched(1, journal, watch)
+}
+
 /// Makes a turn, and looks at the clients.
 fn turn<R: Clock + AllocGlobal, W: Write, V: Counting>(
     rt: &R,
     engine: &mut Running<'_, R>,
     desk: &mut Desk,
-    log: &mut W,
+    journal: &mut Journal<W>,
     watch: &mut Both<V, Neighbors>,
 ) -> Result<Course, EngineFault>
     requires { engine.old.ended ≡ false }
-    ensures does { OnOk result (TurnsAndHeeds (seen words_of W.contents engine.old log.old)
-        (seen words_of W.contents engine.new log.new)) }
+    ensures does { OnOk result (TurnsAndHeeds (unlogged (seen words_of kept_lines engine.old journal.old))
+        (unlogged (seen words_of kept_lines engine.new journal.new))) }
     ensures goes_on { IfOk result (λ course. course ≢ Course.Ended → engine.new.ended ≡ false) }
 {
-    engine.turns_watched(1, log, watch)?;
-    Ok(desk.look(rt, engine, watch.first.counted(), &watch.second, log))
+    step(engine, journal, watch)?;
+    Ok(desk.look(rt, engine, watch.first.counted(), &watch.second, journal))
 }
 
 /// Makes turns until the limit, or until it is told to stop.
@@ -68,19 +83,20 @@ fn make_turns<'a, R: Clock + AllocGlobal, W: Write, V: Counting>(
     engine: &mut Running<'_, R>,
     desk: &mut Desk,
     limit: Limit,
-    log: &mut W,
+    journal: &mut Journal<W>,
     watch: &mut Both<V, Neighbors>,
 ) -> Result<(), Failure<'a>>
     requires { engine.old.ended ≡ false }
-    ensures lasts { OnOk result (LastsFor limit.seconds limit.turns (seen words_of W.contents engine.old log.old)
-        (seen words_of W.contents engine.new log.new)) }
+    ensures lasts { OnOk result (LastsFor limit.seconds limit.turns
+        (unlogged (seen words_of kept_lines engine.old journal.old))
+        (unlogged (seen words_of kept_lines engine.new journal.new))) }
     ensures failed { IfErr result (FailsTurns limit.turns) }
 {
     for done in 0..limit.turns {
         if is_over(limit.seconds, engine) {
             return Ok(());
         }
-        match turn(rt, engine, desk, log, watch) {
+        match turn(rt, engine, desk, journal, watch) {
             Ok(Course::GoOn) => {}
             Ok(Course::Stop) => return Ok(()),
             Ok(Course::Ended) | Err(EngineFault::OutOfMemory) => return Err(Failure::OutOfMemory),
@@ -96,17 +112,18 @@ fn show_turns<'a, R: Clock + AllocGlobal, W: Write, V: Counting, O: Write>(
     engine: &mut Running<'_, R>,
     desk: &mut Desk,
     limit: Limit,
-    log: &mut W,
+    journal: &mut Journal<W>,
     watch: &mut Both<V, Neighbors>,
     out: &mut O,
 ) -> Result<(), Failure<'a>>
     requires { engine.old.ended ≡ false }
-    ensures lasts { OnOk result (LastsFor limit.seconds limit.turns (seen words_of W.contents engine.old log.old)
-        (seen words_of W.contents engine.new log.new)) }
+    ensures lasts { OnOk result (LastsFor limit.seconds limit.turns
+        (unlogged (seen words_of kept_lines engine.old journal.old))
+        (unlogged (seen words_of kept_lines engine.new journal.new))) }
     ensures shown { OnOk result (Appends (O.contents out.old) (O.contents out.new) (table_text engine.new.fib)) }
     ensures failed { IfErr result (FailsTurns limit.turns) }
 {
-    make_turns(rt, engine, desk, limit, log, watch)?;
+    make_turns(rt, engine, desk, limit, journal, watch)?;
     write_table(engine.fib(), out).map_err(|_| Failure::Output)
 }
 
@@ -130,10 +147,18 @@ pub(crate) fn run_controlled<'r, 'a, R: Clock + Net + AllocGlobal, W: Write, V: 
     ensures failed { IfErr result (FailsTurns limit.turns) }
 {
     let clock = Uptime::new(rt);
-    let mut engine: Running<'r, R> = Engine::start(rt.alloc(), router, link, clock, rng, log)?;
-    let outcome = show_turns(rt, &mut engine, desk, limit, log, watch, out);
+    let mut journal = Journal::new(rt.alloc(), log);
+    let mut engine: Running<'r, R> = Engine::start(
+        rt.alloc(),
+        router,
+        link,
+        clock,
+        rng,
+        &mut journal,
+    )?;
+    let outcome = show_turns(rt, &mut engine, desk, limit, &mut journal, watch, out);
     *counts = watch.first.counted();
-    let report = engine.report();
+    let report = with_log(engine.report(), journal.has_failed());
     let mut link = engine.into_link();
     link.finish();
     *lost = with_link(

@@ -20,6 +20,8 @@ pub(crate) struct Plan<'a> {
     pub(crate) debug: bool,
     /// The file that gets its log.
     pub(crate) log: Option<&'a str>,
+    /// Whether what that file holds stays.
+    pub(crate) append: bool,
     /// The path of the socket at which it is asked and told.
     pub(crate) control: Option<&'a str>,
 }
@@ -37,6 +39,7 @@ pub(crate) fn plan_of<'a>(
     ensures limit { IfOk result (λ plan. plan.limit ≡ limit_of order.entry) }
     ensures debug { IfOk result (λ plan. plan.debug ≡ order.entry.debug) }
     ensures log { IfOk result (λ plan. plan.log ≡ order.entry.log) }
+    ensures append { IfOk result (λ plan. plan.append ≡ order.entry.append) }
     ensures control { IfOk result (λ plan. plan.control ≡ order.entry.control) }
     ensures one_each { IfOk result (λ plan. HasOneEach plan.config) }
     ensures refused { IfErr result (RefusesConfig text.now order.entry.tag order.entry.quiet) }
@@ -50,6 +53,7 @@ pub(crate) fn plan_of<'a>(
         },
         debug: order.debug,
         log: order.log,
+        append: order.append,
         control: order.control,
     })
 }

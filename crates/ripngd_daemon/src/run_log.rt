@@ -1,7 +1,9 @@
 //! The file that gets the lines of a run. It is written at its end, whoever else shortens it, and locked while it is open.
 
-ghost use Rattle.std.specs.Prelude.{◌≡◌, ◌≢◌, ◌⊎◌, IfErr, IfOk, Some, option_map};
+ghost use Rattle.std.specs.Io.KnownBytes.{Appends};
+ghost use Rattle.std.specs.Prelude.{◌≡◌, ◌≢◌, ◌⊎◌, IfErr, IfOk, None, OnOk, Some, option_map, true};
 ghost use Rattle.ripngd_command_line.specs.declared.asked.Ask.TheVariants as asks;
+ghost use Rattle.ripngd_daemon.specs.Beginning.{start_lines};
 ghost use Rattle.ripngd_daemon.specs.Failing.{MayFail};
 ghost use Rattle.ripngd_daemon.specs.declared.failure.Failure.TheVariants as failures;
 
@@ -117,14 +119,24 @@ pub(crate) fn open_log<'a, R: Files<File = File>>(
     }
 }
 
-/// Empties a log, which has a name if it is a file.
+/// Empties a log, which has a name if it is a file; or keeps what it holds, and writes behind it that a run begins. A line
+/// feed stands before that, since the last line may have been cut off.
 ///
 /// # Errors
-/// `Log` with that name, where it cannot be emptied; `OutOfMemory`.
-pub(crate) fn empty_log<'a, L: Log>(name: Option<&'a str>, log: &mut L) -> Result<(), Failure<'a>>
-    ensures { IfErr result (λ f. (f ≡ failures.OutOfMemory) ⊎ (option_map failures.Log name.entry ≡ Some f)) }
+/// `Log` with that name, where it cannot be emptied or written; `OutOfMemory`.
+pub(crate) fn begin_log<'a, L: Log>(
+    name: Option<&'a str>,
+    append: bool,
+    log: &mut L,
+) -> Result<(), Failure<'a>>
+    ensures kept { name.entry ≢ None → append ≡ true → OnOk result (Appends (L.contents log.old) (L.contents log.new) start_lines) }
+    ensures failed { IfErr result (λ f. (f ≡ failures.OutOfMemory) ⊎ (option_map failures.Log name.entry ≡ Some f)) }
 {
-    match (log.empty(), name) {
+    let begun = match append {
+        true => log.write_all(b"\nstart\n"),
+        false => log.empty(),
+    };
+    match (begun, name) {
         (Err(error), Some(file)) => Err(failed(Failure::Log(file), &error)),
         _ => Ok(()),
     }

@@ -10,29 +10,26 @@ ghost use Rattle.ripngd_daemon.specs.Failing.{FailsLogged, FailsPlanned, FailsTu
 ghost use Rattle.ripngd_daemon.specs.Ran.{IsRan, ShowsBound, ShowsControlled, ShowsOrdered, ShowsTurns, words_of};
 ghost use Rattle.ripngd_daemon.specs.Tabled.{table_text};
 ghost use Rattle.ripngd_daemon.specs.declared.failure.Failure.TheVariants as failures;
-ghost use Rattle.ripngd_door.specs.declared.door.DoorFault.{DoorFault};
 ghost use Rattle.ripngd_udp.specs.Udp.{new_link};
 
 use crate::checking::write_refusal;
-use crate::controlled::run_controlled;
-use crate::desk::Desk;
 use crate::failure::Failure;
 use crate::forwarding::write_table;
 use crate::limit::{Limit, is_over};
+use crate::listening::run_at;
 use crate::losses::with_link;
 use crate::plan::{Plan, plan_of};
 use crate::reading::FileSource;
 use crate::router::Running;
-use crate::run_log::{Log, Output, empty_log, open_log, refuse_own_config};
+use crate::run_log::{Log, Output, begin_log, open_log, refuse_own_config};
 use crate::warnings::write_echoes;
 use rand_pcg::Pcg32;
 use ripngd_command_line::Order;
 use ripngd_config::{Config, Peer, Place};
 use ripngd_control::Losses;
-use ripngd_door::Door;
 use ripngd_engine::{Engine, EngineFault, Unwatched, Watch};
 use ripngd_udp::{Udp, Uptime};
-use ripngd_watch::{Both, Counts, DebugLines, Neighbors};
+use ripngd_watch::DebugLines;
 use router_core::RouterConfig;
 use std::fs::File;
 use std::io::{self, Write};
@@ -41,10 +38,11 @@ use std::rt::{Clock, Files};
 
 /// Runs the router of a configuration until it has made its turns or its seconds have passed, and then writes its
 /// forwarding table, a line for each entry. Each change of a route is a line of the log, if a file is named for it, whose old
-/// contents are lost once all ports are bound.
+/// contents are lost once all ports are bound, but where it is to be gone on in: a line feed and a line `start` are then written
+/// behind them.
 /// A configuration that is refused is written as `refused ..`, before that file is touched, and the answer is then false.
 /// What the router lost is left in `lost`, also where it ended early. `err` gets the line `ripngd: running, N interfaces` once
-/// all ports are bound and the log is emptied, and before it one for each interface that is its own peer. Where the router is
+/// all ports are bound and the log is begun, and before it one for each interface that is its own peer. Where the router is
 /// to be debugged, it also gets a line for each arrival and entry that is refused, and counts of all at its end, early or
 /// not; a failure of `err` changes nothing else.
 ///
@@ -53,7 +51,7 @@ use std::rt::{Clock, Files};
 ///
 /// # Errors
 /// The first thing that failed: a log that is the configuration, to read the configuration, to open the log or to lock it,
-/// to bind a port, to listen, to empty the log, the link, memory, or `out`.
+/// to bind a port, to listen, to empty the log or to write in it that the run begins, the link, memory, or `out`.
 pub fn run<
     'a,
     R: Files<File = File> + Print + Clock + Net + AllocGlobal,
@@ -108,16 +106,17 @@ fn run_plan<'a, R: Files<File = File> + Print + Clock + Net + AllocGlobal, O: Wr
     }
 }
 
-/// Binds the ports, and empties the log when all of them are bound.
+/// Binds the ports, and empties the log when all of them are bound, or goes on in it.
 ///
 /// # Errors
 /// `Bind` with a port that cannot be bound, and the log is then as it was; `Log` with its name, where it cannot be
-/// emptied; `OutOfMemory`.
-fn bind_and_empty<'r, 'a, R: Clock + Net + AllocGlobal, L: Log>(
+/// emptied or written; `OutOfMemory`.
+fn bind_and_begin<'r, 'a, R: Clock + Net + AllocGlobal, L: Log>(
     rt: &'r R,
     places: &[Place],
     peers: Vec<Vec<Peer>>,
     name: Option<&'a str>,
+    append: bool,
     log: &mut L,
 ) -> Result<Udp<'r, R>, Failure<'a>>
     requires { length places.now ≡ vec_len peers }
@@ -126,7 +125,7 @@ fn bind_and_empty<'r, 'a, R: Clock + Net + AllocGlobal, L: Log>(
     ensures failed { IfErr result (λ f. (turns : ℕ) → FailsLogged turns (option_map (λ s. s.now) name.entry) f) }
 {
     let link = Udp::bind(rt, rt.alloc(), places, peers)?;
-    empty_log(name, log)?;
+    begin_log(name, append, log)?;
     Ok(link)
 }
 
@@ -150,144 +149,16 @@ fn run_logged<'a, R: Files + Clock + Net + AllocGlobal, L: Log, O: Write, E: Wri
         limit,
         debug,
         log: name,
+        append,
         control,
     } = plan;
     let _ = write_echoes(&config, err);
     match control {
-        None => run_alone(rt, config, limit, debug, name, log, out, err, lost),
-        Some(path) => run_at(rt, path, config, limit, debug, name, log, out, err, lost),
+        None => run_alone(rt, config, limit, debug, name, append, log, out, err, lost),
+        Some(path) => run_at(
+            rt, path, config, limit, debug, name, append, log, out, err, lost,
+        ),
     }
-}
-
-/// Opens the door at a path.
-fn open_desk<'a, R: Files + Net>(rt: &R, path: &'a str) -> Result<Desk, Failure<'a>>
-    ensures { IfErr result (λ f. (why : DoorFault) × (f ≡ failures.Listen path.entry why)) }
-{
-    match Door::open(rt, path) {
-        Ok(door) => Ok(Desk::new(door)),
-        Err(why) => Err(Failure::Listen(path, why)),
-    }
-}
-
-/// Binds the ports, opens the door at a path, and runs the router while clients ask and tell it.
-fn run_at<'a, R: Files + Clock + Net + AllocGlobal, L: Log, O: Write, E: Write>(
-    rt: &R,
-    path: &'a str,
-    config: Config,
-    limit: Limit,
-    debug: bool,
-    name: Option<&'a str>,
-    log: &mut L,
-    out: &mut O,
-    err: &mut E,
-    lost: &mut Losses,
-) -> Result<(), Failure<'a>>
-    requires { HasOneEach config }
-    ensures shown { OnOk result (ShowsControlled config.router config.rng limit (O.contents out.old) (O.contents out.new)) }
-    ensures failed { IfErr result (FailsPlanned limit.turns (option_map (λ s. s.now) name.entry) (Some path.entry.now)) }
-{
-    let Config {
-        router,
-        places,
-        peers,
-        rng,
-    } = config;
-    let link = Udp::bind(rt, rt.alloc(), places.as_slice(), peers)?;
-    let mut desk = open_desk(rt, path)?;
-    let outcome = run_at_desk(
-        rt, router, link, rng, &mut desk, limit, debug, name, log, out, err, lost,
-    );
-    desk.close(rt, path);
-    outcome
-}
-
-/// Empties the log, says that the router runs, and runs it at a desk.
-fn run_at_desk<'r, 'a, R: Clock + Net + AllocGlobal, L: Log, O: Write, E: Write>(
-    rt: &'r R,
-    router: RouterConfig,
-    link: Udp<'r, R>,
-    rng: Pcg32,
-    desk: &mut Desk,
-    limit: Limit,
-    debug: bool,
-    name: Option<&'a str>,
-    log: &mut L,
-    out: &mut O,
-    err: &mut E,
-    lost: &mut Losses,
-) -> Result<(), Failure<'a>>
-    requires { link.interfaces ≡ length router.interfaces }
-    ensures shown { OnOk result (ShowsControlled router rng limit (O.contents out.old) (O.contents out.new)) }
-    ensures failed { IfErr result (FailsLogged limit.turns (option_map (λ s. s.now) name.entry)) }
-{
-    empty_log(name, log)?;
-    let _ = writeln!(
-        err,
-        "ripngd: running, {} interfaces",
-        router.interfaces().len()
-    );
-    let mut counts = Counts::new();
-    if !debug {
-        let mut watch = Both {
-            first: Counts::new(),
-            second: Neighbors::new(rt.alloc()),
-        };
-        return run_controlled(
-            rt,
-            router,
-            link,
-            rng,
-            desk,
-            limit,
-            log,
-            &mut watch,
-            out,
-            lost,
-            &mut counts,
-        );
-    }
-    let outcome = run_debugged(
-        rt,
-        router,
-        link,
-        rng,
-        desk,
-        limit,
-        log,
-        out,
-        err,
-        lost,
-        &mut counts,
-    );
-    let _ = writeln!(err, "{counts}");
-    outcome
-}
-
-/// Runs a router at a desk, and writes what it refuses to `err`.
-fn run_debugged<'r, 'a, R: Clock + Net + AllocGlobal, L: Log, O: Write, E: Write>(
-    rt: &'r R,
-    router: RouterConfig,
-    link: Udp<'r, R>,
-    rng: Pcg32,
-    desk: &mut Desk,
-    limit: Limit,
-    log: &mut L,
-    out: &mut O,
-    err: &mut E,
-    lost: &mut Losses,
-    counts: &mut Counts,
-) -> Result<(), Failure<'a>>
-    requires { link.interfaces ≡ length router.interfaces }
-    ensures shown { OnOk result (ShowsControlled router rng limit (O.contents out.old) (O.contents out.new)) }
-    ensures failed { IfErr result (FailsTurns limit.turns) }
-{
-    let mut watch = Both {
-        first: DebugLines::new(err),
-        second: Neighbors::new(rt.alloc()),
-    };
-    run_controlled(
-        rt, router, link, rng, desk, limit, log, &mut watch, out, lost, counts,
-    )
 }
 
 /// Binds the ports, says that the router runs, and runs it.
@@ -297,6 +168,7 @@ fn run_alone<'a, R: Clock + Net + AllocGlobal, L: Log, O: Write, E: Write>(
     limit: Limit,
     debug: bool,
     name: Option<&'a str>,
+    append: bool,
     log: &mut L,
     out: &mut O,
     err: &mut E,
@@ -312,7 +184,7 @@ fn run_alone<'a, R: Clock + Net + AllocGlobal, L: Log, O: Write, E: Write>(
         peers,
         rng,
     } = config;
-    let link = bind_and_empty(rt, places.as_slice(), peers, name, log)?;
+    let link = bind_and_begin(rt, places.as_slice(), peers, name, append, log)?;
     let _ = writeln!(err, "ripngd: running, {} interfaces", places.len());
     if !debug {
         return run_bound(rt, router, link, rng, limit, log, &mut Unwatched, out, lost);

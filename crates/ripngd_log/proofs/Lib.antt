@@ -1,3 +1,5 @@
 mod WordTexts
 mod Readings
 mod OneReading
+mod OneRun
+mod Passing

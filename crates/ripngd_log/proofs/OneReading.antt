@@ -10,14 +10,15 @@ use Rattle.fib.specs.declared.change.Hop.TheVariants.{Direct, Via}
 use Rattle.fib.specs.declared.change.RouteChange.{RouteChange}
 use Rattle.fib.specs.declared.change.RouteChange.TheVariants.{Install, Withdraw}
 use Rattle.ripngd_engine.specs.Log.{hop_text, change_text, log_of}
-use Rattle.ripngd_log.specs.Reading.{IsWritableHop, IsWritableChange, HasNoLineFeed, IsLogOf, IsFirstBadLine}
+use Rattle.ripngd_log.specs.Reading.{IsWritableHop, IsWritableChange, IsRunOf, IsFirstBadOfRun}
+use Rattle.ripngd_log.specs.Runs.{HasNoLineFeed}
 use Rattle.ripngd_log.proofs.WordTexts.{addr_in_word, decimal_in_word, prefix_in_word, change_in_line}
 
 abbrev pub Lacks : ℕ → List ℕ → Type 0
 Lacks b xs = All (λ c. c ≢ b) xs
 
 -- a text is split at the first of a byte in one way
-one_split : (b : ℕ) (xs ys us vs : List ℕ) → Lacks b xs → Lacks b us → xs ++ (b ∷ ys) ≡ us ++ (b ∷ vs) → (xs ≡ us) × (ys ≡ vs)
+pub one_split : (b : ℕ) (xs ys us vs : List ℕ) → Lacks b xs → Lacks b us → xs ++ (b ∷ ys) ≡ us ++ (b ∷ vs) → (xs ≡ us) × (ys ≡ vs)
 one_split b [] ys [] vs h k e = (refl, cc)
 one_split b [] ys (u ∷ us) vs h k e = let same : u ≡ b = cc in absurd (All-head (λ c. c ≢ b) u us k same)
 one_split b (x ∷ xs) ys [] vs h k e = let same : x ≡ b = cc in absurd (All-head (λ c. c ≢ b) x xs h same)
@@ -27,7 +28,7 @@ one_split b (x ∷ xs) ys (u ∷ us) vs h k e =
     let later = one_split b xs ys us vs (All-tail (λ c. c ≢ b) x xs h) (All-tail (λ c. c ≢ b) u us k) rest in
     (cc (later.0), later.1)
 
-has_it : (b : ℕ) (xs ys : List ℕ) → ¬ (Lacks b (xs ++ (b ∷ ys)))
+pub has_it : (b : ℕ) (xs ys : List ℕ) → ¬ (Lacks b (xs ++ (b ∷ ys)))
 has_it b [] ys h = All-head (λ c. c ≢ b) b ys h refl
 has_it b (x ∷ xs) ys h = has_it b xs ys (All-tail (λ c. c ≢ b) x (xs ++ (b ∷ ys)) h)
 
@@ -74,7 +75,7 @@ module _ (addr_reads : (a : ℕ) → a < 2 ^ 128 → Reads (written_addr a) a) (
       let parts = one_split 10 (change_text c) (log_of cs ++ r) (change_text d) (log_of ds ++ s) (change_in_line c is_c) (change_in_line d is_d) (sym (front c cs r) ∙ e ∙ front d ds s) in
       ap₂ ◌∷◌ (same_change c d is_c is_d parts.0) (same_log cs ds r s (All-tail IsWritableChange c cs h) (All-tail IsWritableChange d ds k) free other parts.1)
 
-  pub one_reading : (text : List ℕ) (cs ds : List RouteChange) → IsLogOf text cs → IsLogOf text ds → cs ≡ ds
+  pub one_reading : (text : List ℕ) (cs ds : List RouteChange) → IsRunOf text cs → IsRunOf text ds → cs ≡ ds
   one_reading text cs ds h k = same_log cs ds h.rest k.rest h.lawful k.lawful h.unended k.unended (sym h.spelled ∙ k.spelled)
 
   no_log : (cs ds : List RouteChange) (bad after r : List ℕ) → All IsWritableChange cs → All IsWritableChange ds → HasNoLineFeed bad → ((d : RouteChange) → IsWritableChange d → change_text d ≢ bad) → HasNoLineFeed r → log_of cs ++ (bad ++ (10 ∷ after)) ≢ log_of ds ++ r
@@ -89,7 +90,7 @@ module _ (addr_reads : (a : ℕ) → a < 2 ^ 128 → Reads (written_addr a) a) (
       let parts = one_split 10 (change_text c) (log_of cs ++ (bad ++ (10 ∷ after))) (change_text d) (log_of ds ++ r) (change_in_line c is_c) (change_in_line d is_d) (sym (front c cs (bad ++ (10 ∷ after))) ∙ e ∙ front d ds r) in
       no_log cs ds bad after r (All-tail IsWritableChange c cs h) (All-tail IsWritableChange d ds k) line none free parts.1
 
-  pub no_reading : (text : List ℕ) (line : ℕ) (changes : List RouteChange) → IsFirstBadLine text line → ¬ (IsLogOf text changes)
+  pub no_reading : (text : List ℕ) (line : ℕ) (changes : List RouteChange) → IsFirstBadOfRun text line → ¬ (IsRunOf text changes)
   no_reading text line changes h k =
       no_log h.before changes h.bad h.after k.rest h.lawful k.lawful h.is_line h.no_change k.unended
       (sym (append_assoc (log_of h.before) h.bad (10 ∷ h.after)) ∙ sym h.spelled ∙ k.spelled)

@@ -9,6 +9,7 @@ use Rattle.fib.specs.declared.change.RouteChange.{RouteChange}
 use Rattle.fib.specs.declared.change.RouteChange.TheVariants.{Install, Withdraw}
 use Rattle.fib.specs.Forwarding.{Forwarding, Replays}
 use Rattle.ripngd_engine.specs.Log.{change_text, log_of}
+use Rattle.ripngd_log.specs.Runs.{HasNoLineFeed, IsLastRun}
 use Rattle.ripngd_log.specs.declared.fault.LogFault.{LogFault}
 use Rattle.ripngd_log.specs.declared.fault.LogFault.TheVariants.{BadLine, OutOfMemory}
 
@@ -22,16 +23,16 @@ abbrev pub IsWritableChange : RouteChange → Type 0
 IsWritableChange (Install p hop metric) = IsPrefix p × IsWritableHop hop × (metric < 2 ^ 8)
 IsWritableChange (Withdraw p) = IsPrefix p
 
--- no byte is a line feed (10)
-abbrev pub HasNoLineFeed : List ℕ → Type 0
-HasNoLineFeed text = All (λ b. b ≢ 10) text
-
 -- a line for each change, and the rest, which is of a line that has no end yet
-pub record IsLogOf (text : List ℕ) (changes : List RouteChange) : Type 0 where
+pub record IsRunOf (text : List ℕ) (changes : List RouteChange) : Type 0 where
   pub rest : List ℕ
   pub lawful : All IsWritableChange changes
   pub spelled : text ≡ log_of changes ++ rest
   pub unended : HasNoLineFeed rest
+
+-- these are the changes of the last run
+abbrev pub IsLogOf : List ℕ → List RouteChange → Type 0
+IsLogOf text changes = (run : List ℕ) × (skipped : ℕ) × IsLastRun text run skipped × IsRunOf run changes
 
 -- the table that the changes make, one after another, where there was none
 pub record MakesTable (text : List ℕ) (table : Forwarding) : Type 0 where
@@ -39,8 +40,8 @@ pub record MakesTable (text : List ℕ) (table : Forwarding) : Type 0 where
   pub is_log : IsLogOf text changes
   pub replayed : Replays map.empty changes table
 
--- the line of a number is the first that is not the line of a change
-pub record IsFirstBadLine (text : List ℕ) (line : ℕ) : Type 0 where
+-- the line of a number is the first of a run that is not the line of a change
+pub record IsFirstBadOfRun (text : List ℕ) (line : ℕ) : Type 0 where
   pub before : List RouteChange
   pub bad : List ℕ
   pub after : List ℕ
@@ -49,6 +50,15 @@ pub record IsFirstBadLine (text : List ℕ) (line : ℕ) : Type 0 where
   pub is_line : HasNoLineFeed bad
   pub numbered : line ≡ length before + 1
   pub no_change : (c : RouteChange) → IsWritableChange c → change_text c ≢ bad
+
+-- what a refusal says of a run behind so many lines; want of memory says nothing
+abbrev pub RefusesRun : List ℕ → ℕ → LogFault → Type 0
+RefusesRun run skipped (BadLine line) = (in_run : ℕ) × IsFirstBadOfRun run in_run × (line ≡ skipped + in_run)
+RefusesRun run skipped OutOfMemory = Unit {0}
+
+-- the line of a number is the first of the last run that is not the line of a change
+abbrev pub IsFirstBadLine : List ℕ → ℕ → Type 0
+IsFirstBadLine text line = (run : List ℕ) × (skipped : ℕ) × IsLastRun text run skipped × RefusesRun run skipped (BadLine line)
 
 -- what a refusal says of the text; want of memory says nothing
 abbrev pub RefusesLog : List ℕ → LogFault → Type 0

@@ -3,7 +3,7 @@
 use ripngd::program;
 
 /// Words that have a fault.
-const FAULTS: [&[&str]; 21] = [
+const FAULTS: [&[&str]; 24] = [
     &[],
     &["ripngd"],
     &["ripngd", "show"],
@@ -16,6 +16,9 @@ const FAULTS: [&[&str]; 21] = [
     &["ripngd", "run", "--turns", "4294967296", "file"],
     &["ripngd", "run", "-t", "65536", "file"],
     &["ripngd", "run", "-t", "0x10", "file"],
+    &["ripngd", "run", "--append", "file"],
+    &["ripngd", "run", "--append", "-R", "-", "file"],
+    &["ripngd", "run", "--append=1", "-R", "log", "file"],
     &["ripngd", "ctl"],
     &["ripngd", "ctl", "east.sock"],
     &["ripngd", "ctl", "east.sock", "cost", "0", "1", "2", "3"],
@@ -47,4 +50,15 @@ fn a_fault_of_the_command_line_is_explained(rt: HostRuntime) {
     let text =
         "error: the following required arguments were not provided:\n  <HEX>\n\nUsage: ripngd show <HEX>\n\nFor more information, try '--help'.\n";
     assert!(rt; err.as_slice() == text.as_bytes());
+}
+
+#[test]
+fn a_log_that_is_no_file_is_not_gone_on_in(rt: HostRuntime) {
+    let mut out = Vec::new(rt.alloc());
+    let mut err = Vec::new(rt.alloc());
+    let words = ["ripngd", "run", "--append", "-R", "-", "absent.toml"];
+    assert_eq!(rt; program(&rt, &words, &mut out, &mut err), 2);
+    let text =
+        "error: '--append' goes with '-R FILE', where FILE is not '-'\n\nFor more information, try '--help'.\n";
+    assert!(rt; out.is_empty() && err.as_slice() == text.as_bytes());
 }

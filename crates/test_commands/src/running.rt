@@ -248,6 +248,31 @@ fn a_quiet_run_sends_nothing_and_makes_the_turns_that_are_ordered(
     Ok(())
 }
 
+#[test]
+fn a_run_goes_on_in_a_log(rt: HostRuntime) -> Result<(), Fail> {
+    let ports = ((1, free_port(&rt)?), (2, free_port(&rt)?));
+    let text = config_text(rt.alloc(), "2001:db8::/32", ports.0, ports.1)?;
+    std::fs::write(&rt, "going_on.toml", text.as_str())?;
+    std::fs::write(&rt, "going_on.txt", "add ::/0 metric 1 direct\nadd 2001:d")?;
+    let words = [
+        "ripngd",
+        "run",
+        "--append",
+        "--turns",
+        "1",
+        "-R",
+        "going_on.txt",
+        "going_on.toml",
+    ];
+    assert!(rt; outcome(&rt, &words)?.0 == 0);
+    let log = std::fs::read(&rt, "going_on.txt")?;
+    let wanted = "add ::/0 metric 1 direct\nadd 2001:d\nstart\nadd 2001:db8::/32 metric 1 direct\n";
+    assert!(rt; log.as_slice() == wanted.as_bytes());
+    let (status, out, _) = outcome(&rt, &["ripngd", "table", "going_on.txt"])?;
+    assert!(rt; status == 0 && out.as_slice() == b"2001:db8::/32 metric 1 direct\n".as_slice());
+    Ok(())
+}
+
 /// How long a run with these options lasts.
 ///
 /// # Errors

@@ -4,7 +4,7 @@ use ripngd::{program, table};
 use std::test::Fail;
 
 /// A log, whether it is one, and what `table` prints of it.
-const LOGS: [(&str, bool, &str); 8] = [
+const LOGS: [(&str, bool, &str); 12] = [
     ("", true, ""),
     (
         "add 2001:db8:e::/48 metric 1 direct\nadd 2001:db8:f::/48 metric 2 via fe80::f iface 0\n",
@@ -36,6 +36,23 @@ const LOGS: [(&str, bool, &str); 8] = [
         "line 2 refused 1 BadLine\n",
     ),
     ("\n", false, "line 1 refused 1 BadLine\n"),
+    // What stands before the last start does not count, whatever it is.
+    (
+        "add ::/0 metric 1 direct\nadd 2001:db8::/3\nstart\nadd 2001:db8::/32 metric 1 direct\n",
+        true,
+        "2001:db8::/32 metric 1 direct\n",
+    ),
+    ("add ::/0 metric 1 direct\n\nstart\n", true, ""),
+    (
+        "\nstart\nadd ::/0 metric 1 direct\nstart\nadd ::/0 metric 2 direct\nstart",
+        true,
+        "::/0 metric 2 direct\n",
+    ),
+    (
+        "add ::/0 metric 1 direct\nstart\nadd ::/0 metric 2 direct\nstarted\n",
+        false,
+        "line 4 refused 1 BadLine\n",
+    ),
     (
         "seed = 1\nadd 2001:db8::/32 metric 1 direct\n",
         false,

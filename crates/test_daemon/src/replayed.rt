@@ -121,6 +121,22 @@ fn malformed_line_is_refused_with_its_number(rt: HostRuntime) -> Result<(), Fail
 }
 
 #[test]
+fn only_what_stands_behind_the_last_start_counts(rt: HostRuntime) -> Result<(), Fail> {
+    let log =
+        "add ::/0 metric 1 direct\n\nstart\nadd 2001:db8:5::/48 metric 2 direct\nadd 2001:db8:6\nstart\n\
+        add 2001:db8:6::/48 metric 3 via fe80::b iface 12\nstart";
+    let fib = read_log(rt.alloc(), log.as_bytes())?;
+    let entries = [(prefix(&rt, 0x2001_0db8, 6, 48), via(12, 0xb), 3)];
+    assert_eq!(rt; fib.entries(), entries.as_slice());
+    // Lines are counted from the first of the whole log.
+    let fault = read_log(rt.alloc(), b"\nstart\ndel ::/0\nrestart\n".as_slice()).err();
+    assert!(rt; fault == Some(LogFault::BadLine { line: 4 }));
+    let begun = read_log(rt.alloc(), b"del ::/0\nstart\n".as_slice())?;
+    assert!(rt; begun.is_empty());
+    Ok(())
+}
+
+#[test]
 fn bytes_that_are_no_text_are_refused(rt: HostRuntime) {
     for bad in [
         b"del ::/0\ndel ::\xff/0\n".as_slice(),

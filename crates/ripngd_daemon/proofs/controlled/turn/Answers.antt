@@ -1,8 +1,11 @@
 use Rattle.ripngd_engine.specs.Seen.{seen}
+use Rattle.ripngd_following.specs.Following.{kept_lines}
+use Rattle.ripngd_daemon.specs.Controlled.{unlogged}
 use Rattle.ripngd_daemon.specs.Ran.{words_of}
+use Rattle.ripngd_daemon.proofs.Unlogged.{ran_unlogged}
 use Rattle.ripngd_daemon.proofs.controlled.turn.Goals as goal
 
 pub returns-clause-does : goal.returns-clause-does
 returns-clause-does g c =
-    let turned = seen words_of g.W.Write.contents c.turns_watched.new.self c.turns_watched.new.log in
-    let ran = c.in_ok-turns_watched.ensures.runs c.requires in (turned, ran.1, c.look.ensures.heeds)
+    let turned = seen words_of kept_lines c.step.new.engine c.step.new.journal in
+    (unlogged turned, ran_unlogged 1 _ turned c.in_ok-step.ensures.ran, c.look.ensures.heeds)
