@@ -269,7 +269,7 @@ a_port_in_use_is_named() {
     wait "$holder" 2> /dev/null
     same status "$status" 3 &&
         same output "$(cat "$folder/out")" "" &&
-        same "standard error" "$(cat "$folder/err")" "ripngd: cannot bind ${used##* }"
+        same "standard error" "$(cat "$folder/err")" "ripngd: cannot bind ${used##* }: in use"
 }
 
 # A second start beside a router that runs: on its log, and on another beside its port.

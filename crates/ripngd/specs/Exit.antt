@@ -9,6 +9,7 @@ use Rattle.ripngd_command_line.specs.declared.asked.Ask.{Ask}
 use Rattle.ripngd_command_line.specs.declared.asked.Ask.TheVariants as asks
 use Rattle.ripngd_daemon.specs.declared.failure.Failure.{Failure}
 use Rattle.ripngd_daemon.specs.declared.failure.Failure.TheVariants as failures
+use Rattle.ripngd_udp.specs.declared.bind_cause.BindCause.TheVariants as causes
 use Rattle.ripngd_page.specs.declared.fault.ServeFault.{ServeFault}
 use Rattle.ripngd_page.specs.declared.fault.ServeFault.TheVariants as serving
 use Rattle.ripngd_command_line.specs.Asked.{Asks, IsMisused}
@@ -63,7 +64,7 @@ HaveFault words = (fault_of ripngd words ≢ []) ⊎ ((ask : Ask) × Asks words 
 
 -- what a fault of the page's server is to the program
 abbrev pub failure_of_serve : ServeFault → Failure
-failure_of_serve (serving.Bind port) = failures.Bind port
+failure_of_serve (serving.Bind port) = failures.Bind port causes.Other
 failure_of_serve serving.Accept = failures.Accept
 failure_of_serve serving.Write = failures.Output
 failure_of_serve serving.OutOfMemory = failures.OutOfMemory

@@ -11,6 +11,7 @@ use ripngd_command_line::Serve;
 use ripngd_daemon::Failure;
 use ripngd_page::{ServeFault, serve_page, write_film};
 use ripngd_show::PrintFault;
+use ripngd_udp::BindCause;
 use std::alloc::Global;
 use std::io::Write;
 use std::net::Net;
@@ -40,7 +41,7 @@ fn serving_failure<'a>(fault: ServeFault) -> Failure<'a>
     ensures { result ≡ failure_of_serve fault }
 {
     match fault {
-        ServeFault::Bind(port) => Failure::Bind(port),
+        ServeFault::Bind(port) => Failure::Bind(port, BindCause::Other),
         ServeFault::Accept => Failure::Accept,
         ServeFault::Write => Failure::Output,
         ServeFault::OutOfMemory => Failure::OutOfMemory,

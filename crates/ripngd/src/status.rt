@@ -40,8 +40,9 @@ pub(crate) enum Status {
 ///   script that `lab` runs, a line on `err` may say what the line should have been;
 /// - 2 at a fault of the command line, or where `--append` has no file to go on in; the text is written to `err`;
 /// - 3 where something else failed, as a line on `err` says: `ripngd: cannot read FILE`, `ripngd: cannot write FILE` (with
-///   `stdout` for `out`), `ripngd: cannot bind PORT`, `ripngd: cannot accept a connection`, `ripngd: link fault after N
-///   turns` or `ripngd: out of memory`; but nothing is said of an `out` that nobody reads any more.
+///   `stdout` for `out`), `ripngd: cannot bind PORT` (and why, where the system says so), `ripngd: cannot accept a
+///   connection`, `ripngd: link fault after N turns` or `ripngd: out of memory`; but nothing is said of an `out` that
+///   nobody reads any more.
 ///
 /// A run that is debugged writes what it refuses to `err`, and counts. One that lost something has a last line on `err` that says what, also with status 0: `ripngd: lost sends N, lost
 /// steps M`, with `, log failed` behind it where a write of the log failed.

@@ -54,7 +54,7 @@ abbrev pub MayFail : Ask → Failure → Type 0
 MayFail ask (failures.Read file) = file_of ask ≡ Some file.now
 MayFail ask (failures.Log file) = log_file_of ask ≡ Some file.now
 MayFail ask failures.Output = ⊤
-MayFail ask (failures.Bind port) = IsTrue (has_sockets ask)
+MayFail ask (failures.Bind port cause) = IsTrue (has_sockets ask)
 MayFail ask (failures.Listen path why) = door_of ask ≡ Some path.now
 MayFail ask (failures.Ask path) = asks_at ask ≡ Some path.now
 MayFail ask (failures.Answer path) = asks_at ask ≡ Some path.now

@@ -5,6 +5,8 @@ use Rattle.ripngd_daemon.specs.declared.failure.Failure.TheVariants as failures
 use Rattle.ripngd_door.specs.declared.door.DoorFault.{DoorFault}
 use Rattle.ripngd_door.specs.declared.door.DoorFault.TheVariants as doors
 use Rattle.ripngd_show.specs.Shown.{newline}
+use Rattle.ripngd_udp.specs.declared.bind_cause.BindCause.{BindCause}
+use Rattle.ripngd_udp.specs.declared.bind_cause.BindCause.TheVariants as causes
 
 -- why a router cannot listen, behind where
 abbrev pub why_text : DoorFault → List ℕ
@@ -12,12 +14,18 @@ why_text doors.Taken = codes ": somebody answers there"
 why_text doors.Shared = codes ": others may write to it; start under umask 077"
 why_text doors.Failed = []
 
+-- why a port cannot be bound, behind it
+abbrev pub cause_text : BindCause → List ℕ
+cause_text causes.NotPermitted = codes ": not permitted"
+cause_text causes.InUse = codes ": in use"
+cause_text causes.Other = []
+
 -- what failed, with its file, its path, its port or its turns
 abbrev pub failure_text : Failure → List ℕ
 failure_text (failures.Read file) = codes "cannot read " ++ file.now
 failure_text (failures.Log file) = codes "cannot write " ++ file.now
 failure_text failures.Output = codes "cannot write stdout"
-failure_text (failures.Bind port) = codes "cannot bind " ++ decimal port
+failure_text (failures.Bind port cause) = codes "cannot bind " ++ (decimal port ++ cause_text cause)
 failure_text (failures.Listen path why) = codes "cannot listen at " ++ (path.now ++ why_text why)
 failure_text (failures.Ask path) = codes "nobody listens at " ++ path.now
 failure_text (failures.Answer path) = codes "no whole answer from " ++ path.now

@@ -4,13 +4,13 @@ ghost use Rattle.std.specs.Prelude.{◌≡◌, ◌≢◌, OnOk, Some};
 ghost use Rattle.std.specs.Io.KnownBytes.{Appends};
 ghost use Rattle.std.specs.IoError.{error_kind};
 ghost use Rattle.ripngd_daemon.specs.Faults.{failure_of, failure_of_engine, failure_of_link};
-ghost use Rattle.ripngd_daemon.specs.Said.{failure_line, failure_text, why_text};
+ghost use Rattle.ripngd_daemon.specs.Said.{cause_text, failure_line, failure_text, why_text};
 ghost use Rattle.ripngd_daemon.specs.declared.failure.Failure.TheVariants as failures;
 
 use ripngd_door::DoorFault;
 use ripngd_engine::EngineFault;
 use ripngd_show::PrintFault;
-use ripngd_udp::UdpError;
+use ripngd_udp::{BindCause, UdpError};
 use std::fmt::{self, Display};
 use std::io::{self, ErrorKind, Write};
 
@@ -24,7 +24,7 @@ pub enum Failure<'a> {
     /// Standard output failed.
     Output,
     /// A port of 127.0.0.1 cannot be bound.
-    Bind(u16),
+    Bind(u16, BindCause),
     /// A router cannot listen at a path.
     Listen(&'a str, DoorFault),
     /// Nobody listens at a path.
@@ -50,6 +50,17 @@ fn why_text(why: DoorFault) -> &'static str
     }
 }
 
+/// Why a port cannot be bound, behind it.
+fn cause_text(cause: BindCause) -> &'static str
+    ensures { result.now ≡ cause_text cause }
+{
+    match cause {
+        BindCause::NotPermitted => ": not permitted",
+        BindCause::InUse => ": in use",
+        BindCause::Other => "",
+    }
+}
+
 impl Display for Failure<'_> {
     ghost output = { λ failure. Some (failure_text failure) };
 
@@ -58,7 +69,7 @@ impl Display for Failure<'_> {
             Failure::Read(file) => write!(f, "cannot read {file}"),
             Failure::Log(file) => write!(f, "cannot write {file}"),
             Failure::Output => write!(f, "cannot write stdout"),
-            Failure::Bind(port) => write!(f, "cannot bind {port}"),
+            Failure::Bind(port, cause) => write!(f, "cannot bind {port}{}", cause_text(cause)),
             Failure::Listen(path, why) => write!(f, "cannot listen at {path}{}", why_text(why)),
             Failure::Ask(path) => write!(f, "nobody listens at {path}"),
             Failure::Answer(path) => write!(f, "no whole answer from {path}"),
@@ -114,7 +125,7 @@ impl From<UdpError> for Failure<'_> {
 
     fn from(fault: UdpError) -> Self {
         match fault {
-            UdpError::Bind { port, .. } => Failure::Bind(port),
+            UdpError::Bind { port, cause } => Failure::Bind(port, cause),
             UdpError::OutOfMemory => Failure::OutOfMemory,
         }
     }

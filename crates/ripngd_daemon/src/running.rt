@@ -11,6 +11,7 @@ ghost use Rattle.ripngd_daemon.specs.Ran.{IsRan, ShowsBound, ShowsControlled, Sh
 ghost use Rattle.ripngd_daemon.specs.Tabled.{table_text};
 ghost use Rattle.ripngd_daemon.specs.declared.failure.Failure.TheVariants as failures;
 ghost use Rattle.ripngd_udp.specs.Udp.{new_link};
+ghost use Rattle.ripngd_udp.specs.declared.bind_cause.BindCause.{BindCause};
 
 use crate::checking::write_refusal;
 use crate::failure::Failure;
@@ -121,7 +122,7 @@ fn bind_and_begin<'r, 'a, R: Clock + Net + AllocGlobal, L: Log>(
 ) -> Result<Udp<'r, R>, Failure<'a>>
     requires { length places.now ≡ vec_len peers }
     ensures bound { IfOk result (λ link. link ≡ new_link places.now (map (λ v. v.items) peers.items)) }
-    ensures kept { (port : ℕ) → result ≡ Err (failures.Bind port) → log.new ≡ log.old }
+    ensures kept { (port : ℕ) (cause : BindCause) → result ≡ Err (failures.Bind port cause) → log.new ≡ log.old }
     ensures failed { IfErr result (λ f. (turns : ℕ) → FailsLogged turns (option_map (λ s. s.now) name.entry) f) }
 {
     let link = Udp::bind(rt, rt.alloc(), places, peers)?;

@@ -182,7 +182,7 @@ fn a_port_in_use_is_said(rt: HostRuntime) -> Result<(), Fail> {
     let text = config_text(rt.alloc(), "2001:db8::/32", (1, port), (2, free_port(&rt)?))?;
     std::fs::write(&rt, "in_use.toml", text.as_str())?;
     let (status, out, err) = outcome(&rt, &["ripngd", "run", "in_use.toml"])?;
-    let said = format!(in rt.alloc(); "ripngd: cannot bind {port}\n")?;
+    let said = format!(in rt.alloc(); "ripngd: cannot bind {port}: in use\n")?;
     assert!(rt; status == 3 && out.is_empty());
     assert!(rt; err.as_slice() == said.as_bytes());
     Ok(())
