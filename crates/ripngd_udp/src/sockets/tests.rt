@@ -202,6 +202,16 @@ fn comes(sockets: &mut Doubles<'_>, iface: usize, answers: &[Answer]) -> Result<
     Ok(())
 }
 
+/// Behind all that comes to the socket of an interface this comes again and again, of which the next wait tells.
+fn comes_without_end(sockets: &mut Doubles<'_>, iface: usize, answer: Answer) -> Result<(), Fail> {
+    let Some(endpoint) = sockets.endpoints.get_mut(iface) else {
+        return Err(Fail::from("an interface"));
+    };
+    endpoint.socket.then = answer;
+    sockets.waiting.next.push(iface)?;
+    Ok(())
+}
+
 /// How often the socket of an interface was read.
 fn reads(sockets: &Doubles<'_>, iface: usize) -> u32 {
     sockets

@@ -1,6 +1,6 @@
 //! When sockets are read, and what turns give.
 
-use super::{Answer, byte_of, clock_at_0, comes, doubles, given, reads, waits};
+use super::{Answer, byte_of, clock_at_0, comes, comes_without_end, doubles, given, reads, waits};
 use crate::reading::Unread;
 use crate::socket::local;
 use ripngd_engine::LinkFault;
@@ -63,10 +63,7 @@ fn interfaces_are_served_in_turn(rt: HostRuntime) -> Result<(), Fail> {
 fn a_neighbor_without_end_takes_no_room_of_another_interface(rt: HostRuntime) -> Result<(), Fail> {
     let clock = clock_at_0();
     let mut sockets = doubles(&clock, rt.alloc())?;
-    comes(&mut sockets, 0, &[])?;
-    if let Some(endpoint) = sockets.endpoints.get_mut(0) {
-        endpoint.socket.then = byte_of(2, 9);
-    }
+    comes_without_end(&mut sockets, 0, byte_of(2, 9))?;
     // A turn takes in 512 and gives one: after 32 turns 16,352 wait, so the next has room for 32, and each later one for one.
     for _ in 0..40 {
         assert_eq!(rt; given(&mut sockets)?, Some((0, 2, 9)));
