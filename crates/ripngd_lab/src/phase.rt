@@ -97,5 +97,5 @@ pub fn make_phases<V: Watch>(
     }
     let mut rng = Pcg32::seed_from_u64(seed);
     let last = run_phases(alloc, lab, phases, &mut rng, watch)?;
-    Ok(watch.phases_made(&MadePhases { phases, last: last.and(Some(0)) })?)
+    Ok(watch.phases_made(&MadePhases { phases, last })?)
 }
