@@ -20,6 +20,13 @@ is_refused Refused one = refl
 is_refused Usage one = let bad : 2 ≡ 1 = one in absurd (omega arith)
 is_refused Failed one = let bad : 3 ≡ 1 = one in absurd (omega arith)
 
+-- and 2 that of words that have a fault
+is_usage : (s : Status) → tag_of the_type s ≡ 2 → s ≡ Usage
+is_usage Done two = let bad : 0 ≡ 2 = two in absurd (omega arith)
+is_usage Refused two = let bad : 1 ≡ 2 = two in absurd (omega arith)
+is_usage Usage two = refl
+is_usage Failed two = let bad : 3 ≡ 2 = two in absurd (omega arith)
+
 pub returns-clause-done : goal.returns-clause-done
 returns-clause-done g c = elim c.match-outcome.branch [
   | in-Ok w ↦ λ zero. rw w.out-is (c.outcome.ensures.done (w.in-Ok.is ∙ ap Ok (sym w.status-is ∙ is_done c.match-outcome.status zero)))
@@ -30,4 +37,10 @@ pub returns-clause-refused : goal.returns-clause-refused
 returns-clause-refused g c = elim c.match-outcome.branch [
   | in-Ok w ↦ λ one. rw w.out-is (c.outcome.ensures.refused (w.in-Ok.is ∙ ap Ok (sym w.status-is ∙ is_refused c.match-outcome.status one)))
   | in-Err w ↦ λ one. absurd (let failed = w.status-is ∙ w.report-status.ensures in let refused = is_refused c.match-outcome.status one in cc)
+]
+
+pub returns-clause-usage : goal.returns-clause-usage
+returns-clause-usage g c = elim c.match-outcome.branch [
+  | in-Ok w ↦ λ two. c.outcome.ensures.usage (w.in-Ok.is ∙ ap Ok (sym w.status-is ∙ is_usage c.match-outcome.status two))
+  | in-Err w ↦ λ two. absurd (let failed = w.status-is ∙ w.report-status.ensures in let usage = is_usage c.match-outcome.status two in cc)
 ]
