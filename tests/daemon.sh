@@ -615,6 +615,34 @@ a_daemon_under_fire_keeps_its_routes() {
     return $learned
 }
 
+# Two neighbors, each on an interface of its own: one sends the longest datagrams that there are, without end, while the other
+# tells a large table at once. All of it is learned: none takes the room of another.
+one_neighbor_that_sends_without_end_takes_no_room_of_another() {
+    local loud_port quiet_port loud quiet
+    next_port && loud_port=$port
+    next_port && quiet_port=$port
+    open_feed "$loud_port" && loud=$feed || return
+    interface a "$loud_port" b "$feed_port" > "$folder/between.toml"
+    open_feed "$quiet_port" && quiet=$feed || return
+    interface c "$quiet_port" d "$feed_port" >> "$folder/between.toml"
+    start between run -R "$folder/between.log" "$folder/between.toml" && local between=$pid
+    until_true is_taken "$quiet_port" || because "it did not come up" || return
+    python3 -c 'import socket
+loud = socket.socket(fileno=0)
+while True:
+    try:
+        loud.send(bytes(65507))
+    except OSError:
+        pass' <&"$loud" &
+    local flood=$!
+    feed "$quiet" 0e "$routes" && told_all between "$routes" 2
+    local learned=$?
+    kill "$flood" && wait "$flood" 2> /dev/null
+    end "$between"
+    exec {loud}>&- {quiet}>&-
+    return $learned
+}
+
 # `listening NAME WORD..`: starts the router of NAME.toml with these words, and waits until it runs and listens at NAME.sock; its
 # id is in `$pid`.
 listening() {
@@ -989,6 +1017,7 @@ try a_quiet_daemon_learns_and_tells_nothing
 try one_of_sixteen_interfaces_is_busy
 try what_the_last_turn_tells_is_sent
 try a_daemon_under_fire_keeps_its_routes
+try one_neighbor_that_sends_without_end_takes_no_room_of_another
 try two_daemons_learn_a_large_table_from_each_other
 try three_neighbors_learn_a_large_table_at_once
 try a_running_router_is_asked
