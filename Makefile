@@ -12,7 +12,7 @@
 # make pictures     films and pictures of the examples, below docs (needs Chromium, a package of the system)
 # make test         the merge gate: every proof from nothing, the edits that must fail, tests and programs
 # make check CRATE= proves a crate and all above it, and runs their tests
-# make edits CRATE= tries all wrong bodies of a crate, also those that the gate does not; with EDIT= the one of that name
+# make edits CRATE= tries all wrong bodies of a crate, also those that the gate leaves out; with EDIT= the one of that name
 # make clean        forgets what earlier runs kept
 
 HEX ?= 02010000
@@ -104,7 +104,8 @@ check:
 	tests/above.sh $(CRATE)
 
 edits:
-	tests/edits.sh $(CRATE) $(EDIT)
+	tests/build.py $(CRATE)
+	tests/edits.py $(CRATE) $(EDIT)
 
 clean:
 	rm -rf bin dist crates/*/out

@@ -6,7 +6,8 @@
 One neighbor, which is this script, talks to each daemon by itself, one daemon after the other, TIMES over: to PROGRAM over UDP on
 127.0.0.1, to BIRD over a pair of virtual interfaces between two name spaces. It tells ROUTES routes of metric 1, 72 in a datagram,
 and tells them again. Of each daemon it prints what a route cost in microseconds of processor time (as the scheduler counts it) and in
-bytes of memory, in the middle of all runs, and the ratio of the two daemons in each run. Needs root, `ip` and BIRD 2 (Debian's
+bytes of memory, in the middle of all runs, and the ratio of the two daemons in each run; and last what PROGRAM takes where nothing
+comes, at one interface and at sixteen, the most that there may be, each with a neighbor that says nothing. Needs root, `ip` and BIRD 2 (Debian's
 packages iproute2 and bird2); where one is wanting it says `skipped: ..`. A run takes two minutes a daemon: regular updates are up to
 45 seconds apart."""
 
@@ -36,6 +37,9 @@ ROWS = (
     ("memory", "memory after that, bytes"),
     ("idle", "idle, ms a second"),
 )
+# So many interfaces has PROGRAM where nothing comes, and for so many seconds.
+IDLE_AT = (1, 16)
+IDLE_FOR = 10
 
 
 def responses(routes):
@@ -118,18 +122,50 @@ def measure(neighbor, routes):
     return found
 
 
+def free_ports(count):
+    """Ports of 127.0.0.1 at which nobody stands."""
+    sockets = [socket.socket(socket.AF_INET, socket.SOCK_DGRAM) for _ in range(count)]
+    for free in sockets:
+        free.bind(("127.0.0.1", 0))
+    ports = [free.getsockname()[1] for free in sockets]
+    for free in sockets:
+        free.close()
+    return ports
+
+
+def interface(number, ports):
+    """The tables of an interface with one peer, at these two ports."""
+    return (
+        f'[[interface]]\naddress = "fe80::b:{number}"\ncost = 1\nmtu = 1500\nlocal_port = {ports[0]}\n'
+        f'[[interface.peer]]\naddress = "fe80::a:{number}"\nlocal_port = {ports[1]}\n'
+    )
+
+
+def idle(program, folder, interfaces):
+    """Milliseconds of processor time that the program takes a second with so many interfaces, where nothing comes."""
+    ports = free_ports(2 * interfaces)
+    config = folder / "idle.toml"
+    config.write_text("seed = 1\n" + "".join(interface(number, ports[2 * number :]) for number in range(interfaces)))
+    with subprocess.Popen([program, "run", config], stdout=subprocess.DEVNULL, stderr=subprocess.PIPE, text=True) as daemon:
+        try:
+            said = daemon.stderr.readline()
+            if not said.startswith("ripngd: running"):
+                raise RuntimeError(said)
+            # The first Requests are sent, and nobody answers.
+            time.sleep(2)
+            schedstat = pathlib.Path(f"/proc/{daemon.pid}/schedstat")
+            before = int(schedstat.read_text().split()[0])
+            time.sleep(IDLE_FOR)
+            return (int(schedstat.read_text().split()[0]) - before) / IDLE_FOR / 1e6
+        finally:
+            daemon.kill()
+
+
 def ours(program, folder, routes):
     """The program, over UDP on 127.0.0.1."""
-    ports = []
-    for _ in range(2):
-        with socket.socket(socket.AF_INET, socket.SOCK_DGRAM) as free:
-            free.bind(("127.0.0.1", 0))
-            ports.append(free.getsockname()[1])
+    ports = free_ports(2)
     config = folder / "ripngd.toml"
-    config.write_text(
-        f'seed = 1\n[[interface]]\naddress = "fe80::b"\ncost = 1\nmtu = 1500\nlocal_port = {ports[0]}\n'
-        f'[[interface.peer]]\naddress = "fe80::a"\nlocal_port = {ports[1]}\n'
-    )
+    config.write_text("seed = 1\n" + interface(1, ports))
     with socket.socket(socket.AF_INET, socket.SOCK_DGRAM) as sock:
         sock.bind(("127.0.0.1", ports[1]))
         with subprocess.Popen([program, "run", config], stdout=subprocess.DEVNULL, stderr=subprocess.DEVNULL) as daemon:
@@ -188,6 +224,13 @@ def remove_spaces():
         subprocess.run(["ip", "netns", "del", space], stderr=subprocess.DEVNULL, check=False)
 
 
+def show_idle(idles):
+    """A row for each number of interfaces: the value in the middle of all runs, and the least and the greatest."""
+    for interfaces, found in idles:
+        title = f"idle, ms a second, interfaces: {interfaces}"
+        print(f"{title:44}{statistics.median(found):10.2f}{'':10}   ({min(found):.2f} to {max(found):.2f})")
+
+
 def show(runs, routes):
     """The table: each daemon's value in the middle of its runs, and the least, middle and greatest ratio."""
     print(f"{routes} routes, {len(runs)} runs of each, one after another")
@@ -210,10 +253,13 @@ def main():
     try:
         make_spaces()
         with tempfile.TemporaryDirectory() as folder:
-            runs = [(ours(program, pathlib.Path(folder), int(routes)), bird(pathlib.Path(folder), int(routes))) for _ in range(int(times))]
+            here = pathlib.Path(folder)
+            runs = [(ours(program, here, int(routes)), bird(here, int(routes))) for _ in range(int(times))]
+            idles = [(interfaces, [idle(program, here, interfaces) for _ in range(int(times))]) for interfaces in IDLE_AT]
     finally:
         remove_spaces()
     show(runs, int(routes))
+    show_idle(idles)
 
 
 if __name__ == "__main__":

@@ -1,43 +1,26 @@
 #!/usr/bin/env python3
-"""Proves and builds a program and the crates below it, as many side by side as there are processors.
+"""Proves and builds crates and all below them, as many side by side as there are processors.
 
-    tests/build.py PROGRAM
+    tests/build.py CRATE..        programs and libraries; `tests/build.py --tried` those that have edits, and the program
 
-A run of `rt` keeps the folders of all crates below its own to itself until it ends, so two crates over a common one are never proved at
-the same time in one tree. Here each crate is proved in a scratch tree of its own, which has it and, by links, all that was proved below
-it; what `rt` then kept is moved back. A crate that stands as it was proved here before is not proved again. A line tells of each crate
-that is done, and last how long all of it took; of a crate that is not proved, what `rt` said. The exit status is 0 where all are."""
+Each crate is proved in a scratch tree of its own (trees.py), and what `rt` then kept is moved back. A crate that stands as it was proved
+here before is not proved again. A line tells of each crate that is done, and last how long all of it took; of a crate that is not proved,
+what `rt` said. The exit status is 0 where all are."""
 
 import concurrent.futures as futures
 import hashlib
 import os
-import pathlib
-import re
 import shutil
 import subprocess
 import sys
 import tempfile
 import time
 
-ROOT = pathlib.Path(__file__).resolve().parent.parent
-SOURCES = ("src", "specs", "proofs")
+from trees import ROOT, SOURCES, below, libraries_of_all, make_tree
+
 SUM = "out/built.sum"
+PROGRAM = "ripngd_program"
 KIT = subprocess.run(["rt", "version"], capture_output=True, check=True).stdout
-
-
-def libraries_of_all():
-    """The libraries of this repository that each crate names in crates.txt."""
-    lines = (ROOT / "crates.txt").read_text().splitlines()
-    named = {name: words.split() for name, words in (line.split(":", 1) for line in lines if re.match(r"\w+:", line))}
-    return {name: [word for word in words if word in named] for name, words in named.items()}
-
-
-def below(crate, libraries):
-    """A crate's libraries and theirs, each behind its own."""
-    found = []
-    for library in libraries[crate]:
-        found += [one for one in [*below(library, libraries), library] if one not in found]
-    return found
 
 
 def sum_of(crate, libraries, sums):
@@ -50,38 +33,14 @@ def sum_of(crate, libraries, sums):
     return total.hexdigest()
 
 
-def link(file, to):
-    """A second name for a file of a library, into which nothing writes, or a copy where no link can be made."""
-    try:
-        os.link(file, to)
-    except OSError:
-        shutil.copy2(file, to)
-
-
-def copy_crate(crate, tree, is_built):
-    """Copies the sources of a crate to a tree, and the library that was built of it."""
-    for part in SOURCES:
-        if (ROOT / "crates" / crate / part).is_dir():
-            shutil.copytree(ROOT / "crates" / crate / part, tree / "crates" / crate / part)
-    if is_built:
-        shutil.copytree(ROOT / "crates" / crate / "out/rlib", tree / "crates" / crate / "out/rlib", copy_function=link)
-
-
-def prove(crate, libraries, is_program, jobs, scratch):
+def prove(crate, libraries, jobs, scratch):
     """Proves and builds one crate in a tree of its own, and answers how it ended, what was said and the seconds that it took."""
     begun = time.monotonic()
-    tree = pathlib.Path(tempfile.mkdtemp(dir=scratch))
-    libraries_below = below(crate, libraries)
-    shutil.copy2(ROOT / "HANDLES", tree)
-    lines = (ROOT / "crates.txt").read_text().splitlines()
-    (tree / "crates.txt").write_text("".join(f"{it}\n" for it in lines if it.split(":")[0] in [crate, *libraries_below]))
-    for library in libraries_below:
-        copy_crate(library, tree, True)
-    copy_crate(crate, tree, False)
+    tree = make_tree(crate, libraries, scratch)
     own, kept = tree / "crates" / crate, ROOT / "crates" / crate / "out"
     if kept.is_dir():
         kept.rename(own / "out")
-    command = ["rt", "run", "--jobs", str(jobs), "--", "show", "02010000"] if is_program else ["rt", "lib", "--jobs", str(jobs)]
+    command = ["rt", "run", "--jobs", str(jobs), "--", "show", "02010000"] if (own / "src/main.rt").is_file() else ["rt", "lib", "--jobs", str(jobs)]
     # What is beside the longest way gives way to it.
     if jobs == 1:
         command = ["nice", "-n", "10", *command]
@@ -92,9 +51,13 @@ def prove(crate, libraries, is_program, jobs, scratch):
     return ran.returncode == 0, ran.stdout, round(time.monotonic() - begun)
 
 
-def main(program):
+def main(wanted):
     libraries = libraries_of_all()
-    crates = [*below(program, libraries), program]
+    for crate in wanted:
+        if crate not in libraries:
+            sys.exit(f"crates.txt has no crate {crate}")
+    crates = [one for one in libraries if any(one == it or one in below(it, libraries) for it in wanted)]
+    crates.sort(key=lambda one: len(below(one, libraries)))
     ways = {}
     for crate in reversed(crates):
         ways[crate] = 1 + max((ways[one] for one in crates if crate in libraries[one]), default=0)
@@ -114,7 +77,7 @@ def main(program):
             for crate in sorted(ready, key=lambda one: -ways[one])[: cores - len(running)]:
                 is_longest = all(ways[at] < ways[crate] for at, _ in running.values())
                 jobs = cores if is_longest else 1
-                running[pool.submit(prove, crate, libraries, crate == program, jobs, scratch)] = (crate, jobs)
+                running[pool.submit(prove, crate, libraries, jobs, scratch)] = (crate, jobs)
             for ended in futures.wait(running, return_when=futures.FIRST_COMPLETED).done:
                 crate, _ = running.pop(ended)
                 is_proved, said, seconds = ended.result()
@@ -128,7 +91,12 @@ def main(program):
     return 0
 
 
+def tried():
+    """The crates that have edits, and the program."""
+    return [PROGRAM, *[one for one in libraries_of_all() if any((ROOT / "crates" / one / "edits").glob("*.edit"))]]
+
+
 if __name__ == "__main__":
-    if len(sys.argv) != 2:
-        sys.exit("usage: tests/build.py PROGRAM")
-    sys.exit(main(sys.argv[1]))
+    if len(sys.argv) < 2:
+        sys.exit("usage: tests/build.py CRATE.. or --tried")
+    sys.exit(main(tried() if sys.argv[1:] == ["--tried"] else sys.argv[1:]))

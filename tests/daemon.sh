@@ -279,7 +279,7 @@ a_second_start_leaves_the_logs() {
     until_true grep -q add "$folder/twice.log" || because "the first did not come up" || return
     run run --turns 1 -R "$folder/twice.log" "$folder/twice.toml"
     same status "$status" 3 && same output "$(cat "$folder/out")" "" &&
-        same "standard error" "$(cat "$folder/err")" "ripngd: cannot write $folder/twice.log" || return
+        same "standard error" "$(cat "$folder/err")" "ripngd: cannot write $folder/twice.log: in use" || return
     echo kept > "$folder/other.log"
     run run --turns 1 -R "$folder/other.log" "$folder/twice.toml"
     same status "$status" 3 && same "the other log" "$(cat "$folder/other.log")" kept || return
@@ -307,7 +307,7 @@ add 2001:db8::/32 metric 1 direct" &&
         shows_table onward "2001:db8::/32 metric 1 direct" || return
     run run --append --turns 1 -R /dev/full "$folder/onward.toml"
     same "the status where no start can be written" "$status" 3 &&
-        same "standard error" "$(cat "$folder/err")" "ripngd: cannot write /dev/full" || return
+        same "standard error" "$(cat "$folder/err")" "ripngd: cannot write /dev/full: no space left" || return
     run run --append --turns 1 -R - "$folder/onward.toml"
     same "the status on standard output" "$status" 2 && same output "$(cat "$folder/out")" "" &&
         same "the first word on standard error" "$(head -n 1 "$folder/err")" "error: '--append' goes with '-R FILE', where FILE is not '-'"
@@ -359,7 +359,7 @@ a_log_that_is_the_configuration_is_refused() {
     for name in "$folder/self.toml" "$folder/./self.toml" "$folder/self.log"; do
         run run --turns 1 -R "$name" "$folder/self.toml"
         same status "$status" 3 && same output "$(cat "$folder/out")" "" &&
-            same "standard error" "$(cat "$folder/err")" "ripngd: cannot write $name" || return
+            same "standard error" "$(cat "$folder/err")" "ripngd: cannot write $name: is the configuration" || return
     done
     cmp -s "$folder/self.toml" "$folder/self.kept" || because "it was written"
 }
@@ -374,14 +374,73 @@ a_refused_configuration_leaves_the_log() {
         same "the log" "$(cat "$folder/kept.log")" kept
 }
 
+# `fails_with WHAT WORD..`: the program fails, and this is all that it says.
+fails_with() {
+    local what=$1
+    shift
+    run "$@"
+    same "the status of '$*'" "$status" 3 && same "the output of '$*'" "$(cat "$folder/out")" "" &&
+        same "what is said of '$*'" "$(cat "$folder/err")" "ripngd: $what"
+}
+
 a_file_that_is_not_there_is_named() {
-    run run "$folder/absent.toml"
-    same status "$status" 3 &&
-        same "standard error" "$(cat "$folder/err")" "ripngd: cannot read $folder/absent.toml" || return
+    local words
+    for words in run check lab 'lab --trace' 'page --film' table; do
+        # shellcheck disable=SC2086  # the options are words of their own
+        fails_with "cannot read $folder/absent: not found" $words "$folder/absent" || return
+    done
     alone here.toml
-    run run -R "$folder/absent/log" "$folder/here.toml"
-    same status "$status" 3 &&
-        same "standard error" "$(cat "$folder/err")" "ripngd: cannot write $folder/absent/log"
+    fails_with "cannot write $folder/absent/log: not found" run -R "$folder/absent/log" "$folder/here.toml"
+}
+
+# To its user a file without a mode is closed; to root none is, so a case for root is left out.
+a_file_that_is_closed_or_a_directory_says_so() {
+    alone closed.toml
+    mkdir "$folder/directory"
+    fails_with "cannot read $folder/directory: is a directory" check "$folder/directory" &&
+        fails_with "cannot read $folder/directory: is a directory" table "$folder/directory" &&
+        fails_with "cannot write $folder/directory: is a directory" run -R "$folder/directory" "$folder/closed.toml" || return
+    [ "$(id -u)" != 0 ] || return 0
+    echo kept > "$folder/closed.log"
+    chmod 000 "$folder/closed.log"
+    fails_with "cannot read $folder/closed.log: not permitted" table "$folder/closed.log" &&
+        fails_with "cannot write $folder/closed.log: not permitted" run -R "$folder/closed.log" "$folder/closed.toml"
+}
+
+# `stamped FILE`: its lines without their stamps, where each has one.
+stamped() {
+    sed -E '/^$/d; s/^[0-9]{4}-[0-9]{2}-[0-9]{2}T[0-9]{2}:[0-9]{2}:[0-9]{2}\.[0-9]{3}Z //; t; s/^/unstamped: /' "$1"
+}
+
+# A router without stamps, and then one with them in the same log, at a socket too; what `date` says stands between.
+a_log_has_the_moments_of_its_lines() {
+    alone moments.toml
+    run run --turns 1 -R "$folder/moments.log" "$folder/moments.toml"
+    same status "$status" 0 || return
+    local before after stamp
+    before=$(date -u +%Y-%m-%dT%H:%M:%S)
+    run run --stamp --append --turns 1 -R "$folder/moments.log" "$folder/moments.toml"
+    after=$(date -u +%Y-%m-%dT%H:%M:%S)
+    same "the status with stamps" "$status" 0 &&
+        same "the first line" "$(head -n 1 "$folder/moments.log")" "add 2001:db8::/32 metric 1 direct" &&
+        same "the second line" "$(sed -n 2p "$folder/moments.log")" "" || return
+    tail -n 2 "$folder/moments.log" > "$folder/moments.last"
+    same "the last two lines" "$(stamped "$folder/moments.last")" "start
+add 2001:db8::/32 metric 1 direct" && shows_table moments "2001:db8::/32 metric 1 direct" || return
+    stamp=$(head -c 19 "$folder/moments.last")
+    [[ ! $stamp < $before && ! $after < $stamp ]] || because "the stamp $stamp is not from $before to $after" || return
+    run run --stamp --turns 1 -R - "$folder/moments.toml"
+    same "standard output" "$(stamped "$folder/out")" "add 2001:db8::/32 metric 1 direct
+unstamped: 2001:db8::/32 metric 1 direct" || return
+    listening moments --stamp -R "$folder/at.log" || return
+    local at=$pid
+    ctl moments gain 2001:db8:a::/48 7
+    end "$at"
+    same "the log beside a socket" "$(stamped "$folder/at.log")" "add 2001:db8::/32 metric 1 direct
+add 2001:db8:a::/48 metric 1 direct" || return
+    run run --stamp --turns 1 "$folder/moments.toml"
+    same "the status without a log" "$status" 2 &&
+        same "what is said" "$(head -n 1 "$folder/err")" "error: '--stamp' goes with '-R FILE'"
 }
 
 # Turns wait for 50 milliseconds each, so a million of them take longer than two seconds; three take less than a minute.
@@ -1008,9 +1067,11 @@ try a_router_goes_on_in_the_log_of_another
 try a_log_that_is_emptied_goes_on_at_its_end
 try a_log_that_is_the_configuration_is_refused
 try a_log_goes_to_standard_output
+try a_log_has_the_moments_of_its_lines
 try a_router_says_that_it_runs
 try a_refused_configuration_leaves_the_log
 try a_file_that_is_not_there_is_named
+try a_file_that_is_closed_or_a_directory_says_so
 try seconds_end_a_router_as_its_last_turn_does
 try a_fault_of_the_command_line_is_told
 try a_quiet_daemon_learns_and_tells_nothing

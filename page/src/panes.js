@@ -16,12 +16,15 @@ export const eventOf = ({ record, said }, step) => html`<li>
 
 export const cardOf = () => LINES.map(([form, meaning]) => html`<dt><code>${form}</code></dt><dd>${meaning}</dd>`);
 
+// Whether a router was lied to, up to a step.
+const isLiedTo = (trace, step) => trace.steps.slice(0, step + 1).some(({ record }) => record.event?.kind === 'liar');
+
 // ---- Tables ----
 export function tallyOf({ trace, step }) {
   const { held, backed, wanted, reached } = tallyAll(trace, trace.steps[step]);
   return html`<b class="${badIf(backed < held)}">${backed} of ${plural(held, 'metric')}</b>
     ${backed === 1 ? 'is' : 'are'} the cost of a walk. <b>${reached} of ${plural(wanted, 'route')}</b>
-    ${reached === 1 ? 'has' : 'have'} the least cost.`;
+    ${reached === 1 ? 'has' : 'have'} the least cost.${isLiedTo(trace, step) ? ' Behind a lie none is promised.' : ''}`;
 }
 
 const drawnTables = new WeakMap();
@@ -129,13 +132,14 @@ function walkText(trace, step, router, entry) {
   const hopRow = ({ end, cost, held, datagram, cameAt }, index) => html`<tr><td>${index + 1}</td>
     <td>R${end.router} → R${datagram.router}</td><td>${cost}</td><td>R${datagram.router}, which held ${held}</td>
     <td>${datagram.datagram}</td><td>${stepLink(trace, datagram.sentAt)}</td><td>${stepLink(trace, cameAt)}</td></tr>`;
-  return html`${sumText(trace.steps[step].routers, walk, entry.route)}
+  return html`${sumText(trace.steps[step].routers, walk, entry.route, isLiedTo(trace, step))}
     <table id="walk">${headsOf(['hop', 'walk', 'cost', 'told by', 'in datagram', 'sent', 'came'])}
     <tbody>${walk.hops.map(hopRow)}</tbody></table>`;
 }
 
 // The walk as a sum, with the rings that it goes around.
-function sumText(routers, { hops, owner, sum }, { metric, prefix }) {
+function sumText(routers, { hops, owner, sum }, { metric, prefix }, isLied) {
+  if (owner === null && isLied) return html`<p class="bad">A lie stands behind it: no walk backs it.</p>`;
   if (owner === null) return html`<p class="bad">No walk to an owner is found in the trace.</p>`;
   const { way, rings } = withoutRings([...hops.map(hop => hop.end.router), owner]);
   const past = routers[owner].prefixes.some(own => own.prefix === prefix) ? '' : `; R${owner} owned the prefix then`;
@@ -152,6 +156,7 @@ function whyUnreachable(trace, { cause, route }) {
   const { event } = trace.steps[cause].record, why = {
     tick: 'nothing was heard of it for 180 s', drop: 'its owner gave it up',
     deliver: `datagram ${event?.datagram} offered 16 or more`, stranger: 'a stranger offered 16 or more',
+    liar: 'a lie offered 16 or more',
   }[event?.kind] ?? 'this event made it so';
   return html`<p>Since ${stepLink(trace, cause)}: ${why}. It is told as 16 until it is deleted, at
     ${seconds(route.until)}.</p>`;

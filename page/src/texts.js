@@ -30,6 +30,7 @@ const REASONS = new Map(Object.entries({
   NoRegularUpdate: "the router's regular update is not due",
   NoUpdateInTime: "the router's regular update is not due before the phase is over",
   PastLastMoment: 'the phase would begin past the last moment', Outage: 'a router is silent or a link is cut',
+  NotALiar: 'the router sees through it: it is the datagram of any stranger', LiedTo: 'a router was lied to',
 }));
 const reasonOf = name => REASONS.has(name) ? `: ${REASONS.get(name)}` : '';
 
@@ -57,6 +58,7 @@ export const LINES = [
   ['restart R NOW', 'router R comes up again'],
   ['stranger R I NOW SOURCE PORT HOP group HEX', 'a datagram of no router comes, to the group or (peer) to R alone'],
   ['ask R I NOW SOURCE PORT PREFIX', 'a stranger asks for that prefix, or for all'],
+  ['liar R I NOW SOURCE HEX', 'a lie comes that R takes for a Response of its link; behind it nothing is promised'],
   ['print [R [PREFIX]]', 'routes are printed'],
   ['sent [N]', 'datagrams are printed'],
   ['say TEXT', 'the text is printed'],
@@ -85,6 +87,7 @@ export function hintOf(script, line, why) {
 const HAPPENED = {
   deliver: event => `hears ${event.datagram} of R${event.sender.router}`,
   stranger: event => `hears a stranger, ${event.source} port ${event.port}`,
+  liar: event => `believes a lie of ${event.source}: nothing is promised from here on`,
   tick: () => 'ticks',
   restart: () => 'restarts',
   cost: event => `has cost ${event.cost} at interface ${event.iface}`,

@@ -17,7 +17,7 @@ use Rattle.ripng_world.proofs.HealRows.{IsAtMost, IsRaised, one_sender, through}
 use Rattle.ripng_world.proofs.Improving.{one_route}
 use Rattle.ripng_world.proofs.Members.{At}
 use Rattle.ripng_world.proofs.RoundNeighbors.{is_another}
-use Rattle.ripng_world.proofs.Running.{not_own}
+use Rattle.ripng_world.proofs.WorldRuns.{not_own}
 use Rattle.ripng_phases.specs.Phases.{Step, IsOrdinary, IsHeardUpdate, Takes, Before, reached}
 use Rattle.ripng_phases.proofs.Along.{along, two_splits}
 use Rattle.ripng_phases.proofs.Bounding.{SaidAbove}

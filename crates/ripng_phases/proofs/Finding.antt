@@ -26,7 +26,7 @@ use Rattle.ripng_world.proofs.HealRows.{one_sender}
 use Rattle.ripng_world.proofs.Members.{At}
 use Rattle.ripng_world.proofs.RoundNeighbors.{neighbor, is_another}
 use Rattle.ripng_world.proofs.RoundStays.{event_stays}
-use Rattle.ripng_world.proofs.Running.{not_own}
+use Rattle.ripng_world.proofs.WorldRuns.{not_own}
 use Rattle.ripng_phases.specs.Phases.{Step, IsOrdinary, Before, reached}
 use Rattle.ripng_phases.proofs.Along.{along}
 use Rattle.ripng_phases.proofs.Bounding.{SaidAbove}

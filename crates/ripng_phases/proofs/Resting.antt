@@ -16,7 +16,7 @@ use Rattle.ripng_world.specs.World.{World, Event, address_at, arrival_of}
 use Rattle.ripng_world.specs.declared.sent.Sent.{Sent}
 use Rattle.ripng_world.proofs.Members.{At}
 use Rattle.ripng_world.proofs.RoundNeighbors.{neighbor, is_another}
-use Rattle.ripng_world.proofs.Running.{not_own}
+use Rattle.ripng_world.proofs.WorldRuns.{not_own}
 use Rattle.ripng_phases.proofs.Moving.{HearsHere}
 use Rattle.ripng_phases.proofs.Rows.{IsTaken}
 

@@ -13,7 +13,7 @@ use Rattle.ripng_world.proofs.NetworkNow.{IsLawfulChange}
 use Rattle.ripng_world.proofs.Reached.{IsKnown}
 use Rattle.ripng_world.proofs.ReachedRuns.{AreReached, IsReachedState}
 use Rattle.ripng_world.proofs.ReachedWorlds.{reached_on, reached_from_cold}
-use Rattle.ripng_world.proofs.Running.{IsGood, ran, run_from_cold}
+use Rattle.ripng_world.proofs.WorldRuns.{IsGood, ran, run_from_cold}
 use Rattle.ripng_phases.specs.Phases.{Step, IsOrdinary, Takes, events_of, reached}
 use Rattle.ripng_phases.proofs.Runs.{takes_run, takes_first}
 

@@ -29,7 +29,7 @@ use Rattle.ripng_world.proofs.Members.{At, at_map, at_left, at_right, at_flat, a
 use Rattle.ripng_world.proofs.Converging.{converges}
 use Rattle.ripng_world.proofs.RoundRuns.{ticks_run, heard_run, rounds_run}
 use Rattle.ripng_world.proofs.Rounding.{short_walks}
-use Rattle.ripng_world.proofs.Running.{done_from}
+use Rattle.ripng_world.proofs.WorldRuns.{done_from}
 use Rattle.ripng_world.proofs.StationMoves.{then_of}
 
 -- ---- tests

@@ -30,7 +30,7 @@ use Rattle.ripng_world.specs.World.{World, Event, Deliver, Stranger, Tick, Resta
 use Rattle.ripng_world.specs.Rounds.{router_of, moment_of, IsDeliveryOf, AllHeard}
 use Rattle.ripng_world.proofs.Each.{each_at_place}
 use Rattle.ripng_world.proofs.Members.{At, get_left, get_right}
-use Rattle.ripng_world.proofs.Running.{not_own}
+use Rattle.ripng_world.proofs.WorldRuns.{not_own}
 use Rattle.ripng_world.proofs.Undamaged.{no_fault, spelled_response}
 use Rattle.ripng_world.proofs.RoundNeighbors.{state_after, set_here, state_before, source_is, neighbor, is_another, not_mine}
 use Rattle.ripng_world.proofs.HealRows.{IsRow, IsAtMost, HasHeard, IsPart, through, part_refl, part_trans}

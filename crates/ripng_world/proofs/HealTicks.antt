@@ -32,7 +32,7 @@ use Rattle.ripng_world.specs.Rounds.{IsDueTick, AllTick, router_of}
 use Rattle.ripng_world.specs.Convergence.{IsNeverQuiet}
 use Rattle.ripng_world.proofs.Each.{each_filter, each_take, each_drop, each_append, each_mapped, each_image, each_flat, each_weaker}
 use Rattle.ripng_world.proofs.Members.{At, at_map, at_left, at_right, at_flat, at_filter, at_entries, in_joined}
-use Rattle.ripng_world.proofs.Running.{get_map, in_node, get_set}
+use Rattle.ripng_world.proofs.WorldRuns.{get_map, in_node, get_set}
 use Rattle.ripng_world.proofs.RoundNeighbors.{set_here}
 use Rattle.ripng_world.proofs.RoundTicks.{spelled_at}
 use Rattle.ripng_world.proofs.Improving.{RouteAt}

@@ -1,5 +1,8 @@
 -- What holds of a network that has run since a cold start, and how runs and cold starts go on.
 use Rattle.std.proofs.Common.{◌≡◌, ℕ, zero, suc, ◌+◌, ◌<◌, ◌≤◌, List, [], ◌∷◌, ◌++◌, map, take, drop, length, get_or, refl, ap, ap₂, sym, subst, ◌∙◌, arith, append_assoc}
+use Rattle.std.specs.Prelude.{Option, Some, None, Result, Ok, Err, IfOk, IfSome, OnErr}
+use Rattle.std.specs.Borrow.{Bor}
+use Rattle.std.specs.Option.{option_copied}
 use Rattle.std.proofs.lemmas.List.{append-nil, map-append, length-map, length-append, take_more, take_all}
 use Rattle.router_core.specs.Machine.{State, Starts}
 use Rattle.router_core.specs.declared.answer.Answer.{Answer}
@@ -8,13 +11,14 @@ use Rattle.router_core.specs.declared.reconfiguring.Change.{Change}
 use Rattle.ripng_world.specs.World.{World, Event, Happens, WorldRun, IsCold, StartsFrom, reconfigurations_in, past_of, sent_by}
 use Rattle.ripng_world.specs.Rounds.{router_of}
 use Rattle.ripng_world.specs.Stations.{StationValue, MoveStations, network_of, world_of}
-use Rattle.ripng_world.specs.Labs.{HasRun, AreRoutesBacked, AreRoutesBackedSince, HaveNoneBelowLeast, HaveNoneBelowLeastSince, AreDatagramsSoundSince, HoldsFixed}
+use Rattle.ripng_world.specs.Labs.{LabValue, HasRun, HappensGiving, AreRoutesBacked, AreRoutesBackedSince, HaveNoneBelowLeast, HaveNoneBelowLeastSince, AreDatagramsSoundSince, HoldsFixed}
 use Rattle.ripng_world.specs.Truth.{IsSoundDatagram}
 use Rattle.ripng_world.specs.TruthSince.{IsSoundDatagramSince}
+use Rattle.ripng_world.specs.declared.event.LabError.{LabError}
 use Rattle.ripng_world.specs.declared.sent.Sent.{Sent}
 use Rattle.ripng_world.proofs.Each.{each_weaker}
 use Rattle.ripng_world.proofs.Growing.{backed_first}
-use Rattle.ripng_world.proofs.Running.{IsGood, run_from_cold}
+use Rattle.ripng_world.proofs.WorldRuns.{IsGood, run_from_cold}
 use Rattle.ripng_world.proofs.Unchanged.{truth_first}
 use Rattle.ripng_world.proofs.RoundRuns.{run_on}
 
@@ -73,11 +77,18 @@ module _ (old new : List StationValue) (sent sent' : List Sent) (reconfiguration
       subst (λ (ds : List Sent). Happens (network_of old) (world_of old sent reconfigurations) e answer (world_of new ds reconfigurations')) (sym added)
       (subst (λ (cs : List (ℕ × Change)). Happens (network_of old) (world_of old sent reconfigurations) e answer (world_of new (sent ++ map (sent_by (router_of e)) answer.sends) cs)) (sym done) moves.happens)
 
-  pub stepped_on : HasRun (network_of old) (world_of old sent reconfigurations) → HasRun (network_of new) (world_of new sent' reconfigurations')
-  stepped_on has_run =
-      subst (λ (net : Network). HasRun net (world_of new sent' reconfigurations')) (sym moves.network)
-      (went_on (network_of old) (world_of old sent reconfigurations) has_run (e ∷ []) (world_of new sent' reconfigurations')
-      (one_event (network_of old) (world_of old sent reconfigurations) (world_of new sent' reconfigurations') e answer stepped))
+-- a lab has run on, once its routers have done an event or refused it
+pub step_on : (lab lab' : LabValue) (e : Event) (r : Result Answer LabError) → IfOk r (λ answer. HappensGiving lab e answer lab'.world) → lab'.network ≡ lab.network → OnErr r (lab' ≡ lab)
+    → HasRun lab.network lab.world → HasRun lab'.network lab'.world
+step_on lab lab' e (Ok answer) happens same still has_run =
+    subst (λ (net : Network). HasRun net lab'.world) (sym same)
+    (went_on lab.network lab.world has_run (e ∷ []) lab'.world (one_event lab.network lab.world lab'.world e happens.0 happens.1))
+step_on lab lab' e (Err why) happens same still has_run = subst (λ (l : LabValue). HasRun l.network l.world) (sym still) has_run
+
+-- what is said of what was found, if it was
+pub if_found : {X : Type 0} (o : Option (Bor X)) (q : Option X) (P : X → Type 0) → option_copied o ≡ q → ((x : X) → q ≡ Some x → P x) → IfSome o (λ r. P r.now)
+if_found None q P is each = tt
+if_found (Some r) q P is each = each r.now (sym is)
 
 -- one more router has started
 pub starts_next : (n : ℕ) (nodes : List Node) (moments : List ℕ) (states : List State) (sent : List Sent) (node : Node) (now : ℕ) (answer : Answer) (s : State)

@@ -16,7 +16,7 @@ use Rattle.ripng_world.specs.declared.network.NetInterface.{NetInterface}
 use Rattle.ripng_world.specs.Healing.{with_link_cost, reconfigured_node, reconfigured_network, network_now}
 use Rattle.ripng_world.specs.Network.{Network, Node, AreLinked, IsNetwork, Owns, config_of, interface_at}
 use Rattle.ripng_world.proofs.Members.{At, split_at}
-use Rattle.ripng_world.proofs.Running.{get_set, in_node}
+use Rattle.ripng_world.proofs.WorldRuns.{get_set, in_node}
 
 -- ---- places
 

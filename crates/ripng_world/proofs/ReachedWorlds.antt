@@ -25,7 +25,7 @@ use Rattle.ripng_world.specs.World.{World, Event, Deliver, Stranger, Tick, Resta
 use Rattle.ripng_world.proofs.Each.{each_append, each_at_place}
 use Rattle.ripng_world.proofs.ColdStates.{cold_states}
 use Rattle.ripng_world.proofs.Members.{At}
-use Rattle.ripng_world.proofs.Running.{IsGood, cost_is, ran, cold_good}
+use Rattle.ripng_world.proofs.WorldRuns.{IsGood, cost_is, ran, cold_good}
 use Rattle.ripng_world.proofs.NetworkNow.{AreLawful, changed_alike, changed_at, now_lawful, now_more}
 use Rattle.ripng_world.proofs.Reached.{IsKnown, IsReached, waited_reached, started_rows, started_owned, heard_rows, heard_owned}
 use Rattle.ripng_world.proofs.ReachedRuns.{IsReachedState, AreReached, moved, unchanging, ticked_reached, ticked_config, max_later, changed_reached, reached_grows, done_lawful}

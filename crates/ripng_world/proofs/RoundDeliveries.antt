@@ -36,7 +36,7 @@ use Rattle.ripng_world.specs.Network.{IsUsable}
 use Rattle.ripng_world.specs.Convergence.{FitsTables}
 use Rattle.ripng_world.proofs.Each.{each_at_place}
 use Rattle.ripng_world.proofs.Members.{At, get_left, get_right}
-use Rattle.ripng_world.proofs.Running.{not_own}
+use Rattle.ripng_world.proofs.WorldRuns.{not_own}
 use Rattle.ripng_world.proofs.Undamaged.{no_fault, spelled_response}
 use Rattle.ripng_world.proofs.Improving.{RouteAt, one_route, IsFine, IsBetter, FineOption, IsFreshThrough, IsHeardStep}
 use Rattle.ripng_world.proofs.RoundHearing.{IsToldEntry, hearing_steps, hearing_bounds}

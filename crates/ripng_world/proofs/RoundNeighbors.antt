@@ -10,7 +10,7 @@ use Rattle.ripng_world.specs.declared.sent.Sent.{Sent}
 use Rattle.ripng_world.specs.Network.{Network, Node, config_of, interface_at, AreLinked, HasDistinctAddresses}
 use Rattle.ripng_world.specs.Truth.{IsNeighbor}
 use Rattle.ripng_world.specs.World.{address_at, arrival_of}
-use Rattle.ripng_world.proofs.Running.{in_node, cost_is, any_at}
+use Rattle.ripng_world.proofs.WorldRuns.{in_node, cost_is, any_at}
 
 -- what becomes of the states when one of them moves
 pub state_after : (xs : List State) (i : ℕ) (old new : State) → slice_get xs i ≡ Some old → (j : ℕ) (s : State) → slice_get xs j ≡ Some s

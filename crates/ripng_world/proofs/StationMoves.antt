@@ -34,7 +34,7 @@ use Rattle.ripng_world.specs.declared.sent.Sent.{Sent}
 
 -- ---- one station moves
 
-map-slice_set : {X Y : Type 0} (f : X → Y) (xs : List X) (i : ℕ) (x : X) → map f (slice_set xs i x) ≡ slice_set (map f xs) i (f x)
+pub map-slice_set : {X Y : Type 0} (f : X → Y) (xs : List X) (i : ℕ) (x : X) → map f (slice_set xs i x) ≡ slice_set (map f xs) i (f x)
 map-slice_set f [] i x = refl
 map-slice_set f (y ∷ ys) zero x = refl
 map-slice_set f (y ∷ ys) (suc i) x = ap (λ zs. f y ∷ zs) (map-slice_set f ys i x)
@@ -67,7 +67,7 @@ module _ (stations : List StationValue) (router : ℕ) (old new : StationValue) 
 
 -- ---- nothing refuses an event
 
-some_of : {X : Type 0} (o : Option X) → is_none o ≡ false → (x : X) × (o ≡ Some x)
+pub some_of : {X : Type 0} (o : Option X) → is_none o ≡ false → (x : X) × (o ≡ Some x)
 some_of None e = absurd (cc)
 some_of (Some x) e = (x, refl)
 

@@ -22,7 +22,7 @@ use Rattle.ripng_world.specs.Truth.{IsSoundDatagram}
 use Rattle.ripng_world.specs.TruthSince.{IsSoundDatagramSince}
 use Rattle.ripng_world.specs.World.{World, Event, Deliver, Stranger, Tick, Restart, Reconfigure, Happens, WorldRun, IsCold, is_heard, past_of}
 use Rattle.ripng_world.specs.declared.event.LabError.{LabError}
-use Rattle.ripng_world.specs.declared.event.LabError.TheVariants.{NoSuchRouter, NoSuchInterface, NoSuchDatagram, OtherLink, NotAStranger, OutOfMemory}
+use Rattle.ripng_world.specs.declared.event.LabError.TheVariants.{NoSuchRouter, NoSuchInterface, NoSuchDatagram, OtherLink, NotAStranger, OutOfMemory, NotALiar}
 use Rattle.ripng_world.specs.declared.sent.Sent.{Sent}
 
 -- what callers see of a lab: the network as it started, and the world
@@ -183,6 +183,7 @@ lab_error_number OtherLink = 4
 lab_error_number NotAStranger = 5
 lab_error_number OutOfMemory = 6
 lab_error_number (LabError.ReconfigureRefused why) = 7
+lab_error_number NotALiar = 8
 
 -- the name of a refusal
 abbrev pub lab_error_name : LabError → List ℕ
@@ -193,3 +194,4 @@ lab_error_name OtherLink = codes "OtherLink"
 lab_error_name NotAStranger = codes "NotAStranger"
 lab_error_name OutOfMemory = codes "OutOfMemory"
 lab_error_name (LabError.ReconfigureRefused why) = codes "ReconfigureRefused"
+lab_error_name NotALiar = codes "NotALiar"

@@ -68,13 +68,15 @@ pub enum LabError {
     OutOfMemory,
     /// The router refused to be changed so. Tested behind the first two.
     ReconfigureRefused(ReconfigureRefused),
+    /// A liar's arrival is no Response without a fault, so it is any stranger's. Tested behind the first two.
+    NotALiar,
 }
 
 impl LabError {
     ghost use Rattle.std.specs.Prelude.{◌≡◌};
     ghost use Rattle.ripng_world.specs.Labs.{lab_error_name, lab_error_number};
 
-    /// The number of the refusal, 1 to 7.
+    /// The number of the refusal, 1 to 8.
     pub fn number(self) -> u8
         ensures { result ≡ lab_error_number self }
     {
@@ -86,6 +88,7 @@ impl LabError {
             LabError::NotAStranger => 5,
             LabError::OutOfMemory => 6,
             LabError::ReconfigureRefused(_) => 7,
+            LabError::NotALiar => 8,
         }
     }
 
@@ -101,6 +104,7 @@ impl LabError {
             LabError::NotAStranger => "NotAStranger",
             LabError::OutOfMemory => "OutOfMemory",
             LabError::ReconfigureRefused(_) => "ReconfigureRefused",
+            LabError::NotALiar => "NotALiar",
         }
     }
 }

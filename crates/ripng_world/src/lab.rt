@@ -15,25 +15,21 @@ mod delivering;
 mod making;
 
 use crate::event::{Event, LabError};
-use crate::moving::{file, happen};
+use crate::moving::file;
 use crate::network::{NetConfig, NetRouter};
-use crate::refusing::{check, link_at};
+use crate::running::Running;
 use crate::sent::Sent;
 use crate::station::Station;
 use crate::watch::{Stopped, Unwatched, Watch};
-use fib::RouteChange;
 use route_table::{Moment, RouteStore};
-use router_core::{Answer, Change, Fault, Listed, Note, Router};
+use router_core::{Answer, Change, Router};
 use std::alloc::{AllocError, Global};
 use std::marker::Model;
 
 /// A network that runs.
 #[derive(Drop)]
 pub struct Lab<S: RouteStore> {
-    stations: Vec<Station<S>>,
-    sent: Vec<Sent>,
-    reconfigurations: Vec<(usize, Change)>,
-    alloc: Global,
+    running: Running<S>,
 }
 
 impl<S: RouteStore> Model for Lab<S> {
@@ -49,9 +45,9 @@ impl<S: RouteStore> Model for Lab<S> {
 
     ghost coded = { Prim.hlevel (codes, map_of.code {R = prefix_cmp} prefix.the_row.coded route.the_row.coded) };
 
-    ghost view = { λ l. lab_of l.stations.items l.sent.items l.reconfigurations.items };
+    ghost view = { λ l. l.running };
 
-    ghost invariant = { λ l. HasRun (network_of l.stations.items) (world_of l.stations.items l.sent.items l.reconfigurations.items) };
+    ghost invariant = { λ l. HasRun l.running.network l.running.world };
 }
 
 /// Each router starts at its moment.
@@ -76,23 +72,6 @@ fn start_all<S: RouteStore>(
     Ok((stations, sent))
 }
 
-/// What is handed out of an answer whose sends were taken.
-fn handed_out(
-    alloc: Global,
-    fault: Option<Fault>,
-    changes: Listed<RouteChange>,
-    notes: Listed<Note>,
-) -> Answer
-    ensures { result ≡ record { fault = fault; sends = []; changes = changes; notes = notes } }
-{
-    Answer {
-        fault,
-        sends: Listed::from_vec(Vec::new(alloc)),
-        changes,
-        notes,
-    }
-}
-
 impl<S: RouteStore> Lab<S> {
     /// Every router of a network starts, each at its moment, in order.
     ///
@@ -111,10 +90,12 @@ impl<S: RouteStore> Lab<S> {
         let NetConfig { routers } = network;
         let (stations, sent) = start_all(alloc, routers, moments)?;
         Ok(Lab {
-            stations,
-            sent,
-            reconfigurations: Vec::new(alloc),
-            alloc,
+            running: Running {
+                stations,
+                sent,
+                reconfigurations: Vec::new(alloc),
+                alloc,
+            },
         })
     }
 
@@ -122,7 +103,22 @@ impl<S: RouteStore> Lab<S> {
     pub fn routers(&self) -> usize
         ensures { result ≡ length self.now.network }
     {
-        self.stations.len()
+        self.running.routers()
+    }
+
+    /// The routers as they run, of which nothing more is said than what each does.
+    pub fn running(&self) -> &Running<S>
+        ensures { result.now ≡ self.now }
+    {
+        &self.running
+    }
+
+    /// The same routers, which may be lied to from now on. What is promised of a lab is not promised of them.
+    pub fn into_running(self) -> Running<S>
+        ensures { result ≡ self }
+    {
+        let Lab { running } = self;
+        running
     }
 
     /// A router of the network, if it has one of that number. Each of its routes below 16 hops is backed by a walk, at costs
@@ -134,10 +130,7 @@ impl<S: RouteStore> Lab<S> {
         ensures fixed_backed { IfSome result (λ r. self.now.world.reconfigurations ≡ [] → IsTableBacked self.now.network router r.now.table) }
         ensures fixed_least { IfSome result (λ r. self.now.world.reconfigurations ≡ [] → HasNoneBelowLeast self.now.network router r.now) }
     {
-        match self.stations.get(router) {
-            Some(station) => Some(station.router()),
-            None => None,
-        }
+        self.running.router(router)
     }
 
     /// All datagrams ever sent, numbered from 0. Each entry below 16 hops of each Response tells a walk from its sender.
@@ -146,28 +139,28 @@ impl<S: RouteStore> Lab<S> {
         ensures truth { AreDatagramsSoundSince self.now.network self.now.world }
         ensures fixed { self.now.world.reconfigurations ≡ [] → AreDatagramsSound self.now.network result.now }
     {
-        &self.sent
+        self.running.sent()
     }
 
     /// The changes that routers have done since the cold start, each with its router, in order.
     pub fn reconfigurations(&self) -> &[(usize, Change)]
         ensures { result.now ≡ self.now.world.reconfigurations }
     {
-        &self.reconfigurations
+        self.running.reconfigurations()
     }
 
     /// The number of the link of an interface, if the network has such a router and interface.
     pub fn link(&self, router: usize, iface: usize) -> Option<u16>
         ensures { result ≡ link_at self.now.network router iface }
     {
-        link_at(&self.stations, router, iface)
+        self.running.link(router, iface)
     }
 
     /// The network is lawful, and the lab has run since a cold start: what a proof needs of what it does from now on.
     pub fn has_run(&self)
         ensures { HasRun self.now.network self.now.world }
     {
-        let _ = &self.stations;
+        let _ = &self.running;
     }
 
     /// An event happens: one router moves, and answers. What it sends is moved to the end of `sent`, and is not in the
@@ -188,15 +181,7 @@ impl<S: RouteStore> Lab<S> {
         ensures truth { AreDatagramsSoundSince self.new.network self.new.world }
         ensures fixed { HoldsFixed self.new.network self.new.world }
     {
-        check(&self.stations, &self.sent, event)?;
-        let answer = happen(
-            &mut self.stations,
-            &mut self.sent,
-            &mut self.reconfigurations,
-            event,
-        )?;
-        file(&mut self.sent, event.router(), answer.sends);
-        Ok(handed_out(self.alloc, answer.fault, answer.changes, answer.notes))
+        self.running.step(event)
     }
 
     /// An event happens as `step` makes it, and a watcher is told of it with its answer.
@@ -227,7 +212,7 @@ impl<S: RouteStore> Lab<S> {
             Ok(answer) => answer,
             Err(why) => return Err(Stopped::Refused(why)),
         };
-        match watch.happened(self, event, &answer, first) {
+        match watch.happened(self.running(), event, &answer, first) {
             Ok(()) => Ok(answer),
             Err(fault) => Err(Stopped::Failed(fault)),
         }
@@ -276,7 +261,7 @@ impl<S: RouteStore> Lab<S> {
         ensures fixed { HoldsFixed self.new.network self.new.world }
     {
         // The lab is opened, so that what holds of it is known before the first event.
-        let _ = &self.sent;
+        let _ = &self.running;
         for (done, event) in events.iter().enumerate() {
             if let Err(stopped) = self.step_watched(event, watch) {
                 return (done + stopped.failures(), Err(stopped));

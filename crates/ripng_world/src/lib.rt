@@ -9,6 +9,7 @@ mod network;
 mod pairs;
 mod refusing;
 mod rounds;
+mod running;
 mod sent;
 mod station;
 mod watch;
@@ -22,5 +23,6 @@ pub use laws::{
 };
 pub use network::{NetConfig, NetInterface, NetRefused, Node, ROUTER_LIMIT};
 pub use rounds::{Round, RoundsRefused};
+pub use running::Running;
 pub use sent::Sent;
 pub use watch::{Stopped, Unwatched, Watch};

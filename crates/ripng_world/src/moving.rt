@@ -6,6 +6,7 @@ ghost use Rattle.ripng_wire.specs.Wire.{first_reason};
 ghost use Rattle.router_core.specs.declared.reconfiguring.Change.{Change as ChangeValue};
 ghost use Rattle.ripng_world.specs.Events.{event_of};
 ghost use Rattle.ripng_world.specs.Labs.{IsRefusal, event_fault, lab_of, named_reasons};
+ghost use Rattle.ripng_world.specs.Lying.{LieStations, lie_fault};
 ghost use Rattle.ripng_world.specs.Stations.{MoveStations, network_of};
 ghost use Rattle.ripng_world.specs.World.{Deliver, Stranger, Tick, Restart, Reconfigure, arrival_of, reconfigurations_in, sent_by};
 ghost use Rattle.ripng_world.specs.declared.sent.Sent.{Sent as SentValue};
@@ -64,6 +65,21 @@ fn deliver<S: RouteStore>(
     Ok(answer)
 }
 
+/// An arrival again, for the router that is to take it.
+fn again<'a>(arrival: &Arrival<'a>) -> Arrival<'a>
+    ensures { result ≡ arrival.entry.now }
+{
+    Arrival {
+        now: arrival.now,
+        iface: arrival.iface,
+        source: arrival.source,
+        source_port: arrival.source_port,
+        hop_limit: arrival.hop_limit,
+        to_group: arrival.to_group,
+        bytes: arrival.bytes,
+    }
+}
+
 /// A stranger's datagram comes.
 fn intrude<S: RouteStore>(
     stations: &mut [Station<S>],
@@ -79,16 +95,26 @@ fn intrude<S: RouteStore>(
 {
     let room = stations[router].answer_room(arrival.bytes.len());
     sent.reserve(room)?;
-    let arrival = Arrival {
-        now: arrival.now,
-        iface: arrival.iface,
-        source: arrival.source,
-        source_port: arrival.source_port,
-        hop_limit: arrival.hop_limit,
-        to_group: arrival.to_group,
-        bytes: arrival.bytes,
-    };
-    let answer = stations[router].arrive(arrival)?;
+    let answer = stations[router].arrive(again(arrival))?;
+    Ok(answer)
+}
+
+/// A liar's Response comes. Room for what is sent is made, and nothing is added yet.
+pub fn deceive<S: RouteStore>(
+    stations: &mut [Station<S>],
+    sent: &mut Vec<Sent>,
+    router: usize,
+    arrival: &Arrival<'_>,
+) -> Result<Answer, AllocError>
+    requires { lie_fault (lab_of stations.old sent.old.items []) router arrival.now ≡ None }
+    ensures moves { IfOk result (λ answer. (reconfigurations : List (ℕ × ChangeValue)) → LieStations stations.old sent.old.items reconfigurations router arrival.entry.now answer stations.new) }
+    ensures room { IfOk result (λ answer. vec_len sent.new + length answer.sends ≤ vec_capacity sent.new) }
+    ensures sent { sent.new.items ≡ sent.old.items }
+    ensures err { OnErr result (stations.new ≡ stations.old) }
+{
+    let room = stations[router].answer_room(arrival.bytes.len());
+    sent.reserve(room)?;
+    let answer = stations[router].arrive(again(arrival))?;
     Ok(answer)
 }
 

@@ -6,9 +6,11 @@ ghost use Rattle.ripng_wire.specs.Wire.{first_reason};
 ghost use Rattle.ripng_world.specs.Events.{event_of};
 ghost use Rattle.router_core.specs.declared.reconfiguring.Change.{Change as ChangeValue};
 ghost use Rattle.ripng_world.specs.Labs.{event_fault, lab_of, named_reasons, missing_interface_reasons, missing_router_reasons, link_at};
+ghost use Rattle.ripng_world.specs.Lying.{lie_fault};
 ghost use Rattle.ripng_world.specs.Network.{interface_at};
 ghost use Rattle.ripng_world.specs.Stations.{network_of};
 ghost use Rattle.ripng_world.specs.World.{Deliver, Stranger, is_heard};
+ghost use Rattle.ripng_world.specs.declared.sent.Sent.{Sent as SentValue};
 
 use crate::event::{Event, LabError};
 use crate::network::NetInterface;
@@ -109,6 +111,22 @@ fn check_stranger<S: RouteStore>(
         Err(LabError::NotAStranger)
     } else {
         Ok(())
+    }
+}
+
+/// Whether the arrival may be a liar's: one that the router takes for a Response of its link.
+pub fn check_liar<S: RouteStore>(
+    stations: &[Station<S>],
+    router: usize,
+    arrival: &Arrival<'_>,
+) -> Result<(), LabError>
+    ensures { (sent : List SentValue) (reconfigurations : List (ℕ × ChangeValue)) → result_err result ≡ lie_fault (lab_of stations.now sent reconfigurations) router arrival.entry.now }
+{
+    check_interface(stations, router, arrival.iface)?;
+    if is_heard(stations[router].router(), arrival) {
+        Ok(())
+    } else {
+        Err(LabError::NotALiar)
     }
 }
 

@@ -5,7 +5,7 @@ ghost use Rattle.ripng_world.specs.Events.{event_of};
 ghost use Rattle.ripng_world.specs.Watching.{Told};
 
 use crate::event::Event;
-use crate::lab::Lab;
+use crate::running::Running;
 use route_table::RouteStore;
 use router_core::Answer;
 use std::convert::Infallible;
@@ -27,7 +27,7 @@ pub trait Watch<S: RouteStore> {
     /// What the watcher fails with. The event stays done, and the call that made it ends.
     fn happened(
         &mut self,
-        lab: &Lab<S>,
+        lab: &Running<S>,
         event: &Event<'_>,
         answer: &Answer,
         first: usize,
@@ -49,7 +49,7 @@ impl<S: RouteStore> Watch<S> for Unwatched {
 
     fn happened(
         &mut self,
-        _lab: &Lab<S>,
+        _lab: &Running<S>,
         _event: &Event<'_>,
         _answer: &Answer,
         _first: usize,

@@ -9,7 +9,7 @@ ghost use Rattle.ripngd_daemon.specs.declared.failure.Failure.TheVariants as fai
 use crate::browser::serve;
 use crate::subcommands::{explain_file, film_file, lab_file, show_digits, trace_file};
 use clap::error::ErrorKind;
-use ripngd_command_line::{APPEND_NEEDS_A_FILE, Ask, ask, is_misused};
+use ripngd_command_line::{Ask, ask, is_misused, misuse_text};
 use ripngd_daemon::{
     Failure, FileSource, Losses, NOTHING_LOST, SystemFiles, check_file, ctl, run, table_file,
     write_failure, write_losses,
@@ -38,11 +38,11 @@ pub(crate) enum Status {
 /// - 0 where it is done; help or the version, if that was asked for, is written to `out`;
 /// - 1 where the datagram, the configuration, or a line of the script or of the log is refused, as a line on `out` says; of a
 ///   script that `lab` runs, a line on `err` may say what the line should have been;
-/// - 2 at a fault of the command line, or where `--append` has no file to go on in; the text is written to `err`;
-/// - 3 where something else failed, as a line on `err` says: `ripngd: cannot read FILE`, `ripngd: cannot write FILE` (with
-///   `stdout` for `out`), `ripngd: cannot bind PORT` (and why, where the system says so), `ripngd: cannot accept a
-///   connection`, `ripngd: link fault after N turns` or `ripngd: out of memory`; but nothing is said of an `out` that
-///   nobody reads any more.
+/// - 2 at a fault of the command line, or where `--append` has no file to go on in or `--stamp` no log; the text is written
+///   to `err`;
+/// - 3 where something else failed, as a line on `err` says, with why where the system says so: `ripngd: cannot read FILE`,
+///   `ripngd: cannot write FILE` (with `stdout` for `out`), `ripngd: cannot bind PORT`, `ripngd: cannot accept a connection`,
+///   `ripngd: link fault after N turns` or `ripngd: out of memory`; but nothing is said of an `out` that nobody reads any more.
 ///
 /// A run that is debugged writes what it refuses to `err`, and counts. One that lost something has a last line on `err` that says what, also with status 0: `ripngd: lost sends N, lost
 /// steps M`, with `, log failed` behind it where a write of the log failed.
@@ -94,17 +94,17 @@ fn outcome<
     ensures failed { IfErr result (FailsWords (map (λ w. w.now) words.entry.now)) }
 {
     match ask(rt.alloc(), words) {
-        Ok(asked) if is_misused(asked) => Ok(explain_misuse(err)),
+        Ok(asked) if is_misused(asked) => Ok(explain_misuse(asked, err)),
         Ok(asked) => answer(rt, files, asked, out, err, lost),
         Err(error) => explain(&error, out, err),
     }
 }
 
 /// Writes to `err` why what is asked makes no sense.
-fn explain_misuse<E: Write>(err: &mut E) -> Status
+fn explain_misuse<E: Write>(asked: Ask<'_>, err: &mut E) -> Status
     ensures { result ≡ Status.Usage }
 {
-    let _ = err.write_all(APPEND_NEEDS_A_FILE.as_bytes());
+    let _ = err.write_all(misuse_text(asked).as_bytes());
     Status::Usage
 }
 

@@ -96,6 +96,11 @@ append_is_taken : takes ripngd (codes "ripngd" ∷ codes "run" ∷ codes "--appe
 unfolding clap_on_literals
 append_is_taken = refl
 
+-- `run --stamp -R log c`
+stamp_is_taken : takes ripngd (codes "ripngd" ∷ codes "run" ∷ codes "--stamp" ∷ codes "-R" ∷ codes "log" ∷ codes "c" ∷ []) ≡ true
+unfolding clap_on_literals
+stamp_is_taken = refl
+
 -- `ctl east.sock changes`
 changes_are_taken : takes ripngd (codes "ripngd" ∷ codes "ctl" ∷ codes "east.sock" ∷ codes "changes" ∷ []) ≡ true
 unfolding clap_on_literals

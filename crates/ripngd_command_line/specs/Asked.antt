@@ -1,5 +1,5 @@
 -- What the words of a command line ask of ripngd.
-use Rattle.std.specs.Prelude.{◌≡◌, ◌≢◌, ◌≤◌, ℕ, List, Option, Some, None, codes, option_map, IsTrue, ◌↔◌}
+use Rattle.std.specs.Prelude.{◌≡◌, ◌≢◌, ◌≤◌, ◌⊎◌, ℕ, List, Option, Some, None, codes, option_map, IsTrue, ◌↔◌}
 use Rattle.std.specs.Str.Parse.{digits_value, without_leading_plus}
 use Rattle.clap.specs.Walk.{Row, Text, first_of, one_of}
 use Rattle.clap.specs.Simple.{subcommand_of}
@@ -34,6 +34,7 @@ pub record IsOrdered (order : Order) (rows : List Row) : Type 0 where
   pub tag : HasNumber rows (codes "tag") order.tag
   pub log : option_map (λ s. s.now) order.log ≡ first_of (codes "log") rows
   pub append : IsTrue order.append ↔ IsSet rows (codes "append")
+  pub stamp : IsTrue order.stamp ↔ IsSet rows (codes "stamp")
   pub turns : HasNumber rows (codes "turns") order.turns
   pub some : 1 ≤ order.turns
   pub seconds : AreSeconds order.seconds rows
@@ -46,8 +47,16 @@ IsFile None = ⊥
 IsFile (Some name) = name ≢ codes "-"
 
 -- a run is to go on in a log, and that is no file
+abbrev pub GoesOnInNoFile : Order → Type 0
+GoesOnInNoFile order = IsTrue order.append × ¬ (IsFile (option_map (λ s. s.now) order.log))
+
+-- a run is to stamp the lines of a log, and there is none
+abbrev pub StampsNoLog : Order → Type 0
+StampsNoLog order = IsTrue order.stamp × (order.log ≡ None)
+
+-- what is ordered of a log makes no sense
 abbrev pub IsMisordered : Order → Type 0
-IsMisordered order = IsTrue order.append × ¬ (IsFile (option_map (λ s. s.now) order.log))
+IsMisordered order = GoesOnInNoFile order ⊎ StampsNoLog order
 
 -- what is asked makes no sense, though each word of it may be given
 abbrev pub IsMisused : Ask → Type 0

@@ -11,4 +11,4 @@ mod subcommands;
 pub use asked::{Ask, Order, Question, Serve};
 pub use command_line::ask;
 pub use help::VERSION;
-pub use misuse::{APPEND_NEEDS_A_FILE, is_misused};
+pub use misuse::{is_misused, misuse_text};

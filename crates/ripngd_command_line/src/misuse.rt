@@ -1,13 +1,20 @@
 //! What may be asked in words that may all be given, and makes no sense.
 
 ghost use Rattle.std.specs.Prelude.{◌≡◌, ◌↔◌, IsTrue, option_map};
-ghost use Rattle.ripngd_command_line.specs.Asked.{IsFile, IsMisordered, IsMisused};
+ghost use Rattle.ripngd_command_line.specs.Asked.{GoesOnInNoFile, IsFile, IsMisordered, IsMisused, StampsNoLog};
 
 use crate::asked::{Ask, Order};
 
 /// What standard error says of a run that is to go on in a log, and has no file for it.
-pub const APPEND_NEEDS_A_FILE: &str = "\
+const APPEND_NEEDS_A_FILE: &str = "\
 error: '--append' goes with '-R FILE', where FILE is not '-'
+
+For more information, try '--help'.
+";
+
+/// What standard error says of a run that is to stamp the lines of a log, and has none.
+const STAMP_NEEDS_A_LOG: &str = "\
+error: '--stamp' goes with '-R FILE'
 
 For more information, try '--help'.
 ";
@@ -23,18 +30,41 @@ fn is_file(log: Option<&str>) -> bool
 }
 
 /// Whether a run is to go on in a log that is no file.
-fn is_misordered(order: Order<'_>) -> bool
-    ensures { IsTrue result ↔ IsMisordered order.entry }
+fn goes_on_in_no_file(order: Order<'_>) -> bool
+    ensures { IsTrue result ↔ GoesOnInNoFile order.entry }
 {
     order.append && !is_file(order.log)
 }
 
-/// Whether what is asked makes no sense: a run that is to go on in a log, and has no file for it.
+/// Whether a run is to stamp the lines of a log that is not there.
+fn stamps_no_log(order: Order<'_>) -> bool
+    ensures { IsTrue result ↔ StampsNoLog order.entry }
+{
+    order.stamp && order.log.is_none()
+}
+
+/// Whether what is ordered of a log makes no sense.
+fn is_misordered(order: Order<'_>) -> bool
+    ensures { IsTrue result ↔ IsMisordered order.entry }
+{
+    goes_on_in_no_file(order) || stamps_no_log(order)
+}
+
+/// Whether what is asked makes no sense: a run that is to go on in a log, and has no file for it, or one that is to stamp the
+/// lines of a log, and has none.
 pub fn is_misused(asked: Ask<'_>) -> bool
     ensures { IsTrue result ↔ IsMisused asked.entry }
 {
     match asked {
         Ask::Run(order) => is_misordered(order),
         _ => false,
+    }
+}
+
+/// What standard error says of what makes no sense.
+pub fn misuse_text(asked: Ask<'_>) -> &'static str {
+    match asked {
+        Ask::Run(order) if goes_on_in_no_file(order) => APPEND_NEEDS_A_FILE,
+        _ => STAMP_NEEDS_A_LOG,
     }
 }

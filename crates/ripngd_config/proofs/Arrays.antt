@@ -1,5 +1,5 @@
 -- Arrays of tables, member by member.
-use Rattle.std.proofs.Common.{◌<◌, ℕ, zero, suc, List, [], ◌∷◌, ◌++◌, length, get_or, refl, inl, inr, arith}
+use Rattle.std.proofs.Common.{ℕ, List, [], ◌∷◌, ◌++◌, refl}
 use Rattle.toml.specs.Data.{Members}
 use Rattle.toml.specs.View.{items_view, view}
 use Rattle.toml.specs.declared.value.Value.{Value}
@@ -7,7 +7,6 @@ use Rattle.ripngd_config.specs.declared.fault.PathFault.{PathFault}
 use Rattle.ripngd_config.specs.declared.fault.ConfigFault.{ConfigFault}
 use Rattle.ripngd_config.specs.declared.fault.ConfigFault.TheVariants.{BadToml, MissingKey, WrongType, BadValue, UnknownKey, Router, PortTwice, PeerTwice, OutOfMemory}
 use Rattle.ripngd_config.specs.Faults.{RefusesAt}
-use Rattle.ripngd_config.specs.Keys.{ItemFault, ItemsFault}
 use Rattle.ripngd_config.specs.Values.{AreTables, IsItem}
 
 pub tables_more : {X : Type 0} (R : Members → X → Type 0) (vs : List Value) (xs : List X) (v : Value) (x : X) → AreTables R (items_view vs) xs → IsItem R (view v) x
@@ -17,18 +16,13 @@ tables_more R [] (y ∷ ys) v x h is = absurd (cc h)
 tables_more R (w ∷ vs) [] v x h is = absurd h
 tables_more R (w ∷ vs) (y ∷ ys) v x h is = (h.0, tables_more R vs ys v x h.1 is)
 
-pub some_item : (faulty : PathFault → Members → Type 0) (f : PathFault) (vs : List Value) (i : ℕ) (d : Value) → i < length vs → ItemFault faulty f (view (get_or vs i d)) → ItemsFault faulty f (items_view vs)
-some_item faulty f [] i d lt h = absurd (omega arith)
-some_item faulty f (v ∷ vs) zero d lt h = inl h
-some_item faulty f (v ∷ vs) (suc i) d lt h = inr (some_item faulty f vs i d (omega arith) h)
-
-pub RefusesAt_then : (e : ConfigFault) (P Q : PathFault → Type 0) → ((f : PathFault) → P f → Q f) → RefusesAt P e → RefusesAt Q e
-RefusesAt_then (MissingKey path) P Q then h = then _ h
-RefusesAt_then (WrongType path) P Q then h = then _ h
-RefusesAt_then (BadValue path) P Q then h = then _ h
-RefusesAt_then (UnknownKey path) P Q then h = then _ h
-RefusesAt_then (PortTwice path) P Q then h = then _ h
-RefusesAt_then (PeerTwice path) P Q then h = then _ h
+pub RefusesAt_then : (e : ConfigFault) (P Q : PathFault → List ℕ → Type 0) → ((f : PathFault) (place : List ℕ) → P f place → Q f place) → RefusesAt P e → RefusesAt Q e
+RefusesAt_then (MissingKey path) P Q then h = then _ _ h
+RefusesAt_then (WrongType path) P Q then h = then _ _ h
+RefusesAt_then (BadValue path) P Q then h = then _ _ h
+RefusesAt_then (UnknownKey path) P Q then h = then _ _ h
+RefusesAt_then (PortTwice path) P Q then h = then _ _ h
+RefusesAt_then (PeerTwice path) P Q then h = then _ _ h
 RefusesAt_then OutOfMemory P Q then h = tt
 RefusesAt_then BadToml P Q then h = h
 RefusesAt_then (Router refused) P Q then h = h

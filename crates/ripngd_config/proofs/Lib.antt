@@ -3,5 +3,7 @@ pub mod Arrays
 pub mod Texts
 pub mod Pairs
 pub mod Clashes
-pub mod TablesRefused
 pub mod OneEach
+pub mod Firsts
+pub mod Places
+pub mod TablesRefused

@@ -1,5 +1,5 @@
 -- What a configuration's text makes a router run on, and why a text is refused.
-use Rattle.std.specs.Prelude.{◌≡◌, ◌⊎◌, ℕ, Bool, List, length, map, Some, None, unwrap_or, ⊤}
+use Rattle.std.specs.Prelude.{◌≡◌, ◌⊎◌, ℕ, Bool, List, [], length, map, Some, None, unwrap_or}
 use Rattle.std.specs.Str.{IsUtf8}
 use Rattle.toml.specs.Data.{Members}
 use Rattle.toml.specs.Parse.{parse_document}
@@ -9,12 +9,13 @@ use Rattle.prefix6.specs.Prefix.{Prefix6}
 use Rattle.router_core.specs.Config.{Config as RouterConfig, IsConfig, config, config_fault}
 use Rattle.router_core.specs.declared.config.Interface.{Interface}
 use Rattle.ripngd_config.specs.Faults.{RefusesAt}
-use Rattle.ripngd_config.specs.Keys.{HasFault, document_keys}
+use Rattle.ripngd_config.specs.First.{TableFirst}
+use Rattle.ripngd_config.specs.Keys.{document_keys}
 use Rattle.ripngd_config.specs.Tables.{IsDocument}
-use Rattle.ripngd_config.specs.Twice.{AreAllPeersDistinct, AreGroupPortsApart, ArePortsDistinct}
+use Rattle.ripngd_config.specs.Twice.{AreAllPeersDistinct, AreGroupPortsApart, ArePortsDistinct, IsFirstTwice}
 use Rattle.ripngd_config.specs.declared.configuration.Config.{Config}
 use Rattle.ripngd_config.specs.declared.fault.ConfigFault.{ConfigFault}
-use Rattle.ripngd_config.specs.declared.fault.ConfigFault.TheVariants.{BadToml, OutOfMemory, PeerTwice, PortTwice, Router}
+use Rattle.ripngd_config.specs.declared.fault.ConfigFault.TheVariants.{BadToml, Router}
 use Rattle.ripngd_config.specs.declared.place.Place.{Place}
 use Rattle.ripngd_config.specs.declared.tables.Document.{Document}
 use Rattle.ripngd_config.specs.declared.tables.PrefixTable.{PrefixTable}
@@ -66,19 +67,17 @@ pub record HasOneEach (c : Config) : Type 0 where
   pub places : length c.places.items ≡ length c.router.interfaces
   pub peers : length c.peers.items ≡ length c.router.interfaces
 
--- why a text is refused that is no document of such tables
+-- why a text is refused that is no document of such tables: the first fault of the tables
 abbrev pub RefusesText : List ℕ → ConfigFault → Type 0
 RefusesText text BadToml = IsUtf8 text → parse_document text ≡ None
 RefusesText text fault =
-    RefusesAt (λ f. (ms : Members) × (parse_document text ≡ Some ms) × HasFault document_keys f ms) fault
+    RefusesAt (λ f place. (ms : Members) × (parse_document text ≡ Some ms) × TableFirst document_keys [] ms f place) fault
 
--- which test the tables fail
+-- which test the tables fail first
 abbrev pub RefusesTables : ℕ → Bool → Document → ConfigFault → Type 0
 RefusesTables tag quiet d (Router refused) = config_fault (router_config_of tag quiet d) ≡ Some refused
-RefusesTables tag quiet d (PortTwice path) = (¬ (ArePortsDistinct d.interfaces.items)) ⊎ (¬ (AreGroupPortsApart d.interfaces.items))
-RefusesTables tag quiet d (PeerTwice path) = ¬ (AreAllPeersDistinct d.interfaces.items)
-RefusesTables tag quiet d OutOfMemory = ⊤
-RefusesTables tag quiet d _ = ⊥
+RefusesTables tag quiet d fault =
+    RefusesAt (λ f place. (config_fault (router_config_of tag quiet d) ≡ None) × IsFirstTwice d.interfaces.items f place) fault
 
 -- why a text is refused
 abbrev pub RefusesConfig : List ℕ → ℕ → Bool → ConfigFault → Type 0

@@ -1,5 +1,5 @@
 -- Why a configuration is refused: the number and the name of each refusal, and those that stand at a path.
-use Rattle.std.specs.Prelude.{ℕ, List, codes, ⊤}
+use Rattle.std.specs.Prelude.{ℕ, List, codes, string_bytes, ⊤}
 use Rattle.ripngd_config.specs.declared.fault.PathFault.{PathFault}
 use Rattle.ripngd_config.specs.declared.fault.PathFault.TheVariants as at
 use Rattle.ripngd_config.specs.declared.fault.ConfigFault.{ConfigFault}
@@ -29,14 +29,14 @@ config_fault_name (PortTwice path) = codes "PortTwice"
 config_fault_name (PeerTwice path) = codes "PeerTwice"
 config_fault_name OutOfMemory = codes "OutOfMemory"
 
--- memory ran out, or the text is refused at a path for a fault of which P holds
-abbrev pub RefusesAt : (PathFault → Type 0) → ConfigFault → Type 0
-RefusesAt P (MissingKey path) = P at.MissingKey
-RefusesAt P (WrongType path) = P at.WrongType
-RefusesAt P (BadValue path) = P at.BadValue
-RefusesAt P (UnknownKey path) = P at.UnknownKey
-RefusesAt P (PortTwice path) = P at.PortTwice
-RefusesAt P (PeerTwice path) = P at.PeerTwice
+-- memory ran out, or the text is refused for a fault at a path of which P holds
+abbrev pub RefusesAt : (PathFault → List ℕ → Type 0) → ConfigFault → Type 0
+RefusesAt P (MissingKey path) = P at.MissingKey (string_bytes path)
+RefusesAt P (WrongType path) = P at.WrongType (string_bytes path)
+RefusesAt P (BadValue path) = P at.BadValue (string_bytes path)
+RefusesAt P (UnknownKey path) = P at.UnknownKey (string_bytes path)
+RefusesAt P (PortTwice path) = P at.PortTwice (string_bytes path)
+RefusesAt P (PeerTwice path) = P at.PeerTwice (string_bytes path)
 RefusesAt P OutOfMemory = ⊤
 RefusesAt P BadToml = ⊥
 RefusesAt P (Router refused) = ⊥

@@ -1,12 +1,12 @@
 -- The keys of a configuration's tables, and what may be wrong with a table.
-use Rattle.std.specs.Prelude.{◌≡◌, ◌⊎◌, ◌<◌, ℕ, ℤ, pos, negsuc, Bool, true, false, List, [], ◌∷◌, None, MatchOption, IsSomeAnd, codes, ⊤}
+use Rattle.std.specs.Prelude.{◌≡◌, ◌⊎◌, ◌<◌, ℕ, ℤ, pos, negsuc, Bool, true, false, List, [], ◌∷◌, None, IsSomeAnd, codes, ⊤}
 use Rattle.std.specs.List.{list_any}
 use Rattle.std.specs.Str.{bytes_eq}
-use Rattle.toml.specs.Data.{Data, Items, Members, array, as_bool, as_integer, as_str, get_member, item, member, no_items, no_members, table}
+use Rattle.toml.specs.Data.{Data, Members, as_bool, as_integer, as_str, member, no_members}
 use Rattle.prefix6.specs.Prefix.{Prefix6}
 use Rattle.prefix6.specs.Text.{Reads, ReadsPrefix}
 use Rattle.ripngd_config.specs.declared.fault.PathFault.{PathFault}
-use Rattle.ripngd_config.specs.declared.fault.PathFault.TheVariants.{BadValue, MissingKey, UnknownKey, WrongType}
+use Rattle.ripngd_config.specs.declared.fault.PathFault.TheVariants.{BadValue, MissingKey, WrongType}
 
 -- what a key holds (a number with its least and its greatest), and the keys of a table: name, whether it is required, kind
 mutual
@@ -69,15 +69,6 @@ HasOnlyOf names (member name d ms) = (is_listed names name ≡ true) × HasOnlyO
 abbrev pub HasOnly : Keys → Members → Type 0
 HasOnly keys ms = HasOnlyOf (names_of keys) ms
 
--- the table has another key
-abbrev pub HasOtherOf : List (List ℕ) → Members → Type 0
-HasOtherOf names no_members = ⊥
-HasOtherOf names (member name d ms) = (is_listed names name ≡ false) ⊎ HasOtherOf names ms
-
--- some key that is not among these
-abbrev pub HasOther : Keys → Members → Type 0
-HasOther keys ms = HasOtherOf (names_of keys) ms
-
 -- ---- what is wrong with the value at a key
 
 -- an integer below the least or above the greatest
@@ -108,41 +99,6 @@ abbrev pub TruthFault : PathFault → Data → Type 0
 TruthFault WrongType d = as_bool d ≡ None
 TruthFault _ d = ⊥
 
--- an item that is no table, or a table with the fault
-abbrev pub ItemFault : (PathFault → Members → Type 0) → PathFault → Data → Type 0
-ItemFault Faulty f (table ms) = Faulty f ms
-ItemFault Faulty f _ = f ≡ WrongType
-
--- some item has the fault
-abbrev pub ItemsFault : (PathFault → Members → Type 0) → PathFault → Items → Type 0
-ItemsFault Faulty f no_items = ⊥
-ItemsFault Faulty f (item d rest) = ItemFault Faulty f d ⊎ ItemsFault Faulty f rest
-
--- a value that is no array, or an array with such an item
-abbrev pub ArrayFault : (PathFault → Members → Type 0) → PathFault → Data → Type 0
-ArrayFault Faulty f (array items) = ItemsFault Faulty f items
-ArrayFault Faulty f _ = f ≡ WrongType
-
 -- what is wrong where a key is absent
 abbrev pub AbsentFault : PathFault → Bool → Type 0
 AbsentFault f required = (f ≡ MissingKey) × (required ≡ true)
-
--- some listed key has the fault, or a table at one has
-abbrev mutual
-  pub KindFault : PathFault → Kind → Data → Type 0
-  KindFault f (number low high) d = NumberFault f low high d
-  KindFault f address d = AddressFault f d
-  KindFault f prefix d = PrefixFault f d
-  KindFault f truth d = TruthFault f d
-  KindFault f (sections keys) d =
-      ArrayFault (λ g ms. KeysFault g keys ms ⊎ ((g ≡ UnknownKey) × HasOther keys ms)) f d
-
-  pub KeysFault : PathFault → Keys → Members → Type 0
-  KeysFault f no_keys ms = ⊥
-  KeysFault f (key name required kind rest) ms =
-      MatchOption (get_member name ms) (AbsentFault f required) (λ d. KindFault f kind d)
-      ⊎ KeysFault f rest ms
-
--- some key of the table, or of a table inside it, has the fault
-abbrev pub HasFault : Keys → PathFault → Members → Type 0
-HasFault keys f ms = KeysFault f keys ms ⊎ ((f ≡ UnknownKey) × HasOther keys ms)

@@ -1,5 +1,7 @@
 pub mod Keys
 pub mod Faults
+pub mod Paths
+pub mod First
 pub mod Values
 pub mod Tables
 pub mod Twice

@@ -1,6 +1,7 @@
 //! Why a configuration is refused.
 
-ghost use Rattle.std.specs.Prelude.{◌≡◌};
+ghost use Rattle.std.specs.Prelude.{◌≡◌, ◌++◌, IsOkAnd};
+ghost use Rattle.std.specs.String.{string_bytes};
 ghost use Rattle.ripngd_config.specs.declared.fault.ConfigFault.TheVariants.{OutOfMemory, Router};
 
 use crate::table_path::TablePath;
@@ -55,6 +56,7 @@ pub(crate) enum PathFault {
 
 impl ConfigFault {
     ghost use Rattle.ripngd_config.specs.Faults.{RefusesAt, config_fault_name, config_fault_number};
+    ghost use Rattle.ripngd_config.specs.Paths.{member_text, path_text};
 
     /// The number of the refusal, 1 to 9.
     pub fn number(&self) -> u8
@@ -92,7 +94,7 @@ impl ConfigFault {
 
     /// The fault of the value at a key of a table.
     pub(crate) fn at(alloc: Global, fault: PathFault, table: TablePath, key: &str) -> ConfigFault
-        ensures { RefusesAt (λ f. f ≡ fault) result }
+        ensures { RefusesAt (λ f place. (f ≡ fault) × (place ≡ path_text table ++ key.now)) result }
     {
         ConfigFault::of(fault, format!(in alloc; "{table}{key}"))
     }
@@ -105,14 +107,15 @@ impl ConfigFault {
         key: &str,
         index: usize,
     ) -> ConfigFault
-        ensures { RefusesAt (λ f. f ≡ fault) result }
+        ensures { RefusesAt (λ f place. (f ≡ fault)
+            × (place ≡ member_text (path_text table ++ key.now) index)) result }
     {
         ConfigFault::of(fault, format!(in alloc; "{table}{key}[{index}]"))
     }
 
     /// The fault at a path, where there was memory for the path.
     fn of(fault: PathFault, path: Result<String, AllocError>) -> ConfigFault
-        ensures { RefusesAt (λ f. f ≡ fault) result }
+        ensures { RefusesAt (λ f place. (f ≡ fault) × IsOkAnd path (λ s. string_bytes s ≡ place)) result }
     {
         let Ok(path) = path else {
             return ConfigFault::OutOfMemory;

@@ -1,10 +1,12 @@
 //! Tables that are read whole, and arrays of them.
 
-ghost use Rattle.std.specs.Prelude.{◌≡◌, [], IfErr, IfOk, MatchOption, Some};
-ghost use Rattle.toml.specs.Data.{Members, get_member};
+ghost use Rattle.std.specs.Prelude.{◌≤◌, ◌<◌, ◌++◌, [], false, IfErr, IfOk, OnOk, Some};
+ghost use Rattle.toml.specs.Data.{Members};
 ghost use Rattle.toml.specs.View.{items_view, table_view, view};
 ghost use Rattle.ripngd_config.specs.Faults.{RefusesAt};
-ghost use Rattle.ripngd_config.specs.Keys.{ArrayFault, HasFault, ItemFault, ItemsFault, Keys};
+ghost use Rattle.ripngd_config.specs.First.{IsFaultless, ItemFirst, ItemsFirst, KeyFirst, TableFirst, depth};
+ghost use Rattle.ripngd_config.specs.Keys.{Keys, sections};
+ghost use Rattle.ripngd_config.specs.Paths.{member_text, path_text, room_of};
 ghost use Rattle.ripngd_config.specs.Values.{AreSections, AreTables, IsReadAt, IsItem};
 
 use crate::fault::{ConfigFault, PathFault};
@@ -21,9 +23,10 @@ pub(crate) trait FromSection: Sized {
 
     /// Reads each key of the table in order, and refuses any other.
     fn from_section(section: Section<'_>) -> Result<Self, ConfigFault>
+        requires room { depth keys ≤ room_of section.path }
         ensures read { IfOk result (is_read (table_view section.entry.table.now)) }
-        ensures fault { IfErr result (RefusesAt (λ f.
-            HasFault keys f (table_view section.entry.table.now))) };
+        ensures faultless { OnOk result (IsFaultless (TableFirst keys (path_text section.entry.path) (table_view section.entry.table.now))) }
+        ensures fault { IfErr result (RefusesAt (TableFirst keys (path_text section.entry.path) (table_view section.entry.table.now))) };
 }
 
 /// What the table says that a member of an array is.
@@ -33,9 +36,12 @@ fn member_of<T: FromSection>(
     index: usize,
     value: &Value,
 ) -> Result<T, ConfigFault>
+    requires room { depth T.keys < room_of section.path }
     ensures read { IfOk result (IsItem T.is_read (view value.now)) }
-    ensures fault { IfErr result (RefusesAt (λ f.
-        ItemFault (HasFault T.keys) f (view value.now))) }
+    ensures faultless { OnOk result (IsFaultless
+        (ItemFirst (TableFirst T.keys) (member_text (path_text section.entry.path ++ key.now) index) (view value.now))) }
+    ensures fault { IfErr result (RefusesAt
+        (ItemFirst (TableFirst T.keys) (member_text (path_text section.entry.path ++ key.now) index) (view value.now))) }
 {
     let path = section.path.member(key, index);
     match value.as_table() {
@@ -60,9 +66,12 @@ fn members_of<T: FromSection + Drop>(
     key: &'static str,
     values: &[Value],
 ) -> Result<Vec<T>, ConfigFault>
+    requires room { depth T.keys < room_of section.path }
     ensures read { IfOk result (λ v. AreTables T.is_read (items_view values.now) v.items) }
-    ensures fault { IfErr result (RefusesAt (λ f.
-        ItemsFault (HasFault T.keys) f (items_view values.now))) }
+    ensures faultless { OnOk result (IsFaultless
+        (ItemsFirst (TableFirst T.keys) (path_text section.entry.path ++ key.now) 0 (items_view values.now))) }
+    ensures fault { IfErr result (RefusesAt
+        (ItemsFirst (TableFirst T.keys) (path_text section.entry.path ++ key.now) 0 (items_view values.now))) }
 {
     let mut members = Vec::new(section.alloc);
     for (index, value) in values.iter().enumerate() {
@@ -76,11 +85,13 @@ pub(crate) fn tables_at<T: FromSection + Drop>(
     section: Section<'_>,
     key: &'static str,
 ) -> Result<Vec<T>, ConfigFault>
+    requires room { depth T.keys < room_of section.path }
     ensures read { IfOk result (λ v. IsReadAt (AreSections T.is_read) key.now (Some [])
         (table_view section.entry.table.now) v.items) }
-    ensures fault { IfErr result (RefusesAt (λ f.
-        MatchOption (get_member key.now (table_view section.entry.table.now))
-        ⊥ (ArrayFault (HasFault T.keys) f))) }
+    ensures faultless { OnOk result (IsFaultless
+        (KeyFirst key.now false (sections T.keys) (path_text section.entry.path) (table_view section.entry.table.now))) }
+    ensures fault { IfErr result (RefusesAt
+        (KeyFirst key.now false (sections T.keys) (path_text section.entry.path) (table_view section.entry.table.now))) }
 {
     let Some(value) = section.get(key) else {
         return Ok(Vec::new(section.alloc));

@@ -1,10 +1,11 @@
 //! The tables of a configuration, each with its keys in the order of reading.
 
-ghost use Rattle.std.specs.Prelude.{IfErr, IfOk, MatchOption, None, Some};
-ghost use Rattle.toml.specs.Data.{get_member};
+ghost use Rattle.std.specs.Prelude.{IfErr, IfOk, None, Some, false};
 ghost use Rattle.toml.specs.View.{table_view};
 ghost use Rattle.ripngd_config.specs.Faults.{RefusesAt};
-ghost use Rattle.ripngd_config.specs.Keys.{NumberFault, document_keys, interface_keys, peer_keys, prefix_keys};
+ghost use Rattle.ripngd_config.specs.First.{KeyFirst};
+ghost use Rattle.ripngd_config.specs.Keys.{document_keys, interface_keys, number, peer_keys, prefix_keys};
+ghost use Rattle.ripngd_config.specs.Paths.{path_text};
 ghost use Rattle.ripngd_config.specs.Values.{IsReadAt, IsSomeNumber};
 
 use crate::fault::ConfigFault;
@@ -55,8 +56,8 @@ static INTERFACE_KEYS: [&str; 6] = ["address", "cost", "mtu", "local_port", "gro
 /// The port at a key that may be left out.
 fn port_at(section: Section<'_>, key: &str) -> Result<Option<u16>, ConfigFault>
     ensures read { IfOk result (IsReadAt (IsSomeNumber 1 65535) key.now (Some None) (table_view section.entry.table.now)) }
-    ensures fault { IfErr result (RefusesAt (λ f.
-        MatchOption (get_member key.now (table_view section.entry.table.now)) ⊥ (NumberFault f 1 65535))) }
+    ensures fault { IfErr result (RefusesAt
+        (KeyFirst key.now false (number 1 65535) (path_text section.entry.path) (table_view section.entry.table.now))) }
 {
     match section.optional_number(key, 1, 65_535)? {
         Some(port) => Ok(Some(port as u16)),

@@ -1,9 +1,10 @@
 //! Ports and peers that stand twice.
 
-ghost use Rattle.std.specs.Prelude.{◌≡◌, ◌==◌, IfErr, OnOk, Some};
+ghost use Rattle.std.specs.Prelude.{◌≡◌, ◌==◌, ◌++◌, IfErr, OnOk, Some, codes};
 ghost use Rattle.std.specs.List.{list_any};
 ghost use Rattle.ripngd_config.specs.Faults.{RefusesAt};
-ghost use Rattle.ripngd_config.specs.Twice.{AreAllPeersDistinct, AreGroupPortsApart, ArePeersDistinct, ArePortsDistinct, has_group_port, has_same, is_taken, stands_at};
+ghost use Rattle.ripngd_config.specs.Paths.{path_text};
+ghost use Rattle.ripngd_config.specs.Twice.{AreAllPeersDistinct, AreGroupPortsApart, ArePeersDistinct, ArePortsDistinct, IsFirstGroupPortTaken, IsFirstOfPeersTwice, IsFirstPeerTwice, IsFirstPortTwice, has_group_port, has_port, has_same, is_taken, stands_at};
 
 use crate::fault::{ConfigFault, PathFault};
 use crate::peer::Peer;
@@ -13,7 +14,7 @@ use std::alloc::Global;
 
 /// Whether one of the earlier interfaces stands at the local port of this one.
 fn has_port(earlier: &[InterfaceTable], table: &InterfaceTable) -> bool
-    ensures { result ≡ list_any (λ t. t.local_port == table.now.local_port) earlier.now }
+    ensures { result ≡ has_port earlier.now table.now }
 {
     earlier
         .iter()
@@ -23,8 +24,7 @@ fn has_port(earlier: &[InterfaceTable], table: &InterfaceTable) -> bool
 /// Refuses the first interface whose local port is that of an earlier one.
 pub(crate) fn check_ports(alloc: Global, interfaces: &[InterfaceTable]) -> Result<(), ConfigFault>
     ensures ok { OnOk result (ArePortsDistinct interfaces.now) }
-    ensures fault { IfErr result (RefusesAt (λ f.
-        (f ≡ PathFault.PortTwice) × ¬ (ArePortsDistinct interfaces.now))) }
+    ensures fault { IfErr result (RefusesAt (IsFirstPortTwice interfaces.now)) }
 {
     for (index, table) in interfaces.iter().enumerate() {
         if has_port(&interfaces[..index], table) {
@@ -76,8 +76,7 @@ pub(crate) fn check_group_ports(
     interfaces: &[InterfaceTable],
 ) -> Result<(), ConfigFault>
     ensures ok { OnOk result (AreGroupPortsApart interfaces.now) }
-    ensures fault { IfErr result (RefusesAt (λ f.
-        (f ≡ PathFault.PortTwice) × ¬ (AreGroupPortsApart interfaces.now))) }
+    ensures fault { IfErr result (RefusesAt (IsFirstGroupPortTaken interfaces.now)) }
 {
     for (index, table) in interfaces.iter().enumerate() {
         if has_group_port(interfaces, table) {
@@ -91,7 +90,7 @@ pub(crate) fn check_group_ports(
 /// Refuses the first peer of the interface that has the address or the local port of an earlier one.
 fn check_peers(alloc: Global, interface: TablePath, peers: &[Peer]) -> Result<(), ConfigFault>
     ensures ok { OnOk result (ArePeersDistinct peers.now) }
-    ensures fault { IfErr result (RefusesAt (λ f. (f ≡ PathFault.PeerTwice) × ¬ (ArePeersDistinct peers.now))) }
+    ensures fault { IfErr result (RefusesAt (IsFirstPeerTwice peers.now (path_text interface ++ codes "peer"))) }
 {
     for (index, peer) in peers.iter().enumerate() {
         if has_same(&peers[..index], peer) {
@@ -113,8 +112,7 @@ pub(crate) fn check_all_peers(
     interfaces: &[InterfaceTable],
 ) -> Result<(), ConfigFault>
     ensures ok { OnOk result (AreAllPeersDistinct interfaces.now) }
-    ensures fault { IfErr result (RefusesAt (λ f.
-        (f ≡ PathFault.PeerTwice) × ¬ (AreAllPeersDistinct interfaces.now))) }
+    ensures fault { IfErr result (RefusesAt (IsFirstOfPeersTwice interfaces.now)) }
 {
     for (index, table) in interfaces.iter().enumerate() {
         check_peers(

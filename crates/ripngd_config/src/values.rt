@@ -1,10 +1,12 @@
 //! The value at a key of a table, read as the kind that the key holds.
 
-ghost use Rattle.std.specs.Prelude.{◌≡◌, ◌<◌, ◌^◌, Some, None, IfErr, IfOk, OnOk, map, MatchOption, option_map};
+ghost use Rattle.std.specs.Prelude.{◌≡◌, ◌<◌, ◌^◌, ◌++◌, true, false, Some, None, IfErr, IfOk, OnOk, is_none, map, option_map};
 ghost use Rattle.toml.specs.Data.{get_member};
 ghost use Rattle.toml.specs.View.{table_view, view};
 ghost use Rattle.ripngd_config.specs.Faults.{RefusesAt};
-ghost use Rattle.ripngd_config.specs.Keys.{AddressFault, HasOnlyOf, HasOtherOf, is_listed, NumberFault, PrefixFault, TruthFault};
+ghost use Rattle.ripngd_config.specs.First.{IsFirstOther, KeyFirst};
+ghost use Rattle.ripngd_config.specs.Keys.{HasOnlyOf, address, is_listed, number, prefix, truth};
+ghost use Rattle.ripngd_config.specs.Paths.{path_text};
 ghost use Rattle.ripngd_config.specs.Values.{IsAddress, IsReadAt, IsNumber, IsPrefixValue, IsSomeNumber, IsTruth};
 
 use crate::fault::{ConfigFault, PathFault};
@@ -31,7 +33,7 @@ impl<'a> Section<'a> {
 
     /// The refusal for a fault of a key.
     pub fn fault(&self, fault: PathFault, key: &str) -> ConfigFault
-        ensures { RefusesAt (λ f. f ≡ fault) result }
+        ensures { RefusesAt (λ f place. (f ≡ fault) × (place ≡ path_text self.now.path ++ key.now)) result }
     {
         ConfigFault::at(self.alloc, fault, self.path, key)
     }
@@ -46,9 +48,8 @@ impl<'a> Section<'a> {
     ) -> Result<u64, ConfigFault>
         requires small { high < 2 ^ 63 }
         ensures read { IfOk result (IsReadAt (IsNumber low high) key.now default (table_view self.now.table.now)) }
-        ensures fault { IfErr result (RefusesAt (λ f.
-            MatchOption (get_member key.now (table_view self.now.table.now))
-            ((f ≡ PathFault.MissingKey) × (default ≡ None)) (NumberFault f low high))) }
+        ensures fault { IfErr result (RefusesAt
+            (KeyFirst key.now (is_none default) (number low high) (path_text self.now.path) (table_view self.now.table.now))) }
     {
         let Some(value) = self.get(key) else {
             return default.ok_or(self.fault(PathFault::MissingKey, key));
@@ -71,8 +72,8 @@ impl<'a> Section<'a> {
     ) -> Result<Option<u64>, ConfigFault>
         requires small { high < 2 ^ 63 }
         ensures read { IfOk result (IsReadAt (IsSomeNumber low high) key.now (Some None) (table_view self.now.table.now)) }
-        ensures fault { IfErr result (RefusesAt (λ f.
-            MatchOption (get_member key.now (table_view self.now.table.now)) ⊥ (NumberFault f low high))) }
+        ensures fault { IfErr result (RefusesAt
+            (KeyFirst key.now false (number low high) (path_text self.now.path) (table_view self.now.table.now))) }
     {
         match self.get(key) {
             Some(_) => Ok(Some(self.number(key, low, high, None)?)),
@@ -83,9 +84,8 @@ impl<'a> Section<'a> {
     /// The address at a key, which is required.
     pub fn address(&self, key: &str) -> Result<Addr6, ConfigFault>
         ensures read { IfOk result (IsReadAt IsAddress key.now None (table_view self.now.table.now)) }
-        ensures fault { IfErr result (RefusesAt (λ f.
-            MatchOption (get_member key.now (table_view self.now.table.now))
-            (f ≡ PathFault.MissingKey) (AddressFault f))) }
+        ensures fault { IfErr result (RefusesAt
+            (KeyFirst key.now true address (path_text self.now.path) (table_view self.now.table.now))) }
     {
         let Some(value) = self.get(key) else {
             return Err(self.fault(PathFault::MissingKey, key));
@@ -102,9 +102,8 @@ impl<'a> Section<'a> {
     /// The prefix at a key, which is required.
     pub fn prefix(&self, key: &str) -> Result<Prefix, ConfigFault>
         ensures read { IfOk result (IsReadAt IsPrefixValue key.now None (table_view self.now.table.now)) }
-        ensures fault { IfErr result (RefusesAt (λ f.
-            MatchOption (get_member key.now (table_view self.now.table.now))
-            (f ≡ PathFault.MissingKey) (PrefixFault f))) }
+        ensures fault { IfErr result (RefusesAt
+            (KeyFirst key.now true prefix (path_text self.now.path) (table_view self.now.table.now))) }
     {
         let Some(value) = self.get(key) else {
             return Err(self.fault(PathFault::MissingKey, key));
@@ -121,8 +120,8 @@ impl<'a> Section<'a> {
     /// The truth value at a key, or the default.
     pub fn truth(&self, key: &str, default: bool) -> Result<bool, ConfigFault>
         ensures read { IfOk result (IsReadAt IsTruth key.now (Some default) (table_view self.now.table.now)) }
-        ensures fault { IfErr result (RefusesAt (λ f.
-            MatchOption (get_member key.now (table_view self.now.table.now)) ⊥ (TruthFault f))) }
+        ensures fault { IfErr result (RefusesAt
+            (KeyFirst key.now false truth (path_text self.now.path) (table_view self.now.table.now))) }
     {
         let Some(value) = self.get(key) else {
             return Ok(default);
@@ -136,8 +135,8 @@ impl<'a> Section<'a> {
     /// Refuses the first key, in the order of bytes, that is not one of these.
     pub fn only(&self, known: &[&str]) -> Result<(), ConfigFault>
         ensures only { OnOk result (HasOnlyOf (map (λ k. k.now) known.now) (table_view self.now.table.now)) }
-        ensures fault { IfErr result (RefusesAt (λ f. (f ≡ PathFault.UnknownKey)
-            × HasOtherOf (map (λ k. k.now) known.now) (table_view self.now.table.now))) }
+        ensures fault { IfErr result (RefusesAt (λ f place. (f ≡ PathFault.UnknownKey)
+            × IsFirstOther (map (λ k. k.now) known.now) (path_text self.now.path) (table_view self.now.table.now) place)) }
     {
         for key in self.table.keys() {
             if !is_known(known, key.as_str()) {

@@ -51,8 +51,8 @@ has_sockets ask = serves ask
 
 -- what may fail where this is asked: no file and no path but those that it names, and no link after its turns
 abbrev pub MayFail : Ask → Failure → Type 0
-MayFail ask (failures.Read file) = file_of ask ≡ Some file.now
-MayFail ask (failures.Log file) = log_file_of ask ≡ Some file.now
+MayFail ask (failures.Read file cause) = file_of ask ≡ Some file.now
+MayFail ask (failures.Log file cause) = log_file_of ask ≡ Some file.now
 MayFail ask failures.Output = ⊤
 MayFail ask (failures.Bind port cause) = IsTrue (has_sockets ask)
 MayFail ask (failures.Listen path why) = door_of ask ≡ Some path.now

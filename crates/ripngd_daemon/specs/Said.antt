@@ -2,6 +2,8 @@
 use Rattle.std.specs.Prelude.{ℕ, List, [], ◌++◌, codes, decimal}
 use Rattle.ripngd_daemon.specs.declared.failure.Failure.{Failure}
 use Rattle.ripngd_daemon.specs.declared.failure.Failure.TheVariants as failures
+use Rattle.ripngd_daemon.specs.declared.file_cause.FileCause.{FileCause}
+use Rattle.ripngd_daemon.specs.declared.file_cause.FileCause.TheVariants as files
 use Rattle.ripngd_door.specs.declared.door.DoorFault.{DoorFault}
 use Rattle.ripngd_door.specs.declared.door.DoorFault.TheVariants as doors
 use Rattle.ripngd_show.specs.Shown.{newline}
@@ -20,10 +22,20 @@ cause_text causes.NotPermitted = codes ": not permitted"
 cause_text causes.InUse = codes ": in use"
 cause_text causes.Other = []
 
+-- why a file cannot be read or written, behind it
+abbrev pub file_cause_text : FileCause → List ℕ
+file_cause_text files.NotFound = codes ": not found"
+file_cause_text files.NotPermitted = codes ": not permitted"
+file_cause_text files.IsDirectory = codes ": is a directory"
+file_cause_text files.Full = codes ": no space left"
+file_cause_text files.InUse = codes ": in use"
+file_cause_text files.IsConfig = codes ": is the configuration"
+file_cause_text files.Other = []
+
 -- what failed, with its file, its path, its port or its turns
 abbrev pub failure_text : Failure → List ℕ
-failure_text (failures.Read file) = codes "cannot read " ++ file.now
-failure_text (failures.Log file) = codes "cannot write " ++ file.now
+failure_text (failures.Read file cause) = codes "cannot read " ++ (file.now ++ file_cause_text cause)
+failure_text (failures.Log file cause) = codes "cannot write " ++ (file.now ++ file_cause_text cause)
 failure_text failures.Output = codes "cannot write stdout"
 failure_text (failures.Bind port cause) = codes "cannot bind " ++ (decimal port ++ cause_text cause)
 failure_text (failures.Listen path why) = codes "cannot listen at " ++ (path.now ++ why_text why)

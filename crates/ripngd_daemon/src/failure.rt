@@ -7,6 +7,7 @@ ghost use Rattle.ripngd_daemon.specs.Faults.{failure_of, failure_of_engine, fail
 ghost use Rattle.ripngd_daemon.specs.Said.{cause_text, failure_line, failure_text, why_text};
 ghost use Rattle.ripngd_daemon.specs.declared.failure.Failure.TheVariants as failures;
 
+use crate::file_cause::FileCause;
 use ripngd_door::DoorFault;
 use ripngd_engine::EngineFault;
 use ripngd_show::PrintFault;
@@ -18,9 +19,9 @@ use std::io::{self, ErrorKind, Write};
 #[derive(Clone, Copy, Debug, PartialEq, Eq)]
 pub enum Failure<'a> {
     /// A file cannot be read.
-    Read(&'a str),
-    /// A file for the log cannot be made.
-    Log(&'a str),
+    Read(&'a str, FileCause),
+    /// A file for the log cannot be made or written.
+    Log(&'a str, FileCause),
     /// Standard output failed.
     Output,
     /// A port of 127.0.0.1 cannot be bound.
@@ -66,8 +67,8 @@ impl Display for Failure<'_> {
 
     fn fmt<W: fmt::Write>(&self, f: &mut fmt::Formatter<W>) -> fmt::Result {
         match *self {
-            Failure::Read(file) => write!(f, "cannot read {file}"),
-            Failure::Log(file) => write!(f, "cannot write {file}"),
+            Failure::Read(file, cause) => write!(f, "cannot read {file}{}", cause.text()),
+            Failure::Log(file, cause) => write!(f, "cannot write {file}{}", cause.text()),
             Failure::Output => write!(f, "cannot write stdout"),
             Failure::Bind(port, cause) => write!(f, "cannot bind {port}{}", cause_text(cause)),
             Failure::Listen(path, why) => write!(f, "cannot listen at {path}{}", why_text(why)),
@@ -80,7 +81,7 @@ impl Display for Failure<'_> {
     }
 }
 
-/// Writes what failed, as `ripngd: cannot read FILE`.
+/// Writes what failed, as `ripngd: cannot read FILE: not found`.
 pub fn write_failure<W: Write>(failure: Failure<'_>, err: &mut W) -> io::Result<()>
     ensures { OnOk result (Appends (W.contents err.old) (W.contents err.new) (failure_line failure.entry)) }
 {

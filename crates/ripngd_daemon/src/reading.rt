@@ -2,8 +2,10 @@
 
 ghost use Rattle.std.specs.Prelude.{◌≡◌, ◌⊎◌, IfErr, IfOk, List, ℕ};
 ghost use Rattle.ripngd_daemon.specs.declared.failure.Failure.TheVariants as failures;
+ghost use Rattle.ripngd_daemon.specs.declared.file_cause.FileCause.{FileCause};
 
 use crate::failure::{Failure, failed};
+use crate::file_cause::FileCause;
 use std::fs;
 use std::rt::Files;
 
@@ -15,10 +17,10 @@ pub trait FileSource {
     /// What a file holds.
     ///
     /// # Errors
-    /// `Read` with its name where it cannot be read; `OutOfMemory`.
+    /// `Read` with its name, and why, where it cannot be read; `OutOfMemory`.
     fn read<'a>(&self, file: &'a str) -> Result<Vec<u8>, Failure<'a>>
         ensures text { IfOk result (λ text. holds self.now file.entry.now text.items) }
-        ensures failed { IfErr result (λ f. (f ≡ failures.OutOfMemory) ⊎ (f ≡ failures.Read file.entry)) };
+        ensures failed { IfErr result (λ f. (f ≡ failures.OutOfMemory) ⊎ ((cause : FileCause) × (f ≡ failures.Read file.entry cause))) };
 }
 
 /// The files of the system, of which contracts know nothing.
@@ -33,7 +35,7 @@ impl<R: AllocGlobal + Files> FileSource for SystemFiles<'_, R> {
     fn read<'a>(&self, file: &'a str) -> Result<Vec<u8>, Failure<'a>> {
         match fs::read(self.0, file) {
             Ok(text) => Ok(text),
-            Err(error) => Err(failed(Failure::Read(file), &error)),
+            Err(error) => Err(failed(Failure::Read(file, FileCause::of(&error)), &error)),
         }
     }
 }

@@ -6,13 +6,16 @@ ghost use Rattle.ripngd_command_line.specs.declared.asked.Ask.TheVariants as ask
 ghost use Rattle.ripngd_daemon.specs.Beginning.{start_lines};
 ghost use Rattle.ripngd_daemon.specs.Failing.{MayFail};
 ghost use Rattle.ripngd_daemon.specs.declared.failure.Failure.TheVariants as failures;
+ghost use Rattle.ripngd_daemon.specs.declared.file_cause.FileCause.{FileCause};
 
 use crate::failure::{Failure, failed};
+use crate::file_cause::FileCause;
 use ripngd_command_line::Order;
+use ripngd_stamp::Stamped;
 use std::fs::{self, File, OpenOptions, TryLockError};
 use std::io::{self, Print, Write};
 use std::os::unix::fs::MetadataExt;
-use std::rt::Files;
+use std::rt::{Clock, Files};
 
 /// What the lines of a run go to.
 pub(crate) trait Log: Write {
@@ -34,6 +37,13 @@ impl Log for File {
 impl Log for io::Sink {
     fn empty(&mut self) -> io::Result<()> {
         Ok(())
+    }
+}
+
+/// The lines stand in the log whose lines are stamped.
+impl<R: Clock + AllocGlobal, L: Log> Log for Stamped<'_, R, L> {
+    fn empty(&mut self) -> io::Result<()> {
+        self.log.empty()
     }
 }
 
@@ -78,7 +88,7 @@ pub(crate) fn refuse_own_config<'a, R: Files>(rt: &R, order: Order<'a>) -> Resul
         return Ok(());
     };
     if file == order.config || is_same_file(rt, file, order.config) {
-        Err(Failure::Log(file))
+        Err(Failure::Log(file, FileCause::IsConfig))
     } else {
         Ok(())
     }
@@ -96,6 +106,13 @@ fn is_held(lines: &File) -> bool {
     }
 }
 
+/// What fails where the system lets a log not be opened or written.
+fn cannot_write<'a>(file: &'a str, error: &io::Error) -> Failure<'a>
+    ensures { (result ≡ failures.OutOfMemory) ⊎ ((cause : FileCause) × (result ≡ failures.Log file.entry cause)) }
+{
+    failed(Failure::Log(file, FileCause::of(error)), error)
+}
+
 /// Opens a file, which is made if it is not there, to be written at its end, and locks it until it is closed. It is left as
 /// it is.
 ///
@@ -105,15 +122,15 @@ pub(crate) fn open_log<'a, R: Files<File = File>>(
     rt: &R,
     file: &'a str,
 ) -> Result<File, Failure<'a>>
-    ensures { IfErr result (λ f. (f ≡ failures.OutOfMemory) ⊎ (f ≡ failures.Log file.entry)) }
+    ensures { IfErr result (λ f. (f ≡ failures.OutOfMemory) ⊎ ((cause : FileCause) × (f ≡ failures.Log file.entry cause))) }
 {
     let lines = OpenOptions::new()
         .append(true)
         .create(true)
         .open(rt, file)
-        .map_err(|error| failed(Failure::Log(file), &error))?;
+        .map_err(|error| cannot_write(file, &error))?;
     if is_held(&lines) {
-        Err(Failure::Log(file))
+        Err(Failure::Log(file, FileCause::InUse))
     } else {
         Ok(lines)
     }
@@ -130,14 +147,15 @@ pub(crate) fn begin_log<'a, L: Log>(
     log: &mut L,
 ) -> Result<(), Failure<'a>>
     ensures kept { name.entry ≢ None → append ≡ true → OnOk result (Appends (L.contents log.old) (L.contents log.new) start_lines) }
-    ensures failed { IfErr result (λ f. (f ≡ failures.OutOfMemory) ⊎ (option_map failures.Log name.entry ≡ Some f)) }
+    ensures failed { IfErr result (λ f. (f ≡ failures.OutOfMemory)
+        ⊎ ((cause : FileCause) × (option_map (λ file. failures.Log file cause) name.entry ≡ Some f))) }
 {
     let begun = match append {
         true => log.write_all(b"\nstart\n"),
         false => log.empty(),
     };
     match (begun, name) {
-        (Err(error), Some(file)) => Err(failed(Failure::Log(file), &error)),
+        (Err(error), Some(file)) => Err(cannot_write(file, &error)),
         _ => Ok(()),
     }
 }

@@ -29,6 +29,7 @@ use ripngd_command_line::Order;
 use ripngd_config::{Config, Peer, Place};
 use ripngd_control::Losses;
 use ripngd_engine::{Engine, EngineFault, Unwatched, Watch};
+use ripngd_stamp::Stamped;
 use ripngd_udp::{Udp, Uptime};
 use ripngd_watch::DebugLines;
 use router_core::RouterConfig;
@@ -40,7 +41,7 @@ use std::rt::{Clock, Files};
 /// Runs the router of a configuration until it has made its turns or its seconds have passed, and then writes its
 /// forwarding table, a line for each entry. Each change of a route is a line of the log, if a file is named for it, whose old
 /// contents are lost once all ports are bound, but where it is to be gone on in: a line feed and a line `start` are then written
-/// behind them.
+/// behind them. Where its lines are to be stamped, each begins with the moment at which it is written.
 /// A configuration that is refused is written as `refused ..`, before that file is touched, and the answer is then false.
 /// What the router lost is left in `lost`, also where it ended early. `err` gets the line `ripngd: running, N interfaces` once
 /// all ports are bound and the log is begun, and before it one for each interface that is its own peer. Where the router is
@@ -98,12 +99,34 @@ fn run_plan<'a, R: Files<File = File> + Print + Clock + Net + AllocGlobal, O: Wr
         (option_map (λ s. s.now) plan.entry.control)) }
 {
     match plan.log {
-        Some("-") => run_logged(rt, plan, &mut Output(rt), out, err, lost),
+        Some("-") => run_written(rt, plan, Output(rt), out, err, lost),
         Some(file) => {
-            let mut lines = open_log(rt, file)?;
-            run_logged(rt, plan, &mut lines, out, err, lost)
+            let lines = open_log(rt, file)?;
+            run_written(rt, plan, lines, out, err, lost)
         }
         None => run_logged(rt, plan, &mut io::sink(), out, err, lost),
+    }
+}
+
+/// Runs a router with a log whose lines are stamped, if they are to be.
+fn run_written<'a, R: Files + Clock + Net + AllocGlobal, L: Log + Drop, O: Write, E: Write>(
+    rt: &R,
+    plan: Plan<'a>,
+    mut lines: L,
+    out: &mut O,
+    err: &mut E,
+    lost: &mut Losses,
+) -> Result<(), Failure<'a>>
+    requires { HasOneEach plan.config }
+    ensures shown { OnOk result (ShowsOrdered plan.entry.control plan.entry.config plan.entry.limit
+        (O.contents out.old) (O.contents out.new)) }
+    ensures failed { IfErr result (FailsPlanned plan.entry.limit.turns (option_map (λ s. s.now) plan.entry.log)
+        (option_map (λ s. s.now) plan.entry.control)) }
+{
+    if plan.stamp {
+        run_logged(rt, plan, &mut Stamped::new(rt, lines), out, err, lost)
+    } else {
+        run_logged(rt, plan, &mut lines, out, err, lost)
     }
 }
 
@@ -151,6 +174,7 @@ fn run_logged<'a, R: Files + Clock + Net + AllocGlobal, L: Log, O: Write, E: Wri
         debug,
         log: name,
         append,
+        stamp: _,
         control,
     } = plan;
     let _ = write_echoes(&config, err);

@@ -1,7 +1,7 @@
 //! Doubles for tests: a link, a clock, a random source and a log over memory, which follow a script, fail where they are
 //! told to, and tell their calls.
 
-ghost use Rattle.std.specs.Prelude.{◌≡◌, ◌∷◌, [], map, false, Some, IfOk, OnErr, option_map};
+ghost use Rattle.std.specs.Prelude.{◌≡◌, ◌∷◌, [], map, false, None, Some, IfOk, OnErr, option_map};
 ghost use Rattle.rand_core.specs.Steps.{stream_of, steps_u32};
 ghost use Rattle.ripngd_engine.specs.Link.{Handed};
 ghost use Rattle.ripngd_engine.specs.Memory.{call_of, claimed};
@@ -106,7 +106,7 @@ impl MemoryLink {
         ensures gained { IfOk call (λ it. Gains (claimed self.old.telling (map call_of self.old.calls.items))
             (claimed self.new.telling (map call_of self.new.calls.items)) (call_of it ∷ [])) }
         ensures lost { OnErr call (self.new.telling ≡ false) }
-        ensures same { self.new.interfaces ≡ self.old.interfaces }
+        ensures same { self.new ≡ record self.old { calls = self.new.calls; telling = self.new.telling } }
     {
         match call {
             Ok(call) => {
@@ -120,6 +120,10 @@ impl MemoryLink {
 }
 
 impl Link for MemoryLink {
+    ghost use Rattle.std.specs.Prelude.{◌<◌, ◌≤◌, ◌+◌, ◌-◌, ◌^◌, IfSome, IsErr, OnOk, drop, is_ok, length, min, slice_get};
+    ghost use Rattle.ripngd_engine.specs.Link.{recv_call};
+    ghost use Rattle.ripngd_engine.specs.Memory.{given_of};
+
     ghost calls = { λ m. claimed m.telling (map call_of m.calls.items) };
 
     ghost interface_count = { λ m. m.interfaces };
@@ -128,7 +132,19 @@ impl Link for MemoryLink {
         self.interfaces
     }
 
-    fn recv(&mut self, buffer: &mut [u8]) -> Result<Option<Received>, LinkFault> {
+    /// Fails where it is told to, and else gives what comes next.
+    fn recv(&mut self, buffer: &mut [u8]) -> Result<Option<Received>, LinkFault>
+        ensures gained { Gains (claimed self.old.telling (map call_of self.old.calls.items))
+            (claimed self.new.telling (map call_of self.new.calls.items)) (recv_call result buffer.new ∷ []) }
+        ensures interface { IfOk result (λ o. IfSome o (λ r. r.iface < self.old.interfaces)) }
+        ensures within { IfOk result (λ o. IfSome o (λ r. r.len ≤ length buffer.new)) }
+        ensures same { self.new.interfaces ≡ self.old.interfaces }
+        ensures failing { self.old.failing_recv ≡ Some self.old.recvs → IsErr result }
+        ensures sound { OnErr result (self.old.failing_recv ≡ Some self.old.recvs) }
+        ensures gives { IfOk result (λ o. o ≡ given_of self.old.interfaces (length buffer.old) (slice_get self.old.coming.items 0)) }
+        ensures rest { OnOk result (self.new.coming.items ≡ drop 1 self.old.coming.items) }
+        ensures counted { self.new.recvs ≡ min (self.old.recvs + 1) (2 ^ 64 - 1) }
+    {
         let number = self.recvs;
         self.recvs = number.saturating_add(1);
         if self.failing_recv == Some(number) {
@@ -157,7 +173,15 @@ impl Link for MemoryLink {
         Ok(Some(received))
     }
 
-    fn send(&mut self, outgoing: &Outgoing) -> Result<(), LinkFault> {
+    /// Fails where it is told to, and nowhere else.
+    fn send(&mut self, outgoing: &Outgoing) -> Result<(), LinkFault>
+        ensures gained { Gains (claimed self.old.telling (map call_of self.old.calls.items))
+            (claimed self.new.telling (map call_of self.new.calls.items)) (Handed outgoing.now (is_ok result) ∷ []) }
+        ensures same { self.new.interfaces ≡ self.old.interfaces }
+        ensures failing { self.old.failing_send ≡ Some self.old.sends → IsErr result }
+        ensures sound { OnErr result (self.old.failing_send ≡ Some self.old.sends) }
+        ensures counted { self.new.sends ≡ min (self.old.sends + 1) (2 ^ 64 - 1) }
+    {
         let number = self.sends;
         self.sends = number.saturating_add(1);
         let went = self.failing_send != Some(number);
@@ -191,9 +215,17 @@ impl MemoryClock {
 }
 
 impl TimeSource for MemoryClock {
+    ghost use Rattle.std.specs.Prelude.{drop, slice_index_or};
+
     ghost moments = { λ c. claimed c.telling c.given.items };
 
-    fn now(&mut self) -> Moment {
+    /// The next moment of the script, or the last for ever.
+    fn now(&mut self) -> Moment
+        ensures gained { Gains (claimed self.old.telling self.old.given.items) (claimed self.new.telling self.new.given.items) (result ∷ []) }
+        ensures gives { result ≡ slice_index_or self.old.coming.items 0 self.old.last }
+        ensures rest { self.new.coming.items ≡ drop 1 self.old.coming.items }
+        ensures last { self.new.last ≡ self.old.last }
+    {
         let now = self.coming.pop_front().unwrap_or(self.last);
         if self.given.push(now).is_err() {
             self.telling = false;
@@ -243,7 +275,9 @@ pub struct MemoryLog {
 impl MemoryLog {
     /// An empty log of which no write fails.
     pub fn new(alloc: Global) -> MemoryLog
-        ensures { ⟦<MemoryLog as Write>⟧.contents result ≡ Some [] }
+        ensures empty { ⟦<MemoryLog as Write>⟧.contents result ≡ Some [] }
+        ensures sound { result.failing_write ≡ None }
+        ensures writes { result.writes ≡ 0 }
     {
         MemoryLog {
             failing_write: None,
@@ -261,9 +295,25 @@ impl MemoryLog {
 }
 
 impl Write for MemoryLog {
+    ghost use Rattle.std.specs.Prelude.{◌⊎◌, ◌-◌, ◌+◌, ◌^◌, ◌++◌, IfErr, IsErr, IsOk, length, min};
+    ghost use Rattle.std.specs.Io.{WritesAtMost};
+    ghost use Rattle.std.specs.Io.KnownBytes.{Keeps, WriteAppends};
+    ghost use Rattle.std.specs.IoError.{error_kind};
+    ghost use Rattle.std.specs.declared.io.ErrorKind.TheVariants as kinds;
+
     ghost contents = { λ m. Some m.text.items };
 
-    fn write(&mut self, buf: &[u8]) -> io::Result<usize> {
+    /// Takes all bytes, but for the write that is to fail, and where memory is refused: then it takes none.
+    fn write(&mut self, buf: &[u8]) -> io::Result<usize>
+        ensures bound { WritesAtMost result buf.now }
+        ensures bytes { WriteAppends (Some self.old.text.items) (Some self.new.text.items) result buf.now }
+        ensures all { IfOk result (λ n. (n ≡ length buf.now) × (self.new.text.items ≡ self.old.text.items ++ buf.now)) }
+        ensures none { OnErr result (self.new.text.items ≡ self.old.text.items) }
+        ensures failing { self.old.failing_write ≡ Some self.old.writes → IsErr result }
+        ensures why { IfErr result (λ e. (self.old.failing_write ≡ Some self.old.writes) ⊎ (error_kind e ≡ kinds.OutOfMemory)) }
+        ensures counted { self.new.writes ≡ min (self.old.writes + 1) (2 ^ 64 - 1) }
+        ensures same { self.new.failing_write ≡ self.old.failing_write }
+    {
         let number = self.writes;
         self.writes = number.saturating_add(1);
         if self.failing_write == Some(number) {
@@ -272,7 +322,11 @@ impl Write for MemoryLog {
         self.text.write(buf)
     }
 
-    fn flush(&mut self) -> io::Result<()> {
+    fn flush(&mut self) -> io::Result<()>
+        ensures bytes { Keeps (Some self.old.text.items) (Some self.new.text.items) }
+        ensures ok { IsOk result }
+        ensures unchanged { self.new ≡ self.old }
+    {
         Ok(())
     }
 }

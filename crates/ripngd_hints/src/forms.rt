@@ -5,7 +5,7 @@ use std::fmt;
 
 /// The forms of lines, as docs/FORMATS.md has them. A word in capitals is a part, and `..` at the end repeats K. Of forms that a line
 /// leaves at the same word, the first is what it is told of.
-pub const FORMS: [&str; 36] = [
+pub const FORMS: [&str; 37] = [
     "router NAME",
     "router quiet NAME",
     "router quiet",
@@ -17,6 +17,7 @@ pub const FORMS: [&str; 36] = [
     "deliver N R I NOW",
     "stranger R I NOW SOURCE PORT HOP TO HEX",
     "ask R I NOW SOURCE PORT ASKED",
+    "liar R I NOW SOURCE HEX",
     "tick R NOW WORD",
     "tell R NOW WORD but K ..",
     "tell R NOW WORD",

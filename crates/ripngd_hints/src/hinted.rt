@@ -59,7 +59,7 @@ fn hint_of<'a>(
             Ok(fault.map(|fault| (fault.line, Hint::Network(fault.meaning))))
         }
         Refusal::Event(error) => Ok(hint_of_event(script, ending, error)),
-        Refusal::Rounds(_) | Refusal::Phases { .. } => Ok(None),
+        Refusal::LiedTo | Refusal::Rounds(_) | Refusal::Phases { .. } => Ok(None),
     }
 }
 

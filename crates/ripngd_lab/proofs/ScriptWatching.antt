@@ -4,10 +4,12 @@ use Rattle.std.proofs.Common.{◌≡◌, ◌⊎◌, inl, inr, ℕ, List, [], ◌
 use Rattle.router_core.specs.declared.answer.Answer.{Answer}
 use Rattle.ripng_world.specs.Asked.{Asked}
 use Rattle.ripng_world.specs.Labs.{LabValue, HappensGiving}
+use Rattle.router_core.specs.Received.{Received}
+use Rattle.ripng_world.specs.Lying.{LiesGiving}
 use Rattle.ripng_world.specs.Network.{Network}
 use Rattle.ripng_world.specs.Rounds.{events_of_rounds}
 use Rattle.ripng_world.specs.Watching.{Told, WatchedRun, WatchedUntil, WatchedInPart, AreMadeTold, RoundsToldInPart, any, telling, wanting}
-use Rattle.ripng_world.specs.World.{World, Event, Happens}
+use Rattle.ripng_world.specs.World.{World, Event, Stranger, Happens}
 use Rattle.ripng_world.specs.declared.watch.Stopped.{Stopped}
 use Rattle.ripng_world.specs.declared.watch.Stopped.TheVariants.{Refused as IsRefused, Failed as HasFailed}
 use Rattle.ripng_world.proofs.Watched.{given_told}
@@ -16,8 +18,8 @@ use Rattle.ripng_phases.specs.Phases.{Step, steps_of}
 use Rattle.ripng_phases.specs.declared.refused.PhaseRefused.{PhaseRefused}
 use Rattle.ripng_phases.specs.declared.refused.PhaseRefused.TheVariants.{NoUpdateInTime, PastLastMoment, OutOfMemory}
 use Rattle.ripngd_lab.specs.Phasing.{IsStopAt, StopsInPhase}
-use Rattle.ripngd_lab.specs.Asides.{Aside, NextLine, Prints, CountsPhases, Broken}
-use Rattle.ripngd_lab.specs.ScriptWatching.{Telling, Starts, Does, Turns, Notes, Counts, StartsAt, TellsAll, IsToldOfLab, FailsAtEvent, IsToldUntil, IsToldUnless, HasTold, is_failure, has_failed}
+use Rattle.ripngd_lab.specs.Asides.{Aside, NextLine, Prints, CountsPhases, Lie, Broken}
+use Rattle.ripngd_lab.specs.ScriptWatching.{Telling, Starts, Does, Turns, Notes, Counts, Deceives, StartsAt, TellsAll, IsToldOfLab, FailsAtEvent, IsToldUntil, IsToldUnless, HasTold, is_failure, has_failed}
 use Rattle.ripngd_lab.specs.declared.stop.Stop.{Stop}
 use Rattle.ripngd_lab.specs.declared.stop.Stop.TheVariants.{Refused, Unmet, Failed}
 use Rattle.std.specs.declared.io.Error.{Error}
@@ -88,6 +90,11 @@ module _ {V : Type 0} (st : V → LabValue → ℕ → V → Type 0) (t f : V �
   pub fault_told : (r : Result ⊤ Stop) (error : Error) (lab : Option LabValue) (v v' : V) → IsErrAnd r (λ e. e ≡ Failed error) → n v Broken v' → HasTold r st t f n (lab, v) (lab, v')
   fault_told (Ok x) error lab v v' is broken = absurd is
   fault_told (Err e) error lab v v' is broken = subst (λ (b : Bool). IsToldUnless b st t f n (lab, v) (lab, v')) (sym (ap is_failure is)) (failed_still lab v v' (inr broken))
+
+  -- the watcher fails, after all that is told until then
+  pub failed_until : (r : Result ⊤ Stop) (error : Error) (s s' : Option LabValue × V) → IsErrAnd r (λ e. e ≡ Failed error) → IsToldUntil st t f n s s' → HasTold r st t f n s s'
+  failed_until (Ok x) error s s' is until = absurd is
+  failed_until (Err e) error s s' is until = subst (λ (b : Bool). IsToldUnless b st t f n s s') (sym (ap is_failure is)) until
 
   -- a lab did not start: the watcher was told nothing, or failed at that
   pub not_begun : (r : Result ⊤ Stop) (from : Stop) (lab : Option LabValue) (v v' : V) → IsErrAnd r (λ e. e ≡ from) → (v' ≡ v) ⊎ ((is_failure from ≡ true) × n v Broken v')
@@ -164,7 +171,7 @@ module _ {V : Type 0} (st : V → LabValue → ℕ → V → Type 0) (t f : V �
   until_one net es w w' v v' u = (
     (Some (record { network = net; world = u.before.0 }), u.before.1),
     run_told net u.done w u.before.0 v u.before.1 any u.run,
-    inr (by_last u.last u.as_many u.failed),
+    inr (inl (by_last u.last u.as_many u.failed)),
   )
     where
       by_last : (last : List Event) → length last ≡ 1 → WatchedRun f any net u.before last (w', v')
@@ -195,6 +202,33 @@ module _ {V : Type 0} (st : V → LabValue → ℕ → V → Type 0) (t f : V �
       refl,
     ),
   )
+
+  -- a lie, and one of which the telling fails
+  pub lied : (lab lab' : LabValue) (router : ℕ) (x : Received) (given : Answer) (first : ℕ) (v v' : V) (lies : LiesGiving lab router x given lab'.world) → lab'.network ≡ lab.network
+      → first ≡ length lab.world.sent → n v (Lie (record { lab = lab'; event = Stranger router x; answer = given; first = first })) v' → IsToldOfLab st t n (Some lab, v) (Some lab', v')
+  lied lab lab' router x given first v v' lies same first_is told = (
+    Deceives router x lies.0 ∷ [],
+    (
+      (Some lab', v'),
+      (
+        lab,
+        refl,
+        lab',
+        refl,
+        same,
+        lies.1,
+        subst (λ (k : ℕ). n v (Lie (record { lab = record { network = lab.network; world = lab'.world }; event = Stranger router x; answer = record lies.0 { sends = [] }; first = k })) v') first_is
+            (subst (λ (a : Answer). n v (Lie (record { lab = record { network = lab.network; world = lab'.world }; event = Stranger router x; answer = a; first = first })) v') lies.2
+            (subst (λ (net : Network). n v (Lie (record { lab = record { network = net; world = lab'.world }; event = Stranger router x; answer = given; first = first })) v') same told)),
+      ),
+      refl,
+    ),
+  )
+
+  pub lie_failed : (lab lab' : LabValue) (router : ℕ) (x : Received) (given : Answer) (v v' : V) → LiesGiving lab router x given lab'.world → lab'.network ≡ lab.network → n v Broken v'
+      → IsToldUntil st t f n (Some lab, v) (Some lab', v')
+  lie_failed lab lab' router x given v v' lies same broken =
+      ((Some lab, v), untold (Some lab, v), inr (inr (lab, refl, lab', refl, same, router, x, lies.0, lies.1, broken)))
 
   -- some of a run
   pub part_none : (lab lab' : LabValue) (es : List Event) (v v' : V) (k : ℕ) → k ≡ 0 → lab'.network ≡ lab.network → WatchedInPart t f k lab.network (lab.world, v) es (lab'.world, v')

@@ -3,3 +3,4 @@ pub mod Expecting
 pub mod Losing
 pub mod Phasing
 pub mod ScriptWatching
+pub mod Sites

@@ -4,21 +4,25 @@ use Rattle.std.specs.List.{AllByRecursion}
 use Rattle.router_core.specs.declared.answer.Answer.{Answer}
 use Rattle.ripng_world.specs.Labs.{LabValue}
 use Rattle.ripng_world.specs.Watching.{Told, telling}
-use Rattle.ripng_world.specs.World.{Event, Happens, IsCold}
-use Rattle.ripngd_lab.specs.Asides.{Aside, NextLine, Prints, CountsPhases, Broken}
+use Rattle.ripng_world.specs.Lying.{Lies}
+use Rattle.ripng_world.specs.World.{Event, Stranger, Happens, IsCold}
+use Rattle.router_core.specs.Received.{Received}
+use Rattle.ripngd_lab.specs.Asides.{Aside, NextLine, Prints, CountsPhases, Lie, Broken}
 use Rattle.ripngd_lab.specs.declared.session.Stage.{Stage}
 use Rattle.ripngd_lab.specs.declared.session.Stage.TheVariants.{Listing, Running}
 use Rattle.ripngd_lab.specs.declared.stop.Stop.{Stop}
 use Rattle.ripngd_lab.specs.declared.stop.Stop.TheVariants.{Refused, Unmet, Failed}
 
 -- what a watcher is told: that all routers have started, at one moment; that an event was done, with its answer; the number of
--- the script's next line; what a line prints, or why it ends the script; or how many phases a line has made, and which last changed some table
+-- the script's next line; what a line prints, or why it ends the script; how many phases a line has made, and which last changed some
+-- table; or that a lie came, behind which the lab is none any more of which anything is promised
 pub data Telling : Type 0 where
   Starts : (now : ℕ) → Telling
   Does : Event → Answer → Telling
   Turns : (number : ℕ) → Telling
   Notes : Telling
   Counts : (phases : ℕ) → (last : Option ℕ) → Telling
+  Deceives : (router : ℕ) → Received → Answer → Telling
 
 -- all routers of a network have started at one moment
 abbrev pub StartsAt : LabValue → ℕ → Type 0
@@ -34,6 +38,9 @@ TellsWatcher starts takes notes (Does e answer) s s' =
 TellsWatcher starts takes notes (Turns number) s s' = (s'.0 ≡ s.0) × notes s.1 (NextLine number) s'.1
 TellsWatcher starts takes notes Notes s s' = (s'.0 ≡ s.0) × notes s.1 Prints s'.1
 TellsWatcher starts takes notes (Counts phases last) s s' = (s'.0 ≡ s.0) × notes s.1 (CountsPhases phases last) s'.1
+TellsWatcher starts takes notes (Deceives router x answer) s s' =
+    (lab : LabValue) × (s.0 ≡ Some lab) × (lab' : LabValue) × (s'.0 ≡ Some lab') × (lab'.network ≡ lab.network) × Lies lab.world router x answer lab'.world
+    × notes s.1 (Lie (telling lab.network lab.world (Stranger router x) answer lab'.world)) s'.1
 
 -- one after another, and nothing else happens in the lab
 abbrev pub TellsAll : {V : Type 0} → (V → LabValue → ℕ → V → Type 0) → (V → Told → V → Type 0) → (V → Aside → V → Type 0) → Option LabValue × V → List Telling → Option LabValue × V → Type 0
@@ -54,10 +61,16 @@ FailsAtEvent fails s s' =
     (lab : LabValue) × (s.0 ≡ Some lab) × (lab' : LabValue) × (s'.0 ≡ Some lab') × (lab'.network ≡ lab.network)
     × (e : Event) × (answer : Answer) × Happens lab.network lab.world e answer lab'.world × fails s.1 (telling lab.network lab.world e answer lab'.world) s'.1
 
--- the same up to where memory or the watcher failed: where nothing happened, or at an event, which stays done
+-- a lie comes, and the telling of it fails
+abbrev pub FailsAtLie : {V : Type 0} → (V → Aside → V → Type 0) → Option LabValue × V → Option LabValue × V → Type 0
+FailsAtLie notes s s' =
+    (lab : LabValue) × (s.0 ≡ Some lab) × (lab' : LabValue) × (s'.0 ≡ Some lab') × (lab'.network ≡ lab.network)
+    × (router : ℕ) × (x : Received) × (answer : Answer) × Lies lab.world router x answer lab'.world × notes s.1 Broken s'.1
+
+-- the same up to where memory or the watcher failed: where nothing happened, or at an event or a lie, which stays done
 abbrev pub IsToldUntil : {V : Type 0} → (V → LabValue → ℕ → V → Type 0) → (V → Told → V → Type 0) → (V → Told → V → Type 0) → (V → Aside → V → Type 0) → Option LabValue × V → Option LabValue × V → Type 0
 IsToldUntil {V} starts takes fails notes s s' =
-    (before : Option LabValue × V) × IsToldOfLab starts takes notes s before × (FailsAtRest notes before s' ⊎ FailsAtEvent fails before s')
+    (before : Option LabValue × V) × IsToldOfLab starts takes notes s before × (FailsAtRest notes before s' ⊎ (FailsAtEvent fails before s' ⊎ FailsAtLie notes before s'))
 
 -- whether a script ends because memory or the watcher failed
 abbrev pub is_failure : Stop → Bool
@@ -80,4 +93,4 @@ HasTold outcome starts takes fails notes s s' = IsToldUnless (has_failed outcome
 -- the lab of a script, once it runs
 abbrev pub lab_in : Stage → Option LabValue
 lab_in (Listing nodes) = None
-lab_in (Running lab) = Some lab
+lab_in (Running site) = Some site

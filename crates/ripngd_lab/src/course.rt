@@ -11,11 +11,12 @@ use crate::phase::make_phases;
 use crate::printing::Choice;
 use crate::refusal_name::RefusalName;
 use crate::round::{make_partial_rounds, make_round, make_rounds};
+use crate::site::{Held, Site};
 use crate::stop::{Refusal, Stop, Unmet};
 use crate::telling::{Hearing, hear};
 use crate::watching::Watch;
 use crate::words::BadLine;
-use ripng_world::{Event, Lab, LabError};
+use ripng_world::{Event, LabError, Running};
 use route_table::{Moment, TrieRoutes};
 use std::alloc::Global;
 
@@ -43,7 +44,7 @@ impl Course {
 /// A line about routers that run. What a router answers is for the watcher alone.
 pub fn run<V: Watch>(
     alloc: Global,
-    lab: &mut Lab<TrieRoutes>,
+    lab: &mut Site,
     course: &mut Course,
     line: Line,
     watch: &mut V,
@@ -56,10 +57,10 @@ pub fn run<V: Watch>(
             let arrival = datagram.arrival();
             step(lab, &Event::Stranger { router, arrival }, watch)
         }
-        Line::Print(choice) => show_routes(lab, &choice, watch),
-        Line::Sent { asked } => show_sent(lab, asked, watch),
+        Line::Print(choice) => show_routes(lab.running(), &choice, watch),
+        Line::Sent { asked } => show_sent(lab.running(), asked, watch),
         Line::Say(text) => Ok(watch.said(&text)?),
-        Line::Expect(expected) => expect(lab, expected),
+        Line::Expect(expected) => expect(lab.running(), expected),
         line => steer(alloc, lab, course, line, watch),
     }
 }
@@ -67,7 +68,7 @@ pub fn run<V: Watch>(
 /// A line about many routers or datagrams at once, or about none.
 fn steer<V: Watch>(
     alloc: Global,
-    lab: &mut Lab<TrieRoutes>,
+    lab: &mut Site,
     course: &mut Course,
     line: Line,
     watch: &mut V,
@@ -92,7 +93,7 @@ fn steer<V: Watch>(
             course.unheard = lab.sent().len();
             hear_but(alloc, lab, (first, now), &lost, &course.outages, watch)
         }
-        Line::Lose { datagram } => lose(lab, course, datagram, watch),
+        Line::Lose { datagram } => lose(lab.running(), course, datagram, watch),
         line => advance(alloc, lab, course, line, watch),
     }
 }
@@ -100,7 +101,7 @@ fn steer<V: Watch>(
 /// A line of rounds or phases, or one that nobody moves at. What rounds and phases sent is passed by.
 fn advance<V: Watch>(
     alloc: Global,
-    lab: &mut Lab<TrieRoutes>,
+    lab: &mut Site,
     course: &mut Course,
     line: Line,
     watch: &mut V,
@@ -119,17 +120,17 @@ fn advance<V: Watch>(
             Ok(())
         }
         Line::Phases { phases, seed } => {
-            make_phases(alloc, lab, phases, seed, &course.outages, watch)?;
+            go_on(alloc, lab, (phases, seed), &course.outages, watch)?;
             course.unheard = lab.sent().len();
             Ok(())
         }
-        line => settle(lab, course, line),
+        line => settle(lab.running(), course, line),
     }
 }
 
 /// An event happens, if it does not bring what is lost.
 fn happen<V: Watch>(
-    lab: &mut Lab<TrieRoutes>,
+    lab: &mut Site,
     course: &Course,
     event: &Event<'_>,
     watch: &mut V,
@@ -142,7 +143,7 @@ fn happen<V: Watch>(
 
 /// A datagram is lost, unless it is already.
 fn lose<V: Watch>(
-    lab: &Lab<TrieRoutes>,
+    lab: &Running<TrieRoutes>,
     course: &mut Course,
     datagram: usize,
     watch: &mut V,
@@ -157,27 +158,45 @@ fn lose<V: Watch>(
     Ok(watch.lost(datagram)?)
 }
 
-/// Rounds, with or without outages.
+/// Rounds, with or without outages. Behind a lie they are made tick by tick, and nothing is promised of them.
 fn go_round<V: Watch>(
     alloc: Global,
-    lab: &mut Lab<TrieRoutes>,
+    lab: &mut Site,
     moments: &[Moment],
     outages: &Outages,
     watch: &mut V,
 ) -> Result<(), Stop>
     ensures { HasTold result V.starts V.takes V.fails V.notes (Some lab.old, watch.old) (Some lab.new, watch.new) }
 {
-    if outages.are_none() {
-        make_rounds(alloc, lab, moments, watch)
-    } else {
-        make_partial_rounds(alloc, lab, moments, outages, watch)
+    if outages.are_none()
+        && let Held::Lawful(lab) = &mut lab.held
+    {
+        return make_rounds(alloc, lab, moments, watch);
+    }
+    make_partial_rounds(alloc, lab, moments, outages, watch)
+}
+
+/// Phases, so many by such a seed, of a lab: behind a lie there are none.
+fn go_on<V: Watch>(
+    alloc: Global,
+    lab: &mut Site,
+    asked: (usize, u64),
+    outages: &Outages,
+    watch: &mut V,
+) -> Result<(), Stop>
+    ensures { HasTold result V.starts V.takes V.fails V.notes (Some lab.old, watch.old) (Some lab.new, watch.new) }
+{
+    let (phases, seed) = asked;
+    match &mut lab.held {
+        Held::Lawful(lab) => make_phases(alloc, lab, phases, seed, outages, watch),
+        Held::Lied(_) => Err(Stop::Refused(Refusal::LiedTo)),
     }
 }
 
 /// What was sent from a number on is heard at a moment, but for what is lost.
 fn hear_but<V: Watch>(
     alloc: Global,
-    lab: &mut Lab<TrieRoutes>,
+    lab: &mut Site,
     from: (usize, Moment),
     lost: &[usize],
     outages: &Outages,
@@ -195,7 +214,7 @@ fn hear_but<V: Watch>(
 }
 
 /// A line that nobody moves at.
-fn settle(lab: &Lab<TrieRoutes>, course: &mut Course, line: Line) -> Result<(), Stop> {
+fn settle(lab: &Running<TrieRoutes>, course: &mut Course, line: Line) -> Result<(), Stop> {
     match line {
         Line::Silence { router, silent } => {
             check_router(lab, Some(router))?;
@@ -214,7 +233,7 @@ fn settle(lab: &Lab<TrieRoutes>, course: &mut Course, line: Line) -> Result<(), 
 }
 
 /// A line that expects something of a table.
-fn expect(lab: &Lab<TrieRoutes>, expected: Expected) -> Result<(), Stop> {
+fn expect(lab: &Running<TrieRoutes>, expected: Expected) -> Result<(), Stop> {
     match meet(lab, &expected) {
         Ok(()) => Ok(()),
         Err(Missed::NoSuchRouter) => Err(Stop::from(LabError::NoSuchRouter)),
@@ -223,7 +242,11 @@ fn expect(lab: &Lab<TrieRoutes>, expected: Expected) -> Result<(), Stop> {
 }
 
 /// A line that prints routes.
-fn show_routes<V: Watch>(lab: &Lab<TrieRoutes>, choice: &Choice, watch: &mut V) -> Result<(), Stop>
+fn show_routes<V: Watch>(
+    lab: &Running<TrieRoutes>,
+    choice: &Choice,
+    watch: &mut V,
+) -> Result<(), Stop>
     ensures { HasTold result V.starts V.takes V.fails V.notes (Some lab.now, watch.old) (Some lab.now, watch.new) }
 {
     check_router(lab, choice.router)?;
@@ -232,7 +255,7 @@ fn show_routes<V: Watch>(lab: &Lab<TrieRoutes>, choice: &Choice, watch: &mut V) 
 
 /// A line that prints datagrams.
 fn show_sent<V: Watch>(
-    lab: &Lab<TrieRoutes>,
+    lab: &Running<TrieRoutes>,
     asked: Option<usize>,
     watch: &mut V,
 ) -> Result<(), Stop>
@@ -243,7 +266,7 @@ fn show_sent<V: Watch>(
 }
 
 /// There is such a router, if one is named.
-fn check_router(lab: &Lab<TrieRoutes>, router: Option<usize>) -> Result<(), Stop> {
+fn check_router(lab: &Running<TrieRoutes>, router: Option<usize>) -> Result<(), Stop> {
     match router {
         Some(router) if router >= lab.routers() => Err(Stop::from(LabError::NoSuchRouter)),
         _ => Ok(()),
@@ -251,7 +274,7 @@ fn check_router(lab: &Lab<TrieRoutes>, router: Option<usize>) -> Result<(), Stop
 }
 
 /// Such a datagram was sent, if one is named.
-fn check_datagram(lab: &Lab<TrieRoutes>, datagram: Option<usize>) -> Result<(), Stop> {
+fn check_datagram(lab: &Running<TrieRoutes>, datagram: Option<usize>) -> Result<(), Stop> {
     match datagram {
         Some(datagram) if datagram >= lab.sent().len() => {
             Err(Stop::from(LabError::NoSuchDatagram))
@@ -261,7 +284,7 @@ fn check_datagram(lab: &Lab<TrieRoutes>, datagram: Option<usize>) -> Result<(), 
 }
 
 /// An interface is on the link.
-fn check_link(lab: &Lab<TrieRoutes>, link: u16) -> Result<(), Stop> {
+fn check_link(lab: &Running<TrieRoutes>, link: u16) -> Result<(), Stop> {
     for router in 0..lab.routers() {
         if has_link(lab, router, link) {
             return Ok(());
@@ -271,7 +294,7 @@ fn check_link(lab: &Lab<TrieRoutes>, link: u16) -> Result<(), Stop> {
 }
 
 /// Whether an interface of a router is on a link.
-fn has_link(lab: &Lab<TrieRoutes>, number: usize, link: u16) -> bool {
+fn has_link(lab: &Running<TrieRoutes>, number: usize, link: u16) -> bool {
     match lab.router(number) {
         Some(router) => {
             let interfaces = router.config().interfaces().len();

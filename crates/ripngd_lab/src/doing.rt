@@ -5,12 +5,14 @@ ghost use Rattle.ripng_phases.specs.Making.{AreMadePhases, HealsIn};
 ghost use Rattle.ripngd_lab.specs.Phasing.{IsStopAt, StopsInPhase};
 ghost use Rattle.ripngd_lab.specs.ScriptWatching.{HasTold};
 
+use crate::site::{Held, Site};
 use crate::stop::{Refusal, Stop};
 use crate::watching::Watch;
 use rand_core::Rng;
 use ripng_phases::PhaseRefused;
-use ripng_world::{Event, Lab, Round, Stopped};
+use ripng_world::{Event, Lab, Round, Running, Stopped};
 use route_table::{Moment, TrieRoutes};
+use router_core::Arrival;
 use std::alloc::{AllocError, Global};
 use std::io;
 
@@ -18,17 +20,48 @@ use std::io;
 ///
 /// # Errors
 /// The event is refused; want of memory, or of the watcher.
-pub fn step<V: Watch>(
-    lab: &mut Lab<TrieRoutes>,
-    event: &Event<'_>,
-    watch: &mut V,
-) -> Result<(), Stop>
+pub fn step<V: Watch>(lab: &mut Site, event: &Event<'_>, watch: &mut V) -> Result<(), Stop>
     ensures { HasTold result V.starts V.takes V.fails V.notes (Some lab.old, watch.old) (Some lab.new, watch.new) }
 {
     match lab.step_watched(event, watch) {
         Ok(_) => Ok(()),
         Err(Stopped::Refused(why)) => Err(Stop::from(why)),
         Err(Stopped::Failed(error)) => Err(Stop::Failed(error)),
+    }
+}
+
+/// A lie comes, and a watcher is told of it. The router is there, and takes it for a Response of its link.
+///
+/// # Errors
+/// Want of memory, or of the watcher.
+fn lie<V: Watch>(
+    running: &mut Running<TrieRoutes>,
+    router: usize,
+    arrival: &Arrival<'_>,
+    watch: &mut V,
+) -> Result<(), Stop>
+    ensures { HasTold result V.starts V.takes V.fails V.notes (Some running.old, watch.old) (Some running.new, watch.new) }
+{
+    let first = running.sent().len();
+    let answer = running.lie(router, arrival)?;
+    Ok(watch.lied(running, router, arrival, &answer, first)?)
+}
+
+/// The same of a script's routers, once they are no lab any more: to a lab no lie comes.
+///
+/// # Errors
+/// Want of memory, or of the watcher.
+pub fn lie_at<V: Watch>(
+    site: &mut Site,
+    router: usize,
+    arrival: &Arrival<'_>,
+    watch: &mut V,
+) -> Result<(), Stop>
+    ensures { HasTold result V.starts V.takes V.fails V.notes (Some site.old, watch.old) (Some site.new, watch.new) }
+{
+    match &mut site.held {
+        Held::Lied(running) => lie(running, router, arrival, watch),
+        Held::Lawful(_) => Err(Stop::Refused(Refusal::BadLine)),
     }
 }
 

@@ -4,7 +4,7 @@ ghost use Rattle.std.specs.Prelude.{◌≡◌, IfErr, OnOk, Some};
 ghost use Rattle.ripngd_lab.specs.Expecting.{HasMissed, metric_at, metric_in};
 
 use prefix6::Prefix;
-use ripng_world::Lab;
+use ripng_world::Running;
 use route_table::RouteStore;
 use router_core::Router;
 
@@ -38,7 +38,7 @@ fn metric_in<S: RouteStore>(router: &Router<S>, prefix: &Prefix) -> Option<u8>
 }
 
 /// The metric of the route to a prefix at a router of the network, if there is such a router.
-fn metric_at<S: RouteStore>(lab: &Lab<S>, router: usize, prefix: &Prefix) -> Option<Option<u8>>
+fn metric_at<S: RouteStore>(lab: &Running<S>, router: usize, prefix: &Prefix) -> Option<Option<u8>>
     ensures { result ≡ metric_at lab.now.world.states router prefix.now }
 {
     match lab.router(router) {
@@ -51,7 +51,7 @@ fn metric_at<S: RouteStore>(lab: &Lab<S>, router: usize, prefix: &Prefix) -> Opt
 ///
 /// # Errors
 /// What was found in its place, or that there is no such router.
-pub fn meet<S: RouteStore>(lab: &Lab<S>, expected: &Expected) -> Result<(), Missed>
+pub fn meet<S: RouteStore>(lab: &Running<S>, expected: &Expected) -> Result<(), Missed>
     ensures met { OnOk result (metric_at lab.now.world.states expected.now.router expected.now.prefix ≡ Some expected.now.metric) }
     ensures missed { IfErr result (HasMissed lab.now.world.states expected.now) }
 {

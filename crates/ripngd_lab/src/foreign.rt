@@ -5,7 +5,7 @@ use crate::stop::Stop;
 use crate::words::{BadLine, addr, bytes, number, request};
 use prefix6::Addr6;
 use route_table::Moment;
-use router_core::{Arrival, MAX_HOP_LIMIT};
+use router_core::{Arrival, MAX_HOP_LIMIT, RIPNG_PORT};
 use std::alloc::Global;
 
 /// A datagram of no router of the network.
@@ -64,6 +64,22 @@ pub fn read_request(alloc: Global, words: &[&str], context: &mut Context) -> Res
         hop_limit: MAX_HOP_LIMIT,
         to_group: false,
         bytes: request(alloc, asked)?,
+    })
+}
+
+/// `I NOW SOURCE HEX`: a datagram to the group, as a router of the link sends its Responses, from the port of RIPng.
+pub fn read_lie(alloc: Global, words: &[&str], context: &mut Context) -> Result<Foreign, Stop> {
+    let [iface, now, source, hex] = words else {
+        return Err(Stop::from(BadLine));
+    };
+    Ok(Foreign {
+        iface: number(iface)?,
+        now: context.moment(now)?,
+        source: addr(source)?,
+        source_port: RIPNG_PORT,
+        hop_limit: MAX_HOP_LIMIT,
+        to_group: true,
+        bytes: bytes(alloc, hex)?,
     })
 }
 

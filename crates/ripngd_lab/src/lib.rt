@@ -17,6 +17,7 @@ mod refusal_name;
 mod round;
 mod script;
 mod session;
+mod site;
 mod stop;
 mod telling;
 mod watching;

@@ -2,7 +2,7 @@
 
 use crate::context::Context;
 use crate::expecting::Expected;
-use crate::foreign::{Foreign, read_foreign, read_request};
+use crate::foreign::{Foreign, read_foreign, read_lie, read_request};
 use crate::names::is_name;
 use crate::phase::phase_count;
 use crate::printing::Choice;
@@ -43,6 +43,11 @@ pub enum Line {
     /// `stranger R I NOW SOURCE PORT HOP group HEX`, or `peer` for `group`: a datagram of no router comes.
     /// `ask R I NOW SOURCE PORT PREFIX`, or `all` for the prefix: a Request does.
     Stranger {
+        router: usize,
+        datagram: Foreign,
+    },
+    /// `liar R I NOW SOURCE HEX`: a Response comes that the router takes for one of its link, and that nobody of the network has sent.
+    Liar {
         router: usize,
         datagram: Foreign,
     },
@@ -122,6 +127,10 @@ pub fn read_line(alloc: Global, text: &str, context: &mut Context) -> Result<Lin
         ["ask", router, request @ ..] => Ok(Line::Stranger {
             router: context.router(router)?,
             datagram: read_request(alloc, request, context)?,
+        }),
+        ["liar", router, lie @ ..] => Ok(Line::Liar {
+            router: context.router(router)?,
+            datagram: read_lie(alloc, lie, context)?,
         }),
         words => read_many(alloc, words, context),
     }

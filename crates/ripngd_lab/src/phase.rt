@@ -13,7 +13,7 @@ use crate::watching::Watch;
 use crate::words::{BadLine, number};
 use rand_core::SeedableRng;
 use rand_pcg::Pcg32;
-use ripng_world::Lab;
+use ripng_world::{Lab, Running};
 use route_table::{Moment, TrieRoutes};
 use std::alloc::Global;
 use std::fmt;
@@ -61,7 +61,7 @@ pub fn end_of_phases(begin: Moment, phases: usize) -> Option<Moment> {
 }
 
 /// The last moment of all routers, if there is one.
-pub fn latest_moment(lab: &Lab<TrieRoutes>) -> Option<Moment> {
+pub fn latest_moment(lab: &Running<TrieRoutes>) -> Option<Moment> {
     let mut latest = None;
     for number in 0..lab.routers() {
         if let Some(router) = lab.router(number) {

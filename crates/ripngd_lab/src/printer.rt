@@ -6,9 +6,9 @@ use crate::phase::MadePhases;
 use crate::printing::{Choice, print_routes, print_sent};
 use crate::stop::{Refusal, Unmet};
 use crate::watching::Watch;
-use ripng_world::{Event, Lab};
+use ripng_world::{Event, Running};
 use route_table::{Moment, TrieRoutes};
-use router_core::Answer;
+use router_core::{Answer, Arrival};
 use std::alloc::Global;
 use std::io::{self, Write};
 
@@ -72,7 +72,7 @@ impl<'a, W: Write> ripng_world::Watch<TrieRoutes> for Printer<'a, W> {
 
     fn happened(
         &mut self,
-        lab: &Lab<TrieRoutes>,
+        lab: &Running<TrieRoutes>,
         _event: &Event<'_>,
         _answer: &Answer,
         _first: usize,
@@ -92,16 +92,32 @@ impl<'a, W: Write> Watch for Printer<'a, W> {
         self.sent_before = self.sent.unwrap_or(0);
     }
 
-    fn started(&mut self, lab: &Lab<TrieRoutes>, _now: Moment) -> io::Result<()> {
+    fn started(&mut self, lab: &Running<TrieRoutes>, _now: Moment) -> io::Result<()> {
         self.sent = Some(lab.sent().len());
         Ok(())
     }
 
-    fn routes_asked(&mut self, lab: &Lab<TrieRoutes>, choice: &Choice) -> io::Result<()> {
+    fn lied(
+        &mut self,
+        running: &Running<TrieRoutes>,
+        _router: usize,
+        _arrival: &Arrival<'_>,
+        _answer: &Answer,
+        _first: usize,
+    ) -> io::Result<()> {
+        self.sent = Some(running.sent().len());
+        Ok(())
+    }
+
+    fn routes_asked(&mut self, lab: &Running<TrieRoutes>, choice: &Choice) -> io::Result<()> {
         print_routes(lab, choice, self.out)
     }
 
-    fn datagrams_asked(&mut self, lab: &Lab<TrieRoutes>, asked: Option<usize>) -> io::Result<()> {
+    fn datagrams_asked(
+        &mut self,
+        lab: &Running<TrieRoutes>,
+        asked: Option<usize>,
+    ) -> io::Result<()> {
         print_sent(self.alloc, lab, asked, self.out)
     }
 

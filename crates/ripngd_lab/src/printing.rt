@@ -1,7 +1,7 @@
 //! What `print` and `sent` write.
 
 use prefix6::Prefix;
-use ripng_world::{Lab, Sent};
+use ripng_world::{Running, Sent};
 use route_table::{Origin, Route, RouteStore};
 use router_core::{Destination, Router};
 use std::alloc::Global;
@@ -37,7 +37,7 @@ impl Choice {
 /// # Errors
 /// Of the writer.
 pub fn print_routes<S: RouteStore, W: Write>(
-    lab: &Lab<S>,
+    lab: &Running<S>,
     choice: &Choice,
     out: &mut W,
 ) -> io::Result<()> {
@@ -100,7 +100,7 @@ fn print_route<W: Write>(
 /// Of the writer, or want of memory.
 pub fn print_sent<S: RouteStore, W: Write>(
     alloc: Global,
-    lab: &Lab<S>,
+    lab: &Running<S>,
     asked: Option<usize>,
     out: &mut W,
 ) -> io::Result<()> {

@@ -5,6 +5,7 @@ ghost use Rattle.ripngd_lab.specs.ScriptWatching.{HasTold};
 
 use crate::doing::{deliver_since, run_rounds, step};
 use crate::outages::Outages;
+use crate::site::{Held, Site};
 use crate::stop::Stop;
 use crate::telling::{Hearing, hear};
 use crate::watching::Watch;
@@ -27,7 +28,7 @@ type Ticks = (Moment, Vec<(Moment, u32)>);
 /// Want of memory, or of the watcher. What was done before it stays done.
 pub fn make_round<V: Watch>(
     alloc: Global,
-    lab: &mut Lab<TrieRoutes>,
+    lab: &mut Site,
     now: Moment,
     outages: &Outages,
     watch: &mut V,
@@ -42,7 +43,7 @@ pub fn make_round<V: Watch>(
 /// All that was sent from a number on comes everywhere, but for outages.
 fn hear_since<V: Watch>(
     alloc: Global,
-    lab: &mut Lab<TrieRoutes>,
+    lab: &mut Site,
     first: usize,
     now: Moment,
     outages: &Outages,
@@ -50,7 +51,9 @@ fn hear_since<V: Watch>(
 ) -> Result<(), Stop>
     ensures { HasTold result V.starts V.takes V.fails V.notes (Some lab.old, watch.old) (Some lab.new, watch.new) }
 {
-    if outages.are_none() {
+    if outages.are_none()
+        && let Held::Lawful(lab) = &mut lab.held
+    {
         return deliver_since(lab, first, now, watch);
     }
     let hearing = Hearing {
@@ -63,7 +66,7 @@ fn hear_since<V: Watch>(
 }
 
 fn tick_all<V: Watch>(
-    lab: &mut Lab<TrieRoutes>,
+    lab: &mut Site,
     now: Moment,
     outages: &Outages,
     watch: &mut V,
@@ -80,12 +83,7 @@ fn tick_all<V: Watch>(
 }
 
 /// A router ticks, with the word 0.
-fn tick<V: Watch>(
-    lab: &mut Lab<TrieRoutes>,
-    router: usize,
-    now: Moment,
-    watch: &mut V,
-) -> Result<(), Stop>
+fn tick<V: Watch>(lab: &mut Site, router: usize, now: Moment, watch: &mut V) -> Result<(), Stop>
     ensures { HasTold result V.starts V.takes V.fails V.notes (Some lab.old, watch.old) (Some lab.new, watch.new) }
 {
     let tick = Event::Tick {
@@ -141,7 +139,7 @@ pub fn make_rounds<V: Watch>(
 /// As of [`make_rounds`].
 pub fn make_partial_rounds<V: Watch>(
     alloc: Global,
-    lab: &mut Lab<TrieRoutes>,
+    lab: &mut Site,
     moments: &[Moment],
     outages: &Outages,
     watch: &mut V,
@@ -158,7 +156,7 @@ pub fn make_partial_rounds<V: Watch>(
 
 /// Each router that is not silent ticks when its regular update is due.
 fn tick_due<V: Watch>(
-    lab: &mut Lab<TrieRoutes>,
+    lab: &mut Site,
     round: usize,
     now: Moment,
     outages: &Outages,
@@ -179,8 +177,8 @@ fn tick_due<V: Watch>(
 }
 
 /// Whether the regular update of a router is due, at a moment or at the last one that it was told.
-fn is_due(lab: &Lab<TrieRoutes>, router: usize, now: Moment) -> bool {
-    match lab.router(router) {
+fn is_due(lab: &Site, router: usize, now: Moment) -> bool {
+    match lab.running().router(router) {
         Some(router) => router.regular().reached(now.max(router.last())),
         None => false,
     }

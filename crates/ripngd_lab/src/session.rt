@@ -6,15 +6,19 @@ ghost use Rattle.ripngd_lab.specs.ScriptWatching.{HasTold, StartsAt, has_failed,
 
 use crate::context::Context;
 use crate::course::{Course, run};
+use crate::doing::lie_at;
+use crate::foreign::Foreign;
 use crate::line::{Line, read_line};
 use crate::phase::latest_moment;
 use crate::refusal_name::RefusalName;
+use crate::site::Site;
 use crate::stop::Stop;
 use crate::watching::Watch;
 use crate::words::{BadLine, next_prefix};
 use prefix6::Prefix;
 use ripng_world::{Lab, NetConfig, Node};
 use route_table::{Moment, TrieRoutes};
+use router_core::Arrival;
 use std::alloc::Global;
 use std::mem;
 
@@ -24,7 +28,19 @@ enum Stage {
     /// Its routers are listed, and none has started.
     Listing(Vec<Node>),
     /// Its routers have started.
-    Running(Lab<TrieRoutes>),
+    Running(Site),
+}
+
+impl Stage {
+    /// The same, of which no lab is left.
+    fn lied(self) -> Stage
+        ensures { lab_in result ≡ lab_in self }
+    {
+        match self {
+            Stage::Running(site) => Stage::Running(site.lied()),
+            Stage::Listing(nodes) => Stage::Listing(nodes),
+        }
+    }
 }
 
 /// A script that runs.
@@ -57,7 +73,7 @@ impl Session {
     {
         if let Stage::Running(lab) = &self.stage {
             self.context.sent = lab.sent().len();
-            self.context.latest = latest_moment(lab);
+            self.context.latest = latest_moment(lab.running());
         }
         read_line(alloc, words, &mut self.context)
     }
@@ -76,12 +92,57 @@ impl Session {
     pub fn obey<V: Watch>(&mut self, alloc: Global, line: Line, watch: &mut V) -> Result<(), Stop>
         ensures { HasTold result V.starts V.takes V.fails V.notes (lab_in self.old.stage, watch.old) (lab_in self.new.stage, watch.new) }
     {
+        match line {
+            Line::Liar { router, datagram } => self.deceive(alloc, router, &datagram, watch),
+            line => self.go_on(alloc, line, watch),
+        }
+    }
+
+    /// Whether a lie may come: the routers run, and this one takes it for a Response of its link.
+    fn check_lie(&self, router: usize, arrival: &Arrival<'_>) -> Result<(), Stop> {
+        match &self.stage {
+            Stage::Running(site) => Ok(site.running().check_lie(router, arrival)?),
+            Stage::Listing(_) => Err(Stop::from(BadLine)),
+        }
+    }
+
+    /// The routers are a lab no longer, if they were: from now on nothing is promised of them but each step.
+    fn give_up(&mut self, alloc: Global)
+        ensures { lab_in self.new.stage ≡ lab_in self.old.stage }
+    {
+        let stage = mem::replace(&mut self.stage, Stage::Listing(Vec::new(alloc)));
+        self.stage = stage.lied();
+    }
+
+    /// Somebody lies to a router. A lie that is refused leaves the lab one.
+    fn deceive<V: Watch>(
+        &mut self,
+        alloc: Global,
+        router: usize,
+        datagram: &Foreign,
+        watch: &mut V,
+    ) -> Result<(), Stop>
+        ensures { HasTold result V.starts V.takes V.fails V.notes (lab_in self.old.stage, watch.old) (lab_in self.new.stage, watch.new) }
+    {
+        let arrival = datagram.arrival();
+        self.check_lie(router, &arrival)?;
+        self.give_up(alloc);
+        match &mut self.stage {
+            Stage::Running(site) => lie_at(site, router, &arrival, watch),
+            Stage::Listing(_) => Err(Stop::from(BadLine)),
+        }
+    }
+
+    /// A line of no lie.
+    fn go_on<V: Watch>(&mut self, alloc: Global, line: Line, watch: &mut V) -> Result<(), Stop>
+        ensures { HasTold result V.starts V.takes V.fails V.notes (lab_in self.old.stage, watch.old) (lab_in self.new.stage, watch.new) }
+    {
         match &mut self.stage {
             Stage::Running(lab) => run(alloc, lab, &mut self.course, line, watch),
             Stage::Listing(nodes) => match line {
                 Line::Cold { now } => {
                     let nodes = mem::replace(nodes, Vec::new(alloc));
-                    self.stage = Stage::Running(begin_lab(alloc, nodes, now, watch)?);
+                    self.stage = Stage::Running(Site::lawful(begin_lab(alloc, nodes, now, watch)?));
                     Ok(())
                 }
                 line => list(alloc, nodes, &mut self.context, line),
@@ -101,7 +162,7 @@ fn begin_lab<V: Watch>(
     ensures untold { OnErr result (watch.new ≡ watch.old ⊎ has_failed result ≡ true × V.notes watch.old Broken watch.new) }
 {
     let lab = start(alloc, nodes, now)?;
-    watch.started(&lab, now)?;
+    watch.started(lab.running(), now)?;
     Ok(lab)
 }
 

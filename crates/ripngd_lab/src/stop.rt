@@ -21,6 +21,8 @@ pub enum Refusal {
     DatagramLost,
     /// Phases are asked for while a router is silent or a link is cut.
     Outage,
+    /// There are no phases behind a lie.
+    LiedTo,
     /// The routers make no network.
     Network(NetRefused),
     /// The event cannot happen.
@@ -107,6 +109,7 @@ impl Refusal {
             Refusal::NoSuchLink => name == "NoSuchLink",
             Refusal::DatagramLost => name == "DatagramLost",
             Refusal::Outage => name == "Outage",
+            Refusal::LiedTo => name == "LiedTo",
             Refusal::Network(refused) => refused.name() == name,
             Refusal::Event(error) => error.name() == name || is_reason(*error, name),
             Refusal::Rounds(refused) => refused.name() == name,
@@ -193,6 +196,7 @@ impl fmt::Display for Refusal {
             Refusal::NoSuchLink => write!(f, "NoSuchLink"),
             Refusal::DatagramLost => write!(f, "DatagramLost"),
             Refusal::Outage => write!(f, "Outage"),
+            Refusal::LiedTo => write!(f, "LiedTo"),
             Refusal::Network(refused) => write_network(*refused, f),
             Refusal::Event(error) => write_event(*error, f),
             Refusal::Rounds(refused) => write_rounds(*refused, f),

@@ -5,10 +5,11 @@ ghost use Rattle.ripngd_lab.specs.ScriptWatching.{HasTold};
 
 use crate::doing::step;
 use crate::outages::Outages;
+use crate::site::Site;
 use crate::stop::Stop;
 use crate::watching::Watch;
 use prefix6::Addr6;
-use ripng_world::{Event, Lab, LabError, Sent};
+use ripng_world::{Event, LabError, Running, Sent};
 use route_table::{Moment, TrieRoutes};
 use router_core::Destination;
 use std::alloc::{AllocError, Global};
@@ -33,7 +34,7 @@ pub struct Hearing<'a> {
 /// stays done.
 pub fn hear<V: Watch>(
     alloc: Global,
-    lab: &mut Lab<TrieRoutes>,
+    lab: &mut Site,
     hearing: &Hearing<'_>,
     watch: &mut V,
 ) -> Result<(), Stop>
@@ -59,14 +60,14 @@ fn are_below(places: &[usize], end: usize) -> bool {
 /// A datagram comes to all whom it reaches.
 fn deliver<V: Watch>(
     alloc: Global,
-    lab: &mut Lab<TrieRoutes>,
+    lab: &mut Site,
     datagram: usize,
     hearing: &Hearing<'_>,
     watch: &mut V,
 ) -> Result<(), Stop>
     ensures { HasTold result V.starts V.takes V.fails V.notes (Some lab.old, watch.old) (Some lab.new, watch.new) }
 {
-    for (router, iface) in reached(alloc, lab, datagram, hearing.outages)? {
+    for (router, iface) in reached(alloc, lab.running(), datagram, hearing.outages)? {
         let event = Event::Deliver {
             datagram,
             router,
@@ -81,7 +82,7 @@ fn deliver<V: Watch>(
 /// The interfaces that a datagram reaches, each behind its router, in order.
 fn reached(
     alloc: Global,
-    lab: &Lab<TrieRoutes>,
+    lab: &Running<TrieRoutes>,
     datagram: usize,
     outages: &Outages,
 ) -> Result<Vec<(usize, usize)>, AllocError> {
@@ -99,7 +100,7 @@ fn reached(
 
 /// A datagram with the number of its link, unless it is lost, its sender is silent or the link is cut.
 fn on_its_way<'a>(
-    lab: &'a Lab<TrieRoutes>,
+    lab: &'a Running<TrieRoutes>,
     datagram: usize,
     outages: &Outages,
 ) -> Option<(&'a Sent, u16)> {
@@ -114,7 +115,7 @@ fn on_its_way<'a>(
 /// Adds the interfaces of a router that a datagram reaches.
 fn reach(
     reached: &mut Vec<(usize, usize)>,
-    lab: &Lab<TrieRoutes>,
+    lab: &Running<TrieRoutes>,
     sent: &Sent,
     link: u16,
     number: usize,

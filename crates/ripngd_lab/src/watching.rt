@@ -2,13 +2,15 @@
 
 ghost use Rattle.std.specs.Prelude.{ℕ, OnErr, OnOk};
 ghost use Rattle.ripng_world.specs.Labs.{LabValue};
-ghost use Rattle.ripngd_lab.specs.Asides.{Aside, Broken, CountsPhases, NextLine, Prints};
+ghost use Rattle.ripng_world.specs.World.{Stranger};
+ghost use Rattle.ripngd_lab.specs.Asides.{Aside, Broken, CountsPhases, Lie, NextLine, Prints};
 
 use crate::phase::MadePhases;
 use crate::printing::Choice;
 use crate::stop::{Refusal, Unmet};
-use ripng_world::Lab;
+use ripng_world::Running;
 use route_table::{Moment, TrieRoutes};
+use router_core::{Answer, Arrival};
 use std::io;
 
 /// A watcher of a script. It is told of each thing as soon as that is done, in order; of events as a watcher of the lab.
@@ -27,17 +29,30 @@ pub trait Watch: ripng_world::Watch<TrieRoutes, Fault = io::Error> {
     ///
     /// # Errors
     /// Of what the watcher writes to, or want of memory; so are those below.
-    fn started(&mut self, lab: &Lab<TrieRoutes>, now: Moment) -> io::Result<()>
+    fn started(&mut self, lab: &Running<TrieRoutes>, now: Moment) -> io::Result<()>
         ensures starts { OnOk result (starts self.old lab.now now self.new) }
         ensures broken { OnErr result (notes self.old Broken self.new) };
 
+    /// The line `liar`: a lie came to a router, and left the network like this. The answer is that of the router; its sends are the
+    /// datagrams from the number `first` on, and are not in the answer.
+    fn lied(
+        &mut self,
+        running: &Running<TrieRoutes>,
+        router: usize,
+        arrival: &Arrival<'_>,
+        answer: &Answer,
+        first: usize,
+    ) -> io::Result<()>
+        ensures notes { OnOk result (notes self.old (Lie (record { lab = running.now; event = Stranger router arrival.entry.now; answer = answer.now; first = first })) self.new) }
+        ensures broken { OnErr result (notes self.old Broken self.new) };
+
     /// The line `print`: which routes it asks for.
-    fn routes_asked(&mut self, lab: &Lab<TrieRoutes>, choice: &Choice) -> io::Result<()>
+    fn routes_asked(&mut self, lab: &Running<TrieRoutes>, choice: &Choice) -> io::Result<()>
         ensures notes { OnOk result (notes self.old Prints self.new) }
         ensures broken { OnErr result (notes self.old Broken self.new) };
 
     /// The line `sent`: the number of the datagram that it asks for, if not for all.
-    fn datagrams_asked(&mut self, lab: &Lab<TrieRoutes>, asked: Option<usize>) -> io::Result<()>
+    fn datagrams_asked(&mut self, lab: &Running<TrieRoutes>, asked: Option<usize>) -> io::Result<()>
         ensures notes { OnOk result (notes self.old Prints self.new) }
         ensures broken { OnErr result (notes self.old Broken self.new) };
 

@@ -1,5 +1,7 @@
 mod WordTexts
 mod Readings
-mod OneReading
+mod Splitting
 mod OneRun
+mod OneReading
 mod Passing
+mod ReadingOn

@@ -11,5 +11,5 @@ mod reading;
 mod words;
 
 pub use fault::LogFault;
-pub use laws::logs_are_read_one_way;
+pub use laws::{logs_are_read_one_way, written_logs_are_read_back};
 pub use reading::read_log;

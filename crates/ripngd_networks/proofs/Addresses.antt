@@ -15,7 +15,7 @@ use Rattle.router_core.specs.declared.arrival.Fault.TheVariants.{Wire, NotRipngP
 use Rattle.router_core.specs.declared.config.Interface.{Interface}
 use Rattle.router_core.specs.declared.reconfiguring.Change.{Change}
 use Rattle.router_core.specs.declared.reconfiguring.Change.TheVariants.{Cost, Own, Disown}
-use Rattle.ripng_world.proofs.Running.{set_addresses}
+use Rattle.ripng_world.proofs.WorldRuns.{set_addresses}
 
 -- ---- addresses stay
 

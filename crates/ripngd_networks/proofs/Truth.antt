@@ -16,7 +16,7 @@ use Rattle.ripng_world.specs.Walks.{IsBacked, IsLeast}
 use Rattle.ripng_world.specs.World.{past_of}
 use Rattle.ripng_world.proofs.Each.{each_at_place}
 use Rattle.ripng_world.proofs.Growing.{backed_first}
-use Rattle.ripng_world.proofs.Running.{run_from_cold}
+use Rattle.ripng_world.proofs.WorldRuns.{run_from_cold}
 use Rattle.ripngd_engine.specs.Run.{Machine}
 use Rattle.ripngd_networks.specs.Daemons.{Happened, Lives, reconfigurations_by, own_deeds}
 use Rattle.ripngd_networks.specs.Links.{HaveRun, IsRunOf, all_handed, past_of_daemons}

@@ -3,6 +3,10 @@ use Rattle.std.specs.Prelude.{ℕ, Bool, true, false, List, ◌++◌, codes, dec
 use Rattle.http1.specs.ReadError.{status_of}
 use Rattle.http_server.specs.declared.state.Refusal.{Refusal}
 use Rattle.http_server.specs.declared.state.Refusal.TheVariants.{Truncated, Unreadable, BodyTooLarge, InvalidPart, InvalidHost, UnknownCoding, InvalidResponse}
+use Rattle.std.specs.declared.io.ErrorKind.{ErrorKind}
+use Rattle.std.specs.declared.io.ErrorKind.TheVariants as kinds
+use Rattle.ripngd_page.specs.declared.guest.Next.{Next}
+use Rattle.ripngd_page.specs.declared.guest.Next.TheVariants.{End, Wait}
 use Rattle.ripngd_page.specs.declared.guest.Stage.{Stage}
 use Rattle.ripngd_page.specs.declared.guest.Stage.TheVariants.{Hearing, Telling, Refusing, Parting}
 
@@ -45,3 +49,18 @@ answer_to (Unreadable e) = unreadable (status_of e)
 answer_to Truncated = no_request
 answer_to (InvalidPart e) = no_request
 answer_to InvalidHost = no_request
+
+-- an error of `accept` is of one connection alone, of a signal, or says that nobody waits
+abbrev pub is_passing : ErrorKind → Bool
+is_passing kinds.WouldBlock = true
+is_passing kinds.ConnectionAborted = true
+is_passing kinds.ConnectionReset = true
+is_passing kinds.Interrupted = true
+is_passing kind = false
+
+-- what follows a read or a write that failed so: where it only had to wait, the same again; else the end
+abbrev pub next_after : ErrorKind → Next
+next_after kinds.WouldBlock = Wait
+next_after kinds.TimedOut = Wait
+next_after kinds.Interrupted = Wait
+next_after kind = End

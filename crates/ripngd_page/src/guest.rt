@@ -1,7 +1,8 @@
 //! One connection, and its turns: what comes in on it is heard, answered and left, each for only so long.
 
 ghost use Rattle.std.specs.Prelude.{◌≡◌, Bool};
-ghost use Rattle.ripngd_page.specs.Serving.{counts_as_answered, patience_of};
+ghost use Rattle.std.specs.IoError.{error_kind};
+ghost use Rattle.ripngd_page.specs.Serving.{counts_as_answered, next_after, patience_of};
 
 use crate::page::{BODY_LIMIT, Page};
 use crate::refusing::{TOO_SLOW, answer_to};
@@ -226,7 +227,9 @@ impl<S: Read + Write + OpenStream + Drop> Guest<S> {
 }
 
 /// What follows a read or a write that failed: nothing, where it only had to wait.
-fn next_after(error: &io::Error) -> Next {
+fn next_after(error: &io::Error) -> Next
+    ensures { result ≡ next_after (error_kind error.now) }
+{
     match error.kind() {
         ErrorKind::WouldBlock | ErrorKind::TimedOut | ErrorKind::Interrupted => Next::Wait,
         _ => Next::End,

@@ -4,7 +4,7 @@ ghost use Rattle.std.specs.Prelude.{◌≡◌, ◌≢◌, ◌⊎◌, ℕ, Err, I
 ghost use Rattle.std.specs.Io.KnownBytes.{Appends};
 ghost use Rattle.std.specs.IoError.{error_kind};
 ghost use Rattle.std.specs.declared.io.ErrorKind.TheVariants as kinds;
-ghost use Rattle.ripngd_page.specs.Serving.{address_line};
+ghost use Rattle.ripngd_page.specs.Serving.{address_line, is_passing};
 
 use crate::fault::ServeFault;
 use crate::guest::{Guest, Turn};
@@ -142,7 +142,9 @@ fn bind_loopback<R: AllocGlobal + Net>(rt: &R, port: u16) -> io::Result<(R::List
 }
 
 /// Whether an error of `accept` is of one connection alone, of a signal, or says that nobody waits.
-fn is_passing(error: &io::Error) -> bool {
+fn is_passing(error: &io::Error) -> bool
+    ensures { result ≡ is_passing (error_kind error.now) }
+{
     matches!(
         error.kind(),
         ErrorKind::WouldBlock

@@ -13,7 +13,7 @@ use Rattle.router_core.specs.Timers.{next_hold, next_regular}
 use Rattle.router_core.specs.declared.answer.Answer.{Answer}
 use Rattle.ripng_world.specs.Network.{Network}
 use Rattle.ripng_world.specs.World.{World, Event, Deliver, Stranger, Tick, Restart, Reconfigure, Happens}
-use Rattle.ripng_world.proofs.Running.{get_map}
+use Rattle.ripng_world.proofs.WorldRuns.{get_map}
 use Rattle.ripngd_trace.proofs.Getting.{get_here}
 use Rattle.ripngd_trace.specs.Reading.{all_timers}
 use Rattle.ripngd_trace.specs.Records.{timers_in}

@@ -10,14 +10,14 @@ use Rattle.ripng_world.specs.Rounds.{router_of}
 use Rattle.ripng_world.specs.Labs.{LabValue}
 use Rattle.ripng_world.specs.Watching.{Told, telling}
 use Rattle.ripng_world.specs.World.{World, Event, Deliver, Stranger, Tick, Restart, Reconfigure, Happens, RouterMoves, arrival_of}
-use Rattle.ripng_world.proofs.Running.{get_map}
-use Rattle.ripngd_lab.specs.Asides.{Aside, NextLine, Prints, CountsPhases, Broken}
-use Rattle.ripngd_lab.specs.ScriptWatching.{Telling, Starts, Does, Turns, Notes, Counts, TellsAll, FailsAtRest, FailsAtEvent, IsToldUntil, StartsAt}
-use Rattle.ripngd_trace.specs.Events.{RecordTells}
-use Rattle.ripngd_trace.specs.Reading.{AreWritten, IsTracedUntil, IsWritten, Line, StartLine, EventLine, Explains, PrintLine, RefusedLine, LostLine, PhasesLine, Shown, ShowsTable, TellsOf, TellsScript, all_timers, read_line, tables_in, tables_of, timers_of}
+use Rattle.ripng_world.proofs.WorldRuns.{get_map}
+use Rattle.ripngd_lab.specs.Asides.{Aside, NextLine, Prints, CountsPhases, Lie, Broken}
+use Rattle.ripngd_lab.specs.ScriptWatching.{Telling, Starts, Does, Turns, Notes, Counts, Deceives, TellsAll, FailsAtRest, FailsAtEvent, FailsAtLie, IsToldUntil, StartsAt}
+use Rattle.ripngd_trace.specs.Events.{RecordTells, TellsLie}
+use Rattle.ripngd_trace.specs.Reading.{AreWritten, IsTracedUntil, IsWritten, Line, StartLine, EventLine, LieLine, Explains, PrintLine, RefusedLine, LostLine, PhasesLine, Shown, ShowsTable, TellsOf, TellsScript, all_timers, read_line, tables_in, tables_of, timers_of}
 use Rattle.ripngd_trace.specs.Offers.{TellsOffers}
 use Rattle.ripngd_trace.specs.Records.{LeadsTo, timers_in}
-use Rattle.ripngd_trace.specs.Saying.{BreaksOff, Said, SaysAside, SaysEvent, SaysLost, SaysPhases, SaysPrint, SaysRefused, SaysStart}
+use Rattle.ripngd_trace.specs.Saying.{BreaksOff, Said, SaysAside, SaysEvent, SaysLie, SaysLost, SaysPhases, SaysPrint, SaysRefused, SaysStart}
 use Rattle.ripngd_trace.specs.Starting.{TellsStart}
 use Rattle.ripngd_trace.specs.declared.records.EventRecord.{EventRecord}
 use Rattle.ripngd_trace.specs.Updates.{TellsUpdate}
@@ -48,36 +48,54 @@ pub on_err : {X E P Q : Type 0} (r : Result X E) → OnErr r P → (P → Q) →
 on_err (Ok x) p leads = tt
 on_err (Err e) p leads = leads p
 
-module _ (net : Network) (w : World) (e : Event) (answer : Answer) (mid : World) (happens : Happens net w e answer mid) (said said' : Said) (is : said.known ≡ tables_of w) (clocks : said.timers ≡ all_timers w)
-    (takes : SaysEvent said (telling net w e answer mid) said') where
-  move : (what : Happening) × RouterMoves w (router_of e) what answer mid
-  move = moved net w e answer mid happens
-
-  was : slice_get said.known takes.r.router ≡ Some move.1.old.table
+-- the router that moved, and what its record leads to
+module _ (w : World) (router : ℕ) (what : Happening) (answer : Answer) (mid : World) (move : RouterMoves w router what answer mid) (said said' : Said) (is : said.known ≡ tables_of w) (clocks : said.timers ≡ all_timers w)
+    (r : EventRecord) (router_is : r.router ≡ router)
+    (listed : IfSome (slice_get said.known r.router) (λ before. IfSome (slice_get mid.states r.router) (λ state. LeadsTo before r.routes.items r.gone.items state.table)))
+    (known_is : IfSome (slice_get mid.states r.router) (λ state. said'.known ≡ slice_set said.known r.router state.table))
+    (timers_are : IfSome (slice_get mid.states r.router) (λ state. said'.timers ≡ slice_set said.timers r.router (timers_in state))) where
+  was : slice_get said.known r.router ≡ Some move.old.table
   was =
-      ap (slice_get said.known) takes.tells.router_is ∙ ap (λ (ts : List Table). slice_get ts (router_of e)) is ∙ get_map (λ (s : State). s.table) w.states (router_of e)
-      ∙ ap (option_map (λ (s : State). s.table)) move.1.old_is
+      ap (slice_get said.known) router_is ∙ ap (λ (ts : List Table). slice_get ts router) is ∙ get_map (λ (s : State). s.table) w.states router
+      ∙ ap (option_map (λ (s : State). s.table)) move.old_is
 
-  is_now : slice_get mid.states takes.r.router ≡ Some move.1.new
+  is_now : slice_get mid.states r.router ≡ Some move.new
   is_now =
-      ap (slice_get mid.states) takes.tells.router_is ∙ ap (λ (ss : List State). slice_get ss (router_of e)) move.1.states
-      ∙ get_here w.states (router_of e) move.1.old move.1.new move.1.old_is
+      ap (slice_get mid.states) router_is ∙ ap (λ (ss : List State). slice_get ss router) move.states
+      ∙ get_here w.states router move.old move.new move.old_is
 
   -- then the table of each router is known
-  pub known_after : said'.known ≡ tables_of mid
+  known_after : said'.known ≡ tables_of mid
   known_after =
-      of_some (slice_get mid.states takes.r.router) move.1.new (λ (s : State). said'.known ≡ slice_set said.known takes.r.router s.table) is_now takes.known_is
-      ∙ ap (λ (i : ℕ). slice_set said.known i move.1.new.table) takes.tells.router_is ∙ ap (λ (ts : List Table). slice_set ts (router_of e) move.1.new.table) is
-      ∙ sym (map-set (λ (s : State). s.table) w.states (router_of e) move.1.new) ∙ ap (map (λ (s : State). s.table)) (sym move.1.states)
+      of_some (slice_get mid.states r.router) move.new (λ (s : State). said'.known ≡ slice_set said.known r.router s.table) is_now known_is
+      ∙ ap (λ (i : ℕ). slice_set said.known i move.new.table) router_is ∙ ap (λ (ts : List Table). slice_set ts router move.new.table) is
+      ∙ sym (map-set (λ (s : State). s.table) w.states router move.new) ∙ ap (map (λ (s : State). s.table)) (sym move.states)
 
   -- and its timers
-  pub timers_after : said'.timers ≡ all_timers mid
+  timers_after : said'.timers ≡ all_timers mid
   timers_after =
-      of_some (slice_get mid.states takes.r.router) move.1.new (λ (s : State). said'.timers ≡ slice_set said.timers takes.r.router (timers_in s)) is_now takes.timers_are
-      ∙ ap (λ (i : ℕ). slice_set said.timers i (timers_in move.1.new)) takes.tells.router_is ∙ ap (λ (ts : List Timers). slice_set ts (router_of e) (timers_in move.1.new)) clocks
-      ∙ sym (map-set timers_in w.states (router_of e) move.1.new) ∙ ap (map timers_in) (sym move.1.states)
+      of_some (slice_get mid.states r.router) move.new (λ (s : State). said'.timers ≡ slice_set said.timers r.router (timers_in s)) is_now timers_are
+      ∙ ap (λ (i : ℕ). slice_set said.timers i (timers_in move.new)) router_is ∙ ap (λ (ts : List Timers). slice_set ts router (timers_in move.new)) clocks
+      ∙ sym (map-set timers_in w.states router move.new) ∙ ap (map timers_in) (sym move.states)
 
-  -- and the record explains the event
+  leads : LeadsTo move.old.table r.routes.items r.gone.items move.new.table
+  leads = of_some (slice_get mid.states r.router) move.new _ is_now (of_some (slice_get said.known r.router) move.old.table _ was listed)
+
+  led : tables_of mid ≡ slice_set (tables_of w) r.router move.new.table
+  led =
+      sym known_after ∙ of_some (slice_get mid.states r.router) move.new (λ (s : State). said'.known ≡ slice_set said.known r.router s.table) is_now known_is
+      ∙ ap (λ (ts : List Table). slice_set ts r.router move.new.table) is
+
+  -- and shown
+  shown_after : (shown : List Shown) → AllZip ShowsTable shown (tables_of w) → AllZip ShowsTable (read_line shown (EventLine r)) (tables_of mid)
+  shown_after shown shows =
+      subst (AllZip ShowsTable (read_line shown (EventLine r))) (sym led)
+      (shows_set shown (tables_of w) r.router move.old.table move.new.table r.routes.items r.gone.items shows
+      (ap (λ (ts : List Table). slice_get ts r.router) (sym is) ∙ was) leads)
+
+-- the record explains the event
+module _ (net : Network) (w : World) (e : Event) (answer : Answer) (mid : World) (happens : Happens net w e answer mid) (said said' : Said) (is : said.known ≡ tables_of w) (clocks : said.timers ≡ all_timers w)
+    (takes : SaysEvent said (telling net w e answer mid) said') where
   explains_it : Explains (record { network = net; world = w }) e answer (record { network = net; world = mid }) takes.r
   explains_it = record {
     offers = subst (λ (ts : List Table). TellsOffers ts (record { network = net; world = mid }) e answer.notes takes.r.offers.items) is takes.offers;
@@ -85,29 +103,17 @@ module _ (net : Network) (w : World) (e : Event) (answer : Answer) (mid : World)
         (subst (λ (ts : List Timers). TellsUpdate ts (record { network = net; world = mid }) e takes.r.update) clocks takes.update);
   }
 
-  pub explains : (l l1 : LabValue) → record { network = net; world = w } ≡ l → record { network = net; world = mid } ≡ l1 → Explains l e answer l1 takes.r
+  explains : (l l1 : LabValue) → record { network = net; world = w } ≡ l → record { network = net; world = mid } ≡ l1 → Explains l e answer l1 takes.r
   explains l l1 is_l is_l1 = subst₂ (λ (a b : LabValue). Explains a e answer b takes.r) is_l is_l1 explains_it
-
-  leads : LeadsTo move.1.old.table takes.r.routes.items takes.r.gone.items move.1.new.table
-  leads = of_some (slice_get mid.states takes.r.router) move.1.new _ is_now (of_some (slice_get said.known takes.r.router) move.1.old.table _ was takes.listed)
-
-  led : tables_of mid ≡ slice_set (tables_of w) takes.r.router move.1.new.table
-  led =
-      sym known_after ∙ of_some (slice_get mid.states takes.r.router) move.1.new (λ (s : State). said'.known ≡ slice_set said.known takes.r.router s.table) is_now takes.known_is
-      ∙ ap (λ (ts : List Table). slice_set ts takes.r.router move.1.new.table) is
-
-  -- and shown
-  pub shown_after : (shown : List Shown) → AllZip ShowsTable shown (tables_of w) → AllZip ShowsTable (read_line shown (EventLine takes.r)) (tables_of mid)
-  shown_after shown shows =
-      subst (AllZip ShowsTable (read_line shown (EventLine takes.r))) (sym led)
-      (shows_set shown (tables_of w) takes.r.router move.1.old.table move.1.new.table takes.r.routes.items takes.r.gone.items shows
-      (ap (λ (ts : List Table). slice_get ts takes.r.router) (sym is) ∙ was) leads)
 
 -- ---- one line
 
 -- a record that tells of a line tells of its own
 told_itself : (line : ℕ) (what : Told) (r : EventRecord) → RecordTells line what r → RecordTells r.line what r
 told_itself line what r t = subst (λ (n : ℕ). RecordTells n what r) (sym t.at_line) t
+
+lied_itself : (line : ℕ) (what : Told) (r : EventRecord) → TellsLie line what r → TellsLie r.line what r
+lied_itself line what r t = subst (λ (n : ℕ). TellsLie n what r) (sym t.tells.at_line) t
 
 started_itself : (line : ℕ) (lab : LabValue) (now : ℕ) (r : StartRecord) → TellsStart line lab now r → TellsStart r.line lab r.now r
 started_itself line lab now r t =
@@ -178,16 +184,17 @@ module _ {V : Type 0} (f : V → Said) (st : V → LabValue → ℕ → V → Ty
       let l1 = done.2 in
       let what = telling l.network l.world e answer l1.world in
       let says : SaysEvent (f v) what (f mid.1) = takes v what mid.1 done.6 in
+      let move = moved l.network l.world e answer l1.world done.5 in
       let known0 : (f v).known ≡ tables_of l.world = known ∙ ap tables_in done.1 in
       let clocks0 : (f v).timers ≡ all_timers l.world = clocks ∙ ap timers_of done.1 in
       let shows0 : AllZip ShowsTable shown (tables_of l.world) = subst (λ (o : Option LabValue). AllZip ShowsTable shown (tables_in o)) done.1 shows in
       let shows1 : AllZip ShowsTable (read_line shown (EventLine says.r)) (tables_in mid.0) =
       subst (λ (o : Option LabValue). AllZip ShowsTable (read_line shown (EventLine says.r)) (tables_in o)) (sym done.3)
-      (shown_after l.network l.world e answer l1.world done.5 (f v) (f mid.1) known0 clocks0 says shown shows0) in
+      (shown_after l.world (router_of e) move.0 answer l1.world move.1 (f v) (f mid.1) known0 clocks0 says.r says.tells.router_is says.listed says.known_is says.timers_are shown shows0) in
       let known1 : (f mid.1).known ≡ tables_in mid.0 =
-      known_after l.network l.world e answer l1.world done.5 (f v) (f mid.1) known0 clocks0 says ∙ sym (ap tables_in done.3) in
+      known_after l.world (router_of e) move.0 answer l1.world move.1 (f v) (f mid.1) known0 clocks0 says.r says.tells.router_is says.listed says.known_is says.timers_are ∙ sym (ap tables_in done.3) in
       let clocks1 : (f mid.1).timers ≡ timers_of mid.0 =
-      timers_after l.network l.world e answer l1.world done.5 (f v) (f mid.1) known0 clocks0 says ∙ sym (ap timers_of done.3) in
+      timers_after l.world (router_of e) move.0 answer l1.world move.1 (f v) (f mid.1) known0 clocks0 says.r says.tells.router_is says.listed says.known_is says.timers_are ∙ sym (ap timers_of done.3) in
       line_on lab mid.0 end shown (f v) (f mid.1) (f v') (EventLine says.r) (
         l,
         done.1,
@@ -223,6 +230,25 @@ module _ {V : Type 0} (f : V → Said) (st : V → LabValue → ℕ → V → Ty
       let shows1 = subst (λ (o : Option LabValue). AllZip ShowsTable shown (tables_in o)) (sym counts.0) shows in
       line_on lab mid.0 end shown (f v) (f mid.1) (f v') (PhasesLine says.r) (counts.0, says.word_is) shows1 says.writes
       (lines_told ts mid.0 mid.1 end v' shown shows1 (says.known_is ∙ known ∙ sym (ap tables_in counts.0)) (says.timers_are ∙ clocks ∙ sym (ap timers_of counts.0)) told.2)
+  lines_told (Deceives router x answer ∷ ts) lab v end v' shown shows known clocks told =
+      let mid = told.0 in
+      let lied = told.1 in
+      let l = lied.0 in
+      let l1 = lied.2 in
+      let lies = lied.5 in
+      let what = telling l.network l.world (Stranger router x) answer l1.world in
+      let says : SaysLie (f v) what (f mid.1) = notes v (Lie what) mid.1 lied.6 in
+      let known0 : (f v).known ≡ tables_of l.world = known ∙ ap tables_in lied.1 in
+      let clocks0 : (f v).timers ≡ all_timers l.world = clocks ∙ ap timers_of lied.1 in
+      let shows0 : AllZip ShowsTable shown (tables_of l.world) = subst (λ (o : Option LabValue). AllZip ShowsTable shown (tables_in o)) lied.1 shows in
+      let shows1 : AllZip ShowsTable (read_line shown (LieLine says.r)) (tables_in mid.0) =
+      subst (λ (o : Option LabValue). AllZip ShowsTable (read_line shown (LieLine says.r)) (tables_in o)) (sym lied.3)
+      (shown_after l.world router (Arrives x) answer l1.world lies.moves (f v) (f mid.1) known0 clocks0 says.r says.tells.tells.router_is says.listed says.known_is says.timers_are shown shows0) in
+      let known1 : (f mid.1).known ≡ tables_in mid.0 = known_after l.world router (Arrives x) answer l1.world lies.moves (f v) (f mid.1) known0 clocks0 says.r says.tells.tells.router_is says.listed says.known_is says.timers_are ∙ sym (ap tables_in lied.3) in
+      let clocks1 : (f mid.1).timers ≡ timers_of mid.0 = timers_after l.world router (Arrives x) answer l1.world lies.moves (f v) (f mid.1) known0 clocks0 says.r says.tells.tells.router_is says.listed says.known_is says.timers_are ∙ sym (ap timers_of lied.3) in
+      line_on lab mid.0 end shown (f v) (f mid.1) (f v') (LieLine says.r)
+      (l, lied.1, l1, lied.3, lied.4, router, x, answer, lies, lied_itself (f v).line what says.r says.tells)
+      shows1 says.writes (lines_told ts mid.0 mid.1 end v' (read_line shown (LieLine says.r)) shows1 known1 clocks1 told.2)
 
   -- up to where memory or the tracer failed
   pub until_told : (v : V) (end : Option LabValue) (v' : V) → (f v).known ≡ [] → (f v).timers ≡ [] → IsToldUntil st t fl n (None, v) (end, v')
@@ -232,11 +258,13 @@ module _ {V : Type 0} (f : V → Said) (st : V → LabValue → ℕ → V → Ty
       traced : LinesFrom None [] (f v) until.0.0 (f until.0.1)
       traced = lines_told until.1.0 None v until.0.0 until.0.1 [] tt known clocks until.1.1
 
-      by_why : FailsAtRest n until.0 (end, v') ⊎ FailsAtEvent fl until.0 (end, v') → IsTracedUntil (f v).written end (f v').written
+      by_why : FailsAtRest n until.0 (end, v') ⊎ (FailsAtEvent fl until.0 (end, v') ⊎ FailsAtLie n until.0 (end, v')) → IsTracedUntil (f v).written end (f v').written
       by_why (inl (same, inl unsaid)) = (until.0.0, (f until.0.1).written, traced, inl same, inl (ap (λ (x : V). (f x).written) unsaid))
       by_why (inl (same, inr broken)) = (until.0.0, (f until.0.1).written, traced, inl same, notes until.0.1 Broken v' broken)
-      by_why (inr at) =
-          (until.0.0, (f until.0.1).written, traced, inr (at.0, at.1, at.2, at.3, at.5, at.6, (at.4, at.7)), fails until.0.1 _ v' at.8)
+      by_why (inr (inl at)) =
+          (until.0.0, (f until.0.1).written, traced, inr (at.0, at.1, at.2, at.3, inl (at.5, at.6, (at.4, at.7))), fails until.0.1 _ v' at.8)
+      by_why (inr (inr at)) =
+          (until.0.0, (f until.0.1).written, traced, inr (at.0, at.1, at.2, at.3, inr (at.5, at.6, at.7, at.4, at.8)), notes until.0.1 Broken v' at.9)
 
 -- what each telling keeps, all of them keep
 module _ {V N : Type 0} (place : V → N) (st : V → LabValue → ℕ → V → Type 0) (t fl : V → Told → V → Type 0) (n : V → Aside → V → Type 0)
@@ -249,11 +277,13 @@ module _ {V N : Type 0} (place : V → N) (st : V → LabValue → ℕ → V →
   kept (Turns number ∷ ts) s s' told = kept ts told.0 s' told.2 ∙ notes s.1 (NextLine number) told.0.1 told.1.1
   kept (Notes ∷ ts) s s' told = kept ts told.0 s' told.2 ∙ notes s.1 Prints told.0.1 told.1.1
   kept (Counts phases last ∷ ts) s s' told = kept ts told.0 s' told.2 ∙ notes s.1 (CountsPhases phases last) told.0.1 told.1.1
+  kept (Deceives router x answer ∷ ts) s s' told = kept ts told.0 s' told.2 ∙ notes s.1 (Lie _) told.0.1 told.1.6
 
   pub kept_until : (s s' : Option LabValue × V) → IsToldUntil st t fl n s s' → place s'.1 ≡ place s.1
   kept_until s s' until = by_why until.2 ∙ kept until.1.0 s until.0 until.1.1
     where
-      by_why : FailsAtRest n until.0 s' ⊎ FailsAtEvent fl until.0 s' → place s'.1 ≡ place until.0.1
+      by_why : FailsAtRest n until.0 s' ⊎ (FailsAtEvent fl until.0 s' ⊎ FailsAtLie n until.0 s') → place s'.1 ≡ place until.0.1
       by_why (inl (same, inl unsaid)) = ap place unsaid
       by_why (inl (same, inr broken)) = notes until.0.1 Broken s'.1 broken
-      by_why (inr at) = fails until.0.1 _ s'.1 at.8
+      by_why (inr (inl at)) = fails until.0.1 _ s'.1 at.8
+      by_why (inr (inr at)) = notes until.0.1 Broken s'.1 at.9

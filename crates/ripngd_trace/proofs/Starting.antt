@@ -4,7 +4,7 @@ use Rattle.route_table.proofs.TableLaws.{None-Some}
 use Rattle.router_core.specs.Machine.{State}
 use Rattle.router_core.proofs.HearingSteps.{take_push}
 use Rattle.ripng_world.specs.World.{World}
-use Rattle.ripng_world.proofs.Running.{get_map}
+use Rattle.ripng_world.proofs.WorldRuns.{get_map}
 
 pub length_push : {X : Type 0} (xs : List X) (x : X) → length (xs ++ x ∷ []) ≡ suc (length xs)
 length_push [] x = refl

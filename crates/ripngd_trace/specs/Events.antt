@@ -57,6 +57,11 @@ SaysArrival x (told.Stranger iface source port hop_limit group bytes) =
     (iface ≡ x.iface) × (source ≡ x.source) × (port ≡ x.source_port) × (hop_limit ≡ x.hop_limit) × (group ≡ x.to_group) × (string_bytes bytes ≡ encode_lower x.bytes)
 SaysArrival x _ = ⊥
 
+-- what a lie says of itself: its port, its hop limit and its destination are those of every lie
+abbrev pub SaysLieOf : Received → Happened → Type 0
+SaysLieOf x (told.Liar iface source bytes) = (iface ≡ x.iface) × (source ≡ x.source) × (string_bytes bytes ≡ encode_lower x.bytes)
+SaysLieOf x _ = ⊥
+
 -- what happened, but for the router and the moment
 abbrev pub SaysHappened : LabValue → Event → Happened → Type 0
 SaysHappened lab (Deliver datagram router iface now) said = said ≡ told.Deliver datagram iface (sender_of lab datagram)
@@ -123,3 +128,9 @@ pub record RecordTells (line : ℕ) (what : Told) (r : EventRecord) : Type 0 whe
   pub changes_are : r.changes.items ≡ map change_record what.answer.changes
   pub sent_are : map sent_said r.sent.items ≡ map sent_words (sent_from what.first what.lab.world.sent)
   pub timers_are : r.timers ≡ option_map timers_in (slice_get what.lab.world.states r.router)
+
+-- a record of a lie, which is told as the arrival of a stranger: as that one's record, but that it says a lie
+pub record TellsLie (line : ℕ) (what : Told) (r : EventRecord) : Type 0 where
+  pub stranger : Happened
+  pub tells : RecordTells line what (record r { event = stranger })
+  pub lie : (router : ℕ) (x : Received) → what.event ≡ Stranger router x → SaysLieOf x r.event

@@ -7,9 +7,11 @@ use Rattle.route_table.specs.Table.{ByPrefix, Table}
 use Rattle.router_core.specs.declared.answer.Answer.{Answer}
 use Rattle.ripng_world.specs.Labs.{LabValue}
 use Rattle.ripng_world.specs.Watching.{telling}
-use Rattle.ripng_world.specs.World.{World, Event, Happens}
+use Rattle.router_core.specs.Received.{Received}
+use Rattle.ripng_world.specs.Lying.{Lies}
+use Rattle.ripng_world.specs.World.{World, Event, Stranger, Happens}
 use Rattle.ripngd_lab.specs.ScriptWatching.{StartsAt}
-use Rattle.ripngd_trace.specs.Events.{RecordTells}
+use Rattle.ripngd_trace.specs.Events.{RecordTells, TellsLie}
 use Rattle.ripngd_trace.specs.Lines.{WritesLess, WritesRecord}
 use Rattle.ripngd_trace.specs.Offers.{TellsOffers}
 use Rattle.ripngd_trace.specs.Records.{route_record, taken_out, timers_in}
@@ -44,6 +46,7 @@ with_records shown (r ∷ records) = with_records (map_of.insert shown r.prefix 
 pub data Line : Type 0 where
   StartLine : StartRecord → Line
   EventLine : EventRecord → Line
+  LieLine : EventRecord → Line
   PrintLine : PrintRecord → Line
   RefusedLine : RefusedRecord → Line
   LostLine : LostRecord → Line
@@ -54,6 +57,7 @@ pub data Line : Type 0 where
 abbrev pub read_line : List Shown → Line → List Shown
 read_line shown (StartLine r) = map (λ router. with_records map_of.empty router.routes.items) r.routers.items
 read_line shown (EventLine r) = slice_set shown r.router (with_records (taken_out (get_or shown r.router map_of.empty) r.gone.items) r.routes.items)
+read_line shown (LieLine r) = slice_set shown r.router (with_records (taken_out (get_or shown r.router map_of.empty) r.gone.items) r.routes.items)
 read_line shown (PrintLine r) = shown
 read_line shown (RefusedLine r) = shown
 read_line shown (LostLine r) = shown
@@ -97,6 +101,9 @@ TellsOf (StartLine r) before after = (before ≡ None) × (lab : LabValue) × (a
 TellsOf (EventLine r) before after =
     (lab : LabValue) × (before ≡ Some lab) × (lab' : LabValue) × (after ≡ Some lab')
     × (e : Event) × (answer : Answer) × HappensIn lab e answer lab' × RecordTells r.line (telling lab.network lab.world e answer lab'.world) r × Explains lab e answer lab' r
+TellsOf (LieLine r) before after =
+    (lab : LabValue) × (before ≡ Some lab) × (lab' : LabValue) × (after ≡ Some lab') × (lab'.network ≡ lab.network)
+    × (router : ℕ) × (x : Received) × (answer : Answer) × Lies lab.world router x answer lab'.world × TellsLie r.line (telling lab.network lab.world (Stranger router x) answer lab'.world) r
 TellsOf (PrintLine r) before after = (after ≡ before) × IsPrintWord r.record.now
 TellsOf (RefusedLine r) before after = (after ≡ before) × (r.record.now ≡ codes "refused")
 TellsOf (LostLine r) before after = (after ≡ before) × (r.record.now ≡ codes "lost")
@@ -114,6 +121,7 @@ TellsScript lab shown (line ∷ lines) end =
 abbrev pub IsWritten : Line → Option (List ℕ) → Option (List ℕ) → Type 0
 IsWritten (StartLine r) = WritesRecord r
 IsWritten (EventLine r) = WritesRecord r
+IsWritten (LieLine r) = WritesRecord r
 IsWritten (PrintLine r) = WritesRecord r
 IsWritten (RefusedLine r) = WritesRecord r
 IsWritten (LostLine r) = WritesRecord r
@@ -129,9 +137,11 @@ AreWritten (line ∷ lines) old new = (mid : Option (List ℕ)) × IsWritten lin
 abbrev pub IsTraced : Option (List ℕ) → Option LabValue → Option (List ℕ) → Type 0
 IsTraced old lab new = (lines : List Line) × TellsScript None [] lines lab × AreWritten lines old new
 
--- the lab is one event further
+-- the lab is one event further, or one lie
 abbrev pub IsOneFurther : Option LabValue → Option LabValue → Type 0
-IsOneFurther before lab = (l : LabValue) × (before ≡ Some l) × (l' : LabValue) × (lab ≡ Some l') × (e : Event) × (answer : Answer) × HappensIn l e answer l'
+IsOneFurther before lab =
+    (l : LabValue) × (before ≡ Some l) × (l' : LabValue) × (lab ≡ Some l')
+    × (((e : Event) × (answer : Answer) × HappensIn l e answer l') ⊎ ((router : ℕ) × (x : Received) × (answer : Answer) × (l'.network ≡ l.network) × Lies l.world router x answer l'.world))
 
 -- so it is until memory is refused, or the writer fails: then the lab may be one event further than what is told, and behind the
 -- lines there may be less than one more

@@ -3,8 +3,8 @@ use Rattle.std.specs.Prelude.{◌≡◌, ◌⊎◌, ℕ, List, ◌++◌, Option,
 use Rattle.route_table.specs.Table.{Table}
 use Rattle.ripng_world.specs.Labs.{LabValue}
 use Rattle.ripng_world.specs.Watching.{Told}
-use Rattle.ripngd_lab.specs.Asides.{Aside, NextLine, Prints, CountsPhases, Broken}
-use Rattle.ripngd_trace.specs.Events.{RecordTells}
+use Rattle.ripngd_lab.specs.Asides.{Aside, NextLine, Prints, CountsPhases, Lie, Broken}
+use Rattle.ripngd_trace.specs.Events.{RecordTells, TellsLie}
 use Rattle.ripngd_trace.specs.Lines.{WritesLess, WritesRecord}
 use Rattle.ripngd_trace.specs.Offers.{TellsOffers}
 use Rattle.ripngd_trace.specs.Reading.{IsPrintWord, all_timers, tables_of}
@@ -41,6 +41,18 @@ pub record SaysStart (said : Said) (lab : LabValue) (now : ℕ) (said' : Said) :
 pub record SaysEvent (said : Said) (what : Told) (said' : Said) : Type 0 where
   pub r : EventRecord
   pub tells : RecordTells said.line what r
+  pub listed : IfSome (slice_get said.known r.router) (λ before. IfSome (slice_get what.lab.world.states r.router) (λ state. LeadsTo before r.routes.items r.gone.items state.table))
+  pub offers : TellsOffers said.known what.lab what.event what.answer.notes r.offers.items
+  pub update : TellsUpdate said.timers what.lab what.event r.update
+  pub known_is : IfSome (slice_get what.lab.world.states r.router) (λ state. said'.known ≡ slice_set said.known r.router state.table)
+  pub timers_are : IfSome (slice_get what.lab.world.states r.router) (λ state. said'.timers ≡ slice_set said.timers r.router (timers_in state))
+  pub line_is : said'.line ≡ said.line
+  pub writes : WritesRecord r said.written said'.written
+
+-- of a lie it writes the same, but that its record says a lie and no stranger
+pub record SaysLie (said : Said) (what : Told) (said' : Said) : Type 0 where
+  pub r : EventRecord
+  pub tells : TellsLie said.line what r
   pub listed : IfSome (slice_get said.known r.router) (λ before. IfSome (slice_get what.lab.world.states r.router) (λ state. LeadsTo before r.routes.items r.gone.items state.table))
   pub offers : TellsOffers said.known what.lab what.event what.answer.notes r.offers.items
   pub update : TellsUpdate said.timers what.lab what.event r.update
@@ -93,4 +105,5 @@ abbrev pub SaysAside : Said → Aside → Said → Type 0
 SaysAside said (NextLine number) said' = said' ≡ record said { line = number }
 SaysAside said Prints said' = SaysPrint said said' ⊎ (SaysRefused said said' ⊎ SaysLost said said')
 SaysAside said (CountsPhases phases last) said' = SaysPhases said phases last said'
+SaysAside said (Lie what) said' = SaysLie said what said'
 SaysAside said Broken said' = WritesLess said.written said'.written

@@ -5,7 +5,7 @@ ghost use Rattle.ripngd_trace.specs.Events.{change_record, fault_said, fault_wor
 
 use crate::records::{ChangeRecord, FaultRecord, HopRecord, NoteRecord, PeerRecord, SentRecord};
 use fib::{Hop, RouteChange};
-use ripng_world::{Lab, Sent};
+use ripng_world::{Running, Sent};
 use route_table::RouteStore;
 use router_core::{Destination, Fault, Note};
 use std::alloc::{AllocError, Global};
@@ -113,7 +113,7 @@ fn sent_record(alloc: Global, datagram: usize, sent: &Sent) -> Result<SentRecord
 /// Want of memory.
 pub fn sent_since<S: RouteStore>(
     alloc: Global,
-    lab: &Lab<S>,
+    lab: &Running<S>,
     first: usize,
 ) -> Result<Vec<SentRecord>, AllocError>
     ensures { IfOk result (λ records. map sent_said records.items ≡ map sent_words (sent_from first lab.now.world.sent)) }

@@ -3,12 +3,12 @@
 ghost use Rattle.std.specs.Prelude.{◌≡◌, IfOk};
 ghost use Rattle.ripng_world.specs.Events.{event_of};
 ghost use Rattle.ripng_world.specs.Rounds.{moment_of, router_of};
-ghost use Rattle.ripngd_trace.specs.Events.{SaysHappened, SaysArrival, change_told, sender_of};
+ghost use Rattle.ripngd_trace.specs.Events.{SaysArrival, SaysHappened, SaysLieOf, change_told, sender_of};
 
 use crate::network::addr_of;
 use crate::records::{Happened, SenderRecord};
 use crate::shown::Shown;
-use ripng_world::{Event, Lab};
+use ripng_world::{Event, Running};
 use route_table::{Moment, RouteStore};
 use router_core::{Arrival, Change};
 use std::alloc::{AllocError, Global};
@@ -40,7 +40,7 @@ pub fn moment_of(event: &Event<'_>) -> Moment
 }
 
 /// The router that sent a datagram, if it was sent.
-fn sender_of<S: RouteStore>(lab: &Lab<S>, datagram: usize) -> Option<SenderRecord>
+fn sender_of<S: RouteStore>(lab: &Running<S>, datagram: usize) -> Option<SenderRecord>
     ensures { result ≡ sender_of lab.now datagram }
 {
     match lab.sent().get(datagram) {
@@ -67,6 +67,35 @@ fn stranger(alloc: Global, arrival: &Arrival<'_>) -> Result<Happened, AllocError
     })
 }
 
+/// A lie.
+///
+/// # Errors
+/// Want of memory.
+pub fn lie_told(alloc: Global, arrival: &Arrival<'_>) -> Result<Happened, AllocError>
+    ensures { IfOk result (SaysLieOf arrival.entry.now) }
+{
+    Ok(Happened::Liar {
+        iface: arrival.iface,
+        source: arrival.source,
+        bytes: hex::encode(alloc, arrival.bytes)?,
+    })
+}
+
+/// An arrival as a stranger's, but for who it is of.
+pub fn again<'a>(arrival: &Arrival<'a>) -> Arrival<'a>
+    ensures { result ≡ arrival.entry.now }
+{
+    Arrival {
+        now: arrival.now,
+        iface: arrival.iface,
+        source: arrival.source,
+        source_port: arrival.source_port,
+        hop_limit: arrival.hop_limit,
+        to_group: arrival.to_group,
+        bytes: arrival.bytes,
+    }
+}
+
 /// A change of a router's configuration.
 fn change_told(change: &Change) -> Happened
     ensures { result ≡ change_told change.now }
@@ -84,7 +113,7 @@ fn change_told(change: &Change) -> Happened
 /// Want of memory.
 pub fn happened<S: RouteStore>(
     alloc: Global,
-    lab: &Lab<S>,
+    lab: &Running<S>,
     event: &Event<'_>,
 ) -> Result<Happened, AllocError>
     ensures { IfOk result (SaysHappened lab.now (event_of event.entry.now)) }

@@ -4,10 +4,10 @@ ghost use Rattle.std.specs.Prelude.{⊤};
 
 use crate::sentences::Seconds;
 use crate::tracer::Tracer;
-use ripng_world::{Event, Lab};
+use ripng_world::{Event, Running};
 use ripngd_lab::{Choice, MadePhases, Refusal, Unmet, Watch, print_routes, print_sent, watched};
 use route_table::{Moment, TrieRoutes};
-use router_core::Answer;
+use router_core::{Answer, Arrival};
 use std::alloc::Global;
 use std::io::{self, Write};
 
@@ -42,7 +42,7 @@ impl<'a, W: Write> ripng_world::Watch<TrieRoutes> for Explainer<'a, W> {
 
     fn happened(
         &mut self,
-        lab: &Lab<TrieRoutes>,
+        lab: &Running<TrieRoutes>,
         event: &Event<'_>,
         answer: &Answer,
         first: usize,
@@ -61,7 +61,7 @@ impl<'a, W: Write> Watch for Explainer<'a, W> {
         self.line = number;
     }
 
-    fn started(&mut self, lab: &Lab<TrieRoutes>, now: Moment) -> io::Result<()> {
+    fn started(&mut self, lab: &Running<TrieRoutes>, now: Moment) -> io::Result<()> {
         let record = self.tracer.start_record(lab, now)?;
         let (begin, routers, sent) = (Seconds(record.now), record.routers.len(), record.sent.len());
         writeln!(
@@ -70,11 +70,32 @@ impl<'a, W: Write> Watch for Explainer<'a, W> {
         )
     }
 
-    fn routes_asked(&mut self, lab: &Lab<TrieRoutes>, choice: &Choice) -> io::Result<()> {
+    fn lied(
+        &mut self,
+        running: &Running<TrieRoutes>,
+        router: usize,
+        arrival: &Arrival<'_>,
+        answer: &Answer,
+        first: usize,
+    ) -> io::Result<()> {
+        let record = self
+            .tracer
+            .lie_record(running, router, arrival, answer, first)?;
+        writeln!(
+            self.tracer.out,
+            "{record}; from here on nothing is promised"
+        )
+    }
+
+    fn routes_asked(&mut self, lab: &Running<TrieRoutes>, choice: &Choice) -> io::Result<()> {
         print_routes(lab, choice, self.tracer.out)
     }
 
-    fn datagrams_asked(&mut self, lab: &Lab<TrieRoutes>, asked: Option<usize>) -> io::Result<()> {
+    fn datagrams_asked(
+        &mut self,
+        lab: &Running<TrieRoutes>,
+        asked: Option<usize>,
+    ) -> io::Result<()> {
         print_sent(self.tracer.alloc, lab, asked, self.tracer.out)
     }
 

@@ -7,13 +7,13 @@ ghost use Rattle.ripngd_trace.specs.Starting.{interface_record, owned_record};
 
 use crate::records::{InterfaceRecord, OwnedRecord};
 use prefix6::Addr6;
-use ripng_world::Lab;
+use ripng_world::Running;
 use route_table::RouteStore;
 use router_core::RouterConfig;
 use std::alloc::{AllocError, Global};
 
 /// The address of an interface, if the network has it.
-pub fn addr_of<S: RouteStore>(lab: &Lab<S>, router: usize, iface: usize) -> Option<Addr6>
+pub fn addr_of<S: RouteStore>(lab: &Running<S>, router: usize, iface: usize) -> Option<Addr6>
     ensures { result ≡ addr_at lab.now router iface }
 {
     match lab.router(router)?.config().interfaces().get(iface) {
@@ -28,7 +28,7 @@ pub fn addr_of<S: RouteStore>(lab: &Lab<S>, router: usize, iface: usize) -> Opti
 /// Want of memory.
 pub fn interface_records<S: RouteStore>(
     alloc: Global,
-    lab: &Lab<S>,
+    lab: &Running<S>,
     router: usize,
     config: &RouterConfig,
 ) -> Result<Vec<InterfaceRecord>, AllocError>

@@ -7,14 +7,14 @@ ghost use Rattle.ripngd_trace.specs.Offers.{TellsArrival, TellsOffers, came, is_
 use crate::network::addr_of;
 use crate::records::OfferRecord;
 use prefix6::{Addr6, Prefix};
-use ripng_world::{Event, Lab, Sent};
+use ripng_world::{Event, Running, Sent};
 use route_table::{Moment, Route, RouteStore, TrieRoutes};
 use router_core::{Answer, Arrival, Destination, MAX_HOP_LIMIT, Note, Offered, RIPNG_PORT, Router};
 use std::alloc::{AllocError, Global};
 
 /// A datagram of the network as it comes to an interface of its link.
 fn came<'a, S: RouteStore>(
-    lab: &Lab<S>,
+    lab: &Running<S>,
     datagram: &'a Sent,
     iface: usize,
     now: Moment,
@@ -115,7 +115,7 @@ fn delivered(
 /// Want of memory.
 pub fn offers_of(
     alloc: Global,
-    lab: &Lab<TrieRoutes>,
+    lab: &Running<TrieRoutes>,
     known: &[TrieRoutes],
     event: &Event<'_>,
     answer: &Answer,

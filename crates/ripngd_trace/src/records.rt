@@ -98,6 +98,14 @@ pub enum Happened {
         /// In hexadecimal digits.
         bytes: String,
     },
+    /// A lie came: a Response that the router took for one of its link.
+    Liar {
+        iface: usize,
+        #[serde(serialize_with = "as_text")]
+        source: Addr6,
+        /// In hexadecimal digits.
+        bytes: String,
+    },
     Tick {
         word: u32,
     },

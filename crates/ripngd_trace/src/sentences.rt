@@ -36,6 +36,9 @@ impl Display for Happened {
             Happened::Stranger { iface, source, .. } => {
                 write!(f, "hears the stranger {source} on interface {iface}")
             }
+            Happened::Liar { iface, source, .. } => {
+                write!(f, "believes a lie of {source} on interface {iface}")
+            }
             Happened::Tick { .. } => f.write_str("looks at its timers"),
             Happened::Restart => f.write_str("starts again"),
             Happened::Cost { iface, cost } => write!(f, "has cost {cost} on interface {iface}"),

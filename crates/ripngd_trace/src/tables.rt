@@ -10,7 +10,7 @@ ghost use Rattle.ripngd_trace.specs.Records.{LeadsTo, due_in, gateway_record, ro
 
 use crate::records::{DueRecord, GatewayRecord, RouteRecord, Timers};
 use prefix6::Prefix;
-use ripng_world::Lab;
+use ripng_world::Running;
 use route_table::{Origin, Route, RouteStore};
 use router_core::Router;
 use std::alloc::{AllocError, Global};
@@ -83,7 +83,7 @@ pub fn timers_in<S: RouteStore>(router: &Router<S>) -> Timers
 }
 
 /// The timers of a router of a lab, if there is such a router.
-pub fn timers_of<S: RouteStore>(lab: &Lab<S>, router: usize) -> Option<Timers>
+pub fn timers_of<S: RouteStore>(lab: &Running<S>, router: usize) -> Option<Timers>
     ensures { result ≡ option_map timers_in (slice_get lab.now.world.states router) }
 {
     match lab.router(router) {

@@ -3,7 +3,8 @@
 ghost use Rattle.std.specs.Prelude.{◌≡◌, [], ◌∷◌, ◌++◌, IfOk, IfSome, OnErr, OnOk, Option, Some, codes, option_map, slice_get, slice_set};
 ghost use Rattle.ripng_world.specs.Events.{event_of};
 ghost use Rattle.ripng_world.specs.Labs.{LabValue};
-ghost use Rattle.ripngd_trace.specs.Events.{RecordTells};
+ghost use Rattle.ripng_world.specs.World.{Stranger};
+ghost use Rattle.ripngd_trace.specs.Events.{RecordTells, TellsLie};
 ghost use Rattle.ripngd_trace.specs.Lines.{WritesLess, WritesRecord};
 ghost use Rattle.ripngd_trace.specs.Offers.{TellsOffers};
 ghost use Rattle.ripngd_trace.specs.Reading.{IsTraced, IsTracedUntil, all_timers, tables_of};
@@ -13,7 +14,7 @@ ghost use Rattle.ripngd_trace.specs.Starting.{AreTold, TellsRouter, TellsStart};
 ghost use Rattle.ripngd_trace.specs.Updates.{TellsUpdate};
 
 use crate::answers::{change_records, fault_record, note_records, sent_since};
-use crate::events::{happened, moment_of, router_of};
+use crate::events::{again, happened, lie_told, moment_of, router_of};
 use crate::network::{interface_records, owned_records};
 use crate::offers::offers_of;
 use crate::records::{
@@ -23,10 +24,10 @@ use crate::records::{
 use crate::tables::{News, news_of, timers_in, timers_of};
 use crate::updates::update_of;
 use crate::writing::write_record;
-use ripng_world::{Event, Lab};
+use ripng_world::{Event, Running};
 use ripngd_lab::{Choice, MadePhases, Refusal, Unmet, Watch, print_routes, print_sent, watched};
 use route_table::{Moment, RouteStore, TrieRoutes};
-use router_core::{Answer, Router};
+use router_core::{Answer, Arrival, Router};
 use std::alloc::{AllocError, Global};
 use std::io::{self, Write};
 use std::str;
@@ -113,7 +114,7 @@ impl<'a, W: Write> Tracer<'a, W> {
     /// A router that has started. Its table is known from now on.
     fn router_record(
         &mut self,
-        lab: &Lab<TrieRoutes>,
+        lab: &Running<TrieRoutes>,
         number: usize,
         router: &Router<TrieRoutes>,
     ) -> Result<RouterRecord, AllocError>
@@ -140,7 +141,7 @@ impl<'a, W: Write> Tracer<'a, W> {
     }
 
     /// All routers that have started. Their tables are known from now on.
-    fn router_records(&mut self, lab: &Lab<TrieRoutes>) -> Result<Vec<RouterRecord>, AllocError>
+    fn router_records(&mut self, lab: &Running<TrieRoutes>) -> Result<Vec<RouterRecord>, AllocError>
         ensures tells { IfOk result (λ records. AreTold lab.now records.items) }
         ensures known { OnOk result (self.new.known.items ≡ self.old.known.items ++ tables_of lab.now.world) }
         ensures timers { OnOk result (self.new.timers.items ≡ self.old.timers.items ++ all_timers lab.now.world) }
@@ -158,7 +159,7 @@ impl<'a, W: Write> Tracer<'a, W> {
     /// The start of the routers.
     pub fn start_record(
         &mut self,
-        lab: &Lab<TrieRoutes>,
+        lab: &Running<TrieRoutes>,
         now: Moment,
     ) -> Result<StartRecord, AllocError>
         ensures tells { IfOk result (TellsStart self.old.line lab.now now) }
@@ -177,7 +178,7 @@ impl<'a, W: Write> Tracer<'a, W> {
     }
 
     /// What a reader has to be told of the table of a router. Then it is known.
-    fn news_at(&mut self, lab: &Lab<TrieRoutes>, router: usize) -> Result<News, AllocError>
+    fn news_at(&mut self, lab: &Running<TrieRoutes>, router: usize) -> Result<News, AllocError>
         ensures listed { IfOk result (λ news. IfSome (slice_get self.old.known.items router) (λ before. IfSome (slice_get lab.now.world.states router) (λ state.
             LeadsTo before news.routes.items news.gone.items state.table))) }
         ensures known { OnOk result (IfSome (slice_get lab.now.world.states router) (λ state. self.new.known.items ≡ slice_set self.old.known.items router state.table)) }
@@ -192,7 +193,7 @@ impl<'a, W: Write> Tracer<'a, W> {
     }
 
     /// The timers of a router, as the next record has them. They are known from then on.
-    fn timers_at(&mut self, lab: &Lab<TrieRoutes>, router: usize) -> Option<Timers>
+    fn timers_at(&mut self, lab: &Running<TrieRoutes>, router: usize) -> Option<Timers>
         ensures told { result ≡ option_map timers_in (slice_get lab.now.world.states router) }
         ensures timers { IfSome (slice_get lab.now.world.states router) (λ state. self.new.timers.items ≡ slice_set self.old.timers.items router (timers_in state)) }
         ensures known { self.new.known ≡ self.old.known }
@@ -208,7 +209,7 @@ impl<'a, W: Write> Tracer<'a, W> {
     /// An event that was done.
     pub fn event_record(
         &mut self,
-        lab: &Lab<TrieRoutes>,
+        lab: &Running<TrieRoutes>,
         event: &Event<'_>,
         answer: &Answer,
         first: usize,
@@ -243,6 +244,34 @@ impl<'a, W: Write> Tracer<'a, W> {
             routes: news.routes,
             gone: news.gone,
         })
+    }
+
+    /// A lie that came, as an event that was done.
+    pub fn lie_record(
+        &mut self,
+        running: &Running<TrieRoutes>,
+        router: usize,
+        arrival: &Arrival<'_>,
+        answer: &Answer,
+        first: usize,
+    ) -> Result<EventRecord, AllocError>
+        ensures tells { IfOk result (TellsLie self.old.line (record { lab = running.now; event = Stranger router arrival.entry.now; answer = answer.now; first = first })) }
+        ensures listed { IfOk result (λ r. IfSome (slice_get self.old.known.items r.router) (λ before. IfSome (slice_get running.now.world.states r.router) (λ state.
+            LeadsTo before r.routes.items r.gone.items state.table))) }
+        ensures offers { IfOk result (λ r. TellsOffers self.old.known.items running.now (Stranger router arrival.entry.now) answer.now.notes r.offers.items) }
+        ensures update { IfOk result (λ r. TellsUpdate self.old.timers.items running.now (Stranger router arrival.entry.now) r.update) }
+        ensures known { IfOk result (λ r. IfSome (slice_get running.now.world.states r.router) (λ state. self.new.known.items ≡ slice_set self.old.known.items r.router state.table)) }
+        ensures timers { IfOk result (λ r. IfSome (slice_get running.now.world.states r.router) (λ state. self.new.timers.items ≡ slice_set self.old.timers.items r.router (timers_in state))) }
+        ensures line { self.new.line ≡ self.old.line }
+        ensures out { self.new.out ≡ self.old.out }
+    {
+        let event = Event::Stranger {
+            router,
+            arrival: again(arrival),
+        };
+        let mut record = self.event_record(running, &event, answer, first)?;
+        record.event = lie_told(self.alloc, arrival)?;
+        Ok(record)
     }
 
     /// What a line prints.
@@ -322,7 +351,7 @@ impl<'a, W: Write> ripng_world::Watch<TrieRoutes> for Tracer<'a, W> {
 
     fn happened(
         &mut self,
-        lab: &Lab<TrieRoutes>,
+        lab: &Running<TrieRoutes>,
         event: &Event<'_>,
         answer: &Answer,
         first: usize,
@@ -343,18 +372,34 @@ impl<'a, W: Write> Watch for Tracer<'a, W> {
         self.line = number;
     }
 
-    fn started(&mut self, lab: &Lab<TrieRoutes>, now: Moment) -> io::Result<()> {
+    fn started(&mut self, lab: &Running<TrieRoutes>, now: Moment) -> io::Result<()> {
         let record = self.start_record(lab, now)?;
         write_record(self.alloc, &record, self.out)
     }
 
-    fn routes_asked(&mut self, lab: &Lab<TrieRoutes>, choice: &Choice) -> io::Result<()> {
+    fn lied(
+        &mut self,
+        running: &Running<TrieRoutes>,
+        router: usize,
+        arrival: &Arrival<'_>,
+        answer: &Answer,
+        first: usize,
+    ) -> io::Result<()> {
+        let record = self.lie_record(running, router, arrival, answer, first)?;
+        write_record(self.alloc, &record, self.out)
+    }
+
+    fn routes_asked(&mut self, lab: &Running<TrieRoutes>, choice: &Choice) -> io::Result<()> {
         let mut prints = Vec::new(self.alloc);
         print_routes(lab, choice, &mut prints)?;
         self.write_prints("print", &prints)
     }
 
-    fn datagrams_asked(&mut self, lab: &Lab<TrieRoutes>, asked: Option<usize>) -> io::Result<()> {
+    fn datagrams_asked(
+        &mut self,
+        lab: &Running<TrieRoutes>,
+        asked: Option<usize>,
+    ) -> io::Result<()> {
         let mut prints = Vec::new(self.alloc);
         print_sent(self.alloc, lab, asked, &mut prints)?;
         self.write_prints("sent", &prints)

@@ -5,7 +5,7 @@ ghost use Rattle.ripng_world.specs.Events.{event_of};
 ghost use Rattle.ripngd_trace.specs.Updates.{TellsUpdate, update_by};
 
 use crate::records::{Timers, UpdateRecord};
-use ripng_world::{Event, Lab};
+use ripng_world::{Event, Running};
 use route_table::RouteStore;
 use router_core::Router;
 
@@ -26,7 +26,7 @@ fn update_by<S: RouteStore>(before: &Timers, router: &Router<S>) -> Option<Updat
 
 /// Which update was due at an event, by the timers that are known of all routers.
 pub fn update_of<S: RouteStore>(
-    lab: &Lab<S>,
+    lab: &Running<S>,
     known: &[Timers],
     event: &Event<'_>,
 ) -> Option<UpdateRecord>

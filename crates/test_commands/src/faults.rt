@@ -3,7 +3,7 @@
 use ripngd::program;
 
 /// Words that have a fault.
-const FAULTS: [&[&str]; 24] = [
+const FAULTS: [&[&str]; 25] = [
     &[],
     &["ripngd"],
     &["ripngd", "show"],
@@ -19,6 +19,7 @@ const FAULTS: [&[&str]; 24] = [
     &["ripngd", "run", "--append", "file"],
     &["ripngd", "run", "--append", "-R", "-", "file"],
     &["ripngd", "run", "--append=1", "-R", "log", "file"],
+    &["ripngd", "run", "--stamp", "file"],
     &["ripngd", "ctl"],
     &["ripngd", "ctl", "east.sock"],
     &["ripngd", "ctl", "east.sock", "cost", "0", "1", "2", "3"],
@@ -60,5 +61,15 @@ fn a_log_that_is_no_file_is_not_gone_on_in(rt: HostRuntime) {
     assert_eq!(rt; program(&rt, &words, &mut out, &mut err), 2);
     let text =
         "error: '--append' goes with '-R FILE', where FILE is not '-'\n\nFor more information, try '--help'.\n";
+    assert!(rt; out.is_empty() && err.as_slice() == text.as_bytes());
+}
+
+#[test]
+fn without_a_log_nothing_is_stamped(rt: HostRuntime) {
+    let mut out = Vec::new(rt.alloc());
+    let mut err = Vec::new(rt.alloc());
+    let words = ["ripngd", "run", "--stamp", "absent.toml"];
+    assert_eq!(rt; program(&rt, &words, &mut out, &mut err), 2);
+    let text = "error: '--stamp' goes with '-R FILE'\n\nFor more information, try '--help'.\n";
     assert!(rt; out.is_empty() && err.as_slice() == text.as_bytes());
 }

@@ -78,27 +78,27 @@ const ON_FILES: [(&[&str], u8, &str); 16] = [
     (
         &["ripngd", "check", "absent"],
         3,
-        "ripngd: cannot read absent\n",
+        "ripngd: cannot read absent: not found\n",
     ),
     (
         &["ripngd", "lab", "absent"],
         3,
-        "ripngd: cannot read absent\n",
+        "ripngd: cannot read absent: not found\n",
     ),
     (
         &["ripngd", "table", "absent"],
         3,
-        "ripngd: cannot read absent\n",
+        "ripngd: cannot read absent: not found\n",
     ),
     (
         &["ripngd", "page", "--film", "absent"],
         3,
-        "ripngd: cannot read absent\n",
+        "ripngd: cannot read absent: not found\n",
     ),
     (
         &["ripngd", "run", "absent"],
         3,
-        "ripngd: cannot read absent\n",
+        "ripngd: cannot read absent: not found\n",
     ),
     (
         &["ripngd", "ctl", "absent.sock", "routes"],
@@ -131,7 +131,7 @@ const ON_FILES: [(&[&str], u8, &str); 16] = [
     (
         &["ripngd", "run", "-R", "absent/log", "one.toml"],
         3,
-        "ripngd: cannot write absent/log\n",
+        "ripngd: cannot write absent/log: not found\n",
     ),
 ];
 

@@ -273,6 +273,32 @@ fn a_run_goes_on_in_a_log(rt: HostRuntime) -> Result<(), Fail> {
     Ok(())
 }
 
+#[test]
+fn a_run_stamps_the_lines_of_its_log(rt: HostRuntime) -> Result<(), Fail> {
+    let ports = ((1, free_port(&rt)?), (2, free_port(&rt)?));
+    let text = config_text(rt.alloc(), "2001:db8::/32", ports.0, ports.1)?;
+    std::fs::write(&rt, "stamped.toml", text.as_str())?;
+    let words = [
+        "ripngd",
+        "run",
+        "--stamp",
+        "--turns",
+        "1",
+        "-R",
+        "stamped.txt",
+        "stamped.toml",
+    ];
+    assert!(rt; outcome(&rt, &words)?.0 == 0);
+    let log = std::fs::read(&rt, "stamped.txt")?;
+    let line = b"2001:db8::/32 metric 1 direct\n".as_slice();
+    // The stamp, `add ` and the line.
+    assert!(rt; log.len() == 25 + 4 + line.len() && log.as_slice().ends_with(line));
+    assert!(rt; log.as_slice()[23..].starts_with(b"Z add "));
+    let (status, out, _) = outcome(&rt, &["ripngd", "table", "stamped.txt"])?;
+    assert!(rt; status == 0 && out.as_slice() == line);
+    Ok(())
+}
+
 /// How long a run with these options lasts.
 ///
 /// # Errors

@@ -36,13 +36,13 @@ const STREAMS: [(&[&str], u8, &str, &str); 12] = [
         &["ripngd", "lab", "absent.lab"],
         3,
         "",
-        "ripngd: cannot read absent.lab\n",
+        "ripngd: cannot read absent.lab: not found\n",
     ),
     (
         &["ripngd", "lab", "--trace", "absent.lab"],
         3,
         "",
-        "ripngd: cannot read absent.lab\n",
+        "ripngd: cannot read absent.lab: not found\n",
     ),
     (
         &["ripngd", "check", "said.toml"],
@@ -66,7 +66,7 @@ const STREAMS: [(&[&str], u8, &str, &str); 12] = [
         &["ripngd", "run", "absent.toml"],
         3,
         "",
-        "ripngd: cannot read absent.toml\n",
+        "ripngd: cannot read absent.toml: not found\n",
     ),
     (
         &["ripngd", "table", "said.log"],
@@ -84,7 +84,7 @@ const STREAMS: [(&[&str], u8, &str, &str); 12] = [
         &["ripngd", "run", "-R", "said.toml", "said.toml"],
         3,
         "",
-        "ripngd: cannot write said.toml\n",
+        "ripngd: cannot write said.toml: is the configuration\n",
     ),
 ];
 

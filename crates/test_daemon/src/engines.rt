@@ -111,6 +111,32 @@ fn expect_handed(rt: &impl Abort, link: &MemoryLink, expected: &[(usize, bool, [
     assert_eq!(rt; count, expected.len());
 }
 
+/// That so many turns end so.
+fn expect_turns(
+    rt: &impl Abort,
+    engine: &mut MemoryEngine,
+    log: &mut MemoryLog,
+    turns: u32,
+    ended: Result<(), EngineFault>,
+) {
+    assert_eq!(rt; engine.turns(turns, log), ended);
+}
+
+/// That so many sends were lost.
+fn expect_lost(rt: &impl Abort, engine: &MemoryEngine, sends: u64) {
+    assert_eq!(rt; engine.report().lost_sends, sends);
+}
+
+/// That just this was logged.
+fn expect_logged(rt: &impl Abort, log: &MemoryLog, text: &[u8]) {
+    assert_eq!(rt; log.text(), text);
+}
+
+/// That nothing is forwarded.
+fn expect_no_routes(rt: &impl Abort, engine: &MemoryEngine) {
+    assert!(rt; engine.fib().is_empty());
+}
+
 #[test]
 fn a_failed_send_is_counted_and_a_failed_recv_ends_the_turns(rt: HostRuntime) -> Result<(), Fail> {
     let alloc = rt.alloc();
@@ -124,11 +150,11 @@ fn a_failed_send_is_counted_and_a_failed_recv_ends_the_turns(rt: HostRuntime) ->
         engine.link(),
         &[(0, false, REQUEST), (1, true, REQUEST)],
     );
-    assert_eq!(rt; engine.report().lost_sends, 1);
+    expect_lost(&rt, &engine, 1);
     let fault = EngineFault::LinkFault { done: 2 };
-    assert_eq!(rt; engine.turns(5, &mut log), Err(fault));
+    expect_turns(&rt, &mut engine, &mut log, 5, Err(fault));
     assert_eq!(rt; (fault.number(), EngineFault::OutOfMemory.number()), (1, 2));
-    assert_eq!(rt; engine.report().lost_sends, 1);
+    expect_lost(&rt, &engine, 1);
     Ok(())
 }
 
@@ -139,7 +165,7 @@ fn a_route_is_learned_told_and_logged(rt: HostRuntime) -> Result<(), Fail> {
     link.coming.push_back(told(alloc, 1)?)?;
     let mut log = MemoryLog::new(alloc);
     let mut engine = start(&rt, alloc, link, &mut log)?;
-    assert_eq!(rt; engine.turns(1, &mut log), Ok(()));
+    expect_turns(&rt, &mut engine, &mut log, 1, Ok(()));
     expect_handed(
         &rt,
         engine.link(),
@@ -150,9 +176,10 @@ fn a_route_is_learned_told_and_logged(rt: HostRuntime) -> Result<(), Fail> {
             (1, true, response(2)),
         ],
     );
-    assert_eq!(rt;
-        log.text(),
-        b"add 2001:db8::/32 metric 2 via fe80::2 iface 0\n".as_slice()
+    expect_logged(
+        &rt,
+        &log,
+        b"add 2001:db8::/32 metric 2 via fe80::2 iface 0\n".as_slice(),
     );
     assert_eq!(rt; engine.router().regular().ms(), 15_002);
     let undisturbed = Report {
@@ -188,62 +215,79 @@ fn sends(failing: Option<u64>) -> [(usize, bool, [u8; 24]); 4] {
     ]
 }
 
+/// That a send which fails loses its own datagram, and nothing else.
+fn expect_one_lost(rt: &impl Abort, alloc: Global, failing: u64) -> Result<(), Fail> {
+    let mut link = told_and_taken_back(alloc)?;
+    link.failing_send = Some(failing);
+    let mut log = MemoryLog::new(alloc);
+    let mut engine = start(rt, alloc, link, &mut log)?;
+    expect_turns(rt, &mut engine, &mut log, 5, Ok(()));
+    expect_handed(rt, engine.link(), &sends(Some(failing)));
+    expect_lost(rt, &engine, 1);
+    expect_logged(rt, &log, TOLD_AND_TAKEN_BACK);
+    expect_no_routes(rt, &engine);
+    Ok(())
+}
+
 #[test]
 fn a_failed_send_loses_its_own_datagram_alone(rt: HostRuntime) -> Result<(), Fail> {
-    let alloc = rt.alloc();
     for failing in 0..4u64 {
-        let mut link = told_and_taken_back(alloc)?;
-        link.failing_send = Some(failing);
-        let mut log = MemoryLog::new(alloc);
-        let mut engine = start(&rt, alloc, link, &mut log)?;
-        assert_eq!(rt; engine.turns(5, &mut log), Ok(()));
-        expect_handed(&rt, engine.link(), &sends(Some(failing)));
-        assert_eq!(rt; engine.report().lost_sends, 1);
-        assert_eq!(rt; log.text(), TOLD_AND_TAKEN_BACK);
-        assert!(rt; engine.fib().is_empty());
+        expect_one_lost(&rt, rt.alloc(), failing)?;
     }
+    Ok(())
+}
+
+/// That turns go on where a `recv` failed after so many.
+fn expect_going_on(rt: &impl Abort, alloc: Global, done: u32) -> Result<(), Fail> {
+    let mut link = told_and_taken_back(alloc)?;
+    link.failing_recv = Some(u64::from(done));
+    let mut log = MemoryLog::new(alloc);
+    let mut engine = start(rt, alloc, link, &mut log)?;
+    expect_turns(
+        rt,
+        &mut engine,
+        &mut log,
+        5,
+        Err(EngineFault::LinkFault { done }),
+    );
+    expect_turns(rt, &mut engine, &mut log, 5u32.saturating_sub(done), Ok(()));
+    expect_handed(rt, engine.link(), &sends(None));
+    expect_lost(rt, &engine, 0);
+    expect_logged(rt, &log, TOLD_AND_TAKEN_BACK);
     Ok(())
 }
 
 #[test]
 fn turns_go_on_after_a_failed_recv(rt: HostRuntime) -> Result<(), Fail> {
-    let alloc = rt.alloc();
     for done in 0..5u32 {
-        let mut link = told_and_taken_back(alloc)?;
-        link.failing_recv = Some(u64::from(done));
-        let mut log = MemoryLog::new(alloc);
-        let mut engine = start(&rt, alloc, link, &mut log)?;
-        assert_eq!(rt;
-            engine.turns(5, &mut log),
-            Err(EngineFault::LinkFault { done })
-        );
-        assert_eq!(rt; engine.turns(5 - done, &mut log), Ok(()));
-        expect_handed(&rt, engine.link(), &sends(None));
-        assert_eq!(rt; engine.report().lost_sends, 0);
-        assert_eq!(rt; log.text(), TOLD_AND_TAKEN_BACK);
+        expect_going_on(&rt, rt.alloc(), done)?;
     }
     Ok(())
 }
 
+/// That where a write fails no later one is tried, and all else goes on; how many writes there were.
+fn expect_log_alone(rt: &impl Abort, alloc: Global, failing: u64) -> Result<u64, Fail> {
+    let mut log = MemoryLog::new(alloc);
+    log.failing_write = Some(failing);
+    let mut engine = start(rt, alloc, told_and_taken_back(alloc)?, &mut log)?;
+    expect_turns(rt, &mut engine, &mut log, 5, Ok(()));
+    expect_handed(rt, engine.link(), &sends(None));
+    expect_no_routes(rt, &engine);
+    let failed = failing < log.writes;
+    assert_eq!(rt; engine.report().log_failed, failed);
+    assert!(rt;
+        !failed || log.writes == failing.saturating_add(1),
+        "no write after {failing}"
+    );
+    assert_eq!(rt; log.text() == TOLD_AND_TAKEN_BACK, !failed);
+    Ok(log.writes)
+}
+
 #[test]
 fn a_failed_write_ends_the_log_alone(rt: HostRuntime) -> Result<(), Fail> {
-    let alloc = rt.alloc();
     let mut writes = 1u64;
     for failing in 0..64u64 {
-        let mut log = MemoryLog::new(alloc);
-        log.failing_write = Some(failing);
-        let mut engine = start(&rt, alloc, told_and_taken_back(alloc)?, &mut log)?;
-        assert_eq!(rt; engine.turns(5, &mut log), Ok(()));
-        expect_handed(&rt, engine.link(), &sends(None));
-        assert!(rt; engine.fib().is_empty());
-        writes = log.writes;
-        let failed = failing < writes;
-        assert_eq!(rt; engine.report().log_failed, failed);
-        assert!(rt;
-            !failed || writes == failing.saturating_add(1),
-            "no write after {failing}"
-        );
-        assert_eq!(rt; log.text() == TOLD_AND_TAKEN_BACK, !failed);
+        writes = expect_log_alone(&rt, rt.alloc(), failing)?;
     }
     assert!(rt; writes < 64);
     Ok(())
@@ -257,7 +301,7 @@ fn the_longest_datagram_fits_the_buffer(rt: HostRuntime) -> Result<(), Fail> {
         .push_back(from_neighbor(vec![in alloc; 0u8; 65_535]?))?;
     let mut log = MemoryLog::new(alloc);
     let mut engine = start(&rt, alloc, link, &mut log)?;
-    assert_eq!(rt; engine.turns(1, &mut log), Ok(()));
+    expect_turns(&rt, &mut engine, &mut log, 1, Ok(()));
     let calls = engine.link().calls().expect(&rt, "memory for each call");
     assert!(rt; calls.iter().any(|call| matches!(call, LinkCall::Gave(_))));
     Ok(())

@@ -47,36 +47,44 @@ fn table(rt: &impl Abort, alloc: Global, count: u16) -> Result<Fib, Fail> {
     Ok(fib)
 }
 
+/// That this is told next.
+fn expect_next(
+    rt: &impl Abort,
+    alloc: Global,
+    following: &mut Following,
+    lines: &[u8],
+) -> Result<(), Fail> {
+    let mut told = Vec::new(alloc);
+    following.write_next(&mut told)?;
+    assert!(rt; told.as_slice() == lines);
+    Ok(())
+}
+
+/// That a line is kept until it is told, or is too much.
+fn expect_noted(rt: &impl Abort, following: &mut Following, line: &[u8], wanted: bool) {
+    assert_eq!(rt; following.note(line), wanted);
+}
+
 #[test]
 fn a_table_is_told_before_its_changes(rt: HostRuntime) -> Result<(), Fail> {
-    let fib = table(&rt, rt.alloc(), 2)?;
-    let mut following = Following::begin(rt.alloc(), &fib)?;
-    let mut told = Vec::new(rt.alloc());
-    assert!(rt; following.note(b"del 2001:1::/32\n"));
-    following.write_next(&mut told)?;
+    let alloc = rt.alloc();
+    let fib = table(&rt, alloc, 2)?;
+    let mut following = Following::begin(alloc, &fib)?;
+    expect_noted(&rt, &mut following, b"del 2001:1::/32\n", true);
     let lines =
         "add 2001::/32 metric 2 via fe80::9 iface 1\nadd 2001:1::/32 metric 2 via fe80::9 iface 1\n";
-    assert!(rt; told.as_slice() == lines.as_bytes());
-    told.clear();
-    following.write_next(&mut told)?;
-    assert!(rt; told.as_slice() == b"ok\n".as_slice());
-    told.clear();
-    assert!(rt; following.note(b"add ::/0 metric 1 direct\n"));
-    following.write_next(&mut told)?;
-    assert!(rt; told.as_slice() == b"del 2001:1::/32\nadd ::/0 metric 1 direct\n".as_slice());
-    told.clear();
-    following.write_next(&mut told)?;
-    assert!(rt; told.is_empty());
-    Ok(())
+    expect_next(&rt, alloc, &mut following, lines.as_bytes())?;
+    expect_next(&rt, alloc, &mut following, b"ok\n")?;
+    expect_noted(&rt, &mut following, b"add ::/0 metric 1 direct\n", true);
+    let changes = b"del 2001:1::/32\nadd ::/0 metric 1 direct\n";
+    expect_next(&rt, alloc, &mut following, changes)?;
+    expect_next(&rt, alloc, &mut following, b"")
 }
 
 #[test]
 fn an_empty_table_is_whole_at_once(rt: HostRuntime) -> Result<(), Fail> {
     let mut following = Following::begin(rt.alloc(), &Fib::new(rt.alloc()))?;
-    let mut told = Vec::new(rt.alloc());
-    following.write_next(&mut told)?;
-    assert!(rt; told.as_slice() == b"ok\n".as_slice());
-    Ok(())
+    expect_next(&rt, rt.alloc(), &mut following, b"ok\n")
 }
 
 #[test]
@@ -99,14 +107,14 @@ fn a_long_table_comes_in_pieces_and_is_a_log(rt: HostRuntime) -> Result<(), Fail
 fn lines_that_wait_are_bounded(rt: HostRuntime) -> Result<(), Fail> {
     let mut following = Following::begin(rt.alloc(), &Fib::new(rt.alloc()))?;
     let lines = vec![in rt.alloc(); b'x'; LINES_LIMIT]?;
-    assert!(rt; following.note(&lines[1..]));
-    assert!(rt; following.note(b"x"));
-    assert!(rt; !following.note(b"x"));
+    expect_noted(&rt, &mut following, &lines[1..], true);
+    expect_noted(&rt, &mut following, b"x", true);
+    expect_noted(&rt, &mut following, b"x", false);
     let mut told = Vec::new(rt.alloc());
     following.write_next(&mut told)?;
     following.write_next(&mut told)?;
     assert!(rt; told.len() == LINES_LIMIT + 3);
-    assert!(rt; following.note(b"x"));
+    expect_noted(&rt, &mut following, b"x", true);
     Ok(())
 }
 

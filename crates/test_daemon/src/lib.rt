@@ -1,25 +1,16 @@
-//! Tests of the parts of the daemon, through what they hand out: texts of configurations (`configurations`, of
-//! `ripngd_config`), an engine over memory (`engines`, of `ripngd_engine`), tables that logs make (`replayed`, of `ripngd_log`), what is
-//! told of their changes (`followed`, of `ripngd_following`),
-//! datagrams in words (`shown`, of `ripngd_show`) and what a run with `-d` counts and writes (`watchers`, of `ripngd_watch`); which
-//! of two faults of a configuration is named (`order`), many changes and notes at once (`many`), and long inputs (`long`).
+//! Tests of the parts of the daemon, through what they hand out: an engine over memory (`engines`, of `ripngd_engine`), what is
+//! told of the changes of tables (`followed`, of `ripngd_following`), the moments before lines of a log (`stamps`, of
+//! `ripngd_stamp`), and what a run with `-d` counts and writes (`watchers`, of `ripngd_watch`); many changes and notes at once
+//! (`many`). Texts of configurations, logs and datagrams stand in `test_formats`.
 #![tactic(auto)]
 
-#[cfg(test)]
-mod configurations;
 #[cfg(test)]
 mod engines;
 #[cfg(test)]
 mod followed;
 #[cfg(test)]
-mod long;
-#[cfg(test)]
 mod many;
 #[cfg(test)]
-mod order;
-#[cfg(test)]
-mod replayed;
-#[cfg(test)]
-mod shown;
+mod stamps;
 #[cfg(test)]
 mod watchers;

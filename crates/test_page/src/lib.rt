@@ -1,15 +1,12 @@
-//! Tests of the page (`ripngd_page`), through what it hands out: films, requests as bytes with what is answered (the longest in
-//! `longest`), the server over a network in memory (`serving`, over `played` and `stage`), and over real sockets.
+//! Tests of the page (`ripngd_page`), through what it hands out: the server over a network in memory (`serving`, over `played` and
+//! `stage`), and over real sockets, and an answer that is bounded. Requests as bytes with what is answered, and films, stand in
+//! `test_requests`.
 #![tactic(auto)]
 
 #[cfg(test)]
-mod films;
-#[cfg(test)]
-mod longest;
+mod bounded;
 #[cfg(test)]
 mod played;
-#[cfg(test)]
-mod requests;
 #[cfg(test)]
 mod serving;
 #[cfg(test)]

@@ -6,6 +6,7 @@ use crate::stage::{Coming, Deed, Line, Stage, Then};
 use ripngd_page::{ServeFault, Server, serve_page};
 use std::io::ErrorKind;
 use std::net::{IpAddr, Ipv4Addr, Shutdown, SocketAddr};
+use std::process::Abort;
 use std::test::Fail;
 
 /// A connection that gives nothing.
@@ -35,6 +36,36 @@ fn served(stage: &Stage, requests: Option<u64>) -> Result<(), ServeFault> {
     let net = Played::over(stage);
     let mut server = Server::bind(&net, 8532)?;
     server.serve(requests)
+}
+
+/// That what comes is served, so many requests, and ends so.
+fn expect_served(
+    rt: &impl Abort,
+    stage: &Stage,
+    requests: Option<u64>,
+    ended: Result<(), ServeFault>,
+) {
+    assert_eq!(rt; served(stage, requests), ended);
+}
+
+/// That what was written on a connection begins so.
+fn expect_begin(rt: &impl Abort, stage: &Stage, number: usize, begin: &[u8]) {
+    assert!(rt; stage.told(number).as_slice().starts_with(begin));
+}
+
+/// That it ends so.
+fn expect_end(rt: &impl Abort, stage: &Stage, number: usize, end: &[u8]) {
+    assert!(rt; stage.told(number).as_slice().ends_with(end));
+}
+
+/// That nothing was written on it.
+fn expect_nothing(rt: &impl Abort, stage: &Stage, number: usize) {
+    assert!(rt; stage.told(number).is_empty());
+}
+
+/// That it was closed at that moment.
+fn expect_closed(rt: &impl Abort, stage: &Stage, number: usize, at: u64) {
+    assert_eq!(rt; closed(stage, number), Some(at));
 }
 
 /// When a connection was closed.
@@ -87,28 +118,18 @@ fn what_keeps_a_port_from_being_bound_is_told(rt: HostRuntime) -> Result<(), Fai
 #[test]
 fn two_connections_have_each_its_own_answer(rt: HostRuntime) -> Result<(), Fail> {
     let stage = Stage::new(rt.alloc(), &[Coming::Line(LOST), Coming::Line(ASKING)])?;
-    assert_eq!(rt; served(&stage, Some(2)), Ok(()));
-    assert!(rt; stage.told(0).as_slice().starts_with(b"HTTP/1.1 404"));
-    assert!(rt;
-        stage
-            .told(0)
-            .as_slice()
-            .ends_with(b"\r\n\r\nthere is no such page\n")
-    );
-    assert!(rt; stage.told(1).as_slice().starts_with(b"HTTP/1.1 200"));
-    assert!(rt;
-        stage
-            .told(1)
-            .as_slice()
-            .ends_with(b"\r\n\r\nresponse entries 0\n")
-    );
+    expect_served(&rt, &stage, Some(2), Ok(()));
+    expect_begin(&rt, &stage, 0, b"HTTP/1.1 404");
+    expect_end(&rt, &stage, 0, b"\r\n\r\nthere is no such page\n");
+    expect_begin(&rt, &stage, 1, b"HTTP/1.1 200");
+    expect_end(&rt, &stage, 1, b"\r\n\r\nresponse entries 0\n");
     Ok(())
 }
 
 #[test]
 fn what_was_answered_is_flushed_and_then_closed(rt: HostRuntime) -> Result<(), Fail> {
     let stage = Stage::new(rt.alloc(), &[Coming::Line(ASKING)])?;
-    assert_eq!(rt; served(&stage, Some(1)), Ok(()));
+    expect_served(&rt, &stage, Some(1), Ok(()));
     let wanted = [
         Deed::Bound(SocketAddr::new(IpAddr::V4(Ipv4Addr::LOCALHOST), 8_532)),
         Deed::Taken(0),
@@ -125,11 +146,11 @@ fn a_silent_connection_is_closed_after_two_seconds_and_not_counted(
     rt: HostRuntime,
 ) -> Result<(), Fail> {
     let stage = Stage::new(rt.alloc(), &[Coming::Line(SILENT), Coming::Line(ASKING)])?;
-    assert_eq!(rt; served(&stage, None), Err(ServeFault::Accept));
-    assert_eq!(rt; closed(&stage, 0), Some(2_000));
-    assert!(rt; stage.told(0).is_empty());
+    expect_served(&rt, &stage, None, Err(ServeFault::Accept));
+    expect_closed(&rt, &stage, 0, 2_000);
+    expect_nothing(&rt, &stage, 0);
     let counted = Stage::new(rt.alloc(), &[Coming::Line(SILENT), Coming::Line(ASKING)])?;
-    assert_eq!(rt; served(&counted, Some(1)), Ok(()));
+    expect_served(&rt, &counted, Some(1), Ok(()));
     // What was asked is answered at once, and so ends long before the silent one.
     assert!(rt; closed(&counted, 1).is_some_and(|at| at < 20));
     Ok(())
@@ -143,21 +164,16 @@ fn a_request_that_stops_is_told_so_after_two_seconds(rt: HostRuntime) -> Result<
         ..SILENT
     };
     let stage = Stage::new(rt.alloc(), &[Coming::Line(half)])?;
-    assert_eq!(rt; served(&stage, Some(1)), Ok(()));
-    assert!(rt;
-        stage
-            .told(0)
-            .as_slice()
-            .starts_with(b"HTTP/1.1 408 Request Timeout\r\n")
-    );
-    assert!(rt;
-        stage
-            .told(0)
-            .as_slice()
-            .ends_with(b"\r\n\r\na request has 2 seconds to come in, whole\n")
+    expect_served(&rt, &stage, Some(1), Ok(()));
+    expect_begin(&rt, &stage, 0, b"HTTP/1.1 408 Request Timeout\r\n");
+    expect_end(
+        &rt,
+        &stage,
+        0,
+        b"\r\n\r\na request has 2 seconds to come in, whole\n",
     );
     // Who is told and does not close has half a second.
-    assert_eq!(rt; closed(&stage, 0), Some(2_500));
+    expect_closed(&rt, &stage, 0, 2_500);
     Ok(())
 }
 
@@ -173,25 +189,15 @@ fn what_is_no_request_is_told_so(rt: HostRuntime) -> Result<(), Fail> {
         ..ASKING
     };
     let stage = Stage::new(rt.alloc(), &[Coming::Line(noise), Coming::Line(long)])?;
-    assert_eq!(rt; served(&stage, Some(2)), Ok(()));
-    assert!(rt;
-        stage
-            .told(0)
-            .as_slice()
-            .starts_with(b"HTTP/1.1 400 Bad Request\r\n")
+    expect_served(&rt, &stage, Some(2), Ok(()));
+    expect_begin(&rt, &stage, 0, b"HTTP/1.1 400 Bad Request\r\n");
+    expect_end(
+        &rt,
+        &stage,
+        0,
+        b"\r\n\r\nthis is no request that can be read\n",
     );
-    assert!(rt;
-        stage
-            .told(0)
-            .as_slice()
-            .ends_with(b"\r\n\r\nthis is no request that can be read\n")
-    );
-    assert!(rt;
-        stage
-            .told(1)
-            .as_slice()
-            .starts_with(b"HTTP/1.1 413 Payload Too Large\r\n")
-    );
+    expect_begin(&rt, &stage, 1, b"HTTP/1.1 413 Payload Too Large\r\n");
     Ok(())
 }
 
@@ -199,8 +205,8 @@ fn what_is_no_request_is_told_so(rt: HostRuntime) -> Result<(), Fail> {
 fn an_answer_has_thirty_seconds(rt: HostRuntime) -> Result<(), Fail> {
     let deaf = Line { takes: 0, ..ASKING };
     let stage = Stage::new(rt.alloc(), &[Coming::Line(deaf)])?;
-    assert_eq!(rt; served(&stage, Some(1)), Ok(()));
-    assert_eq!(rt; closed(&stage, 0), Some(30_000));
+    expect_served(&rt, &stage, Some(1), Ok(()));
+    expect_closed(&rt, &stage, 0, 30_000);
     Ok(())
 }
 
@@ -211,9 +217,9 @@ fn who_does_not_close_has_half_a_second(rt: HostRuntime) -> Result<(), Fail> {
         ..ASKING
     };
     let stage = Stage::new(rt.alloc(), &[Coming::Line(lingering)])?;
-    assert_eq!(rt; served(&stage, Some(1)), Ok(()));
-    assert!(rt; stage.told(0).as_slice().ends_with(b"response entries 0\n"));
-    assert_eq!(rt; closed(&stage, 0), Some(500));
+    expect_served(&rt, &stage, Some(1), Ok(()));
+    expect_end(&rt, &stage, 0, b"response entries 0\n");
+    expect_closed(&rt, &stage, 0, 500);
     Ok(())
 }
 
@@ -235,10 +241,12 @@ fn what_goes_wrong_on_a_connection_ends_that_one_alone(rt: HostRuntime) -> Resul
             Coming::Line(ASKING),
         ],
     )?;
-    assert_eq!(rt; served(&stage, Some(1)), Ok(()));
-    assert!(rt; closed(&stage, 0) == Some(0) && closed(&stage, 1) == Some(0));
-    assert!(rt; stage.told(0).is_empty() && stage.told(1).is_empty());
-    assert!(rt; stage.told(2).as_slice().ends_with(b"response entries 0\n"));
+    expect_served(&rt, &stage, Some(1), Ok(()));
+    expect_closed(&rt, &stage, 0, 0);
+    expect_closed(&rt, &stage, 1, 0);
+    expect_nothing(&rt, &stage, 0);
+    expect_nothing(&rt, &stage, 1);
+    expect_end(&rt, &stage, 2, b"response entries 0\n");
     Ok(())
 }
 
@@ -254,7 +262,7 @@ fn a_read_that_was_interrupted_is_made_again(rt: HostRuntime) -> Result<(), Fail
             ..SILENT
         };
         let stage = Stage::new(rt.alloc(), &[Coming::Line(again), Coming::Line(ASKING)])?;
-        assert_eq!(rt; served(&stage, Some(1)), Ok(()));
+        expect_served(&rt, &stage, Some(1), Ok(()));
         assert!(rt; stage.asked().iter().filter(|number| **number == 0).count() > 1);
     }
     Ok(())
@@ -264,8 +272,9 @@ fn a_read_that_was_interrupted_is_made_again(rt: HostRuntime) -> Result<(), Fail
 fn who_cannot_be_timed_is_not_heard(rt: HostRuntime) -> Result<(), Fail> {
     let stage = Stage::new(rt.alloc(), &[Coming::Line(SILENT), Coming::Line(SILENT)])?;
     stage.readings.set(1);
-    assert_eq!(rt; served(&stage, None), Err(ServeFault::Accept));
-    assert!(rt; closed(&stage, 0) == Some(2) && closed(&stage, 1) == Some(2));
+    expect_served(&rt, &stage, None, Err(ServeFault::Accept));
+    expect_closed(&rt, &stage, 0, 2);
+    expect_closed(&rt, &stage, 1, 2);
     assert!(rt; stage.asked().as_slice() == [0].as_slice());
     Ok(())
 }
@@ -281,8 +290,8 @@ fn a_connection_that_was_lost_before_it_was_taken_is_passed_over(
         ErrorKind::Interrupted,
     ] {
         let stage = Stage::new(rt.alloc(), &[Coming::Fails(kind), Coming::Line(ASKING)])?;
-        assert_eq!(rt; served(&stage, Some(1)), Ok(()));
-        assert!(rt; stage.told(0).as_slice().ends_with(b"response entries 0\n"));
+        expect_served(&rt, &stage, Some(1), Ok(()));
+        expect_end(&rt, &stage, 0, b"response entries 0\n");
     }
     Ok(())
 }
@@ -296,8 +305,8 @@ fn a_socket_that_gives_no_more_connections_ends_the_server(rt: HostRuntime) -> R
         (ErrorKind::OutOfMemory, ServeFault::OutOfMemory),
     ] {
         let stage = Stage::new(rt.alloc(), &[Coming::Fails(kind), Coming::Line(ASKING)])?;
-        assert_eq!(rt; served(&stage, Some(1)), Err(fault));
-        assert!(rt; stage.told(0).is_empty());
+        expect_served(&rt, &stage, Some(1), Err(fault));
+        expect_nothing(&rt, &stage, 0);
     }
     Ok(())
 }
@@ -305,7 +314,7 @@ fn a_socket_that_gives_no_more_connections_ends_the_server(rt: HostRuntime) -> R
 #[test]
 fn sixty_four_connections_are_served_in_turn(rt: HostRuntime) -> Result<(), Fail> {
     let stage = Stage::new(rt.alloc(), &[Coming::Line(SILENT); 66])?;
-    assert_eq!(rt; served(&stage, None), Err(ServeFault::Accept));
+    expect_served(&rt, &stage, None, Err(ServeFault::Accept));
     let mut taken = 0_usize;
     let mut before = None;
     for deed in stage.deeds() {
@@ -322,7 +331,7 @@ fn sixty_four_connections_are_served_in_turn(rt: HostRuntime) -> Result<(), Fail
 #[test]
 fn two_connections_take_turns(rt: HostRuntime) -> Result<(), Fail> {
     let stage = Stage::new(rt.alloc(), &[Coming::Line(SILENT); 2])?;
-    assert_eq!(rt; served(&stage, None), Err(ServeFault::Accept));
+    expect_served(&rt, &stage, None, Err(ServeFault::Accept));
     let asked = stage.asked();
     assert!(rt; asked.len() > 900);
     let mut before = None;

@@ -1,205 +1,125 @@
-//! Texts that are read and refused, and what is written, by examples.
+//! Texts that are read and refused, and what is written.
+//!
+//! | Command | Writes |
+//! |---|---|
+//! | `address "TEXT"`, `prefix "TEXT"` | the one form of the text's address or prefix, which is read back, or why the text is refused |
+//! | `kinds ADDR` | the kinds of an address, and whether a prefix of it can be routed |
+//! | `octets ADDR` | its octets in the order of the wire, and its bits: either makes the address again |
+//! | `new ADDR LEN` | the length of that prefix, or why it is refused |
+//! | `hold PREFIX ADDR` | whether the prefix holds the address |
+//! | `refusals` | the numbers and names of refusals |
 
 use prefix6::{Addr6, Prefix, PrefixError, parse_addr, parse_prefix};
+use std::alloc::Global;
 use std::test::Fail;
+use test_transcripts::{Obey, Player, follow};
 
-#[test]
-fn addresses_are_written_in_one_form(rt: HostRuntime) -> Result<(), Fail> {
-    // Texts of addresses, each beside the text that is written of it.
-    for (text, written) in [
-        ("2001:DB8:0:0:1:0:0:1", "2001:db8::1:0:0:1"),
-        ("1:2:3:4:5:6:7::", "1:2:3:4:5:6:7:0"),
-        ("::2:3:4:5:6:7:8", "0:2:3:4:5:6:7:8"),
-        ("2001:db8:0:1:1:1:1:1", "2001:db8:0:1:1:1:1:1"),
-        ("::ffff:102:304", "::ffff:102:304"),
-        ("0:0:0:0:0:FFFF:0102:0304", "::ffff:102:304"),
-        ("::", "::"),
-        ("0:0:0:0:0:0:0:0", "::"),
-        ("::1", "::1"),
-        ("1::", "1::"),
-        ("fe80::0001", "fe80::1"),
-        ("2001:0:0:1:0:0:0:1", "2001:0:0:1::1"),
-        ("1:0:0:2:3:0:0:4", "1::2:3:0:0:4"),
-        (
-            "2001:0DB8:85A3:08D3:1319:8A2E:0370:7344",
-            "2001:db8:85a3:8d3:1319:8a2e:370:7344",
-        ),
-        (
-            "AbCd:eF01:2345:6789:abcd:EF01:2345:6789",
-            "abcd:ef01:2345:6789:abcd:ef01:2345:6789",
-        ),
-    ] {
-        let addr = parse_addr(text)?;
-        let shown = format!(in rt.alloc(); "{addr}")?;
-        assert!(rt; shown.as_str() == written, "{text} is written {shown}");
-        let read: Addr6 = written.parse()?;
-        assert!(rt; read == addr);
+#[derive(Drop)]
+pub struct Addresses;
+
+impl Player for Addresses {
+    fn played(alloc: Global, transcript: &str) -> Result<String, Fail> {
+        follow(Addresses, alloc, transcript)
+    }
+}
+
+/// The text between its quotes.
+fn quoted(text: &str) -> Result<&str, Fail> {
+    let begun = text.strip_prefix('"').ok_or("a quote")?;
+    Ok(begun.strip_suffix('"').ok_or("a quote")?)
+}
+
+fn write_address(out: &mut String, alloc: Global, text: &str) -> Result<(), Fail> {
+    match parse_addr(text) {
+        Ok(addr) => {
+            let written = format!(in alloc; "{addr}")?;
+            let read: Addr6 = written.as_str().parse()?;
+            let back = if read == addr {
+                ""
+            } else {
+                " is read as another"
+            };
+            Ok(writeln!(out, "{written}{back}")?)
+        }
+        Err(why) => Ok(writeln!(out, "refused {why:?}")?),
+    }
+}
+
+fn write_prefix(out: &mut String, alloc: Global, text: &str) -> Result<(), Fail> {
+    match parse_prefix(text) {
+        Ok(prefix) => {
+            let written = format!(in alloc; "{prefix}")?;
+            let read: Prefix = written.as_str().parse()?;
+            let back = if read == prefix {
+                ""
+            } else {
+                " is read as another"
+            };
+            Ok(writeln!(out, "{written}{back}")?)
+        }
+        Err(why) => Ok(writeln!(out, "refused {why:?}")?),
+    }
+}
+
+fn write_kinds(out: &mut String, text: &str) -> Result<(), Fail> {
+    let addr = parse_addr(text)?;
+    let is_routable = Prefix::new(addr, 64)?.is_routable();
+    Ok(writeln!(
+        out,
+        "link-local {} multicast {} unspecified {} routable {is_routable}",
+        addr.is_link_local(),
+        addr.is_multicast(),
+        addr.is_unspecified()
+    )?)
+}
+
+fn write_octets(out: &mut String, alloc: Global, text: &str) -> Result<(), Fail> {
+    let addr = parse_addr(text)?;
+    let (octets, bits) = (addr.octets(), addr.bits());
+    let again = Addr6::from_octets(octets) == addr && Addr6::from_bits(bits) == addr;
+    let octets = hex::encode(alloc, octets.as_slice())?;
+    Ok(writeln!(out, "octets {octets} bits {bits:x} again {again}")?)
+}
+
+fn write_length(out: &mut String, addr: &str, len: &str) -> Result<(), Fail> {
+    match Prefix::new(parse_addr(addr)?, len.parse::<u8>()?) {
+        Ok(prefix) => Ok(writeln!(out, "length {}", prefix.len())?),
+        Err(why) => Ok(writeln!(out, "refused {why:?}")?),
+    }
+}
+
+fn write_held(out: &mut String, prefix: &str, addr: &str) -> Result<(), Fail> {
+    let is_held = parse_prefix(prefix)?.contains(parse_addr(addr)?);
+    Ok(writeln!(out, "{is_held}")?)
+}
+
+fn write_refusals(out: &mut String, refusals: &[PrefixError]) -> Result<(), Fail> {
+    for refusal in refusals {
+        writeln!(out, "{refusal:?} {} {}", refusal.number(), refusal.name())?;
     }
     Ok(())
 }
 
-#[test]
-fn other_texts_are_no_addresses(rt: HostRuntime) {
-    for text in [
-        "::ffff:1.2.3.4",
-        "1::1.2.3.4",
-        "1.2.3.4",
-        "1:2:3:4:5:6:1.2.3.4",
-        "1::2::3",
-        "::1::",
-        "1:2:3:4::5:6:7:8",
-        "",
-        ":",
-        ":::",
-        "1:",
-        ":1",
-        "1:2:3:4:5:6:7",
-        "1:2:3:4:5:6:7:",
-        ":2:3:4:5:6:7:8",
-        "1:2:3:4:5:6:7:8:9",
-        "1:2:3:4:5:6:7:8::",
-        "12345::",
-        "::00001",
-        "g::",
-        "::-1",
-        "::+1",
-        " ::1",
-        "::1 ",
-        "fe80::1%1",
-        "[::1]",
-        "::/0",
-    ] {
-        assert_eq!(rt;
-            parse_addr(text),
-            Err(PrefixError::BadAddressText),
-            "at {text}"
-        );
-    }
-}
-
-#[test]
-fn prefixes_are_cleared_and_written(rt: HostRuntime) -> Result<(), Fail> {
-    // Texts of prefixes, each beside the text that is written of it.
-    for (text, written) in [
-        ("2001:db8::ffff/32", "2001:db8::/32"),
-        ("2001:DB8:FFFF::/33", "2001:db8:8000::/33"),
-        ("::/0", "::/0"),
-        ("ffff::/0", "::/0"),
-        ("::/128", "::/128"),
-        ("::ffff:102:304/128", "::ffff:102:304/128"),
-        ("::1/127", "::/127"),
-        ("fe80::1/10", "fe80::/10"),
-    ] {
-        let prefix = parse_prefix(text)?;
-        let shown = format!(in rt.alloc(); "{prefix}")?;
-        assert!(rt; shown.as_str() == written, "{text} is written {shown}");
-        let read: Prefix = written.parse()?;
-        assert!(rt; read == prefix);
-    }
-    Ok(())
-}
-
-#[test]
-fn other_texts_are_no_prefixes(rt: HostRuntime) {
-    for text in [
-        "::/129", "::/032", "::/00", "::", "::/", "::/1/2", "::/+1", "::/-1", "::/0128", "::/1000",
-        "::/256", "::/ 1", "::/1 ", "::/a", "::/1.0", "::/1/",
-    ] {
-        assert_eq!(rt;
-            parse_prefix(text),
-            Err(PrefixError::BadLengthText),
-            "at {text}"
-        );
-    }
-    for text in [
-        "::ffff:1.2.3.4/32",
-        "1::2::3/32",
-        "/32",
-        "",
-        "/",
-        ":/200",
-        "1.2.3.4",
-    ] {
-        assert_eq!(rt;
-            parse_prefix(text),
-            Err(PrefixError::BadAddressText),
-            "at {text}"
-        );
-    }
-}
-
-#[test]
-fn addresses_and_prefixes_have_their_kinds(rt: HostRuntime) -> Result<(), Fail> {
-    // Whether the address is link-local, and whether it is multicast.
-    for (text, link_local, multicast) in [
-        ("fe80::1", true, false),
-        ("febf:ffff::", true, false),
-        ("fec0::", false, false),
-        ("fe7f::", false, false),
-        ("ff00::", false, true),
-        ("ff02::9", false, true),
-        ("feff::", false, false),
-        ("2001:db8::1", false, false),
-        ("::", false, false),
-    ] {
-        let addr = parse_addr(text)?;
-        assert_eq!(rt; addr.is_link_local(), link_local, "at {text}");
-        assert_eq!(rt; addr.is_multicast(), multicast, "at {text}");
-        assert_eq!(rt; addr.is_unspecified(), addr.bits() == 0, "at {text}");
-        assert_eq!(rt;
-            Prefix::new(addr, 64)?.is_routable(),
-            !link_local && !multicast,
-            "at {text}"
-        );
-    }
-    Ok(())
-}
-
-#[test]
-fn octets_stand_in_the_order_of_the_wire(rt: HostRuntime) -> Result<(), Fail> {
-    let octets = [0xfe, 0x80, 0, 0, 0, 0, 0, 0, 0, 0, 0, 0, 0, 0, 0, 1];
-    let addr = Addr6::from_octets(octets);
-    assert_eq!(rt; addr, parse_addr("fe80::1")?);
-    assert_eq!(rt;
-        addr,
-        Addr6::from_bits(0xfe80_0000_0000_0000_0000_0000_0000_0001)
-    );
-    assert_eq!(rt; addr.octets(), octets);
-    Ok(())
-}
-
-#[test]
-fn prefixes_hold_the_addresses_that_begin_with_their_bits(rt: HostRuntime) -> Result<(), Fail> {
-    for (prefix, addr, held) in [
-        ("2001:db8::/32", "2001:db8:ffff::1", true),
-        ("2001:db8::/32", "2001:db9::", false),
-        ("::/0", "ffff::", true),
-        ("2001:db8:8000::/33", "2001:db8:7fff::", false),
-        ("2001:db8::1/128", "2001:db8::1", true),
-        ("2001:db8::1/128", "2001:db8::", false),
-    ] {
-        assert_eq!(rt;
-            parse_prefix(prefix)?.contains(parse_addr(addr)?),
-            held,
-            "at {prefix} and {addr}"
-        );
-    }
-    assert_eq!(rt;
-        Prefix::new(parse_addr("::1")?, 129),
-        Err(PrefixError::LengthTooLarge)
-    );
-    assert_eq!(rt; Prefix::new(parse_addr("::1")?, 128)?.len(), 128);
-    Ok(())
-}
-
-#[test]
-fn refusals_have_numbers_and_names(rt: HostRuntime) {
-    for (refusal, number, name) in [
-        (PrefixError::LengthTooLarge, 1, "LengthTooLarge"),
-        (PrefixError::BadAddressText, 2, "BadAddressText"),
-        (PrefixError::BadLengthText, 3, "BadLengthText"),
-    ] {
-        assert_eq!(rt; refusal.number(), number);
-        assert_eq!(rt; refusal.name(), name);
+impl Obey for Addresses {
+    fn obey(&mut self, alloc: Global, out: &mut String, command: &str) -> Result<(), Fail> {
+        let (word, rest) = command.split_once(' ').unwrap_or((command, ""));
+        let (first, second) = rest.split_once(' ').unwrap_or((rest, ""));
+        match word {
+            "address" => write_address(out, alloc, quoted(rest)?),
+            "prefix" => write_prefix(out, alloc, quoted(rest)?),
+            "kinds" => write_kinds(out, rest),
+            "octets" => write_octets(out, alloc, rest),
+            "new" => write_length(out, first, second),
+            "hold" => write_held(out, first, second),
+            "refusals" => write_refusals(
+                out,
+                &[
+                    PrefixError::LengthTooLarge,
+                    PrefixError::BadAddressText,
+                    PrefixError::BadLengthText,
+                ],
+            ),
+            _ => Err(Fail::from("no such command")),
+        }
     }
 }

@@ -1,184 +1,113 @@
+//! A forwarding table that is changed and asked.
+//!
+//! | Command | Does |
+//! |---|---|
+//! | `apply CHANGE, CHANGE ..` | applies changes by one call: `install PREFIX HOP METRIC`, where HOP is `direct`, or the address of a neighbor on interface 0, or `withdraw PREFIX` |
+//! | `lookup ADDR` | writes by which hop the address is forwarded |
+//! | `entries` | writes all entries, in order, and how many there are |
+
 use fib::{Fib, Hop, RouteChange};
-use prefix6::{Addr6, Prefix};
-use std::process::Abort;
+use prefix6::{parse_addr, parse_prefix};
+use std::alloc::Global;
 use std::test::Fail;
+use test_transcripts::{Obey, Player, follow, words_of};
 
-/// The neighbor fe80::2 on interface 0.
-fn neighbor() -> Hop {
-    Hop::Via {
-        iface: 0,
-        next_hop: Addr6::from_bits((0xfe80 << 112) + 2),
+#[derive(Drop)]
+pub struct Forwarding {
+    fib: Fib,
+}
+
+impl Player for Forwarding {
+    fn played(alloc: Global, transcript: &str) -> Result<String, Fail> {
+        let fib = Fib::new(alloc);
+        follow(Forwarding { fib }, alloc, transcript)
     }
 }
 
-/// An address of two groups at the front and two at the back: A:B:C::D.
-fn address(first: u32, third: u16, last: u16) -> Addr6 {
-    Addr6::from_bits((u128::from(first) << 96) + (u128::from(third) << 80) + u128::from(last))
+fn hop_of(word: &str) -> Result<Hop, Fail> {
+    if word == "direct" {
+        return Ok(Hop::Direct);
+    }
+    let next_hop = parse_addr(word)?;
+    Ok(Hop::Via { iface: 0, next_hop })
 }
 
-/// The first address A:B:C:: of a prefix, with its length.
-fn prefix(rt: &impl Abort, first: u32, third: u16, len: u8) -> Prefix {
-    Prefix::new(address(first, third, 0), len).expect(rt, "a length of at most 128")
-}
-
-/// 2001:db8::/32, direct at metric 1, and 2001:db8:5::/48 by the neighbor at metric 2.
-fn two_routes(rt: &impl Abort) -> [RouteChange; 2] {
-    [
-        RouteChange::Install {
-            prefix: prefix(rt, 0x2001_0db8, 5, 48),
-            hop: neighbor(),
-            metric: 2,
+/// Adds an install by a hop at a metric, or where there is none a withdrawal.
+fn push(changes: &mut Vec<RouteChange>, prefix: &str, by: Option<(Hop, u8)>) -> Result<(), Fail> {
+    let prefix = parse_prefix(prefix)?;
+    let change = match by {
+        Some((hop, metric)) => RouteChange::Install {
+            prefix,
+            hop,
+            metric,
         },
-        RouteChange::Install {
-            prefix: prefix(rt, 0x2001_0db8, 0, 32),
-            hop: Hop::Direct,
-            metric: 1,
-        },
-    ]
-}
-
-#[test]
-fn longest_prefix_wins(rt: HostRuntime) -> Result<(), Fail> {
-    let mut fib = Fib::new(rt.alloc());
-    assert!(rt; fib.is_empty());
-    fib.apply(&two_routes(&rt))?;
-    assert_eq!(rt; fib.len(), 2);
-    assert_eq!(rt; fib.lookup(address(0x2001_0db8, 5, 1)), Some(neighbor()));
-    assert_eq!(rt; fib.lookup(address(0x2001_0db8, 6, 1)), Some(Hop::Direct));
-    assert_eq!(rt; fib.lookup(address(0x2001_0db9, 0, 1)), None);
-
-    let longer = prefix(&rt, 0x2001_0db8, 5, 48);
-    let twice = [
-        RouteChange::Withdraw { prefix: longer },
-        RouteChange::Withdraw { prefix: longer },
-    ];
-    fib.apply(&twice)?;
-    assert_eq!(rt; fib.lookup(address(0x2001_0db8, 5, 1)), Some(Hop::Direct));
-    assert_eq!(rt; fib.len(), 1);
-    Ok(())
-}
-
-#[test]
-fn entries_in_order(rt: HostRuntime) -> Result<(), Fail> {
-    let mut fib = Fib::new(rt.alloc());
-    fib.apply(&two_routes(&rt))?;
-    let shorter = prefix(&rt, 0x2001_0db8, 0, 32);
-    let longer = prefix(&rt, 0x2001_0db8, 5, 48);
-    let both = [(shorter, Hop::Direct, 1), (longer, neighbor(), 2)];
-    assert_eq!(rt; fib.entries(), both.as_slice());
-
-    fib.apply(&[])?;
-    assert_eq!(rt; fib.entries(), both.as_slice());
-
-    // An install over an install, and the last word of one call.
-    let again = [
-        RouteChange::Install {
-            prefix: longer,
-            hop: Hop::Direct,
-            metric: 7,
-        },
-        RouteChange::Withdraw { prefix: longer },
-        RouteChange::Install {
-            prefix: longer,
-            hop: neighbor(),
-            metric: 3,
-        },
-    ];
-    fib.apply(&again)?;
-    let after = [(shorter, Hop::Direct, 1), (longer, neighbor(), 3)];
-    assert_eq!(rt; fib.entries(), after.as_slice());
-    Ok(())
-}
-
-#[test]
-fn default_route_holds_all(rt: HostRuntime) -> Result<(), Fail> {
-    let mut fib = Fib::new(rt.alloc());
-    assert_eq!(rt; fib.lookup(address(0, 0, 0)), None);
-    fib.apply(&two_routes(&rt))?;
-    let default_route = RouteChange::Install {
-        prefix: prefix(&rt, 0, 0, 0),
-        hop: neighbor(),
-        metric: 15,
+        None => RouteChange::Withdraw { prefix },
     };
-    let host = RouteChange::Install {
-        prefix: Prefix::new(address(0x2001_0db8, 5, 1), 128)?,
-        hop: Hop::Direct,
-        metric: 1,
-    };
-    fib.apply(&[default_route, host])?;
-    assert_eq!(rt; fib.lookup(address(0x2001_0db9, 0, 1)), Some(neighbor()));
-    assert_eq!(rt; fib.lookup(address(0, 0, 0)), Some(neighbor()));
-    assert_eq!(rt; fib.lookup(address(0x2001_0db8, 5, 1)), Some(Hop::Direct));
-    assert_eq!(rt; fib.lookup(address(0x2001_0db8, 5, 2)), Some(neighbor()));
-    assert_eq!(rt; fib.lookup(address(0x2001_0db8, 6, 1)), Some(Hop::Direct));
-    Ok(())
+    Ok(changes.push(change)?)
 }
 
-/// The install of a route to a prefix of the router's own.
-fn direct(prefix: Prefix, metric: u8) -> RouteChange {
-    RouteChange::Install {
-        prefix,
-        hop: Hop::Direct,
-        metric,
+/// A hop at a metric.
+fn by(hop: &str, metric: &str) -> Result<Option<(Hop, u8)>, Fail> {
+    Ok(Some((hop_of(hop)?, metric.parse::<u8>()?)))
+}
+
+fn push_change(changes: &mut Vec<RouteChange>, alloc: Global, text: &str) -> Result<(), Fail> {
+    let words = words_of(alloc, text)?;
+    match words.as_slice() {
+        ["install", prefix, hop, metric] => push(changes, *prefix, by(*hop, *metric)?),
+        ["withdraw", prefix] => push(changes, *prefix, None),
+        _ => Err(Fail::from("no such change")),
     }
 }
 
-#[test]
-fn merges_out_of_order(rt: HostRuntime) -> Result<(), Fail> {
-    let shorter = prefix(&rt, 0x2001_0db8, 0, 32);
-    let longer = prefix(&rt, 0x2001_0db8, 5, 48);
-    let last = prefix(&rt, 0x2001_0dba, 0, 32);
-    let absent = prefix(&rt, 0x2001_0db9, 0, 32);
-    let changes = [
-        direct(last, 3),
-        direct(longer, 2),
-        RouteChange::Withdraw { prefix: longer },
-        direct(shorter, 1),
-        RouteChange::Withdraw { prefix: absent },
-    ];
-    let mut fib = Fib::new(rt.alloc());
-    fib.apply(&changes)?;
-    let entries = [(shorter, Hop::Direct, 1), (last, Hop::Direct, 3)];
-    assert_eq!(rt; fib.entries(), entries.as_slice());
+fn push_changes(changes: &mut Vec<RouteChange>, alloc: Global, text: &str) -> Result<(), Fail> {
+    for part in text.split(", ") {
+        push_change(changes, alloc, part)?;
+    }
     Ok(())
 }
 
-#[test]
-fn merges_in_order(rt: HostRuntime) -> Result<(), Fail> {
-    let mut fib = Fib::new(rt.alloc());
-    fib.apply(&two_routes(&rt))?;
-    let shorter = prefix(&rt, 0x2001_0db8, 0, 32);
-    let longer = prefix(&rt, 0x2001_0db8, 5, 48);
-    let last = prefix(&rt, 0x2001_0dba, 0, 32);
-    let changes = [
-        RouteChange::Withdraw { prefix: shorter },
-        direct(longer, 4),
-        direct(last, 3),
-    ];
-    fib.apply(&changes)?;
-    let entries = [(longer, Hop::Direct, 4), (last, Hop::Direct, 3)];
-    assert_eq!(rt; fib.entries(), entries.as_slice());
-    Ok(())
+/// Applies the changes of a text by one call.
+fn apply(fib: &mut Fib, alloc: Global, text: &str) -> Result<(), Fail> {
+    let mut changes = Vec::new(alloc);
+    if !text.is_empty() {
+        push_changes(&mut changes, alloc, text)?;
+    }
+    Ok(fib.apply(changes.as_slice())?)
 }
 
-#[test]
-fn appends_at_the_end(rt: HostRuntime) -> Result<(), Fail> {
-    let shorter = prefix(&rt, 0x2001_0db8, 0, 32);
-    let longer = prefix(&rt, 0x2001_0db8, 5, 48);
-    let last = prefix(&rt, 0x2001_0dba, 0, 32);
-    let mut fib = Fib::new(rt.alloc());
-    fib.apply(&[direct(shorter, 1), direct(longer, 2)])?;
-    let changes = [
-        RouteChange::Withdraw { prefix: longer },
-        direct(longer, 4),
-        direct(last, 3),
-    ];
-    fib.apply(&changes)?;
-    let entries = [
-        (shorter, Hop::Direct, 1),
-        (longer, Hop::Direct, 4),
-        (last, Hop::Direct, 3),
-    ];
-    assert_eq!(rt; fib.entries(), entries.as_slice());
-    Ok(())
+fn write_hop(out: &mut String, hop: Hop) -> Result<(), Fail> {
+    match hop {
+        Hop::Direct => Ok(write!(out, "direct")?),
+        Hop::Via { iface, next_hop } => Ok(write!(out, "{next_hop} iface {iface}")?),
+    }
+}
+
+fn look_up(out: &mut String, fib: &Fib, word: &str) -> Result<(), Fail> {
+    match fib.lookup(parse_addr(word)?) {
+        Some(hop) => write_hop(out, hop)?,
+        None => write!(out, "no hop")?,
+    }
+    Ok(writeln!(out)?)
+}
+
+fn write_entries(out: &mut String, fib: &Fib) -> Result<(), Fail> {
+    for (prefix, hop, metric) in fib.entries() {
+        write!(out, "{prefix} metric {metric} by ")?;
+        write_hop(out, *hop)?;
+        writeln!(out)?;
+    }
+    Ok(writeln!(out, "{} entries, empty {}", fib.len(), fib.is_empty())?)
+}
+
+impl Obey for Forwarding {
+    fn obey(&mut self, alloc: Global, out: &mut String, command: &str) -> Result<(), Fail> {
+        let (word, rest) = command.split_once(' ').unwrap_or((command, ""));
+        match word {
+            "apply" => apply(&mut self.fib, alloc, rest),
+            "lookup" => look_up(out, &self.fib, rest),
+            "entries" => write_entries(out, &self.fib),
+            _ => Err(Fail::from("no such command")),
+        }
+    }
 }

@@ -12,10 +12,11 @@
 //! | `cost IFACE NOW COST`, `gain NOW PREFIX TAG`, `drop NOW PREFIX` | the router's configuration is changed; where that is refused, the refusal is written |
 //! | `count COMMAND` | does the command, and writes numbers in place of a long answer |
 //! | `tally COMMAND` | does the command, and writes how many datagrams each interface sends, and the size of the last |
+//! | `check INTERFACES PREFIXES` | writes whether a configuration of so many interfaces and owned sites is accepted, or why it is not |
 //! | `show`, `route PREFIX`, `size`, `timers`, `due`, `wakes` | writes all that the router holds, one route, how many there are, its moments, when a route is due next and which, when a tick next has something to do |
 
 use crate::reading::{
-    arrival, config, datagram, from_neighbor, moment, response_of_sites, told_sites, words_of,
+    arrival, config, from_neighbor, moment, refusal_of, response_of_sites, told_sites,
 };
 use crate::reasons::explain;
 use crate::writing::{
@@ -23,11 +24,11 @@ use crate::writing::{
 };
 use prefix6::parse_prefix;
 use ripng_wire::WireError;
-use route_table::{Moment, RouteStore, SortedRoutes, TrieRoutes};
+use route_table::{Moment, RouteStore};
 use router_core::{Answer, Arrival, Change, Fault, Router};
 use std::alloc::Global;
-use std::process::Abort;
 use std::test::Fail;
+use test_transcripts::{bytes_of, words_of};
 
 /// An arrival at an interface that there is. It must be answered by the fault that was foreseen.
 pub fn arrive<S: RouteStore>(router: &mut Router<S>, arrival: Arrival<'_>) -> Result<Answer, Fail> {
@@ -49,7 +50,7 @@ fn hear<S: RouteStore>(
     words: &[&str],
 ) -> Result<Answer, Fail> {
     let (how, bytes) = words.split_at(words.len().min(6));
-    let bytes = datagram(alloc, bytes)?;
+    let bytes = bytes_of(alloc, bytes)?;
     arrive(router, arrival(how, bytes.as_slice())?)
 }
 
@@ -176,6 +177,14 @@ fn reconfigure<S: RouteStore>(
     }
 }
 
+/// Whether a configuration of so many interfaces and owned sites is accepted.
+fn check(out: &mut String, alloc: Global, interfaces: &str, prefixes: &str) -> Result<(), Fail> {
+    match refusal_of(alloc, interfaces.parse::<u32>()?, prefixes.parse::<u32>()?)? {
+        None => Ok(writeln!(out, "accepted")?),
+        Some(why) => Ok(writeln!(out, "refused {why:?}")?),
+    }
+}
+
 fn show_route<S: RouteStore>(out: &mut String, router: &Router<S>, word: &str) -> Result<(), Fail> {
     let prefix = parse_prefix(word)?;
     match router.routes().get(&prefix) {
@@ -201,6 +210,7 @@ fn obey<S: RouteStore>(
         ["fill", rest @ ..] => fill(out, alloc, router, rest),
         ["why", rest @ ..] => explain(out, alloc, router, rest),
         ["hear-beginnings", rest @ ..] => hear_beginnings(out, alloc, router, rest),
+        ["check", interfaces, prefixes] => check(out, alloc, *interfaces, *prefixes),
         ["cost" | "gain" | "drop", ..] => reconfigure(out, alloc, router, words),
         ["tally", rest @ ..] => Ok(write_tally(out, &answer_of(alloc, router, rest)?)?),
         ["count", rest @ ..] => Ok(write_sizes(out, alloc, &answer_of(alloc, router, rest)?)?),
@@ -224,8 +234,8 @@ fn begin<S: RouteStore>(out: &mut String, alloc: Global, line: &str) -> Result<R
     Ok(router)
 }
 
-/// The transcript as it turns out.
-fn played<S: RouteStore>(alloc: Global, transcript: &str) -> Result<String, Fail> {
+/// The transcript as it turns out over a store.
+pub fn played<S: RouteStore>(alloc: Global, transcript: &str) -> Result<String, Fail> {
     let mut out = String::new(alloc);
     let mut lines = transcript.lines();
     let mut router: Router<S> = begin(&mut out, alloc, lines.next().unwrap_or(""))?;
@@ -237,13 +247,4 @@ fn played<S: RouteStore>(alloc: Global, transcript: &str) -> Result<String, Fail
         }
     }
     Ok(out)
-}
-
-/// Plays a transcript to a router over either store. It must turn out as it is written.
-pub fn play(rt: &impl Abort, alloc: Global, transcript: &str) -> Result<(), Fail> {
-    let over_sorted = played::<SortedRoutes>(alloc, transcript)?;
-    assert_eq!(rt; over_sorted.as_str(), transcript);
-    let over_trie = played::<TrieRoutes>(alloc, transcript)?;
-    assert_eq!(rt; over_trie.as_str(), transcript);
-    Ok(())
 }

@@ -6,15 +6,6 @@ use router_core::{Arrival, ConfigRefused, Interface, RouterConfig};
 use std::alloc::Global;
 use std::test::Fail;
 
-/// The words of a line, one space apart.
-pub fn words_of<'a>(alloc: Global, line: &'a str) -> Result<Vec<&'a str>, Fail> {
-    let mut words = Vec::new(alloc);
-    for word in line.split(' ') {
-        words.push(word)?;
-    }
-    Ok(words)
-}
-
 /// A moment in milliseconds.
 pub fn moment(word: &str) -> Result<Moment, Fail> {
     Ok(Moment::new(word.parse::<u64>()?).ok_or("a moment")?)
@@ -26,14 +17,20 @@ fn site(number: u32) -> Result<Prefix, Fail> {
     Ok(Prefix::new(Addr6::from_bits(bits), 48)?)
 }
 
+/// An interface of cost 1.
+fn interface(addr: &str, mtu: u32) -> Result<Interface, Fail> {
+    Ok(Interface {
+        addr: parse_addr(addr)?,
+        cost: 1,
+        mtu,
+    })
+}
+
 /// The interfaces of the router of every scenario.
 fn interfaces(alloc: Global) -> Result<Vec<Interface>, Fail> {
-    let mut interfaces = Vec::new(alloc);
-    for (text, mtu) in [("fe80::1", 1280), ("fe80::1:1", 1500)] {
-        let addr = parse_addr(text)?;
-        interfaces.push(Interface { addr, cost: 1, mtu })?;
-    }
-    Ok(interfaces)
+    let first = interface("fe80::1", 1280)?;
+    let second = interface("fe80::1:1", 1500)?;
+    Ok(Vec::from_slice(alloc, &[first, second])?)
 }
 
 /// So many sites from 0 on, each with tag 0.
@@ -81,25 +78,6 @@ pub fn refusal_of(
         })?;
     }
     Ok(RouterConfig::check(listed, owned_sites(alloc, prefixes)?, false).err())
-}
-
-/// Adds bytes so many times.
-fn push_times(bytes: &mut Vec<u8>, count: usize, part: &[u8]) -> Result<(), Fail> {
-    for _ in 0..count {
-        bytes.extend_from_slice(part)?;
-    }
-    Ok(())
-}
-
-/// The bytes of a datagram: words of hexadecimal digits, `N*DIGITS` for digits that stand there N times.
-pub fn datagram(alloc: Global, words: &[&str]) -> Result<Vec<u8>, Fail> {
-    let mut bytes = Vec::new(alloc);
-    for word in words {
-        let (count, digits) = word.split_once('*').unwrap_or(("1", *word));
-        let part = hex::decode(alloc, digits)?;
-        push_times(&mut bytes, count.parse::<usize>()?, part.as_slice())?;
-    }
-    Ok(bytes)
 }
 
 /// A Response of so many sites from a number on, each with a metric and tag 0.

@@ -118,32 +118,35 @@ pub fn write_tally(out: &mut String, answer: &Answer) -> Result<(), AllocError> 
     write_sent_on(out, answer.sends.as_slice(), 1)
 }
 
-/// A route: metric, tag, where it comes from, its deadline, and whether it is marked as changed.
-pub fn write_route(out: &mut String, prefix: &Prefix, route: &Route) -> Result<(), AllocError> {
-    write!(
-        out,
-        "{prefix} metric {} tag {}",
-        route.metric(),
-        route.tag()
-    )?;
-    match route.origin() {
-        Origin::Own => write!(out, " own")?,
+/// Where a route comes from.
+fn write_origin(out: &mut String, origin: Origin) -> Result<(), AllocError> {
+    match origin {
+        Origin::Own => write!(out, " own"),
         Origin::Learned {
             iface,
             from,
             next_hop,
-        } => write!(out, " via {next_hop} iface {iface} from {from}")?,
+        } => write!(out, " via {next_hop} iface {iface} from {from}"),
     }
-    let clock = route.clock();
+}
+
+/// The deadline of a route, if it ages.
+fn write_clock(out: &mut String, clock: Clock) -> Result<(), AllocError> {
     match clock {
-        Clock::Fixed => {}
-        Clock::Live(until) => write!(out, " live until {}", until.ms())?,
-        Clock::Dying(until) => write!(out, " dying until {}", until.ms())?,
+        Clock::Fixed => Ok(()),
+        Clock::Live(until) => write!(out, " live until {}", until.ms()),
+        Clock::Dying(until) => write!(out, " dying until {}", until.ms()),
     }
-    if route.is_changed() {
-        write!(out, " changed")?;
-    }
-    writeln!(out)
+}
+
+/// A route: metric, tag, where it comes from, its deadline, and whether it is marked as changed.
+pub fn write_route(out: &mut String, prefix: &Prefix, route: &Route) -> Result<(), AllocError> {
+    let (metric, tag) = (route.metric(), route.tag());
+    write!(out, "{prefix} metric {metric} tag {tag}")?;
+    write_origin(out, route.origin())?;
+    write_clock(out, route.clock())?;
+    let mark = if route.is_changed() { " changed" } else { "" };
+    writeln!(out, "{mark}")
 }
 
 /// The moment of a router's last step, when its next regular update is due, and until when it holds triggered ones.

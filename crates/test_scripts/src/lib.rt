@@ -1,10 +1,7 @@
-//! Whole scripts of networks, with what `lab` prints of them (`printed`) and with their traces (`traced`): worked out by
-//! hand, or compared with a plain search of walks; and refused lines, with what is told of them (`hinted`).
+//! What `lab` prints of networks, compared with a plain search of walks (`printed`), and what is found in the traces of phases
+//! (`traced`). Whole scripts with what comes of them, word by word, stand in `test_printed`.
 #![tactic(auto)]
 
-#[cfg(test)]
-mod explained;
-mod hinted;
 #[cfg(test)]
 mod printed;
 #[cfg(test)]

@@ -1,19 +1,14 @@
-//! Whole scripts with what they print.
+//! What scripts print, against a plain search of walks.
 
 mod changing;
-mod expecting;
 mod last_change;
+mod long;
+mod lying;
 mod phases;
 mod random_rounds;
-mod reading;
 mod rounds;
-mod telling;
 mod walks;
 mod words;
-
-use ripngd_lab::lab;
-use std::io::Write;
-use std::test::Fail;
 
 /// Three routers in a line; the middle one hears of the prefix from the far side before its owner is heard again.
 pub const LINE: &str = "router
@@ -99,52 +94,3 @@ pub const SQUARE_PRINTS: &str = "0 2001:db8::/32 metric 1 tag 0 own
 2 2001:db8::/32 metric 3 tag 0 via fe80::b1 iface 0 from fe80::b1
 3 2001:db8::/32 metric 4 tag 0 via fe80::c1 iface 0 from fe80::c1
 ";
-
-/// Two routers; a cost becomes lower, a prefix is given up, and the other router gains it.
-pub const CHANGES: &str = "router
-iface fe80::a0 1 1280 0
-own 2001:db8::/32 9
-router
-iface fe80::b0 4 1280 0
-cold 0
-tick 0 0 0
-deliver 2 1 0 0
-cost 1 0 10 2
-print
-deliver 2 1 0 20
-print
-drop 0 30 2001:db8::/32
-tick 0 1000 0
-deliver 3 1 0 1000
-gain 1 1010 2001:db8::/32 5
-print
-cost 1 0 1011 16
-";
-
-/// A held route keeps its metric until it is offered again.
-pub const CHANGES_PRINT: &str = "0 2001:db8::/32 metric 1 tag 9 own
-1 2001:db8::/32 metric 5 tag 9 via fe80::a0 iface 0 from fe80::a0
-0 2001:db8::/32 metric 1 tag 9 own
-1 2001:db8::/32 metric 3 tag 9 via fe80::a0 iface 0 from fe80::a0
-0 2001:db8::/32 metric 16 tag 9 own
-1 2001:db8::/32 metric 1 tag 5 own
-line 18 refused 7 ReconfigureRefused 31 BadCost
-";
-
-#[test]
-fn a_network_is_changed_while_it_runs(rt: HostRuntime) -> Result<(), Fail> {
-    let mut out = Vec::new(rt.alloc());
-    assert!(rt; !lab(rt.alloc(), CHANGES.as_bytes(), &mut out)?);
-    assert!(rt; out.as_slice() == CHANGES_PRINT.as_bytes());
-    Ok(())
-}
-
-#[test]
-fn whole_scripts_print_their_routes(rt: HostRuntime) -> Result<(), Fail> {
-    for (script, prints) in [(LINE, LINE_PRINTS), (SQUARE, SQUARE_PRINTS)] {
-        let mut out = Vec::new(rt.alloc());
-        assert!(rt; lab(rt.alloc(), script.as_bytes(), &mut out)?);
-        assert!(rt; out.as_slice() == prints.as_bytes());
-    }
-    Ok(())
-}

@@ -81,13 +81,13 @@ impl<S: RouteStore> Lab<S> {
         ensures delivered { OnOk result (WatchedRun V.takes heard self.old.network (self.old.world, watch.old) (deliveries_since self.old.network first self.old.world.sent now) (self.new.world, watch.new)) }
         ensures stopped { IfErr result (λ why. HeardInPart V.takes V.fails why self.old.network (self.old.world, watch.old) (deliveries_since self.old.network first self.old.world.sent now) (self.new.world, watch.new)) }
     {
-        let interfaces = interfaces(self.alloc, &self.stations)?;
-        for datagram in first..self.sent.len() {
+        let interfaces = interfaces(self.running.alloc, &self.running.stations)?;
+        for datagram in first..self.running.sent.len() {
             let others = other_interfaces(
-                self.alloc,
-                &self.stations,
+                self.running.alloc,
+                &self.running.stations,
                 &interfaces,
-                &self.sent[datagram],
+                &self.running.sent[datagram],
             )?;
             self.deliver_to(datagram, &others, now, watch)?;
         }
@@ -107,7 +107,7 @@ impl<S: RouteStore> Lab<S> {
         ensures picked { IfOk result (λ flags. (k : ℕ) → k < length pairs.now → slice_index_or flags.items k false ≡ is_picked (length pairs.now) picks.now k) }
         ensures stopped { IfErr result (λ why. HeardInPart V.takes V.fails why self.old.network (self.old.world, watch.old) (picked_deliveries pairs.now picks.now) (self.new.world, watch.new)) }
     {
-        let mut picked = vec![in self.alloc; false; pairs.len()]?;
+        let mut picked = vec![in self.running.alloc; false; pairs.len()]?;
         if pairs.is_empty() {
             return Ok(picked);
         }
@@ -185,7 +185,7 @@ impl<S: RouteStore> Lab<S> {
     {
         let outcome = self.deliver_each(first, now, watch);
         // The lab is opened, so that what holds of it is known.
-        let _ = &self.stations;
+        let _ = &self.running;
         outcome
     }
 }

@@ -29,7 +29,7 @@ impl<S: RouteStore> Lab<S> {
         requires { router < length self.now.network }
         ensures { (state : State) × (slice_get self.now.world.states router ≡ Some state) × (IsTrue result ↔ (state.regular ≤ max state.last now)) }
     {
-        let router = self.stations[router].router();
+        let router = self.running.stations[router].router();
         let now = later(router.last(), now);
         router.regular().reached(now)
     }
@@ -78,7 +78,12 @@ impl<S: RouteStore> Lab<S> {
         if round.picks.is_empty() {
             return self.deliver_each(first, round.rest, watch);
         }
-        let pairs = pairs_since(self.alloc, &self.stations, &self.sent, first)?;
+        let pairs = pairs_since(
+            self.running.alloc,
+            &self.running.stations,
+            &self.running.sent,
+            first,
+        )?;
         let picked = self.deliver_picked(&pairs, round.picks, watch)?;
         self.deliver_others(&pairs, &picked, round.rest, watch)
     }
@@ -173,10 +178,10 @@ impl<S: RouteStore> Lab<S> {
         ensures fixed { HoldsFixed self.new.network self.new.world }
     {
         // The lab is opened, so that what holds of it is known before the first round.
-        let _ = &self.sent;
+        let _ = &self.running;
         let outcome = self.make_rounds(rounds, watch);
         // The lab is opened, so that what holds of it is known.
-        let _ = &self.stations;
+        let _ = &self.running;
         outcome
     }
 }

@@ -30,7 +30,8 @@ const REASONS = new Map(Object.entries({
   TooManyPrefixes: 'a router owns at most 1,024 prefixes', PrefixTwice: 'the prefix is owned twice',
   NoRegularUpdate: "the router's regular update is not due",
   NoUpdateInTime: "the router's regular update is not due before the phase is over",
-  PastLastMoment: 'the phase would begin past the last moment', Outage: 'a router is silent or a link is cut',}));
+  PastLastMoment: 'the phase would begin past the last moment', Outage: 'a router is silent or a link is cut',
+  NotALiar: 'the router sees through it: it is the datagram of any stranger', LiedTo: 'a router was lied to',}));
 const reasonOf = name => REASONS.has(name) ? `: ${REASONS.get(name)}` : '';
 const LINES = [
   ['router [quiet] [NAME]', 'the next router begins; a quiet one sends nothing of its own accord'],
@@ -55,6 +56,7 @@ const LINES = [
   ['restart R NOW', 'router R comes up again'],
   ['stranger R I NOW SOURCE PORT HOP group HEX', 'a datagram of no router comes, to the group or (peer) to R alone'],
   ['ask R I NOW SOURCE PORT PREFIX', 'a stranger asks for that prefix, or for all'],
+  ['liar R I NOW SOURCE HEX', 'a lie comes that R takes for a Response of its link; behind it nothing is promised'],
   ['print [R [PREFIX]]', 'routes are printed'],
   ['sent [N]', 'datagrams are printed'],
   ['say TEXT', 'the text is printed'],
@@ -77,6 +79,7 @@ function hintOf(script, line, why) {
 const HAPPENED = {
   deliver: event => `hears ${event.datagram} of R${event.sender.router}`,
   stranger: event => `hears a stranger, ${event.source} port ${event.port}`,
+  liar: event => `believes a lie of ${event.source}: nothing is promised from here on`,
   tick: () => 'ticks',
   restart: () => 'restarts',
   cost: event => `has cost ${event.cost} at interface ${event.iface}`,
@@ -217,11 +220,12 @@ const eventOf = ({ record, said }, step) => html`<li>
     ${refusals(record).map(text => html`<br><span class="bad">${text}</span>`)}${said.map(text => html`<br>${text}`)}
   </span></button></li>`;
 const cardOf = () => LINES.map(([form, meaning]) => html`<dt><code>${form}</code></dt><dd>${meaning}</dd>`);
+const isLiedTo = (trace, step) => trace.steps.slice(0, step + 1).some(({ record }) => record.event?.kind === 'liar');
 function tallyOf({ trace, step }) {
   const { held, backed, wanted, reached } = tallyAll(trace, trace.steps[step]);
   return html`<b class="${badIf(backed < held)}">${backed} of ${plural(held, 'metric')}</b>
     ${backed === 1 ? 'is' : 'are'} the cost of a walk. <b>${reached} of ${plural(wanted, 'route')}</b>
-    ${reached === 1 ? 'has' : 'have'} the least cost.`;}
+    ${reached === 1 ? 'has' : 'have'} the least cost.${isLiedTo(trace, step) ? ' Behind a lie none is promised.' : ''}`;}
 const drawnTables = new WeakMap();
 function tablesOf({ trace, step, chosen, names }) {
   const state = trace.steps[step], { routers, record, least } = state, old = trace.steps[step - 1]?.routers ?? routers;
@@ -307,10 +311,11 @@ function walkText(trace, step, router, entry) {
   const hopRow = ({ end, cost, held, datagram, cameAt }, index) => html`<tr><td>${index + 1}</td>
     <td>R${end.router} → R${datagram.router}</td><td>${cost}</td><td>R${datagram.router}, which held ${held}</td>
     <td>${datagram.datagram}</td><td>${stepLink(trace, datagram.sentAt)}</td><td>${stepLink(trace, cameAt)}</td></tr>`;
-  return html`${sumText(trace.steps[step].routers, walk, entry.route)}
+  return html`${sumText(trace.steps[step].routers, walk, entry.route, isLiedTo(trace, step))}
     <table id="walk">${headsOf(['hop', 'walk', 'cost', 'told by', 'in datagram', 'sent', 'came'])}
     <tbody>${walk.hops.map(hopRow)}</tbody></table>`;}
-function sumText(routers, { hops, owner, sum }, { metric, prefix }) {
+function sumText(routers, { hops, owner, sum }, { metric, prefix }, isLied) {
+  if (owner === null && isLied) return html`<p class="bad">A lie stands behind it: no walk backs it.</p>`;
   if (owner === null) return html`<p class="bad">No walk to an owner is found in the trace.</p>`;
   const { way, rings } = withoutRings([...hops.map(hop => hop.end.router), owner]);
   const past = routers[owner].prefixes.some(own => own.prefix === prefix) ? '' : `; R${owner} owned the prefix then`;
@@ -324,6 +329,7 @@ function whyUnreachable(trace, { cause, route }) {
   const { event } = trace.steps[cause].record, why = {
     tick: 'nothing was heard of it for 180 s', drop: 'its owner gave it up',
     deliver: `datagram ${event?.datagram} offered 16 or more`, stranger: 'a stranger offered 16 or more',
+    liar: 'a lie offered 16 or more',
   }[event?.kind] ?? 'this event made it so';
   return html`<p>Since ${stepLink(trace, cause)}: ${why}. It is told as 16 until it is deleted, at
     ${seconds(route.until)}.</p>`;}

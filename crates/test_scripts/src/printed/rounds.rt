@@ -1,58 +1,12 @@
-//! Many rounds of one line: when they are refused, and that they find the least costs of walks with so many hops.
+//! Many rounds of one line: they find the least costs of walks with so many hops.
 
+use super::SQUARE;
 use super::walks::{Owner, Port, SQUARE_PORTS, TWINS, TWINS_PORTS, walks_to};
-use super::{SQUARE, SQUARE_PRINTS};
 use ripngd_lab::lab;
 use std::alloc::{AllocError, Global};
 use std::io::Write;
 use std::str;
 use std::test::Fail;
-
-/// What a fifteenth line prints, behind the fourteen that list the square and start it.
-const FIFTEENTH: [(&str, &str); 13] = [
-    ("rounds 14 0 15000", ""),
-    ("rounds 1000 0 15000", ""),
-    ("rounds 1 0 0", ""),
-    ("rounds 1 1152921504606846976 18446744073709551615", ""),
-    (
-        "rounds 2 0 14999",
-        "line 15 refused 41 NoRegularUpdate 1 0\n",
-    ),
-    ("rounds 0 0 15000", "line 15 refused BadLine\n"),
-    ("rounds 1001 0 15000", "line 15 refused BadLine\n"),
-    ("rounds 014 0 15000", "line 15 refused BadLine\n"),
-    ("rounds 14 0", "line 15 refused BadLine\n"),
-    (
-        "rounds 1 1152921504606846977 0",
-        "line 15 refused BadLine\n",
-    ),
-    (
-        "rounds 2 1152921504606846976 1",
-        "line 15 refused BadLine\n",
-    ),
-    (
-        "rounds 3 0 18446744073709551615",
-        "line 15 refused BadLine\n",
-    ),
-    (
-        "rounds 3 0 18446744073709551616",
-        "line 15 refused BadLine\n",
-    ),
-];
-
-/// A router in the middle that only listens.
-const QUIET: &str = "router
-iface fe80::a0 1 1280 0
-own 2001:db8::/32 9
-router quiet
-iface fe80::b0 1 1280 0
-iface fe80::b1 1 1280 1
-router
-iface fe80::c0 1 1280 1
-cold 0
-rounds 3 0 15000
-print
-";
 
 /// Two routers that own one prefix with different tags, at the ends of a line whose middle link is dear.
 const ENDS: &str = "router
@@ -86,50 +40,6 @@ pub fn until_cold(script: &str) -> &str {
         Some((start, _)) => start,
         None => script,
     }
-}
-
-#[test]
-fn rounds_are_refused(rt: HostRuntime) -> Result<(), Fail> {
-    for (line, prints) in FIFTEENTH {
-        let mut script = Vec::new(rt.alloc());
-        writeln!(&mut script, "{}{line}", until_cold(SQUARE))?;
-        let mut out = Vec::new(rt.alloc());
-        let accepted = lab(rt.alloc(), script.as_slice(), &mut out)?;
-        assert!(rt; out.as_slice() == prints.as_bytes(), "{line}");
-        assert_eq!(rt; accepted, prints.is_empty(), "{line}");
-    }
-    let mut out = Vec::new(rt.alloc());
-    assert!(rt; !lab(rt.alloc(), b"router\nrounds 1 0 0\n", &mut out)?);
-    assert!(rt; out.as_slice() == b"line 2 refused BadLine\n".as_slice());
-    Ok(())
-}
-
-#[test]
-fn fourteen_rounds_print_as_one_by_one(rt: HostRuntime) -> Result<(), Fail> {
-    let mut script = Vec::new(rt.alloc());
-    writeln!(
-        &mut script,
-        "{}rounds 14 0 15000\nprint",
-        until_cold(SQUARE)
-    )?;
-    let mut out = Vec::new(rt.alloc());
-    assert!(rt; lab(rt.alloc(), script.as_slice(), &mut out)?);
-    let lines = SQUARE_PRINTS.lines().count();
-    let last = SQUARE_PRINTS.lines().skip(lines.saturating_sub(4));
-    assert!(rt; str::from_utf8(out.as_slice())?.lines().eq(last));
-    Ok(())
-}
-
-/// A quiet router learns, and tells nobody: its neighbor has no route.
-#[test]
-fn a_quiet_router_may_be_among_them(rt: HostRuntime) -> Result<(), Fail> {
-    let mut out = Vec::new(rt.alloc());
-    assert!(rt; lab(rt.alloc(), QUIET.as_bytes(), &mut out)?);
-    let prints = "0 2001:db8::/32 metric 1 tag 9 own
-1 2001:db8::/32 metric 2 tag 9 via fe80::a0 iface 0 from fe80::a0
-";
-    assert!(rt; out.as_slice() == prints.as_bytes());
-    Ok(())
 }
 
 /// The least cost of a walk with so many hops to an owner of the prefix, if that is at most 15.

@@ -1,5 +1,5 @@
 use Rattle.std.proofs.Common.{◌++◌}
-use Rattle.ripng_world.proofs.Running.{run_from_cold}
+use Rattle.ripng_world.proofs.WorldRuns.{run_from_cold}
 use Rattle.ripng_phases.proofs.Runs.{run_on, run_until}
 use Rattle.ripng_phases.specs.Phases.{events_of, reached}
 use Rattle.ripng_phases.proofs.laws.phases_keep_routes_backed.Goals as goal

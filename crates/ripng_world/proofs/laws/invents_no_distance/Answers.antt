@@ -1,4 +1,4 @@
-use Rattle.ripng_world.proofs.Running.{run_from_cold, done_in_run}
+use Rattle.ripng_world.proofs.WorldRuns.{run_from_cold, done_in_run}
 use Rattle.ripng_world.proofs.laws.invents_no_distance.Goals as goal
 
 pub returns-clause-backed : goal.returns-clause-backed

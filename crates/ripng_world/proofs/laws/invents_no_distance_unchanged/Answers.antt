@@ -3,7 +3,7 @@ use Rattle.ripng_world.specs.TruthSince.{IsSoundDatagramSince}
 use Rattle.ripng_world.specs.World.{past_of}
 use Rattle.ripng_world.proofs.Each.{each_weaker}
 use Rattle.ripng_world.proofs.Growing.{backed_first}
-use Rattle.ripng_world.proofs.Running.{run_from_cold}
+use Rattle.ripng_world.proofs.WorldRuns.{run_from_cold}
 use Rattle.ripng_world.proofs.Unchanged.{truth_first}
 use Rattle.ripng_world.proofs.laws.invents_no_distance_unchanged.Goals as goal
 

@@ -1,6 +1,6 @@
 use Rattle.ripng_world.proofs.Telling.{aged_sound}
 use Rattle.ripng_world.proofs.Keeping.{heard_sound}
-use Rattle.ripng_world.proofs.Running.{changed_sound}
+use Rattle.ripng_world.proofs.WorldRuns.{changed_sound}
 use Rattle.ripng_world.proofs.Unchanged.{aged_first, heard_first}
 use Rattle.ripng_world.proofs.laws.keeps_routes_backed.Goals as goal
 

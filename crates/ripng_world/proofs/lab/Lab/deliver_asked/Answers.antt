@@ -55,7 +55,7 @@ returns-in_err-picked-clause-stopped g c =
     let pairs_are : ps ≡ pairs_since net c.args.first w.sent =
     c.deref-3.ensures.value ∙ c.in_ok-pairs.ensures
     ∙ ap₂ (λ (ss : List StationValue) (ds : List Sent). pairs_since (network_of ss) c.args.first ds) c.deref.ensures.value c.deref-2.ensures.value
-    ∙ ap (λ (l : LabValue). pairs_since l.network c.args.first l.world.sent) c.self.view_is in
+    ∙ ap (λ (l : LabValue). pairs_since l.network c.args.first l.world.sent) (ap (λ i. i.running) c.self-inside.view_is ∙ c.self.view_is) in
     handed_on c.from_residual-in_err-picked.result c.in_err-picked.field-0.0 _ c.from_residual-in_err-picked.ensures.1
     (subst (λ (qs : List Pair). HeardInPart g.V.Watch.takes g.V.Watch.fails why net start (deliveries_of qs c.args.round.now.picks c.args.round.now.rest) after) pairs_are
     (subst (λ (a : Asked). HeardInPart g.V.Watch.takes g.V.Watch.fails why net start (deliveries_of ps a.picks a.rest) after) c.round.view_is
@@ -71,7 +71,7 @@ module _ (g : _) (c : After-drop-pairs-2 g) where
   items_are =
       c.in_ok-pairs.ensures
       ∙ ap₂ (λ (ss : List StationValue) (ds : List Sent). pairs_since (network_of ss) c.args.first ds) c.deref.ensures.value c.deref-2.ensures.value
-      ∙ ap (λ (l : LabValue). pairs_since l.network c.args.first l.world.sent) c.self.view_is
+      ∙ ap (λ (l : LabValue). pairs_since l.network c.args.first l.world.sent) (ap (λ i. i.running) c.self-inside.view_is ∙ c.self.view_is)
 
   flags_are : (k : ℕ) → k < length items → get_or c.deref-5.result.now k false ≡ is_picked (length items) c.round.inside.picks.now k
   unfolding items

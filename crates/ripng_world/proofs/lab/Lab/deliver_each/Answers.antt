@@ -15,10 +15,10 @@ use Rattle.ripng_world.proofs.lab.Lab.deliver_each.Goals as goal
 pub index-requires : goal.index-requires
 index-requires g c =
     let high : c.loop-datagram.datagram < length c.args.self.now.world.sent =
-    omega (arith, c.loop-datagram-test.true, c.loop-datagram.auto.datagram-end, c.len-datagram-end.ensures, c.self.inside.sent.ok.0, ap (λ (l : LabValue). length l.world.sent) c.self.view_is) in
-    let sent = c.self-in-loop-datagram.inside.sent in
+    omega (arith, c.loop-datagram-test.true, c.loop-datagram.auto.datagram-end, c.len-datagram-end.ensures, c.self-inside.inside.0.0.sent.ok.0, ap (λ (l : LabValue). length l.world.sent) (ap (λ i. i.running) c.self-inside.view_is ∙ c.self.view_is)) in
+    let sent = c.self-inside-in-loop-datagram.inside.0.0.sent in
     let within = still_within g.V.Watch.takes c.args.self.now.network _ (c.args.self.now.world, c.args.watch.now) (c.loop-datagram.self.world, c.loop-datagram.watch) sent.items c.loop-datagram.datagram c.loop-datagram.invariant.delivered
-    (ap (λ (l : LabValue). l.world.sent) c.self-in-loop-datagram.view_is) high in
+    (ap (λ (l : LabValue). l.world.sent) (ap (λ i. i.running) c.self-inside-in-loop-datagram.view_is ∙ c.self-in-loop-datagram.view_is)) high in
     omega (arith, within, sent.ok.0)
 
 pub returns-in_err-interfaces-clause-stopped : goal.returns-in_err-interfaces-clause-stopped
@@ -34,14 +34,14 @@ returns-in_err-others-clause-stopped g c =
 pub returns-in_err-deliver_to-clause-stopped : goal.returns-in_err-deliver_to-clause-stopped
 returns-in_err-deliver_to-clause-stopped g c =
     let high : c.loop-datagram.datagram < length c.args.self.now.world.sent =
-    omega (arith, c.loop-datagram-test.true, c.loop-datagram.auto.datagram-end, c.len-datagram-end.ensures, c.self.inside.sent.ok.0, ap (λ (l : LabValue). length l.world.sent) c.self.view_is) in
+    omega (arith, c.loop-datagram-test.true, c.loop-datagram.auto.datagram-end, c.len-datagram-end.ensures, c.self-inside.inside.0.0.sent.ok.0, ap (λ (l : LabValue). length l.world.sent) (ap (λ i. i.running) c.self-inside.view_is ∙ c.self.view_is)) in
     let net = c.args.self.now.network in
     let d = c.index.result.now in
     let low : c.args.first ≤ c.loop-datagram.datagram = omega (arith, c.loop-datagram.auto.datagram) in
-    let d_is = still_at g.V.Watch.takes net _ (c.args.self.now.world, c.args.watch.now) (c.loop-datagram.self.world, c.loop-datagram.watch) c.self-in-loop-datagram.inside.sent.items c.loop-datagram.datagram c.loop-datagram.invariant.delivered
-    (ap (λ (l : LabValue). l.world.sent) c.self-in-loop-datagram.view_is) high d c.index.ensures in
-    let net_is : network_of c.self-in-loop-datagram.inside.stations.items ≡ net = ap (λ (l : LabValue). l.network) c.self-in-loop-datagram.view_is ∙ c.loop-datagram.invariant.network in
-    let first_is : network_of c.self.inside.stations.items ≡ net = ap (λ (l : LabValue). l.network) c.self.view_is in
+    let d_is = still_at g.V.Watch.takes net _ (c.args.self.now.world, c.args.watch.now) (c.loop-datagram.self.world, c.loop-datagram.watch) c.self-inside-in-loop-datagram.inside.0.0.sent.items c.loop-datagram.datagram c.loop-datagram.invariant.delivered
+    (ap (λ (l : LabValue). l.world.sent) (ap (λ i. i.running) c.self-inside-in-loop-datagram.view_is ∙ c.self-in-loop-datagram.view_is)) high d c.index.ensures in
+    let net_is : network_of c.self-inside-in-loop-datagram.inside.0.0.stations.items ≡ net = ap (λ (l : LabValue). l.network) (ap (λ i. i.running) c.self-inside-in-loop-datagram.view_is ∙ c.self-in-loop-datagram.view_is) ∙ c.loop-datagram.invariant.network in
+    let first_is : network_of c.self-inside.inside.0.0.stations.items ≡ net = ap (λ (l : LabValue). l.network) (ap (λ i. i.running) c.self-inside.view_is ∙ c.self.view_is) in
     let others_are : c.deref-in-loop-datagram-3.result.now ≡ filter (is_other net d) (interfaces_of net) =
     c.deref-in-loop-datagram-3.ensures.value ∙ c.in_ok-others.ensures
     ∙ ap₂ (λ (n : Network) (ps : List (ℕ × ℕ)). filter (is_other n d) ps)
@@ -54,14 +54,14 @@ returns-in_err-deliver_to-clause-stopped g c =
 pub loop-datagram-preserved : goal.loop-datagram-preserved
 loop-datagram-preserved g c =
     let high : c.loop-datagram.datagram < length c.args.self.now.world.sent =
-    omega (arith, c.loop-datagram-test.true, c.loop-datagram.auto.datagram-end, c.len-datagram-end.ensures, c.self.inside.sent.ok.0, ap (λ (l : LabValue). length l.world.sent) c.self.view_is) in
+    omega (arith, c.loop-datagram-test.true, c.loop-datagram.auto.datagram-end, c.len-datagram-end.ensures, c.self-inside.inside.0.0.sent.ok.0, ap (λ (l : LabValue). length l.world.sent) (ap (λ i. i.running) c.self-inside.view_is ∙ c.self.view_is)) in
     let net = c.args.self.now.network in
     let d = c.index.result.now in
     let low : c.args.first ≤ c.loop-datagram.datagram = omega (arith, c.loop-datagram.auto.datagram) in
-    let d_is = still_at g.V.Watch.takes net _ (c.args.self.now.world, c.args.watch.now) (c.loop-datagram.self.world, c.loop-datagram.watch) c.self-in-loop-datagram.inside.sent.items c.loop-datagram.datagram c.loop-datagram.invariant.delivered
-    (ap (λ (l : LabValue). l.world.sent) c.self-in-loop-datagram.view_is) high d c.index.ensures in
-    let net_is : network_of c.self-in-loop-datagram.inside.stations.items ≡ net = ap (λ (l : LabValue). l.network) c.self-in-loop-datagram.view_is ∙ c.loop-datagram.invariant.network in
-    let first_is : network_of c.self.inside.stations.items ≡ net = ap (λ (l : LabValue). l.network) c.self.view_is in
+    let d_is = still_at g.V.Watch.takes net _ (c.args.self.now.world, c.args.watch.now) (c.loop-datagram.self.world, c.loop-datagram.watch) c.self-inside-in-loop-datagram.inside.0.0.sent.items c.loop-datagram.datagram c.loop-datagram.invariant.delivered
+    (ap (λ (l : LabValue). l.world.sent) (ap (λ i. i.running) c.self-inside-in-loop-datagram.view_is ∙ c.self-in-loop-datagram.view_is)) high d c.index.ensures in
+    let net_is : network_of c.self-inside-in-loop-datagram.inside.0.0.stations.items ≡ net = ap (λ (l : LabValue). l.network) (ap (λ i. i.running) c.self-inside-in-loop-datagram.view_is ∙ c.self-in-loop-datagram.view_is) ∙ c.loop-datagram.invariant.network in
+    let first_is : network_of c.self-inside.inside.0.0.stations.items ≡ net = ap (λ (l : LabValue). l.network) (ap (λ i. i.running) c.self-inside.view_is ∙ c.self.view_is) in
     let others_are : c.deref-in-loop-datagram-3.result.now ≡ filter (is_other net d) (interfaces_of net) =
     c.deref-in-loop-datagram-3.ensures.value ∙ c.in_ok-others.ensures
     ∙ ap₂ (λ (n : Network) (ps : List (ℕ × ℕ)). filter (is_other n d) ps)
@@ -78,6 +78,6 @@ returns-clause-delivered g c =
     let sent = c.args.self.now.world.sent in
     let n = c.loop-datagram.datagram in
     let long : length (drop c.args.first sent) ≤ n - c.args.first =
-    omega (arith, c.loop-datagram-test.false, c.loop-datagram.auto.datagram-end, c.len-datagram-end.ensures, c.self.inside.sent.ok.0, length-drop c.args.first sent, ap (λ (l : LabValue). length l.world.sent) c.self.view_is) in
+    omega (arith, c.loop-datagram-test.false, c.loop-datagram.auto.datagram-end, c.len-datagram-end.ensures, c.self-inside.inside.0.0.sent.ok.0, length-drop c.args.first sent, ap (λ (l : LabValue). length l.world.sent) (ap (λ i. i.running) c.self-inside.view_is ∙ c.self.view_is)) in
     subst (λ (ds : List Sent). WatchedRun g.V.Watch.takes heard c.args.self.now.network (c.args.self.now.world, c.args.watch.now) (to_others c.args.self.now.network c.args.now (enumerate_from c.args.first ds)) (c.loop-datagram.self.world, c.loop-datagram.watch))
     (take_all (n - c.args.first) (drop c.args.first sent) long) c.loop-datagram.invariant.delivered

@@ -6,7 +6,7 @@ use Rattle.ripng_world.specs.World.{World, Event, WorldRun}
 use Rattle.ripng_world.specs.Watching.{WatchedRun, WatchedUntil, any, failures}
 use Rattle.ripng_world.proofs.LabRuns.{backed, least, truth, fixed}
 use Rattle.ripng_world.proofs.Watched.{both_still, given_told, next_refused, run_next, run_stopped, until_all, until_run, watched_run}
-use Rattle.ripng_world.proofs.Running.{done_from}
+use Rattle.ripng_world.proofs.WorldRuns.{done_from}
 use Rattle.ripng_world.proofs.lab.Lab.run_watched.Goals.{After-failures, After-loop-done}
 use Rattle.ripng_world.proofs.lab.Lab.run_watched.Goals as goal
 

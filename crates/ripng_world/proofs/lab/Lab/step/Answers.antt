@@ -1,140 +1,24 @@
-use Rattle.std.proofs.Common.{◌≡◌, ℕ, List, [], ◌∷◌, ◌++◌, map, take, drop, length, sym, subst, ◌∙◌, ap, ap₂}
 use Rattle.ripng_world.specs.Events.{event_of}
-use Rattle.ripng_world.specs.Labs.{HasRun, IsRefusal, event_fault, lab_of}
-use Rattle.ripng_world.specs.Rounds.{router_of}
-use Rattle.ripng_world.specs.Stations.{StationValue, MoveStations, network_of, world_of}
-use Rattle.ripng_world.specs.World.{Happens, reconfigurations_in, sent_by}
-use Rattle.ripng_world.specs.declared.sent.Sent.{Sent}
-use Rattle.ripng_world.proofs.LabRuns.{backed, least, truth, fixed, stepped, stepped_on, written_back}
-use Rattle.ripng_world.proofs.StationMoves.{err_is, happened_passes, refused_first}
+use Rattle.ripng_world.specs.Labs.{HasRun}
+use Rattle.ripng_world.proofs.LabRuns.{backed, least, truth, fixed, step_on}
 use Rattle.ripng_world.proofs.lab.Lab.step.Goals as goal
 
-pub returns-in_err-check-clause-backed : goal.returns-in_err-check-clause-backed
-returns-in_err-check-clause-backed g c = rw (← c.self.view_is) (backed _ _ c.self.invariant)
+-- the lab goes on
+module _ (g : _) (c : goal.After-step g) where
+  has_run : HasRun c.step.new.self.network c.step.new.self.world
+  has_run = step_on c.self.inside.running c.step.new.self (event_of c.args.event.now) c.step.result c.step.ensures.happens c.step.ensures.network c.step.ensures.err c.self.invariant
 
-pub returns-in_err-check-clause-least : goal.returns-in_err-check-clause-least
-returns-in_err-check-clause-least g c = rw (← c.self.view_is) (least _ _ c.self.invariant)
-
-pub returns-in_err-check-clause-truth : goal.returns-in_err-check-clause-truth
-returns-in_err-check-clause-truth g c = rw (← c.self.view_is) (truth _ _ c.self.invariant)
-
-pub returns-in_err-check-clause-fixed : goal.returns-in_err-check-clause-fixed
-returns-in_err-check-clause-fixed g c = rw (← c.self.view_is) (fixed _ _ c.self.invariant)
-
--- want of memory leaves the stations
-module _ (g : _) (c : goal.After-from_residual-in_err-answer g) where
-  same_stations : take c.self.inside.stations.len (c.happen.new.stations ++ drop (length c.happen.new.stations) c.self.inside.stations.items) ≡ c.self.inside.stations.items
-  same_stations =
-      written_back c.self.inside.stations.len c.happen.new.stations c.self.inside.stations.items (c.happen.auto.stations ∙ ap length c.deref_mut.ensures.value) c.self.inside.stations.ok.0
-      ∙ c.in_err-answer.ensures.err ∙ c.deref_mut.ensures.value
-
-  kept : HasRun (network_of (take c.self.inside.stations.len (c.happen.new.stations ++ drop (length c.happen.new.stations) c.self.inside.stations.items)))
-      (world_of (take c.self.inside.stations.len (c.happen.new.stations ++ drop (length c.happen.new.stations) c.self.inside.stations.items)) c.happen.new.sent.items c.happen.new.reconfigurations.items)
-  kept = rw (same_stations, c.happen.ensures.sent, c.in_err-answer.ensures.kept) c.self.invariant
-
-pub returns-in_err-answer-clause-backed : goal.returns-in_err-answer-clause-backed
-returns-in_err-answer-clause-backed g c = backed _ _ (kept g c)
-
-pub returns-in_err-answer-clause-least : goal.returns-in_err-answer-clause-least
-returns-in_err-answer-clause-least g c = least _ _ (kept g c)
-
-pub returns-in_err-answer-clause-truth : goal.returns-in_err-answer-clause-truth
-returns-in_err-answer-clause-truth g c = truth _ _ (kept g c)
-
-pub returns-in_err-answer-clause-fixed : goal.returns-in_err-answer-clause-fixed
-returns-in_err-answer-clause-fixed g c = fixed _ _ (kept g c)
-
--- what the move left
-module _ (g : _) (c : goal.After-handed_out g) where
-  stations : take c.self.inside.stations.len (c.happen.new.stations ++ drop (length c.happen.new.stations) c.self.inside.stations.items) ≡ c.happen.new.stations
-  stations = written_back c.self.inside.stations.len c.happen.new.stations c.self.inside.stations.items (c.happen.auto.stations ∙ ap length c.deref_mut.ensures.value) c.self.inside.stations.ok.0
-
-  moves : MoveStations c.self.inside.stations.items c.self.inside.sent.items c.self.inside.reconfigurations.items (event_of c.args.event.now) c.in_ok-answer.answer c.happen.new.stations
-  moves =
-      subst (λ (ss : List StationValue). MoveStations ss c.self.inside.sent.items c.self.inside.reconfigurations.items (event_of c.args.event.now) c.in_ok-answer.answer c.happen.new.stations)
-      c.deref_mut.ensures.value c.in_ok-answer.ensures.moves
-
-  added : c.file.new.sent.items ≡ c.self.inside.sent.items ++ map (sent_by (router_of (event_of c.args.event.now))) c.in_ok-answer.answer.sends
-  added = c.file.ensures ∙ ap₂ (λ (ds : List Sent) (r : ℕ). ds ++ map (sent_by r) c.in_ok-answer.answer.sends) c.happen.ensures.sent c.router.ensures
-
-  done : c.happen.new.reconfigurations.items ≡ c.self.inside.reconfigurations.items ++ reconfigurations_in (event_of c.args.event.now ∷ [])
-  done = c.in_ok-answer.ensures.reconfigurations
-
-  happens : Happens (network_of c.self.inside.stations.items) (world_of c.self.inside.stations.items c.self.inside.sent.items c.self.inside.reconfigurations.items) (event_of c.args.event.now) c.in_ok-answer.answer
-      (world_of c.happen.new.stations c.file.new.sent.items c.happen.new.reconfigurations.items)
-  happens =
-      stepped c.self.inside.stations.items c.happen.new.stations c.self.inside.sent.items c.file.new.sent.items c.self.inside.reconfigurations.items c.happen.new.reconfigurations.items (event_of c.args.event.now)
-      c.in_ok-answer.answer moves added done
-
-  has_run : HasRun (network_of c.happen.new.stations) (world_of c.happen.new.stations c.file.new.sent.items c.happen.new.reconfigurations.items)
-  has_run =
-      stepped_on c.self.inside.stations.items c.happen.new.stations c.self.inside.sent.items c.file.new.sent.items c.self.inside.reconfigurations.items c.happen.new.reconfigurations.items (event_of c.args.event.now)
-      c.in_ok-answer.answer moves added done c.self.invariant
-
-pub invariant_of-self-2 : goal.invariant_of-self-2
-invariant_of-self-2 g c = rw (stations g c) (has_run g c)
-
-pub returns-clause-happens : goal.returns-clause-happens
-returns-clause-happens g c =
-    let answer = c.in_ok-answer.answer in
-    rw (← c.self.view_is, stations g c) (
-      answer,
-      happens g c,
-      c.handed_out.ensures,
-    )
+pub invariant_of-self : goal.invariant_of-self
+invariant_of-self g c = has_run g c
 
 pub returns-clause-backed : goal.returns-clause-backed
-returns-clause-backed g c = rw (stations g c) (backed _ _ (has_run g c))
+returns-clause-backed g c = backed _ _ (has_run g c)
 
 pub returns-clause-least : goal.returns-clause-least
-returns-clause-least g c = rw (stations g c) (least _ _ (has_run g c))
+returns-clause-least g c = least _ _ (has_run g c)
 
 pub returns-clause-truth : goal.returns-clause-truth
-returns-clause-truth g c = rw (stations g c) (truth _ _ (has_run g c))
+returns-clause-truth g c = truth _ _ (has_run g c)
 
 pub returns-clause-fixed : goal.returns-clause-fixed
-returns-clause-fixed g c = rw (stations g c) (fixed _ _ (has_run g c))
-
-pub returns-clause-passes : goal.returns-clause-passes
-returns-clause-passes g c =
-    let reconfigurations = c.self.inside.reconfigurations.items in
-    let none = sym (c.in_ok-check.ensures reconfigurations
-    ∙ ap₂ (λ (ss : List StationValue) (ds : List Sent). event_fault (lab_of ss ds reconfigurations) (event_of c.args.event.now)) c.deref.ensures.value c.deref-2.ensures.value) in
-    rw (← c.self.view_is)
-    (happened_passes (lab_of c.self.inside.stations.items c.self.inside.sent.items c.self.inside.reconfigurations.items) (event_of c.args.event.now) c.in_ok-answer.answer
-    (world_of c.happen.new.stations c.file.new.sent.items c.happen.new.reconfigurations.items) none (happens g c))
-
-pub returns-clause-network : goal.returns-clause-network
-returns-clause-network g c = rw (← c.self.view_is, stations g c) (moves g c).network
-
-pub returns-clause-reconfigurations : goal.returns-clause-reconfigurations
-returns-clause-reconfigurations g c = rw (← c.self.view_is) (done g c)
-
--- what the parts ask, and why the event is refused
-pub happen-requires : goal.happen-requires
-happen-requires g c =
-    let sent = c.self.inside.sent.items in
-    let reconfigurations = c.self.inside.reconfigurations.items in
-    let e = event_of c.args.event.now in
-    ap (λ (ss : List StationValue). event_fault (lab_of ss sent reconfigurations) e) c.deref_mut.ensures.value
-    ∙ sym (c.in_ok-check.ensures reconfigurations ∙ ap₂ (λ (ss : List StationValue) (ds : List Sent). event_fault (lab_of ss ds reconfigurations) e) c.deref.ensures.value c.deref-2.ensures.value)
-
-pub file-requires : goal.file-requires
-file-requires g c = c.in_ok-answer.ensures.room
-
-pub returns-in_err-check-clause-refused : goal.returns-in_err-check-clause-refused
-returns-in_err-check-clause-refused g c =
-    let reconfigurations = c.self.inside.reconfigurations.items in
-    let lab = lab_of c.self.inside.stations.items c.self.inside.sent.items reconfigurations in
-    let e = event_of c.args.event.now in
-    let fault = sym (c.in_err-check.ensures reconfigurations ∙ ap₂ (λ (ss : List StationValue) (ds : List Sent). event_fault (lab_of ss ds reconfigurations) e) c.deref.ensures.value c.deref-2.ensures.value) in
-    rw (← c.self.view_is) (err_is c.from_residual.result _ _ (λ why is. subst (IsRefusal lab e) (sym is) (refused_first lab e c.in_err-check.field-0.0 fault)) c.from_residual.ensures.1)
-
-pub returns-in_err-answer-clause-refused : goal.returns-in_err-answer-clause-refused
-returns-in_err-answer-clause-refused g c =
-    let sent = c.self.inside.sent.items in
-    let reconfigurations = c.self.inside.reconfigurations.items in
-    let e = event_of c.args.event.now in
-    let refused = subst (λ (ss : List StationValue). IsRefusal (lab_of ss sent reconfigurations) e c.in_err-answer.field-0.0) c.deref_mut.ensures.value c.in_err-answer.ensures.refused in
-    rw (← c.self.view_is)
-    (err_is c.from_residual-in_err-answer.result _ _ (λ why is. subst (IsRefusal (lab_of c.self.inside.stations.items sent reconfigurations) e) (sym is) refused) c.from_residual-in_err-answer.ensures.1)
+returns-clause-fixed g c = fixed _ _ (has_run g c)

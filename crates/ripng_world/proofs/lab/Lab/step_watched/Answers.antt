@@ -1,4 +1,4 @@
-use Rattle.std.proofs.Common.{[], ◌∷◌, ap, length}
+use Rattle.std.proofs.Common.{[], ◌∷◌, ap, length, subst}
 use Rattle.ripng_world.specs.Events.{event_of}
 use Rattle.ripng_world.specs.Labs.{LabValue}
 use Rattle.ripng_world.specs.World.{World}
@@ -18,4 +18,4 @@ returns-in-Err-happened-clause-stopped g c =
     let after : World × _ = (c.step.new.self.world, c.happened.new.self) in
     in_whole g.V.Watch.takes g.V.Watch.fails 1 c.args.self.now.network (e ∷ []) before after
     (failed_one g.V.Watch.takes g.V.Watch.fails c.args.self.now.network e h.0 before after h.1
-    (given_told g.V.Watch.fails c.args.self.now c.step.new.self e c.in-Ok.answer _ c.args.watch.now c.happened.new.self h c.in-Ok.ensures.network (ap length c.sent-first.ensures.value) c.in-Err-happened.ensures.fails))
+    (given_told g.V.Watch.fails c.args.self.now c.step.new.self e c.in-Ok.answer _ c.args.watch.now c.happened.new.self h c.in-Ok.ensures.network (ap length c.sent-first.ensures.value) (subst (λ (l : LabValue). g.V.Watch.fails c.args.watch.now (record { lab = l; event = e; answer = c.in-Ok.answer; first = length c.sent-first.result.now }) c.happened.new.self) c.running.ensures c.in-Err-happened.ensures.fails)))

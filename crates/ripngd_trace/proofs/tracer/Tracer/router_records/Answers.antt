@@ -24,7 +24,7 @@ loop-router-preserved g c =
     let pushed = c.in_ok-push.ensures.items in
     let n : c.len.result ≡ length records = omega (arith, c.len.ensures, c.loop-router.records.ok.0) in
     let m : c.len-in-Some.result ≡ length records = omega (arith, c.len-in-Some.ensures, c.loop-router.records.ok.0) in
-    let here : slice_get w.states (length records) ≡ Some s = ap (slice_get w.states) (sym n) ∙ sym c.in-Some.ensures.value in
+    let here : slice_get w.states (length records) ≡ Some s = ap (slice_get w.states) (sym n) ∙ sym c.in-Some.ensures in
     let tells : TellsRouter c.args.lab.now (length records) r =
     subst (λ (k : ℕ). TellsRouter c.args.lab.now k r) m (c.in_ok-record.ensures.tells (ap (slice_get w.states) m ∙ here)) in
     record {
@@ -47,7 +47,7 @@ returns-clause-tells g c =
     let w = c.args.lab.now.world in
     let records = c.loop-router.records.items in
     let n : c.len.result ≡ length records = omega (arith, c.len.ensures, c.loop-router.records.ok.0) in
-    let none : slice_get w.states (length records) ≡ None = ap (slice_get w.states) (sym n) ∙ sym c.router.ensures.value ∙ ap option_copied c.in_default.is in
+    let none : slice_get w.states (length records) ≡ None = ap (slice_get w.states) (sym n) ∙ sym c.router.ensures ∙ ap option_copied c.in_default.is in
     record {
       as_many = omega (arith, c.loop-router.invariant.few, all_there w.states (length records) none);
       each = c.loop-router.invariant.each;
@@ -58,7 +58,7 @@ returns-clause-known g c =
     let w = c.args.lab.now.world in
     let records = c.loop-router.records.items in
     let n : c.len.result ≡ length records = omega (arith, c.len.ensures, c.loop-router.records.ok.0) in
-    let none : slice_get w.states (length records) ≡ None = ap (slice_get w.states) (sym n) ∙ sym c.router.ensures.value ∙ ap option_copied c.in_default.is in
+    let none : slice_get w.states (length records) ≡ None = ap (slice_get w.states) (sym n) ∙ sym c.router.ensures ∙ ap option_copied c.in_default.is in
     c.loop-router.invariant.known
     ∙ ap (λ (ts : List Table). c.args.self.now.known.items ++ ts)
     (take_all (length records) (tables_of w) (omega (arith, all_there w.states (length records) none, length-map w.states (λ (s : State). s.table))))
@@ -68,7 +68,7 @@ returns-clause-timers g c =
     let w = c.args.lab.now.world in
     let records = c.loop-router.records.items in
     let n : c.len.result ≡ length records = omega (arith, c.len.ensures, c.loop-router.records.ok.0) in
-    let none : slice_get w.states (length records) ≡ None = ap (slice_get w.states) (sym n) ∙ sym c.router.ensures.value ∙ ap option_copied c.in_default.is in
+    let none : slice_get w.states (length records) ≡ None = ap (slice_get w.states) (sym n) ∙ sym c.router.ensures ∙ ap option_copied c.in_default.is in
     c.loop-router.invariant.timers
     ∙ ap (λ (ts : List Timers). c.args.self.now.timers.items ++ ts)
     (take_all (length records) (all_timers w) (omega (arith, all_there w.states (length records) none, length-map w.states timers_in)))

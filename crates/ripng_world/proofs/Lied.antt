@@ -1,0 +1,91 @@
+-- What it means that nothing refuses a lie, how its router moves, and what is then promised of those that run.
+use Rattle.std.proofs.Common.{◌≡◌, ℕ, ◌<◌, ◌++◌, not, Bool, true, false, cond, List, [], ◌∷◌, map, length, Option, Some, None, option_map, slice_get, slice_set, refl, ap, sym, subst, ◌∙◌}
+use Rattle.std.specs.Option.{option_map_or}
+use Rattle.std.proofs.lemmas.List.{append-nil}
+use Rattle.std.proofs.lemmas.Option.{slice_get-map}
+use Rattle.ripng_wire.specs.Wire.{first_reason}
+use Rattle.ripng_wire.proofs.FirstReason.{each_passes}
+use Rattle.router_core.proofs.ReasonsOfEach.{first_reason-append}
+use Rattle.router_core.specs.Machine.{State, Arrives, Moves}
+use Rattle.router_core.specs.Received.{Received}
+use Rattle.router_core.specs.declared.answer.Answer.{Answer}
+use Rattle.router_core.specs.declared.reconfiguring.Change.{Change}
+use Rattle.ripng_world.specs.Labs.{is_heard_at, lab_of, missing_interface_reasons}
+use Rattle.ripng_world.specs.Lying.{LieStations, Lies, lie_fault, lie_reasons}
+use Rattle.ripng_world.specs.Network.{interface_at}
+use Rattle.ripng_world.specs.Stations.{StationValue, network_of, world_of}
+use Rattle.ripng_world.specs.World.{is_heard, sent_by}
+use Rattle.ripng_world.specs.declared.event.LabError.TheVariants.{NotALiar}
+use Rattle.ripng_world.specs.declared.network.NetInterface.{NetInterface}
+use Rattle.ripng_world.specs.declared.sent.Sent.{Sent}
+use Rattle.ripng_world.proofs.StationMoves.{interface_within, map-slice_set, network_kept, some_of, within}
+
+-- the test of a lie, where there is such an interface
+pub lie_tested : (stations : List StationValue) (sent : List Sent) (reconfigurations : List (ℕ × Change)) (router : ℕ) (x : Received) (s : StationValue) (b : Bool)
+    → None ≡ first_reason (missing_interface_reasons (network_of stations) router x.iface) → slice_get stations router ≡ Some s → is_heard s.state x ≡ b
+    → cond (not b) (Some NotALiar) None ≡ lie_fault (lab_of stations sent reconfigurations) router x
+lie_tested stations sent reconfigurations router x s b there here heard =
+    let at : is_heard_at (world_of stations sent reconfigurations) router x ≡ is_heard s.state x =
+    ap (λ (o : Option State). option_map_or (λ t. is_heard t x) o false) (slice_get-map (λ (t : StationValue). t.state) stations router ∙ ap (option_map (λ (t : StationValue). t.state)) here) in
+    sym (first_reason-append (missing_interface_reasons (network_of stations) router x.iface) ((not (is_heard_at (world_of stations sent reconfigurations) router x), NotALiar) ∷ []) (sym there)
+    ∙ ap (λ (a : Bool). cond (not a) (Some NotALiar) None) (at ∙ heard))
+
+-- an arrival that may be a liar's
+pub record IsLiar (stations : List StationValue) (router : ℕ) (x : Received) : Type 0 where
+  pub interface : NetInterface
+  pub interface_is : interface_at (network_of stations) router x.iface ≡ Some interface
+  pub heard : (s : StationValue) → slice_get stations router ≡ Some s → is_heard s.state x ≡ true
+
+heard_if : (b : Bool) → not b ≡ false → b ≡ true
+heard_if true e = refl
+heard_if false e = absurd (cc)
+
+pub liar : (stations : List StationValue) (sent : List Sent) (router : ℕ) (x : Received) → lie_fault (lab_of stations sent []) router x ≡ None → IsLiar stations router x
+liar stations sent router x none =
+    let passes = each_passes (lie_reasons (lab_of stations sent []) router x) none in
+    let i = some_of (interface_at (network_of stations) router x.iface) passes.1.0 in
+    record {
+      interface = i.0;
+      interface_is = i.1;
+      heard = λ s here.
+          sym (ap (λ (o : Option State). option_map_or (λ t. is_heard t x) o false) (slice_get-map (λ (t : StationValue). t.state) stations router ∙ ap (option_map (λ (t : StationValue). t.state)) here))
+          ∙ heard_if (is_heard_at (world_of stations sent []) router x) passes.1.1.0;
+    }
+
+pub liar_within : (stations : List StationValue) (sent : List Sent) (router : ℕ) (x : Received) → lie_fault (lab_of stations sent []) router x ≡ None → router < length stations
+liar_within stations sent router x none =
+    let lawful = liar stations sent router x none in
+    within stations router x.iface lawful.interface lawful.interface_is
+
+-- its router moves at its place
+pub deceived : (stations : List StationValue) (sent : List Sent) (router : ℕ) (x : Received) (old new : StationValue) (answer : Answer)
+    → lie_fault (lab_of stations sent []) router x ≡ None
+    → slice_get stations router ≡ Some old → new.node ≡ old.node → length old.state.config.interfaces ≡ length old.node.interfaces
+    → Moves old.state (Arrives x) answer new.state
+    → (reconfigurations : List (ℕ × Change)) → LieStations stations sent reconfigurations router x answer (slice_set stations router new)
+deceived stations sent router x old new answer none old_is same many moves reconfigurations =
+    let lawful = liar stations sent router x none in
+    let here = interface_within stations router x.iface lawful.interface old lawful.interface_is old_is in
+    record {
+      lies = record {
+        moves = record {
+          old = old.state;
+          new = new.state;
+          old_is = slice_get-map (λ (s : StationValue). s.state) stations router ∙ ap (option_map (λ (s : StationValue). s.state)) old_is;
+          moves = moves;
+          states = map-slice_set (λ (s : StationValue). s.state) stations router new;
+          sent = refl;
+          reconfigurations = sym (append-nil reconfigurations);
+        };
+        known = subst (λ (n : ℕ). x.iface < n) (sym many) here;
+        heard = lawful.heard old old_is;
+      };
+      network = network_kept stations router old new old_is same;
+    }
+
+-- once what was sent is added
+pub lied : (old new : List StationValue) (sent sent' : List Sent) (reconfigurations : List (ℕ × Change)) (router : ℕ) (x : Received) (answer : Answer)
+    → LieStations old sent reconfigurations router x answer new → sent' ≡ sent ++ map (sent_by router) answer.sends
+    → Lies (world_of old sent reconfigurations) router x answer (world_of new sent' reconfigurations)
+lied old new sent sent' reconfigurations router x answer moves added =
+    subst (λ (ds : List Sent). Lies (world_of old sent reconfigurations) router x answer (world_of new ds reconfigurations)) (sym added) moves.lies

@@ -1,0 +1,182 @@
+//! Routers of a network that run at their places, with all that they have sent. Of them is promised what each step does, and nothing
+//! more: what holds of a network that was never lied to is promised of a `Lab`, which is made of this.
+
+ghost use Rattle.std.specs.Prelude.{◌≡◌, ◌++◌, ◌∷◌, [], None, IfErr, IfOk, OnErr, OnOk, length, slice_get};
+ghost use Rattle.std.specs.Option.{option_copied};
+ghost use Rattle.std.specs.Result.{result_err};
+ghost use Rattle.ripng_world.specs.Events.{event_of};
+ghost use Rattle.ripng_world.specs.Labs.{HappensGiving, IsRefusal, link_at, step_fault};
+ghost use Rattle.ripng_world.specs.Lying.{IsLieRefusal, LiesGiving, lie_fault};
+ghost use Rattle.ripng_world.specs.Watching.{WatchedInPart, failures};
+ghost use Rattle.ripng_world.specs.World.{reconfigurations_in};
+
+use crate::event::{Event, LabError};
+use crate::moving::{deceive, file, happen};
+use crate::refusing::{check, check_liar, link_at};
+use crate::sent::Sent;
+use crate::station::Station;
+use crate::watch::{Stopped, Watch};
+use fib::RouteChange;
+use route_table::RouteStore;
+use router_core::{Answer, Arrival, Change, Fault, Listed, Note, Router};
+use std::alloc::Global;
+use std::marker::Model;
+
+/// Routers that run at their places in a network.
+#[derive(Drop)]
+pub struct Running<S: RouteStore> {
+    pub(crate) stations: Vec<Station<S>>,
+    pub(crate) sent: Vec<Sent>,
+    pub(crate) reconfigurations: Vec<(usize, Change)>,
+    pub(crate) alloc: Global,
+}
+
+impl<S: RouteStore> Model for Running<S> {
+    ghost use Rattle.std.specs.Coded.{codes};
+    ghost use Rattle.std.specs.FinMap as map_of;
+    ghost use Rattle.prefix6.specs.Prefix.{prefix_cmp};
+    ghost use Rattle.prefix6.specs.contracts.prefix.Prefix as prefix;
+    ghost use Rattle.route_table.specs.contracts.route.Route as route;
+    ghost use Rattle.ripng_world.specs.Labs.{LabValue, lab_of};
+
+    ghost Value = { LabValue };
+
+    ghost coded = { Prim.hlevel (codes, map_of.code {R = prefix_cmp} prefix.the_row.coded route.the_row.coded) };
+
+    ghost view = { λ l. lab_of l.stations.items l.sent.items l.reconfigurations.items };
+}
+
+/// What is handed out of an answer whose sends were taken.
+fn handed_out(
+    alloc: Global,
+    fault: Option<Fault>,
+    changes: Listed<RouteChange>,
+    notes: Listed<Note>,
+) -> Answer
+    ensures { result ≡ record { fault = fault; sends = []; changes = changes; notes = notes } }
+{
+    Answer {
+        fault,
+        sends: Listed::from_vec(Vec::new(alloc)),
+        changes,
+        notes,
+    }
+}
+
+impl<S: RouteStore> Running<S> {
+    /// How many routers the network has.
+    pub fn routers(&self) -> usize
+        ensures { result ≡ length self.now.network }
+    {
+        self.stations.len()
+    }
+
+    /// A router of the network, if it has one of that number.
+    pub fn router(&self, router: usize) -> Option<&Router<S>>
+        ensures { option_copied result ≡ slice_get self.now.world.states router }
+    {
+        match self.stations.get(router) {
+            Some(station) => Some(station.router()),
+            None => None,
+        }
+    }
+
+    /// All datagrams ever sent, numbered from 0.
+    pub fn sent(&self) -> &[Sent]
+        ensures { result.now ≡ self.now.world.sent }
+    {
+        &self.sent
+    }
+
+    /// The changes that routers have done since the cold start, each with its router, in order.
+    pub fn reconfigurations(&self) -> &[(usize, Change)]
+        ensures { result.now ≡ self.now.world.reconfigurations }
+    {
+        &self.reconfigurations
+    }
+
+    /// The number of the link of an interface, if the network has such a router and interface.
+    pub fn link(&self, router: usize, iface: usize) -> Option<u16>
+        ensures { result ≡ link_at self.now.network router iface }
+    {
+        link_at(&self.stations, router, iface)
+    }
+
+    /// An event happens: one router moves, and answers. What it sends is moved to the end of `sent`, and is not in the
+    /// answer that is given.
+    ///
+    /// # Errors
+    /// The first reason to refuse the event, or want of memory; all is then as it was. Room for a change is made before
+    /// its router is asked.
+    pub fn step(&mut self, event: &Event<'_>) -> Result<Answer, LabError>
+        ensures happens { IfOk result (λ answer. HappensGiving self.old (event_of event.entry.now) answer self.new.world) }
+        ensures network { self.new.network ≡ self.old.network }
+        ensures reconfigurations { OnOk result (self.new.world.reconfigurations ≡ self.old.world.reconfigurations ++ reconfigurations_in (event_of event.entry.now ∷ [])) }
+        ensures passes { OnOk result (step_fault self.old (event_of event.entry.now) ≡ None) }
+        ensures refused { IfErr result (λ why. IsRefusal self.old (event_of event.entry.now) why) }
+        ensures err { OnErr result (self.new ≡ self.old) }
+    {
+        check(&self.stations, &self.sent, event)?;
+        let answer = happen(
+            &mut self.stations,
+            &mut self.sent,
+            &mut self.reconfigurations,
+            event,
+        )?;
+        file(&mut self.sent, event.router(), answer.sends);
+        Ok(handed_out(self.alloc, answer.fault, answer.changes, answer.notes))
+    }
+
+    /// An event happens as `step` makes it, and a watcher is told of it with its answer.
+    ///
+    /// # Errors
+    /// As `step`, and then nobody is told; or the watcher's, and then the event is done.
+    pub fn step_watched<V: Watch<S>>(
+        &mut self,
+        event: &Event<'_>,
+        watch: &mut V,
+    ) -> Result<Answer, Stopped<LabError, V::Fault>>
+        ensures told { IfOk result (λ answer. V.takes watch.old (record { lab = self.new; event = event_of event.entry.now; answer = answer; first = length self.old.world.sent }) watch.new) }
+        ensures stopped { IfErr result (λ why. WatchedInPart V.takes V.fails (failures why) self.old.network (self.old.world, watch.old) (event_of event.entry.now ∷ []) (self.new.world, watch.new)) }
+        ensures happens { IfOk result (λ answer. HappensGiving self.old (event_of event.entry.now) answer self.new.world) }
+        ensures network { self.new.network ≡ self.old.network }
+    {
+        let first = self.sent().len();
+        let answer = match self.step(event) {
+            Ok(answer) => answer,
+            Err(why) => return Err(Stopped::Refused(why)),
+        };
+        match watch.happened(self, event, &answer, first) {
+            Ok(()) => Ok(answer),
+            Err(fault) => Err(Stopped::Failed(fault)),
+        }
+    }
+
+    /// Why a liar's datagram is refused, if it is: there is no such router or interface, or the router does not take it for a
+    /// Response of its link, so that it is any stranger's.
+    ///
+    /// # Errors
+    /// That reason.
+    pub fn check_lie(&self, router: usize, arrival: &Arrival<'_>) -> Result<(), LabError>
+        ensures { result_err result ≡ lie_fault self.now router arrival.entry.now }
+    {
+        check_liar(&self.stations, router, arrival)
+    }
+
+    /// A lie comes: a Response that the router takes for one of its link, which nobody of the network has sent. The router moves by
+    /// its own step, and answers. Behind it nothing is promised of any table.
+    ///
+    /// # Errors
+    /// The reason to refuse it, as `check_lie` has it, or want of memory; all is then as it was.
+    pub fn lie(&mut self, router: usize, arrival: &Arrival<'_>) -> Result<Answer, LabError>
+        ensures lies { IfOk result (λ answer. LiesGiving self.old router arrival.entry.now answer self.new.world) }
+        ensures network { self.new.network ≡ self.old.network }
+        ensures refused { IfErr result (λ why. IsLieRefusal self.old router arrival.entry.now why) }
+        ensures err { OnErr result (self.new ≡ self.old) }
+    {
+        self.check_lie(router, arrival)?;
+        let answer = deceive(&mut self.stations, &mut self.sent, router, arrival)?;
+        file(&mut self.sent, router, answer.sends);
+        Ok(handed_out(self.alloc, answer.fault, answer.changes, answer.notes))
+    }
+}

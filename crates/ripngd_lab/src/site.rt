@@ -1,0 +1,111 @@
+//! Where a script's routers run: a lab, until somebody lies to one of them, and from then on the same routers with nothing promised.
+
+ghost use Rattle.std.specs.Prelude.{◌≡◌, ◌∷◌, [], IfErr, IfOk, length};
+ghost use Rattle.ripng_world.specs.Events.{event_of};
+ghost use Rattle.ripng_world.specs.Labs.{HappensGiving};
+ghost use Rattle.ripng_world.specs.Watching.{WatchedInPart, failures};
+
+use ripng_world::{Event, Lab, LabError, Running, Sent, Stopped, Watch};
+use route_table::TrieRoutes;
+use router_core::Answer;
+use std::marker::Model;
+
+/// What runs there.
+#[derive(Drop)]
+pub enum Held {
+    /// A lab, of which all is promised.
+    Lawful(Lab<TrieRoutes>),
+    /// Routers of which one was lied to.
+    Lied(Running<TrieRoutes>),
+}
+
+/// Where a script's routers run.
+#[derive(Drop)]
+pub struct Site {
+    pub held: Held,
+}
+
+impl Model for Site {
+    ghost use Rattle.std.specs.Coded.{codes};
+    ghost use Rattle.std.specs.FinMap as map_of;
+    ghost use Rattle.prefix6.specs.Prefix.{prefix_cmp};
+    ghost use Rattle.prefix6.specs.contracts.prefix.Prefix as prefix;
+    ghost use Rattle.route_table.specs.contracts.route.Route as route;
+    ghost use Rattle.ripng_world.specs.Labs.{LabValue};
+    ghost use Rattle.ripngd_lab.specs.Sites.{value_of};
+
+    ghost Value = { LabValue };
+
+    ghost coded = { Prim.hlevel (codes, map_of.code {R = prefix_cmp} prefix.the_row.coded route.the_row.coded) };
+
+    ghost view = { λ s. value_of s.held };
+}
+
+impl Site {
+    /// A lab that starts.
+    pub fn lawful(lab: Lab<TrieRoutes>) -> Site
+        ensures { result ≡ lab }
+    {
+        Site {
+            held: Held::Lawful(lab),
+        }
+    }
+
+    /// The same routers, of which one may be lied to.
+    pub fn lied(self) -> Site
+        ensures { result ≡ self }
+    {
+        let Site { held } = self;
+        let running = match held {
+            Held::Lawful(lab) => lab.into_running(),
+            Held::Lied(running) => running,
+        };
+        Site {
+            held: Held::Lied(running),
+        }
+    }
+
+    /// The routers as they run.
+    pub fn running(&self) -> &Running<TrieRoutes>
+        ensures { result.now ≡ self.now }
+    {
+        match &self.held {
+            Held::Lawful(lab) => lab.running(),
+            Held::Lied(running) => running,
+        }
+    }
+
+    /// How many routers the network has.
+    pub fn routers(&self) -> usize
+        ensures { result ≡ length self.now.network }
+    {
+        self.running().routers()
+    }
+
+    /// All datagrams ever sent, numbered from 0.
+    pub fn sent(&self) -> &[Sent]
+        ensures { result.now ≡ self.now.world.sent }
+    {
+        self.running().sent()
+    }
+
+    /// An event happens, and a watcher is told of it with its answer.
+    ///
+    /// # Errors
+    /// The first reason to refuse the event, or want of memory, and then nobody is told; or the watcher's, and then the event is done.
+    pub fn step_watched<V: Watch<TrieRoutes>>(
+        &mut self,
+        event: &Event<'_>,
+        watch: &mut V,
+    ) -> Result<Answer, Stopped<LabError, V::Fault>>
+        ensures told { IfOk result (λ answer. V.takes watch.old (record { lab = self.new; event = event_of event.entry.now; answer = answer; first = length self.old.world.sent }) watch.new) }
+        ensures stopped { IfErr result (λ why. WatchedInPart V.takes V.fails (failures why) self.old.network (self.old.world, watch.old) (event_of event.entry.now ∷ []) (self.new.world, watch.new)) }
+        ensures happens { IfOk result (λ answer. HappensGiving self.old (event_of event.entry.now) answer self.new.world) }
+        ensures network { self.new.network ≡ self.old.network }
+    {
+        match &mut self.held {
+            Held::Lawful(lab) => lab.step_watched(event, watch),
+            Held::Lied(running) => running.step_watched(event, watch),
+        }
+    }
+}
