@@ -14,8 +14,8 @@ root=$(realpath "$(dirname "$0")/..")
 source=$root/page/src
 target=$root/crates/ripngd_page/src/template
 # The modules in order, in the three constants of the script: no file of the program is long.
-reading=(trace datagrams walks building layout)
-drawing=(texts markup drawing panes)
+reading=(trace datagrams walks building layout markup)
+drawing=(texts drawing panes)
 panes=(showing editor page)
 folder=$(mktemp -d)
 trap 'rm -rf "$folder"' EXIT
@@ -108,9 +108,9 @@ fi
 } | file markup 'The style of the page, and its elements'
 examples | constant EXAMPLES 'Each script as an element with its name.' | file examples 'The scripts to choose from'
 reading_part | constant READING 'From behind the trace to what draws.' |
-    file reading 'The start of the script of the page: traces, walks, scripts and layout'
+    file reading 'The start of the script of the page: traces, walks, scripts, layout and markup'
 modules "${drawing[@]}" | constant DRAWING 'What draws.' |
-    file drawing 'The script of the page: words, and the drawing and the other panes as markup'
+    file drawing 'The script of the page: words, the drawing and the other panes'
 panes_part | constant PANES 'From what is shown to the end of the page.' |
     file panes 'The end of the script of the page: what is shown, the editor, and what a click or a key does'
 

@@ -1,54 +1,112 @@
 #!/usr/bin/env python3
 """Proves and builds crates and all below them, as many side by side as there are processors.
 
-    tests/build.py CRATE..        programs and libraries; `tests/build.py --tried` those that have edits, and the program
+    tests/build.py CRATE..        programs and libraries
 
 Each crate is proved in a scratch tree of its own (trees.py), and what `rt` then kept is moved back. A crate that stands as it was proved
 here before is not proved again. A line tells of each crate that is done, and last how long all of it took; of a crate that is not proved,
 what `rt` said. The exit status is 0 where all are."""
 
-import concurrent.futures as futures
 import hashlib
-import os
+import re
 import shutil
 import subprocess
 import sys
 import tempfile
-import time
 
+from jobs import Job, Outcome, run_all, spent
 from trees import ROOT, SOURCES, below, libraries_of_all, make_tree
 
-SUM = "out/built.sum"
-PROGRAM = "ripngd_program"
+# What is kept of a proof beside what `rt` keeps: a sum of all that it was made from, and the names of the functions that it proved.
+SUM, FUNCTIONS = "built.sum", "functions"
 KIT = subprocess.run(["rt", "version"], capture_output=True, check=True).stdout
+HANDLES = set(re.sub(r"^Handles allowed: |\.$|none", "", (ROOT / "HANDLES").read_text().strip()).split(", "))
+# What a verdict's last line may not have, and warnings of contracts that say less than they seem to.
+REFUSED = {"foreign", "hides", "partial", "may-abort", "may-serve", "bugs"}
+WARNED = re.compile(r"^warning: (?:calls of a tactic that chose a term|no call of).*|^.* warning: this pattern binds a variable spelled.*", re.M)
 
 
-def sum_of(crate, libraries, sums):
-    """What tells whether a crate, or one below it, or the kit has changed."""
-    total = hashlib.sha256(repr([sums[library] for library in libraries[crate]]).encode() + KIT)
-    for part in SOURCES:
-        for file in sorted((ROOT / "crates" / crate / part).rglob("*")):
-            if file.is_file():
-                total.update(str(file.relative_to(ROOT)).encode() + b"\0" + file.read_bytes())
-    return total.hexdigest()
+def sums_of(crates, libraries):
+    """Of each crate what tells whether it, or one below it, or the kit has changed."""
+    sums = {}
+    for crate in crates:
+        total = hashlib.sha256(repr([sums[library] for library in libraries[crate]]).encode() + KIT)
+        for part in SOURCES:
+            for file in sorted((ROOT / "crates" / crate / part).rglob("*")):
+                if file.is_file():
+                    total.update(str(file.relative_to(ROOT)).encode() + b"\0" + file.read_bytes())
+        sums[crate] = total.hexdigest()
+    return sums
 
 
-def prove(crate, libraries, jobs, scratch):
-    """Proves and builds one crate in a tree of its own, and answers how it ended, what was said and the seconds that it took."""
-    begun = time.monotonic()
+def is_program(crate):
+    return (ROOT / "crates" / crate / "src/main.rt").is_file()
+
+
+def fault_of(said, is_of_tests=False):
+    """Why what the prover said is no verdict: what it takes of the system has to be allowed by HANDLES. None where it is one."""
+    verdicts = re.findall(r"^logic=.*$", said, re.M)
+    words = dict(word.partition("=")[::2] for word in (verdicts or ["logic="])[-1].split())
+    takes = {word for word in words.get("main", "").split("+") if word} - HANDLES - ({"Abort"} if is_of_tests else set())
+    if words["logic"] != "proved":
+        return "it is not proved"
+    if takes or (not is_of_tests and REFUSED.intersection(words)):
+        return f"its verdict has {' '.join([*takes, *REFUSED.intersection(words)])}"
+    warning = WARNED.search(said)
+    return warning and warning[0]
+
+
+def is_laid_out(own):
+    """Whether `rt fmt` would change nothing of a crate."""
+    before = {file: file.read_bytes() for part in SOURCES for file in (own / part).rglob("*") if file.is_file()}
+    subprocess.run(["rt", "fmt"], cwd=own, capture_output=True, check=True)
+    return all(file.read_bytes() == text for file, text in before.items())
+
+
+def prove(crate, libraries, scratch, begins, processes):
+    """Proves and builds one crate in a tree of its own, and answers why it is not proved, or None, and what was said."""
     tree = make_tree(crate, libraries, scratch)
     own, kept = tree / "crates" / crate, ROOT / "crates" / crate / "out"
     if kept.is_dir():
         kept.rename(own / "out")
-    command = ["rt", "run", "--jobs", str(jobs), "--", "show", "02010000"] if (own / "src/main.rt").is_file() else ["rt", "lib", "--jobs", str(jobs)]
-    # What is beside the longest way gives way to it.
-    if jobs == 1:
-        command = ["nice", "-n", "10", *command]
-    ran = subprocess.run(command, cwd=own, stdin=subprocess.DEVNULL, stdout=subprocess.PIPE, stderr=subprocess.STDOUT, text=True)
-    if (own / "out").is_dir():
-        (own / "out").rename(kept)
+        # Else `rt` could say no more than that nothing has changed.
+        shutil.rmtree(own / "out/rlib", ignore_errors=True)
+        (own / f"out/{crate}.stamp").unlink(missing_ok=True)
+    args = ROOT / "crates" / crate / "args"
+    words = ["--", *args.read_text().split()] if args.is_file() else []
+    command = ["rt", "run", "--jobs", str(processes), *words] if is_program(crate) else ["rt", "lib", "--jobs", str(processes)]
+    ran = subprocess.run([*begins, *command], cwd=own, stdin=subprocess.DEVNULL, stdout=subprocess.PIPE, stderr=subprocess.STDOUT, text=True, errors="replace")
+    fault = fault_of(ran.stdout)
+    if fault is None and not is_laid_out(own):
+        fault = "run rt fmt in its folder"
+    (own / "out" / FUNCTIONS).write_text("".join(f"{name}\n" for name in re.findall(r"^fn (\S+): proved", ran.stdout, re.M)))
+    (own / "out").rename(kept)
     shutil.rmtree(tree)
-    return ran.returncode == 0, ran.stdout, round(time.monotonic() - begun)
+    return fault, ran.stdout
+
+
+def proofs_of(wanted, libraries, scratch):
+    """The jobs that prove crates and all below them, where they are not proved as they stand."""
+    crates = [one for one in libraries if any(one == it or one in below(it, libraries) for it in wanted)]
+    crates.sort(key=lambda one: len(below(one, libraries)))
+    sums, ways = sums_of(crates, libraries), {}
+    for crate in reversed(crates):
+        ways[crate] = 1 + max((ways[one] for one in crates if crate in libraries[one]), default=0)
+
+    def job_of(crate):
+        def call(begins, processes):
+            file = ROOT / "crates" / crate / "out" / SUM
+            if file.is_file() and file.read_text() == sums[crate] and (file.parent / FUNCTIONS).is_file():
+                return Outcome(passed=1)
+            fault, said = prove(crate, libraries, scratch, begins, processes)
+            if fault:
+                return Outcome(failed=1, said=f"{said}\nFAILED {crate}: {fault}")
+            file.write_text(sums[crate])
+            return Outcome(passed=1, said=f"proved {crate}")
+
+        return Job(("proof", crate), call, tuple(("proof", one) for one in libraries[crate]), ways[crate])
+
+    return [job_of(crate) for crate in crates]
 
 
 def main(wanted):
@@ -56,47 +114,13 @@ def main(wanted):
     for crate in wanted:
         if crate not in libraries:
             sys.exit(f"crates.txt has no crate {crate}")
-    crates = [one for one in libraries if any(one == it or one in below(it, libraries) for it in wanted)]
-    crates.sort(key=lambda one: len(below(one, libraries)))
-    ways = {}
-    for crate in reversed(crates):
-        ways[crate] = 1 + max((ways[one] for one in crates if crate in libraries[one]), default=0)
-    sums, done = {}, set()
-    for crate in crates:
-        sums[crate] = sum_of(crate, libraries, sums)
-        file = ROOT / "crates" / crate / SUM
-        if file.is_file() and file.read_text() == sums[crate]:
-            done.add(crate)
-    cores, begun, running = os.cpu_count() or 1, time.monotonic(), {}
-    with tempfile.TemporaryDirectory(dir=ROOT, prefix=".building-") as scratch, futures.ThreadPoolExecutor(cores) as pool:
-        while len(done) < len(crates):
-            waiting = [one for one in crates if one not in done and all(one != at for at, _ in running.values())]
-            ready = [one for one in waiting if all(library in done for library in libraries[one])]
-            # The crate with the longest way to the program has as many jobs as there are processors, all others one each, and
-            # comes first where they have to share: the longest way decides when all is done.
-            for crate in sorted(ready, key=lambda one: -ways[one])[: cores - len(running)]:
-                is_longest = all(ways[at] < ways[crate] for at, _ in running.values())
-                jobs = cores if is_longest else 1
-                running[pool.submit(prove, crate, libraries, jobs, scratch)] = (crate, jobs)
-            for ended in futures.wait(running, return_when=futures.FIRST_COMPLETED).done:
-                crate, _ = running.pop(ended)
-                is_proved, said, seconds = ended.result()
-                if not is_proved:
-                    print(f"{said}\n{crate} is not proved", file=sys.stderr)
-                    return 1
-                (ROOT / "crates" / crate / SUM).write_text(sums[crate])
-                done.add(crate)
-                print(f"proved {crate}, in {seconds} s", flush=True)
-    print(f"{len(crates)} crates, in {(time.monotonic() - begun) / 60:.1f} minutes")
-    return 0
-
-
-def tried():
-    """The crates that have edits, and the program."""
-    return [PROGRAM, *[one for one in libraries_of_all() if any((ROOT / "crates" / one / "edits").glob("*.edit"))]]
+    with tempfile.TemporaryDirectory(dir=ROOT, prefix=".building-") as scratch:
+        passed, failed = run_all(proofs_of(wanted, libraries, scratch))
+    print(f"{passed} crates, in {spent()}")
+    return 1 if failed else 0
 
 
 if __name__ == "__main__":
     if len(sys.argv) < 2:
-        sys.exit("usage: tests/build.py CRATE.. or --tried")
-    sys.exit(main(tried() if sys.argv[1:] == ["--tried"] else sys.argv[1:]))
+        sys.exit("usage: tests/build.py CRATE..")
+    sys.exit(main(sys.argv[1:]))

@@ -1,10 +1,9 @@
 #!/usr/bin/env python3
 """Tries wrong bodies: edits of the code, each of which the prover must refuse at a goal of the function that it changes.
 
-    tests/edits.py                       those of all crates that the gate tries
     tests/edits.py CRATE [EDIT]          all of a crate, or the one of that name
 
-A crate and what is below it must have been proved here, by `tests/build.py CRATE`; `make edits` sees to it. An edit is a file
+The crate must have been proved here, as it stands, by `tests/build.py CRATE`; `make edits` sees to it. An edit is a file
 `crates/CRATE/edits/NAME.edit` with a line `file:` and then lines `old:` and `new:`; `old` stands once in that file. One that begins with
 a line `beside:` shows the same hole of the same clause as the edit that is named there, and the gate leaves it out.
 
@@ -14,17 +13,16 @@ the very function stays open. One that changes no single function, as a constant
 show, as of a function that has no clause, is tried alone: there a goal of any function counts.
 
 A line tells of each check, and of each edit that is not refused; last comes `N passed, M failed`. The exit status is 0 exactly where M
-is 0."""
+is 0. The gate tries those of all crates so (prove.py)."""
 
-import concurrent.futures as futures
-import os
 import re
 import shutil
 import subprocess
 import sys
 import tempfile
-import time
 
+from build import FUNCTIONS
+from jobs import GIVING_WAY, Job, Outcome, run_all
 from trees import ROOT, libraries_of_all, make_tree
 
 FUNCTION = re.compile(r"\s*(?:pub(?:\([^)]*\))? )?(?:const )?(?:unsafe )?fn (\w+)")
@@ -101,7 +99,7 @@ def named(place, names):
 
 def check(tree, crate, words):
     """Checks the crate of a tree, and answers what is said of each function."""
-    command = ["timeout", str(PATIENCE), "rt", "check", "--jobs", "1", *words]
+    command = [*GIVING_WAY, "timeout", str(PATIENCE), "rt", "check", "--jobs", "1", *words]
     ran = subprocess.run(command, cwd=tree / "crates" / crate, stdin=subprocess.DEVNULL, capture_output=True, text=True, errors="replace")
     said = {}
     for line in ran.stdout.splitlines():
@@ -128,39 +126,50 @@ def is_within(name, function):
 
 
 def try_together(batch, libraries, scratch):
-    """Makes edits of different functions together, and answers those that were refused. Where they do not compile, each half of them is
-    tried by itself."""
-    crate, begun = batch[0].crate, time.monotonic()
+    """Makes edits of different functions together. Those that are not refused so are tried alone, and where they do not compile each half of
+    them by itself."""
+    crate = batch[0].crate
     tree = make_tree(crate, libraries, scratch, ["incremental"])
     for edit in batch:
         edit.apply(tree / "crates" / crate)
     functions = sorted(set().union(*[edit.functions for edit in batch]))
     ran, said = check(tree, crate, ["--allow-holes", *[word for one in functions for word in ("--only", one)]])
     shutil.rmtree(tree)
-    if not said and len(batch) > 1:
+    if not said:
         half = len(batch) // 2
-        return try_together(batch[:half], libraries, scratch) + try_together(batch[half:], libraries, scratch)
+        return Outcome(more=jobs_of([batch[:half], batch[half:]], libraries, scratch))
     opened = [name for name in said if is_open(name, said, ran.stdout)]
     refused = [edit for edit in batch if any(is_within(name, one) for name in opened for one in edit.functions)]
-    print(f"{crate}: {len(refused)} of {len(batch)} refused together, in {time.monotonic() - begun:.0f} s", flush=True)
-    return refused
+    alone = jobs_of([[edit] for edit in batch if edit not in refused], libraries, scratch)
+    return Outcome(passed=len(refused), said=f"{crate}: {len(refused)} of {len(batch)} refused together", more=alone)
 
 
 def try_alone(edit, libraries, scratch):
-    """Makes one edit, and answers why it is not refused, or None."""
-    begun = time.monotonic()
+    """Makes one edit, for which a goal of any function may stay open."""
     tree = make_tree(edit.crate, libraries, scratch, ["incremental"])
     edit.apply(tree / "crates" / edit.crate)
     ran, _ = check(tree, edit.crate, [])
     shutil.rmtree(tree)
+    name = f"{edit.crate}/{edit.name}"
     if ran.returncode == 0:
-        return "NOT REFUSED: the crate is still proved with it"
+        return Outcome(failed=1, said=f"FAILED {name}: NOT REFUSED: the crate is still proved with it")
     if not re.search(r"^logic=not-proved", ran.stdout, re.M):
-        return f"BAD EDIT: it did not reach the prover: {ran.stdout[-300:]}"
+        return Outcome(failed=1, said=f"FAILED {name}: BAD EDIT: it did not reach the prover: {ran.stdout[-300:]}")
     told = [line for line in ran.stdout.splitlines() if re.match(r"note: src/|\./proofs/.*: error: ", line)]
     by = "" if any(not SHAPE.search(line) for line in told) else ", only as a proof file names what it took away"
-    print(f"{edit.crate}/{edit.name}: refused alone{by}, in {time.monotonic() - begun:.0f} s", flush=True)
-    return None
+    return Outcome(passed=1, said=f"{name}: refused alone{by}")
+
+
+def jobs_of(batches, libraries, scratch):
+    """The jobs that try batches of edits, each of a crate that is proved."""
+
+    def job_of(batch):
+        def call(_begins, _processes):
+            return try_together(batch, libraries, scratch) if len(batch) > 1 else try_alone(batch[0], libraries, scratch)
+
+        return Job(("edits", batch[0].crate, *[edit.name for edit in batch]), call)
+
+    return [job_of(batch) for batch in batches]
 
 
 def batches_of(edits):
@@ -176,39 +185,36 @@ def batches_of(edits):
     return batches
 
 
-def edits_of(crate, wanted, is_all, libraries, scratch):
-    """The edits of a crate, once it is seen to be proved as it stands."""
-    files = sorted((ROOT / "crates" / crate / "edits").glob(f"{wanted or '*'}.edit"))
-    tree = make_tree(crate, libraries, scratch, ["incremental"])
-    ran, said = check(tree, crate, [])
-    shutil.rmtree(tree)
-    if ran.returncode != 0:
-        sys.exit(f"{crate} is not proved here as it stands: run tests/build.py {crate}\n{ran.stdout[-2000:]}")
-    edits = [Edit(crate, file, said) for file in files]
-    return edits if wanted is not None or is_all else [edit for edit in edits if not edit.is_beside]
+def edits_of(crate, wanted=None, is_all=True):
+    """The edits of a crate that is proved: all, the one that is wanted, or those that the gate tries."""
+    names = (ROOT / "crates" / crate / "out" / FUNCTIONS).read_text().split()
+    edits = [Edit(crate, file, names) for file in sorted((ROOT / "crates" / crate / "edits").glob(f"{wanted or '*'}.edit"))]
+    return edits if wanted or is_all else [edit for edit in edits if not edit.is_beside]
 
 
-def main(crate=None, wanted=None):
-    libraries = libraries_of_all()
-    crates = [one for one in libraries if any((ROOT / "crates" / one / "edits").glob("*.edit")) and crate in (None, one)]
-    failed = []
-    with tempfile.TemporaryDirectory(dir=ROOT, prefix=".building-") as scratch, futures.ThreadPoolExecutor(len(os.sched_getaffinity(0))) as pool:
-        edits = sum(pool.map(lambda one: edits_of(one, wanted, crate is not None, libraries, scratch), crates), [])
-        failed += [(edit, f"BAD EDIT: {edit.fault}") for edit in edits if edit.fault]
-        sound = [edit for edit in edits if not edit.fault]
-        batches = [batch for one in crates for batch in batches_of([it for it in sound if it.crate == one and it.functions])]
-        together = [batch for batch in batches if len(batch) > 1]
-        refused = sum(pool.map(lambda batch: try_together(batch, libraries, scratch), together), [])
-        alone = [edit for edit in sound if edit not in refused]
-        for edit, why in zip(alone, pool.map(lambda edit: try_alone(edit, libraries, scratch), alone)):
-            failed += [(edit, why)] if why else []
-    for edit, why in failed:
-        print(f"FAILED {edit.crate}/{edit.name}: {why}")
-    print(f"{len(edits) - len(failed)} passed, {len(failed)} failed")
-    return 1 if failed or not edits else 0
+def tries_of(edits, libraries, scratch):
+    """What is known of edits before they are tried, with the jobs that try them."""
+    bad = [edit for edit in edits if edit.fault]
+    batches = batches_of([edit for edit in edits if not edit.fault and edit.functions])
+    batches += [[edit] for edit in edits if not edit.fault and not edit.functions]
+    said = "\n".join(f"FAILED {edit.crate}/{edit.name}: BAD EDIT: {edit.fault}" for edit in bad)
+    return Outcome(failed=len(bad), said=said, more=jobs_of(batches, libraries, scratch))
+
+
+def main(crate, wanted=None):
+    if not (ROOT / "crates" / crate / "out" / FUNCTIONS).is_file():
+        sys.exit(f"{crate} is not proved here: run tests/build.py {crate}")
+    edits = edits_of(crate, wanted)
+    with tempfile.TemporaryDirectory(dir=ROOT, prefix=".building-") as scratch:
+        found = tries_of(edits, libraries_of_all(), scratch)
+        if found.said:
+            print(found.said)
+        passed, failed = run_all(found.more)
+    print(f"{passed} passed, {failed + found.failed} failed")
+    return 1 if failed + found.failed or not edits else 0
 
 
 if __name__ == "__main__":
-    if len(sys.argv) > 3:
-        sys.exit("usage: tests/edits.py [CRATE [EDIT]]")
+    if len(sys.argv) not in (2, 3):
+        sys.exit("usage: tests/edits.py CRATE [EDIT]")
     sys.exit(main(*sys.argv[1:]))

@@ -1,52 +1,62 @@
 #!/usr/bin/env bash
-# The merge gate, from nothing: proofs, tests and programs (`rt ci`); then the edits that must be refused; the examples, real daemons,
-# flooded networks, networks that heal, the page, and the companion on real links, run by the program that this built; then calls
-# whose growths are refused. What needs a package of the system (tests/packages.txt) says where it is skipped. Its last line,
-# `N passed, M failed`, counts them all.
+# The merge gate, from nothing: proofs, tests, programs and the edits that must be refused (prove.py); the examples, real daemons,
+# flooded networks, networks that heal, the companion on real links, and the page, run by the program that this built as soon as it
+# stands; then calls whose growths are refused. What needs a package of the system (tests/packages.txt) says where it is skipped. Its
+# last line, `N passed, M failed`, counts them all.
 set -u
 cd "$(dirname "$0")/.." || exit 1
 
 folder=$(mktemp -d)
-trap 'rm -rf "$folder"' EXIT
+prover=
+trap 'rm -rf "$folder"; [ -z "$prover" ] || kill "$prover" 2> /dev/null' EXIT
+failed=0
+passed=0
 
-# `counted WORD FILE`: the number before that word in the last line of a file, or 0.
-counted() {
-    tail -n 1 "$2" | grep -oE "[0-9]+ $1" | grep -oE '^[0-9]+' || echo 0
+# `part NAME COMMAND..`: runs a part of the gate, and says how long it took. What it says last is counted by `count`.
+part() {
+    local name=$1 begun=$SECONDS
+    shift
+    "$@" | tee "$folder/$name"
+    echo "$name took $((SECONDS - begun)) s"
+}
+
+# `count NAME`: adds what the last line of a part counts. One that ended without such a line has failed.
+count() {
+    local last
+    last=$(tail -n 1 "$folder/$1")
+    if [[ $last =~ ^([0-9]+)\ passed,\ ([0-9]+)\ failed$ ]]; then
+        passed=$((passed + BASH_REMATCH[1]))
+        failed=$((failed + BASH_REMATCH[2]))
+    else
+        echo "FAILED $1: it did not come to its end"
+        failed=$((failed + 1))
+    fi
 }
 
 # The page stands twice, in a file and as constants of the program: it must be the same.
-status=0
-page/embed.sh --check || status=1
-
-rt ci | tee "$folder/proofs"
-[ "${PIPESTATUS[0]}" = 0 ] || status=1
-
-# `rt ci` keeps nothing of its proofs for a later check, so crates are proved once more, by functions that are kept.
-{ tests/build.py --tried && tests/edits.py; } | tee "$folder/edits"
-[ "${PIPESTATUS[0]}" = 0 ] || status=1
+page/embed.sh --check || failed=1
 
 program=crates/ripngd_program/out/ripngd_program
-tests/examples.sh "$program" | tee "$folder/examples"
-[ "${PIPESTATUS[0]}" = 0 ] || status=1
-tests/daemon.sh "$program" | tee "$folder/daemons"
-[ "${PIPESTATUS[0]}" = 0 ] || status=1
-tests/floods.sh "$program" | tee "$folder/floods"
-[ "${PIPESTATUS[0]}" = 0 ] || status=1
-tests/healing.sh "$program" | tee "$folder/healings"
-[ "${PIPESTATUS[0]}" = 0 ] || status=1
-tests/page.sh "$program" | tee "$folder/pages"
-[ "${PIPESTATUS[0]}" = 0 ] || status=1
-tests/links.sh "$program" | tee "$folder/links"
-[ "${PIPESTATUS[0]}" = 0 ] || status=1
-tests/growth.sh | tee "$folder/growths"
-[ "${PIPESTATUS[0]}" = 0 ] || status=1
-
-passed=0
-failed=0
-for said in proofs edits examples daemons floods healings pages links growths; do
-    passed=$((passed + $(counted passed "$folder/$said")))
-    failed=$((failed + $(counted failed "$folder/$said")))
+rm -rf crates/*/out
+part proofs tests/prove.py &
+prover=$!
+until [ -f crates/ripngd_program/out/built.sum ] || ! kill -0 "$prover" 2> /dev/null; do
+    sleep 5
 done
-[ "$status" = 0 ] || [ "$failed" != 0 ] || failed=1
+
+# The rest of the proofs gives way to these.
+part examples tests/examples.sh "$program"
+part daemons tests/daemon.sh "$program"
+part floods tests/floods.sh "$program"
+part healings tests/healing.sh "$program"
+part links tests/links.sh "$program"
+part pages tests/page.sh "$program"
+part growths tests/growth.sh
+wait "$prover"
+prover=
+
+for name in proofs examples daemons floods healings links pages growths; do
+    count "$name"
+done
 echo "$passed passed, $failed failed"
-exit "$status"
+[ "$failed" = 0 ] && [ "$passed" != 0 ]

@@ -1,5 +1,5 @@
 // The panes beside the drawing: events, tables, and what is told of what was chosen.
-import { UNREACHABLE, hasCome, isLost, named, onTheirWay, otherEnds } from './trace.js';
+import { UNREACHABLE, hasCome, isLost, named, onTheirWay, otherEnds, senderAt } from './trace.js';
 import { leastCosts, metricRuns, offersOf, tallyAll, walkOf, wayText, withoutRings } from './walks.js';
 import { decode, prefixKey } from './datagrams.js';
 import { LINES, describe, plural, refusals, seconds } from './texts.js';
@@ -76,7 +76,7 @@ function rowOf({ trace, state, before, mine }, router, entry) {
 const partsOf = ({ route } = { route: {} }) => JSON.stringify([route.metric, route.tag, route.gateway]);
 const differs = (entry, before) => partsOf(entry) !== partsOf(before);
 const wayOf = (trace, { iface, from, next_hop }) =>
-  `R${trace.routerAt.get(from)}, if ${iface}${next_hop === from ? '' : `, to ${next_hop}`}`;
+  `${senderAt(trace, from)}, if ${iface}${next_hop === from ? '' : `, to ${next_hop}`}`;
 const exactly = gateway =>
   gateway ? `via ${gateway.next_hop} iface ${gateway.iface} from ${gateway.from}` : 'own';
 

@@ -31,6 +31,9 @@ function addEnds(trace, routers) {
   }
 }
 
+// Who sent from an address, in words: a router of the network, or by its address a liar, which is none.
+export const senderAt = ({ routerAt }, address) => routerAt.has(address) ? `R${routerAt.get(address)}` : address;
+
 // A datagram has its arrivals; `doneAt` is the step at which it has come to all others of its link.
 function addDatagram(trace, sent, step) {
   const end = trace.ends[sent.router][sent.iface];

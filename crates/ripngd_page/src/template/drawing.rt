@@ -1,4 +1,4 @@
-//! The script of the page: words, and the drawing and the other panes as markup.
+//! The script of the page: words, the drawing and the other panes.
 //! Written by page/embed.sh: change page/src or examples/, and run it.
 
 /// What draws.
@@ -99,16 +99,6 @@ function describe({ record, why, routers, router, event, sent, changes, prints, 
 function refusals({ fault, notes }) {
   if (fault) return [`refused ${fault.number} ${fault.name}${reasonOf(fault.name)}`];
   return (notes ?? []).map(({ entry, number, name }) => `entry ${entry} refused ${number} ${name}${reasonOf(name)}`);}
-class Markup { constructor(text) { this.text = text; } }
-const html = (texts, ...values) =>
-  new Markup(texts.reduce((text, next, index) => text + escaped(values[index - 1]) + next));
-function escaped(value) {
-  if (value instanceof Markup) return value.text;
-  if (Array.isArray(value)) return value.map(escaped).join('');
-  return String(value ?? '').replace(/[&<>"]/g, sign => `&#${sign.charCodeAt(0)};`);}
-const classes = (...names) => names.filter(Boolean).join(' ');
-const choice = (text, label, chosen) => html`data-choose="${text}" tabindex="-1" role="button"
-  aria-label="${label}" aria-pressed="${text === chosen}"`;
 const prefixInView = ({ trace, chosen }) =>
   named(chosen, trace)?.prefix ?? trace.steps[0].routers.flatMap(router => router.prefixes)[0]?.prefix;
 function chosenWalk({ trace, step, chosen }) {
@@ -266,7 +256,7 @@ function rowOf({ trace, state, before, mine }, router, entry) {
 const partsOf = ({ route } = { route: {} }) => JSON.stringify([route.metric, route.tag, route.gateway]);
 const differs = (entry, before) => partsOf(entry) !== partsOf(before);
 const wayOf = (trace, { iface, from, next_hop }) =>
-  `R${trace.routerAt.get(from)}, if ${iface}${next_hop === from ? '' : `, to ${next_hop}`}`;
+  `${senderAt(trace, from)}, if ${iface}${next_hop === from ? '' : `, to ${next_hop}`}`;
 const exactly = gateway =>
   gateway ? `via ${gateway.next_hop} iface ${gateway.iface} from ${gateway.from}` : 'own';
 const printedRoute = (router, { prefix, metric, tag, gateway }) =>

@@ -7,7 +7,7 @@ pub const HEAD: &str = r##"<!doctype html>
 <head>
 <meta charset="utf-8">
 <meta name="viewport" content="width=device-width, initial-scale=1">
-<meta http-equiv="Content-Security-Policy" content="default-src 'none'; script-src 'sha256-2sC0KD4lgsbxDh8V7yxoJy+DJsXORqoSuK53vNXAGoc=';
+<meta http-equiv="Content-Security-Policy" content="default-src 'none'; script-src 'sha256-DMh3VdE8VZx+PVm56Ng0GpIo8QRAcbN0/UzxslAZ2+o=';
   style-src 'unsafe-inline'; img-src data:; connect-src 'self'; base-uri 'none'; form-action 'none'">
 <meta name="referrer" content="no-referrer">
 <link rel="icon" href="data:image/svg+xml,%3Csvg xmlns='http://www.w3.org/2000/svg' viewBox='0 0 16 16'%3E%3Cpath

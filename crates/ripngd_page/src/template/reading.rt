@@ -1,4 +1,4 @@
-//! The start of the script of the page: traces, walks, scripts and layout.
+//! The start of the script of the page: traces, walks, scripts, layout and markup.
 //! Written by page/embed.sh: change page/src or examples/, and run it.
 
 /// From behind the trace to what draws.
@@ -24,6 +24,7 @@ function addEnds(trace, routers) {
   for (const end of trace.ends.flat()) {
     trace.links.set(end.link, [...trace.links.get(end.link) ?? [], end]);
     trace.routerAt.set(end.addr, end.router);}}
+const senderAt = ({ routerAt }, address) => routerAt.has(address) ? `R${routerAt.get(address)}` : address;
 function addDatagram(trace, sent, step) {
   const end = trace.ends[sent.router][sent.iface];
   trace.datagrams.push({ ...sent, end, sentAt: step, arrivals: [], doneAt: Infinity });
@@ -319,4 +320,14 @@ function fitted(spots, shifts, pane) {
   const { size: width, at: xs } = along('x', pane.width), { size: height, at: ys } = along('y', pane.height);
   const apart = nearest * scale, places = xs.map((x, spot) => ({ x, y: ys[spot] }));
   return { width, height, places, radius: Math.min(20, Math.max(9, 0.3 * apart)), roomy: apart >= NEAREST.roomy };}
+class Markup { constructor(text) { this.text = text; } }
+const html = (texts, ...values) =>
+  new Markup(texts.reduce((text, next, index) => text + escaped(values[index - 1]) + next));
+function escaped(value) {
+  if (value instanceof Markup) return value.text;
+  if (Array.isArray(value)) return value.map(escaped).join('');
+  return String(value ?? '').replace(/[&<>"]/g, sign => `&#${sign.charCodeAt(0)};`);}
+const classes = (...names) => names.filter(Boolean).join(' ');
+const choice = (text, label, chosen) => html`data-choose="${text}" tabindex="-1" role="button"
+  aria-label="${label}" aria-pressed="${text === chosen}"`;
 "##;

@@ -1,0 +1,79 @@
+"""Work that is done side by side: each piece once what it needs is done, what others wait for the longest first.
+
+The longest way of pieces that wait for one another decides when all is done. So what begins that way has as many processes as there are
+processors; all else has one, and gives way to it."""
+
+import concurrent.futures as futures
+import dataclasses
+import os
+import time
+from collections.abc import Callable
+
+CORES = len(os.sched_getaffinity(0))
+# How a command begins whose work gives way to other work.
+GIVING_WAY = ["nice", "-n", "10"]
+
+
+@dataclasses.dataclass
+class Outcome:
+    """What came of a piece of work: how much of it passed and failed, what is to be said of it, and work that it found."""
+
+    passed: int = 0
+    failed: int = 0
+    said: str = ""
+    more: list["Job"] = dataclasses.field(default_factory=list)
+
+
+@dataclasses.dataclass
+class Job:
+    """A piece of work, by a name of its own. Its call gets the words before its commands, and how many processes they may have; what it needs
+    are names of others; its way is how many pieces, itself one, wait for one another from it on."""
+
+    name: tuple[str, ...]
+    call: Callable[[list[str], int], Outcome]
+    needs: tuple[tuple[str, ...], ...] = ()
+    way: int = 0
+
+
+def run_all(jobs):
+    """Runs jobs, says of each what came of it as it ends, and answers how many of all pieces passed and failed. A job that needs one that
+    failed is not begun, and counts as failed."""
+    left, running, well, bad = list(jobs), {}, set(), set()
+    passed = failed = 0
+    with futures.ThreadPoolExecutor(CORES) as pool:
+        while left or running:
+            lost = [one for one in left if bad.intersection(one.needs)]
+            for job in lost:
+                print(f"FAILED {' '.join(job.name)}: what it needs failed", flush=True)
+            bad.update(one.name for one in lost)
+            failed, left = failed + len(lost), [one for one in left if one not in lost]
+            ready = sorted((one for one in left if well.issuperset(one.needs)), key=lambda one: -one.way)
+            for job in ready[: CORES - len(running)]:
+                is_longest = job.way > max([0, *[one.way for one in running.values()]])
+                begins, processes = ([], CORES) if is_longest else (GIVING_WAY, 1)
+                running[pool.submit(timed, job, begins, processes)] = job
+                left.remove(job)
+            if left and not running and not lost:
+                raise ValueError(f"nothing gives what these need: {[one.name for one in left]}")
+            for ended in futures.wait(running, return_when=futures.FIRST_COMPLETED).done:
+                job, (outcome, seconds) = running.pop(ended), ended.result()
+                (bad if outcome.failed else well).add(job.name)
+                passed, failed, left = passed + outcome.passed, failed + outcome.failed, left + outcome.more
+                if outcome.said:
+                    print(f"{outcome.said}, in {seconds:.0f} s", flush=True)
+    return passed, failed
+
+
+def timed(job, begins, processes):
+    begun = time.monotonic()
+    return job.call(begins, processes), time.monotonic() - begun
+
+
+def spent():
+    """The time since this process began its work, and what it and all that it started took of processors, in words."""
+    took = os.times()
+    processor = took.user + took.system + took.children_user + took.children_system
+    return f"{(time.monotonic() - BEGUN) / 60:.1f} minutes, {processor / 60:.0f} processor minutes"
+
+
+BEGUN = time.monotonic()
