@@ -39,6 +39,12 @@ def sums_of(crates, libraries):
     return sums
 
 
+def lines_of(crate):
+    """How long a crate is, which tells roughly how long its proof takes."""
+    files = [file for part in SOURCES for file in (ROOT / "crates" / crate / part).rglob("*") if file.is_file()]
+    return sum(file.read_bytes().count(b"\n") for file in files)
+
+
 def is_program(crate):
     return (ROOT / "crates" / crate / "src/main.rt").is_file()
 
@@ -91,7 +97,7 @@ def proofs_of(wanted, libraries, scratch):
     crates.sort(key=lambda one: len(below(one, libraries)))
     sums, ways = sums_of(crates, libraries), {}
     for crate in reversed(crates):
-        ways[crate] = 1 + max((ways[one] for one in crates if crate in libraries[one]), default=0)
+        ways[crate] = lines_of(crate) + max((ways[one] for one in crates if crate in libraries[one]), default=0)
 
     def job_of(crate):
         def call(begins, processes):

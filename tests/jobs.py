@@ -27,7 +27,7 @@ class Outcome:
 @dataclasses.dataclass
 class Job:
     """A piece of work, by a name of its own. Its call gets the words before its commands, and how many processes they may have; what it needs
-    are names of others; its way is how many pieces, itself one, wait for one another from it on."""
+    are names of others; its way is how much work, its own and what waits for it, has to be done one after another from it on."""
 
     name: tuple[str, ...]
     call: Callable[[list[str], int], Outcome]

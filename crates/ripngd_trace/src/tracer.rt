@@ -1,26 +1,24 @@
 //! A script, traced.
 
-ghost use Rattle.std.specs.Prelude.{◌≡◌, [], ◌∷◌, ◌++◌, IfOk, IfSome, OnErr, OnOk, Option, Some, codes, option_map, slice_get, slice_set};
+ghost use Rattle.std.specs.Prelude.{◌≡◌, [], ◌∷◌, ◌++◌, IfOk, IfSome, OnErr, OnOk, Option, Some, option_map, slice_get, slice_set};
 ghost use Rattle.ripng_world.specs.Events.{event_of};
 ghost use Rattle.ripng_world.specs.Labs.{LabValue};
 ghost use Rattle.ripng_world.specs.World.{Stranger};
 ghost use Rattle.ripngd_trace.specs.Events.{RecordTells, TellsLie};
-ghost use Rattle.ripngd_trace.specs.Lines.{WritesLess, WritesRecord};
 ghost use Rattle.ripngd_trace.specs.Offers.{TellsOffers};
 ghost use Rattle.ripngd_trace.specs.Reading.{IsTraced, IsTracedUntil, all_timers, tables_of};
 ghost use Rattle.ripngd_trace.specs.Records.{LeadsTo, timers_in};
-ghost use Rattle.ripngd_trace.specs.Saying.{BreaksOff, SaysAside, SaysEvent, SaysPhases, SaysStart};
+ghost use Rattle.ripngd_trace.specs.Saying.{BreaksOff, SaysAside, SaysEvent, SaysStart};
 ghost use Rattle.ripngd_trace.specs.Starting.{AreTold, TellsRouter, TellsStart};
 ghost use Rattle.ripngd_trace.specs.Updates.{TellsUpdate};
+
+mod saying;
 
 use crate::answers::{change_records, fault_record, note_records, sent_since};
 use crate::events::{again, happened, lie_told, moment_of, router_of};
 use crate::network::{interface_records, owned_records};
 use crate::offers::offers_of;
-use crate::records::{
-    EventRecord, LostRecord, PhasesRecord, PrintRecord, RefusedRecord, RouterRecord, StartRecord,
-    Timers,
-};
+use crate::records::{EventRecord, RouterRecord, StartRecord, Timers};
 use crate::tables::{News, news_of, timers_in, timers_of};
 use crate::updates::update_of;
 use crate::writing::write_record;
@@ -30,7 +28,6 @@ use route_table::{Moment, RouteStore, TrieRoutes};
 use router_core::{Answer, Arrival, Router};
 use std::alloc::{AllocError, Global};
 use std::io::{self, Write};
-use std::str;
 
 /// Runs a script as [`ripngd_lab::lab`] does, and answers whether every line was done. In place of what its lines print, a
 /// line of JSON is written to `out` for the cold start, for each event, for each line that prints, and for the line that is
@@ -272,71 +269,6 @@ impl<'a, W: Write> Tracer<'a, W> {
         let mut record = self.event_record(running, &event, answer, first)?;
         record.event = lie_told(self.alloc, arrival)?;
         Ok(record)
-    }
-
-    /// What a line prints.
-    fn write_prints(&mut self, word: &'static str, prints: &[u8]) -> io::Result<()>
-        ensures whole { OnOk result ((r : PrintRecord) × (r.«record».now ≡ word.now) × WritesRecord r (W.contents self.old.out.now) (W.contents self.new.out.now)) }
-        ensures broken { OnErr result (WritesLess (W.contents self.old.out.now) (W.contents self.new.out.now)) }
-        ensures known { self.new.known.items ≡ self.old.known.items }
-        ensures timers { self.new.timers.items ≡ self.old.timers.items }
-        ensures same_reference { self.new.out.ghost_name ≡ self.old.out.ghost_name }
-    {
-        let text = str::from_utf8(prints).unwrap_or("");
-        let record = PrintRecord {
-            line: self.line,
-            record: word,
-            prints: text.lines().collect(self.alloc)?,
-        };
-        write_record(self.alloc, &record, self.out)
-    }
-
-    /// A line that says that a datagram is lost.
-    fn write_lost(&mut self, datagram: usize) -> io::Result<()>
-        ensures whole { OnOk result ((r : LostRecord) × (r.«record».now ≡ codes "lost") × (r.datagram ≡ datagram) × WritesRecord r (W.contents self.old.out.now) (W.contents self.new.out.now)) }
-        ensures broken { OnErr result (WritesLess (W.contents self.old.out.now) (W.contents self.new.out.now)) }
-        ensures known { self.new.known.items ≡ self.old.known.items }
-        ensures timers { self.new.timers.items ≡ self.old.timers.items }
-        ensures same_reference { self.new.out.ghost_name ≡ self.old.out.ghost_name }
-    {
-        let record = LostRecord {
-            line: self.line,
-            record: "lost",
-            datagram,
-        };
-        write_record(self.alloc, &record, self.out)
-    }
-
-    /// A line that has made phases.
-    fn write_phases(&mut self, made: &MadePhases) -> io::Result<()>
-        ensures whole { OnOk result (SaysPhases (record { line = self.old.line; known = self.old.known.items; timers = self.old.timers.items; written = W.contents self.old.out.now }) made.now.phases made.now.last
-            (record { line = self.new.line; known = self.new.known.items; timers = self.new.timers.items; written = W.contents self.new.out.now })) }
-        ensures broken { OnErr result (WritesLess (W.contents self.old.out.now) (W.contents self.new.out.now)) }
-        ensures same_reference { self.new.out.ghost_name ≡ self.old.out.ghost_name }
-    {
-        let record = PhasesRecord {
-            line: self.line,
-            record: "phases",
-            phases: made.phases,
-            last: made.last,
-        };
-        write_record(self.alloc, &record, self.out)
-    }
-
-    /// A line that ends the script, and why.
-    fn write_refused(&mut self, why: &str) -> io::Result<()>
-        ensures whole { OnOk result ((r : RefusedRecord) × (r.«record».now ≡ codes "refused") × WritesRecord r (W.contents self.old.out.now) (W.contents self.new.out.now)) }
-        ensures broken { OnErr result (WritesLess (W.contents self.old.out.now) (W.contents self.new.out.now)) }
-        ensures known { self.new.known.items ≡ self.old.known.items }
-        ensures timers { self.new.timers.items ≡ self.old.timers.items }
-        ensures same_reference { self.new.out.ghost_name ≡ self.old.out.ghost_name }
-    {
-        let record = RefusedRecord {
-            line: self.line,
-            record: "refused",
-            why,
-        };
-        write_record(self.alloc, &record, self.out)
     }
 }
 
