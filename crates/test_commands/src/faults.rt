@@ -81,7 +81,14 @@ const SIGNED: [&[&str]; 15] = [
     &["ripngd", "run", "--turns=+5", "absent.toml"],
     &["ripngd", "run", "--turns", "+05", "absent.toml"],
     &["ripngd", "run", "--seconds", "+3", "absent.toml"],
-    &["ripngd", "run", "--turns", "5", "--seconds=+3", "absent.toml"],
+    &[
+        "ripngd",
+        "run",
+        "--turns",
+        "5",
+        "--seconds=+3",
+        "absent.toml",
+    ],
     &["ripngd", "run", "-t", "+1", "absent.toml"],
     &["ripngd", "run", "-t+1", "absent.toml"],
     &["ripngd", "run", "-qdt+1", "absent.toml"],
@@ -96,7 +103,8 @@ const SIGNED: [&[&str]; 15] = [
 
 #[test]
 fn a_number_with_a_sign_is_refused(rt: HostRuntime) {
-    let text = "error: the number of an option is decimal digits alone, without a sign\n\nFor more information, try '--help'.\n";
+    let text =
+        "error: the number of an option is decimal digits alone, without a sign\n\nFor more information, try '--help'.\n";
     for words in SIGNED {
         let mut out = Vec::new(rt.alloc());
         let mut err = Vec::new(rt.alloc());
@@ -119,6 +127,9 @@ fn zeros_in_front_of_a_number_are_digits(rt: HostRuntime) {
         let mut out = Vec::new(rt.alloc());
         let mut err = Vec::new(rt.alloc());
         assert_eq!(rt; program(&rt, words, &mut out, &mut err), 3, "at {words:?}");
-        assert!(rt; err.as_slice().starts_with(b"ripngd: cannot read absent."), "at {words:?}");
+        assert!(rt;
+            err.as_slice().starts_with(b"ripngd: cannot read absent."),
+            "at {words:?}"
+        );
     }
 }
