@@ -313,6 +313,20 @@ add 2001:db8::/32 metric 1 direct" &&
         same "the first word on standard error" "$(head -n 1 "$folder/err")" "error: '--append' goes with '-R FILE', where FILE is not '-'"
 }
 
+# Nothing of such a command line is done: the log stays as it is.
+a_number_with_a_sign_is_refused() {
+    alone unsigned.toml
+    echo kept > "$folder/unsigned.log"
+    local number
+    for number in --turns=+1 --seconds=+1 -t+7 -t-0; do
+        run run "$number" -R "$folder/unsigned.log" "$folder/unsigned.toml"
+        same "the status of $number" "$status" 2 && same output "$(cat "$folder/out")" "" &&
+            same "the first line on standard error" "$(head -n 1 "$folder/err")" \
+                "error: the number of an option is decimal digits alone, without a sign" || return
+    done
+    same "the log" "$(cat "$folder/unsigned.log")" kept
+}
+
 # Another program copies a log and empties it, as `copytruncate` of logrotate(8) does.
 a_log_that_is_emptied_goes_on_at_its_end() {
     neighbors
@@ -800,6 +814,7 @@ a_running_router_is_told() {
     until_true grep -qx 'del 2001:db8:1::/48' "$folder/west.log" || because "west keeps it" || return
     answers east 1 "refused 35 NotOwned" drop 2001:db8:1::/48 && answers east 1 "refused 31 BadCost" cost 0 16 &&
         answers east 1 "refused 51 NoSuchInterface" cost 1 5 && answers east 1 "refused 52 NoSuchCommand" cost 0 &&
+        answers east 1 "refused 52 NoSuchCommand" cost 0 +5 &&
         answers east 0 "" cost 0 5 && answers west 0 "" gain 2001:db8:2::/48 7 || return
     until_true grep -qx 'add 2001:db8:2::/48 metric 6 via fe80::f iface 0' "$folder/east.log" || because "the cost is not 5"
     local learned=$?
@@ -1064,6 +1079,7 @@ try a_reader_that_goes_away_is_not_told
 try a_port_in_use_is_named
 try a_second_start_leaves_the_logs
 try a_router_goes_on_in_the_log_of_another
+try a_number_with_a_sign_is_refused
 try a_log_that_is_emptied_goes_on_at_its_end
 try a_log_that_is_the_configuration_is_refused
 try a_log_goes_to_standard_output

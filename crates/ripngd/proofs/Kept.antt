@@ -39,5 +39,5 @@ answer_kept holds (asks.Ctl question) accepted old mid new (answer, (text, is, w
 answer_kept holds (asks.Table file) accepted old mid new (log, held, text, is, wrote) kept =
     (log, held, text, is, appends_kept text old mid new wrote kept)
 answer_kept holds (asks.Page serve) accepted old mid new answer kept = answer
-answer_kept holds (asks.Film file) accepted old mid new (script, held, trace, wrote) kept =
+answer_kept holds (asks.Film filming) accepted old mid new (script, held, trace, wrote) kept =
     (script, held, trace, appends_kept _ old mid new wrote kept)

@@ -37,8 +37,8 @@ AnswersAsk holds (asks.Ctl question) accepted old new = (answer : List ℕ) × I
 AnswersAsk holds (asks.Table file) accepted old new = (log : List ℕ) × holds file.now log
     × (text : List ℕ) × IsTabled log accepted text × Appends old new text
 AnswersAsk holds (asks.Page serve) accepted old new = accepted ≡ true
-AnswersAsk holds (asks.Film file) accepted old new = (script : List ℕ) × holds file.now script
-    × (trace : List ℕ) × Appends old new (film_text (script_name file.now) script trace)
+AnswersAsk holds (asks.Film filming) accepted old new = (script : List ℕ) × holds filming.script.now script
+    × (trace : List ℕ) × Appends old new (film_text (script_name filming.script.now) script trace)
 
 -- the bytes of a writer grew by the answer to what the words ask
 abbrev pub AnswersWords : (List ℕ → List ℕ → Type 0) → List Text → Bool → Option (List ℕ) → Option (List ℕ) → Type 0

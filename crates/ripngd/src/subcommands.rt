@@ -10,6 +10,7 @@ ghost use Rattle.ripngd_show.specs.Shown.{IsShown};
 
 use crate::browser::film;
 use crate::laboratory::{explain, lab_hinted, trace};
+use ripngd_command_line::Filming;
 use ripngd_daemon::{Failure, FileSource};
 use ripngd_show::show;
 use std::alloc::Global;
@@ -72,12 +73,13 @@ pub(crate) fn explain_file<'a, F: FileSource, O: Write>(
 pub(crate) fn film_file<'a, F: FileSource, O: Write>(
     alloc: Global,
     files: &F,
-    file: &'a str,
+    order: Filming<'a>,
     out: &mut O,
 ) -> Result<bool, Failure<'a>>
-    ensures answered { IfOk result (λ accepted. (script : List ℕ) × F.holds files.now file.entry.now script
-        × (trace : List ℕ) × Appends (O.contents out.old) (O.contents out.new) (film_text (script_name file.entry.now) script trace)) }
-    ensures failed { IfErr result (MayFail (asks.Film file.entry)) }
+    ensures answered { IfOk result (λ accepted. (script : List ℕ) × F.holds files.now order.entry.script.now script
+        × (trace : List ℕ) × Appends (O.contents out.old) (O.contents out.new) (film_text (script_name order.entry.script.now) script trace)) }
+    ensures failed { IfErr result (MayFail (asks.Film order.entry)) }
 {
+    let file = order.script;
     Ok(film(alloc, file, files.read(file)?.as_slice(), out)?)
 }

@@ -105,3 +105,13 @@ stamp_is_taken = refl
 changes_are_taken : takes ripngd (codes "ripngd" ∷ codes "ctl" ∷ codes "east.sock" ∷ codes "changes" ∷ []) ≡ true
 unfolding clap_on_literals
 changes_are_taken = refl
+
+-- `run --turns +3 c`: clap takes a sign, which makes it misused
+plus_is_taken : takes ripngd (codes "ripngd" ∷ codes "run" ∷ codes "--turns" ∷ codes "+3" ∷ codes "c" ∷ []) ≡ true
+unfolding clap_on_literals
+plus_is_taken = refl
+
+-- `page --port=-0`: and so does this
+minus_is_taken : takes ripngd (codes "ripngd" ∷ codes "page" ∷ codes "--port=-0" ∷ []) ≡ true
+unfolding clap_on_literals
+minus_is_taken = refl

@@ -1,9 +1,10 @@
 -- What the words of a command line ask of ripngd.
-use Rattle.std.specs.Prelude.{◌≡◌, ◌≢◌, ◌≤◌, ◌⊎◌, ℕ, List, Option, Some, None, codes, option_map, IsTrue, ◌↔◌}
+use Rattle.std.specs.Prelude.{◌≡◌, ◌≢◌, ◌≤◌, ◌⊎◌, ℕ, List, Option, Some, None, codes, option_map, IsTrue, ◌↔◌, slice_get}
 use Rattle.std.specs.Str.Parse.{digits_value, without_leading_plus}
 use Rattle.clap.specs.Walk.{Row, Text, first_of, one_of}
 use Rattle.clap.specs.Simple.{subcommand_of}
 use Rattle.ripngd_command_line.specs.declared.asked.Ask.{Ask}
+use Rattle.ripngd_command_line.specs.declared.asked.Filming.{Filming}
 use Rattle.ripngd_command_line.specs.declared.asked.Order.{Order}
 use Rattle.ripngd_command_line.specs.declared.asked.Question.{Question}
 use Rattle.ripngd_command_line.specs.declared.asked.Serve.{Serve}
@@ -21,6 +22,23 @@ HasNumber rows id n = (text : Text) × (one_of id rows ≡ Some text) × (decima
 -- the flag was given
 abbrev pub IsSet : List Row → Text → Type 0
 IsSet rows id = one_of id rows ≡ Some (codes "true")
+
+-- the number is written with a sign
+abbrev pub IsSigned : Option Text → Type 0
+IsSigned None = ⊥
+IsSigned (Some number) = (slice_get number 0 ≡ Some 43) ⊎ (slice_get number 0 ≡ Some 45)
+
+-- the argument has a number that is written with a sign
+abbrev pub HasSign : List Row → Text → Type 0
+HasSign rows id = IsSigned (first_of id rows)
+
+-- a number of `run` is
+abbrev pub HasSignedOrder : List Row → Type 0
+HasSignedOrder rows = HasSign rows (codes "tag") ⊎ HasSign rows (codes "turns") ⊎ HasSign rows (codes "seconds")
+
+-- a number of `page` is
+abbrev pub HasSignedServe : List Row → Type 0
+HasSignedServe rows = HasSign rows (codes "port") ⊎ HasSign rows (codes "requests")
 
 -- these seconds were given; or none were
 abbrev pub AreSeconds : Option ℕ → List Row → Type 0
@@ -40,6 +58,7 @@ pub record IsOrdered (order : Order) (rows : List Row) : Type 0 where
   pub seconds : AreSeconds order.seconds rows
   pub control : option_map (λ s. s.now) order.control ≡ first_of (codes "control") rows
   pub config : first_of (codes "CONFIG") rows ≡ Some order.config.now
+  pub signed : IsTrue order.signed ↔ HasSignedOrder rows
 
 -- the log of a run is a file
 abbrev pub IsFile : Option Text → Type 0
@@ -54,13 +73,15 @@ GoesOnInNoFile order = IsTrue order.append × ¬ (IsFile (option_map (λ s. s.no
 abbrev pub StampsNoLog : Order → Type 0
 StampsNoLog order = IsTrue order.stamp × (order.log ≡ None)
 
--- what is ordered of a log makes no sense
+-- what is ordered of a log makes no sense, or a number has a sign
 abbrev pub IsMisordered : Order → Type 0
-IsMisordered order = GoesOnInNoFile order ⊎ StampsNoLog order
+IsMisordered order = GoesOnInNoFile order ⊎ StampsNoLog order ⊎ IsTrue order.signed
 
--- what is asked makes no sense, though each word of it may be given
+-- what is asked makes no sense, though clap takes each word of it, or has a number with a sign
 abbrev pub IsMisused : Ask → Type 0
 IsMisused (asks.Run order) = IsMisordered order
+IsMisused (asks.Page serve) = IsTrue serve.signed
+IsMisused (asks.Film filming) = IsTrue filming.signed
 IsMisused _ = ⊥
 
 -- the rows of `ctl` ask this
@@ -76,7 +97,13 @@ pub record IsServed (serve : Serve) (rows : List Row) : Type 0 where
   pub port : HasNumber rows (codes "port") serve.port
   pub requests : HasNumber rows (codes "requests") serve.requests
   pub some_request : 1 ≤ serve.requests
+  pub signed : IsTrue serve.signed ↔ HasSignedServe rows
   pub no_film : first_of (codes "film") rows ≡ None
+
+-- the rows of `page` order this film
+pub record IsFilmed (filming : Filming) (rows : List Row) : Type 0 where
+  pub script : first_of (codes "film") rows ≡ Some filming.script.now
+  pub signed : IsTrue filming.signed ↔ HasSignedServe rows
 
 -- the subcommand of this name, with the rows of its arguments, is what is asked
 abbrev pub IsAsked : Ask → Text → List Row → Type 0
@@ -95,8 +122,7 @@ IsAsked (asks.Ctl question) name rows = (name ≡ codes "ctl") × IsQuestion que
 IsAsked (asks.Table file) name rows =
     (name ≡ codes "table") × (first_of (codes "LOG") rows ≡ Some file.now)
 IsAsked (asks.Page serve) name rows = (name ≡ codes "page") × IsServed serve rows
-IsAsked (asks.Film file) name rows =
-    (name ≡ codes "page") × (first_of (codes "film") rows ≡ Some file.now)
+IsAsked (asks.Film filming) name rows = (name ≡ codes "page") × IsFilmed filming rows
 
 -- the words ask this
 abbrev pub Asks : List Text → Ask → Type 0

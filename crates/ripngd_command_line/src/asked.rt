@@ -22,7 +22,7 @@ pub enum Ask<'a> {
     /// `page [--port N] [--requests N]`: the page of a laboratory, to browsers of this machine.
     Page(Serve),
     /// `page --film SCRIPT`: the page, with what happens as a file's script is run.
-    Film(&'a str),
+    Film(Filming<'a>),
 }
 
 /// How the page is to be served.
@@ -32,6 +32,17 @@ pub struct Serve {
     pub port: u16,
     /// How many requests are answered, at least 1.
     pub requests: u32,
+    /// Whether one of these numbers was given with a sign.
+    pub signed: bool,
+}
+
+/// What the page is written with.
+#[derive(Clone, Copy, Debug, PartialEq, Eq)]
+pub struct Filming<'a> {
+    /// The file of the script that is run.
+    pub script: &'a str,
+    /// Whether a number of how the page is served was given beside it, with a sign.
+    pub signed: bool,
 }
 
 /// How a router is to run.
@@ -57,6 +68,8 @@ pub struct Order<'a> {
     pub control: Option<&'a str>,
     /// The file of its configuration.
     pub config: &'a str,
+    /// Whether one of these numbers was given with a sign.
+    pub signed: bool,
 }
 
 /// What a router that runs is asked or told, in up to four words.

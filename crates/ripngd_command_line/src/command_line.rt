@@ -7,10 +7,10 @@ ghost use Rattle.clap.specs.Simple.{subcommand_of};
 ghost use Rattle.clap.specs.Takes.{takes};
 ghost use Rattle.clap.specs.Walk.{Row, Text, first_of, rows_of};
 ghost use Rattle.clap.specs.Words.{found_of, kind_of, subcommand_rows_of};
-ghost use Rattle.ripngd_command_line.specs.Asked.{AreSeconds, Asks, IsAsked, HasNumber, IsSet};
+ghost use Rattle.ripngd_command_line.specs.Asked.{AreSeconds, Asks, HasNumber, HasSign, HasSignedOrder, HasSignedServe, IsAsked, IsSet, IsSigned};
 ghost use Rattle.ripngd_command_line.specs.CommandLine.{ripngd};
 
-use crate::asked::{Ask, Order, Question, Serve};
+use crate::asked::{Ask, Filming, Order, Question, Serve};
 use crate::subcommands::command;
 use clap::error::ErrorKind;
 use clap::{ArgMatches, Error};
@@ -88,11 +88,13 @@ fn lab_asked<'a>(matches: &ArgMatches<'a>) -> Option<Ask<'a>>
 fn page_asked<'a>(matches: &ArgMatches<'a>) -> Option<Ask<'a>>
     ensures { IfSome result (λ a. IsAsked a (codes "page") (rows_of (found_of matches.now))) }
 {
+    let signed = has_signed_serve(matches);
     match text(matches, "film") {
-        Some(script) => Some(Ask::Film(script)),
+        Some(script) => Some(Ask::Film(Filming { script, signed })),
         None => Some(Ask::Page(Serve {
             port: port_given(matches)?,
             requests: requests_given(matches)?,
+            signed,
         })),
     }
 }
@@ -112,6 +114,7 @@ fn run_asked<'a>(matches: &ArgMatches<'a>) -> Option<Ask<'a>>
         seconds: seconds_given(matches)?,
         control: text(matches, "control"),
         config: text(matches, "CONFIG")?,
+        signed: has_signed_order(matches),
     }))
 }
 
@@ -140,6 +143,37 @@ fn is_set(matches: &ArgMatches<'_>, id: &str) -> bool
     ensures { IsTrue result ↔ IsSet (rows_of (found_of matches.now)) id.now }
 {
     matches.get_one::<bool>(id).unwrap_or(false)
+}
+
+/// Whether a number is written with a sign.
+fn is_signed(number: &str) -> bool
+    ensures { IsTrue result ↔ IsSigned (Some number.now) }
+{
+    matches!(number.as_bytes().first().copied(), Some(b'+' | b'-'))
+}
+
+/// Whether an argument has a number that is written with a sign.
+fn has_sign(matches: &ArgMatches<'_>, id: &str) -> bool
+    ensures { IsTrue result ↔ HasSign (rows_of (found_of matches.now)) id.now }
+{
+    match text(matches, id) {
+        Some(number) => is_signed(number),
+        None => false,
+    }
+}
+
+/// Whether a number of `run` is written with a sign.
+fn has_signed_order(matches: &ArgMatches<'_>) -> bool
+    ensures { IsTrue result ↔ HasSignedOrder (rows_of (found_of matches.now)) }
+{
+    has_sign(matches, "tag") || has_sign(matches, "turns") || has_sign(matches, "seconds")
+}
+
+/// Whether a number of `page` is.
+fn has_signed_serve(matches: &ArgMatches<'_>) -> bool
+    ensures { IsTrue result ↔ HasSignedServe (rows_of (found_of matches.now)) }
+{
+    has_sign(matches, "port") || has_sign(matches, "requests")
 }
 
 fn tag_given(matches: &ArgMatches<'_>) -> Option<u16>

@@ -26,7 +26,8 @@ Example:
 pub(crate) const CHECK: &str = "\
 A configuration is a TOML text. Where a router can run on it, one line counts
 its interfaces, its prefixes and its peers. Else one line names the first fault
-and the key that has it, and the exit status is 1.
+and what has it: a key, an interface, a prefix, or the line and the column of a
+text that is no TOML. The exit status is then 1.
 
 Example:
   ripngd check examples/east.toml";

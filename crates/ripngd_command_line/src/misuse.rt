@@ -1,4 +1,4 @@
-//! What may be asked in words that may all be given, and makes no sense.
+//! What may be asked in words that clap takes, and is refused all the same: it makes no sense, or has a number with a sign.
 
 ghost use Rattle.std.specs.Prelude.{◌≡◌, ◌↔◌, IsTrue, option_map};
 ghost use Rattle.ripngd_command_line.specs.Asked.{GoesOnInNoFile, IsFile, IsMisordered, IsMisused, StampsNoLog};
@@ -15,6 +15,13 @@ For more information, try '--help'.
 /// What standard error says of a run that is to stamp the lines of a log, and has none.
 const STAMP_NEEDS_A_LOG: &str = "\
 error: '--stamp' goes with '-R FILE'
+
+For more information, try '--help'.
+";
+
+/// What standard error says of a number with a sign.
+const NUMBERS_HAVE_NO_SIGN: &str = "\
+error: the number of an option is decimal digits alone, without a sign
 
 For more information, try '--help'.
 ";
@@ -43,28 +50,31 @@ fn stamps_no_log(order: Order<'_>) -> bool
     order.stamp && order.log.is_none()
 }
 
-/// Whether what is ordered of a log makes no sense.
+/// Whether what is ordered of a log makes no sense, or a number has a sign.
 fn is_misordered(order: Order<'_>) -> bool
     ensures { IsTrue result ↔ IsMisordered order.entry }
 {
-    goes_on_in_no_file(order) || stamps_no_log(order)
+    goes_on_in_no_file(order) || stamps_no_log(order) || order.signed
 }
 
 /// Whether what is asked makes no sense: a run that is to go on in a log, and has no file for it, or one that is to stamp the
-/// lines of a log, and has none.
+/// lines of a log, and has none; or whether a number of its options is written with a sign.
 pub fn is_misused(asked: Ask<'_>) -> bool
     ensures { IsTrue result ↔ IsMisused asked.entry }
 {
     match asked {
         Ask::Run(order) => is_misordered(order),
+        Ask::Page(serve) => serve.signed,
+        Ask::Film(filming) => filming.signed,
         _ => false,
     }
 }
 
-/// What standard error says of what makes no sense.
+/// What standard error says of what is misused.
 pub fn misuse_text(asked: Ask<'_>) -> &'static str {
     match asked {
         Ask::Run(order) if goes_on_in_no_file(order) => APPEND_NEEDS_A_FILE,
-        _ => STAMP_NEEDS_A_LOG,
+        Ask::Run(order) if stamps_no_log(order) => STAMP_NEEDS_A_LOG,
+        _ => NUMBERS_HAVE_NO_SIGN,
     }
 }

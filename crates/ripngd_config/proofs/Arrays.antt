@@ -24,5 +24,5 @@ RefusesAt_then (UnknownKey path) P Q then h = then _ _ h
 RefusesAt_then (PortTwice path) P Q then h = then _ _ h
 RefusesAt_then (PeerTwice path) P Q then h = then _ _ h
 RefusesAt_then OutOfMemory P Q then h = tt
-RefusesAt_then BadToml P Q then h = h
-RefusesAt_then (Router refused) P Q then h = h
+RefusesAt_then (BadToml place) P Q then h = h
+RefusesAt_then (Router refused subject) P Q then h = h

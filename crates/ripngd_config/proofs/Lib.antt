@@ -7,3 +7,4 @@ pub mod OneEach
 pub mod Firsts
 pub mod Places
 pub mod TablesRefused
+pub mod Behind

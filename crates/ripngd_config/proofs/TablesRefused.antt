@@ -18,8 +18,8 @@ by_case tag quiet d (UnknownKey path) h = h
 by_case tag quiet d (PortTwice path) h = h
 by_case tag quiet d (PeerTwice path) h = h
 by_case tag quiet d OutOfMemory h = h
-by_case tag quiet d BadToml h = h
-by_case tag quiet d (Router refused) h = absurd h
+by_case tag quiet d (BadToml place) h = absurd h
+by_case tag quiet d (Router refused subject) h = absurd h
 
 -- the router's own check passes, and something stands twice
 pub refuses_twice : (P : PathFault → List ℕ → Type 0) (tag : ℕ) (quiet : Bool) (d : Document) (fault : ConfigFault) → config_fault (router_config_of tag quiet d) ≡ None

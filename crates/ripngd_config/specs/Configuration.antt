@@ -11,6 +11,7 @@ use Rattle.router_core.specs.declared.config.Interface.{Interface}
 use Rattle.ripngd_config.specs.Faults.{RefusesAt}
 use Rattle.ripngd_config.specs.First.{TableFirst}
 use Rattle.ripngd_config.specs.Keys.{document_keys}
+use Rattle.ripngd_config.specs.Naming.{IsPlaceIn, IsSubject}
 use Rattle.ripngd_config.specs.Tables.{IsDocument}
 use Rattle.ripngd_config.specs.Twice.{AreAllPeersDistinct, AreGroupPortsApart, ArePortsDistinct, IsFirstTwice}
 use Rattle.ripngd_config.specs.declared.configuration.Config.{Config}
@@ -67,15 +68,17 @@ pub record HasOneEach (c : Config) : Type 0 where
   pub places : length c.places.items ≡ length c.router.interfaces
   pub peers : length c.peers.items ≡ length c.router.interfaces
 
--- why a text is refused that is no document of such tables: the first fault of the tables
+-- why a text is refused that is no document of such tables: it is no TOML, as is found at a place of it, or the first fault of
+-- the tables
 abbrev pub RefusesText : List ℕ → ConfigFault → Type 0
-RefusesText text BadToml = IsUtf8 text → parse_document text ≡ None
+RefusesText text (BadToml place) = (IsUtf8 text → parse_document text ≡ None) × IsPlaceIn text place
 RefusesText text fault =
     RefusesAt (λ f place. (ms : Members) × (parse_document text ≡ Some ms) × TableFirst document_keys [] ms f place) fault
 
--- which test the tables fail first
+-- which test the tables fail first, and what the router's own check refuses then
 abbrev pub RefusesTables : ℕ → Bool → Document → ConfigFault → Type 0
-RefusesTables tag quiet d (Router refused) = config_fault (router_config_of tag quiet d) ≡ Some refused
+RefusesTables tag quiet d (Router refused subject) =
+    (config_fault (router_config_of tag quiet d) ≡ Some refused) × IsSubject refused (configured_interfaces d) (owned_by tag d) subject
 RefusesTables tag quiet d fault =
     RefusesAt (λ f place. (config_fault (router_config_of tag quiet d) ≡ None) × IsFirstTwice d.interfaces.items f place) fault
 

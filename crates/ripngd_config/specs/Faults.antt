@@ -7,24 +7,24 @@ use Rattle.ripngd_config.specs.declared.fault.ConfigFault.TheVariants.{BadToml, 
 
 -- the number of a refusal
 abbrev pub config_fault_number : ConfigFault → ℕ
-config_fault_number BadToml = 1
+config_fault_number (BadToml place) = 1
 config_fault_number (MissingKey path) = 2
 config_fault_number (WrongType path) = 3
 config_fault_number (BadValue path) = 4
 config_fault_number (UnknownKey path) = 5
-config_fault_number (Router refused) = 6
+config_fault_number (Router refused subject) = 6
 config_fault_number (PortTwice path) = 7
 config_fault_number (PeerTwice path) = 8
 config_fault_number OutOfMemory = 9
 
 -- as the variant is spelled
 abbrev pub config_fault_name : ConfigFault → List ℕ
-config_fault_name BadToml = codes "BadToml"
+config_fault_name (BadToml place) = codes "BadToml"
 config_fault_name (MissingKey path) = codes "MissingKey"
 config_fault_name (WrongType path) = codes "WrongType"
 config_fault_name (BadValue path) = codes "BadValue"
 config_fault_name (UnknownKey path) = codes "UnknownKey"
-config_fault_name (Router refused) = codes "Router"
+config_fault_name (Router refused subject) = codes "Router"
 config_fault_name (PortTwice path) = codes "PortTwice"
 config_fault_name (PeerTwice path) = codes "PeerTwice"
 config_fault_name OutOfMemory = codes "OutOfMemory"
@@ -38,5 +38,5 @@ RefusesAt P (UnknownKey path) = P at.UnknownKey (string_bytes path)
 RefusesAt P (PortTwice path) = P at.PortTwice (string_bytes path)
 RefusesAt P (PeerTwice path) = P at.PeerTwice (string_bytes path)
 RefusesAt P OutOfMemory = ⊤
-RefusesAt P BadToml = ⊥
-RefusesAt P (Router refused) = ⊥
+RefusesAt P (BadToml place) = ⊥
+RefusesAt P (Router refused subject) = ⊥

@@ -5,4 +5,5 @@ pub mod First
 pub mod Values
 pub mod Tables
 pub mod Twice
+pub mod Naming
 pub mod Configuration

@@ -1,10 +1,12 @@
 //! A configuration, read and checked: all that a router runs on.
 
 ghost use Rattle.std.specs.Prelude.{◌≡◌, IfErr, IfOk, map};
-ghost use Rattle.ripngd_config.specs.Configuration.{HasOneEach, IsConfigured, IsMadeOf, RefusesConfig, RefusesTables, configured_interfaces, owned_by, places_of};
+ghost use Rattle.ripngd_config.specs.Configuration.{HasOneEach, IsConfigured, IsMadeOf, RefusesConfig, RefusesTables, configured_interfaces, owned_by, places_of, router_config_of};
+ghost use Rattle.router_core.specs.Config.{IsConfig};
 
 use crate::document::document_of;
 use crate::fault::ConfigFault;
+use crate::naming::subject_of;
 use crate::peer::Peer;
 use crate::place::Place;
 use crate::tables::{Document, InterfaceTable};
@@ -58,10 +60,8 @@ fn configure(
     ensures made { IfOk result (IsMadeOf tag quiet document) }
     ensures refused { IfErr result (RefusesTables tag quiet document) }
 {
-    let interfaces = interfaces_of(alloc, &document)?;
-    let owned = owned_by(alloc, &document, tag)?;
     let places = places_of(alloc, &document)?;
-    let router = RouterConfig::check(interfaces, owned, quiet)?;
+    let router = router_of(alloc, &document, tag, quiet)?;
     check_ports(alloc, &document.interfaces)?;
     check_group_ports(alloc, &document.interfaces)?;
     check_all_peers(alloc, &document.interfaces)?;
@@ -73,6 +73,30 @@ fn configure(
         peers,
         rng,
     })
+}
+
+/// What the router is configured as, by its own check.
+fn router_of(
+    alloc: Global,
+    document: &Document,
+    tag: u16,
+    quiet: bool,
+) -> Result<RouterConfig, ConfigFault>
+    ensures kept { IfOk result (λ c. c ≡ router_config_of tag quiet document.now) }
+    ensures lawful { IfOk result IsConfig }
+    ensures refused { IfErr result (RefusesTables tag quiet document.now) }
+{
+    let interfaces = interfaces_of(alloc, document)?;
+    let owned = owned_by(alloc, document, tag)?;
+    match RouterConfig::check(interfaces, owned, quiet) {
+        Ok(router) => Ok(router),
+        Err(refused) => {
+            let interfaces = interfaces_of(alloc, document)?;
+            let owned = owned_by(alloc, document, tag)?;
+            let subject = subject_of(&interfaces, &owned, refused);
+            Err(ConfigFault::Router(refused, subject))
+        }
+    }
 }
 
 fn interfaces_of(alloc: Global, document: &Document) -> Result<Vec<Interface>, AllocError>

@@ -2,21 +2,22 @@
 
 ghost use Rattle.std.specs.Prelude.{◌≡◌, ◌++◌, IsOkAnd};
 ghost use Rattle.std.specs.String.{string_bytes};
-ghost use Rattle.ripngd_config.specs.declared.fault.ConfigFault.TheVariants.{OutOfMemory, Router};
+ghost use Rattle.ripngd_config.specs.declared.fault.ConfigFault.TheVariants.{OutOfMemory};
 
+use crate::naming::{Subject, TextPlace};
 use crate::table_path::TablePath;
 use router_core::ConfigRefused;
 use std::alloc::{AllocError, AllocFailed, Global};
 use thiserror::Error;
 
 /// Why a configuration is refused. Where the fault is one of a key or a table, its path says which, as in
-/// `interface[0].peer[1].port`. Each refusal has a number, which never changes, and a name; its text is what the program
+/// `interface[0].peer[1].port`; a text that is no TOML has a place, and a refusal of the router a subject. Each refusal has a number, which never changes, and a name; its text is what the program
 /// prints after `refused`.
 #[derive(Debug, Drop, Error)]
 pub enum ConfigFault {
-    /// 1: the text is not TOML, or not UTF-8.
-    #[error("1 BadToml")]
-    BadToml,
+    /// 1: the text is not TOML, or not UTF-8, as was found at this place.
+    #[error("1 BadToml at {0}")]
+    BadToml(TextPlace),
     /// 2: a required key is not there.
     #[error("2 MissingKey {0}")]
     MissingKey(String),
@@ -29,9 +30,9 @@ pub enum ConfigFault {
     /// 5: a table has a key that is not one of its own.
     #[error("5 UnknownKey {0}")]
     UnknownKey(String),
-    /// 6: the router's own check refuses its interfaces and prefixes.
-    #[error("6 Router {} {}", .0.number(), .0.name())]
-    Router(ConfigRefused),
+    /// 6: the router's own check refuses its interfaces and prefixes, for what this is of.
+    #[error("6 Router {} {}{}", .0.number(), .0.name(), .1)]
+    Router(ConfigRefused, Subject),
     /// 7: the local port of an interface is that of an earlier one.
     #[error("7 PortTwice {0}")]
     PortTwice(String),
@@ -63,12 +64,12 @@ impl ConfigFault {
         ensures { result ≡ config_fault_number self.now }
     {
         match self {
-            ConfigFault::BadToml => 1,
+            ConfigFault::BadToml(_) => 1,
             ConfigFault::MissingKey(_) => 2,
             ConfigFault::WrongType(_) => 3,
             ConfigFault::BadValue(_) => 4,
             ConfigFault::UnknownKey(_) => 5,
-            ConfigFault::Router(_) => 6,
+            ConfigFault::Router(..) => 6,
             ConfigFault::PortTwice(_) => 7,
             ConfigFault::PeerTwice(_) => 8,
             ConfigFault::OutOfMemory => 9,
@@ -80,12 +81,12 @@ impl ConfigFault {
         ensures { result.now ≡ config_fault_name self.now }
     {
         match self {
-            ConfigFault::BadToml => "BadToml",
+            ConfigFault::BadToml(_) => "BadToml",
             ConfigFault::MissingKey(_) => "MissingKey",
             ConfigFault::WrongType(_) => "WrongType",
             ConfigFault::BadValue(_) => "BadValue",
             ConfigFault::UnknownKey(_) => "UnknownKey",
-            ConfigFault::Router(_) => "Router",
+            ConfigFault::Router(..) => "Router",
             ConfigFault::PortTwice(_) => "PortTwice",
             ConfigFault::PeerTwice(_) => "PeerTwice",
             ConfigFault::OutOfMemory => "OutOfMemory",
@@ -144,13 +145,5 @@ impl<T: Drop> From<AllocFailed<T>> for ConfigFault {
 
     fn from(_error: AllocFailed<T>) -> ConfigFault {
         ConfigFault::OutOfMemory
-    }
-}
-
-impl From<ConfigRefused> for ConfigFault {
-    ghost from_gives = { λ refused fault. fault ≡ Router refused };
-
-    fn from(refused: ConfigRefused) -> ConfigFault {
-        ConfigFault::Router(refused)
     }
 }

@@ -8,6 +8,7 @@ mod configuration;
 mod document;
 mod fault;
 mod from_section;
+mod naming;
 mod peer;
 mod place;
 mod table_path;
@@ -17,5 +18,6 @@ mod values;
 
 pub use configuration::{Config, read_config};
 pub use fault::ConfigFault;
+pub use naming::{Subject, TextPlace};
 pub use peer::Peer;
 pub use place::Place;

@@ -17,7 +17,7 @@ file_of (asks.Run order) = Some order.config.now
 file_of (asks.Ctl question) = None
 file_of (asks.Table file) = Some file.now
 file_of (asks.Page serve) = None
-file_of (asks.Film file) = Some file.now
+file_of (asks.Film filming) = Some filming.script.now
 
 -- the file that gets its log
 abbrev pub log_file_of : Ask → Option (List ℕ)

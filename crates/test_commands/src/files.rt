@@ -129,6 +129,26 @@ const ON_FILES: [(&[&str], u8, &str); 16] = [
         "refused 52 NoSuchCommand\n",
     ),
     (
+        &["ripngd", "ctl", "absent.sock", "cost", "0", "+5"],
+        1,
+        "refused 52 NoSuchCommand\n",
+    ),
+    (
+        &["ripngd", "ctl", "absent.sock", "cost", "+0", "5"],
+        1,
+        "refused 52 NoSuchCommand\n",
+    ),
+    (
+        &["ripngd", "ctl", "absent.sock", "gain", "::/0", "+7"],
+        1,
+        "refused 52 NoSuchCommand\n",
+    ),
+    (
+        &["ripngd", "ctl", "absent.sock", "cost", "00", "05"],
+        3,
+        "ripngd: nobody listens at absent.sock\n",
+    ),
+    (
         &["ripngd", "run", "-R", "absent/log", "one.toml"],
         3,
         "ripngd: cannot write absent/log: not found\n",

@@ -1,4 +1,4 @@
-use Rattle.std.proofs.Common.{◌≡◌, List, None, inl, inr, refl, subst}
+use Rattle.std.proofs.Common.{◌≡◌, List, None, inl, inr, subst}
 use Rattle.std.proofs.lemmas.Result.{err_from_is_err_and}
 use Rattle.router_core.specs.Config.{Config as RouterConfig, config_fault}
 use Rattle.ripngd_config.specs.Configuration.{router_config_of}
@@ -11,7 +11,7 @@ use Rattle.ripngd_config.proofs.configuration.configure.Goals as goal
 pub returns-in_err-check_ports-clause-refused : goal.returns-in_err-check_ports-clause-refused
 returns-in_err-check_ports-clause-refused c =
     let d = c.args.document in
-    let made : c.in_ok-router.router ≡ router_config_of c.args.tag c.args.quiet d = rw (c.in_ok-router.ensures.kept, c.in_ok-interfaces.ensures, c.in_ok-owned.ensures) refl in
+    let made : c.in_ok-router.router ≡ router_config_of c.args.tag c.args.quiet d = c.in_ok-router.ensures.kept in
     let passes = subst (λ (r : RouterConfig). config_fault r ≡ None) made c.in_ok-router.ensures.lawful.passes in
     let p = err_from_is_err_and c.from_residual-in_err-check_ports.result c.from_residual-in_err-check_ports.ensures.1 in
     let fault = c.in_err-check_ports.field-0.0 in
@@ -22,7 +22,7 @@ returns-in_err-check_ports-clause-refused c =
 pub returns-in_err-check_group_ports-clause-refused : goal.returns-in_err-check_group_ports-clause-refused
 returns-in_err-check_group_ports-clause-refused c =
     let d = c.args.document in
-    let made : c.in_ok-router.router ≡ router_config_of c.args.tag c.args.quiet d = rw (c.in_ok-router.ensures.kept, c.in_ok-interfaces.ensures, c.in_ok-owned.ensures) refl in
+    let made : c.in_ok-router.router ≡ router_config_of c.args.tag c.args.quiet d = c.in_ok-router.ensures.kept in
     let passes = subst (λ (r : RouterConfig). config_fault r ≡ None) made c.in_ok-router.ensures.lawful.passes in
     let ports : ArePortsDistinct d.interfaces.items = subst (λ (ts : List InterfaceTable). ArePortsDistinct ts) c.deref.ensures.value c.in_ok-check_ports.ensures.ok in
     let p = err_from_is_err_and c.from_residual-in_err-check_group_ports.result c.from_residual-in_err-check_group_ports.ensures.1 in
@@ -34,7 +34,7 @@ returns-in_err-check_group_ports-clause-refused c =
 pub returns-in_err-check_all_peers-clause-refused : goal.returns-in_err-check_all_peers-clause-refused
 returns-in_err-check_all_peers-clause-refused c =
     let d = c.args.document in
-    let made : c.in_ok-router.router ≡ router_config_of c.args.tag c.args.quiet d = rw (c.in_ok-router.ensures.kept, c.in_ok-interfaces.ensures, c.in_ok-owned.ensures) refl in
+    let made : c.in_ok-router.router ≡ router_config_of c.args.tag c.args.quiet d = c.in_ok-router.ensures.kept in
     let passes = subst (λ (r : RouterConfig). config_fault r ≡ None) made c.in_ok-router.ensures.lawful.passes in
     let ports : ArePortsDistinct d.interfaces.items = subst (λ (ts : List InterfaceTable). ArePortsDistinct ts) c.deref.ensures.value c.in_ok-check_ports.ensures.ok in
     let groups : AreGroupPortsApart d.interfaces.items = subst (λ (ts : List InterfaceTable). AreGroupPortsApart ts) c.deref-2.ensures.value c.in_ok-check_group_ports.ensures.ok in
@@ -47,7 +47,7 @@ returns-in_err-check_all_peers-clause-refused c =
 pub returns-clause-made : goal.returns-clause-made
 returns-clause-made c =
     record {
-      router = rw (c.in_ok-router.ensures.kept, c.in_ok-interfaces.ensures, c.in_ok-owned.ensures) refl;
+      router = c.in_ok-router.ensures.kept;
       places = c.in_ok-places.ensures;
       peers = c.in_ok-peers.ensures;
       rng = c.seed_from_u64-rng.ensures;
