@@ -6,3 +6,4 @@ pub mod Serving
 pub mod Readings
 pub mod Turns
 pub mod Counts
+pub mod Openings

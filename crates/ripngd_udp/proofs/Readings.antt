@@ -1,5 +1,5 @@
 -- What comes of several reads of a socket.
-use Rattle.std.proofs.Common.{◌≡◌, List, Option, [], ◌∷◌, ◌++◌, Bool, Result, refl, sym}
+use Rattle.std.proofs.Common.{List, Option, [], ◌∷◌, ◌++◌, Bool, Result, refl, sym}
 use Rattle.ripngd_engine.specs.declared.link.LinkFault.{LinkFault}
 use Rattle.ripngd_engine.specs.Telling.{Gains}
 use Rattle.ripngd_udp.proofs.Sendings.{Gains-nil, Gains-trans}

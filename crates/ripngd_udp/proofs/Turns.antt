@@ -1,5 +1,5 @@
 -- What a turn does at the sockets of all interfaces, one after another.
-use Rattle.std.proofs.Common.{◌≡◌, ◌∙◌, ◌+◌, ◌<◌, ◌≤◌, ℕ, zero, suc, Bool, true, false, Option, List, None, Some, [], ◌∷◌, ◌++◌, length, set, get_or, take, ap, sym, subst, refl, arith}
+use Rattle.std.proofs.Common.{◌≡◌, ◌∙◌, ◌+◌, ◌<◌, ◌≤◌, ℕ, zero, suc, true, Option, List, None, Some, [], ◌∷◌, length, set, get_or, take, ap, sym, subst, refl, arith}
 use Rattle.std.specs.Prelude.{IfSome, MatchOption, slice_get}
 use Rattle.std.proofs.Math.Seq.{map-set_same}
 use Rattle.ripngd_engine.specs.declared.link.Received.{Received}

@@ -7,3 +7,4 @@ pub mod Inbox
 pub mod Reading
 pub mod Sockets
 pub mod Turns
+pub mod Opening

@@ -1,5 +1,5 @@
 -- Who is on the link of an interface, how that changes while the router runs, and why it does not.
-use Rattle.std.specs.Prelude.{◌≡◌, ◌==◌, ◌||◌, not, nat_le, ℕ, Bool, true, List, [], ◌∷◌, ◌++◌, false, length, Option, None, Some, codes, slice_get, slice_set}
+use Rattle.std.specs.Prelude.{◌≡◌, ◌==◌, not, nat_le, ℕ, Bool, true, List, [], ◌∷◌, ◌++◌, false, length, Option, None, Some, codes, slice_get, slice_set}
 use Rattle.std.specs.List.{filter, list_any}
 use Rattle.ripng_wire.specs.Wire.{first_reason}
 use Rattle.ripngd_config.specs.Twice.{has_same}

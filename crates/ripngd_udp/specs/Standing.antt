@@ -1,5 +1,5 @@
 -- Which peer stands where a datagram came from.
-use Rattle.std.specs.Prelude.{◌==◌, ℕ, Bool, true, false, List, [], ◌∷◌, Option, None, Some, if◌then◌else◌, option_and_then}
+use Rattle.std.specs.Prelude.{◌==◌, ℕ, Bool, false, [], ◌∷◌, Option, None, Some, if◌then◌else◌, option_and_then}
 use Rattle.std.specs.List.{find}
 use Rattle.std.specs.Str.{bytes_eq}
 use Rattle.std.specs.Net.Addr.{ipv4_octets}

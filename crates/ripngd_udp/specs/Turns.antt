@@ -1,5 +1,5 @@
 -- What a turn does at the sockets of all interfaces: which of them it is told of, what it takes in, and what it gives.
-use Rattle.std.specs.Prelude.{ℕ, zero, suc, ◌≡◌, Bool, true, false, List, [], ◌∷◌, Option, Some, ⊤, map, slice_get, slice_set}
+use Rattle.std.specs.Prelude.{ℕ, zero, suc, ◌≡◌, true, false, List, [], ◌∷◌, Option, Some, ⊤, map, slice_get, slice_set}
 use Rattle.ripngd_engine.specs.declared.link.Received.{Received}
 use Rattle.ripngd_udp.specs.declared.endpoint.Endpoint.{Endpoint}
 use Rattle.ripngd_udp.specs.declared.inbox.Inbox.{Inbox}

@@ -1,5 +1,5 @@
 -- A link of sockets: why it could not be bound, as what a datagram of a peer arrives, and whom a datagram goes to.
-use Rattle.std.specs.Prelude.{ℕ, ◌==◌, Bool, true, List, length, map, Contains, ⊤}
+use Rattle.std.specs.Prelude.{ℕ, ◌≡◌, ◌==◌, Bool, true, List, Some, length, map, slice_get, Contains, ⊤}
 use Rattle.ripngd_config.specs.declared.peer.Peer.{Peer}
 use Rattle.ripngd_config.specs.declared.place.Place.{Place}
 use Rattle.ripngd_engine.specs.declared.link.Received.{Received}
@@ -27,6 +27,11 @@ new_link places lists =
 abbrev pub NamesPortOf : List Place → UdpError → Type 0
 NamesPortOf places (Bind port cause) = Contains (map (λ p. p.local_port) places) port
 NamesPortOf places OutOfMemory = ⊤
+
+-- it is that of the first of them
+abbrev pub NamesFirstOf : List Place → UdpError → Type 0
+NamesFirstOf places (Bind port cause) = slice_get (map (λ p. p.local_port) places) 0 ≡ Some port
+NamesFirstOf places OutOfMemory = ⊤
 
 -- the numbers of these faults
 abbrev pub link_number : UdpError → ℕ

@@ -44,7 +44,8 @@ fn peer_at(neighborhood: &Neighborhood, from: SocketAddr) -> Option<Peer>
 impl<S: Carrier + Source> Endpoint<S> {
     /// A socket by which nothing has come or gone.
     pub(crate) fn new(socket: S, alloc: Global) -> Endpoint<S>
-        ensures { (result.outbox.failed ≡ 0) × (result.strangers ≡ 0) × (result.inbox.lost ≡ 0) }
+        ensures counts { (result.outbox.failed ≡ 0) × (result.strangers ≡ 0) × (result.inbox.lost ≡ 0) }
+        ensures same { result.socket ≡ socket }
     {
         Endpoint {
             socket,

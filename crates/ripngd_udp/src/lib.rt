@@ -6,6 +6,7 @@ mod clock;
 mod endpoint;
 mod inbox;
 mod neighborhood;
+mod opening;
 mod outbox;
 mod pace;
 mod peer_refused;

@@ -5,6 +5,7 @@ ghost use Rattle.std.specs.IoError.{error_kind};
 ghost use Rattle.std.specs.Net.Socket.{IsPlainSocket};
 ghost use Rattle.ripngd_udp.specs.Standing.{local_port_of};
 
+use crate::opening::Opening;
 use crate::reading::{Source, Unread};
 use crate::sending::{Carrier, Tried};
 use crate::waiting::Polled;
@@ -79,18 +80,16 @@ impl Source for UdpSocket {
     }
 }
 
-/// A socket at a port, whose calls do not wait, and which is watched as that of an interface.
-///
-/// # Errors
-/// Where it could not be had, or not be watched.
-pub(crate) fn socket_at<N: Net>(
-    net: &N,
-    polled: &Polled,
-    iface: usize,
-    port: u16,
-) -> io::Result<UdpSocket> {
-    let socket = UdpSocket::bind(net, local(port))?;
-    socket.set_nonblocking(true)?;
-    polled.watch(&socket, iface)?;
-    Ok(socket)
+impl Opening<UdpSocket> for Polled {
+    ghost use Rattle.std.specs.Prelude.{None};
+
+    // Nor does it here, and not when a port can be had.
+    ghost asks = { λ _. None };
+
+    fn open<N: Net>(&mut self, net: &N, iface: usize, port: u16) -> io::Result<UdpSocket> {
+        let socket = UdpSocket::bind(net, local(port))?;
+        socket.set_nonblocking(true)?;
+        self.watch(&socket, iface)?;
+        Ok(socket)
+    }
 }

@@ -1,19 +1,27 @@
 //! The sockets of all interfaces: when they are read, when they are sent to, and how long they are waited for.
 
-ghost use Rattle.std.specs.Prelude.{◌≡◌, ◌<◌, ◌≤◌, ◌⊎◌, [], ◌∷◌, ℕ, List, true, IfOk, IfSome, IsNone, OnErr, OnOk, length, take, vec_len};
+ghost use Rattle.std.specs.Prelude.{◌≡◌, ◌<◌, ◌≤◌, ◌⊎◌, [], ◌∷◌, ℕ, List, true, IfErr, IfOk, IfSome, IsNone, OnErr, OnOk, length, map, take, vec_len};
 ghost use Rattle.std.specs.List.{All, list_all};
 ghost use Rattle.ripngd_engine.specs.Telling.{Gains};
+ghost use Rattle.ripngd_udp.specs.Opening.{OpensEach};
+ghost use Rattle.ripngd_udp.specs.Peers.{links_at};
 ghost use Rattle.ripngd_udp.specs.Sockets.{failed_of, is_quiet, limit_of, lost_of, none_heard, none_waits, strangers_of, until_any_due};
 ghost use Rattle.ripngd_udp.specs.Turns.{TakesOnEach, inboxes, tell_all};
+ghost use Rattle.ripngd_udp.specs.Udp.{NamesPortOf};
 
 use crate::clock::Uptime;
 use crate::endpoint::Endpoint;
-use crate::neighborhood::Neighborhood;
+use crate::neighborhood::{Neighborhood, neighborhoods_at};
+use crate::opening::{Opening, endpoints_at};
 use crate::reading::Source;
 use crate::sending::Carrier;
+use crate::udp::UdpError;
 use crate::waiting::Waiting;
+use ripngd_config::{Peer, Place};
 use ripngd_engine::{LinkFault, Received, TimeSource};
 use router_core::Outgoing;
+use std::alloc::Global;
+use std::net::Net;
 use std::rt::Clock;
 use std::thread;
 use std::time::Duration;
@@ -53,7 +61,7 @@ impl<'a, R: Clock, S: Carrier + Source + Drop, W: Waiting + Drop> Sockets<'a, R,
         waiting: W,
     ) -> Sockets<'a, R, S, W>
         requires { vec_len neighborhoods ≡ vec_len endpoints }
-        ensures { (result.endpoints ≡ endpoints) × (result.neighborhoods ≡ neighborhoods) }
+        ensures { (result.endpoints ≡ endpoints) × (result.neighborhoods ≡ neighborhoods) × (result.waiting ≡ waiting) }
     {
         Sockets {
             endpoints,
@@ -63,6 +71,36 @@ impl<'a, R: Clock, S: Carrier + Source + Drop, W: Waiting + Drop> Sockets<'a, R,
             clock: Uptime::new(rt),
             next: 0,
         }
+    }
+
+    /// A socket at the local port of each place, with the peers of that place. They are waited for by what gives them.
+    ///
+    /// # Errors
+    /// `Bind` with the first port at which no socket can be had, and why; or want of memory.
+    pub(crate) fn open<N: Net>(
+        net: &N,
+        rt: &'a R,
+        alloc: Global,
+        waiting: W,
+        places: &[Place],
+        peers: Vec<Vec<Peer>>,
+    ) -> Result<Sockets<'a, R, S, W>, UdpError>
+    where
+        W: Opening<S>,
+        requires { length places.now ≡ vec_len peers }
+        ensures opened { IfOk result (λ s. OpensEach (W.asks waiting) (W.asks s.waiting) places.now s.endpoints.items) }
+        ensures on_links { IfOk result (λ s. s.neighborhoods.items ≡ links_at places.now (map (λ v. v.items) peers.items)) }
+        ensures count { IfOk result (λ s. vec_len s.endpoints ≡ length places.now) }
+        ensures lost { IfOk result (λ s. (failed_of s.endpoints.items ≡ 0) × (lost_of s.endpoints.items ≡ 0)
+            × (strangers_of s.endpoints.items ≡ 0)) }
+        ensures refused { IfErr result (NamesPortOf places.now) }
+    {
+        let mut opening = waiting;
+        let endpoints = endpoints_at(net, alloc, &mut opening, places)?;
+        let neighborhoods = neighborhoods_at(alloc, places, peers).map_err(
+            |_| UdpError::OutOfMemory,
+        )?;
+        Ok(Sockets::new(rt, endpoints, neighborhoods, opening))
     }
 
     /// How many there are.

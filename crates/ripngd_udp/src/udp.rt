@@ -5,13 +5,10 @@ ghost use Rattle.std.specs.Prelude.{◌≡◌, ◌≤◌, IfErr, IfOk, None, OnE
 ghost use Rattle.std.specs.Result.{result_err};
 ghost use Rattle.ripngd_udp.specs.Peers.{ChangesLink, RefusesFor, adding_fault, removing_fault, with_peer, without_peer};
 ghost use Rattle.ripngd_udp.specs.Sockets.{failed_of, lost_of, strangers_of};
-ghost use Rattle.ripngd_udp.specs.Udp.{NamesPortOf, link_number, new_link};
+ghost use Rattle.ripngd_udp.specs.Udp.{NamesFirstOf, NamesPortOf, link_number, new_link};
 
 use crate::bind_cause::BindCause;
-use crate::endpoint::Endpoint;
-use crate::neighborhood::neighborhoods_at;
 use crate::peer_refused::PeerRefused;
-use crate::socket::socket_at;
 use crate::sockets::Sockets;
 use crate::waiting::Polled;
 use mio::Events;
@@ -60,7 +57,8 @@ pub struct Udp<'a, R: Clock> {
 
 /// What is said where the sockets of places could not be waited for: that the first of them could not be bound.
 fn unwatched(places: &[Place]) -> UdpError
-    ensures { NamesPortOf places.now result }
+    ensures one { NamesPortOf places.now result }
+    ensures first { NamesFirstOf places.now result }
 {
     match places.first() {
         Some(place) => UdpError::Bind {
@@ -74,6 +72,7 @@ fn unwatched(places: &[Place]) -> UdpError
 /// What tells of the sockets of places, as long as it tells of none.
 fn polled_for<N: Net>(net: &N, alloc: Global, places: &[Place]) -> Result<Polled, UdpError>
     ensures refused { IfErr result (NamesPortOf places.now) }
+    ensures first { IfErr result (NamesFirstOf places.now) }
 {
     let Ok(events) = Events::with_capacity(alloc, places.len().max(1)) else {
         return Err(UdpError::OutOfMemory);
@@ -82,35 +81,6 @@ fn polled_for<N: Net>(net: &N, alloc: Global, places: &[Place]) -> Result<Polled
         Ok(polled) => Ok(polled),
         Err(_) => Err(unwatched(places)),
     }
-}
-
-/// A socket at the local port of each place, in order, of which is told under its number.
-fn endpoints_at<N: Net>(
-    net: &N,
-    alloc: Global,
-    polled: &Polled,
-    places: &[Place],
-) -> Result<Vec<Endpoint<UdpSocket>>, UdpError>
-    ensures count { IfOk result (λ endpoints. vec_len endpoints ≡ length places.now) }
-    ensures lost { IfOk result (λ endpoints. (failed_of endpoints.items ≡ 0) × (lost_of endpoints.items ≡ 0)
-        × (strangers_of endpoints.items ≡ 0)) }
-    ensures refused { IfErr result (NamesPortOf places.now) }
-{
-    let mut endpoints = Vec::new(alloc);
-    for place in places {
-        let port = place.local_port;
-        let socket = match socket_at(net, polled, endpoints.len(), port) {
-            Ok(socket) => socket,
-            Err(error) => {
-                let cause = BindCause::of(&error);
-                return Err(UdpError::Bind { port, cause });
-            }
-        };
-        endpoints
-            .push(Endpoint::new(socket, alloc))
-            .map_err(|_| UdpError::OutOfMemory)?;
-    }
-    Ok(endpoints)
 }
 
 impl<'a, R: Clock> Model for Udp<'a, R> {
@@ -162,13 +132,8 @@ impl<'a, R: Clock> Udp<'a, R> {
         ensures refused { IfErr result (NamesPortOf places.now) }
     {
         let polled = polled_for(net, alloc, places)?;
-        let endpoints = endpoints_at(net, alloc, &polled, places)?;
-        let neighborhoods = neighborhoods_at(alloc, places, peers).map_err(
-            |_| UdpError::OutOfMemory,
-        )?;
-        Ok(Udp {
-            sockets: Sockets::new(rt, endpoints, neighborhoods, polled),
-        })
+        let sockets = Sockets::open(net, rt, alloc, polled, places, peers)?;
+        Ok(Udp { sockets })
     }
 
     /// Sends all that waits to be sent, at the pace of its neighbors. To be called when nothing more is received.

@@ -187,6 +187,21 @@ fn a_datagram_of_a_peer_arrives_as_configured(rt: HostRuntime) -> Result<(), Fai
 }
 
 #[test]
+fn what_comes_to_the_port_of_a_place_is_of_its_interface(rt: HostRuntime) -> Result<(), Fail> {
+    let neighbor = socket(&rt)?;
+    let peers = [peer(2, port_of(&neighbor)?)];
+    let (mut udp, places) = link(&rt, &rt, rt.alloc(), &peers, 2)?;
+    let mut buffer = [0; 2048];
+    for iface in [1, 0] {
+        let port = places.get(iface).map(|place| place.local_port).unwrap_or(0);
+        flood(&neighbor, port, b"heard", 1)?;
+        let received = udp.recv(&mut buffer)?;
+        assert_eq!(rt; received.map(|received| received.iface), Some(iface));
+    }
+    Ok(())
+}
+
+#[test]
 fn a_datagram_of_a_stranger_is_dropped(rt: HostRuntime) -> Result<(), Fail> {
     let neighbor = socket(&rt)?;
     let stranger = socket(&rt)?;

@@ -2,31 +2,37 @@
 
 use super::{lists, place, port_of, socket};
 use crate::bind_cause::BindCause;
+use crate::socket::local;
 use crate::udp::{Udp, UdpError};
 use std::alloc::Global;
-use std::cell::Cell;
+use std::cell::RefCell;
 use std::io::{self, ErrorKind};
 use std::net::{IpAddr, Ipv4Addr, Net, SocketAddr, TcpListener, TcpStream, UdpSocket};
 use std::rt::Clock;
 use std::test::Fail;
 
-/// A network that has no socket. It says so, and keeps the last address that one for datagrams was asked for.
+/// A network that has so many sockets for datagrams, at ports that the system chose, and then says why there is no other. It keeps
+/// the addresses that it was asked for, in order.
 #[derive(Drop)]
-struct Denying {
+struct Scarce<'a, N> {
+    net: &'a N,
+    had: usize,
     why: ErrorKind,
-    last: Cell<Option<SocketAddr>>,
+    asked: RefCell<Vec<SocketAddr>>,
 }
 
-impl Denying {
-    fn by(why: ErrorKind) -> Denying {
-        Denying {
+impl<'a, N> Scarce<'a, N> {
+    fn new(net: &'a N, alloc: Global, had: usize, why: ErrorKind) -> Scarce<'a, N> {
+        Scarce {
+            net,
+            had,
             why,
-            last: Cell::new(None),
+            asked: RefCell::new(Vec::new(alloc)),
         }
     }
 }
 
-impl Net for Denying {
+impl<N: Net> Net for Scarce<'_, N> {
     type Stream = TcpStream;
 
     type Listener = TcpListener;
@@ -40,8 +46,14 @@ impl Net for Denying {
     }
 
     fn bind_udp(&self, addr: SocketAddr) -> io::Result<UdpSocket> {
-        self.last.set(Some(addr));
-        Err(io::Error::from(self.why))
+        let Ok(mut asked) = self.asked.try_borrow_mut() else {
+            return Err(io::Error::from(ErrorKind::Deadlock));
+        };
+        asked.push(addr)?;
+        if asked.len() > self.had {
+            return Err(io::Error::from(self.why));
+        }
+        self.net.bind_udp(local(0))
     }
 }
 
@@ -74,20 +86,24 @@ fn a_port_in_use_is_named(rt: HostRuntime) -> Result<(), Fail> {
 }
 
 #[test]
-fn a_socket_is_asked_for_at_the_local_port_of_its_place(rt: HostRuntime) -> Result<(), Fail> {
-    let wanted = SocketAddr::new(IpAddr::V4(Ipv4Addr::new(127, 0, 0, 1)), 5_021);
-    for (why, cause) in [
-        (ErrorKind::PermissionDenied, BindCause::NotPermitted),
-        (ErrorKind::AddrInUse, BindCause::InUse),
-        (ErrorKind::OutOfMemory, BindCause::Other),
+fn sockets_are_asked_for_in_order_until_one_cannot_be_had(rt: HostRuntime) -> Result<(), Fail> {
+    let here = |port| SocketAddr::new(IpAddr::V4(Ipv4Addr::new(127, 0, 0, 1)), port);
+    for (had, why, port, cause) in [
+        (
+            0,
+            ErrorKind::PermissionDenied,
+            5_021,
+            BindCause::NotPermitted,
+        ),
+        (1, ErrorKind::AddrInUse, 5_022, BindCause::InUse),
+        (1, ErrorKind::OutOfMemory, 5_022, BindCause::Other),
     ] {
-        let net = Denying::by(why);
-        let fault = UdpError::Bind { port: 5_021, cause };
-        assert_eq!(rt;
-            refused(&net, &rt, rt.alloc(), (5_021, 5_022))?,
-            Some(fault)
-        );
-        assert!(rt; net.last.get() == Some(wanted));
+        let net = Scarce::new(&rt, rt.alloc(), had, why);
+        let fault = refused(&net, &rt, rt.alloc(), (5_021, 5_022))?;
+        assert_eq!(rt; fault, Some(UdpError::Bind { port, cause }));
+        let asked = net.asked.into_inner();
+        assert!(rt; asked.starts_with(&[here(5_021)]) && asked.len() == had.saturating_add(1));
+        assert!(rt; asked.get(1).is_none_or(|last| *last == here(5_022)));
     }
     Ok(())
 }

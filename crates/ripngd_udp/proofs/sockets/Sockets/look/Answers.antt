@@ -1,4 +1,4 @@
-use Rattle.std.proofs.Common.{rules, ◌≡◌, ◌≤◌, ◌∙◌, ap, length, sym}
+use Rattle.std.proofs.Common.{rules, ◌≤◌, ◌∙◌, ap, length, sym}
 use Rattle.ripngd_udp.specs.declared.endpoint.Endpoint.{Endpoint}
 use Rattle.ripngd_udp.proofs.Counts.{total_same}
 use Rattle.ripngd_udp.proofs.Turns.{told_end, told_one, told_past}

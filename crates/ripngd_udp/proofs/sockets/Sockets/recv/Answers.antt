@@ -1,4 +1,4 @@
-use Rattle.std.proofs.Common.{rules, ◌≡◌, [], ◌∷◌}
+use Rattle.std.proofs.Common.{rules, [], ◌∷◌}
 use Rattle.ripngd_engine.specs.Telling.{Gains}
 use Rattle.ripngd_udp.proofs.Waits.{waits-more}
 use Rattle.ripngd_udp.proofs.sockets.Sockets.recv.Goals as goal

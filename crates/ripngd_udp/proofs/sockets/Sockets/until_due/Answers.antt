@@ -1,4 +1,4 @@
-use Rattle.std.proofs.Common.{◌≡◌, ◌∙◌, ◌+◌, ℕ, List, ap, sym, arith, take}
+use Rattle.std.proofs.Common.{◌∙◌, ◌+◌, ℕ, List, ap, sym, arith, take}
 use Rattle.ripngd_udp.specs.Sockets.{until_any_due, until_due}
 use Rattle.ripngd_udp.specs.declared.endpoint.Endpoint.{Endpoint}
 use Rattle.ripngd_udp.proofs.Waits.{until_any_due-more, until_due-shorter}
