@@ -23,7 +23,7 @@ KIT = subprocess.run(["rt", "version"], capture_output=True, check=True).stdout
 HANDLES = set(re.sub(r"^Handles allowed: |\.$|none", "", (ROOT / "HANDLES").read_text().strip()).split(", "))
 # What a verdict's last line may not have, and warnings of contracts that say less than they seem to.
 REFUSED = {"foreign", "hides", "partial", "may-abort", "may-serve", "bugs"}
-WARNED = re.compile(r"^warning: (?:calls of a tactic that chose a term|no call of).*|^.* warning: this pattern binds a variable spelled.*", re.M)
+WARNED = re.compile(r"^warning: (?:calls of a tactic that chose a term|no call of).*|^(?:\./)?(?:src|specs)/\S+ warning: this pattern binds .*", re.M)
 
 
 def sums_of(crates, libraries):
@@ -91,13 +91,14 @@ def prove(crate, libraries, scratch, begins, processes):
     return fault, ran.stdout
 
 
-def proofs_of(wanted, libraries, scratch):
-    """The jobs that prove crates and all below them, where they are not proved as they stand."""
+def proofs_of(wanted, urgent, libraries, scratch):
+    """The jobs that prove crates and all below them, where they are not proved as they stand; of the wanted ones some are waited for."""
     crates = [one for one in libraries if any(one == it or one in below(it, libraries) for it in wanted)]
     crates.sort(key=lambda one: len(below(one, libraries)))
     sums, ways = sums_of(crates, libraries), {}
     for crate in reversed(crates):
-        ways[crate] = lines_of(crate) + max((ways[one] for one in crates if crate in libraries[one]), default=0)
+        behind = [ways[one] for one in crates if crate in libraries[one]]
+        ways[crate] = lines_of(crate) + max(behind, default=0) if crate in urgent or any(behind) else 0
 
     def job_of(crate):
         def call(begins, processes):
@@ -121,7 +122,7 @@ def main(wanted):
         if crate not in libraries:
             sys.exit(f"crates.txt has no crate {crate}")
     with tempfile.TemporaryDirectory(dir=ROOT, prefix=".building-") as scratch:
-        passed, failed = run_all(proofs_of(wanted, libraries, scratch))
+        passed, failed = run_all(proofs_of(wanted, wanted, libraries, scratch))
     print(f"{passed} crates, in {spent()}")
     return 1 if failed else 0
 

@@ -1,7 +1,7 @@
-"""Work that is done side by side: each piece once what it needs is done, what others wait for the longest first.
+"""Work that is done side by side: each piece once what it needs is done.
 
-The longest way of pieces that wait for one another decides when all is done. So what begins that way has as many processes as there are
-processors; all else has one, and gives way to it."""
+Pieces for which others wait come first. The one with the longest way before it has as many processes as there are processors, since it decides
+when all is done, and the others have one each. What nothing waits for fills what these leave idle."""
 
 import concurrent.futures as futures
 import dataclasses
@@ -27,7 +27,8 @@ class Outcome:
 @dataclasses.dataclass
 class Job:
     """A piece of work, by a name of its own. Its call gets the words before its commands, and how many processes they may have; what it needs
-    are names of others; its way is how much work, its own and what waits for it, has to be done one after another from it on."""
+    are names of others; its way is how much work, its own and what waits for it, has to be done one after another from it on, or 0 where
+    nothing waits for it."""
 
     name: tuple[str, ...]
     call: Callable[[list[str], int], Outcome]
@@ -35,12 +36,24 @@ class Job:
     way: int = 0
 
 
+def starts(ready, running):
+    """The jobs to begin now, each with the words before its commands and how many processes they may have. Those that are ready stand with the
+    longest way first; of those that run it is known how many processes each has."""
+    urgent = [job for job in ready if job.way > 0]
+    ways = [job.way for job, _ in running if job.way > 0]
+    begun = [(job, [], CORES if job.way > max([0, *ways]) and job is urgent[0] else 1) for job in urgent[: CORES - len(ways)]]
+    # What nothing waits for gives way to the rest, which does not keep all of its processes busy all the time.
+    fill = CORES + 2 - sum(processes for _, processes in running) - sum(processes for _, _, processes in begun)
+    fill = min(fill, CORES - sum(job.way == 0 for job, _ in running))
+    return begun + [(job, GIVING_WAY, 1) for job in [one for one in ready if one.way == 0][: max(0, fill)]]
+
+
 def run_all(jobs):
     """Runs jobs, says of each what came of it as it ends, and answers how many of all pieces passed and failed. A job that needs one that
     failed is not begun, and counts as failed."""
     left, running, well, bad = list(jobs), {}, set(), set()
     passed = failed = 0
-    with futures.ThreadPoolExecutor(CORES) as pool:
+    with futures.ThreadPoolExecutor(2 * CORES) as pool:
         while left or running:
             lost = [one for one in left if bad.intersection(one.needs)]
             for job in lost:
@@ -48,15 +61,13 @@ def run_all(jobs):
             bad.update(one.name for one in lost)
             failed, left = failed + len(lost), [one for one in left if one not in lost]
             ready = sorted((one for one in left if well.issuperset(one.needs)), key=lambda one: -one.way)
-            for job in ready[: CORES - len(running)]:
-                is_longest = job.way > max([0, *[one.way for one in running.values()]])
-                begins, processes = ([], CORES) if is_longest else (GIVING_WAY, 1)
-                running[pool.submit(timed, job, begins, processes)] = job
+            for job, begins, processes in starts(ready, running.values()):
+                running[pool.submit(timed, job, begins, processes)] = job, processes
                 left.remove(job)
             if left and not running and not lost:
                 raise ValueError(f"nothing gives what these need: {[one.name for one in left]}")
             for ended in futures.wait(running, return_when=futures.FIRST_COMPLETED).done:
-                job, (outcome, seconds) = running.pop(ended), ended.result()
+                (job, _), (outcome, seconds) = running.pop(ended), ended.result()
                 (bad if outcome.failed else well).add(job.name)
                 passed, failed, left = passed + outcome.passed, failed + outcome.failed, left + outcome.more
                 if outcome.said:

@@ -17,6 +17,9 @@ from jobs import Job, run_all, spent
 from runs import runs_of
 from trees import ROOT, libraries_of_all
 
+# What the rest of the gate waits for.
+PROGRAM = "ripngd_program"
+
 
 def main():
     libraries = libraries_of_all()
@@ -27,7 +30,7 @@ def main():
         def edits_job(crate):
             return Job(("edits", crate), lambda *_: tries_of(edits_of(crate, is_all=False), libraries, scratch), (("proof", crate),))
 
-        jobs = proofs_of(libraries, libraries, scratch) + runs_of(libraries, libraries, scratch)
+        jobs = proofs_of(libraries, [PROGRAM], libraries, scratch) + runs_of(libraries, libraries, scratch)
         jobs += [edits_job(crate) for crate in libraries if any((ROOT / "crates" / crate / "edits").glob("*.edit"))]
         passed, failed = run_all(jobs)
     print(f"all of it in {spent()}")
