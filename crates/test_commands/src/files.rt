@@ -44,7 +44,7 @@ fn check_refuses_a_prefix_more_than_a_router_may_own(rt: HostRuntime) -> Result<
 
 /// Command lines on files, with their status and what they write to standard output or, with status 3, to standard
 /// error. The file `few.toml` has no interface, `few.lab` a router without one.
-const ON_FILES: [(&[&str], u8, &str); 16] = [
+const ON_FILES: [(&[&str], u8, &str); 20] = [
     (
         &["ripngd", "check", "few.toml"],
         1,
