@@ -47,6 +47,7 @@ done
 # The rest of the proofs gives way to these.
 parts="examples daemons floods healings links pages growths"
 if [ -x "$program" ]; then
+    echo "the program stands after $SECONDS s"
     part examples tests/examples.sh "$program"
     part daemons tests/daemon.sh "$program"
     part floods tests/floods.sh "$program"
