@@ -81,7 +81,8 @@ def prove(crate, libraries, scratch, begins, processes):
     args = ROOT / "crates" / crate / "args"
     words = ["--", *args.read_text().split()] if args.is_file() else []
     command = ["rt", "run", "--jobs", str(processes), *words] if is_program(crate) else ["rt", "lib", "--jobs", str(processes)]
-    ran = subprocess.run([*begins, *command], cwd=own, stdin=subprocess.DEVNULL, stdout=subprocess.PIPE, stderr=subprocess.STDOUT, text=True, errors="replace")
+    ran = subprocess.run([*begins, *command], cwd=own, stdin=subprocess.DEVNULL,
+                         stdout=subprocess.PIPE, stderr=subprocess.STDOUT, text=True, errors="replace")
     fault = fault_of(ran.stdout)
     if fault is None and not is_laid_out(own):
         fault = "run rt fmt in its folder"
