@@ -14,7 +14,7 @@ import subprocess
 import sys
 import tempfile
 
-from jobs import Job, Outcome, run_all, spent
+from jobs import CORES, Job, Outcome, run_all, spent
 from trees import ROOT, SOURCES, below, libraries_of_all, make_tree
 
 # What is kept of a proof beside what `rt` keeps: a sum of all that it was made from, and the names of the functions that it proved.
@@ -112,7 +112,9 @@ def proofs_of(wanted, urgent, libraries, scratch):
             file.write_text(sums[crate])
             return Outcome(passed=1, said=f"proved {crate}")
 
-        return Job(("proof", crate), call, tuple(("proof", one) for one in libraries[crate]), ways[crate])
+        # What several processes prove is gone over once more, and each reads all that is below: a short crate has one alone.
+        most = CORES if lines_of(crate) >= 1000 else 1
+        return Job(("proof", crate), call, tuple(("proof", one) for one in libraries[crate]), ways[crate], most)
 
     return [job_of(crate) for crate in crates]
 
