@@ -3,8 +3,8 @@
 
     tests/edits.py CRATE [EDIT]          all of a crate, or the one of that name
 
-The crate must have been proved here, as it stands, by `tests/build.py CRATE`; `make edits` sees to it. An edit is a file
-`crates/CRATE/edits/NAME.edit` with a line `file:` and then lines `old:` and `new:`; `old` stands once in that file. One that begins with
+What the crate stands on is proved first, and then the crate, in a way that keeps what is proved of each function (kept.py), where that was not
+done before. An edit is a file `crates/CRATE/edits/NAME.edit` with a line `file:` and then lines `old:` and `new:`; `old` stands once in that file. One that begins with
 a line `beside:` shows the same hole of the same clause as the edit that is named there, and the gate leaves it out.
 
 A function is proved over the contracts of those that it calls and never over their bodies. So edits of different functions do not touch
@@ -16,14 +16,14 @@ A line tells of each check, and of each edit that is not refused; last comes `N 
 is 0. The gate tries those of all crates so (prove.py)."""
 
 import re
-import shutil
-import subprocess
 import sys
 import tempfile
 
-from build import FUNCTIONS
+from build import proofs_of
+from crates import NAMED, ROOT, edit_files_of, folder_of, libraries_of
 from jobs import GIVING_WAY, Job, Outcome, run_all
-from trees import ROOT, libraries_of_all, make_tree
+from kept import copy_of, functions_kept, kept_job
+from kit import rattle
 
 FUNCTION = re.compile(r"\s*(?:pub(?:\([^)]*\))? )?(?:const )?(?:unsafe )?fn (\w+)")
 IMPL = re.compile(r"impl\b(?:<.*?>)? (?:(?P<of>[\w:]+)(?:<(?P<at>\w*).*>)? for )?(?P<type>\w+)")
@@ -65,7 +65,7 @@ class Edit:
 
 def place(crate, path, old):
     """Where a text stands: its file, the names that its impl may have, and its function. None where it does not stand there once."""
-    text = (ROOT / "crates" / crate / path).read_text()
+    text = (folder_of(crate) / path).read_text()
     if text.count(old) != 1:
         return None
     at = text.index(old)
@@ -97,16 +97,15 @@ def named(place, names):
     return found[0] if len(found) == 1 else inside[0] if len(inside) == 1 else None
 
 
-def check(tree, crate, words):
-    """Checks the crate of a tree, and answers what is said of each function."""
-    command = [*GIVING_WAY, "timeout", str(PATIENCE), "rt", "check", "--jobs", "1", *words]
-    ran = subprocess.run(command, cwd=tree / "crates" / crate, stdin=subprocess.DEVNULL, capture_output=True, text=True, errors="replace")
-    said = {}
-    for line in ran.stdout.splitlines():
-        found = re.match(r"fn (\S+): (.*)", line)
-        if found:
-            said[found[1]] = found[2]
-    return ran, said
+def check(edits, scratch, words):
+    """Checks a crate with edits made, over what is kept of it, and answers the status, what was said, and what of each function."""
+    crate = edits[0].crate
+    with copy_of(crate, scratch) as folder:
+        for edit in edits:
+            edit.apply(folder)
+        begins = [*GIVING_WAY, "timeout", str(PATIENCE)]
+        status, output = rattle("check", crate, ["--incremental", f"{folder}/kept", *words], begins, folder)
+    return status, output, dict(re.findall(r"^fn (\S+): (.*)", output, re.M))
 
 
 def is_open(function, said, output):
@@ -125,47 +124,39 @@ def is_within(name, function):
     return name == function or name.startswith("::".join([*module, "fn", last]) + "::")
 
 
-def try_together(batch, libraries, scratch):
+def try_together(batch, scratch):
     """Makes edits of different functions together. Those that are not refused so are tried alone, and where they do not compile each half of
     them by itself."""
-    crate = batch[0].crate
-    tree = make_tree(crate, libraries, scratch, ["incremental"])
-    for edit in batch:
-        edit.apply(tree / "crates" / crate)
     functions = sorted(set().union(*[edit.functions for edit in batch]))
-    ran, said = check(tree, crate, ["--allow-holes", *[word for one in functions for word in ("--only", one)]])
-    shutil.rmtree(tree)
+    _, output, said = check(batch, scratch, ["--allow-holes", *[word for one in functions for word in ("--only", one)]])
     if not said:
         half = len(batch) // 2
-        return Outcome(more=jobs_of([batch[:half], batch[half:]], libraries, scratch))
-    opened = [name for name in said if is_open(name, said, ran.stdout)]
+        return Outcome(more=jobs_of([batch[:half], batch[half:]], scratch))
+    opened = [name for name in said if is_open(name, said, output)]
     refused = [edit for edit in batch if any(is_within(name, one) for name in opened for one in edit.functions)]
-    alone = jobs_of([[edit] for edit in batch if edit not in refused], libraries, scratch)
-    return Outcome(passed=len(refused), said=f"{crate}: {len(refused)} of {len(batch)} refused together", more=alone)
+    alone = jobs_of([[edit] for edit in batch if edit not in refused], scratch)
+    return Outcome(passed=len(refused), said=f"{batch[0].crate}: {len(refused)} of {len(batch)} refused together", more=alone)
 
 
-def try_alone(edit, libraries, scratch):
+def try_alone(edit, scratch):
     """Makes one edit, for which a goal of any function may stay open."""
-    tree = make_tree(edit.crate, libraries, scratch, ["incremental"])
-    edit.apply(tree / "crates" / edit.crate)
-    ran, _ = check(tree, edit.crate, [])
-    shutil.rmtree(tree)
+    status, output, _ = check([edit], scratch, [])
     name = f"{edit.crate}/{edit.name}"
-    if ran.returncode == 0:
+    if status == 0:
         return Outcome(failed=1, said=f"FAILED {name}: NOT REFUSED: the crate is still proved with it")
-    if not re.search(r"^logic=not-proved", ran.stdout, re.M):
-        return Outcome(failed=1, said=f"FAILED {name}: BAD EDIT: it did not reach the prover: {ran.stdout[-300:]}")
-    told = [line for line in ran.stdout.splitlines() if re.match(r"note: src/|\./proofs/.*: error: ", line)]
+    if not re.search(r"^logic=not-proved", output, re.M):
+        return Outcome(failed=1, said=f"FAILED {name}: BAD EDIT: it did not reach the prover: {output[-300:]}")
+    told = [line for line in output.splitlines() if re.match(r"note: src/|\./proofs/.*: error: ", line)]
     by = "" if any(not SHAPE.search(line) for line in told) else ", only as a proof file names what it took away"
     return Outcome(passed=1, said=f"{name}: refused alone{by}")
 
 
-def jobs_of(batches, libraries, scratch):
-    """The jobs that try batches of edits, each of a crate that is proved."""
+def jobs_of(batches, scratch):
+    """The jobs that try batches of edits, each of a crate of which proofs are kept."""
 
     def job_of(batch):
         def call(_begins, _processes):
-            return try_together(batch, libraries, scratch) if len(batch) > 1 else try_alone(batch[0], libraries, scratch)
+            return try_together(batch, scratch) if len(batch) > 1 else try_alone(batch[0], scratch)
 
         return Job(("edits", batch[0].crate, *[edit.name for edit in batch]), call)
 
@@ -186,32 +177,34 @@ def batches_of(edits):
 
 
 def edits_of(crate, wanted=None, is_all=True):
-    """The edits of a crate that is proved: all, the one that is wanted, or those that the gate tries."""
-    names = (ROOT / "crates" / crate / "out" / FUNCTIONS).read_text().split()
-    edits = [Edit(crate, file, names) for file in sorted((ROOT / "crates" / crate / "edits").glob(f"{wanted or '*'}.edit"))]
+    """The edits of a crate of which proofs are kept: all, the one that is wanted, or those that the gate tries."""
+    names = functions_kept(crate)
+    edits = [Edit(crate, file, names) for file in edit_files_of(crate) if wanted in (None, file.stem)]
     return edits if wanted or is_all else [edit for edit in edits if not edit.is_beside]
 
 
-def tries_of(edits, libraries, scratch):
+def tries_of(edits, scratch):
     """What is known of edits before they are tried, with the jobs that try them."""
     bad = [edit for edit in edits if edit.fault]
     batches = batches_of([edit for edit in edits if not edit.fault and edit.functions])
     batches += [[edit] for edit in edits if not edit.fault and not edit.functions]
     said = "\n".join(f"FAILED {edit.crate}/{edit.name}: BAD EDIT: {edit.fault}" for edit in bad)
-    return Outcome(failed=len(bad), said=said, more=jobs_of(batches, libraries, scratch))
+    return Outcome(failed=len(bad), said=said, more=jobs_of(batches, scratch))
+
+
+def tries_job(crate, scratch, wanted=None, is_all=True):
+    """The job that finds a crate's edits, once its proofs are kept, and hands on the jobs that try them."""
+    return Job(("edits", crate), lambda *_: tries_of(edits_of(crate, wanted, is_all), scratch), (("kept", crate),))
 
 
 def main(crate, wanted=None):
-    if not (ROOT / "crates" / crate / "out" / FUNCTIONS).is_file():
-        sys.exit(f"{crate} is not proved here: run tests/build.py {crate}")
-    edits = edits_of(crate, wanted)
+    if crate not in NAMED or wanted not in (None, *[file.stem for file in edit_files_of(crate)]):
+        sys.exit(f"crates.txt has no crate {crate}, or it has no such edit")
     with tempfile.TemporaryDirectory(dir=ROOT, prefix=".building-") as scratch:
-        found = tries_of(edits, libraries_of_all(), scratch)
-        if found.said:
-            print(found.said)
-        passed, failed = run_all(found.more)
-    print(f"{passed} passed, {failed + found.failed} failed")
-    return 1 if failed + found.failed or not edits else 0
+        jobs = [*proofs_of(libraries_of(crate), libraries_of(crate)), kept_job(crate), tries_job(crate, scratch, wanted)]
+        passed, failed = run_all(jobs)
+    print(f"{passed} passed, {failed} failed")
+    return 1 if failed else 0
 
 
 if __name__ == "__main__":

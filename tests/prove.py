@@ -12,26 +12,23 @@ import sys
 import tempfile
 
 from build import proofs_of
-from edits import edits_of, tries_of
-from jobs import Job, run_all, spent
+from crates import NAMED, ROOT, edit_files_of, folder_of
+from edits import tries_job
+from jobs import run_all, spent
+from kept import kept_job
 from runs import runs_of
-from trees import ROOT, libraries_of_all
 
 # What the rest of the gate waits for.
 PROGRAM = "ripngd_program"
 
 
 def main():
-    libraries = libraries_of_all()
-    for crate in libraries:
-        shutil.rmtree(ROOT / "crates" / crate / "out", ignore_errors=True)
+    for crate in NAMED:
+        shutil.rmtree(folder_of(crate) / "out", ignore_errors=True)
     with tempfile.TemporaryDirectory(dir=ROOT, prefix=".building-") as scratch:
-
-        def edits_job(crate):
-            return Job(("edits", crate), lambda *_: tries_of(edits_of(crate, is_all=False), libraries, scratch), (("proof", crate),))
-
-        jobs = proofs_of(libraries, [PROGRAM], libraries, scratch) + runs_of(libraries, libraries, scratch)
-        jobs += [edits_job(crate) for crate in libraries if any((ROOT / "crates" / crate / "edits").glob("*.edit"))]
+        edited = [one for one in NAMED if edit_files_of(one)]
+        jobs = proofs_of(NAMED, [PROGRAM]) + runs_of(NAMED)
+        jobs += [job for one in edited for job in (kept_job(one), tries_job(one, scratch, is_all=False))]
         passed, failed = run_all(jobs)
     print(f"all of it in {spent()}")
     print(f"{passed} passed, {failed} failed")

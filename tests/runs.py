@@ -7,54 +7,63 @@ import shutil
 import subprocess
 import tempfile
 
-from build import fault_of, is_program
+from crates import folder_of, has_tests, is_program, libraries_of
 from jobs import Job, Outcome
-from trees import ROOT, make_tree
+from kit import KIT, build_program
 
-# Seconds that a program may take.
-LIMIT = 120
+# Seconds that a program may take, and a test.
+LIMIT, TEST_LIMIT = 120, 60
 AS_NOBODY = ["setpriv", "--reuid=65534", "--regid=65534", "--clear-groups", "--no-new-privs"] if os.geteuid() == 0 else []
-
-
-def has_tests(crate):
-    return any("#[test]" in file.read_text() for file in (ROOT / "crates" / crate / "src").rglob("*.rt"))
 
 
 def given(crate, name):
     """What one of a program's files holds: `args`, a word a line, `stdin`, `stdout`, or `status`."""
-    file = ROOT / "crates" / crate / name
+    file = folder_of(crate) / name
     return file.read_bytes() if file.is_file() else b""
 
 
-def fault_of_tests(crate, libraries, scratch, begins, processes):
-    """Proves and runs a crate's tests, over what is kept of its own proof, and answers what went wrong, or None."""
-    tree = make_tree(crate, libraries, scratch, ["incremental"])
-    ran = subprocess.run([*begins, "rt", "test", "--jobs", str(processes)], cwd=tree / "crates" / crate, stdin=subprocess.DEVNULL,
-                         stdout=subprocess.PIPE, stderr=subprocess.STDOUT, text=True, errors="replace")
-    shutil.rmtree(tree)
-    fault = fault_of(ran.stdout, is_of_tests=True)
-    if fault is None and ran.returncode != 0:
-        fault = "its tests failed"
-    if fault is None and not re.search(r"^test result: ok\. [1-9]", ran.stdout, re.M):
-        fault = "no test of it was run"
-    return fault and f"{ran.stdout}\nFAILED tests of {crate}: {fault}"
+class Room:
+    """A new folder for one run of a program, which works on data of its own there, as nobody where that can be."""
+
+    def __enter__(self):
+        self.folder = tempfile.TemporaryDirectory(prefix="ripngd-run-")
+        os.chmod(self.folder.name, 0o711)
+        self.data = f"{self.folder.name}/data"
+        os.mkdir(self.data)
+        return self
+
+    def __exit__(self, *_):
+        self.folder.cleanup()
+
+    def run(self, words, **how):
+        if AS_NOBODY:
+            subprocess.run(["chown", "-R", "65534:65534", self.data], check=True)
+        env = {"PATH": "/usr/bin:/bin", "HOME": self.data, "TMPDIR": self.data, "LANG": "C.UTF-8"}
+        return subprocess.run([*AS_NOBODY, *words], cwd=self.data, env=env, **how)
+
+
+def fault_of_tests(crate, begins, processes):
+    """Proves and runs a crate's tests, and answers what went wrong, or None."""
+    with Room() as room:
+        tests = f"{room.folder.name}/{crate}_tests"
+        fault, said = build_program(crate, tests, begins, processes, is_of_tests=True)
+        if fault is None:
+            ran = room.run([*begins, f"{KIT}/bin/rattle-test", "--seconds", str(TEST_LIMIT), tests], stdin=subprocess.DEVNULL,
+                           stdout=subprocess.PIPE, stderr=subprocess.STDOUT, text=True, errors="replace")
+            said += ran.stdout
+            passes = ran.returncode == 0 and re.search(r"^test result: ok\. [1-9]", ran.stdout, re.M)
+            fault = None if passes else "its tests did not pass"
+    return fault and f"{said}\nFAILED tests of {crate}: {fault}"
 
 
 def fault_of_run(crate):
     """Runs a proved program, and answers what it did otherwise than its files say, or None."""
-    with tempfile.TemporaryDirectory(prefix="ripngd-run-") as room:
-        os.chmod(room, 0o711)
-        data, own = f"{room}/data", ROOT / "crates" / crate
-        if (own / "data").is_dir():
-            shutil.copytree(own / "data", data)
-        else:
-            os.mkdir(data)
-        program = shutil.copy2(own / "out" / crate, f"{room}/{crate}")
-        if AS_NOBODY:
-            subprocess.run(["chown", "-R", "65534:65534", data], check=True)
-        ran = subprocess.run([*AS_NOBODY, "timeout", "-k", "1", str(LIMIT), program, *given(crate, "args").decode().splitlines()],
-                             cwd=data, input=given(crate, "stdin"), capture_output=True,
-                             env={"PATH": "/usr/bin:/bin", "HOME": data, "TMPDIR": data, "LANG": "C.UTF-8"})
+    with Room() as room:
+        if (folder_of(crate) / "data").is_dir():
+            shutil.copytree(folder_of(crate) / "data", room.data, dirs_exist_ok=True)
+        program = shutil.copy2(folder_of(crate) / "out" / crate, f"{room.folder.name}/{crate}")
+        ran = room.run(["timeout", "-k", "1", str(LIMIT), program, *given(crate, "args").decode().splitlines()],
+                       input=given(crate, "stdin"), capture_output=True)
     status = int(given(crate, "status") or b"0")
     if ran.returncode != status:
         return f"it ended with status {ran.returncode}, not {status}: {ran.stderr.decode(errors='replace')[-600:]}"
@@ -65,21 +74,21 @@ def fault_of_run(crate):
     return None
 
 
-def runs_of(crates, libraries, scratch):
-    """The jobs that prove and run the tests of crates, and that run programs, each once its crate is proved."""
+def runs_of(crates):
+    """The jobs that prove and run the tests of crates, and that run programs, each once what it stands on is proved."""
 
     def tests_of(crate):
-        def call(begins, processes):
-            fault = fault_of_tests(crate, libraries, scratch, begins, processes)
+        def call_tests(begins, processes):
+            fault = fault_of_tests(crate, begins, processes)
             return Outcome(failed=1, said=fault) if fault else Outcome(passed=1, said=f"tests of {crate} passed")
 
-        return Job(("tests", crate), call, (("proof", crate),))
+        return Job(("tests", crate), call_tests, tuple(("proof", one) for one in libraries_of(crate)))
 
     def run_of(crate):
-        def call(_begins, _processes):
+        def call_run(_begins, _processes):
             fault = fault_of_run(crate)
             return Outcome(failed=1, said=f"FAILED run of {crate}: {fault}") if fault else Outcome(passed=1, said=f"{crate} ran")
 
-        return Job(("run", crate), call, (("proof", crate),))
+        return Job(("run", crate), call_run, (("proof", crate),))
 
     return [tests_of(one) for one in crates if has_tests(one)] + [run_of(one) for one in crates if is_program(one)]

@@ -1,0 +1,71 @@
+"""The crates of this repository: which there are, what each stands on, and what each is made of."""
+
+import pathlib
+import re
+
+ROOT = pathlib.Path(__file__).resolve().parent.parent
+SOURCES = ("src", "specs", "proofs")
+
+
+def named_of_all():
+    """Of each crate all that crates.txt names for it, of this repository and of the kit."""
+    lines = (ROOT / "crates.txt").read_text().splitlines()
+    return {name: words.split() for name, words in (line.split(":", 1) for line in lines if re.match(r"\w+:", line))}
+
+
+NAMED = named_of_all()
+
+
+def folder_of(crate):
+    return ROOT / "crates" / crate
+
+
+def libraries_of(crate):
+    """The libraries of this repository that a crate names."""
+    return [one for one in NAMED[crate] if one in NAMED]
+
+
+def kit_libraries_of(crate):
+    """The libraries of the kit that a crate names, with the standard library, which each has."""
+    return ["std", *[one for one in NAMED[crate] if one not in NAMED]]
+
+
+def below(crate):
+    """A crate's libraries and theirs, each behind its own."""
+    found = []
+    for library in libraries_of(crate):
+        found += [one for one in [*below(library), library] if one not in found]
+    return found
+
+
+def above(crate):
+    """The crates that stand on a crate, each behind those that it stands on itself."""
+    return [one for one in in_order(NAMED) if crate in below(one)]
+
+
+def in_order(crates):
+    """Crates, each behind those that it stands on."""
+    return sorted(crates, key=lambda one: len(below(one)))
+
+
+def files_of(crate):
+    """The files that a crate is made of, in a fixed order."""
+    return [file for part in SOURCES for file in sorted((folder_of(crate) / part).rglob("*")) if file.is_file()]
+
+
+def lines_of(crate):
+    """How long a crate is, which tells roughly how long its proof takes."""
+    return sum(file.read_bytes().count(b"\n") for file in files_of(crate))
+
+
+def is_program(crate):
+    return (folder_of(crate) / "src/main.rt").is_file()
+
+
+def has_tests(crate):
+    return any(b"#[test]" in file.read_bytes() for file in files_of(crate) if file.suffix == ".rt")
+
+
+def edit_files_of(crate):
+    """The files of a crate's edits."""
+    return sorted((folder_of(crate) / "edits").glob("*.edit"))
