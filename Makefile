@@ -87,7 +87,7 @@ dist:
 
 # Memory is measured by a program of its own for each size, since freed memory is used again.
 bench:
-	cd crates/bench_router && rt run -- names > /dev/null
+	tests/build.py bench_router
 	crates/bench_router/out/bench_router $(ROUTES)
 	for routes in $(ROUTES); do crates/bench_router/out/bench_router memory $$routes; done
 
@@ -101,10 +101,9 @@ test:
 	tests/gate.sh
 
 check:
-	tests/above.sh $(CRATE)
+	tests/above.py $(CRATE)
 
 edits:
-	tests/build.py $(CRATE)
 	tests/edits.py $(CRATE) $(EDIT)
 
 clean:

@@ -29,15 +29,19 @@ def sums_of(crates):
     return sums
 
 
+def functions_of(crate):
+    """The names of the functions of a crate that is proved."""
+    return (folder_of(crate) / "out" / FUNCTIONS).read_text().split()
+
+
 def prove(crate, begins, processes):
-    """Proves and builds a crate, keeps the names of its functions, and answers its fault, or None, and what was said."""
+    """Proves and builds a crate."""
     out = folder_of(crate) / "out"
     out.mkdir(exist_ok=True)
-    fault, said = build_program(crate, out / crate, begins, processes) if is_program(crate) else prove_library(crate, begins, processes)
-    if fault is None and not is_laid_out(crate):
-        fault = "run rt fmt in its folder"
-    (out / FUNCTIONS).write_text("".join(f"{name}\n" for name in re.findall(r"^fn (\S+): proved", said, re.M)))
-    return fault, said
+    said = build_program(crate, out / crate, begins, processes) if is_program(crate) else prove_library(crate, begins, processes)
+    if said.fault is None and not is_laid_out(crate):
+        said.fault = "run rt fmt in its folder"
+    return said
 
 
 def proofs_of(wanted, urgent):
@@ -51,13 +55,14 @@ def proofs_of(wanted, urgent):
     def job_of(crate):
         def call(begins, processes):
             file = folder_of(crate) / "out" / SUM
-            if file.is_file() and file.read_text() == sums[crate] and (file.parent / FUNCTIONS).is_file():
+            if file.is_file() and file.read_text() == sums[crate]:
                 return Outcome(passed=1)
-            fault, said = prove(crate, begins, processes)
-            if fault:
-                return Outcome(failed=1, said=f"{said}\nFAILED {crate}: {fault}")
+            said = prove(crate, begins, processes)
+            if said.fault:
+                return Outcome(failed=1, said=f"{said.text}\nFAILED {crate}: {said.fault}", processor=said.processor)
+            (file.parent / FUNCTIONS).write_text("".join(f"{name}\n" for name in re.findall(r"^fn (\S+): proved", said.text, re.M)))
             file.write_text(sums[crate])
-            return Outcome(passed=1, said=f"proved {crate}")
+            return Outcome(passed=1, said=f"proved {crate}", processor=said.processor)
 
         most = CORES if lines_of(crate) >= 1000 else 1
         return Job(("proof", crate), call, tuple(("proof", one) for one in libraries_of(crate)), ways[crate], most)

@@ -16,11 +16,13 @@ GIVING_WAY = ["nice", "-n", "10"]
 
 @dataclasses.dataclass
 class Outcome:
-    """What came of a piece of work: how much of it passed and failed, what is to be said of it, and work that it found."""
+    """What came of a piece of work: how much of it passed and failed, what is to be said of it, the processor seconds that it took, and work
+    that it found."""
 
     passed: int = 0
     failed: int = 0
     said: str = ""
+    processor: float = 0
     more: list["Job"] = dataclasses.field(default_factory=list)
 
 
@@ -72,7 +74,7 @@ def run_all(jobs):
                 (bad if outcome.failed else well).add(job.name)
                 passed, failed, left = passed + outcome.passed, failed + outcome.failed, left + outcome.more
                 if outcome.said:
-                    print(f"{outcome.said}, in {seconds:.0f} s", flush=True)
+                    print(f"{outcome.said}, in {seconds:.0f} s, {outcome.processor:.0f} processor seconds", flush=True)
     return passed, failed
 
 
