@@ -24,8 +24,8 @@ HANDLES = set(re.sub(r"^Handles allowed: |\.$|none", "", (ROOT / "HANDLES").read
 # A verdict's last line, with the words that it rests on: the kit's own logic and libraries, and libraries that were proved so.
 VERDICT = re.compile(r"logic=proved(?P<words>(?: [a-z-]+=\S+)*) sum=\w+ native=nat,char,string logic-built=trusted"
                      r" libraries-built=trusted statements=trusted")
-# What else it may say of a crate: numbers of functions and tests, and handles, which have to be allowed.
-COUNTED = {"functions", "tests", "main", "threads"}
+# What it may not say of a crate: that something is taken as it is, hides, may not end, or was left out for a fault of the prover.
+REFUSED = {"foreign", "hides", "partial", "may-abort", "may-serve", "bugs"}
 # Warnings of contracts that say less than they seem to.
 WARNED = re.compile(
     r"^warning: (?:calls of a tactic that chose a term|no call of `(?![^`]*::fn::)).*|^note: the search for empty contracts did not end.*"
@@ -82,9 +82,9 @@ def fault_of(said, is_of_tests=False):
         return f"it is not proved: {lines[-1] if lines else 'there is no verdict'}"
     words = dict(word.partition("=")[::2] for word in verdict["words"].split())
     takes = {word for word in words.get("main", "").split("+") if word} - HANDLES - ({"Abort"} if is_of_tests else set())
-    beyond = [f"{name}={words[name]}" for name in words if name not in COUNTED] if not is_of_tests else []
-    if takes or beyond:
-        return f"its verdict has {' '.join([*takes, *beyond])}"
+    refused = set() if is_of_tests else REFUSED.intersection(words)
+    if takes or refused:
+        return f"its verdict has {' '.join(sorted(takes | refused))}"
     warning = WARNED.search(said)
     return warning and warning[0]
 
