@@ -10,7 +10,7 @@ import hashlib
 import re
 import sys
 
-from crates import NAMED, below, files_of, folder_of, in_order, is_program, libraries_of, lines_of
+from crates import NAMED, below, files_of, folder_of, in_order, is_program, libraries_of, work_of
 from jobs import CORES, Job, Outcome, run_all, spent
 from kit import VERSION, build_program, is_laid_out, prove_library
 
@@ -50,7 +50,8 @@ def proofs_of(wanted, urgent):
     sums, ways = sums_of(crates), {}
     for crate in reversed(crates):
         behind = [ways[one] for one in crates if crate in libraries_of(one)]
-        ways[crate] = lines_of(crate) + max(behind, default=0) if crate in urgent or any(behind) else 0
+        ways[crate] = work_of(crate) + max(behind, default=0)
+    awaited = {one for it in urgent for one in [it, *below(it)]}
 
     def job_of(crate):
         def call(begins, processes):
@@ -64,8 +65,10 @@ def proofs_of(wanted, urgent):
             file.write_text(sums[crate])
             return Outcome(passed=1, said=f"proved {crate}", processor=said.processor)
 
-        most = CORES if lines_of(crate) >= 1000 else 1
-        return Job(("proof", crate), call, tuple(("proof", one) for one in libraries_of(crate)), ways[crate], most)
+        # What several processes prove takes more of the processors together, so a short crate has one.
+        most = CORES if work_of(crate) >= 120 else 1
+        needs = tuple(("proof", one) for one in libraries_of(crate))
+        return Job(("proof", crate), call, needs, ways[crate], crate in awaited, most)
 
     return [job_of(crate) for crate in crates]
 

@@ -21,7 +21,7 @@ import sys
 import tempfile
 
 from build import functions_of, proofs_of
-from crates import NAMED, ROOT, edit_files_of, folder_of
+from crates import NAMED, ROOT, edit_files_of, folder_of, work_of
 from jobs import GIVING_WAY, Job, Outcome, run_all
 from kept import copy_of, kept_of
 from kit import rattle
@@ -191,13 +191,16 @@ def tries_of(edits, scratch):
     if together:
         refused = sum(edit not in alone for edit in together)
         said.append(f"{edits[0].crate}: {refused} of {len(together)} edits refused together")
-    jobs = [Job(("edits", edit.crate, edit.name), lambda *_, edit=edit: try_alone(edit, scratch)) for edit in alone]
+    way = work_of(edits[0].crate)
+    jobs = [Job(("edits", edit.crate, edit.name), lambda *_, edit=edit: try_alone(edit, scratch), way=way) for edit in alone]
     return Outcome(len(together) - sum(edit in alone for edit in together), len(bad), "\n".join(said), processor, jobs)
 
 
 def tries_job(crate, scratch, wanted=None, is_all=True):
     """The job that tries a crate's edits, once it is proved."""
-    return Job(("edits", crate), lambda *_: tries_of(edits_of(crate, wanted, is_all), scratch), (("proof", crate),))
+    # They are tried one after another, and then some alone.
+    way = 3 * work_of(crate)
+    return Job(("edits", crate), lambda *_: tries_of(edits_of(crate, wanted, is_all), scratch), (("proof", crate),), way)
 
 
 def main(crate, wanted=None):
