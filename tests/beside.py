@@ -29,7 +29,8 @@ IN_DATAGRAM = 72
 # same: so many of a hundred routes have to be there.
 PAUSE = 0.001
 HELD = 98
-QUIET = 1.0
+# Triggered updates of a router are up to five seconds apart (RFC 2080 section 2.5.1): after so many in which none comes, it has told all.
+QUIET = 6.0
 ROWS = (
     ("learned", "learned, and told for the first time, us"),
     ("refreshed", "refreshed, us"),
@@ -101,15 +102,17 @@ class Neighbor:
 
     def update(self, routes):
         """Waits for an update of all routes, and answers what it cost."""
-        self.told, before, ends = 0, self.cost(), time.monotonic() + 120
-        while self.told == 0 and time.monotonic() < ends:
-            before = self.cost()
-            time.sleep(0.02)
-            self.listen()
-        self.until_quiet()
-        if self.told * 100 < routes * HELD:
-            raise RuntimeError(f"it tells {self.told} routes of {routes}")
-        return self.cost() - before
+        before, ends = self.cost(), time.monotonic() + 120
+        while time.monotonic() < ends:
+            self.told = 0
+            while self.told == 0 and time.monotonic() < ends:
+                before = self.cost()
+                time.sleep(0.02)
+                self.listen()
+            self.until_quiet()
+            if self.told * 100 >= routes * HELD:
+                return self.cost() - before
+        raise RuntimeError(f"it tells {self.told} routes of {routes}")
 
 
 def costs(neighbor, routes):
