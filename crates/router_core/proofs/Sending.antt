@@ -5,7 +5,7 @@ use Rattle.std.proofs.lemmas.Bool.{cases_lt}
 use Rattle.std.proofs.lemmas.Grind.{flat_map-append}
 use Rattle.std.proofs.lemmas.List.FromFn.{length-enumerate_from}
 use Rattle.std.proofs.lemmas.Option.{slice_get-get_or}
-use Rattle.std.proofs.lemmas.List.{length-drop, map-append, take_all, drop_all}
+use Rattle.std.proofs.lemmas.List.{length-drop, length-map, map-append, take_all, drop_all, take-map, drop-map}
 use Rattle.std.proofs.lemmas.Nat.{le-div, div_below}
 use Rattle.std.proofs.Math.Nat.{mul-zero, mul_comm, div-add-mod}
 use Rattle.std.proofs.Math.Seq.{drop-drop}
@@ -136,6 +136,21 @@ module _ (mtu iface : ℕ) (to : Destination) (some : 0 < entries_for_mtu mtu) w
       SpelledTo-next all (responses_at mtu iface to after) old new (response piece) o
       (subst (λ (ms : List Message). SpelledTo all ms old new) cut so_far)
       (record { iface = on; to = destined; bytes = spells })
+
+  -- the first piece of a list that is told is sent
+  pub told-next : {X : Type 0} (tell : X → Rte) (all : List Message) (rest piece after : List X) (entries : List Rte) (old new : List Outgoing) (o : Outgoing)
+      → 0 < length rest → SpelledTo all (responses_at mtu iface to (map tell rest)) old new
+      → piece ≡ take (min (entries_for_mtu mtu) (length rest)) rest → after ≡ drop (min (entries_for_mtu mtu) (length rest)) rest
+      → entries ≡ map tell piece → o.iface ≡ iface → o.to ≡ to → Spells Response entries o.bytes
+      → SpelledTo all (responses_at mtu iface to (map tell after)) old (new ++ o ∷ [])
+  told-next tell all rest piece after entries old new o more so_far front back told on destined spells =
+      let n = entries_for_mtu mtu in
+      let same : min n (length rest) ≡ min n (length (map tell rest)) = ap (min n) (sym (length-map rest tell)) in
+      response-next all (map tell rest) entries (map tell after) old new o
+      (subst (λ (k : ℕ). 0 < k) (sym (length-map rest tell)) more) so_far
+      (told ∙ ap (map tell) front ∙ sym (take-map tell (min n (length rest)) rest) ∙ ap (λ k. take k (map tell rest)) same)
+      (ap (map tell) back ∙ sym (drop-map tell (min n (length rest)) rest) ∙ ap (λ k. drop k (map tell rest)) same)
+      on destined spells
 
 -- ---- messages of each element of a list with its number
 pub take_numbered : {X : Type 0} (xs : List X) (i : ℕ) (x : X) → slice_get xs i ≡ Some x

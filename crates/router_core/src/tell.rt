@@ -1,17 +1,18 @@
 //! What a router tells of its routes: updates of all or of the changed ones, with poisoned reverse (RFC 2080, sections
 //! 2.5 and 2.6).
 
-ghost use Rattle.std.specs.Prelude.{◌≡◌, ◌≤◌, ◌*◌, Bool, true, length, map, filter, IsOk, IfOk};
+ghost use Rattle.std.specs.Prelude.{◌≡◌, ◌≤◌, ◌+◌, ◌*◌, Bool, true, length, map, filter, IsOk, IfOk, OnOk};
 ghost use Rattle.std.specs.FinMap.{entries};
 ghost use Rattle.route_table.specs.Route.{RouteValue};
 ghost use Rattle.route_table.specs.Table.{Table};
-ghost use Rattle.router_core.specs.Output.{AreSpelled, selected, told_entry, update_messages};
+ghost use Rattle.router_core.specs.Output.{AddsSpelled, AreSpelled, responses_at, selected, told_entry, update_messages};
+ghost use Rattle.router_core.specs.declared.answer.Destination.TheVariants.{Group};
 
 use crate::answer::{Destination, Outgoing};
 use crate::config::RouterConfig;
-use crate::cut::push_responses;
+use crate::listed::Listed;
 use prefix6::Prefix;
-use ripng_wire::Rte;
+use ripng_wire::{Command, Rte, encode, entries_for_mtu};
 use route_table::{INFINITY, Origin, Route, RouteStore};
 use std::alloc::{AllocError, Global};
 
@@ -89,6 +90,36 @@ pub fn told_on(
         .collect(alloc)
 }
 
+/// Adds what is told on an interface of these routes as Responses to the group. The entries of a datagram are made as it is
+/// cut off, so no more than a datagram of them is there at once.
+///
+/// # Errors
+/// Only want of memory; some of the Responses may have been added.
+fn push_told(
+    alloc: Global,
+    sends: &mut Vec<Outgoing>,
+    iface: usize,
+    mtu: u32,
+    routes: &[(Prefix, Route)],
+) -> Result<(), AllocError>
+    requires low { 1280 ≤ mtu }
+    requires high { mtu ≤ 65535 }
+    ensures spelled { OnOk result (AddsSpelled (responses_at mtu iface Group (map (told_entry iface) routes.now)) sends.old.items sends.new.items) }
+    ensures few { OnOk result (length sends.new.items ≤ length sends.old.items + length routes.now) }
+{
+    let room = entries_for_mtu(mtu);
+    let mut rest = routes;
+    while !rest.is_empty() {
+        let (piece, after) = rest.split_at(room.min(rest.len()));
+        let entries = told_on(alloc, iface, piece)?;
+        let bytes = Listed::from_vec(encode(alloc, Command::Response, &entries)?);
+        let to = Destination::Group;
+        sends.push(Outgoing { iface, to, bytes })?;
+        rest = after;
+    }
+    Ok(())
+}
+
 /// An update of these routes on each interface, to the group. A quiet router sends none.
 ///
 /// # Errors
@@ -108,15 +139,7 @@ pub fn updates(
         return Ok(sends);
     }
     for (iface, interface) in config.interfaces().iter().enumerate() {
-        let entries = told_on(alloc, iface, routes)?;
-        push_responses(
-            alloc,
-            &mut sends,
-            iface,
-            interface.mtu,
-            Destination::Group,
-            &entries,
-        )?;
+        push_told(alloc, &mut sends, iface, interface.mtu, routes)?;
     }
     Ok(sends)
 }

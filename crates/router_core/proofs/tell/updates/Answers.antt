@@ -1,7 +1,6 @@
-use Rattle.std.proofs.Common.{◌≡◌, ℕ, false, ◌+◌, ◌*◌, ◌<◌, ◌≤◌, List, length, map, Some, slice_get, ap, ap₂, sym, subst, ◌∙◌, arith, add-one, mul-suc}
+use Rattle.std.proofs.Common.{◌≡◌, ℕ, false, ◌+◌, ◌*◌, ◌<◌, ◌≤◌, List, length, map, Some, slice_get, ap, sym, subst, ◌∙◌, arith, add-one, mul-suc}
 use Rattle.std.specs.List.{enumerate_from, flat_map}
 use Rattle.prefix6.specs.Prefix.{Prefix6}
-use Rattle.ripng_wire.specs.declared.rte.Rte.{Rte}
 use Rattle.route_table.specs.Route.{RouteValue}
 use Rattle.router_core.specs.Output.{Message, AreSpelled, AddsSpelled, responses, responses_at, told_entry}
 use Rattle.router_core.specs.declared.answer.Destination.TheVariants.{Group}
@@ -10,15 +9,15 @@ use Rattle.router_core.proofs.ConfigLaws.{mtu_low, mtu_high, mtu_at-interface}
 use Rattle.router_core.proofs.Sending.{element_at, AreSpelled-flat_map, take_all_numbered}
 use Rattle.router_core.proofs.tell.updates.Goals as goal
 
-pub push_responses-requires-clause-low : goal.push_responses-requires-clause-low
-push_responses-requires-clause-low c =
+pub push_told-requires-clause-low : goal.push_told-requires-clause-low
+push_told-requires-clause-low c =
     let xs = c.args.config.now.interfaces in
     let lt : c.loop-iface.iface < length xs = omega (arith, ap length c.interfaces-interface-items.ensures.value, c.loop-iface-test.true) in
     mtu_low c.args.config.now c.interfaces-interface-items.ensures.lawful c.loop-iface.iface c.interface-item.result
     (element_at xs c.loop-iface.iface c.interface-item.result lt (rw c.interfaces-interface-items.ensures.value at c.interface-item.is))
 
-pub push_responses-requires-clause-high : goal.push_responses-requires-clause-high
-push_responses-requires-clause-high c =
+pub push_told-requires-clause-high : goal.push_told-requires-clause-high
+push_told-requires-clause-high c =
     let xs = c.args.config.now.interfaces in
     let lt : c.loop-iface.iface < length xs = omega (arith, ap length c.interfaces-interface-items.ensures.value, c.loop-iface-test.true) in
     mtu_high c.args.config.now c.interfaces-interface-items.ensures.lawful c.loop-iface.iface c.interface-item.result
@@ -32,16 +31,15 @@ loop-iface-preserved c =
     let routes = c.args.routes.now in
     let lt : i < length config.interfaces = omega (arith, ap length c.interfaces-interface-items.ensures.value, c.loop-iface-test.true) in
     let is : slice_get config.interfaces i ≡ Some x = element_at config.interfaces i x lt (rw c.interfaces-interface-items.ensures.value at c.interface-item.is) in
-    let entries : c.deref.result.now ≡ map (told_entry i) routes = c.deref.ensures.value ∙ c.in_ok-entries.ensures.value in
-    let messages : responses_at x.mtu i Group c.deref.result.now ≡ responses config i Group (map (told_entry i) routes) =
-    ap₂ (λ (mtu : ℕ) (es : List Rte). responses_at mtu i Group es) (sym (mtu_at-interface config c.interfaces-interface-items.ensures.lawful i x is)) entries in
+    let messages : responses_at x.mtu i Group (map (told_entry i) routes) ≡ responses config i Group (map (told_entry i) routes) =
+    ap (λ (mtu : ℕ). responses_at mtu i Group (map (told_entry i) routes)) (sym (mtu_at-interface config c.interfaces-interface-items.ensures.lawful i x is)) in
     record {
       spelled = AreSpelled-flat_map (λ t. responses config t.0 Group (map (told_entry t.0) routes)) config.interfaces i x
-          c.loop-iface.sends.items c.push_responses.new.sends.items is c.loop-iface.invariant.spelled
-          (subst (λ (ms : List Message). AddsSpelled ms c.loop-iface.sends.items c.push_responses.new.sends.items) messages c.in_ok-push_responses.ensures.spelled);
+          c.loop-iface.sends.items c.push_told.new.sends.items is c.loop-iface.invariant.spelled
+          (subst (λ (ms : List Message). AddsSpelled ms c.loop-iface.sends.items c.push_told.new.sends.items) messages c.in_ok-push_told.ensures.spelled);
       few =
           let next : length routes * (i + 1) ≡ length routes * i + length routes = ap (λ n. length routes * n) (add-one i) ∙ mul-suc (length routes) i in
-          omega (arith, next, c.loop-iface.invariant.few, c.in_ok-push_responses.ensures.few, c.in_ok-entries.ensures.few, ap length c.deref.ensures.value);
+          omega (arith, next, c.loop-iface.invariant.few, c.in_ok-push_told.ensures.few);
     }
 
 pub returns-clause-spelled : goal.returns-clause-spelled
