@@ -2,7 +2,7 @@
 //! network is checked.
 
 use crate::digest::Digest;
-use crate::rows::{entry, line, link_local, site};
+use crate::rows::{entry, line, site};
 use crate::trial::{Outcome, Said, Trial, outcome_of};
 use fib::{Fib, Hop, RouteChange};
 use ripng_wire::{Command, encode};
