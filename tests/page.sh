@@ -431,6 +431,32 @@ a request has 2 seconds to come in, whole"
     [ "$told" = 0 ] && ended
 }
 
+# Behind sixty-four connections that say nothing three requests wait: none is answered before the first of those has had its time, then
+# each with its own answer.
+who_waits_is_answered() {
+    serve 3 || return
+    local port=${address##*:} number socket sockets=() asked waiting=() told=0
+    for number in $(seq 64); do
+        exec {socket}<> "/dev/tcp/127.0.0.1/${port%/}"
+        sockets+=("$socket")
+    done
+    for asked in 02010000 0x 0; do
+        curl --silent --max-time 10 --data-binary "$asked" --output "$folder/told-$asked" --write-out '%{time_total}\n' \
+            "${address}show" > "$folder/took-$asked" &
+        waiting+=("$!")
+    done
+    wait "${waiting[@]}"
+    for asked in 02010000 0x 0; do
+        same "what is told to who asks $asked" "$(cat "$folder/told-$asked")" "$("$program" show "$asked")" &&
+            { awk '{ exit !(1 < $1 && $1 < 5) }' "$folder/took-$asked" || because "an answer took $(cat "$folder/took-$asked") seconds"; }
+        told=$((told + $?))
+    done
+    for socket in "${sockets[@]}"; do
+        exec {socket}>&-
+    done
+    [ "$told" = 0 ] && ended
+}
+
 # The page that the server gives asks it to run the first of its scripts, and has its icon in itself, for which a browser would ask.
 a_served_page_runs_its_scripts() {
     serve 100 || return
@@ -505,6 +531,7 @@ if command -v curl > /dev/null; then
     try a_server_answers
     try a_long_body_is_refused
     try silence_stops_nothing
+    try who_waits_is_answered
     [ -z "$browser" ] || try a_served_page_runs_its_scripts
 else
     echo "skipped: there is no curl, so no server is asked"
