@@ -1,5 +1,6 @@
 -- The lines of commands (the format is this project's choice).
-use Rattle.std.specs.Prelude.{ℕ, Bool, List, ◌++◌, ◌==◌, ◌||◌, codes, decimal, list_any}
+use Rattle.std.specs.Prelude.{ℕ, Bool, List, ◌++◌, ◌==◌, ◌||◌, codes, decimal}
+use Rattle.std.specs.List.{list_any}
 use Rattle.prefix6.specs.Written.{written_addr, written_prefix}
 use Rattle.router_core.specs.declared.reconfiguring.Change.{Change}
 use Rattle.router_core.specs.declared.reconfiguring.Change.TheVariants.{Cost, Own, Disown}

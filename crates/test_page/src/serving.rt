@@ -64,12 +64,12 @@ pub fn expect_nothing(rt: &impl Abort, stage: &Stage, number: usize) {
 }
 
 /// That it was closed at that moment.
-pub fn expect_closed(rt: &impl Abort, stage: &Stage, number: usize, at: u64) {
+fn expect_closed(rt: &impl Abort, stage: &Stage, number: usize, at: u64) {
     assert_eq!(rt; closed(stage, number), Some(at));
 }
 
 /// When a connection was closed.
-pub fn closed(stage: &Stage, number: usize) -> Option<u64> {
+fn closed(stage: &Stage, number: usize) -> Option<u64> {
     for deed in stage.deeds() {
         if let Deed::Closed(of, at) = deed {
             if of == number {

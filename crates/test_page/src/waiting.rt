@@ -2,8 +2,7 @@
 //! once, are slow or say nothing. What is answered, and when, is that of page/README.md.
 
 use crate::serving::{
-    ASKING, LOST, SILENT, closed, expect_begin, expect_closed, expect_end, expect_nothing,
-    expect_served,
+    ASKING, LOST, SILENT, expect_begin, expect_end, expect_nothing, expect_served,
 };
 use crate::stage::{Coming, Deed, Line, Stage};
 use std::process::Abort;
@@ -21,10 +20,10 @@ const NOISE: Line = Line {
     ..ASKING
 };
 
-/// A connection that asks for what is not there, and takes its answer at once.
+/// A connection that asks for what is not there, in one piece.
 const ASTRAY: Line = Line {
-    takes: 65_536,
-    ..LOST
+    gives: &[b"GET /none HTTP/1.1\r\nHost: localhost:8532\r\n\r\n"],
+    ..ASKING
 };
 
 /// When this was first done, counted in deeds.
@@ -32,6 +31,16 @@ fn place(rt: &impl Abort, stage: &Stage, deed: Deed) -> usize {
     let deeds = stage.deeds();
     let place = deeds.iter().position(|done| *done == deed);
     place.expect(rt, "a deed that was done")
+}
+
+/// When the first connection was closed, counted in deeds and in milliseconds.
+fn first_closed(stage: &Stage) -> Option<(usize, u64)> {
+    for (place, deed) in stage.deeds().iter().enumerate() {
+        if let Deed::Closed(_, at) = deed {
+            return Some((place, *at));
+        }
+    }
+    None
 }
 
 /// That a connection has the answer that its own request asks for, whole, and no other.
@@ -79,7 +88,8 @@ fn who_asks_later_is_answered_later_and_with_its_own_answer(rt: HostRuntime) -> 
     for number in 1..5_usize {
         let before = place(&rt, &stage, Deed::Flushed(number.saturating_sub(1)));
         assert!(rt; before < place(&rt, &stage, Deed::Flushed(number)));
-        assert!(rt; stage.deeds().as_slice()[..before].contains(&Deed::Taken(number)));
+        // All had come before the first had its answer.
+        assert!(rt; place(&rt, &stage, Deed::Taken(number)) < place(&rt, &stage, Deed::Flushed(0)));
     }
     Ok(())
 }
@@ -103,17 +113,20 @@ fn behind_one_that_is_slow_and_one_that_is_silent_each_has_its_own_answer(
 
 #[test]
 fn who_waits_behind_sixty_four_is_answered_once_there_is_room(rt: HostRuntime) -> Result<(), Fail> {
-    let mut coming = [Coming::Line(SILENT); ROOM + 3];
-    coming[ROOM..].copy_from_slice(&[ASKING, ASTRAY, ASKING].map(Coming::Line));
-    let stage = Stage::new(rt.alloc(), &coming)?;
+    let mut coming = vec![in rt.alloc(); Coming::Line(SILENT); ROOM]?;
+    coming.extend_from_slice(&[ASKING, ASTRAY, ASKING].map(Coming::Line))?;
+    let stage = Stage::new(rt.alloc(), coming.as_slice())?;
     expect_served(&rt, &stage, Some(3), Ok(()));
     expect_shown(&rt, &stage, ROOM);
     expect_not_found(&rt, &stage, ROOM + 1);
     expect_shown(&rt, &stage, ROOM + 2);
-    // The first silent one is closed in its first turn behind two seconds, and then there is room for the first that waits.
-    assert!(rt; closed(&stage, 0).is_some_and(|at| 2_000 <= at && at < 2_000 + ROUND_MS));
-    let room = place(&rt, &stage, Deed::Closed(0, closed(&stage, 0).unwrap_or(0)));
-    assert!(rt; room < place(&rt, &stage, Deed::Taken(ROOM)));
+    // Nobody is taken in until the first silent one has had its two seconds and its turn behind them, and then who waits.
+    let (room, at) = first_closed(&stage).expect(&rt, "a connection that was closed");
+    assert!(rt; 2_000 <= at && at < 2_000 + ROUND_MS);
+    assert_eq!(rt;
+        place(&rt, &stage, Deed::Taken(ROOM)),
+        room.saturating_add(1)
+    );
     // Who waited longer has its answer sooner.
     for number in [ROOM, ROOM + 1] {
         let sooner = place(&rt, &stage, Deed::Flushed(number));

@@ -1,13 +1,13 @@
 //! The order of what a start does, seen by a link and a log that note what happens to them in one record.
 
-ghost use Rattle.std.specs.Prelude.{◌≡◌, IfOk, length};
+ghost use Rattle.std.specs.Prelude.{◌≡◌, length};
 
 use super::clock;
 use ripngd_engine::Engine;
 use ripngd_engine::memory::{MemoryClock, MemoryLog, SameWord};
 use route_table::TrieRoutes;
 use router_core::RouterConfig;
-use std::alloc::{AllocError, Global};
+use std::alloc::Global;
 use std::cell::RefCell;
 use std::io;
 use std::process::Abort;
@@ -66,11 +66,11 @@ impl Witness for Record {
 type RecordedEngine<'a> = Engine<TrieRoutes, WitnessedLink<'a, Record>, MemoryClock, SameWord>;
 
 /// `fe80::1`, which owns `2001:db8::/32` and `2001:db9::/32`.
-fn owner(rt: &impl Abort, alloc: Global) -> Result<RouterConfig, AllocError>
-    ensures { IfOk result (λ c. length c.interfaces ≡ 1) }
+fn owner(rt: &impl Abort, alloc: Global) -> RouterConfig
+    ensures { length result.interfaces ≡ 1 }
 {
-    let owned = owned(alloc, 0x2001_0db8, 0x2001_0dba).expect(rt, "prefixes");
-    Ok(one_interface(alloc, owned).expect(rt, "a lawful configuration"))
+    let prefixes = owned(alloc, 0x2001_0db8, 0x2001_0dba).expect(rt, "prefixes");
+    one_interface(alloc, prefixes).expect(rt, "a lawful configuration")
 }
 
 #[test]
@@ -81,7 +81,7 @@ fn a_start_sends_before_it_logs_and_a_turn_has_room_for_any_datagram(
     let record = Record::new(alloc);
     let mut engine: RecordedEngine<'_> = Engine::start(
         alloc,
-        owner(&rt, alloc)?,
+        owner(&rt, alloc),
         WitnessedLink(&record),
         clock(&rt, alloc, 4)?,
         SameWord(0),
@@ -101,7 +101,7 @@ fn writes(rt: &impl Abort, alloc: Global, failing: Option<u64>) -> Result<u64, F
     log.failing_write = failing;
     let engine: RecordedEngine<'_> = Engine::start(
         alloc,
-        owner(rt, alloc)?,
+        owner(rt, alloc),
         WitnessedLink(&record),
         clock(rt, alloc, 1)?,
         SameWord(0),
