@@ -358,6 +358,8 @@ modules_agree_with_the_program() {
 
 # `serve N`: the server, which ends after N requests, with its address in `$address`.
 serve() {
+    # That of the server before is not taken for it.
+    rm -f "$folder/address"
     "$program" page --port 0 --requests "$1" > "$folder/address" 2> "$folder/errors" &
     server=$!
     local tries
