@@ -9,6 +9,7 @@ use ripng_wire::{Command, encode};
 use ripng_world::{NetConfig, NetRefused, Node};
 use ripngd_log::{LogFault, read_log};
 use std::alloc::{AllocError, Global};
+use test_doubles::link_local;
 
 /// A datagram of three entries.
 #[derive(Drop)]
