@@ -358,6 +358,8 @@ modules_agree_with_the_program() {
 
 # `serve N`: the server, which ends after N requests, with its address in `$address`.
 serve() {
+    # That of the server before is not taken for it.
+    rm -f "$folder/address"
     "$program" page --port 0 --requests "$1" > "$folder/address" 2> "$folder/errors" &
     server=$!
     local tries
@@ -426,6 +428,32 @@ silence_stops_nothing() {
 a request has 2 seconds to come in, whole"
     local told=$?
     for socket in "${sockets[@]}" 4; do
+        exec {socket}>&-
+    done
+    [ "$told" = 0 ] && ended
+}
+
+# Behind sixty-four connections that say nothing three requests wait: none is answered before the first of those has had its time, then
+# each with its own answer.
+who_waits_is_answered() {
+    serve 3 || return
+    local port=${address##*:} number socket sockets=() asked waiting=() told=0
+    for number in $(seq 64); do
+        exec {socket}<> "/dev/tcp/127.0.0.1/${port%/}"
+        sockets+=("$socket")
+    done
+    for asked in 02010000 0x 0; do
+        curl --silent --max-time 10 --data-binary "$asked" --output "$folder/told-$asked" --write-out '%{time_total}\n' \
+            "${address}show" > "$folder/took-$asked" &
+        waiting+=("$!")
+    done
+    wait "${waiting[@]}"
+    for asked in 02010000 0x 0; do
+        same "what is told to who asks $asked" "$(cat "$folder/told-$asked")" "$("$program" show "$asked")" &&
+            { awk '{ exit !(1 < $1 && $1 < 5) }' "$folder/took-$asked" || because "an answer took $(cat "$folder/took-$asked") seconds"; }
+        told=$((told + $?))
+    done
+    for socket in "${sockets[@]}"; do
         exec {socket}>&-
     done
     [ "$told" = 0 ] && ended
@@ -505,6 +533,7 @@ if command -v curl > /dev/null; then
     try a_server_answers
     try a_long_body_is_refused
     try silence_stops_nothing
+    try who_waits_is_answered
     [ -z "$browser" ] || try a_served_page_runs_its_scripts
 else
     echo "skipped: there is no curl, so no server is asked"

@@ -1,5 +1,6 @@
 -- The lines of commands (the format is this project's choice).
-use Rattle.std.specs.Prelude.{ℕ, List, ◌++◌, codes, decimal}
+use Rattle.std.specs.Prelude.{ℕ, Bool, List, ◌++◌, ◌==◌, ◌||◌, codes, decimal}
+use Rattle.std.specs.List.{list_any}
 use Rattle.prefix6.specs.Written.{written_addr, written_prefix}
 use Rattle.router_core.specs.declared.reconfiguring.Change.{Change}
 use Rattle.router_core.specs.declared.reconfiguring.Change.TheVariants.{Cost, Own, Disown}
@@ -29,3 +30,7 @@ control_text commands.Neighbors = codes "neighbors"
 control_text commands.Stop = codes "stop"
 control_text (commands.Reconfigure c) = reconfigure_text c
 control_text (commands.Link c) = peer_text c
+
+-- whether a sign, `+` or `-`, stands in a text: in no command one does
+abbrev pub has_sign : List ℕ → Bool
+has_sign text = list_any (λ byte. byte == 43 || byte == 45) text

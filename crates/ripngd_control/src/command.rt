@@ -1,7 +1,7 @@
 //! Commands, and the lines that they are sent as.
 
-ghost use Rattle.std.specs.Prelude.{◌≡◌, IfOk, IfSome, Some};
-ghost use Rattle.ripngd_control.specs.Commands.{reconfigure_text, peer_text, control_text};
+ghost use Rattle.std.specs.Prelude.{◌≡◌, IfOk, IfSome, IsTrue, None, Some};
+ghost use Rattle.ripngd_control.specs.Commands.{reconfigure_text, peer_text, control_text, has_sign};
 
 use prefix6::{Addr6, Prefix, parse_addr, parse_prefix};
 use router_core::Change;
@@ -139,8 +139,27 @@ fn change_in(word: &str, text: &str) -> Option<Change> {
     }
 }
 
-/// The command that somebody may have meant by a text: addresses, prefixes and numbers in any of their forms.
-pub fn command_in(text: &str) -> Option<Command> {
+/// Whether a sign stands in a text.
+fn has_sign(text: &str) -> bool
+    ensures { result ≡ has_sign text.now }
+{
+    text.bytes().any(|byte| byte == b'+' || byte == b'-')
+}
+
+/// The command that somebody may have meant by a text: addresses, prefixes and numbers in any of their forms, but none with a
+/// sign.
+pub fn command_in(text: &str) -> Option<Command>
+    ensures unsigned { IsTrue (has_sign text.now) → result ≡ None }
+{
+    if has_sign(text) {
+        None
+    } else {
+        unsigned_command_in(text)
+    }
+}
+
+/// The same of a text in which no sign stands.
+fn unsigned_command_in(text: &str) -> Option<Command> {
     match text {
         "routes" => Some(Command::Routes),
         "table" => Some(Command::Table),

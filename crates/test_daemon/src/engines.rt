@@ -1,21 +1,20 @@
 //! An engine of a router with two interfaces, over memory: what it sends and logs, and what it does where a send, a
 //! `recv` or a write of the log fails.
 
-ghost use Rattle.std.specs.Prelude.{◌≡◌, IfOk, length};
+ghost use Rattle.std.specs.Prelude.{◌≡◌, IfOk};
 
 mod changed;
 mod recorded;
 mod watched;
 
-use prefix6::Addr6;
-use ripngd_engine::memory::{Datagram, LinkCall, MemoryClock, MemoryLink, MemoryLog, SameWord};
+use ripngd_engine::memory::{LinkCall, MemoryClock, MemoryLink, MemoryLog, SameWord};
 use ripngd_engine::{Engine, EngineFault, Report};
 use route_table::{Moment, SortedRoutes};
-use router_core::{Interface, RouterConfig};
 use std::alloc::{AllocError, Global};
 use std::collections::VecDeque;
 use std::process::Abort;
 use std::test::Fail;
+use test_doubles::{from_neighbor, response, told, two_interfaces};
 
 type MemoryEngine = Engine<SortedRoutes, MemoryLink, MemoryClock, SameWord>;
 
@@ -23,54 +22,6 @@ type MemoryEngine = Engine<SortedRoutes, MemoryLink, MemoryClock, SameWord>;
 const REQUEST: [u8; 24] = [
     1, 1, 0, 0, 0, 0, 0, 0, 0, 0, 0, 0, 0, 0, 0, 0, 0, 0, 0, 0, 0, 0, 0, 16,
 ];
-
-/// A Response with the route `2001:db8::/32`, tag 0, of a metric.
-fn response(metric: u8) -> [u8; 24] {
-    [
-        2, 1, 0, 0, 0x20, 0x01, 0x0d, 0xb8, 0, 0, 0, 0, 0, 0, 0, 0, 0, 0, 0, 0, 0, 0, 32, metric,
-    ]
-}
-
-/// The link-local address `fe80::HOST`.
-fn link_local(host: u32) -> Addr6 {
-    Addr6::from_bits((0xfe80 << 112) + u128::from(host))
-}
-
-/// `fe80::1` with MTU 1,280 and `fe80::1:1` with MTU 1,500, each of cost 1, and no prefix of its own.
-fn config(rt: &impl Abort, alloc: Global) -> Result<RouterConfig, AllocError>
-    ensures { IfOk result (λ c. length c.interfaces ≡ 2) }
-{
-    let interfaces = vec![in alloc;
-        Interface {
-            addr: link_local(1),
-            cost: 1,
-            mtu: 1280,
-        },
-        Interface {
-            addr: link_local(0x1_0001),
-            cost: 1,
-            mtu: 1500,
-        },
-    ]?;
-    Ok(RouterConfig::check(interfaces, Vec::new(alloc), false).expect(rt, "a lawful configuration"))
-}
-
-/// A datagram that `fe80::2` sends to the group on interface 0.
-fn from_neighbor(bytes: Vec<u8>) -> Option<Datagram> {
-    Some(Datagram {
-        iface: 0,
-        source: link_local(2),
-        source_port: 521,
-        hop_limit: 255,
-        to_group: true,
-        bytes,
-    })
-}
-
-/// The datagram by which it tells the route.
-fn told(alloc: Global, metric: u8) -> Result<Option<Datagram>, AllocError> {
-    Ok(from_neighbor(Vec::from_slice(alloc, &response(metric))?))
-}
 
 /// A clock that gives 0 as often as is said, and then 2 for ever.
 fn clock(rt: &impl Abort, alloc: Global, zeros: u32) -> Result<MemoryClock, AllocError> {
@@ -91,7 +42,7 @@ fn start(
 ) -> Result<MemoryEngine, Fail>
     requires { link.interfaces ≡ 2 }
 {
-    let config = config(rt, alloc)?;
+    let config = two_interfaces(alloc, Vec::new(alloc)).expect(rt, "a lawful configuration");
     let clock = clock(rt, alloc, 2)?;
     Ok(Engine::start(alloc, config, link, clock, SameWord(0), log)?)
 }
@@ -162,7 +113,7 @@ fn a_failed_send_is_counted_and_a_failed_recv_ends_the_turns(rt: HostRuntime) ->
 fn a_route_is_learned_told_and_logged(rt: HostRuntime) -> Result<(), Fail> {
     let alloc = rt.alloc();
     let mut link = MemoryLink::new(alloc, 2);
-    link.coming.push_back(told(alloc, 1)?)?;
+    link.coming.push_back(Some(told(alloc, 1)?))?;
     let mut log = MemoryLog::new(alloc);
     let mut engine = start(&rt, alloc, link, &mut log)?;
     expect_turns(&rt, &mut engine, &mut log, 1, Ok(()));
@@ -197,8 +148,8 @@ fn told_and_taken_back(alloc: Global) -> Result<MemoryLink, AllocError>
 {
     let mut link = MemoryLink::new(alloc, 2);
     link.coming.push_back(None)?;
-    link.coming.push_back(told(alloc, 1)?)?;
-    link.coming.push_back(told(alloc, 16)?)?;
+    link.coming.push_back(Some(told(alloc, 1)?))?;
+    link.coming.push_back(Some(told(alloc, 16)?))?;
     Ok(link)
 }
 
@@ -298,7 +249,7 @@ fn the_longest_datagram_fits_the_buffer(rt: HostRuntime) -> Result<(), Fail> {
     let alloc = rt.alloc();
     let mut link = MemoryLink::new(alloc, 2);
     link.coming
-        .push_back(from_neighbor(vec![in alloc; 0u8; 65_535]?))?;
+        .push_back(Some(from_neighbor(vec![in alloc; 0u8; 65_535]?)))?;
     let mut log = MemoryLog::new(alloc);
     let mut engine = start(&rt, alloc, link, &mut log)?;
     expect_turns(&rt, &mut engine, &mut log, 1, Ok(()));

@@ -1,41 +1,21 @@
 //! Many at once: an answer of many changes with its log, an arrival of many notes with its lines, each fault with its own. A log
 //! and lines have failed only where a write was refused, and are left alone from the very next write on.
 
-ghost use Rattle.std.specs.Prelude.{◌≡◌, IfOk, length};
-
-use prefix6::Addr6;
 use ripng_wire::WireError;
 use ripngd_engine::memory::{Datagram, MemoryClock, MemoryLink, MemoryLog, SameWord};
 use ripngd_engine::{Arrived, Engine, Watch};
 use ripngd_watch::DebugLines;
 use route_table::{Moment, TrieRoutes};
-use router_core::{Fault, Interface, Note, NoteKind, RouterConfig};
+use router_core::{Fault, Note, NoteKind};
 use std::alloc::{AllocError, Global};
 use std::collections::VecDeque;
 use std::io::Write;
 use std::process::Abort;
 use std::test::Fail;
+use test_doubles::{from_neighbor, link_local, one_interface};
 
 /// How many routes one Response brings.
 const ROUTES: u8 = 70;
-
-fn link_local(host: u32) -> Addr6 {
-    Addr6::from_bits((0xfe80 << 112) + u128::from(host))
-}
-
-/// `fe80::1`, of cost 1, without a prefix.
-fn config(rt: &impl Abort, alloc: Global) -> Result<RouterConfig, AllocError>
-    ensures { IfOk result (λ c. length c.interfaces ≡ 1) }
-{
-    let interfaces = vec![in alloc;
-        Interface {
-            addr: link_local(1),
-            cost: 1,
-            mtu: 1280,
-        },
-    ]?;
-    Ok(RouterConfig::check(interfaces, Vec::new(alloc), false).expect(rt, "a lawful configuration"))
-}
 
 /// A Response of `fe80::2` with `2001:db8:0::/48` to `2001:db8:45::/48`, metric 1 each.
 fn response(alloc: Global) -> Result<Datagram, AllocError> {
@@ -44,14 +24,7 @@ fn response(alloc: Global) -> Result<Datagram, AllocError> {
         bytes.extend_from_slice(&[0x20, 0x01, 0x0d, 0xb8, 0, number, 0, 0])?;
         bytes.extend_from_slice(&[0, 0, 0, 0, 0, 0, 0, 0, 0, 0, 48, 1])?;
     }
-    Ok(Datagram {
-        iface: 0,
-        source: link_local(2),
-        source_port: 521,
-        hop_limit: 255,
-        to_group: true,
-        bytes,
-    })
+    Ok(from_neighbor(bytes))
 }
 
 /// The lines of the log for it.
@@ -79,7 +52,7 @@ fn logged(rt: &impl Abort, alloc: Global, failing: Option<u64>) -> Result<(Memor
     let clock = MemoryClock::new(alloc, VecDeque::new(alloc), zero);
     let mut engine: Engine<TrieRoutes, MemoryLink, MemoryClock, SameWord> = Engine::start(
         alloc,
-        config(rt, alloc)?,
+        one_interface(alloc, Vec::new(alloc)).expect(rt, "a lawful configuration"),
         link,
         clock,
         SameWord(0),

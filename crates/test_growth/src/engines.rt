@@ -2,15 +2,14 @@
 
 ghost use Rattle.std.specs.Prelude.{◌≡◌, IfSome, length};
 
-use crate::rows::link_local;
 use crate::trial::Outcome;
-use prefix6::{Addr6, Prefix};
-use ripngd_engine::memory::{Datagram, MemoryClock, MemoryLink, MemoryLog, SameWord};
+use ripngd_engine::memory::{MemoryClock, MemoryLink, MemoryLog, SameWord};
 use ripngd_engine::{Engine, EngineFault};
 use route_table::{Moment, SortedRoutes};
-use router_core::{Interface, RouterConfig};
+use router_core::RouterConfig;
 use std::alloc::Global;
 use std::collections::VecDeque;
+use test_doubles::{owned, told, two_interfaces};
 
 /// How many prefixes its router owns.
 const OWNED: usize = 4;
@@ -22,44 +21,7 @@ type MemoryEngine = Engine<SortedRoutes, MemoryLink, MemoryClock, SameWord>;
 fn config(alloc: Global) -> Option<RouterConfig>
     ensures { IfSome result (λ c. length c.interfaces ≡ 2) }
 {
-    let interfaces = vec![in alloc;
-        Interface {
-            addr: link_local(1),
-            cost: 1,
-            mtu: 1280,
-        },
-        Interface {
-            addr: link_local(0x1_0001),
-            cost: 1,
-            mtu: 1500,
-        },
-    ]
-    .ok()?;
-    let mut prefixes = Vec::new(alloc);
-    for first in 0x2001_0db9..0x2001_0dbdu32 {
-        prefixes
-            .push((
-                Prefix::new(Addr6::from_bits(u128::from(first) << 96), 32).ok()?,
-                0u16,
-            ))
-            .ok()?;
-    }
-    RouterConfig::check(interfaces, prefixes, false).ok()
-}
-
-/// A neighbor's Response with the route `2001:db8::/32` of a metric.
-fn told(alloc: Global, metric: u8) -> Option<Datagram> {
-    let bytes = [
-        2, 1, 0, 0, 0x20, 0x01, 0x0d, 0xb8, 0, 0, 0, 0, 0, 0, 0, 0, 0, 0, 0, 0, 0, 0, 32, metric,
-    ];
-    Some(Datagram {
-        iface: 0,
-        source: link_local(2),
-        source_port: 521,
-        hop_limit: 255,
-        to_group: true,
-        bytes: Vec::from_slice(alloc, &bytes).ok()?,
-    })
+    two_interfaces(alloc, owned(alloc, 0x2001_0db9, 0x2001_0dbd)?)
 }
 
 /// A link of two interfaces on which the route is told, and then taken back.
@@ -67,8 +29,8 @@ fn link(alloc: Global) -> Option<MemoryLink>
     ensures { IfSome result (λ link. link.interfaces ≡ 2) }
 {
     let mut link = MemoryLink::new(alloc, 2);
-    link.coming.push_back(Some(told(alloc, 1)?)).ok()?;
-    link.coming.push_back(Some(told(alloc, 16)?)).ok()?;
+    link.coming.push_back(Some(told(alloc, 1).ok()?)).ok()?;
+    link.coming.push_back(Some(told(alloc, 16).ok()?)).ok()?;
     Some(link)
 }
 

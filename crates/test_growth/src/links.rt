@@ -3,7 +3,6 @@
 ghost use Rattle.std.specs.Prelude.{◌≡◌, IfSome, vec_len};
 
 use crate::digest::Digest;
-use crate::rows::link_local;
 use crate::trial::Outcome;
 use ripngd_config::{Peer, Place};
 use ripngd_engine::Link;
@@ -12,6 +11,7 @@ use router_core::{Destination, Listed, Outgoing};
 use std::alloc::Global;
 use std::net::{IpAddr, Ipv4Addr, Net, SocketAddr, UdpSocket};
 use std::rt::Clock;
+use test_doubles::link_local;
 
 /// How many datagrams are sent: sixteen go at once, and the others wait.
 const SENT: u8 = 22;

@@ -2,13 +2,14 @@
 //! network is checked.
 
 use crate::digest::Digest;
-use crate::rows::{entry, line, link_local, site};
+use crate::rows::{entry, line, site};
 use crate::trial::{Outcome, Said, Trial, outcome_of};
 use fib::{Fib, Hop, RouteChange};
 use ripng_wire::{Command, encode};
 use ripng_world::{NetConfig, NetRefused, Node};
 use ripngd_log::{LogFault, read_log};
 use std::alloc::{AllocError, Global};
+use test_doubles::link_local;
 
 /// A datagram of three entries.
 #[derive(Drop)]

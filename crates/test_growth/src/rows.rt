@@ -4,13 +4,9 @@ use prefix6::{Addr6, Prefix};
 use ripng_wire::{Command, Rte, encode};
 use ripng_world::{NetInterface, Node};
 use route_table::Moment;
-use router_core::{Arrival, Interface, RouterConfig};
+use router_core::{Arrival, RouterConfig};
 use std::alloc::Global;
-
-/// The link-local address `fe80::HOST`.
-pub fn link_local(host: u32) -> Addr6 {
-    Addr6::from_bits((0xfe80 << 112) + u128::from(host))
-}
+use test_doubles::{interface, link_local, two_interfaces};
 
 /// The prefix `2001:db8:SITE::/48`.
 pub fn site(site: u16) -> Option<Prefix> {
@@ -23,20 +19,9 @@ pub fn moment(ms: u64) -> Option<Moment> {
     Moment::new(ms)
 }
 
-/// An interface of cost 1.
-fn interface(host: u32, mtu: u32) -> Interface {
-    Interface {
-        addr: link_local(host),
-        cost: 1,
-        mtu,
-    }
-}
-
 /// Router A has an interface of MTU 1,280 and one of 1,500, and owns `2001:db8:a::/48` with tag 7.
 pub fn config(alloc: Global) -> Option<RouterConfig> {
-    let interfaces = vec![in alloc; interface(1, 1280), interface(0x1_0001, 1500)].ok()?;
-    let prefixes = vec![in alloc; (site(0xa)?, 7)].ok()?;
-    RouterConfig::check(interfaces, prefixes, false).ok()
+    two_interfaces(alloc, vec![in alloc; (site(0xa)?, 7)].ok()?)
 }
 
 /// An entry for a prefix of 48 bits.

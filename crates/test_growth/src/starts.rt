@@ -2,17 +2,15 @@
 
 ghost use Rattle.std.specs.Prelude.{◌≡◌, IfSome, length};
 
-use crate::rows::link_local;
 use crate::trial::Outcome;
-use prefix6::{Addr6, Prefix};
 use ripngd_engine::memory::{MemoryClock, SameWord};
-use ripngd_engine::{Engine, EngineFault, Link, LinkFault, Received};
+use ripngd_engine::{Engine, EngineFault};
 use route_table::{Moment, TrieRoutes};
-use router_core::{Interface, Outgoing, RouterConfig};
+use router_core::RouterConfig;
 use std::alloc::Global;
 use std::cell::Cell;
 use std::collections::VecDeque;
-use std::io::{self, Write};
+use test_doubles::{Witness, WitnessedLink, WitnessedLog, one_interface, owned};
 
 /// How often a link was handed a datagram, and how many lines a log was given.
 #[derive(Drop)]
@@ -26,68 +24,25 @@ fn count(calls: &Cell<u32>) {
     calls.set(calls.get().saturating_add(1));
 }
 
-/// A link of one interface on which nothing comes.
-#[derive(Drop)]
-struct CountedLink<'a>(&'a Calls);
+impl Witness for Calls {
+    fn asked(&self, _room: usize) {}
 
-impl Link for CountedLink<'_> {
-    ghost use Rattle.std.specs.Prelude.{None};
-
-    ghost calls = { λ _. None };
-
-    ghost interface_count = { λ _. 1 };
-
-    fn interfaces(&self) -> usize {
-        1
+    fn sent(&self) {
+        count(&self.sends);
     }
 
-    fn recv(&mut self, _buffer: &mut [u8]) -> Result<Option<Received>, LinkFault> {
-        Ok(None)
-    }
-
-    fn send(&mut self, _outgoing: &Outgoing) -> Result<(), LinkFault> {
-        count(&self.0.sends);
-        Ok(())
+    fn wrote(&self) {
+        count(&self.lines);
     }
 }
 
-/// A log, of which the last write of each line ends it.
-#[derive(Drop)]
-struct CountedLog<'a>(&'a Calls);
-
-impl Write for CountedLog<'_> {
-    fn write(&mut self, buf: &[u8]) -> io::Result<usize> {
-        if buf.ends_with(b"\n") {
-            count(&self.0.lines);
-        }
-        Ok(buf.len())
-    }
-
-    fn flush(&mut self) -> io::Result<()> {
-        Ok(())
-    }
-}
-
-type CountedEngine<'a> = Engine<TrieRoutes, CountedLink<'a>, MemoryClock, SameWord>;
+type CountedEngine<'a> = Engine<TrieRoutes, WitnessedLink<'a, Calls>, MemoryClock, SameWord>;
 
 /// `fe80::1`, which owns `2001:db8::/32` and `2001:db9::/32`.
 fn owner(alloc: Global) -> Option<RouterConfig>
     ensures { IfSome result (λ c. length c.interfaces ≡ 1) }
 {
-    let interfaces = vec![in alloc;
-        Interface {
-            addr: link_local(1),
-            cost: 1,
-            mtu: 1280,
-        },
-    ]
-    .ok()?;
-    let mut prefixes = Vec::new(alloc);
-    for first in 0x2001_0db8..0x2001_0dbau32 {
-        let addr = Addr6::from_bits(u128::from(first) << 96);
-        prefixes.push((Prefix::new(addr, 32).ok()?, 0u16)).ok()?;
-    }
-    RouterConfig::check(interfaces, prefixes, false).ok()
+    one_interface(alloc, owned(alloc, 0x2001_0db8, 0x2001_0dba)?)
 }
 
 /// What came of a start: whether it was refused, what was sent, and what was logged.
@@ -116,10 +71,10 @@ fn started(alloc: Global) -> Option<Start> {
     let engine: Result<CountedEngine<'_>, EngineFault> = Engine::start(
         alloc,
         config,
-        CountedLink(&calls),
+        WitnessedLink(&calls),
         clock,
         SameWord(0),
-        &mut CountedLog(&calls),
+        &mut WitnessedLog(&calls),
     );
     Some(Start {
         is_refused: engine.is_err(),

@@ -1,6 +1,6 @@
-//! Tests of the page (`ripngd_page`), through what it hands out: the server over a network in memory (`serving`, over `played` and
-//! `stage`), and over real sockets, and an answer that is bounded. Requests as bytes with what is answered, and films, stand in
-//! `test_requests`.
+//! Tests of the page (`ripngd_page`), through what it hands out: the server over a network in memory (`serving`, and `waiting`,
+//! over `played` and `stage`), and over real sockets, and an answer that is bounded. Requests as bytes with what is answered, and
+//! films, stand in `test_requests`.
 #![tactic(auto)]
 
 #[cfg(test)]
@@ -13,3 +13,5 @@ mod serving;
 mod sockets;
 #[cfg(test)]
 mod stage;
+#[cfg(test)]
+mod waiting;

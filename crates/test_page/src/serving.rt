@@ -10,7 +10,7 @@ use std::process::Abort;
 use std::test::Fail;
 
 /// A connection that gives nothing.
-const SILENT: Line = Line {
+pub const SILENT: Line = Line {
     gives: &[],
     then: Then::Waits,
     takes: 65_536,
@@ -18,14 +18,14 @@ const SILENT: Line = Line {
 };
 
 /// A connection that asks what a datagram without an entry is, and closes once it has its answer.
-const ASKING: Line = Line {
+pub const ASKING: Line = Line {
     gives: &[b"POST /show HTTP/1.1\r\nHost: localhost:8532\r\nContent-Length: 8\r\n\r\n02010000"],
     then: Then::Ends,
     ..SILENT
 };
 
 /// One that comes in two pieces, takes two bytes at a time, and asks for what is not there.
-const LOST: Line = Line {
+pub const LOST: Line = Line {
     gives: &[b"GET /none HTTP/1.1\r\nHo", b"st: localhost:8532\r\n\r\n"],
     takes: 2,
     ..ASKING
@@ -39,7 +39,7 @@ fn served(stage: &Stage, requests: Option<u64>) -> Result<(), ServeFault> {
 }
 
 /// That what comes is served, so many requests, and ends so.
-fn expect_served(
+pub fn expect_served(
     rt: &impl Abort,
     stage: &Stage,
     requests: Option<u64>,
@@ -49,17 +49,17 @@ fn expect_served(
 }
 
 /// That what was written on a connection begins so.
-fn expect_begin(rt: &impl Abort, stage: &Stage, number: usize, begin: &[u8]) {
+pub fn expect_begin(rt: &impl Abort, stage: &Stage, number: usize, begin: &[u8]) {
     assert!(rt; stage.told(number).as_slice().starts_with(begin));
 }
 
 /// That it ends so.
-fn expect_end(rt: &impl Abort, stage: &Stage, number: usize, end: &[u8]) {
+pub fn expect_end(rt: &impl Abort, stage: &Stage, number: usize, end: &[u8]) {
     assert!(rt; stage.told(number).as_slice().ends_with(end));
 }
 
 /// That nothing was written on it.
-fn expect_nothing(rt: &impl Abort, stage: &Stage, number: usize) {
+pub fn expect_nothing(rt: &impl Abort, stage: &Stage, number: usize) {
     assert!(rt; stage.told(number).is_empty());
 }
 

@@ -1,18 +1,18 @@
 //! The order of what a start does, seen by a link and a log that note what happens to them in one record.
 
-ghost use Rattle.std.specs.Prelude.{◌≡◌, IfOk, length};
+ghost use Rattle.std.specs.Prelude.{◌≡◌, length};
 
-use super::{clock, link_local};
-use prefix6::{Addr6, Prefix};
+use super::clock;
+use ripngd_engine::Engine;
 use ripngd_engine::memory::{MemoryClock, MemoryLog, SameWord};
-use ripngd_engine::{Engine, EngineFault, Link, LinkFault, Received};
 use route_table::TrieRoutes;
-use router_core::{Interface, Outgoing, RouterConfig};
-use std::alloc::{AllocError, Global};
+use router_core::RouterConfig;
+use std::alloc::Global;
 use std::cell::RefCell;
-use std::io::{self, Write};
+use std::io;
 use std::process::Abort;
 use std::test::Fail;
+use test_doubles::{Witness, WitnessedLink, WitnessedLog, one_interface, owned};
 
 /// What happened to a double.
 #[derive(Clone, Copy, Debug, PartialEq, Eq)]
@@ -49,67 +49,28 @@ impl Record {
     }
 }
 
-/// A link of one interface on which nothing comes.
-#[derive(Drop)]
-struct NotingLink<'a>(&'a Record);
-
-impl Link for NotingLink<'_> {
-    ghost use Rattle.std.specs.Prelude.{None};
-
-    ghost calls = { λ _. None };
-
-    ghost interface_count = { λ _. 1 };
-
-    fn interfaces(&self) -> usize {
-        1
+impl Witness for Record {
+    fn asked(&self, room: usize) {
+        self.note(Event::Asked(room));
     }
 
-    fn recv(&mut self, buffer: &mut [u8]) -> Result<Option<Received>, LinkFault> {
-        self.0.note(Event::Asked(buffer.len()));
-        Ok(None)
+    fn sent(&self) {
+        self.note(Event::Sent);
     }
 
-    fn send(&mut self, _outgoing: &Outgoing) -> Result<(), LinkFault> {
-        self.0.note(Event::Sent);
-        Ok(())
+    fn wrote(&self) {
+        self.note(Event::Wrote);
     }
 }
 
-/// A log that takes a whole line at a write.
-#[derive(Drop)]
-struct NotingLog<'a>(&'a Record);
-
-impl Write for NotingLog<'_> {
-    fn write(&mut self, buf: &[u8]) -> io::Result<usize> {
-        if buf.ends_with(b"\n") {
-            self.0.note(Event::Wrote);
-        }
-        Ok(buf.len())
-    }
-
-    fn flush(&mut self) -> io::Result<()> {
-        Ok(())
-    }
-}
-
-type NotingEngine<'a> = Engine<TrieRoutes, NotingLink<'a>, MemoryClock, SameWord>;
+type RecordedEngine<'a> = Engine<TrieRoutes, WitnessedLink<'a, Record>, MemoryClock, SameWord>;
 
 /// `fe80::1`, which owns `2001:db8::/32` and `2001:db9::/32`.
-fn owner(rt: &impl Abort, alloc: Global) -> Result<RouterConfig, AllocError>
-    ensures { IfOk result (λ c. length c.interfaces ≡ 1) }
+fn owner(rt: &impl Abort, alloc: Global) -> RouterConfig
+    ensures { length result.interfaces ≡ 1 }
 {
-    let interfaces = vec![in alloc;
-        Interface {
-            addr: link_local(1),
-            cost: 1,
-            mtu: 1280,
-        },
-    ]?;
-    let prefix = |first: u32| {
-        Prefix::new(Addr6::from_bits(u128::from(first) << 96), 32).expect(rt, "a prefix")
-    };
-    let owned = vec![in alloc; (prefix(0x2001_0db8), 0u16), (prefix(0x2001_0db9), 0u16)]?;
-    Ok(RouterConfig::check(interfaces, owned, false).expect(rt, "a lawful configuration"))
+    let prefixes = owned(alloc, 0x2001_0db8, 0x2001_0dba).expect(rt, "prefixes");
+    one_interface(alloc, prefixes).expect(rt, "a lawful configuration")
 }
 
 #[test]
@@ -118,13 +79,13 @@ fn a_start_sends_before_it_logs_and_a_turn_has_room_for_any_datagram(
 ) -> Result<(), Fail> {
     let alloc = rt.alloc();
     let record = Record::new(alloc);
-    let mut engine: NotingEngine<'_> = Engine::start(
+    let mut engine: RecordedEngine<'_> = Engine::start(
         alloc,
-        owner(&rt, alloc)?,
-        NotingLink(&record),
+        owner(&rt, alloc),
+        WitnessedLink(&record),
         clock(&rt, alloc, 4)?,
         SameWord(0),
-        &mut NotingLog(&record),
+        &mut WitnessedLog(&record),
     )?;
     assert!(rt; record.is(&[Event::Sent, Event::Wrote, Event::Wrote]));
     engine.turns(1, &mut io::sink())?;
@@ -138,10 +99,10 @@ fn writes(rt: &impl Abort, alloc: Global, failing: Option<u64>) -> Result<u64, F
     let record = Record::new(alloc);
     let mut log = MemoryLog::new(alloc);
     log.failing_write = failing;
-    let engine: NotingEngine<'_> = Engine::start(
+    let engine: RecordedEngine<'_> = Engine::start(
         alloc,
-        owner(rt, alloc)?,
-        NotingLink(&record),
+        owner(rt, alloc),
+        WitnessedLink(&record),
         clock(rt, alloc, 1)?,
         SameWord(0),
         &mut log,

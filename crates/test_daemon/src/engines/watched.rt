@@ -2,7 +2,7 @@
 
 ghost use Rattle.std.specs.Prelude.{⊤};
 
-use super::{from_neighbor, link_local, start, told};
+use super::start;
 use ripngd_engine::memory::{Datagram, MemoryLink, MemoryLog};
 use ripngd_engine::{Arrived, Watch};
 use route_table::Moment;
@@ -10,6 +10,7 @@ use router_core::{Fault, Note, NoteKind, Outgoing};
 use std::alloc::Global;
 use std::process::Abort;
 use std::test::Fail;
+use test_doubles::{from_neighbor, link_local, told};
 
 /// What a watcher was told: of the bytes how many they were, and of the notes the first.
 #[derive(Clone, Copy, Debug, PartialEq, Eq)]
@@ -39,11 +40,11 @@ impl Watch for Keeper {
 fn events(
     rt: &impl Abort,
     alloc: Global,
-    coming: Option<Datagram>,
+    coming: Datagram,
     failing_send: Option<u64>,
 ) -> Result<Keeper, Fail> {
     let mut link = MemoryLink::new(alloc, 2);
-    link.coming.push_back(coming)?;
+    link.coming.push_back(Some(coming))?;
     link.failing_send = failing_send;
     let mut log = MemoryLog::new(alloc);
     let mut engine = start(rt, alloc, link, &mut log)?;
@@ -65,10 +66,10 @@ fn arrived(rt: &impl Abort) -> Arrived {
 #[test]
 fn a_refused_arrival_is_told_with_its_fault(rt: HostRuntime) -> Result<(), Fail> {
     let alloc = rt.alloc();
-    let forwarded = told(alloc, 1)?.map(|datagram| Datagram {
+    let forwarded = Datagram {
         hop_limit: 254,
-        ..datagram
-    });
+        ..told(alloc, 1)?
+    };
     let keeper = events(&rt, alloc, forwarded, None)?;
     let refused = Event::Heard(arrived(&rt), 24, Some(Fault::HopLimit), 0, None);
     assert_eq!(rt; keeper.0.as_slice(), [refused].as_slice());
