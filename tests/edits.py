@@ -144,20 +144,26 @@ def try_together(batch, scratch):
     return said.processor, [edit for edit in batch if not is_refused(edit.functions, of, said)]
 
 
-def try_alone(edit, scratch):
-    """Makes one edit, for which a goal of the function that it names counts, or else of any."""
+def try_alone(edit, scratch, at):
+    """Makes one edit, for which a goal of these functions counts, or else of any."""
     with copy_of(edit.crate, scratch, with_kept=True) as folder:
-        said, of = check([edit], folder, folder / "kept", edit.at)
+        said, of = check([edit], folder, folder / "kept", at)
     opened = [name for name in of if is_open(name, of, said.text)]
     name = f"{edit.crate}/{edit.name}"
-    if edit.at and is_refused(edit.at, of, said):
-        return Outcome(passed=1, said=f"{name}: refused alone", processor=said.processor)
+    if at and not is_refused(at, of, said):
+        return Outcome(processor=said.processor, more=[alone_job(edit, scratch, set())])
     if not of or said.status not in (0, 1):
         return Outcome(failed=1, said=f"FAILED {name}: BAD EDIT: it did not reach the prover: {said.text[-300:]}", processor=said.processor)
-    if edit.at or all(it == "proved" for it in of.values()):
-        return Outcome(failed=1, said=f"FAILED {name}: NOT REFUSED: it is still proved with it", processor=said.processor)
+    if all(it == "proved" for it in of.values()):
+        return Outcome(failed=1, said=f"FAILED {name}: NOT REFUSED: the crate is still proved with it", processor=said.processor)
     by = f"at {', '.join(opened)}" if opened else "only as a proof file names what it took away"
     return Outcome(passed=1, said=f"{name}: refused alone, {by}", processor=said.processor)
+
+
+def alone_job(edit, scratch, at):
+    """The job that tries an edit alone, at these functions or over the whole crate."""
+    way = work_of(edit.crate) if not at else 30
+    return Job(("edits", edit.crate, edit.name, *at), lambda *_: try_alone(edit, scratch, at), way=way)
 
 
 def batches_of(edits):
@@ -183,17 +189,18 @@ def tries_of(edits, scratch):
     """Tries edits of a crate together, and hands on the jobs that try the others alone."""
     bad = [edit for edit in edits if edit.fault]
     alone = [edit for edit in edits if not edit.fault and (edit.at or not edit.functions)]
-    said, processor = [f"FAILED {edit.crate}/{edit.name}: BAD EDIT: {edit.fault}" for edit in bad], 0
     together = [edit for edit in edits if edit not in bad and edit not in alone]
+    said, processor, left = [f"FAILED {edit.crate}/{edit.name}: BAD EDIT: {edit.fault}" for edit in bad], 0, []
     for batch in batches_of(together):
-        took, left = try_together(batch, scratch)
-        alone, processor = alone + left, processor + took
+        took, shown = try_together(batch, scratch)
+        left, processor = left + shown, processor + took
     if together:
-        refused = sum(edit not in alone for edit in together)
-        said.append(f"{edits[0].crate}: {refused} of {len(together)} edits refused together")
-    way = work_of(edits[0].crate)
-    jobs = [Job(("edits", edit.crate, edit.name), lambda *_, edit=edit: try_alone(edit, scratch), way=way) for edit in alone]
-    return Outcome(len(together) - sum(edit in alone for edit in together), len(bad), "\n".join(said), processor, jobs)
+        said.append(f"{edits[0].crate}: {len(together) - len(left)} of {len(together)} edits refused together")
+    if any(not edit.at for edit in alone + left):
+        # What these are tried over, all of the crate, is proved once for all of them.
+        processor += rattle("check", edits[0].crate, ["--incremental", str(kept_of(edits[0].crate))], GIVING_WAY).processor
+    jobs = [alone_job(edit, scratch, edit.at) for edit in alone + left]
+    return Outcome(len(together) - len(left), len(bad), "\n".join(said), processor, jobs)
 
 
 def tries_job(crate, scratch, wanted=None, is_all=True):
