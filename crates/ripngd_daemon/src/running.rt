@@ -131,7 +131,15 @@ fn run_written<'a, R: Files + Clock + Net + AllocGlobal, L: Log + Drop, O: Write
         (option_map (λ s. s.now) plan.entry.control)) }
 {
     if plan.stamp {
-        run_logged(rt, plan, &mut Stamped::new(rt, lines), ports, out, err, lost)
+        run_logged(
+            rt,
+            plan,
+            &mut Stamped::new(rt, lines),
+            ports,
+            out,
+            err,
+            lost,
+        )
     } else {
         run_logged(rt, plan, &mut lines, ports, out, err, lost)
     }

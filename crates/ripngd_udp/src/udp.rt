@@ -252,7 +252,9 @@ impl<R: Clock> Link for Udp<'_, R> {
         ensures { self.new ≡ record self.old { calls = self.old.calls ++ Handed outgoing.now (is_ok result) ∷ [] } }
     {
         let answer = self.sockets.send(outgoing);
-        self.transcript = self.transcript.then(&Entry::Taken(outgoing, answer.is_ok()));
+        self.transcript = self
+            .transcript
+            .then(&Entry::Taken(outgoing, answer.is_ok()));
         answer
     }
 }
