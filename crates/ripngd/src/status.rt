@@ -94,9 +94,10 @@ fn outcome<
     ensures usage { result ≡ Ok Status.Usage → HaveFault (map (λ w. w.now) words.now) }
     ensures failed { IfErr result (FailsWords (map (λ w. w.now) words.entry.now)) }
 {
+    let mut ports = Ports::new();
     match ask(rt.alloc(), words) {
         Ok(asked) if is_misused(asked) => Ok(explain_misuse(asked, err)),
-        Ok(asked) => answer(rt, files, asked, &mut Ports::new(), out, err, lost),
+        Ok(asked) => answer(rt, files, asked, &mut ports, out, err, lost),
         Err(error) => explain(&error, out, err),
     }
 }
