@@ -4,7 +4,7 @@ ghost use Rattle.std.specs.Prelude.{◌≡◌, IfErr, IfOk, None, OnErr, OnOk, S
 ghost use Rattle.ripngd_udp.specs.Peers.{links_at};
 ghost use Rattle.ripngd_udp.specs.Udp.{NamesPortOf, new_link};
 
-use crate::transcript::{Entry, Transcript};
+use crate::transcript::Transcript;
 use crate::udp::{Udp, UdpError};
 use ripngd_config::{Peer, Place};
 use std::alloc::Global;
@@ -62,7 +62,7 @@ impl Ports {
         ensures err { OnErr result (self.new ≡ self.old) }
     {
         let link = Udp::bind(rt, alloc, places, peers)?;
-        self.bound = Some(Transcript::new().then(&Entry::Bound(link.neighborhoods())));
+        self.bound = Some(Transcript::new().with_links(link.neighborhoods()));
         self.closed = None;
         Ok(link)
     }

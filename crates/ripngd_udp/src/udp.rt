@@ -11,7 +11,7 @@ use crate::bind_cause::BindCause;
 use crate::neighborhood::Neighborhood;
 use crate::peer_refused::PeerRefused;
 use crate::sockets::Sockets;
-use crate::transcript::{Entry, Transcript};
+use crate::transcript::Transcript;
 use crate::waiting::Polled;
 use mio::Events;
 use prefix6::Addr6;
@@ -244,7 +244,7 @@ impl<R: Clock> Link for Udp<'_, R> {
         ensures calls { self.new.calls ≡ self.old.calls ++ recv_call result buffer.new ∷ [] }
     {
         let answer = self.sockets.recv(buffer);
-        self.transcript = self.transcript.then(&Entry::Answered(answer, buffer));
+        self.transcript = self.transcript.with_recv(&answer, buffer);
         answer
     }
 
@@ -252,9 +252,7 @@ impl<R: Clock> Link for Udp<'_, R> {
         ensures { self.new ≡ record self.old { calls = self.old.calls ++ Handed outgoing.now (is_ok result) ∷ [] } }
     {
         let answer = self.sockets.send(outgoing);
-        self.transcript = self
-            .transcript
-            .then(&Entry::Taken(outgoing, answer.is_ok()));
+        self.transcript = self.transcript.with_send(outgoing, answer.is_ok());
         answer
     }
 }
