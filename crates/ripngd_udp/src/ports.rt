@@ -69,7 +69,7 @@ impl Ports {
 
     /// Closes the sockets of a link.
     pub fn close<R: Clock>(&mut self, link: Udp<'_, R>)
-        ensures { self.new ≡ record self.old { calls = Some link.calls } }
+        ensures { self.new ≡ record self.old { calls = Some link.entry.calls } }
     {
         self.closed = Some(link.into_transcript());
     }

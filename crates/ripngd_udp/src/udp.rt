@@ -152,7 +152,7 @@ impl<'a, R: Clock> Udp<'a, R> {
 
     /// What was told of it. Its sockets are closed.
     pub(crate) fn into_transcript(self) -> Transcript
-        ensures { result.told.calls ≡ self.calls }
+        ensures { result.told.calls ≡ self.entry.calls }
     {
         let Udp { transcript, .. } = self;
         transcript
