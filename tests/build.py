@@ -10,7 +10,7 @@ import hashlib
 import re
 import sys
 
-from crates import NAMED, below, files_of, folder_of, in_order, is_program, libraries_of, lines_of
+from crates import NAMED, below, files_of, folder_of, in_order, is_program, libraries_of, work_of
 from jobs import CORES, Job, Outcome, run_all, spent
 from kit import VERSION, build_program, is_laid_out, prove_library
 
@@ -29,15 +29,19 @@ def sums_of(crates):
     return sums
 
 
+def functions_of(crate):
+    """The names of the functions of a crate that is proved."""
+    return (folder_of(crate) / "out" / FUNCTIONS).read_text().split()
+
+
 def prove(crate, begins, processes):
-    """Proves and builds a crate, keeps the names of its functions, and answers its fault, or None, and what was said."""
+    """Proves and builds a crate."""
     out = folder_of(crate) / "out"
     out.mkdir(exist_ok=True)
-    fault, said = build_program(crate, out / crate, begins, processes) if is_program(crate) else prove_library(crate, begins, processes)
-    if fault is None and not is_laid_out(crate):
-        fault = "run rt fmt in its folder"
-    (out / FUNCTIONS).write_text("".join(f"{name}\n" for name in re.findall(r"^fn (\S+): proved", said, re.M)))
-    return fault, said
+    said = build_program(crate, out / crate, begins, processes) if is_program(crate) else prove_library(crate, begins, processes)
+    if said.fault is None and not is_laid_out(crate):
+        said.fault = "run rt fmt in its folder"
+    return said
 
 
 def proofs_of(wanted, urgent):
@@ -46,21 +50,25 @@ def proofs_of(wanted, urgent):
     sums, ways = sums_of(crates), {}
     for crate in reversed(crates):
         behind = [ways[one] for one in crates if crate in libraries_of(one)]
-        ways[crate] = lines_of(crate) + max(behind, default=0) if crate in urgent or any(behind) else 0
+        ways[crate] = work_of(crate) + max(behind, default=0)
+    awaited = {one for it in urgent for one in [it, *below(it)]}
 
     def job_of(crate):
         def call(begins, processes):
             file = folder_of(crate) / "out" / SUM
-            if file.is_file() and file.read_text() == sums[crate] and (file.parent / FUNCTIONS).is_file():
+            if file.is_file() and file.read_text() == sums[crate]:
                 return Outcome(passed=1)
-            fault, said = prove(crate, begins, processes)
-            if fault:
-                return Outcome(failed=1, said=f"{said}\nFAILED {crate}: {fault}")
+            said = prove(crate, begins, processes)
+            if said.fault:
+                return Outcome(failed=1, said=f"{said.text}\nFAILED {crate}: {said.fault}", processor=said.processor)
+            (file.parent / FUNCTIONS).write_text("".join(f"{name}\n" for name in re.findall(r"^fn (\S+): proved", said.text, re.M)))
             file.write_text(sums[crate])
-            return Outcome(passed=1, said=f"proved {crate}")
+            return Outcome(passed=1, said=f"proved {crate}", processor=said.processor)
 
-        most = CORES if lines_of(crate) >= 1000 else 1
-        return Job(("proof", crate), call, tuple(("proof", one) for one in libraries_of(crate)), ways[crate], most)
+        # What several processes prove takes more of the processors together, so a short crate has one.
+        most = CORES if work_of(crate) >= 120 else 1
+        needs = tuple(("proof", one) for one in libraries_of(crate))
+        return Job(("proof", crate), call, needs, ways[crate], crate in awaited, most)
 
     return [job_of(crate) for crate in crates]
 

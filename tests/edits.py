@@ -3,14 +3,15 @@
 
     tests/edits.py CRATE [EDIT]          all of a crate, or the one of that name
 
-What the crate stands on is proved first, and then the crate, in a way that keeps what is proved of each function (kept.py), where that was not
-done before. An edit is a file `crates/CRATE/edits/NAME.edit` with a line `file:` and then lines `old:` and `new:`; `old` stands once in that file. One that begins with
-a line `beside:` shows the same hole of the same clause as the edit that is named there, and the gate leaves it out.
+The crate is proved first, with what it stands on, where it was not. An edit is a file `crates/CRATE/edits/NAME.edit` with a line `file:` and
+then lines `old:` and `new:`; `old` stands once in that file. One that begins with a line `beside:` shows the same hole of the same clause as
+the edit that is named there, and the gate leaves it out.
 
 A function is proved over the contracts of those that it calls and never over their bodies. So edits of different functions do not touch
-each other, and are made together: one check reads the crate once for all of them. An edit is refused where the prover says that a goal of
-the very function stays open. One that changes no single function, as a constant or a definition, and one that its own function does not
-show, as of a function that has no clause, is tried alone: there a goal of any function counts.
+each other, and are made together: one check of these functions reads the crate once for all of them, and what it proves is kept for the next.
+An edit is refused where the prover says that a goal of the very function stays open. One that changes no single function, as a constant or
+a definition, and one that its own function does not show, is tried alone, at the function that a line `at:` names, and where there is none
+over the whole crate: there a goal of any function counts.
 
 A line tells of each check, and of each edit that is not refused; last comes `N passed, M failed`. The exit status is 0 exactly where M
 is 0. The gate tries those of all crates so (prove.py)."""
@@ -19,10 +20,10 @@ import re
 import sys
 import tempfile
 
-from build import proofs_of
-from crates import NAMED, ROOT, edit_files_of, folder_of, libraries_of
+from build import functions_of, proofs_of
+from crates import NAMED, ROOT, edit_files_of, folder_of, work_of
 from jobs import GIVING_WAY, Job, Outcome, run_all
-from kept import copy_of, functions_kept, kept_job
+from kept import copy_of, kept_of
 from kit import rattle
 
 FUNCTION = re.compile(r"\s*(?:pub(?:\([^)]*\))? )?(?:const )?(?:unsafe )?fn (\w+)")
@@ -39,11 +40,13 @@ class Edit:
 
     def __init__(self, crate, file, names):
         self.crate, self.name, self.fault, self.pairs = crate, file.stem, None, []
-        self.is_beside, path, old = False, None, None
+        self.is_beside, self.at, path, old = False, set(), None, None
         for line in file.read_text().splitlines():
             key, _, text = line.partition(": ")
             if key == "beside":
                 self.is_beside = True
+            elif key == "at":
+                self.at |= {name for name in names if name == f"{crate}::{text}"} or {text}
             elif key == "file":
                 path = text.strip()
             elif key == "old":
@@ -53,6 +56,8 @@ class Edit:
         places = [place(crate, *pair[:2]) for pair in self.pairs]
         if not places or None in places:
             self.fault = "its old text stands nowhere, or more than once, in its file"
+        if self.at.difference(names):
+            self.fault = f"no function is named {self.at}"
         found = [named(one, names) for one in places if one]
         # The functions that it changes, or None where a text stands in none.
         self.functions = set(found) if found and None not in found else None
@@ -97,15 +102,14 @@ def named(place, names):
     return found[0] if len(found) == 1 else inside[0] if len(inside) == 1 else None
 
 
-def check(edits, scratch, words):
-    """Checks a crate with edits made, over what is kept of it, and answers the status, what was said, and what of each function."""
-    crate = edits[0].crate
-    with copy_of(crate, scratch) as folder:
-        for edit in edits:
-            edit.apply(folder)
-        begins = [*GIVING_WAY, "timeout", str(PATIENCE)]
-        status, output = rattle("check", crate, ["--incremental", f"{folder}/kept", *words], begins, folder)
-    return status, output, dict(re.findall(r"^fn (\S+): (.*)", output, re.M))
+def check(edits, folder, kept, functions):
+    """Checks a copy of a crate with edits made, these functions or else all, over what is kept of it; answers what was said, and what of each
+    function."""
+    for edit in edits:
+        edit.apply(folder)
+    words = ["--incremental", str(kept), *[word for one in sorted(functions) for word in ("--only", one)]]
+    said = rattle("check", edits[0].crate, [*words, "--allow-holes"], [*GIVING_WAY, "timeout", str(PATIENCE)], folder)
+    return said, dict(re.findall(r"^fn (\S+): (.*)", said.text, re.M))
 
 
 def is_open(function, said, output):
@@ -124,43 +128,36 @@ def is_within(name, function):
     return name == function or name.startswith("::".join([*module, "fn", last]) + "::")
 
 
+def is_refused(functions, of, said):
+    """Whether a goal of one of these functions stays open."""
+    return any(is_within(name, one) for name in of if is_open(name, of, said.text) for one in functions)
+
+
 def try_together(batch, scratch):
-    """Makes edits of different functions together. Those that are not refused so are tried alone, and where they do not compile each half of
-    them by itself."""
-    functions = sorted(set().union(*[edit.functions for edit in batch]))
-    _, output, said = check(batch, scratch, ["--allow-holes", *[word for one in functions for word in ("--only", one)]])
-    if not said:
-        half = len(batch) // 2
-        return Outcome(more=jobs_of([batch[:half], batch[half:]], scratch))
-    opened = [name for name in said if is_open(name, said, output)]
-    refused = [edit for edit in batch if any(is_within(name, one) for name in opened for one in edit.functions)]
-    alone = jobs_of([[edit] for edit in batch if edit not in refused], scratch)
-    return Outcome(passed=len(refused), said=f"{batch[0].crate}: {len(refused)} of {len(batch)} refused together", more=alone)
+    """Makes edits of different functions together, and where they do not compile each half of them by itself; answers what came of it, and
+    which are not refused."""
+    with copy_of(batch[0].crate, scratch) as folder:
+        said, of = check(batch, folder, kept_of(batch[0].crate), set().union(*[edit.functions for edit in batch]))
+    if not of and len(batch) > 1:
+        halves = [try_together(half, scratch) for half in (batch[: len(batch) // 2], batch[len(batch) // 2 :])]
+        return said.processor + halves[0][0] + halves[1][0], halves[0][1] + halves[1][1]
+    return said.processor, [edit for edit in batch if not is_refused(edit.functions, of, said)]
 
 
 def try_alone(edit, scratch):
-    """Makes one edit, for which a goal of any function may stay open."""
-    status, output, _ = check([edit], scratch, [])
+    """Makes one edit, for which a goal of the function that it names counts, or else of any."""
+    with copy_of(edit.crate, scratch, with_kept=True) as folder:
+        said, of = check([edit], folder, folder / "kept", edit.at)
+    opened = [name for name in of if is_open(name, of, said.text)]
     name = f"{edit.crate}/{edit.name}"
-    if status == 0:
-        return Outcome(failed=1, said=f"FAILED {name}: NOT REFUSED: the crate is still proved with it")
-    if not re.search(r"^logic=not-proved", output, re.M):
-        return Outcome(failed=1, said=f"FAILED {name}: BAD EDIT: it did not reach the prover: {output[-300:]}")
-    told = [line for line in output.splitlines() if re.match(r"note: src/|\./proofs/.*: error: ", line)]
-    by = "" if any(not SHAPE.search(line) for line in told) else ", only as a proof file names what it took away"
-    return Outcome(passed=1, said=f"{name}: refused alone{by}")
-
-
-def jobs_of(batches, scratch):
-    """The jobs that try batches of edits, each of a crate of which proofs are kept."""
-
-    def job_of(batch):
-        def call(_begins, _processes):
-            return try_together(batch, scratch) if len(batch) > 1 else try_alone(batch[0], scratch)
-
-        return Job(("edits", batch[0].crate, *[edit.name for edit in batch]), call)
-
-    return [job_of(batch) for batch in batches]
+    if edit.at and is_refused(edit.at, of, said):
+        return Outcome(passed=1, said=f"{name}: refused alone", processor=said.processor)
+    if not of or said.status not in (0, 1):
+        return Outcome(failed=1, said=f"FAILED {name}: BAD EDIT: it did not reach the prover: {said.text[-300:]}", processor=said.processor)
+    if edit.at or all(it == "proved" for it in of.values()):
+        return Outcome(failed=1, said=f"FAILED {name}: NOT REFUSED: it is still proved with it", processor=said.processor)
+    by = f"at {', '.join(opened)}" if opened else "only as a proof file names what it took away"
+    return Outcome(passed=1, said=f"{name}: refused alone, {by}", processor=said.processor)
 
 
 def batches_of(edits):
@@ -177,33 +174,42 @@ def batches_of(edits):
 
 
 def edits_of(crate, wanted=None, is_all=True):
-    """The edits of a crate of which proofs are kept: all, the one that is wanted, or those that the gate tries."""
-    names = functions_kept(crate)
-    edits = [Edit(crate, file, names) for file in edit_files_of(crate) if wanted in (None, file.stem)]
+    """The edits of a crate that is proved: all, the one that is wanted, or those that the gate tries."""
+    edits = [Edit(crate, file, functions_of(crate)) for file in edit_files_of(crate) if wanted in (None, file.stem)]
     return edits if wanted or is_all else [edit for edit in edits if not edit.is_beside]
 
 
 def tries_of(edits, scratch):
-    """What is known of edits before they are tried, with the jobs that try them."""
+    """Tries edits of a crate together, and hands on the jobs that try the others alone."""
     bad = [edit for edit in edits if edit.fault]
-    batches = batches_of([edit for edit in edits if not edit.fault and edit.functions])
-    batches += [[edit] for edit in edits if not edit.fault and not edit.functions]
-    said = "\n".join(f"FAILED {edit.crate}/{edit.name}: BAD EDIT: {edit.fault}" for edit in bad)
-    return Outcome(failed=len(bad), said=said, more=jobs_of(batches, scratch))
+    alone = [edit for edit in edits if not edit.fault and (edit.at or not edit.functions)]
+    said, processor = [f"FAILED {edit.crate}/{edit.name}: BAD EDIT: {edit.fault}" for edit in bad], 0
+    together = [edit for edit in edits if edit not in bad and edit not in alone]
+    for batch in batches_of(together):
+        took, left = try_together(batch, scratch)
+        alone, processor = alone + left, processor + took
+    if together:
+        refused = sum(edit not in alone for edit in together)
+        said.append(f"{edits[0].crate}: {refused} of {len(together)} edits refused together")
+    way = work_of(edits[0].crate)
+    jobs = [Job(("edits", edit.crate, edit.name), lambda *_, edit=edit: try_alone(edit, scratch), way=way) for edit in alone]
+    return Outcome(len(together) - sum(edit in alone for edit in together), len(bad), "\n".join(said), processor, jobs)
 
 
 def tries_job(crate, scratch, wanted=None, is_all=True):
-    """The job that finds a crate's edits, once its proofs are kept, and hands on the jobs that try them."""
-    return Job(("edits", crate), lambda *_: tries_of(edits_of(crate, wanted, is_all), scratch), (("kept", crate),))
+    """The job that tries a crate's edits, once it is proved."""
+    # They are tried one after another, and then some alone.
+    way = 3 * work_of(crate)
+    return Job(("edits", crate), lambda *_: tries_of(edits_of(crate, wanted, is_all), scratch), (("proof", crate),), way)
 
 
 def main(crate, wanted=None):
     if crate not in NAMED or wanted not in (None, *[file.stem for file in edit_files_of(crate)]):
         sys.exit(f"crates.txt has no crate {crate}, or it has no such edit")
     with tempfile.TemporaryDirectory(dir=ROOT, prefix=".building-") as scratch:
-        jobs = [*proofs_of(libraries_of(crate), libraries_of(crate)), kept_job(crate), tries_job(crate, scratch, wanted)]
-        passed, failed = run_all(jobs)
-    print(f"{passed} passed, {failed} failed")
+        proofs = proofs_of([crate], [crate])
+        passed, failed = run_all([*proofs, tries_job(crate, scratch, wanted)])
+    print(f"{passed - len(proofs)} passed, {failed} failed")
     return 1 if failed else 0
 
 

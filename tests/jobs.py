@@ -1,7 +1,7 @@
 """Work that is done side by side: each piece once what it needs is done.
 
-Pieces for which others wait come first. The one with the longest way before it has as many processes as are of use to it, since it decides when
-all is done, and the others have one each. What nothing waits for fills what these leave idle."""
+Urgent pieces come first. The one of them with the longest way before it has as many processes as are of use to it, since it decides when all of
+them are done, and the others have one each. What is not urgent fills what these leave idle, the longest way first."""
 
 import concurrent.futures as futures
 import dataclasses
@@ -16,37 +16,40 @@ GIVING_WAY = ["nice", "-n", "10"]
 
 @dataclasses.dataclass
 class Outcome:
-    """What came of a piece of work: how much of it passed and failed, what is to be said of it, and work that it found."""
+    """What came of a piece of work: how much of it passed and failed, what is to be said of it, the processor seconds that it took, and work
+    that it found."""
 
     passed: int = 0
     failed: int = 0
     said: str = ""
+    processor: float = 0
     more: list["Job"] = dataclasses.field(default_factory=list)
 
 
 @dataclasses.dataclass
 class Job:
     """A piece of work, by a name of its own. Its call gets the words before its commands, and how many processes they may have; what it needs
-    are names of others; its way is how much work, its own and what waits for it, has to be done one after another from it on, or 0 where
-    nothing waits for it; so many processes are of use to it at most."""
+    are names of others; its way is how much work, its own and what waits for it, has to be done one after another from it on; it is urgent
+    where the rest of the gate waits for it, or a person; so many processes are of use to it at most."""
 
     name: tuple[str, ...]
     call: Callable[[list[str], int], Outcome]
     needs: tuple[tuple[str, ...], ...] = ()
     way: int = 0
+    is_urgent: bool = False
     most: int = 1
 
 
 def starts(ready, running):
     """The jobs to begin now, each with the words before its commands and how many processes they may have. Those that are ready stand with the
     longest way first; of those that run it is known how many processes each has."""
-    urgent = [job for job in ready if job.way > 0]
-    ways = [job.way for job, _ in running if job.way > 0]
+    urgent = [job for job in ready if job.is_urgent]
+    ways = [job.way for job, _ in running if job.is_urgent]
     begun = [(job, [], job.most if job.way > max([0, *ways]) and job is urgent[0] else 1) for job in urgent[: CORES - len(ways)]]
-    # What nothing waits for gives way to the rest, which does not keep all of its processes busy all the time.
+    # What is not urgent gives way to the rest, which does not keep all of its processes busy all the time.
     fill = CORES + 2 - sum(processes for _, processes in running) - sum(processes for _, _, processes in begun)
-    fill = min(fill, CORES - sum(job.way == 0 for job, _ in running))
-    return begun + [(job, GIVING_WAY, 1) for job in [one for one in ready if one.way == 0][: max(0, fill)]]
+    fill = min(fill, CORES - sum(not job.is_urgent for job, _ in running))
+    return begun + [(job, GIVING_WAY, 1) for job in [one for one in ready if not one.is_urgent][: max(0, fill)]]
 
 
 def run_all(jobs):
@@ -72,7 +75,7 @@ def run_all(jobs):
                 (bad if outcome.failed else well).add(job.name)
                 passed, failed, left = passed + outcome.passed, failed + outcome.failed, left + outcome.more
                 if outcome.said:
-                    print(f"{outcome.said}, in {seconds:.0f} s", flush=True)
+                    print(f"{outcome.said}, in {seconds:.0f} s, {outcome.processor:.0f} processor seconds", flush=True)
     return passed, failed
 
 

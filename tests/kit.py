@@ -4,6 +4,8 @@ A library is kept as its statements, `crates/NAME/out/statements`: what other cr
 it reads little, and any number of crates can be proved over it side by side. This is how `rt ci`, the kit's own judge, proves, and a verdict
 here has the very words that it asks for: nothing was taken from an earlier check."""
 
+import dataclasses
+import os
 import pathlib
 import re
 import subprocess
@@ -22,8 +24,8 @@ HANDLES = set(re.sub(r"^Handles allowed: |\.$|none", "", (ROOT / "HANDLES").read
 # A verdict's last line, with the words that it rests on: the kit's own logic and libraries, and libraries that were proved so.
 VERDICT = re.compile(r"logic=proved(?P<words>(?: [a-z-]+=\S+)*) sum=\w+ native=nat,char,string logic-built=trusted"
                      r" libraries-built=trusted statements=trusted")
-# What else it may say of a crate: numbers of functions and tests, and handles, which have to be allowed.
-COUNTED = {"functions", "tests", "main", "threads"}
+# What it may not say of a crate: that something is taken as it is, hides, may not end, or was left out for a fault of the prover.
+REFUSED = {"foreign", "hides", "partial", "may-abort", "may-serve", "bugs"}
 # Warnings of contracts that say less than they seem to.
 WARNED = re.compile(
     r"^warning: (?:calls of a tactic that chose a term|no call of `(?![^`]*::fn::)).*|^note: the search for empty contracts did not end.*"
@@ -47,11 +49,24 @@ def words_of(crate):
     return [*words, "--antt-project", f"{KIT}/rattle/logic/antt-project.json", "--logic-built", f"{KIT}/logic_built", "--links", f"{crate}="]
 
 
+@dataclasses.dataclass
+class Said:
+    """How a command of the kit ended, what it said, the processor seconds that it took, and why it gave no verdict, if one was wanted."""
+
+    status: int
+    text: str
+    processor: float
+    fault: str | None = None
+
+
 def call(command, folder, begins=()):
-    """Runs a command of the kit in a folder, and answers its status and what it said."""
-    ran = subprocess.run([*begins, *command], cwd=folder, stdin=subprocess.DEVNULL, stdout=subprocess.PIPE, stderr=subprocess.STDOUT,
-                         text=True, errors="replace")
-    return ran.returncode, ran.stdout
+    """Runs a command of the kit in a folder."""
+    with subprocess.Popen([*begins, *command], cwd=folder, stdin=subprocess.DEVNULL, stdout=subprocess.PIPE, stderr=subprocess.STDOUT,
+                          text=True, errors="replace") as started:
+        text = started.stdout.read()
+        _, status, took = os.wait4(started.pid, 0)
+        started.returncode = os.waitstatus_to_exitcode(status)
+    return Said(started.returncode, text, took.ru_utime + took.ru_stime)
 
 
 def rattle(verb, crate, flags, begins=(), folder=None):
@@ -67,9 +82,9 @@ def fault_of(said, is_of_tests=False):
         return f"it is not proved: {lines[-1] if lines else 'there is no verdict'}"
     words = dict(word.partition("=")[::2] for word in verdict["words"].split())
     takes = {word for word in words.get("main", "").split("+") if word} - HANDLES - ({"Abort"} if is_of_tests else set())
-    beyond = [f"{name}={words[name]}" for name in words if name not in COUNTED] if not is_of_tests else []
-    if takes or beyond:
-        return f"its verdict has {' '.join([*takes, *beyond])}"
+    refused = set() if is_of_tests else REFUSED.intersection(words)
+    if takes or refused:
+        return f"its verdict has {' '.join(sorted(takes | refused))}"
     warning = WARNED.search(said)
     return warning and warning[0]
 
@@ -89,26 +104,26 @@ def is_laid_out(crate):
 
 
 def prove_library(crate, begins, processes):
-    """Proves a library from nothing and keeps its statements, and answers its fault, or None, and what was said."""
+    """Proves a library from nothing, and keeps its statements."""
     library_of(crate).parent.mkdir(parents=True, exist_ok=True)
     flags = ["--empty-contracts", "--jobs", str(processes), "--statements", "-o", str(library_of(crate))]
     return judged(rattle("build", crate, flags, begins))
 
 
 def build_program(crate, to, begins, processes, is_of_tests=False):
-    """Proves a program, or the tests of a crate as one, from nothing, and links it; answers its fault, or None, and what was said."""
+    """Proves a program, or the tests of a crate as one, from nothing, and links it."""
     flags = ["--test"] if is_of_tests else ["--empty-contracts"]
     flags += ["--jobs", str(processes), "--toolchain", f"{KIT}/toolchain", "--backend", "llvm", "-o", f"{to}.o"]
-    fault, said = judged(rattle("build", crate, flags, begins), is_of_tests)
-    if fault is None:
-        linking = [f"{KIT}/bin/rattle-link", "--target", "x86_64-unknown-linux-gnu", "--toolchain", f"{KIT}/toolchain", "-o", str(to), f"{to}.o"]
-        status, more = call([*linking, f"{KIT}/c/libos_c.a", f"{KIT}/c/liblibc_c.a"], folder_of(crate), begins)
-        fault, said = ("it cannot be linked" if status else None), said + more
+    said = judged(rattle("build", crate, flags, begins), is_of_tests)
+    if said.fault is None:
+        linking = ["--target", "x86_64-unknown-linux-gnu", "--toolchain", f"{KIT}/toolchain", "-o", str(to), f"{to}.o"]
+        linked = call([f"{KIT}/bin/rattle-link", *linking, f"{KIT}/c/libos_c.a", f"{KIT}/c/liblibc_c.a"], folder_of(crate), begins)
         pathlib.Path(f"{to}.o").unlink()
-    return fault, said
+        said.text += linked.text
+        said.fault = "it cannot be linked" if linked.status else None
+    return said
 
 
-def judged(ran, is_of_tests=False):
-    status, said = ran
-    fault = fault_of(said, is_of_tests)
-    return (fault or (f"the prover ended with status {status}" if status else None)), said
+def judged(said, is_of_tests=False):
+    said.fault = fault_of(said.text, is_of_tests) or (f"the prover ended with status {said.status}" if said.status else None)
+    return said

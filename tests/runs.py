@@ -7,7 +7,7 @@ import shutil
 import subprocess
 import tempfile
 
-from crates import folder_of, has_tests, is_program, libraries_of
+from crates import folder_of, has_tests, is_program, libraries_of, work_of
 from jobs import Job, Outcome
 from kit import KIT, build_program
 
@@ -42,18 +42,17 @@ class Room:
         return subprocess.run([*AS_NOBODY, *words], cwd=self.data, env=env, **how)
 
 
-def fault_of_tests(crate, begins, processes):
-    """Proves and runs a crate's tests, and answers what went wrong, or None."""
+def tests_said(crate, begins, processes):
+    """Proves and runs a crate's tests; a test that does not pass is a fault."""
     with Room() as room:
         tests = f"{room.folder.name}/{crate}_tests"
-        fault, said = build_program(crate, tests, begins, processes, is_of_tests=True)
-        if fault is None:
+        said = build_program(crate, tests, begins, processes, is_of_tests=True)
+        if said.fault is None:
             ran = room.run([*begins, f"{KIT}/bin/rattle-test", "--seconds", str(TEST_LIMIT), tests], stdin=subprocess.DEVNULL,
                            stdout=subprocess.PIPE, stderr=subprocess.STDOUT, text=True, errors="replace")
-            said += ran.stdout
             passes = ran.returncode == 0 and re.search(r"^test result: ok\. [1-9]", ran.stdout, re.M)
-            fault = None if passes else "its tests did not pass"
-    return fault and f"{said}\nFAILED tests of {crate}: {fault}"
+            said.text, said.fault = said.text + ran.stdout, None if passes else "its tests did not pass"
+    return said
 
 
 def fault_of_run(crate):
@@ -79,10 +78,12 @@ def runs_of(crates):
 
     def tests_of(crate):
         def call_tests(begins, processes):
-            fault = fault_of_tests(crate, begins, processes)
-            return Outcome(failed=1, said=fault) if fault else Outcome(passed=1, said=f"tests of {crate} passed")
+            said = tests_said(crate, begins, processes)
+            if said.fault:
+                return Outcome(failed=1, said=f"{said.text}\nFAILED tests of {crate}: {said.fault}", processor=said.processor)
+            return Outcome(passed=1, said=f"tests of {crate} passed", processor=said.processor)
 
-        return Job(("tests", crate), call_tests, tuple(("proof", one) for one in libraries_of(crate)))
+        return Job(("tests", crate), call_tests, tuple(("proof", one) for one in libraries_of(crate)), work_of(crate))
 
     def run_of(crate):
         def call_run(_begins, _processes):

@@ -98,28 +98,40 @@ fn run_at_desk<'r, 'a, R: Clock + Net + AllocGlobal, L: Log, O: Write, E: Write>
         "ripngd: running, {} interfaces",
         router.interfaces().len()
     );
-    let mut counts = Counts::new();
-    if !debug {
-        let mut watch = Both {
-            first: Counts::new(),
-            second: Neighbors::new(rt.alloc()),
-        };
-        return run_controlled(
-            rt,
-            router,
-            link,
-            rng,
-            desk,
-            limit,
-            log,
-            &mut watch,
-            ports,
-            out,
-            lost,
-            &mut counts,
-        );
+    if debug {
+        run_debugged(
+            rt, router, link, rng, desk, limit, log, ports, out, err, lost,
+        )
+    } else {
+        run_plain(rt, router, link, rng, desk, limit, log, ports, out, lost)
     }
-    let outcome = run_debugged(
+}
+
+/// Runs a router at a desk, and says nothing of what it refuses.
+fn run_plain<'r, 'a, R: Clock + Net + AllocGlobal, L: Log, O: Write>(
+    rt: &'r R,
+    router: RouterConfig,
+    link: Udp<'r, R>,
+    rng: Pcg32,
+    desk: &mut Desk,
+    limit: Limit,
+    log: &mut L,
+    ports: &mut Ports,
+    out: &mut O,
+    lost: &mut Losses,
+) -> Result<(), Failure<'a>>
+    requires interfaces { link.interfaces ≡ length router.interfaces }
+    requires uncalled { link.calls ≡ [] }
+    ensures bound { ports.new.on_links ≡ ports.old.on_links }
+    ensures shown { OnOk result (Closed (ShowsControlled router rng limit (O.contents out.old) (O.contents out.new)) ports.new.calls) }
+    ensures failed { IfErr result (FailsTurns limit.turns) }
+{
+    let mut watch = Both {
+        first: Counts::new(),
+        second: Neighbors::new(rt.alloc()),
+    };
+    let mut counts = Counts::new();
+    run_controlled(
         rt,
         router,
         link,
@@ -127,17 +139,15 @@ fn run_at_desk<'r, 'a, R: Clock + Net + AllocGlobal, L: Log, O: Write, E: Write>
         desk,
         limit,
         log,
+        &mut watch,
         ports,
         out,
-        err,
         lost,
         &mut counts,
-    );
-    let _ = writeln!(err, "{counts}");
-    outcome
+    )
 }
 
-/// Runs a router at a desk, and writes what it refuses to `err`.
+/// Runs a router at a desk, and writes to `err` what it refuses, and counts at its end.
 fn run_debugged<'r, 'a, R: Clock + Net + AllocGlobal, L: Log, O: Write, E: Write>(
     rt: &'r R,
     router: RouterConfig,
@@ -150,7 +160,6 @@ fn run_debugged<'r, 'a, R: Clock + Net + AllocGlobal, L: Log, O: Write, E: Write
     out: &mut O,
     err: &mut E,
     lost: &mut Losses,
-    counts: &mut Counts,
 ) -> Result<(), Failure<'a>>
     requires interfaces { link.interfaces ≡ length router.interfaces }
     requires uncalled { link.calls ≡ [] }
@@ -159,10 +168,24 @@ fn run_debugged<'r, 'a, R: Clock + Net + AllocGlobal, L: Log, O: Write, E: Write
     ensures failed { IfErr result (FailsTurns limit.turns) }
 {
     let mut watch = Both {
-        first: DebugLines::new(err),
+        first: DebugLines::new(&mut *err),
         second: Neighbors::new(rt.alloc()),
     };
-    run_controlled(
-        rt, router, link, rng, desk, limit, log, &mut watch, ports, out, lost, counts,
-    )
+    let mut counts = Counts::new();
+    let outcome = run_controlled(
+        rt,
+        router,
+        link,
+        rng,
+        desk,
+        limit,
+        log,
+        &mut watch,
+        ports,
+        out,
+        lost,
+        &mut counts,
+    );
+    let _ = writeln!(err, "{counts}");
+    outcome
 }
