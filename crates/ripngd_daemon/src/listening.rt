@@ -98,13 +98,26 @@ fn run_at_desk<'r, 'a, R: Clock + Net + AllocGlobal, L: Log, O: Write, E: Write>
         "ripngd: running, {} interfaces",
         router.interfaces().len()
     );
-    if debug {
-        run_debugged(
-            rt, router, link, rng, desk, limit, log, ports, out, err, lost,
-        )
-    } else {
-        run_plain(rt, router, link, rng, desk, limit, log, ports, out, lost)
+    if !debug {
+        return run_plain(rt, router, link, rng, desk, limit, log, ports, out, lost);
     }
+    let mut counts = Counts::new();
+    let outcome = run_debugged(
+        rt,
+        router,
+        link,
+        rng,
+        desk,
+        limit,
+        log,
+        ports,
+        out,
+        err,
+        lost,
+        &mut counts,
+    );
+    let _ = writeln!(err, "{counts}");
+    outcome
 }
 
 /// Runs a router at a desk, and says nothing of what it refuses.
@@ -147,7 +160,7 @@ fn run_plain<'r, 'a, R: Clock + Net + AllocGlobal, L: Log, O: Write>(
     )
 }
 
-/// Runs a router at a desk, and writes to `err` what it refuses, and counts at its end.
+/// Runs a router at a desk, and writes to `err` what it refuses. What was counted is left in `counts`.
 fn run_debugged<'r, 'a, R: Clock + Net + AllocGlobal, L: Log, O: Write, E: Write>(
     rt: &'r R,
     router: RouterConfig,
@@ -160,6 +173,7 @@ fn run_debugged<'r, 'a, R: Clock + Net + AllocGlobal, L: Log, O: Write, E: Write
     out: &mut O,
     err: &mut E,
     lost: &mut Losses,
+    counts: &mut Counts,
 ) -> Result<(), Failure<'a>>
     requires interfaces { link.interfaces ≡ length router.interfaces }
     requires uncalled { link.calls ≡ [] }
@@ -168,24 +182,10 @@ fn run_debugged<'r, 'a, R: Clock + Net + AllocGlobal, L: Log, O: Write, E: Write
     ensures failed { IfErr result (FailsTurns limit.turns) }
 {
     let mut watch = Both {
-        first: DebugLines::new(&mut *err),
+        first: DebugLines::new(err),
         second: Neighbors::new(rt.alloc()),
     };
-    let mut counts = Counts::new();
-    let outcome = run_controlled(
-        rt,
-        router,
-        link,
-        rng,
-        desk,
-        limit,
-        log,
-        &mut watch,
-        ports,
-        out,
-        lost,
-        &mut counts,
-    );
-    let _ = writeln!(err, "{counts}");
-    outcome
+    run_controlled(
+        rt, router, link, rng, desk, limit, log, &mut watch, ports, out, lost, counts,
+    )
 }
