@@ -21,28 +21,31 @@ use Rattle.ripngd_daemon.specs.Ran.{IsRan}
 use Rattle.ripngd_daemon.specs.Tabled.{IsTabled}
 use Rattle.ripngd_page.specs.Film.{film_text, script_name}
 use Rattle.ripngd_show.specs.Shown.{IsShown}
+use Rattle.ripngd_udp.specs.Told.{PortsState}
 
--- the bytes of a writer grew by the answer to what is asked, of a text that the file which is asked about may hold. What
--- `lab` prints, and that a trace is that of its script, is not said here; nor what a server answers
-abbrev pub AnswersAsk : (List ℕ → List ℕ → Type 0) → Ask → Bool → Option (List ℕ) → Option (List ℕ) → Type 0
-AnswersAsk holds (asks.Show hex) accepted old new = (text : List ℕ) × IsShown hex.now accepted text × Appends old new text
-AnswersAsk holds (asks.Check file) accepted old new =
+-- the bytes of a writer grew by the answer to what is asked, of a text that the file which is asked about may hold, and of a run by
+-- what the calls of its link make, over ports of which this is known. What `lab` prints, and that a trace is that of its script, is
+-- not said here; nor what a server answers
+abbrev pub AnswersAsk : (List ℕ → List ℕ → Type 0) → PortsState → Ask → Bool → Option (List ℕ) → Option (List ℕ) → Type 0
+AnswersAsk holds ports (asks.Show hex) accepted old new = (text : List ℕ) × IsShown hex.now accepted text × Appends old new text
+AnswersAsk holds ports (asks.Check file) accepted old new =
     (config : List ℕ) × holds file.now config × IsChecked config accepted old new
-AnswersAsk holds (asks.Lab file) accepted old new = (script : List ℕ) × holds file.now script
-AnswersAsk holds (asks.Trace file) accepted old new = (script : List ℕ) × holds file.now script
-AnswersAsk holds (asks.Explain file) accepted old new = (script : List ℕ) × holds file.now script
-AnswersAsk holds (asks.Run order) accepted old new =
-    (config : List ℕ) × holds order.config.now config × IsRan order config accepted old new
-AnswersAsk holds (asks.Ctl question) accepted old new = (answer : List ℕ) × IsAnswerWritten answer accepted old new
-AnswersAsk holds (asks.Table file) accepted old new = (log : List ℕ) × holds file.now log
+AnswersAsk holds ports (asks.Lab file) accepted old new = (script : List ℕ) × holds file.now script
+AnswersAsk holds ports (asks.Trace file) accepted old new = (script : List ℕ) × holds file.now script
+AnswersAsk holds ports (asks.Explain file) accepted old new = (script : List ℕ) × holds file.now script
+AnswersAsk holds ports (asks.Run order) accepted old new =
+    (config : List ℕ) × holds order.config.now config × IsRan order config ports accepted old new
+AnswersAsk holds ports (asks.Ctl question) accepted old new = (answer : List ℕ) × IsAnswerWritten answer accepted old new
+AnswersAsk holds ports (asks.Table file) accepted old new = (log : List ℕ) × holds file.now log
     × (text : List ℕ) × IsTabled log accepted text × Appends old new text
-AnswersAsk holds (asks.Page serve) accepted old new = accepted ≡ true
-AnswersAsk holds (asks.Film filming) accepted old new = (script : List ℕ) × holds filming.script.now script
+AnswersAsk holds ports (asks.Page serve) accepted old new = accepted ≡ true
+AnswersAsk holds ports (asks.Film filming) accepted old new = (script : List ℕ) × holds filming.script.now script
     × (trace : List ℕ) × Appends old new (film_text (script_name filming.script.now) script trace)
 
--- the bytes of a writer grew by the answer to what the words ask
+-- the bytes of a writer grew by the answer to what the words ask, over some ports
 abbrev pub AnswersWords : (List ℕ → List ℕ → Type 0) → List Text → Bool → Option (List ℕ) → Option (List ℕ) → Type 0
-AnswersWords holds words accepted old new = (ask : Ask) × Asks words ask × AnswersAsk holds ask accepted old new
+AnswersWords holds words accepted old new =
+    (ask : Ask) × Asks words ask × (ports : PortsState) × AnswersAsk holds ports ask accepted old new
 
 -- a file may hold anything: of those of the system nothing is known
 abbrev pub holds_any : List ℕ → List ℕ → Type 0

@@ -14,6 +14,7 @@ use ripngd_daemon::{
     Failure, FileSource, Losses, NOTHING_LOST, SystemFiles, check_file, ctl, run, table_file,
     write_failure, write_losses,
 };
+use ripngd_udp::Ports;
 use std::fs::File;
 use std::io::{self, Write};
 use std::net::Net;
@@ -93,9 +94,10 @@ fn outcome<
     ensures usage { result ≡ Ok Status.Usage → HaveFault (map (λ w. w.now) words.now) }
     ensures failed { IfErr result (FailsWords (map (λ w. w.now) words.entry.now)) }
 {
+    let mut ports = Ports::new();
     match ask(rt.alloc(), words) {
         Ok(asked) if is_misused(asked) => Ok(explain_misuse(asked, err)),
-        Ok(asked) => answer(rt, files, asked, out, err, lost),
+        Ok(asked) => answer(rt, files, asked, &mut ports, out, err, lost),
         Err(error) => explain(&error, out, err),
     }
 }
@@ -119,11 +121,12 @@ fn accepts<
     rt: &R,
     files: &F,
     asked: Ask<'a>,
+    ports: &mut Ports,
     out: &mut O,
     err: &mut E,
     lost: &mut Losses,
 ) -> Result<bool, Failure<'a>>
-    ensures answered { IfOk result (λ accepted. AnswersAsk (F.holds files.now) asked.entry accepted
+    ensures answered { IfOk result (λ accepted. AnswersAsk (F.holds files.now) ports.new asked.entry accepted
         (O.contents out.old) (O.contents out.new)) }
     ensures failed { IfErr result (MayFail asked.entry) }
 {
@@ -133,7 +136,7 @@ fn accepts<
         Ask::Lab(file) => lab_file(rt.alloc(), files, file, out, err),
         Ask::Trace(file) => trace_file(rt.alloc(), files, file, out),
         Ask::Explain(file) => explain_file(rt.alloc(), files, file, out),
-        Ask::Run(order) => run(rt, files, order, out, err, lost),
+        Ask::Run(order) => run(rt, files, order, ports, out, err, lost),
         Ask::Ctl(question) => ctl(rt, question, out),
         Ask::Table(file) => table_file(rt.alloc(), files, file, out),
         Ask::Page(order) => serve(rt, order, out),
@@ -152,18 +155,19 @@ fn answer<
     rt: &R,
     files: &F,
     asked: Ask<'a>,
+    ports: &mut Ports,
     out: &mut O,
     err: &mut E,
     lost: &mut Losses,
 ) -> Result<Status, Failure<'a>>
     ensures done { result ≡ Ok Status.Done
-        → AnswersAsk (F.holds files.now) asked.entry true (O.contents out.old) (O.contents out.new) }
+        → AnswersAsk (F.holds files.now) ports.new asked.entry true (O.contents out.old) (O.contents out.new) }
     ensures refused { result ≡ Ok Status.Refused
-        → AnswersAsk (F.holds files.now) asked.entry false (O.contents out.old) (O.contents out.new) }
+        → AnswersAsk (F.holds files.now) ports.new asked.entry false (O.contents out.old) (O.contents out.new) }
     ensures no_usage { result ≢ Ok Status.Usage }
     ensures failed { IfErr result (MayFail asked.entry) }
 {
-    let accepted = accepts(rt, files, asked, out, err, lost)?;
+    let accepted = accepts(rt, files, asked, ports, out, err, lost)?;
     if out.flush().is_err() {
         return Err(Failure::Output);
     }

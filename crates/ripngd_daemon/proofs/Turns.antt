@@ -1,16 +1,17 @@
 -- What a run shows is of a router that started, and made its turns.
-use Rattle.std.proofs.Common.{◌≡◌, ◌+◌, ℕ, suc, List, Option, Result, Ok, Err, refl, subst, arith}
-use Rattle.std.specs.Prelude.{None, OnOk}
+use Rattle.std.proofs.Common.{◌≡◌, ◌+◌, ℕ, suc, List, [], Option, Result, Ok, Err, refl, subst, arith}
+use Rattle.std.specs.Prelude.{None, Some, OnOk}
 use Rattle.std.specs.Io.KnownBytes.{Appends}
 use Rattle.rand_pcg.specs.Lcg.{Lcg}
 use Rattle.router_core.specs.Config.{Config as RouterValue}
+use Rattle.ripngd_engine.specs.Link.{Call}
 use Rattle.ripngd_engine.specs.Seen.{Seen, Started, untouched}
 use Rattle.ripngd_daemon.specs.declared.failure.Failure.{Failure}
 use Rattle.ripngd_daemon.proofs.Unlogged.{started_unlogged}
 use Rattle.ripngd_daemon.specs.Controlled.{LastsFor, unlogged}
 use Rattle.ripngd_daemon.specs.Ending.{RanInTime, RanTurns, RanUntil}
 use Rattle.ripngd_daemon.specs.declared.limit.Limit.{Limit}
-use Rattle.ripngd_daemon.specs.Ran.{ShowsBound, ShowsControlled, words_of}
+use Rattle.ripngd_daemon.specs.Ran.{Closed, ShowsBound, ShowsControlled, words_of}
 use Rattle.ripngd_daemon.specs.Tabled.{table_text}
 
 -- a turn more
@@ -19,27 +20,50 @@ RanTurns-more seconds n a m b ran step =
     let one_more : suc n ≡ n + 1 = omega arith in
     subst (λ k. RanTurns seconds k a b) one_more (m, ran, step)
 
--- by whatever the turns answered
-pub shows_turns : (router : RouterValue) (rng : Lcg) (limit : Limit) (log : Option (List ℕ)) (begun done : Seen) (old new : Option (List ℕ))
-    (r : Result (Unit {0}) Failure) → Started router (words_of rng) (untouched None None log) begun
-    → OnOk r (RanUntil limit begun done) → OnOk r (Appends old new (table_text done.machine.fib)) → OnOk r (ShowsBound router rng limit old new)
-shows_turns router rng limit log begun done old new (Ok u) started ran shown =
-    (done.machine.fib, record { log = log; begun = begun; done = done; started = started; ran = ran; table_is = refl }, shown)
-shows_turns router rng limit log begun done old new (Err e) started ran shown = tt
+-- by whatever the turns answered, of a link that was made with no call and had these at the end
+pub shows_turns : (router : RouterValue) (rng : Lcg) (limit : Limit) (first calls : List Call) (known : Option (List Call)) (log : Option (List ℕ))
+    (begun done : Seen) (old new : Option (List ℕ)) (r : Result (Unit {0}) Failure) → first ≡ [] → done.outside.calls ≡ Some calls → known ≡ Some calls
+    → Started router (words_of rng) (untouched (Some first) None log) begun → OnOk r (RanUntil limit begun done)
+    → OnOk r (Appends old new (table_text done.machine.fib)) → OnOk r (Closed (ShowsBound router rng limit old new) known)
+shows_turns router rng limit first calls known log begun done old new (Ok u) uncalled are is started ran shown = (
+  calls,
+  is,
+  (
+    done.machine.fib,
+    record {
+      log = log;
+      begun = begun;
+      done = done;
+      started = rw uncalled at started;
+      ran = ran;
+      calls_are = are;
+      table_is = refl;
+    },
+    shown,
+  ),
+)
+shows_turns router rng limit first calls known log begun done old new (Err e) uncalled are is started ran shown = tt
 
 -- or that made some of them, and was told changes between them
-pub shows_controlled : (router : RouterValue) (rng : Lcg) (limit : Limit) (log : Option (List ℕ)) (begun done : Seen) (old new : Option (List ℕ))
-    (r : Result (Unit {0}) Failure) → Started router (words_of rng) (untouched None None log) begun
-    → OnOk r (LastsFor limit.seconds limit.turns (unlogged begun) done) → OnOk r (Appends old new (table_text done.machine.fib)) → OnOk r (ShowsControlled router rng limit old new)
-shows_controlled router rng limit log begun done old new (Ok u) started lasted shown = (
-  done.machine.fib,
-  record {
-    begun = unlogged begun;
-    done = done;
-    started = started_unlogged router (words_of rng) (untouched None None log) begun started;
-    lasted = lasted;
-    table_is = refl;
-  },
-  shown,
-)
-shows_controlled router rng limit log begun done old new (Err e) started lasted shown = tt
+pub shows_controlled : (router : RouterValue) (rng : Lcg) (limit : Limit) (first calls : List Call) (known : Option (List Call)) (log : Option (List ℕ))
+    (begun done : Seen) (old new : Option (List ℕ)) (r : Result (Unit {0}) Failure) → first ≡ [] → done.outside.calls ≡ Some calls → known ≡ Some calls
+    → Started router (words_of rng) (untouched (Some first) None log) begun → OnOk r (LastsFor limit.seconds limit.turns (unlogged begun) done)
+    → OnOk r (Appends old new (table_text done.machine.fib)) → OnOk r (Closed (ShowsControlled router rng limit old new) known)
+shows_controlled router rng limit first calls known log begun done old new (Ok u) uncalled are is started lasted shown =
+    let fresh = rw uncalled at started in (
+      calls,
+      is,
+      (
+        done.machine.fib,
+        record {
+          begun = unlogged begun;
+          done = done;
+          started = started_unlogged router (words_of rng) (untouched (Some []) None log) begun fresh;
+          lasted = lasted;
+          calls_are = are;
+          table_is = refl;
+        },
+        shown,
+      ),
+    )
+shows_controlled router rng limit first calls known log begun done old new (Err e) uncalled are is started lasted shown = tt

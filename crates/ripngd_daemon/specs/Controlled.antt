@@ -1,5 +1,5 @@
 -- What a router does that is told while it runs.
-use Rattle.std.specs.Prelude.{◌≡◌, ◌≤◌, ◌+◌, ◌⊎◌, ℕ, List, [], ◌∷◌, Option, None}
+use Rattle.std.specs.Prelude.{◌≡◌, ◌≤◌, ◌+◌, ◌⊎◌, ℕ, List, [], ◌∷◌, Option, None, Some}
 use Rattle.rand_core.specs.Stream.{Stream}
 use Rattle.fib.specs.Forwarding.{Forwarding}
 use Rattle.router_core.specs.Config.{Config as RouterValue}
@@ -9,6 +9,7 @@ use Rattle.ripngd_control.specs.Commands.{control_text}
 use Rattle.ripngd_control.specs.declared.command.Command.{Command}
 use Rattle.ripngd_control.specs.declared.reply.Reply.{Reply}
 use Rattle.ripngd_door.specs.Lines.{BeginsWith}
+use Rattle.ripngd_engine.specs.Link.{Call}
 use Rattle.ripngd_engine.specs.Seen.{Ran, Seen, Started, untouched}
 use Rattle.ripngd_daemon.specs.Ending.{RanInTime}
 use Rattle.ripngd_daemon.specs.declared.limit.Limit.{Limit}
@@ -56,11 +57,12 @@ pub record LastsFor (seconds : Option ℕ) (turns : ℕ) (a b : Seen) : Type 0 w
   pub within : turns_in deeds ≤ turns
   pub does : DoesAll seconds deeds a b
 
--- a router of this configuration started with these random words, over a link, a clock and a log that tell nothing, and lasted for its
--- limit at most; this is its forwarding table then
-pub record IsControlled (router : RouterValue) (words : Stream) (limit : Limit) (table : Forwarding) : Type 0 where
+-- a router of this configuration started with these random words, over a link that was never called and a clock and a log that
+-- tell nothing, and lasted for its limit at most, with just these calls of its link; this is its forwarding table then
+pub record IsControlled (router : RouterValue) (words : Stream) (limit : Limit) (calls : List Call) (table : Forwarding) : Type 0 where
   pub begun : Seen
   pub done : Seen
-  pub started : Started router words (untouched None None None) begun
+  pub started : Started router words (untouched (Some []) None None) begun
   pub lasted : LastsFor limit.seconds limit.turns begun done
+  pub calls_are : done.outside.calls ≡ Some calls
   pub table_is : table ≡ done.machine.fib

@@ -1,12 +1,12 @@
 //! A router that is asked and told while it runs: a turn, and then a look at its clients, one after the other.
 
-ghost use Rattle.std.specs.Prelude.{◌≡◌, ◌≢◌, IfErr, IfOk, OnOk, false, length};
+ghost use Rattle.std.specs.Prelude.{◌≡◌, ◌≢◌, [], IfErr, IfOk, OnOk, false, length};
 ghost use Rattle.std.specs.Io.KnownBytes.{Appends};
 ghost use Rattle.ripngd_engine.specs.Seen.{Ran, seen};
 ghost use Rattle.ripngd_following.specs.Following.{kept_lines};
 ghost use Rattle.ripngd_daemon.specs.Controlled.{LastsFor, TurnsAndHeeds, unlogged};
 ghost use Rattle.ripngd_daemon.specs.Failing.{FailsTurns};
-ghost use Rattle.ripngd_daemon.specs.Ran.{ShowsControlled, words_of};
+ghost use Rattle.ripngd_daemon.specs.Ran.{Closed, ShowsControlled, words_of};
 ghost use Rattle.ripngd_daemon.specs.Tabled.{table_text};
 
 use crate::desk::Desk;
@@ -19,7 +19,7 @@ use rand_pcg::Pcg32;
 use ripngd_control::{Course, Losses};
 use ripngd_engine::{Engine, EngineFault, Watch};
 use ripngd_following::Journal;
-use ripngd_udp::{Udp, Uptime};
+use ripngd_udp::{Ports, Udp, Uptime};
 use ripngd_watch::{Both, Counts, DebugLines, Neighbors};
 use router_core::RouterConfig;
 use std::io::Write;
@@ -127,8 +127,8 @@ fn show_turns<'a, R: Clock + AllocGlobal, W: Write, V: Counting, O: Write>(
     write_table(engine.fib(), out).map_err(|_| Failure::Output)
 }
 
-/// Starts a router over ports that are bound, runs it while clients ask and tell it, and sends what it still has to send. What
-/// it lost is left in `lost`, and what its watcher has counted in `counts`.
+/// Starts a router over ports that are bound, runs it while clients ask and tell it, sends what it still has to send, and
+/// closes the ports. What it lost is left in `lost`, and what its watcher has counted in `counts`.
 pub(crate) fn run_controlled<'r, 'a, R: Clock + Net + AllocGlobal, W: Write, V: Counting, O: Write>(
     rt: &'r R,
     router: RouterConfig,
@@ -138,12 +138,15 @@ pub(crate) fn run_controlled<'r, 'a, R: Clock + Net + AllocGlobal, W: Write, V: 
     limit: Limit,
     log: &mut W,
     watch: &mut Both<V, Neighbors>,
+    ports: &mut Ports,
     out: &mut O,
     lost: &mut Losses,
     counts: &mut Counts,
 ) -> Result<(), Failure<'a>>
-    requires { link.interfaces ≡ length router.interfaces }
-    ensures shown { OnOk result (ShowsControlled router rng limit (O.contents out.old) (O.contents out.new)) }
+    requires interfaces { link.interfaces ≡ length router.interfaces }
+    requires uncalled { link.calls ≡ [] }
+    ensures bound { ports.new.on_links ≡ ports.old.on_links }
+    ensures shown { OnOk result (Closed (ShowsControlled router rng limit (O.contents out.old) (O.contents out.new)) ports.new.calls) }
     ensures failed { IfErr result (FailsTurns limit.turns) }
 {
     let clock = Uptime::new(rt);
@@ -167,5 +170,6 @@ pub(crate) fn run_controlled<'r, 'a, R: Clock + Net + AllocGlobal, W: Write, V: 
         link.lost_arrivals(),
         link.strangers(),
     );
+    ports.close(link);
     outcome
 }

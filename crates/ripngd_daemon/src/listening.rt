@@ -1,9 +1,9 @@
 //! `run --control`: one router over UDP sockets of loopback that listens at a path, and is asked and told there.
 
-ghost use Rattle.std.specs.Prelude.{◌≡◌, IfErr, OnOk, Some, length, option_map};
+ghost use Rattle.std.specs.Prelude.{◌≡◌, [], IfErr, OnOk, Some, length, option_map};
 ghost use Rattle.ripngd_config.specs.Configuration.{HasOneEach};
 ghost use Rattle.ripngd_daemon.specs.Failing.{FailsLogged, FailsPlanned, FailsTurns};
-ghost use Rattle.ripngd_daemon.specs.Ran.{ShowsControlled};
+ghost use Rattle.ripngd_daemon.specs.Ran.{Closed, ShowsControlled, links_of};
 ghost use Rattle.ripngd_daemon.specs.declared.failure.Failure.TheVariants as failures;
 ghost use Rattle.ripngd_door.specs.declared.door.DoorFault.{DoorFault};
 
@@ -16,7 +16,7 @@ use rand_pcg::Pcg32;
 use ripngd_config::Config;
 use ripngd_control::Losses;
 use ripngd_door::Door;
-use ripngd_udp::Udp;
+use ripngd_udp::{Ports, Udp};
 use ripngd_watch::{Both, Counts, DebugLines, Neighbors};
 use router_core::RouterConfig;
 use std::io::Write;
@@ -43,12 +43,15 @@ pub(crate) fn run_at<'a, R: Files + Clock + Net + AllocGlobal, L: Log, O: Write,
     name: Option<&'a str>,
     append: bool,
     log: &mut L,
+    ports: &mut Ports,
     out: &mut O,
     err: &mut E,
     lost: &mut Losses,
 ) -> Result<(), Failure<'a>>
     requires { HasOneEach config }
-    ensures shown { OnOk result (ShowsControlled config.router config.rng limit (O.contents out.old) (O.contents out.new)) }
+    ensures bound { OnOk result (ports.new.on_links ≡ Some (links_of config)) }
+    ensures shown { OnOk result (Closed (ShowsControlled config.router config.rng limit (O.contents out.old) (O.contents out.new))
+        ports.new.calls) }
     ensures failed { IfErr result (FailsPlanned limit.turns (option_map (λ s. s.now) name.entry) (Some path.entry.now)) }
 {
     let Config {
@@ -57,10 +60,10 @@ pub(crate) fn run_at<'a, R: Files + Clock + Net + AllocGlobal, L: Log, O: Write,
         peers,
         rng,
     } = config;
-    let link = Udp::bind(rt, rt.alloc(), places.as_slice(), peers)?;
+    let link = ports.bind(rt, rt.alloc(), places.as_slice(), peers)?;
     let mut desk = open_desk(rt, path)?;
     let outcome = run_at_desk(
-        rt, router, link, rng, &mut desk, limit, debug, name, append, log, out, err, lost,
+        rt, router, link, rng, &mut desk, limit, debug, name, append, log, ports, out, err, lost,
     );
     desk.close(rt, path);
     outcome
@@ -78,12 +81,15 @@ fn run_at_desk<'r, 'a, R: Clock + Net + AllocGlobal, L: Log, O: Write, E: Write>
     name: Option<&'a str>,
     append: bool,
     log: &mut L,
+    ports: &mut Ports,
     out: &mut O,
     err: &mut E,
     lost: &mut Losses,
 ) -> Result<(), Failure<'a>>
-    requires { link.interfaces ≡ length router.interfaces }
-    ensures shown { OnOk result (ShowsControlled router rng limit (O.contents out.old) (O.contents out.new)) }
+    requires interfaces { link.interfaces ≡ length router.interfaces }
+    requires uncalled { link.calls ≡ [] }
+    ensures bound { ports.new.on_links ≡ ports.old.on_links }
+    ensures shown { OnOk result (Closed (ShowsControlled router rng limit (O.contents out.old) (O.contents out.new)) ports.new.calls) }
     ensures failed { IfErr result (FailsLogged limit.turns (option_map (λ s. s.now) name.entry)) }
 {
     begin_log(name, append, log)?;
@@ -92,26 +98,10 @@ fn run_at_desk<'r, 'a, R: Clock + Net + AllocGlobal, L: Log, O: Write, E: Write>
         "ripngd: running, {} interfaces",
         router.interfaces().len()
     );
-    let mut counts = Counts::new();
     if !debug {
-        let mut watch = Both {
-            first: Counts::new(),
-            second: Neighbors::new(rt.alloc()),
-        };
-        return run_controlled(
-            rt,
-            router,
-            link,
-            rng,
-            desk,
-            limit,
-            log,
-            &mut watch,
-            out,
-            lost,
-            &mut counts,
-        );
+        return run_plain(rt, router, link, rng, desk, limit, log, ports, out, lost);
     }
+    let mut counts = Counts::new();
     let outcome = run_debugged(
         rt,
         router,
@@ -120,6 +110,7 @@ fn run_at_desk<'r, 'a, R: Clock + Net + AllocGlobal, L: Log, O: Write, E: Write>
         desk,
         limit,
         log,
+        ports,
         out,
         err,
         lost,
@@ -129,7 +120,47 @@ fn run_at_desk<'r, 'a, R: Clock + Net + AllocGlobal, L: Log, O: Write, E: Write>
     outcome
 }
 
-/// Runs a router at a desk, and writes what it refuses to `err`.
+/// Runs a router at a desk, and says nothing of what it refuses.
+fn run_plain<'r, 'a, R: Clock + Net + AllocGlobal, L: Log, O: Write>(
+    rt: &'r R,
+    router: RouterConfig,
+    link: Udp<'r, R>,
+    rng: Pcg32,
+    desk: &mut Desk,
+    limit: Limit,
+    log: &mut L,
+    ports: &mut Ports,
+    out: &mut O,
+    lost: &mut Losses,
+) -> Result<(), Failure<'a>>
+    requires interfaces { link.interfaces ≡ length router.interfaces }
+    requires uncalled { link.calls ≡ [] }
+    ensures bound { ports.new.on_links ≡ ports.old.on_links }
+    ensures shown { OnOk result (Closed (ShowsControlled router rng limit (O.contents out.old) (O.contents out.new)) ports.new.calls) }
+    ensures failed { IfErr result (FailsTurns limit.turns) }
+{
+    let mut watch = Both {
+        first: Counts::new(),
+        second: Neighbors::new(rt.alloc()),
+    };
+    let mut counts = Counts::new();
+    run_controlled(
+        rt,
+        router,
+        link,
+        rng,
+        desk,
+        limit,
+        log,
+        &mut watch,
+        ports,
+        out,
+        lost,
+        &mut counts,
+    )
+}
+
+/// Runs a router at a desk, and writes to `err` what it refuses. What was counted is left in `counts`.
 fn run_debugged<'r, 'a, R: Clock + Net + AllocGlobal, L: Log, O: Write, E: Write>(
     rt: &'r R,
     router: RouterConfig,
@@ -138,13 +169,16 @@ fn run_debugged<'r, 'a, R: Clock + Net + AllocGlobal, L: Log, O: Write, E: Write
     desk: &mut Desk,
     limit: Limit,
     log: &mut L,
+    ports: &mut Ports,
     out: &mut O,
     err: &mut E,
     lost: &mut Losses,
     counts: &mut Counts,
 ) -> Result<(), Failure<'a>>
-    requires { link.interfaces ≡ length router.interfaces }
-    ensures shown { OnOk result (ShowsControlled router rng limit (O.contents out.old) (O.contents out.new)) }
+    requires interfaces { link.interfaces ≡ length router.interfaces }
+    requires uncalled { link.calls ≡ [] }
+    ensures bound { ports.new.on_links ≡ ports.old.on_links }
+    ensures shown { OnOk result (Closed (ShowsControlled router rng limit (O.contents out.old) (O.contents out.new)) ports.new.calls) }
     ensures failed { IfErr result (FailsTurns limit.turns) }
 {
     let mut watch = Both {
@@ -152,6 +186,6 @@ fn run_debugged<'r, 'a, R: Clock + Net + AllocGlobal, L: Log, O: Write, E: Write
         second: Neighbors::new(rt.alloc()),
     };
     run_controlled(
-        rt, router, link, rng, desk, limit, log, &mut watch, out, lost, counts,
+        rt, router, link, rng, desk, limit, log, &mut watch, ports, out, lost, counts,
     )
 }

@@ -1,15 +1,16 @@
 //! `run`: one router over UDP sockets of loopback.
 
-ghost use Rattle.std.specs.Prelude.{◌≡◌, ◌≢◌, Err, IfErr, IfOk, List, OnOk, Some, false, length, map, option_map, vec_len, ℕ};
+ghost use Rattle.std.specs.Prelude.{◌≡◌, ◌≢◌, [], Err, IfErr, IfOk, List, OnOk, Some, false, length, map, option_map, vec_len, ℕ};
 ghost use Rattle.std.specs.Io.KnownBytes.{Appends};
 ghost use Rattle.ripngd_config.specs.Configuration.{HasOneEach};
 ghost use Rattle.ripngd_engine.specs.Seen.{seen};
 ghost use Rattle.ripngd_daemon.specs.Ending.{RanUntil};
 ghost use Rattle.ripngd_command_line.specs.declared.asked.Ask.TheVariants as asks;
 ghost use Rattle.ripngd_daemon.specs.Failing.{FailsLogged, FailsPlanned, FailsTurns, MayFail};
-ghost use Rattle.ripngd_daemon.specs.Ran.{IsRan, ShowsBound, ShowsControlled, ShowsOrdered, ShowsTurns, words_of};
+ghost use Rattle.ripngd_daemon.specs.Ran.{Closed, IsRan, ShowsBound, ShowsOrdered, links_of, words_of};
 ghost use Rattle.ripngd_daemon.specs.Tabled.{table_text};
 ghost use Rattle.ripngd_daemon.specs.declared.failure.Failure.TheVariants as failures;
+ghost use Rattle.ripngd_udp.specs.Peers.{links_at};
 ghost use Rattle.ripngd_udp.specs.Udp.{new_link};
 ghost use Rattle.ripngd_udp.specs.declared.bind_cause.BindCause.{BindCause};
 
@@ -30,7 +31,7 @@ use ripngd_config::{Config, Peer, Place};
 use ripngd_control::Losses;
 use ripngd_engine::{Engine, EngineFault, Unwatched, Watch};
 use ripngd_stamp::Stamped;
-use ripngd_udp::{Udp, Uptime};
+use ripngd_udp::{Ports, Udp, Uptime};
 use ripngd_watch::DebugLines;
 use router_core::RouterConfig;
 use std::fs::File;
@@ -43,7 +44,8 @@ use std::rt::{Clock, Files};
 /// contents are lost once all ports are bound, but where it is to be gone on in: a line feed and a line `start` are then written
 /// behind them. Where its lines are to be stamped, each begins with the moment at which it is written.
 /// A configuration that is refused is written as `refused ..`, before that file is touched, and the answer is then false.
-/// What the router lost is left in `lost`, also where it ended early. `err` gets the line `ripngd: running, N interfaces` once
+/// What the router lost is left in `lost`, also where it ended early, and `ports` knows which ports were bound and, after a run, each
+/// call of the link over them. `err` gets the line `ripngd: running, N interfaces` once
 /// all ports are bound and the log is begun, and before it one for each interface that is its own peer. Where the router is
 /// to be debugged, it also gets a line for each arrival and entry that is refused, and counts of all at its end, early or
 /// not; a failure of `err` changes nothing else.
@@ -64,12 +66,13 @@ pub fn run<
     rt: &R,
     files: &F,
     order: Order<'a>,
+    ports: &mut Ports,
     out: &mut O,
     err: &mut E,
     lost: &mut Losses,
 ) -> Result<bool, Failure<'a>>
     ensures ran { IfOk result (λ accepted. (config : List ℕ) × F.holds files.now order.entry.config.now config
-        × IsRan order.entry config accepted (O.contents out.old) (O.contents out.new)) }
+        × IsRan order.entry config ports.new accepted (O.contents out.old) (O.contents out.new)) }
     ensures own_config { IfOk result (λ _. option_map (λ s. s.now) order.entry.log ≢ Some order.entry.config.now) }
     ensures failed { IfErr result (MayFail (asks.Run order.entry)) }
 {
@@ -77,7 +80,7 @@ pub fn run<
     let text = files.read(order.config)?;
     match plan_of(rt.alloc(), order, text.as_slice()) {
         Ok(plan) => {
-            run_plan(rt, plan, out, err, lost)?;
+            run_plan(rt, plan, ports, out, err, lost)?;
             Ok(true)
         }
         Err(fault) => Ok(write_refusal(&fault, out)?),
@@ -88,23 +91,25 @@ pub fn run<
 fn run_plan<'a, R: Files<File = File> + Print + Clock + Net + AllocGlobal, O: Write, E: Write>(
     rt: &R,
     plan: Plan<'a>,
+    ports: &mut Ports,
     out: &mut O,
     err: &mut E,
     lost: &mut Losses,
 ) -> Result<(), Failure<'a>>
     requires { HasOneEach plan.config }
-    ensures shown { OnOk result (ShowsOrdered plan.entry.control plan.entry.config plan.entry.limit
+    ensures bound { OnOk result (ports.new.on_links ≡ Some (links_of plan.entry.config)) }
+    ensures shown { OnOk result (ShowsOrdered plan.entry.control plan.entry.config plan.entry.limit ports.new.calls
         (O.contents out.old) (O.contents out.new)) }
     ensures failed { IfErr result (FailsPlanned plan.entry.limit.turns (option_map (λ s. s.now) plan.entry.log)
         (option_map (λ s. s.now) plan.entry.control)) }
 {
     match plan.log {
-        Some("-") => run_written(rt, plan, Output(rt), out, err, lost),
+        Some("-") => run_written(rt, plan, Output(rt), ports, out, err, lost),
         Some(file) => {
             let lines = open_log(rt, file)?;
-            run_written(rt, plan, lines, out, err, lost)
+            run_written(rt, plan, lines, ports, out, err, lost)
         }
-        None => run_logged(rt, plan, &mut io::sink(), out, err, lost),
+        None => run_logged(rt, plan, &mut io::sink(), ports, out, err, lost),
     }
 }
 
@@ -113,20 +118,30 @@ fn run_written<'a, R: Files + Clock + Net + AllocGlobal, L: Log + Drop, O: Write
     rt: &R,
     plan: Plan<'a>,
     mut lines: L,
+    ports: &mut Ports,
     out: &mut O,
     err: &mut E,
     lost: &mut Losses,
 ) -> Result<(), Failure<'a>>
     requires { HasOneEach plan.config }
-    ensures shown { OnOk result (ShowsOrdered plan.entry.control plan.entry.config plan.entry.limit
+    ensures bound { OnOk result (ports.new.on_links ≡ Some (links_of plan.entry.config)) }
+    ensures shown { OnOk result (ShowsOrdered plan.entry.control plan.entry.config plan.entry.limit ports.new.calls
         (O.contents out.old) (O.contents out.new)) }
     ensures failed { IfErr result (FailsPlanned plan.entry.limit.turns (option_map (λ s. s.now) plan.entry.log)
         (option_map (λ s. s.now) plan.entry.control)) }
 {
     if plan.stamp {
-        run_logged(rt, plan, &mut Stamped::new(rt, lines), out, err, lost)
+        run_logged(
+            rt,
+            plan,
+            &mut Stamped::new(rt, lines),
+            ports,
+            out,
+            err,
+            lost,
+        )
     } else {
-        run_logged(rt, plan, &mut lines, out, err, lost)
+        run_logged(rt, plan, &mut lines, ports, out, err, lost)
     }
 }
 
@@ -142,13 +157,15 @@ fn bind_and_begin<'r, 'a, R: Clock + Net + AllocGlobal, L: Log>(
     name: Option<&'a str>,
     append: bool,
     log: &mut L,
+    ports: &mut Ports,
 ) -> Result<Udp<'r, R>, Failure<'a>>
     requires { length places.now ≡ vec_len peers }
     ensures bound { IfOk result (λ link. link ≡ new_link places.now (map (λ v. v.items) peers.items)) }
+    ensures ports { OnOk result (ports.new.on_links ≡ Some (links_at places.now (map (λ v. v.items) peers.items))) }
     ensures kept { (port : ℕ) (cause : BindCause) → result ≡ Err (failures.Bind port cause) → log.new ≡ log.old }
     ensures failed { IfErr result (λ f. (turns : ℕ) → FailsLogged turns (option_map (λ s. s.now) name.entry) f) }
 {
-    let link = Udp::bind(rt, rt.alloc(), places, peers)?;
+    let link = ports.bind(rt, rt.alloc(), places, peers)?;
     begin_log(name, append, log)?;
     Ok(link)
 }
@@ -158,12 +175,14 @@ fn run_logged<'a, R: Files + Clock + Net + AllocGlobal, L: Log, O: Write, E: Wri
     rt: &R,
     plan: Plan<'a>,
     log: &mut L,
+    ports: &mut Ports,
     out: &mut O,
     err: &mut E,
     lost: &mut Losses,
 ) -> Result<(), Failure<'a>>
     requires { HasOneEach plan.config }
-    ensures shown { OnOk result (ShowsOrdered plan.entry.control plan.entry.config plan.entry.limit
+    ensures bound { OnOk result (ports.new.on_links ≡ Some (links_of plan.entry.config)) }
+    ensures shown { OnOk result (ShowsOrdered plan.entry.control plan.entry.config plan.entry.limit ports.new.calls
         (O.contents out.old) (O.contents out.new)) }
     ensures failed { IfErr result (FailsPlanned plan.entry.limit.turns (option_map (λ s. s.now) plan.entry.log)
         (option_map (λ s. s.now) plan.entry.control)) }
@@ -179,9 +198,11 @@ fn run_logged<'a, R: Files + Clock + Net + AllocGlobal, L: Log, O: Write, E: Wri
     } = plan;
     let _ = write_echoes(&config, err);
     match control {
-        None => run_alone(rt, config, limit, debug, name, append, log, out, err, lost),
+        None => run_alone(
+            rt, config, limit, debug, name, append, log, ports, out, err, lost,
+        ),
         Some(path) => run_at(
-            rt, path, config, limit, debug, name, append, log, out, err, lost,
+            rt, path, config, limit, debug, name, append, log, ports, out, err, lost,
         ),
     }
 }
@@ -195,12 +216,15 @@ fn run_alone<'a, R: Clock + Net + AllocGlobal, L: Log, O: Write, E: Write>(
     name: Option<&'a str>,
     append: bool,
     log: &mut L,
+    ports: &mut Ports,
     out: &mut O,
     err: &mut E,
     lost: &mut Losses,
 ) -> Result<(), Failure<'a>>
     requires { HasOneEach config }
-    ensures shown { OnOk result (ShowsTurns config limit (O.contents out.old) (O.contents out.new)) }
+    ensures bound { OnOk result (ports.new.on_links ≡ Some (links_of config)) }
+    ensures shown { OnOk result (Closed (ShowsBound config.router config.rng limit (O.contents out.old) (O.contents out.new))
+        ports.new.calls) }
     ensures failed { IfErr result (FailsLogged limit.turns (option_map (λ s. s.now) name.entry)) }
 {
     let Config {
@@ -209,19 +233,32 @@ fn run_alone<'a, R: Clock + Net + AllocGlobal, L: Log, O: Write, E: Write>(
         peers,
         rng,
     } = config;
-    let link = bind_and_begin(rt, places.as_slice(), peers, name, append, log)?;
+    let link = bind_and_begin(rt, places.as_slice(), peers, name, append, log, ports)?;
     let _ = writeln!(err, "ripngd: running, {} interfaces", places.len());
     if !debug {
-        return run_bound(rt, router, link, rng, limit, log, &mut Unwatched, out, lost);
+        return run_bound(
+            rt,
+            router,
+            link,
+            rng,
+            limit,
+            log,
+            &mut Unwatched,
+            ports,
+            out,
+            lost,
+        );
     }
     let mut lines = DebugLines::new(&mut *err);
-    let outcome = run_bound(rt, router, link, rng, limit, log, &mut lines, out, lost);
+    let outcome = run_bound(
+        rt, router, link, rng, limit, log, &mut lines, ports, out, lost,
+    );
     let counts = lines.counts();
     let _ = writeln!(err, "{counts}");
     outcome
 }
 
-/// Starts a router over ports that are bound, runs it, and sends what it still has to send.
+/// Starts a router over ports that are bound, runs it, sends what it still has to send, and closes the ports.
 fn run_bound<'r, 'a, R: Clock + Net + AllocGlobal, W: Write, V: Watch, O: Write>(
     rt: &'r R,
     router: RouterConfig,
@@ -230,11 +267,14 @@ fn run_bound<'r, 'a, R: Clock + Net + AllocGlobal, W: Write, V: Watch, O: Write>
     limit: Limit,
     log: &mut W,
     watch: &mut V,
+    ports: &mut Ports,
     out: &mut O,
     lost: &mut Losses,
 ) -> Result<(), Failure<'a>>
-    requires { link.interfaces ≡ length router.interfaces }
-    ensures shown { OnOk result (ShowsBound router rng limit (O.contents out.old) (O.contents out.new)) }
+    requires interfaces { link.interfaces ≡ length router.interfaces }
+    requires uncalled { link.calls ≡ [] }
+    ensures bound { ports.new.on_links ≡ ports.old.on_links }
+    ensures shown { OnOk result (Closed (ShowsBound router rng limit (O.contents out.old) (O.contents out.new)) ports.new.calls) }
     ensures failed { IfErr result (FailsTurns limit.turns) }
 {
     let clock = Uptime::new(rt);
@@ -249,6 +289,7 @@ fn run_bound<'r, 'a, R: Clock + Net + AllocGlobal, W: Write, V: Watch, O: Write>
         link.lost_arrivals(),
         link.strangers(),
     );
+    ports.close(link);
     outcome
 }
 

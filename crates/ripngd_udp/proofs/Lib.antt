@@ -7,3 +7,4 @@ pub mod Readings
 pub mod Turns
 pub mod Counts
 pub mod Openings
+mod Walks

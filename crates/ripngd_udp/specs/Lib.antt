@@ -8,3 +8,5 @@ pub mod Reading
 pub mod Sockets
 pub mod Turns
 pub mod Opening
+pub mod Told
+pub mod Transcript

@@ -1,7 +1,8 @@
 -- A link of sockets: why it could not be bound, as what a datagram of a peer arrives, and whom a datagram goes to.
-use Rattle.std.specs.Prelude.{ℕ, ◌≡◌, ◌==◌, Bool, true, List, Some, length, map, slice_get, Contains, ⊤}
+use Rattle.std.specs.Prelude.{ℕ, ◌≡◌, ◌==◌, Bool, true, List, [], Some, length, map, slice_get, Contains, ⊤}
 use Rattle.ripngd_config.specs.declared.peer.Peer.{Peer}
 use Rattle.ripngd_config.specs.declared.place.Place.{Place}
+use Rattle.ripngd_engine.specs.Link.{Call}
 use Rattle.ripngd_engine.specs.declared.link.Received.{Received}
 use Rattle.router_core.specs.declared.answer.Destination.{Destination}
 use Rattle.router_core.specs.declared.answer.Destination.TheVariants as to
@@ -10,18 +11,26 @@ use Rattle.ripngd_udp.specs.declared.udp.UdpError.{UdpError}
 use Rattle.ripngd_udp.specs.declared.udp.UdpError.TheVariants.{Bind, OutOfMemory}
 
 -- what contracts see of a link: its interfaces and who is on the link of each, the sends that failed when they had waited, the
--- arrivals that were not kept, and those from ports of no peer
+-- arrivals that were not kept, those from ports of no peer, and each call that a router made of it, in order
 pub record LinkState : Type 0 where
   pub interfaces : ℕ
   pub on_links : List OnLink
   pub failed_sends : ℕ
   pub lost_arrivals : ℕ
   pub strangers : ℕ
+  pub calls : List Call
 
--- a link with these interfaces that has lost nothing
+-- a link with these interfaces that has lost nothing, and that no router has called
 abbrev pub new_link : List Place → List (List Peer) → LinkState
 new_link places lists =
-    record { interfaces = length places; on_links = links_at places lists; failed_sends = 0; lost_arrivals = 0; strangers = 0 }
+    record {
+      interfaces = length places;
+      on_links = links_at places lists;
+      failed_sends = 0;
+      lost_arrivals = 0;
+      strangers = 0;
+      calls = [];
+    }
 
 -- a port that is named is the local port of one of these places
 abbrev pub NamesPortOf : List Place → UdpError → Type 0

@@ -10,10 +10,12 @@ mod opening;
 mod outbox;
 mod pace;
 mod peer_refused;
+mod ports;
 mod reading;
 mod sending;
 mod socket;
 mod sockets;
+mod transcript;
 mod udp;
 mod waiting;
 
@@ -21,4 +23,5 @@ pub use bind_cause::BindCause;
 pub use clock::Uptime;
 pub use neighborhood::PEER_LIMIT;
 pub use peer_refused::PeerRefused;
+pub use ports::Ports;
 pub use udp::{Udp, UdpError};

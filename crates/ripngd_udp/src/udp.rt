@@ -8,8 +8,10 @@ ghost use Rattle.ripngd_udp.specs.Sockets.{failed_of, lost_of, strangers_of};
 ghost use Rattle.ripngd_udp.specs.Udp.{NamesFirstOf, NamesPortOf, link_number, new_link};
 
 use crate::bind_cause::BindCause;
+use crate::neighborhood::Neighborhood;
 use crate::peer_refused::PeerRefused;
 use crate::sockets::Sockets;
+use crate::transcript::Transcript;
 use crate::waiting::Polled;
 use mio::Events;
 use prefix6::Addr6;
@@ -45,14 +47,15 @@ impl UdpError {
     }
 }
 
-/// A link of sockets, one for each interface, over a clock. Contracts see how many interfaces it has and what it counts as
-/// lost, and nothing of what its sockets carry.
+/// A link of sockets, one for each interface, over a clock. Contracts see how many interfaces it has, what it counts as lost,
+/// and each call of `recv` and `send` with what it answered, but not what its sockets carry.
 ///
 /// A datagram is sent at once, or else, where too many would come together for the socket of a neighbor, a few
 /// milliseconds later, by `recv` or at last by `finish`.
 #[derive(Drop)]
 pub struct Udp<'a, R: Clock> {
     sockets: Sockets<'a, R, UdpSocket, Polled>,
+    transcript: Transcript,
 }
 
 /// What is said where the sockets of places could not be waited for: that the first of them could not be bound.
@@ -96,6 +99,7 @@ impl<'a, R: Clock> Model for Udp<'a, R> {
       failed_sends = failed_of link.sockets.endpoints.items;
       lost_arrivals = lost_of link.sockets.endpoints.items;
       strangers = strangers_of link.sockets.endpoints.items;
+      calls = link.transcript.told.calls;
     } };
 }
 
@@ -133,7 +137,25 @@ impl<'a, R: Clock> Udp<'a, R> {
     {
         let polled = polled_for(net, alloc, places)?;
         let sockets = Sockets::open(net, rt, alloc, polled, places, peers)?;
-        Ok(Udp { sockets })
+        Ok(Udp {
+            sockets,
+            transcript: Transcript::new(),
+        })
+    }
+
+    /// Who is on the link of each interface.
+    pub(crate) fn neighborhoods(&self) -> &[Neighborhood]
+        ensures { result.now ≡ self.now.on_links }
+    {
+        self.sockets.neighborhoods()
+    }
+
+    /// What was told of it. Its sockets are closed.
+    pub(crate) fn into_transcript(self) -> Transcript
+        ensures { result.told.calls ≡ self.entry.calls }
+    {
+        let Udp { transcript, .. } = self;
+        transcript
     }
 
     /// Sends all that waits to be sent, at the pace of its neighbors. To be called when nothing more is received.
@@ -142,6 +164,7 @@ impl<'a, R: Clock> Udp<'a, R> {
         ensures lost { self.new.lost_arrivals ≡ self.old.lost_arrivals }
         ensures strangers { self.new.strangers ≡ self.old.strangers }
         ensures same { (self.new.interfaces ≡ self.old.interfaces) × (self.new.on_links ≡ self.old.on_links) }
+        ensures calls { self.new.calls ≡ self.old.calls }
     {
         self.sockets.finish();
     }
@@ -200,9 +223,10 @@ impl<'a, R: Clock> Udp<'a, R> {
 /// A call of `recv` first sends what has waited long enough, and takes in what is there on all sockets. While datagrams
 /// come it does not wait. Else it waits up to 50 ms for one, at all sockets at once. Interfaces are served in turn.
 impl<R: Clock> Link for Udp<'_, R> {
-    ghost use Rattle.std.specs.Prelude.{None, ◌≡◌, ◌<◌, ◌≤◌, IfOk, IfSome, length};
+    ghost use Rattle.std.specs.Prelude.{◌≡◌, ◌<◌, ◌≤◌, ◌++◌, ◌∷◌, [], IfOk, IfSome, Some, is_ok, length};
+    ghost use Rattle.ripngd_engine.specs.Link.{Handed, recv_call};
 
-    ghost calls = { λ _. None };
+    ghost calls = { λ link. Some link.calls };
 
     ghost interface_count = { λ link. link.interfaces };
 
@@ -217,14 +241,19 @@ impl<R: Clock> Link for Udp<'_, R> {
         ensures lost { self.old.lost_arrivals ≤ self.new.lost_arrivals }
         ensures strangers { self.old.strangers ≤ self.new.strangers }
         ensures same { (self.new.interfaces ≡ self.old.interfaces) × (self.new.on_links ≡ self.old.on_links) }
+        ensures calls { self.new.calls ≡ self.old.calls ++ recv_call result buffer.new ∷ [] }
     {
-        self.sockets.recv(buffer)
+        let answer = self.sockets.recv(buffer);
+        self.transcript = self.transcript.with_recv(&answer, buffer);
+        answer
     }
 
     fn send(&mut self, outgoing: &Outgoing) -> Result<(), LinkFault>
-        ensures { self.new ≡ self.old }
+        ensures { self.new ≡ record self.old { calls = self.old.calls ++ Handed outgoing.now (is_ok result) ∷ [] } }
     {
-        self.sockets.send(outgoing)
+        let answer = self.sockets.send(outgoing);
+        self.transcript = self.transcript.with_send(outgoing, answer.is_ok());
+        answer
     }
 }
 

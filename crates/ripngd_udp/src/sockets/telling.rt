@@ -6,7 +6,7 @@ ghost use Rattle.ripngd_udp.specs.Peers.{ChangesLink, RefusesFor, adding_fault, 
 ghost use Rattle.ripngd_udp.specs.Sockets.{failed_of, lost_of, strangers_of};
 
 use super::Sockets;
-use crate::neighborhood::{add_peer, remove_peer};
+use crate::neighborhood::{Neighborhood, add_peer, remove_peer};
 use crate::peer_refused::PeerRefused;
 use crate::reading::Source;
 use crate::sending::Carrier;
@@ -47,6 +47,13 @@ impl<R: Clock, S: Carrier + Source + Drop, W: Waiting + Drop> Sockets<'_, R, S, 
             lost = lost.saturating_add(endpoint.lost());
         }
         lost
+    }
+
+    /// Who is on the link of each interface.
+    pub(crate) fn neighborhoods(&self) -> &[Neighborhood]
+        ensures { result.now ≡ self.now.neighborhoods.items }
+    {
+        self.neighborhoods.as_slice()
     }
 
     /// An interface has a peer more.

@@ -4,7 +4,12 @@ pub returns-in-Ok-clause-ran : goal.returns-in-Ok-clause-ran
 returns-in-Ok-clause-ran g c = (
   c.in_ok-text.text.items,
   c.in_ok-text.ensures.text,
-  (c.in-Ok.plan.config, rw c.as_slice.ensures.value at c.in-Ok.ensures.configured, rw (c.in-Ok.ensures.limit, c.in-Ok.ensures.control) at c.in_ok-run_plan-in-Ok.ensures.shown),
+  (
+    c.in-Ok.plan.config,
+    rw c.as_slice.ensures.value at c.in-Ok.ensures.configured,
+    c.in_ok-run_plan-in-Ok.ensures.bound,
+    rw (c.in-Ok.ensures.limit, c.in-Ok.ensures.control) at c.in_ok-run_plan-in-Ok.ensures.shown,
+  ),
 )
 
 pub returns-clause-ran : goal.returns-clause-ran
