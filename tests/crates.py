@@ -54,11 +54,13 @@ def files_of(crate):
 
 
 def work_of(crate):
-    """Roughly how many processor seconds a crate's proof takes: some thirty to read what it stands on, one or two for each function, written
-    or derived, and one for every forty lines."""
-    text = b"".join(file.read_bytes() for file in files_of(crate))
-    derived = sum(traits.count(b",") + 1 for traits in re.findall(rb"derive\(([^)]*)\)", text))
-    return 30 + (len(re.findall(rb"\bfn \w", text)) + derived) * 3 // 2 + text.count(b"\n") // 40
+    """Roughly how many processor seconds a crate's proof takes without its tests: some thirty to read what it stands on, two for each
+    function, written or derived, and one for every forty lines."""
+    files = [file for file in files_of(crate) if not {"tests", "tests.rt"}.intersection(file.relative_to(folder_of(crate)).parts)]
+    texts = [file.read_bytes().partition(b"#[cfg(test)]")[0] for file in files]
+    derived = sum(traits.count(b",") + 1 for text in texts for traits in re.findall(rb"derive\(([^)]*)\)", text))
+    written = sum(len(re.findall(rb"^\s*(?:pub(?:\(crate\))? )?(?:const )?fn \w", text, re.M)) for text in texts)
+    return 30 + 2 * (written + derived) + sum(text.count(b"\n") for text in texts) // 40
 
 
 def is_program(crate):

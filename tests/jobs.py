@@ -1,7 +1,7 @@
 """Work that is done side by side: each piece once what it needs is done.
 
 Urgent pieces come first. The one of them with the longest way before it has as many processes as are of use to it, since it decides when all of
-them are done, and the others have one each. What is not urgent fills what these leave idle, the longest way first."""
+them are done, and the others share what is left. What is not urgent fills what these leave idle, the longest way first."""
 
 import concurrent.futures as futures
 import dataclasses
@@ -44,8 +44,15 @@ def starts(ready, running):
     """The jobs to begin now, each with the words before its commands and how many processes they may have. Those that are ready stand with the
     longest way first; of those that run it is known how many processes each has."""
     urgent = [job for job in ready if job.is_urgent]
-    ways = [job.way for job, _ in running if job.is_urgent]
-    begun = [(job, [], job.most if job.way > max([0, *ways]) and job is urgent[0] else 1) for job in urgent[: CORES - len(ways)]]
+    busy = [(job.way, processes) for job, processes in running if job.is_urgent]
+    begun, free = [], CORES - sum(processes for _, processes in busy)
+    for job in urgent[: CORES - len(busy)]:
+        is_longest = job is urgent[0] and job.way > max([0, *[way for way, _ in busy]])
+        # The others share what is free, and have one process at least.
+        left = min(len(urgent), CORES - len(busy)) - len(begun) - 1
+        processes = job.most if is_longest else max(1, min(job.most, free - left))
+        begun.append((job, [], processes))
+        free -= processes
     # What is not urgent gives way to the rest, which does not keep all of its processes busy all the time.
     fill = CORES + 2 - sum(processes for _, processes in running) - sum(processes for _, _, processes in begun)
     fill = min(fill, CORES - sum(not job.is_urgent for job, _ in running))
