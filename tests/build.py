@@ -44,8 +44,9 @@ def prove(crate, begins, processes):
     return said
 
 
-def proofs_of(wanted, urgent):
-    """The jobs that prove crates and all below them, where they are not proved as they stand; of the wanted ones some are waited for."""
+def proofs_of(wanted, urgent, most=CORES - 1):
+    """The jobs that prove crates and all below them, where they are not proved as they stand; of the wanted ones some are waited for. A long
+    crate has so many processes at most."""
     crates = in_order(one for one in NAMED if any(one == it or one in below(it) for it in wanted))
     sums, ways = sums_of(crates), {}
     for crate in reversed(crates):
@@ -65,10 +66,10 @@ def proofs_of(wanted, urgent):
             file.write_text(sums[crate])
             return Outcome(passed=1, said=f"proved {crate}", processor=said.processor)
 
-        # What several processes prove takes more of the processors together, so a short crate has one.
-        most = CORES if work_of(crate) >= 120 else 1
+        # What several processes prove takes a third more of the processors together, so a short crate has one.
+        processes = max(1, most) if work_of(crate) >= 120 else 1
         needs = tuple(("proof", one) for one in libraries_of(crate))
-        return Job(("proof", crate), call, needs, ways[crate], crate in awaited, most)
+        return Job(("proof", crate), call, needs, ways[crate], crate in awaited, processes)
 
     return [job_of(crate) for crate in crates]
 

@@ -54,7 +54,7 @@ def starts(ready, running):
         begun.append((job, [], processes))
         free -= processes
     # What is not urgent gives way to the rest, which does not keep all of its processes busy all the time.
-    fill = CORES + 2 - sum(processes for _, processes in running) - sum(processes for _, _, processes in begun)
+    fill = CORES + 1 - sum(processes for _, processes in running) - sum(processes for _, _, processes in begun)
     fill = min(fill, CORES - sum(not job.is_urgent for job, _ in running))
     return begun + [(job, GIVING_WAY, 1) for job in [one for one in ready if not one.is_urgent][: max(0, fill)]]
 
