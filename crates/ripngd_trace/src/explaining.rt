@@ -5,7 +5,9 @@ ghost use Rattle.std.specs.Prelude.{⊤};
 use crate::sentences::Seconds;
 use crate::tracer::Tracer;
 use ripng_world::{Event, Running};
-use ripngd_lab::{Choice, MadePhases, Refusal, Routes, Unmet, Watch, print_routes, print_sent, watched};
+use ripngd_lab::{
+    Choice, MadePhases, Refusal, Routes, Unmet, Watch, print_routes, print_sent, watched,
+};
 use route_table::Moment;
 use router_core::{Answer, Arrival};
 use std::alloc::Global;
@@ -91,11 +93,7 @@ impl<'a, W: Write> Watch for Explainer<'a, W> {
         print_routes(lab, choice, self.tracer.out)
     }
 
-    fn datagrams_asked(
-        &mut self,
-        lab: &Running<Routes>,
-        asked: Option<usize>,
-    ) -> io::Result<()> {
+    fn datagrams_asked(&mut self, lab: &Running<Routes>, asked: Option<usize>) -> io::Result<()> {
         print_sent(self.tracer.alloc, lab, asked, self.tracer.out)
     }
 

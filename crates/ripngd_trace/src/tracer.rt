@@ -23,7 +23,9 @@ use crate::tables::{News, news_of, timers_in, timers_of};
 use crate::updates::update_of;
 use crate::writing::write_record;
 use ripng_world::{Event, Running};
-use ripngd_lab::{Choice, MadePhases, Refusal, Routes, Unmet, Watch, print_routes, print_sent, watched};
+use ripngd_lab::{
+    Choice, MadePhases, Refusal, Routes, Unmet, Watch, print_routes, print_sent, watched,
+};
 use route_table::{Moment, RouteStore};
 use router_core::{Answer, Arrival, Router};
 use std::alloc::{AllocError, Global};
@@ -327,11 +329,7 @@ impl<'a, W: Write> Watch for Tracer<'a, W> {
         self.write_prints("print", &prints)
     }
 
-    fn datagrams_asked(
-        &mut self,
-        lab: &Running<Routes>,
-        asked: Option<usize>,
-    ) -> io::Result<()> {
+    fn datagrams_asked(&mut self, lab: &Running<Routes>, asked: Option<usize>) -> io::Result<()> {
         let mut prints = Vec::new(self.alloc);
         print_sent(self.alloc, lab, asked, &mut prints)?;
         self.write_prints("sent", &prints)
