@@ -11,13 +11,13 @@ use crate::phase::make_phases;
 use crate::printing::Choice;
 use crate::refusal_name::RefusalName;
 use crate::round::{make_partial_rounds, make_round, make_rounds};
-use crate::site::{Held, Site};
+use crate::site::{Held, Routes, Site};
 use crate::stop::{Refusal, Stop, Unmet};
 use crate::telling::{Hearing, hear};
 use crate::watching::Watch;
 use crate::words::BadLine;
 use ripng_world::{Event, LabError, Running};
-use route_table::{Moment, TrieRoutes};
+use route_table::Moment;
 use std::alloc::Global;
 
 /// What a script keeps of its lines, beside the network.
@@ -143,7 +143,7 @@ fn happen<V: Watch>(
 
 /// A datagram is lost, unless it is already.
 fn lose<V: Watch>(
-    lab: &Running<TrieRoutes>,
+    lab: &Running<Routes>,
     course: &mut Course,
     datagram: usize,
     watch: &mut V,
@@ -214,7 +214,7 @@ fn hear_but<V: Watch>(
 }
 
 /// A line that nobody moves at.
-fn settle(lab: &Running<TrieRoutes>, course: &mut Course, line: Line) -> Result<(), Stop> {
+fn settle(lab: &Running<Routes>, course: &mut Course, line: Line) -> Result<(), Stop> {
     match line {
         Line::Silence { router, silent } => {
             check_router(lab, Some(router))?;
@@ -233,7 +233,7 @@ fn settle(lab: &Running<TrieRoutes>, course: &mut Course, line: Line) -> Result<
 }
 
 /// A line that expects something of a table.
-fn expect(lab: &Running<TrieRoutes>, expected: Expected) -> Result<(), Stop> {
+fn expect(lab: &Running<Routes>, expected: Expected) -> Result<(), Stop> {
     match meet(lab, &expected) {
         Ok(()) => Ok(()),
         Err(Missed::NoSuchRouter) => Err(Stop::from(LabError::NoSuchRouter)),
@@ -242,11 +242,7 @@ fn expect(lab: &Running<TrieRoutes>, expected: Expected) -> Result<(), Stop> {
 }
 
 /// A line that prints routes.
-fn show_routes<V: Watch>(
-    lab: &Running<TrieRoutes>,
-    choice: &Choice,
-    watch: &mut V,
-) -> Result<(), Stop>
+fn show_routes<V: Watch>(lab: &Running<Routes>, choice: &Choice, watch: &mut V) -> Result<(), Stop>
     ensures { HasTold result V.starts V.takes V.fails V.notes (Some lab.now, watch.old) (Some lab.now, watch.new) }
 {
     check_router(lab, choice.router)?;
@@ -255,7 +251,7 @@ fn show_routes<V: Watch>(
 
 /// A line that prints datagrams.
 fn show_sent<V: Watch>(
-    lab: &Running<TrieRoutes>,
+    lab: &Running<Routes>,
     asked: Option<usize>,
     watch: &mut V,
 ) -> Result<(), Stop>
@@ -266,7 +262,7 @@ fn show_sent<V: Watch>(
 }
 
 /// There is such a router, if one is named.
-fn check_router(lab: &Running<TrieRoutes>, router: Option<usize>) -> Result<(), Stop> {
+fn check_router(lab: &Running<Routes>, router: Option<usize>) -> Result<(), Stop> {
     match router {
         Some(router) if router >= lab.routers() => Err(Stop::from(LabError::NoSuchRouter)),
         _ => Ok(()),
@@ -274,7 +270,7 @@ fn check_router(lab: &Running<TrieRoutes>, router: Option<usize>) -> Result<(), 
 }
 
 /// Such a datagram was sent, if one is named.
-fn check_datagram(lab: &Running<TrieRoutes>, datagram: Option<usize>) -> Result<(), Stop> {
+fn check_datagram(lab: &Running<Routes>, datagram: Option<usize>) -> Result<(), Stop> {
     match datagram {
         Some(datagram) if datagram >= lab.sent().len() => {
             Err(Stop::from(LabError::NoSuchDatagram))
@@ -284,7 +280,7 @@ fn check_datagram(lab: &Running<TrieRoutes>, datagram: Option<usize>) -> Result<
 }
 
 /// An interface is on the link.
-fn check_link(lab: &Running<TrieRoutes>, link: u16) -> Result<(), Stop> {
+fn check_link(lab: &Running<Routes>, link: u16) -> Result<(), Stop> {
     for router in 0..lab.routers() {
         if has_link(lab, router, link) {
             return Ok(());
@@ -294,7 +290,7 @@ fn check_link(lab: &Running<TrieRoutes>, link: u16) -> Result<(), Stop> {
 }
 
 /// Whether an interface of a router is on a link.
-fn has_link(lab: &Running<TrieRoutes>, number: usize, link: u16) -> bool {
+fn has_link(lab: &Running<Routes>, number: usize, link: u16) -> bool {
     match lab.router(number) {
         Some(router) => {
             let interfaces = router.config().interfaces().len();

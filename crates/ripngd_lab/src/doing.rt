@@ -5,13 +5,13 @@ ghost use Rattle.ripng_phases.specs.Making.{AreMadePhases, HealsIn};
 ghost use Rattle.ripngd_lab.specs.Phasing.{IsStopAt, StopsInPhase};
 ghost use Rattle.ripngd_lab.specs.ScriptWatching.{HasTold};
 
-use crate::site::{Held, Site};
+use crate::site::{Held, Routes, Site};
 use crate::stop::{Refusal, Stop};
 use crate::watching::Watch;
 use rand_core::Rng;
 use ripng_phases::PhaseRefused;
 use ripng_world::{Event, Lab, Round, Running, Stopped};
-use route_table::{Moment, TrieRoutes};
+use route_table::Moment;
 use router_core::Arrival;
 use std::alloc::{AllocError, Global};
 use std::io;
@@ -35,7 +35,7 @@ pub fn step<V: Watch>(lab: &mut Site, event: &Event<'_>, watch: &mut V) -> Resul
 /// # Errors
 /// Want of memory, or of the watcher.
 fn lie<V: Watch>(
-    running: &mut Running<TrieRoutes>,
+    running: &mut Running<Routes>,
     router: usize,
     arrival: &Arrival<'_>,
     watch: &mut V,
@@ -70,7 +70,7 @@ pub fn lie_at<V: Watch>(
 /// # Errors
 /// Want of memory, or of the watcher. What was done before it stays done.
 pub fn deliver_since<V: Watch>(
-    lab: &mut Lab<TrieRoutes>,
+    lab: &mut Lab<Routes>,
     first: usize,
     now: Moment,
     watch: &mut V,
@@ -89,7 +89,7 @@ pub fn deliver_since<V: Watch>(
 /// # Errors
 /// A regular update that is not due; want of memory, or of the watcher. What was done before it stays done.
 pub fn run_rounds<V: Watch>(
-    lab: &mut Lab<TrieRoutes>,
+    lab: &mut Lab<Routes>,
     rounds: &[Round<'_>],
     watch: &mut V,
 ) -> Result<(), Stop>
@@ -110,7 +110,7 @@ pub fn run_rounds<V: Watch>(
 /// before it stays done.
 pub fn run_phases<V: Watch, R: Rng>(
     alloc: Global,
-    lab: &mut Lab<TrieRoutes>,
+    lab: &mut Lab<Routes>,
     phases: usize,
     rng: &mut R,
     watch: &mut V,

@@ -30,6 +30,7 @@ pub use printer::{Ending, Printer};
 pub use printing::{Choice, print_routes, print_sent};
 pub use refusal_name::RefusalName;
 pub use script::{lab, watched, words_of};
+pub use site::Routes;
 pub use stop::{Refusal, Unmet};
 pub use watching::Watch;
 pub use words::next_prefix;

@@ -8,13 +8,14 @@ ghost use Rattle.ripngd_lab.specs.ScriptWatching.{HasTold};
 use crate::doing::run_phases;
 use crate::outages::Outages;
 use crate::round::moment_after;
+use crate::site::Routes;
 use crate::stop::{Refusal, Stop};
 use crate::watching::Watch;
 use crate::words::{BadLine, number};
 use rand_core::SeedableRng;
 use rand_pcg::Pcg32;
 use ripng_world::{Lab, Running};
-use route_table::{Moment, TrieRoutes};
+use route_table::Moment;
 use std::alloc::Global;
 use std::fmt;
 
@@ -61,7 +62,7 @@ pub fn end_of_phases(begin: Moment, phases: usize) -> Option<Moment> {
 }
 
 /// The last moment of all routers, if there is one.
-pub fn latest_moment(lab: &Running<TrieRoutes>) -> Option<Moment> {
+pub fn latest_moment(lab: &Running<Routes>) -> Option<Moment> {
     let mut latest = None;
     for number in 0..lab.routers() {
         if let Some(router) = lab.router(number) {
@@ -80,7 +81,7 @@ pub fn latest_moment(lab: &Running<TrieRoutes>) -> Option<Moment> {
 /// phase past the last moment, want of memory, or of the watcher. What was done before it stays done.
 pub fn make_phases<V: Watch>(
     alloc: Global,
-    lab: &mut Lab<TrieRoutes>,
+    lab: &mut Lab<Routes>,
     phases: usize,
     seed: u64,
     outages: &Outages,

@@ -4,10 +4,11 @@ ghost use Rattle.std.specs.Prelude.{⊤};
 
 use crate::phase::MadePhases;
 use crate::printing::{Choice, print_routes, print_sent};
+use crate::site::Routes;
 use crate::stop::{Refusal, Unmet};
 use crate::watching::Watch;
 use ripng_world::{Event, Running};
-use route_table::{Moment, TrieRoutes};
+use route_table::Moment;
 use router_core::{Answer, Arrival};
 use std::alloc::Global;
 use std::io::{self, Write};
@@ -63,7 +64,7 @@ impl<'a, W: Write> Printer<'a, W> {
     }
 }
 
-impl<'a, W: Write> ripng_world::Watch<TrieRoutes> for Printer<'a, W> {
+impl<'a, W: Write> ripng_world::Watch<Routes> for Printer<'a, W> {
     type Fault = io::Error;
 
     ghost takes = { λ _ _ _. ⊤ };
@@ -72,7 +73,7 @@ impl<'a, W: Write> ripng_world::Watch<TrieRoutes> for Printer<'a, W> {
 
     fn happened(
         &mut self,
-        lab: &Running<TrieRoutes>,
+        lab: &Running<Routes>,
         _event: &Event<'_>,
         _answer: &Answer,
         _first: usize,
@@ -92,14 +93,14 @@ impl<'a, W: Write> Watch for Printer<'a, W> {
         self.sent_before = self.sent.unwrap_or(0);
     }
 
-    fn started(&mut self, lab: &Running<TrieRoutes>, _now: Moment) -> io::Result<()> {
+    fn started(&mut self, lab: &Running<Routes>, _now: Moment) -> io::Result<()> {
         self.sent = Some(lab.sent().len());
         Ok(())
     }
 
     fn lied(
         &mut self,
-        running: &Running<TrieRoutes>,
+        running: &Running<Routes>,
         _router: usize,
         _arrival: &Arrival<'_>,
         _answer: &Answer,
@@ -109,15 +110,11 @@ impl<'a, W: Write> Watch for Printer<'a, W> {
         Ok(())
     }
 
-    fn routes_asked(&mut self, lab: &Running<TrieRoutes>, choice: &Choice) -> io::Result<()> {
+    fn routes_asked(&mut self, lab: &Running<Routes>, choice: &Choice) -> io::Result<()> {
         print_routes(lab, choice, self.out)
     }
 
-    fn datagrams_asked(
-        &mut self,
-        lab: &Running<TrieRoutes>,
-        asked: Option<usize>,
-    ) -> io::Result<()> {
+    fn datagrams_asked(&mut self, lab: &Running<Routes>, asked: Option<usize>) -> io::Result<()> {
         print_sent(self.alloc, lab, asked, self.out)
     }
 

@@ -5,13 +5,13 @@ ghost use Rattle.ripngd_lab.specs.ScriptWatching.{HasTold};
 
 use crate::doing::{deliver_since, run_rounds, step};
 use crate::outages::Outages;
-use crate::site::{Held, Site};
+use crate::site::{Held, Routes, Site};
 use crate::stop::Stop;
 use crate::telling::{Hearing, hear};
 use crate::watching::Watch;
 use crate::words::BadLine;
 use ripng_world::{Event, Lab, Round, RoundsRefused};
-use route_table::{Moment, TrieRoutes};
+use route_table::Moment;
 use std::alloc::{AllocError, Global};
 
 /// The most rounds of one line.
@@ -121,7 +121,7 @@ pub fn moment_after(now: Moment, gap: u64, gaps: u64) -> Option<Moment> {
 /// A regular update that is not due, want of memory, or of the watcher. What was done before it stays done.
 pub fn make_rounds<V: Watch>(
     alloc: Global,
-    lab: &mut Lab<TrieRoutes>,
+    lab: &mut Lab<Routes>,
     moments: &[Moment],
     watch: &mut V,
 ) -> Result<(), Stop>

@@ -11,13 +11,13 @@ use crate::foreign::Foreign;
 use crate::line::{Line, read_line};
 use crate::phase::latest_moment;
 use crate::refusal_name::RefusalName;
-use crate::site::Site;
+use crate::site::{Routes, Site};
 use crate::stop::Stop;
 use crate::watching::Watch;
 use crate::words::{BadLine, next_prefix};
 use prefix6::Prefix;
 use ripng_world::{Lab, NetConfig, Node};
-use route_table::{Moment, TrieRoutes};
+use route_table::Moment;
 use router_core::Arrival;
 use std::alloc::Global;
 use std::mem;
@@ -157,7 +157,7 @@ fn begin_lab<V: Watch>(
     nodes: Vec<Node>,
     now: Moment,
     watch: &mut V,
-) -> Result<Lab<TrieRoutes>, Stop>
+) -> Result<Lab<Routes>, Stop>
     ensures started { IfOk result (λ lab. StartsAt lab now × V.starts watch.old lab now watch.new) }
     ensures untold { OnErr result (watch.new ≡ watch.old ⊎ has_failed result ≡ true × V.notes watch.old Broken watch.new) }
 {
@@ -219,7 +219,7 @@ fn newest(nodes: &mut [Node]) -> Result<&mut Node, BadLine> {
 }
 
 /// Checks the network and starts its routers at one moment.
-fn start(alloc: Global, nodes: Vec<Node>, now: Moment) -> Result<Lab<TrieRoutes>, Stop>
+fn start(alloc: Global, nodes: Vec<Node>, now: Moment) -> Result<Lab<Routes>, Stop>
     ensures { IfOk result (λ lab. StartsAt lab now) }
 {
     let moments = vec![in alloc; now; nodes.len()]?;

@@ -6,17 +6,20 @@ ghost use Rattle.ripng_world.specs.Labs.{HappensGiving};
 ghost use Rattle.ripng_world.specs.Watching.{WatchedInPart, failures};
 
 use ripng_world::{Event, Lab, LabError, Running, Sent, Stopped, Watch};
-use route_table::TrieRoutes;
+use route_table::SortedRoutes;
 use router_core::Answer;
 use std::marker::Model;
+
+/// The tables of a script's routers.
+pub type Routes = SortedRoutes;
 
 /// What runs there.
 #[derive(Drop)]
 pub enum Held {
     /// A lab, of which all is promised.
-    Lawful(Lab<TrieRoutes>),
+    Lawful(Lab<Routes>),
     /// Routers of which one was lied to.
-    Lied(Running<TrieRoutes>),
+    Lied(Running<Routes>),
 }
 
 /// Where a script's routers run.
@@ -43,7 +46,7 @@ impl Model for Site {
 
 impl Site {
     /// A lab that starts.
-    pub fn lawful(lab: Lab<TrieRoutes>) -> Site
+    pub fn lawful(lab: Lab<Routes>) -> Site
         ensures { result ≡ lab }
     {
         Site {
@@ -66,7 +69,7 @@ impl Site {
     }
 
     /// The routers as they run.
-    pub fn running(&self) -> &Running<TrieRoutes>
+    pub fn running(&self) -> &Running<Routes>
         ensures { result.now ≡ self.now }
     {
         match &self.held {
@@ -93,7 +96,7 @@ impl Site {
     ///
     /// # Errors
     /// The first reason to refuse the event, or want of memory, and then nobody is told; or the watcher's, and then the event is done.
-    pub fn step_watched<V: Watch<TrieRoutes>>(
+    pub fn step_watched<V: Watch<Routes>>(
         &mut self,
         event: &Event<'_>,
         watch: &mut V,

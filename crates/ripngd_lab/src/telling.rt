@@ -5,12 +5,12 @@ ghost use Rattle.ripngd_lab.specs.ScriptWatching.{HasTold};
 
 use crate::doing::step;
 use crate::outages::Outages;
-use crate::site::Site;
+use crate::site::{Routes, Site};
 use crate::stop::Stop;
 use crate::watching::Watch;
 use prefix6::Addr6;
 use ripng_world::{Event, LabError, Running, Sent};
-use route_table::{Moment, TrieRoutes};
+use route_table::Moment;
 use router_core::Destination;
 use std::alloc::{AllocError, Global};
 
@@ -82,7 +82,7 @@ fn deliver<V: Watch>(
 /// The interfaces that a datagram reaches, each behind its router, in order.
 fn reached(
     alloc: Global,
-    lab: &Running<TrieRoutes>,
+    lab: &Running<Routes>,
     datagram: usize,
     outages: &Outages,
 ) -> Result<Vec<(usize, usize)>, AllocError> {
@@ -100,7 +100,7 @@ fn reached(
 
 /// A datagram with the number of its link, unless it is lost, its sender is silent or the link is cut.
 fn on_its_way<'a>(
-    lab: &'a Running<TrieRoutes>,
+    lab: &'a Running<Routes>,
     datagram: usize,
     outages: &Outages,
 ) -> Option<(&'a Sent, u16)> {
@@ -115,7 +115,7 @@ fn on_its_way<'a>(
 /// Adds the interfaces of a router that a datagram reaches.
 fn reach(
     reached: &mut Vec<(usize, usize)>,
-    lab: &Running<TrieRoutes>,
+    lab: &Running<Routes>,
     sent: &Sent,
     link: u16,
     number: usize,

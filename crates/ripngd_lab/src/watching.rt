@@ -7,14 +7,15 @@ ghost use Rattle.ripngd_lab.specs.Asides.{Aside, Broken, CountsPhases, Lie, Next
 
 use crate::phase::MadePhases;
 use crate::printing::Choice;
+use crate::site::Routes;
 use crate::stop::{Refusal, Unmet};
 use ripng_world::Running;
-use route_table::{Moment, TrieRoutes};
+use route_table::Moment;
 use router_core::{Answer, Arrival};
 use std::io;
 
 /// A watcher of a script. It is told of each thing as soon as that is done, in order; of events as a watcher of the lab.
-pub trait Watch: ripng_world::Watch<TrieRoutes, Fault = io::Error> {
+pub trait Watch: ripng_world::Watch<Routes, Fault = io::Error> {
     // What the start of a lab makes of it: how it was, the lab, the moment, and how it is then.
     ghost starts: { Self → LabValue → ℕ → Self → Type 0 };
     // What a telling makes of it that is of nothing that happens in the lab: how it was, what it is told, and how it is then;
@@ -29,7 +30,7 @@ pub trait Watch: ripng_world::Watch<TrieRoutes, Fault = io::Error> {
     ///
     /// # Errors
     /// Of what the watcher writes to, or want of memory; so are those below.
-    fn started(&mut self, lab: &Running<TrieRoutes>, now: Moment) -> io::Result<()>
+    fn started(&mut self, lab: &Running<Routes>, now: Moment) -> io::Result<()>
         ensures starts { OnOk result (starts self.old lab.now now self.new) }
         ensures broken { OnErr result (notes self.old Broken self.new) };
 
@@ -37,7 +38,7 @@ pub trait Watch: ripng_world::Watch<TrieRoutes, Fault = io::Error> {
     /// datagrams from the number `first` on, and are not in the answer.
     fn lied(
         &mut self,
-        running: &Running<TrieRoutes>,
+        running: &Running<Routes>,
         router: usize,
         arrival: &Arrival<'_>,
         answer: &Answer,
@@ -47,12 +48,12 @@ pub trait Watch: ripng_world::Watch<TrieRoutes, Fault = io::Error> {
         ensures broken { OnErr result (notes self.old Broken self.new) };
 
     /// The line `print`: which routes it asks for.
-    fn routes_asked(&mut self, lab: &Running<TrieRoutes>, choice: &Choice) -> io::Result<()>
+    fn routes_asked(&mut self, lab: &Running<Routes>, choice: &Choice) -> io::Result<()>
         ensures notes { OnOk result (notes self.old Prints self.new) }
         ensures broken { OnErr result (notes self.old Broken self.new) };
 
     /// The line `sent`: the number of the datagram that it asks for, if not for all.
-    fn datagrams_asked(&mut self, lab: &Running<TrieRoutes>, asked: Option<usize>) -> io::Result<()>
+    fn datagrams_asked(&mut self, lab: &Running<Routes>, asked: Option<usize>) -> io::Result<()>
         ensures notes { OnOk result (notes self.old Prints self.new) }
         ensures broken { OnErr result (notes self.old Broken self.new) };
 

@@ -5,8 +5,10 @@ ghost use Rattle.std.specs.Prelude.{⊤};
 use crate::sentences::Seconds;
 use crate::tracer::Tracer;
 use ripng_world::{Event, Running};
-use ripngd_lab::{Choice, MadePhases, Refusal, Unmet, Watch, print_routes, print_sent, watched};
-use route_table::{Moment, TrieRoutes};
+use ripngd_lab::{
+    Choice, MadePhases, Refusal, Routes, Unmet, Watch, print_routes, print_sent, watched,
+};
+use route_table::Moment;
 use router_core::{Answer, Arrival};
 use std::alloc::Global;
 use std::io::{self, Write};
@@ -33,7 +35,7 @@ struct Explainer<'a, W: Write> {
     tracer: Tracer<'a, W>,
 }
 
-impl<'a, W: Write> ripng_world::Watch<TrieRoutes> for Explainer<'a, W> {
+impl<'a, W: Write> ripng_world::Watch<Routes> for Explainer<'a, W> {
     type Fault = io::Error;
 
     ghost takes = { λ _ _ _. ⊤ };
@@ -42,7 +44,7 @@ impl<'a, W: Write> ripng_world::Watch<TrieRoutes> for Explainer<'a, W> {
 
     fn happened(
         &mut self,
-        lab: &Running<TrieRoutes>,
+        lab: &Running<Routes>,
         event: &Event<'_>,
         answer: &Answer,
         first: usize,
@@ -61,7 +63,7 @@ impl<'a, W: Write> Watch for Explainer<'a, W> {
         self.line = number;
     }
 
-    fn started(&mut self, lab: &Running<TrieRoutes>, now: Moment) -> io::Result<()> {
+    fn started(&mut self, lab: &Running<Routes>, now: Moment) -> io::Result<()> {
         let record = self.tracer.start_record(lab, now)?;
         let (begin, routers, sent) = (Seconds(record.now), record.routers.len(), record.sent.len());
         writeln!(
@@ -72,7 +74,7 @@ impl<'a, W: Write> Watch for Explainer<'a, W> {
 
     fn lied(
         &mut self,
-        running: &Running<TrieRoutes>,
+        running: &Running<Routes>,
         router: usize,
         arrival: &Arrival<'_>,
         answer: &Answer,
@@ -87,15 +89,11 @@ impl<'a, W: Write> Watch for Explainer<'a, W> {
         )
     }
 
-    fn routes_asked(&mut self, lab: &Running<TrieRoutes>, choice: &Choice) -> io::Result<()> {
+    fn routes_asked(&mut self, lab: &Running<Routes>, choice: &Choice) -> io::Result<()> {
         print_routes(lab, choice, self.tracer.out)
     }
 
-    fn datagrams_asked(
-        &mut self,
-        lab: &Running<TrieRoutes>,
-        asked: Option<usize>,
-    ) -> io::Result<()> {
+    fn datagrams_asked(&mut self, lab: &Running<Routes>, asked: Option<usize>) -> io::Result<()> {
         print_sent(self.tracer.alloc, lab, asked, self.tracer.out)
     }
 

@@ -8,7 +8,8 @@ use crate::network::addr_of;
 use crate::records::OfferRecord;
 use prefix6::{Addr6, Prefix};
 use ripng_world::{Event, Running, Sent};
-use route_table::{Moment, Route, RouteStore, TrieRoutes};
+use ripngd_lab::Routes;
+use route_table::{Moment, Route, RouteStore};
 use router_core::{Answer, Arrival, Destination, MAX_HOP_LIMIT, Note, Offered, RIPNG_PORT, Router};
 use std::alloc::{AllocError, Global};
 
@@ -94,8 +95,8 @@ fn offer_records<S: RouteStore>(
 /// What a datagram of the network offered to the router that it came to, by the table that is known of that router.
 fn delivered(
     alloc: Global,
-    router: &Router<TrieRoutes>,
-    known: &TrieRoutes,
+    router: &Router<Routes>,
+    known: &Routes,
     arrival: &Arrival<'_>,
     notes: &[Note],
 ) -> Result<Vec<OfferRecord>, AllocError>
@@ -115,8 +116,8 @@ fn delivered(
 /// Want of memory.
 pub fn offers_of(
     alloc: Global,
-    lab: &Running<TrieRoutes>,
-    known: &[TrieRoutes],
+    lab: &Running<Routes>,
+    known: &[Routes],
     event: &Event<'_>,
     answer: &Answer,
 ) -> Result<Vec<OfferRecord>, AllocError>

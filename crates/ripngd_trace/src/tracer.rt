@@ -23,8 +23,10 @@ use crate::tables::{News, news_of, timers_in, timers_of};
 use crate::updates::update_of;
 use crate::writing::write_record;
 use ripng_world::{Event, Running};
-use ripngd_lab::{Choice, MadePhases, Refusal, Unmet, Watch, print_routes, print_sent, watched};
-use route_table::{Moment, RouteStore, TrieRoutes};
+use ripngd_lab::{
+    Choice, MadePhases, Refusal, Routes, Unmet, Watch, print_routes, print_sent, watched,
+};
+use route_table::{Moment, RouteStore};
 use router_core::{Answer, Arrival, Router};
 use std::alloc::{AllocError, Global};
 use std::io::{self, Write};
@@ -60,7 +62,7 @@ pub struct Tracer<'a, W: Write> {
     /// The number of the script's line.
     line: usize,
     /// The table of each router, as a reader of the records knows it.
-    known: Vec<TrieRoutes>,
+    known: Vec<Routes>,
     /// The timers of each router, as the last record of it has them.
     timers: Vec<Timers>,
     pub out: &'a mut W,
@@ -69,9 +71,9 @@ pub struct Tracer<'a, W: Write> {
 /// What a reader has to be told of one of the tables that are known. Then it is known, and all others are as they were.
 fn news_in(
     alloc: Global,
-    known: &mut [TrieRoutes],
+    known: &mut [Routes],
     router: usize,
-    table: &TrieRoutes,
+    table: &Routes,
 ) -> Result<News, AllocError>
     ensures listed { IfOk result (λ news. IfSome (slice_get known.old router) (λ before. LeadsTo before news.routes.items news.gone.items table.now)) }
     ensures known { OnOk result (known.new ≡ slice_set known.old router table.now) }
@@ -111,9 +113,9 @@ impl<'a, W: Write> Tracer<'a, W> {
     /// A router that has started. Its table is known from now on.
     fn router_record(
         &mut self,
-        lab: &Running<TrieRoutes>,
+        lab: &Running<Routes>,
         number: usize,
-        router: &Router<TrieRoutes>,
+        router: &Router<Routes>,
     ) -> Result<RouterRecord, AllocError>
         ensures tells { IfOk result (λ r. slice_get lab.now.world.states number ≡ Some router.now → TellsRouter lab.now number r) }
         ensures known { OnOk result (self.new.known.items ≡ self.old.known.items ++ router.now.table ∷ []) }
@@ -121,7 +123,7 @@ impl<'a, W: Write> Tracer<'a, W> {
         ensures line { self.new.line ≡ self.old.line }
         ensures out { self.new.out ≡ self.old.out }
     {
-        let mut known = TrieRoutes::empty(self.alloc);
+        let mut known = Routes::empty(self.alloc);
         let news = news_of(self.alloc, &mut known, router.routes())?;
         self.known.push(known)?;
         self.timers.push(timers_in(router))?;
@@ -138,7 +140,7 @@ impl<'a, W: Write> Tracer<'a, W> {
     }
 
     /// All routers that have started. Their tables are known from now on.
-    fn router_records(&mut self, lab: &Running<TrieRoutes>) -> Result<Vec<RouterRecord>, AllocError>
+    fn router_records(&mut self, lab: &Running<Routes>) -> Result<Vec<RouterRecord>, AllocError>
         ensures tells { IfOk result (λ records. AreTold lab.now records.items) }
         ensures known { OnOk result (self.new.known.items ≡ self.old.known.items ++ tables_of lab.now.world) }
         ensures timers { OnOk result (self.new.timers.items ≡ self.old.timers.items ++ all_timers lab.now.world) }
@@ -156,7 +158,7 @@ impl<'a, W: Write> Tracer<'a, W> {
     /// The start of the routers.
     pub fn start_record(
         &mut self,
-        lab: &Running<TrieRoutes>,
+        lab: &Running<Routes>,
         now: Moment,
     ) -> Result<StartRecord, AllocError>
         ensures tells { IfOk result (TellsStart self.old.line lab.now now) }
@@ -175,7 +177,7 @@ impl<'a, W: Write> Tracer<'a, W> {
     }
 
     /// What a reader has to be told of the table of a router. Then it is known.
-    fn news_at(&mut self, lab: &Running<TrieRoutes>, router: usize) -> Result<News, AllocError>
+    fn news_at(&mut self, lab: &Running<Routes>, router: usize) -> Result<News, AllocError>
         ensures listed { IfOk result (λ news. IfSome (slice_get self.old.known.items router) (λ before. IfSome (slice_get lab.now.world.states router) (λ state.
             LeadsTo before news.routes.items news.gone.items state.table))) }
         ensures known { OnOk result (IfSome (slice_get lab.now.world.states router) (λ state. self.new.known.items ≡ slice_set self.old.known.items router state.table)) }
@@ -190,7 +192,7 @@ impl<'a, W: Write> Tracer<'a, W> {
     }
 
     /// The timers of a router, as the next record has them. They are known from then on.
-    fn timers_at(&mut self, lab: &Running<TrieRoutes>, router: usize) -> Option<Timers>
+    fn timers_at(&mut self, lab: &Running<Routes>, router: usize) -> Option<Timers>
         ensures told { result ≡ option_map timers_in (slice_get lab.now.world.states router) }
         ensures timers { IfSome (slice_get lab.now.world.states router) (λ state. self.new.timers.items ≡ slice_set self.old.timers.items router (timers_in state)) }
         ensures known { self.new.known ≡ self.old.known }
@@ -206,7 +208,7 @@ impl<'a, W: Write> Tracer<'a, W> {
     /// An event that was done.
     pub fn event_record(
         &mut self,
-        lab: &Running<TrieRoutes>,
+        lab: &Running<Routes>,
         event: &Event<'_>,
         answer: &Answer,
         first: usize,
@@ -246,7 +248,7 @@ impl<'a, W: Write> Tracer<'a, W> {
     /// A lie that came, as an event that was done.
     pub fn lie_record(
         &mut self,
-        running: &Running<TrieRoutes>,
+        running: &Running<Routes>,
         router: usize,
         arrival: &Arrival<'_>,
         answer: &Answer,
@@ -272,7 +274,7 @@ impl<'a, W: Write> Tracer<'a, W> {
     }
 }
 
-impl<'a, W: Write> ripng_world::Watch<TrieRoutes> for Tracer<'a, W> {
+impl<'a, W: Write> ripng_world::Watch<Routes> for Tracer<'a, W> {
     type Fault = io::Error;
 
     ghost takes = { λ old what new. SaysEvent (record { line = old.line; known = old.known.items; timers = old.timers.items; written = W.contents old.out.now }) what (record { line = new.line; known = new.known.items; timers = new.timers.items; written = W.contents new.out.now })
@@ -283,7 +285,7 @@ impl<'a, W: Write> ripng_world::Watch<TrieRoutes> for Tracer<'a, W> {
 
     fn happened(
         &mut self,
-        lab: &Running<TrieRoutes>,
+        lab: &Running<Routes>,
         event: &Event<'_>,
         answer: &Answer,
         first: usize,
@@ -304,14 +306,14 @@ impl<'a, W: Write> Watch for Tracer<'a, W> {
         self.line = number;
     }
 
-    fn started(&mut self, lab: &Running<TrieRoutes>, now: Moment) -> io::Result<()> {
+    fn started(&mut self, lab: &Running<Routes>, now: Moment) -> io::Result<()> {
         let record = self.start_record(lab, now)?;
         write_record(self.alloc, &record, self.out)
     }
 
     fn lied(
         &mut self,
-        running: &Running<TrieRoutes>,
+        running: &Running<Routes>,
         router: usize,
         arrival: &Arrival<'_>,
         answer: &Answer,
@@ -321,17 +323,13 @@ impl<'a, W: Write> Watch for Tracer<'a, W> {
         write_record(self.alloc, &record, self.out)
     }
 
-    fn routes_asked(&mut self, lab: &Running<TrieRoutes>, choice: &Choice) -> io::Result<()> {
+    fn routes_asked(&mut self, lab: &Running<Routes>, choice: &Choice) -> io::Result<()> {
         let mut prints = Vec::new(self.alloc);
         print_routes(lab, choice, &mut prints)?;
         self.write_prints("print", &prints)
     }
 
-    fn datagrams_asked(
-        &mut self,
-        lab: &Running<TrieRoutes>,
-        asked: Option<usize>,
-    ) -> io::Result<()> {
+    fn datagrams_asked(&mut self, lab: &Running<Routes>, asked: Option<usize>) -> io::Result<()> {
         let mut prints = Vec::new(self.alloc);
         print_sent(self.alloc, lab, asked, &mut prints)?;
         self.write_prints("sent", &prints)

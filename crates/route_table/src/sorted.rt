@@ -22,6 +22,9 @@ use std::marker::Model;
 #[derive(Drop)]
 pub struct SortedRoutes {
     routes: Vec<(Prefix, Route)>,
+    /// The place behind the route that was updated last, where the next update looks first: neighbors tell routes in the order
+    /// of their prefixes. It is no part of the value, and another route or none may stand there.
+    next: usize,
 }
 
 impl Model for SortedRoutes {
@@ -52,6 +55,18 @@ fn search(routes: &[(Prefix, Route)], prefix: &Prefix) -> Result<usize, usize>
     ensures absent { IfErr result (IsGap routes.now prefix.now) }
 {
     routes.binary_search_by_key(prefix, |&(p, _)| p)
+}
+
+/// The same, where a place is looked at first.
+fn search_from(routes: &[(Prefix, Route)], first: usize, prefix: &Prefix) -> Result<usize, usize>
+    requires { T (is_sorted prefix_cmp routes.now) }
+    ensures found { IfOk result (IsAt routes.now prefix.now) }
+    ensures absent { IfErr result (IsGap routes.now prefix.now) }
+{
+    if first < routes.len() && routes[first].0 == *prefix {
+        return Ok(first);
+    }
+    search(routes, prefix)
 }
 
 /// Where the routes past the prefix begin, or past none.
@@ -128,6 +143,7 @@ impl RouteStore for SortedRoutes {
     fn empty(alloc: Global) -> Self {
         SortedRoutes {
             routes: Vec::new(alloc),
+            next: 0,
         }
     }
 
@@ -199,12 +215,13 @@ impl RouteStore for SortedRoutes {
         prefix: &Prefix,
         make: F,
     ) -> Option<(Route, Route)> {
-        let Ok(at) = search(&self.routes, prefix) else {
+        let Ok(at) = search_from(&self.routes, self.next, prefix) else {
             return None;
         };
         let before = self.routes[at].1;
         let after = make(before);
         self.routes[at] = (*prefix, after);
+        self.next = at + 1;
         Some((before, after))
     }
 

@@ -1,7 +1,7 @@
 use Rattle.std.proofs.Common.{ℕ, List, OnErr, OnOk, Option, ap, subst}
 use Rattle.ripngd_trace.specs.Lines.{WritesLess, WritesRecord}
 use Rattle.ripngd_trace.proofs.Reading.{on_err, on_ok}
-use Rattle.ripngd_trace.proofs.tracer.TracerWatchTrieRoutes.happened.Goals as goal
+use Rattle.ripngd_trace.proofs.tracer.TracerWatchRoutes.happened.Goals as goal
 
 pub returns-clause-takes : goal.returns-clause-takes
 returns-clause-takes g c =
