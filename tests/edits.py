@@ -9,9 +9,9 @@ the edit that is named there, and the gate leaves it out.
 
 A function is proved over the contracts of those that it calls and never over their bodies. So edits of different functions do not touch
 each other, and are made together: one check of these functions reads the crate once for all of them, and what it proves is kept for the next.
-An edit is refused where the prover says that a goal of the very function stays open. One that changes no single function, as a constant or
-a definition, and one that its own function does not show, is tried alone, at the function that a line `at:` names, and where there is none
-over the whole crate: there a goal of any function counts.
+An edit is refused where the prover says that a goal of the very function stays open. One that does not show so is tried alone: at its own
+function once more, without the answers to goals that it took away; one that changes no single function, as a constant or a definition, at
+the function that a line `at:` names; and where that shows nothing over the whole crate: there a goal of any function counts.
 
 A line tells of each check, and of each edit that is not refused; last comes `N passed, M failed`. The exit status is 0 exactly where M
 is 0. The gate tries those of all crates so (prove.py)."""
@@ -19,6 +19,7 @@ is 0. The gate tries those of all crates so (prove.py)."""
 import re
 import sys
 import tempfile
+import threading
 
 from build import functions_of, proofs_of
 from crates import NAMED, ROOT, edit_files_of, folder_of, work_of
@@ -31,8 +32,14 @@ IMPL = re.compile(r"impl\b(?:<.*?>)? (?:(?P<of>[\w:]+)(?:<(?P<at>\w*).*>)? for )
 TRAIT = re.compile(r"(?:pub(?:\([^)]*\))? )?trait (\w+)")
 # A proof file that names what the edit took away says nothing of the contract.
 SHAPE = re.compile(r"has no field|is not in scope|has no `|was not admitted")
+# What the prover says against a file of proofs.
+ERROR = re.compile(r"^\./(proofs/\S+?\.antt):\S+ error: (.*)", re.M)
+# An answer to a goal that the code has not any more, since the edit took away what it is about.
+GONE = re.compile(r"^\./(proofs/\S+/Answers\.antt):\S+ error: `[^`]*`: `goal\.[^`]+`: module `[^`]+` has no `([^`]+)`", re.M)
 # Seconds that a check may take; one that takes longer has shown nothing.
 PATIENCE = 1500
+# The crates of which everything is kept that edits are tried over.
+LOCKS, WHOLE = {crate: threading.Lock() for crate in NAMED}, set()
 
 
 class Edit:
@@ -102,14 +109,29 @@ def named(place, names):
     return found[0] if len(found) == 1 else inside[0] if len(inside) == 1 else None
 
 
-def check(edits, folder, kept, functions):
-    """Checks a copy of a crate with edits made, these functions or else all, over what is kept of it; answers what was said, and what of each
-    function."""
-    for edit in edits:
-        edit.apply(folder)
+def check(crate, folder, kept, functions):
+    """Checks a copy of a crate, these functions or else all, over what is kept of it; answers what was said, and what of each function."""
     words = ["--incremental", str(kept), *[word for one in sorted(functions) for word in ("--only", one)]]
-    said = rattle("check", edits[0].crate, [*words, "--allow-holes"], [*GIVING_WAY, "timeout", str(PATIENCE)], folder)
+    said = rattle("check", crate, [*words, "--allow-holes"], [*GIVING_WAY, "timeout", str(PATIENCE)], folder)
     return said, dict(re.findall(r"^fn (\S+): (.*)", said.text, re.M))
+
+
+def forget_answers(folder, said):
+    """Takes the answers away of which the prover says that their goals are gone, and tells whether there were any."""
+    gone = [(folder / file, goal) for file, goal in set(GONE.findall(said))]
+    for file, goal in gone:
+        file.write_text(without(file.read_text(), goal))
+    return bool(gone)
+
+
+def without(text, goal):
+    """Answers without the one to this goal: its signature at the margin, and the lines from there to the next."""
+    left, is_of_goal = [], False
+    for line in text.splitlines(keepends=True):
+        if line[:1].strip():
+            is_of_goal = re.sub("^pub ", "", line).startswith(f"{goal} ")
+        left += [] if is_of_goal else [line]
+    return "".join(left)
 
 
 def is_open(function, said, output):
@@ -117,8 +139,10 @@ def is_open(function, said, output):
     words = said.get(function, "")
     if "`search` did not prove" in words:
         return True
-    folder = "./proofs/" + function.split("::", 1)[1].replace("::", "/") + "/"
-    errors = [line for line in output.splitlines() if line.startswith(folder) and ": error: " in line]
+    # The answers of a function that calls itself stand in a folder of its cycle, which the prover names.
+    folders = ["./proofs/" + name.replace(".", "/") + "/" for name in re.findall(r"`Rattle\.\w+\.proofs\.([^`]+)\.Answers\.", words)]
+    folders.append("./proofs/" + function.split("::", 1)[1].replace("::", "/") + "/")
+    errors = [line for line in output.splitlines() if line.startswith(tuple(folders)) and ": error: " in line]
     return "which antt refuses" in words and any(not SHAPE.search(line) for line in errors)
 
 
@@ -136,8 +160,11 @@ def is_refused(functions, of, said):
 def try_together(batch, scratch):
     """Makes edits of different functions together, and where they do not compile each half of them by itself; answers what came of it, and
     which are not refused."""
-    with copy_of(batch[0].crate, scratch) as folder:
-        said, of = check(batch, folder, kept_of(batch[0].crate), set().union(*[edit.functions for edit in batch]))
+    crate = batch[0].crate
+    with copy_of(crate, scratch) as folder:
+        for edit in batch:
+            edit.apply(folder)
+        said, of = check(crate, folder, kept_of(crate), set().union(*[edit.functions for edit in batch]))
     if not of and len(batch) > 1:
         halves = [try_together(half, scratch) for half in (batch[: len(batch) // 2], batch[len(batch) // 2 :])]
         return said.processor + halves[0][0] + halves[1][0], halves[0][1] + halves[1][1]
@@ -145,19 +172,35 @@ def try_together(batch, scratch):
 
 
 def try_alone(edit, scratch, at):
-    """Makes one edit, for which a goal of these functions counts, or else of any."""
-    with copy_of(edit.crate, scratch, with_kept=True) as folder:
-        said, of = check([edit], folder, folder / "kept", at)
-    opened = [name for name in of if is_open(name, of, said.text)]
-    name = f"{edit.crate}/{edit.name}"
+    """Makes one edit, for which a goal of these functions counts, or else of any. An answer to a goal that is gone says nothing of those that are
+    there, so they are tried without it."""
+    crate, name, processor = edit.crate, f"{edit.crate}/{edit.name}", 0 if at else keep_whole(edit.crate)
+    with copy_of(crate, scratch, with_kept=True) as folder:
+        edit.apply(folder)
+        said, of = check(crate, folder, folder / "kept", at)
+        processor += said.processor
+        while forget_answers(folder, said.text):
+            said, of = check(crate, folder, folder / "kept", at)
+            processor += said.processor
     if at and not is_refused(at, of, said):
-        return Outcome(processor=said.processor, more=[alone_job(edit, scratch, set())])
+        return Outcome(processor=processor, more=[alone_job(edit, scratch, set())])
     if not of or said.status not in (0, 1):
-        return Outcome(failed=1, said=f"FAILED {name}: BAD EDIT: it did not reach the prover: {said.text[-300:]}", processor=said.processor)
+        return Outcome(failed=1, said=f"FAILED {name}: BAD EDIT: it did not reach the prover: {said.text[-300:]}", processor=processor)
     if all(it == "proved" for it in of.values()):
-        return Outcome(failed=1, said=f"FAILED {name}: NOT REFUSED: the crate is still proved with it", processor=said.processor)
-    by = f"at {', '.join(opened)}" if opened else "only as a proof file names what it took away"
-    return Outcome(passed=1, said=f"{name}: refused alone, {by}", processor=said.processor)
+        return Outcome(failed=1, said=f"FAILED {name}: NOT REFUSED: the crate is still proved with it", processor=processor)
+    opened = [one for one in of if is_open(one, of, said.text)]
+    lemmas = sorted({file for file, why in ERROR.findall(said.text) if not SHAPE.search(why)})
+    by = f"at {', '.join(opened)}" if opened else f"in {', '.join(lemmas)}" if lemmas else "only as a proof file names what it took away"
+    return Outcome(passed=1, said=f"{name}: refused alone, {by}", processor=processor)
+
+
+def keep_whole(crate):
+    """Proves the rest of a crate over what is kept of it, once for all edits that are tried over the whole of it; answers the processor seconds."""
+    with LOCKS[crate]:
+        if crate in WHOLE:
+            return 0
+        WHOLE.add(crate)
+        return rattle("check", crate, ["--incremental", str(kept_of(crate))], GIVING_WAY).processor
 
 
 def alone_job(edit, scratch, at):
@@ -196,10 +239,7 @@ def tries_of(edits, scratch):
         left, processor = left + shown, processor + took
     if together:
         said.append(f"{edits[0].crate}: {len(together) - len(left)} of {len(together)} edits refused together")
-    if any(not edit.at for edit in alone + left):
-        # What these are tried over, all of the crate, is proved once for all of them.
-        processor += rattle("check", edits[0].crate, ["--incremental", str(kept_of(edits[0].crate))], GIVING_WAY).processor
-    jobs = [alone_job(edit, scratch, edit.at) for edit in alone + left]
+    jobs = [alone_job(edit, scratch, edit.at or edit.functions or set()) for edit in alone + left]
     return Outcome(len(together) - len(left), len(bad), "\n".join(said), processor, jobs)
 
 

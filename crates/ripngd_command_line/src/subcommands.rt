@@ -1,6 +1,7 @@
 //! The command that the program's words are given to, and its subcommands.
 
-ghost use Rattle.std.specs.Prelude.{IfOk};
+ghost use Rattle.std.specs.Prelude.{IfOk, codes};
+ghost use Rattle.clap.specs.Simple.{App, with_subcommand};
 ghost use Rattle.ripngd_command_line.specs.CommandLine.{IsCommand, ctl_command, lab_command, one_argument, page_command, ripngd, run_command};
 
 use crate::help;
@@ -93,41 +94,73 @@ fn page<'a>(alloc: Global) -> Result<Command<'a>, AllocError>
         .arg(film(alloc))
 }
 
+/// `show HEX`.
+fn show<'a>(alloc: Global) -> Result<Command<'a>, AllocError>
+    ensures { IfOk result (λ c. IsCommand c (one_argument (codes "show") (codes "HEX"))) }
+{
+    with_one(
+        alloc,
+        "show",
+        "Decode one datagram, given as hexadecimal digits",
+        help::SHOW,
+        "HEX",
+        "Its bytes, two digits of either case for each",
+    )
+}
+
+/// `check CONFIG`.
+fn check<'a>(alloc: Global) -> Result<Command<'a>, AllocError>
+    ensures { IfOk result (λ c. IsCommand c (one_argument (codes "check") (codes "CONFIG"))) }
+{
+    with_one(
+        alloc,
+        "check",
+        "Read a configuration, and say whether a router can run on it",
+        help::CHECK,
+        "CONFIG",
+        "The file that holds it",
+    )
+}
+
+/// `table LOG`.
+fn table<'a>(alloc: Global) -> Result<Command<'a>, AllocError>
+    ensures { IfOk result (λ c. IsCommand c (one_argument (codes "table") (codes "LOG"))) }
+{
+    with_one(
+        alloc,
+        "table",
+        "Print the forwarding table that a log makes, also while its router runs",
+        help::TABLE,
+        "LOG",
+        "The file that `run -R` writes it to",
+    )
+}
+
+/// A command with a subcommand more.
+fn with<'a>(
+    command: Command<'a>,
+    subcommand: Result<Command<'a>, AllocError>,
+) -> Result<Command<'a>, AllocError>
+    ensures { (app inner : App) → IsCommand command.entry app → IfOk subcommand.entry (λ c. IsCommand c inner)
+        → IfOk result (λ c. IsCommand c (with_subcommand app inner.top)) }
+{
+    command.subcommand(subcommand?)
+}
+
 /// The command that the program's words are given to.
 pub(crate) fn command<'a>(alloc: Global) -> Result<Command<'a>, AllocError>
     ensures { IfOk result (λ c. IsCommand c ripngd) }
 {
-    Command::new(alloc, "ripngd")
+    let command = Command::new(alloc, "ripngd")
         .about("A router for RIPng, the distance vector protocol of IPv6 (RFC 2080)")
         .after_help(help::PROGRAM)
         .version(help::VERSION)
-        .subcommand_required(true)
-        .subcommand(with_one(
-            alloc,
-            "show",
-            "Decode one datagram, given as hexadecimal digits",
-            help::SHOW,
-            "HEX",
-            "Its bytes, two digits of either case for each",
-        )?)?
-        .subcommand(with_one(
-            alloc,
-            "check",
-            "Read a configuration, and say whether a router can run on it",
-            help::CHECK,
-            "CONFIG",
-            "The file that holds it",
-        )?)?
-        .subcommand(lab(alloc)?)?
-        .subcommand(run(alloc)?)?
-        .subcommand(with_one(
-            alloc,
-            "table",
-            "Print the forwarding table that a log makes, also while its router runs",
-            help::TABLE,
-            "LOG",
-            "The file that `run -R` writes it to",
-        )?)?
-        .subcommand(page(alloc)?)?
-        .subcommand(ctl(alloc)?)
+        .subcommand_required(true);
+    let command = with(command, show(alloc))?;
+    let command = with(command, check(alloc))?;
+    let command = with(command, lab(alloc))?;
+    let command = with(command, run(alloc))?;
+    let command = with(command, table(alloc))?;
+    let command = with(command, page(alloc))?;
+    with(command, ctl(alloc))
 }
