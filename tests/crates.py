@@ -63,6 +63,11 @@ def work_of(crate):
     return 30 + 2 * (written + derived) + sum(text.count(b"\n") for text in texts) // 40
 
 
+def test_work_of(crate):
+    """The same of its tests, which are proved with it: fifteen more for each."""
+    return work_of(crate) + 15 * sum(file.read_bytes().count(b"#[test]") for file in files_of(crate))
+
+
 def is_program(crate):
     return (folder_of(crate) / "src/main.rt").is_file()
 

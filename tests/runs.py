@@ -7,7 +7,7 @@ import shutil
 import subprocess
 import tempfile
 
-from crates import folder_of, has_tests, is_program, libraries_of, work_of
+from crates import folder_of, has_tests, is_program, libraries_of, test_work_of
 from jobs import Job, Outcome
 from kit import KIT, build_program
 
@@ -83,7 +83,7 @@ def runs_of(crates):
                 return Outcome(failed=1, said=f"{said.text}\nFAILED tests of {crate}: {said.fault}", processor=said.processor)
             return Outcome(passed=1, said=f"tests of {crate} passed", processor=said.processor)
 
-        return Job(("tests", crate), call_tests, tuple(("proof", one) for one in libraries_of(crate)), work_of(crate))
+        return Job(("tests", crate), call_tests, tuple(("proof", one) for one in libraries_of(crate)), test_work_of(crate))
 
     def run_of(crate):
         def call_run(_begins, _processes):
