@@ -117,11 +117,14 @@ def check(crate, folder, kept, functions):
 
 
 def forget_answers(folder, said):
-    """Takes the answers away of which the prover says that their goals are gone, and tells whether there were any."""
-    gone = [(folder / file, goal) for file, goal in set(GONE.findall(said))]
-    for file, goal in gone:
-        file.write_text(without(file.read_text(), goal))
-    return bool(gone)
+    """Takes the answers away of which the prover says that their goals are gone, and tells whether any was there."""
+    is_changed = False
+    for file, goal in set(GONE.findall(said)):
+        before = (folder / file).read_text()
+        after = without(before, goal)
+        (folder / file).write_text(after)
+        is_changed |= after != before
+    return is_changed
 
 
 def without(text, goal):
