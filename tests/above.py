@@ -1,5 +1,5 @@
 #!/usr/bin/env python3
-"""Proves a crate and all crates above it, and runs their tests and programs: what a change of the crate may have broken.
+"""Proves a crate and all crates above it, and runs tests and programs of them all: what a change of the crate may have broken.
 
     tests/above.py CRATE
 
@@ -9,7 +9,7 @@ What lies below is proved first, where that was not done here. A line tells of e
 import sys
 
 from build import proofs_of
-from crates import NAMED, above
+from crates import NAMED, above, is_of_tests
 from jobs import run_all
 from runs import runs_of
 
@@ -18,7 +18,8 @@ def main(crate):
     if crate not in NAMED:
         sys.exit(f"crates.txt has no crate {crate}")
     crates = [crate, *above(crate)]
-    passed, failed = run_all(proofs_of(crates, crates) + runs_of(crates))
+    proved = [one for one in crates if not is_of_tests(one)]
+    passed, failed = run_all(proofs_of(proved, proved) + runs_of(crates))
     print(f"{passed} passed, {failed} failed")
     return 1 if failed else 0
 

@@ -34,19 +34,19 @@ def functions_of(crate):
     return (folder_of(crate) / "out" / FUNCTIONS).read_text().split()
 
 
-def prove(crate, begins, processes):
+def prove(crate, flags, begins):
     """Proves and builds a crate."""
     out = folder_of(crate) / "out"
     out.mkdir(exist_ok=True)
-    said = build_program(crate, out / crate, begins, processes) if is_program(crate) else prove_library(crate, begins, processes)
+    said = build_program(crate, out / crate, flags, begins) if is_program(crate) else prove_library(crate, flags, begins)
     if said.fault is None and not is_laid_out(crate):
         said.fault = "run rt fmt in its folder"
     return said
 
 
-def proofs_of(wanted, urgent, most=CORES - 1):
+def proofs_of(wanted, urgent, most=CORES - 1, flags=()):
     """The jobs that prove crates and all below them, where they are not proved as they stand; of the wanted ones some are waited for. A long
-    crate has so many processes at most."""
+    crate has so many processes at most, and the prover gets these flags."""
     crates = in_order(one for one in NAMED if any(one == it or one in below(it) for it in wanted))
     sums, ways = sums_of(crates), {}
     for crate in reversed(crates):
@@ -59,7 +59,7 @@ def proofs_of(wanted, urgent, most=CORES - 1):
             file = folder_of(crate) / "out" / SUM
             if file.is_file() and file.read_text() == sums[crate]:
                 return Outcome(passed=1)
-            said = prove(crate, begins, processes)
+            said = prove(crate, [*flags, "--jobs", str(processes)], begins)
             if said.fault:
                 return Outcome(failed=1, said=f"{said.text}\nFAILED {crate}: {said.fault}", processor=said.processor)
             (file.parent / FUNCTIONS).write_text("".join(f"{name}\n" for name in re.findall(r"^fn (\S+): proved", said.text, re.M)))

@@ -14,6 +14,8 @@ def named_of_all():
 
 
 NAMED = named_of_all()
+# Crates that test others, but do so much that they are proved and built for it: with a check in the place of each proof they run for minutes.
+RUNS_LONG = {"test_mutated"}
 
 
 def folder_of(crate):
@@ -63,9 +65,9 @@ def work_of(crate):
     return 30 + 2 * (written + derived) + sum(text.count(b"\n") for text in texts) // 40
 
 
-def test_work_of(crate):
-    """The same of its tests, which are proved with it: fifteen more for each."""
-    return work_of(crate) + 15 * sum(file.read_bytes().count(b"#[test]") for file in files_of(crate))
+def is_of_tests(crate):
+    """Whether a crate only tests others, and is run without a proof."""
+    return crate.startswith("test_") and crate not in RUNS_LONG
 
 
 def is_program(crate):

@@ -59,11 +59,11 @@ class Said:
     fault: str | None = None
 
 
-def call(command, folder, begins=()):
-    """Runs a command of the kit in a folder."""
-    with subprocess.Popen([*begins, *command], cwd=folder, stdin=subprocess.DEVNULL, stdout=subprocess.PIPE, stderr=subprocess.STDOUT,
-                          text=True, errors="replace") as started:
-        text = started.stdout.read()
+def call(command, folder, begins=(), stdin=subprocess.DEVNULL, stdout=None):
+    """Runs a command of the kit in a folder. What it says is one text, unless its output goes to a file."""
+    outputs = {"stdout": stdout, "stderr": subprocess.PIPE} if stdout else {"stdout": subprocess.PIPE, "stderr": subprocess.STDOUT}
+    with subprocess.Popen([*begins, *command], cwd=folder, stdin=stdin, **outputs, text=True, errors="replace") as started:
+        text = (started.stderr if stdout else started.stdout).read()
         _, status, took = os.wait4(started.pid, 0)
         started.returncode = os.waitstatus_to_exitcode(status)
     return Said(started.returncode, text, took.ru_utime + took.ru_stime)
@@ -73,16 +73,15 @@ def rattle(verb, crate, flags, begins=(), folder=None):
     return call([f"{KIT}/bin/rattle", verb, *words_of(crate), *flags], folder or folder_of(crate), begins)
 
 
-def fault_of(said, is_of_tests=False):
-    """Why what the prover said is no verdict, or None where it is one. What it takes of the system has to be allowed by HANDLES; tests may
-    end their process, too."""
+def fault_of(said):
+    """Why what the prover said is no verdict, or None where it is one. What it takes of the system has to be allowed by HANDLES."""
     lines = [line for line in said.splitlines() if line.startswith("logic=")]
     verdict = lines and VERDICT.fullmatch(lines[-1])
     if not verdict:
         return f"it is not proved: {lines[-1] if lines else 'there is no verdict'}"
     words = dict(word.partition("=")[::2] for word in verdict["words"].split())
-    takes = {word for word in words.get("main", "").split("+") if word} - HANDLES - ({"Abort"} if is_of_tests else set())
-    refused = set() if is_of_tests else REFUSED.intersection(words)
+    takes = {word for word in words.get("main", "").split("+") if word} - HANDLES
+    refused = REFUSED.intersection(words)
     if takes or refused:
         return f"its verdict has {' '.join(sorted(takes | refused))}"
     warning = WARNED.search(said)
@@ -103,18 +102,16 @@ def is_laid_out(crate):
         return all(copy.read_bytes() == text for copy, text in before.items())
 
 
-def prove_library(crate, begins, processes):
+def prove_library(crate, flags, begins):
     """Proves a library from nothing, and keeps its statements."""
     library_of(crate).parent.mkdir(parents=True, exist_ok=True)
-    flags = ["--empty-contracts", "--jobs", str(processes), "--statements", "-o", str(library_of(crate))]
-    return judged(rattle("build", crate, flags, begins))
+    return judged(rattle("build", crate, [*flags, "--statements", "-o", str(library_of(crate))], begins))
 
 
-def build_program(crate, to, begins, processes, is_of_tests=False):
-    """Proves a program, or the tests of a crate as one, from nothing, and links it."""
-    flags = ["--test"] if is_of_tests else ["--empty-contracts"]
-    flags += ["--jobs", str(processes), "--toolchain", f"{KIT}/toolchain", "--backend", "llvm", "-o", f"{to}.o"]
-    said = judged(rattle("build", crate, flags, begins), is_of_tests)
+def build_program(crate, to, flags, begins):
+    """Proves a program from nothing, and links it."""
+    compiling = ["--toolchain", f"{KIT}/toolchain", "--backend", "llvm", "-o", f"{to}.o"]
+    said = judged(rattle("build", crate, [*flags, *compiling], begins))
     if said.fault is None:
         linking = ["--target", "x86_64-unknown-linux-gnu", "--toolchain", f"{KIT}/toolchain", "-o", str(to), f"{to}.o"]
         linked = call([f"{KIT}/bin/rattle-link", *linking, f"{KIT}/c/libos_c.a", f"{KIT}/c/liblibc_c.a"], folder_of(crate), begins)
@@ -124,6 +121,6 @@ def build_program(crate, to, begins, processes, is_of_tests=False):
     return said
 
 
-def judged(said, is_of_tests=False):
-    said.fault = fault_of(said.text, is_of_tests) or (f"the prover ended with status {said.status}" if said.status else None)
+def judged(said):
+    said.fault = fault_of(said.text) or (f"the prover ended with status {said.status}" if said.status else None)
     return said

@@ -1,5 +1,9 @@
-"""Tests and programs of crates, run as the gate runs them: `#[test]` functions proved and run, and each program on a copy of its data,
-as nobody where that can be, held to what the files beside its sources say."""
+"""Tests and programs of crates, run as the gate runs them, and held to what the files beside their sources say.
+
+Nothing rests on what only tests: a crate for it, whose name begins with `test_`, or a `#[test]` function. So these are not proved, but
+compiled from the sources as they stand, with a check in the place of each proof (of an index, an overflow, an `unwrap`, an access to memory),
+and run. What they call is proved, in the same run of the gate. Other programs are run as they were proved and built, on a copy of their data,
+as nobody where that can be."""
 
 import os
 import re
@@ -7,12 +11,14 @@ import shutil
 import subprocess
 import tempfile
 
-from crates import folder_of, has_tests, is_program, libraries_of, test_work_of
+from crates import folder_of, has_tests, is_of_tests, is_program
 from jobs import Job, Outcome
-from kit import KIT, build_program
+from kit import call, is_laid_out
 
-# Seconds that a program may take, and a test.
-LIMIT, TEST_LIMIT = 120, 60
+# Roughly the processor seconds of a run that is compiled first.
+TRY_WORK = 60
+# Seconds that a program may take, and one with a check in the place of each proof.
+LIMIT, TRY_LIMIT = 120, 600
 AS_NOBODY = ["setpriv", "--reuid=65534", "--regid=65534", "--clear-groups", "--no-new-privs"] if os.geteuid() == 0 else []
 
 
@@ -42,54 +48,75 @@ class Room:
         return subprocess.run([*AS_NOBODY, *words], cwd=self.data, env=env, **how)
 
 
-def tests_said(crate, begins, processes):
-    """Proves and runs a crate's tests; a test that does not pass is a fault."""
-    with Room() as room:
-        tests = f"{room.folder.name}/{crate}_tests"
-        said = build_program(crate, tests, begins, processes, is_of_tests=True)
-        if said.fault is None:
-            ran = room.run([*begins, f"{KIT}/bin/rattle-test", "--seconds", str(TEST_LIMIT), tests], stdin=subprocess.DEVNULL,
-                           stdout=subprocess.PIPE, stderr=subprocess.STDOUT, text=True, errors="replace")
-            passes = ran.returncode == 0 and re.search(r"^test result: ok\. [1-9]", ran.stdout, re.M)
-            said.text, said.fault = said.text + ran.stdout, None if passes else "its tests did not pass"
-    return said
+def tried(crate, words, begins):
+    """Runs a crate's program or its tests as the sources stand."""
+    with tempfile.TemporaryFile() as stdin, tempfile.TemporaryFile() as stdout:
+        stdin.write(given(crate, "stdin"))
+        stdin.seek(0)
+        said = call(["rt", "try", "--steps", "1", "--seconds", str(TRY_LIMIT), *words], folder_of(crate), begins, stdin, stdout)
+        stdout.seek(0)
+        return said, stdout.read()
 
 
-def fault_of_run(crate):
-    """Runs a proved program, and answers what it did otherwise than its files say, or None."""
+def fault_of_layout(crate, _begins):
+    """The processor seconds that are counted, and what is to be done about how a crate is laid out, or None."""
+    return 0, None if is_laid_out(crate) else "run rt fmt in its folder"
+
+
+def fault_of_tests(crate, begins):
+    """Runs a crate's tests, and answers the processor seconds, and what was otherwise than it has to be, or None."""
+    said, wrote = tried(crate, ["--test"], begins)
+    passes = said.status == 0 and re.search(rb"^test result: ok\. [1-9]", wrote, re.M)
+    return said.processor, None if passes else f"{wrote.decode(errors='replace')}{said.text}its tests did not pass"
+
+
+def fault_of_try(crate, begins):
+    """The same of a program that tests others."""
+    data = folder_of(crate) / "data"
+    names = sorted(file.name for file in data.iterdir()) if data.is_dir() else []
+    words = [word for name in names for word in ("--data", f"{name}=data/{name}")]
+    said, wrote = tried(crate, [*words, "--", *given(crate, "args").decode().splitlines()], begins)
+    return said.processor, fault_of_end(crate, said.status, said.text, wrote)
+
+
+def fault_of_run(crate, begins):
+    """The same of a program that is proved."""
     with Room() as room:
         if (folder_of(crate) / "data").is_dir():
             shutil.copytree(folder_of(crate) / "data", room.data, dirs_exist_ok=True)
         program = shutil.copy2(folder_of(crate) / "out" / crate, f"{room.folder.name}/{crate}")
-        ran = room.run(["timeout", "-k", "1", str(LIMIT), program, *given(crate, "args").decode().splitlines()],
+        ran = room.run([*begins, "timeout", "-k", "1", str(LIMIT), program, *given(crate, "args").decode().splitlines()],
                        input=given(crate, "stdin"), capture_output=True)
+    return 0, fault_of_end(crate, ran.returncode, ran.stderr.decode(errors="replace"), ran.stdout)
+
+
+def fault_of_end(crate, ended, said, wrote):
+    """What a program did otherwise than its files say, or None."""
     status = int(given(crate, "status") or b"0")
-    if ran.returncode != status:
-        return f"it ended with status {ran.returncode}, not {status}: {ran.stderr.decode(errors='replace')[-600:]}"
-    if ran.stdout != given(crate, "stdout"):
-        wrote, wanted = ran.stdout.splitlines(), given(crate, "stdout").splitlines()
+    if ended != status:
+        return f"it ended with status {ended}, not {status}: {said[-600:]}"
+    if wrote != given(crate, "stdout"):
+        wrote, wanted = wrote.splitlines(), given(crate, "stdout").splitlines()
         line = next((at for at, both in enumerate(zip(wrote, wanted)) if both[0] != both[1]), min(len(wrote), len(wanted)))
         return f"line {line + 1} of what it wrote is {wrote[line : line + 1]}, and not {wanted[line : line + 1]}"
     return None
 
 
 def runs_of(crates):
-    """The jobs that prove and run the tests of crates, and that run programs, each once what it stands on is proved."""
+    """The jobs that run the tests of crates, and programs: a proved one once it stands, others at any time. What is not proved has to be laid
+    out, too."""
 
-    def tests_of(crate):
-        def call_tests(begins, processes):
-            said = tests_said(crate, begins, processes)
-            if said.fault:
-                return Outcome(failed=1, said=f"{said.text}\nFAILED tests of {crate}: {said.fault}", processor=said.processor)
-            return Outcome(passed=1, said=f"tests of {crate} passed", processor=said.processor)
+    def job_of(kind, crate, fault_of, needs=()):
+        def call_run(begins, _processes):
+            processor, fault = fault_of(crate, begins)
+            if fault:
+                return Outcome(failed=1, said=f"FAILED {kind} of {crate}: {fault}", processor=processor)
+            return Outcome(passed=1, said=f"{kind} of {crate} passed", processor=processor)
 
-        return Job(("tests", crate), call_tests, tuple(("proof", one) for one in libraries_of(crate)), test_work_of(crate))
+        return Job((kind, crate), call_run, needs, TRY_WORK)
 
-    def run_of(crate):
-        def call_run(_begins, _processes):
-            fault = fault_of_run(crate)
-            return Outcome(failed=1, said=f"FAILED run of {crate}: {fault}") if fault else Outcome(passed=1, said=f"{crate} ran")
-
-        return Job(("run", crate), call_run, (("proof", crate),))
-
-    return [tests_of(one) for one in crates if has_tests(one)] + [run_of(one) for one in crates if is_program(one)]
+    tests = [job_of("tests", one, fault_of_tests) for one in crates if has_tests(one)]
+    programs = [one for one in crates if is_program(one)]
+    tries = [job_of("run", one, fault_of_try) for one in programs if is_of_tests(one)]
+    layouts = [job_of("layout", one, fault_of_layout) for one in crates if is_of_tests(one)]
+    return layouts + tests + tries + [job_of("run", one, fault_of_run, (("proof", one),)) for one in programs if not is_of_tests(one)]

@@ -7,6 +7,7 @@ ghost use Rattle.ripngd_page.specs.Serving.{counts_as_answered, next_after, pati
 use crate::page::{BODY_LIMIT, Page};
 use crate::refusing::{TOO_SLOW, answer_to};
 use http_server::{Config, Connection, Reason, State};
+use std::alloc::Global;
 use std::hash::RandomState;
 use std::io::{self, ErrorKind, Read, Write};
 use std::net::{OpenStream, Shutdown};
@@ -88,20 +89,25 @@ impl<S: Read + Write + OpenStream + Drop> Guest<S> {
         rt: &R,
         stream: S,
     ) -> io::Result<Guest<S>> {
-        stream.set_read_timeout(Some(Duration::from_millis(TURN)))?;
-        stream.set_write_timeout(Some(Duration::from_millis(TURN)))?;
+        set_patience(&stream)?;
+        let keys = RandomState::new(rt)?;
+        let since = Instant::now(rt)?;
+        Ok(Guest::begun(rt.alloc(), stream, keys, since))
+    }
+
+    /// A connection that begins at a moment.
+    fn begun(alloc: Global, stream: S, keys: RandomState, since: Instant) -> Guest<S> {
         let config = Config {
             max_body_len: BODY_LIMIT,
             ..Config::default()
         };
-        let keys = RandomState::new(rt)?;
-        Ok(Guest {
+        Guest {
             stream,
-            connection: Connection::new(rt.alloc(), keys, config),
+            connection: Connection::new(alloc, keys, config),
             stage: Stage::Hearing,
-            since: Instant::now(rt)?,
+            since,
             has_begun: false,
-        })
+        }
     }
 
     /// Goes on where the connection stands, for a moment.
@@ -224,6 +230,12 @@ impl<S: Read + Write + OpenStream + Drop> Guest<S> {
             _ => Ok(Next::Wait),
         }
     }
+}
+
+/// Has reads and writes of a stream wait for no longer than a turn.
+fn set_patience<S: OpenStream>(stream: &S) -> io::Result<()> {
+    stream.set_read_timeout(Some(Duration::from_millis(TURN)))?;
+    stream.set_write_timeout(Some(Duration::from_millis(TURN)))
 }
 
 /// What follows a read or a write that failed: nothing, where it only had to wait.

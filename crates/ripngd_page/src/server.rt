@@ -121,15 +121,18 @@ impl<'a, R: AllocGlobal + Clock + Net + RandomSource> Server<'a, R> {
 
     /// Gives the first connection its turn, and answers whether it ended with something that was answered.
     fn turn(&mut self) -> bool {
-        let Some(mut guest) = self.guests.pop_front() else {
+        let Some(guest) = self.guests.front_mut() else {
             return false;
         };
-        match guest.turn(self.rt, &mut self.page) {
-            Turn::Open => {
-                let _ = self.guests.push_back(guest);
-                false
+        let turn = guest.turn(self.rt, &mut self.page);
+        // It is the last one then, and is cut off there where it has ended.
+        self.guests.rotate_left(1);
+        match turn {
+            Turn::Open => false,
+            Turn::Ended { answered } => {
+                self.guests.truncate(self.guests.len().saturating_sub(1));
+                answered
             }
-            Turn::Ended { answered } => answered,
         }
     }
 }
