@@ -1,6 +1,6 @@
 //! What fails outside the program, and what standard error says of it.
 
-ghost use Rattle.std.specs.Prelude.{◌≡◌, ◌≢◌, OnOk, Some};
+ghost use Rattle.std.specs.Prelude.{◌≡◌, ◌≢◌, ◌⊎◌, OnOk, Some};
 ghost use Rattle.std.specs.Io.KnownBytes.{Appends};
 ghost use Rattle.std.specs.IoError.{error_kind};
 ghost use Rattle.ripngd_daemon.specs.Faults.{failure_of, failure_of_engine, failure_of_link};
@@ -92,6 +92,7 @@ pub fn write_failure<W: Write>(failure: Failure<'_>, err: &mut W) -> io::Result<
 pub(crate) fn failed<'a>(tried: Failure<'a>, error: &io::Error) -> Failure<'a>
     ensures memory { error_kind error.now ≡ ErrorKind.OutOfMemory → result ≡ failures.OutOfMemory }
     ensures other { error_kind error.now ≢ ErrorKind.OutOfMemory → result ≡ tried.entry }
+    ensures either { (result ≡ failures.OutOfMemory) ⊎ (result ≡ tried.entry) }
 {
     match error.kind() {
         ErrorKind::OutOfMemory => Failure::OutOfMemory,
