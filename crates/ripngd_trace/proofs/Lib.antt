@@ -6,4 +6,5 @@ pub mod Reading
 pub mod Showing
 pub mod Starting
 pub mod Telling
+pub mod Told
 pub mod Tracing

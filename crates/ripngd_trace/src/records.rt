@@ -136,14 +136,14 @@ pub struct SenderRecord {
 }
 
 /// The fault of an arrival, by the tables of docs/PROTOCOL.md.
-#[derive(Clone, Copy, Debug, PartialEq, Eq, Serialize)]
+#[derive(Clone, Copy, Serialize)]
 pub struct FaultRecord {
     pub number: u8,
     pub name: &'static str,
 }
 
 /// Why an entry of a Response was skipped.
-#[derive(Clone, Copy, Debug, PartialEq, Eq, Serialize)]
+#[derive(Clone, Copy, Serialize)]
 pub struct NoteRecord {
     pub entry: usize,
     pub number: u8,
@@ -151,7 +151,7 @@ pub struct NoteRecord {
 }
 
 /// An offer, and the row of the table of adoption that it fell under (RFC 2080, section 2.4.2).
-#[derive(Clone, Copy, Debug, PartialEq, Eq, Serialize)]
+#[derive(Clone, Copy, Serialize)]
 pub struct OfferRecord {
     /// The entry that offers it.
     pub entry: usize,
@@ -168,7 +168,7 @@ pub struct OfferRecord {
 }
 
 /// Which update was due at a tick (RFC 2080, sections 2.3 and 2.5.1).
-#[derive(Clone, Copy, Debug, PartialEq, Eq, Serialize)]
+#[derive(Clone, Copy, Serialize)]
 #[serde(rename_all = "lowercase")]
 pub enum UpdateRecord {
     /// It told all routes.
@@ -286,7 +286,7 @@ pub struct PrintRecord<'a> {
 }
 
 /// A line said that a datagram is lost.
-#[derive(Clone, Copy, Debug, PartialEq, Eq, Serialize)]
+#[derive(Clone, Copy, Serialize)]
 pub struct LostRecord {
     pub line: usize,
     pub record: &'static str,
@@ -294,7 +294,7 @@ pub struct LostRecord {
 }
 
 /// A line has made so many phases.
-#[derive(Clone, Copy, Debug, PartialEq, Eq, Serialize)]
+#[derive(Clone, Copy, Serialize)]
 pub struct PhasesRecord {
     pub line: usize,
     pub record: &'static str,

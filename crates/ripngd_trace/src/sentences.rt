@@ -7,7 +7,7 @@ use router_core::Reason;
 use std::fmt::{self, Display, Formatter, Write};
 
 /// A moment, in seconds.
-#[derive(Clone, Copy, Debug, PartialEq, Eq)]
+#[derive(Clone, Copy)]
 pub struct Seconds(pub u64);
 
 impl Display for Seconds {

@@ -33,7 +33,7 @@ pub fn as_texts<T: Display, S: Serializer>(values: &Vec<T>, out: &mut S) -> Resu
 }
 
 /// A value that is written as the text that it prints.
-#[derive(Clone, Copy, Debug, PartialEq, Eq)]
+#[derive(Clone, Copy)]
 pub struct Shown<T>(pub T);
 
 impl<T> Described for Shown<T> {}
