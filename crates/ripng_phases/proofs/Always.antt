@@ -4,6 +4,7 @@ use Rattle.prefix6.specs.Prefix.{Prefix6}
 use Rattle.ripng_world.specs.Healing.{AreHealed}
 use Rattle.ripng_world.specs.Network.{Network}
 use Rattle.ripng_world.specs.World.{World}
+use Rattle.ripng_world.proofs.HealMany.{AreToGateways}
 use Rattle.ripng_phases.specs.Phases.{Step, Before, before_next}
 use Rattle.ripng_phases.proofs.Bounding.{TablesAbove}
 use Rattle.ripng_phases.proofs.Calm.{at_last}
@@ -34,10 +35,10 @@ module _ (net : Network) (known : Prefix6 → Type 0) (positive : IsPositive net
       shift a b = omega arith
 
   -- while that goes on, all stays found, and above what no walk backs
-  begun_healed : (f : ℕ) (past : Before) (w : World) (since : List Step) (end : World) → 14 ≤ f → IsHealing net known positive f past w → IsCalmPart net known past w since end → AreHealed net end
-  begun_healed f past w since end many now part =
+  begun_healed : (f : ℕ) (past : Before) (w : World) (since : List Step) (end : World) → 14 ≤ f → IsHealing net known positive f past w → IsCalmPart net known past w since end → AreToGateways end → AreHealed net end
+  begun_healed f past w since end many now part to_gateways =
       healed net end (λ router p metric tag walk reach few low. found router p metric tag walk reach (le_trans few (fifteen f many)) low)
-      (λ router p r at low. above_to net (f + 2 + 1) 16 router p r.metric (sixteen f many) (tables router p r at low))
+      (λ router p r at low. above_to net (f + 2 + 1) 16 router p r (sixteen f many) (tables router p r at low)) to_gateways
     where
       fifteen : (f : ℕ) → 14 ≤ f → 15 ≤ f + 1
       fifteen f e = omega arith
@@ -61,8 +62,8 @@ module _ (net : Network) (known : Prefix6 → Type 0) (positive : IsPositive net
       tables : TablesAbove net end (f + 2 + 1)
       tables = at_last net known past w since end part (λ v. TablesAbove net v (f + 2 + 1)) (λ b a parts. (low_at net known positive past w since end part (f + 2) now.kept.held now.said b a parts).tables)
 
-  pub heals_always : (phases : List (List Step)) (since : List Step) (past : Before) (w end : World) → 28 ≤ length phases → CalmBegun net known past w phases since end → AreHealed net end
-  heals_always phases since past w end many is = let x = after phases since 0 past w end (inl refl) is in by x x.here
+  pub heals_always : (phases : List (List Step)) (since : List Step) (past : Before) (w end : World) → 28 ≤ length phases → CalmBegun net known past w phases since end → AreToGateways end → AreHealed net end
+  heals_always phases since past w end many is to_gateways = let x = after phases since 0 past w end (inl refl) is in by x x.here
     where
       none : (n : ℕ) → 28 ≤ n → 0 + n ≡ 0 → ⊥
       none n e f = omega arith
@@ -76,4 +77,4 @@ module _ (net : Network) (known : Prefix6 → Type 0) (positive : IsPositive net
       by : (x : IsAfter (0 + length phases) since end) → IsAt net known positive (0 + length phases) x.past x.mid → AreHealed net end
       by x (inl k) = absurd (none (length phases) many k)
       by x (inr (inl k)) = absurd (not_yet (length phases) many k.1)
-      by x (inr (inr k)) = begun_healed (0 + length phases - 14) x.past x.mid since end (enough (length phases) many) k.1 x.part
+      by x (inr (inr k)) = begun_healed (0 + length phases - 14) x.past x.mid since end (enough (length phases) many) k.1 x.part to_gateways

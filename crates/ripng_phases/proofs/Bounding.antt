@@ -1,5 +1,5 @@
 -- Where each live route rests on what keeps a bound, each table keeps the next: so what no walk backs counts up.
-use Rattle.std.proofs.Common.{◌≡◌, inl, inr, ℕ, ◌+◌, ◌<◌, ◌≤◌, List, [], Some, slice_get, refl, subst, arith}
+use Rattle.std.proofs.Common.{◌≡◌, inl, inr, ℕ, ◌+◌, ◌<◌, ◌≤◌, List, [], Some, slice_get, refl, sym, subst, arith}
 use Rattle.prefix6.specs.Prefix.{Prefix6}
 use Rattle.ripng_wire.specs.declared.rte.Rte.{Rte}
 use Rattle.ripng_wire.specs.declared.rte.Command.TheVariants.{Response}
@@ -17,11 +17,11 @@ use Rattle.ripng_world.proofs.HealPlain.{IsClocked}
 use Rattle.ripng_world.proofs.Improving.{RouteAt}
 use Rattle.ripng_world.proofs.Members.{At}
 use Rattle.ripng_phases.proofs.Orderly.{IsOrderly, IsOrderlyBy}
-use Rattle.ripng_phases.proofs.Resting.{IsRestingOn, IsAbove, rests_above, rests_low}
+use Rattle.ripng_phases.proofs.Resting.{BeginsFrom, IsRestingOn, IsAbove, IsRowAbove, rests_above, rests_low}
 
--- each route below infinity is the bound or more, or backed by a walk that is no dearer
+-- each route below infinity is the bound or more, or backed by a walk that is no dearer and begins by its gateway
 abbrev pub TablesAbove : Network → World → ℕ → Type 0
-TablesAbove net w m = (router : ℕ) (p : Prefix6) (r : RouteValue) → RouteAt w router p r → r.metric < infinity → IsAbove net m router p r.metric
+TablesAbove net w m = (router : ℕ) (p : Prefix6) (r : RouteValue) → RouteAt w router p r → r.metric < infinity → IsRowAbove net m router p r
 
 -- so is each entry of what was sent since that number
 abbrev pub SaidAbove : Network → World → ℕ → ℕ → Type 0
@@ -45,8 +45,8 @@ module _ (net : Network) (known : Prefix6 → Type 0) where
       no : (n : ℕ) → n ≡ 16 → n < 16 → ⊥
       no n e f = omega arith
 
-      by_clock : (c : Clock) → r.clock ≡ c → IsClocked r.metric c → IsOrderlyBy net router at.0.last p r c → IsAbove net (m + 1) router p r.metric
-      by_clock Fixed e k own = inr (1, own.1.0, [], record { is_walk = tt; costs = refl; owner = own.1.1 }, as_le r.metric k)
+      by_clock : (c : Clock) → r.clock ≡ c → IsClocked r.metric c → IsOrderlyBy net router at.0.last p r c → IsRowAbove net (m + 1) router p r
+      by_clock Fixed e k own = inr (1, own.1.0, [], record { is_walk = tt; costs = refl; owner = own.1.1 }, as_le r.metric k, subst (λ o. BeginsFrom net o []) (sym own.0) tt)
       by_clock (Dying until) e k own = absurd (no r.metric k low)
       by_clock (Live until) e k own =
           let x = rest router p r until at e in
@@ -65,7 +65,7 @@ module _ (net : Network) (known : Prefix6 → Type 0) where
       no : (n : ℕ) → n ≡ 16 → n < 16 → ⊥
       no n e f = omega arith
 
-      by_clock : (c : Clock) → IsClocked r.metric c → IsOrderlyBy net router at.0.last p r c → IsAbove net 2 router p r.metric
-      by_clock Fixed k own = inr (1, own.1.0, [], record { is_walk = tt; costs = refl; owner = own.1.1 }, as_le r.metric k)
+      by_clock : (c : Clock) → IsClocked r.metric c → IsOrderlyBy net router at.0.last p r c → IsRowAbove net 2 router p r
+      by_clock Fixed k own = inr (1, own.1.0, [], record { is_walk = tt; costs = refl; owner = own.1.1 }, as_le r.metric k, subst (λ o. BeginsFrom net o []) (sym own.0) tt)
       by_clock (Dying until) k own = absurd (no r.metric k low)
       by_clock (Live until) k own = inl own.0

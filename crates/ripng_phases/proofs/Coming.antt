@@ -13,10 +13,10 @@ use Rattle.ripng_world.specs.Network.{Network, AreLinked}
 use Rattle.ripng_world.specs.Walks.{Hop, Reaches, cost, cost_of_interface}
 use Rattle.ripng_world.specs.World.{World, Deliver, Delivers, Happens, address_at, arrival_of}
 use Rattle.ripng_world.proofs.HealPlain.{IsClocked}
-use Rattle.ripng_world.proofs.HealRows.{IsAtMost, IsRaised, one_sender, through}
+use Rattle.ripng_world.proofs.HealRows.{IsAtMost, IsRaised, through}
 use Rattle.ripng_world.proofs.Improving.{one_route}
 use Rattle.ripng_world.proofs.Members.{At}
-use Rattle.ripng_world.proofs.RoundNeighbors.{is_another}
+use Rattle.ripng_world.proofs.RoundNeighbors.{is_another, one_sender}
 use Rattle.ripng_world.proofs.WorldRuns.{not_own}
 use Rattle.ripng_phases.specs.Phases.{Step, IsOrdinary, IsHeardUpdate, Takes, Before, reached}
 use Rattle.ripng_phases.proofs.Along.{along, two_splits}
@@ -190,7 +190,8 @@ module _ (net : Network) (known : Prefix6 → Type 0) (positive : IsPositive net
               let same = sym x.origin ∙ y.origin in
               let i_is : x.iface ≡ y.iface = first x.iface x.from x.next_hop y.iface (address_at net y.sent.router y.sent.iface) y.next_hop same in
               let f_is : x.from ≡ address_at net y.sent.router y.sent.iface = second x.iface x.from x.next_hop y.iface (address_at net y.sent.router y.sent.iface) y.next_hop same in
-              let sender = one_sender net calm.part.distinct x.from y.sent.router y.sent.iface x.told.sender x.told.sender_iface
+              let sender = one_sender net calm.part.distinct router y.iface x.from y.sent.router y.sent.iface x.told.sender x.told.sender_iface
+              y.linked (subst (λ i. AreLinked net router i x.told.sender x.told.sender_iface) i_is x.told.linked)
               (address_is net y.sent.router y.sent.iface y.linked.there y.linked.there_is ∙ ap Some (sym f_is)) x.told.from_is in
               by_walk (subst (λ i. WalkFrom net known positive (cost_of_interface net router i) x.told.sender p x.route.metric) (sym i_is)
               (subst (λ s. WalkFrom net known positive (cost_of_interface net router y.iface) s p x.route.metric) sender.0

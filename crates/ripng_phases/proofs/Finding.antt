@@ -16,15 +16,14 @@ use Rattle.router_core.specs.Machine.{State, gateway_of, hearing_of}
 use Rattle.router_core.specs.Offers.{prefix_named}
 use Rattle.router_core.specs.Timers.{timeout, garbage_time}
 use Rattle.router_core.specs.declared.answer.Answer.{Answer}
-use Rattle.ripng_world.specs.Network.{Network, HasDistinctAddresses}
+use Rattle.ripng_world.specs.Network.{Network, AreLinked, HasDistinctAddresses}
 use Rattle.ripng_world.specs.Rounds.{router_of, moment_of}
 use Rattle.ripng_world.specs.Truth.{IsNeighbor}
 use Rattle.ripng_world.specs.Walks.{Hop, Reaches, cost_of_interface}
 use Rattle.ripng_world.specs.World.{World, Event, Deliver, Happens, address_at, arrival_of}
 use Rattle.ripng_world.proofs.HealPlain.{IsClocked}
-use Rattle.ripng_world.proofs.HealRows.{one_sender}
 use Rattle.ripng_world.proofs.Members.{At}
-use Rattle.ripng_world.proofs.RoundNeighbors.{neighbor, is_another}
+use Rattle.ripng_world.proofs.RoundNeighbors.{neighbor, is_another, one_sender}
 use Rattle.ripng_world.proofs.RoundStays.{event_stays}
 use Rattle.ripng_world.proofs.WorldRuns.{not_own}
 use Rattle.ripng_phases.specs.Phases.{Step, IsOrdinary, Before, reached}
@@ -107,7 +106,8 @@ module _ (net : Network) (known : Prefix6 → Type 0) (positive : IsPositive net
           by_rests : (x : IsRestingOn net v first router p r) → WalkFrom net known positive (gateway_of s (max s.last here.now) (arrival_of net here.sent here.iface here.now)).cost here.sent.router p r.metric
           by_rests x =
               let same = one_gateway net here.iface (address_at net here.sent.router here.sent.iface) x.iface (address_at net x.sent.router x.sent.iface) x.next_hop (sym (ap (is_through g) x.origin) ∙ goes) in
-              let sender = one_sender net distinct (address_at net here.sent.router here.sent.iface) x.sent.router x.sent.iface here.sent.router here.sent.iface
+              let sender = one_sender net distinct router here.iface (address_at net here.sent.router here.sent.iface) x.sent.router x.sent.iface here.sent.router here.sent.iface
+              (subst (λ i. AreLinked net router i x.sent.router x.sent.iface) same.0 x.linked) (linked_back net here.sent.router here.sent.iface router here.iface here.linked)
               (address_is net x.sent.router x.sent.iface x.linked.there x.linked.there_is ∙ ap Some same.1) (address_is net here.sent.router here.sent.iface here.linked.here here.linked.here_is) in
               subst (λ c. WalkFrom net known positive c here.sent.router p r.metric) (ap (cost_of_interface net router) same.0 ∙ sym neighbors.cost)
               (subst (λ k. WalkFrom net known positive (cost_of_interface net router x.iface) k p r.metric) sender.0

@@ -20,8 +20,8 @@ use Rattle.ripng_world.specs.World.{World, Event, Deliver, Happens, address_at}
 use Rattle.ripng_world.specs.declared.network.NetInterface.{NetInterface}
 use Rattle.ripng_world.specs.declared.sent.Sent.{Sent}
 use Rattle.ripng_world.proofs.HealPlain.{IsClocked}
-use Rattle.ripng_world.proofs.HealRows.{one_sender}
 use Rattle.ripng_world.proofs.RoundDeliveries.{gateway_at}
+use Rattle.ripng_world.proofs.RoundNeighbors.{one_sender}
 use Rattle.ripng_phases.specs.Phases.{Step, IsOrdinary, Takes, IsMomentIn, Before, reached}
 use Rattle.ripng_phases.proofs.Along.{along}
 use Rattle.ripng_phases.proofs.Calm.{Within, in_net, node_of, here_now, near_now, orderly_here, lasts_at, held_at}
@@ -129,8 +129,9 @@ module _ (net : Network) (known : Prefix6 → Type 0) (past : Before) (w : World
               let here = got.0 in
               let same = one_gateway net iface (address_at net teller teller_iface) here.iface (address_at net here.sent.router here.sent.iface) got.1.next_hop
               (sym (ap (is_through (gateway_at iface (address_at net teller teller_iface))) got.1.origin) ∙ goes) in
-              let sender = one_sender net calm.part.distinct (address_at net teller teller_iface) here.sent.router here.sent.iface teller teller_iface
-              (address_is net here.sent.router here.sent.iface here.linked.here here.linked.here_is ∙ ap Some same.1) (address_is net teller teller_iface teller_here.0 teller_here.1) in
+              let sender = one_sender net calm.part.distinct router iface (address_at net teller teller_iface) here.sent.router here.sent.iface teller teller_iface
+              (subst (λ i. AreLinked net router i here.sent.router here.sent.iface) same.0 (linked_back net here.sent.router here.sent.iface router here.iface here.linked)) teller_near
+              (address_is net here.sent.router here.sent.iface here.linked.here here.linked.here_is ∙ ap Some same.1) (address_is net teller teller_iface teller_near.there teller_near.there_is) in
               let in_the_end : slice_get w'.sent here.datagram ≡ Some here.sent = still_sent v w' (takes_grows net (s ∷ after) v w' takes_here) here.datagram here.sent here.sent_is in
               took net v s.after s.event s.answer h (IsMomentIn steps) (length w.sent) known (subst (IsOrderly net known) world (orderly_here net known past w steps w' calm.part (k.before ++ k.delivery ∷ before) s after all))
               (here_now net known past w steps w' calm.part (k.before ++ k.delivery ∷ before) s after all) router came.0 t came.1 here
@@ -152,11 +153,11 @@ module _ (net : Network) (known : Prefix6 → Type 0) (past : Before) (w : World
         came : (x : State) × (slice_get (reached k.delivery.after before).states router ≡ Some x) × IsStep net (reached k.delivery.after before) s.event s.answer router x t
         came = step_of net v s.after s.event s.answer plain h router t t_is
 
-        teller_here : (i : NetInterface) × (interface_at net teller teller_iface ≡ Some i)
-        teller_here = (
-          update_here.linked.here,
-          ap₂ (λ a b. interface_at net a b) (sym telling.by_router) (sym telling.on_iface) ∙ update_here.linked.here_is,
-        )
+        teller_near : AreLinked net router iface teller teller_iface
+        teller_near =
+            subst (λ a. AreLinked net router iface a teller_iface) telling.by_router
+            (subst (λ b. AreLinked net router iface update_here.sent.router b) telling.on_iface
+            (linked_back net update_here.sent.router update_here.sent.iface router iface update_here.linked))
 
     pub held_through : router ≢ teller → (s : State) (r : RouteValue) (until : ℕ) → slice_get w'.states router ≡ Some s → map_of.get s.table p ≡ Some r → r.clock ≡ Live until
         → is_through (gateway_at iface (address_at net teller teller_iface)) r.origin ≡ true → IsHeld net w' (length w.sent) (IsMomentIn steps) router s.last p r until

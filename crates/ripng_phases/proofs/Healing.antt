@@ -6,16 +6,20 @@ use Rattle.router_core.specs.declared.reconfiguring.Change.{Change}
 use Rattle.ripng_world.specs.Convergence.{IsNeverQuiet}
 use Rattle.ripng_world.specs.Healing.{AreHealed, FitsTablesSince, network_now}
 use Rattle.ripng_world.specs.Network.{Network, Node, IsNetwork}
+use Rattle.ripng_world.specs.Packets.{PacketsArrive}
 use Rattle.ripng_world.specs.World.{World, Event, IsCold, WorldRun, past_of}
 use Rattle.ripng_world.specs.declared.network.NetInterface.{NetInterface}
 use Rattle.ripng_world.proofs.HealHearing.{AreFew}
+use Rattle.ripng_world.proofs.Healed.{to_gateways}
 use Rattle.ripng_world.proofs.NetworkNow.{AreAlike, now_alike, now_lawful}
+use Rattle.ripng_world.proofs.PacketsAfter.{arrive_in_run}
 use Rattle.ripng_world.proofs.Reached.{IsKnown}
-use Rattle.ripng_phases.specs.Phases.{Step, IsBegun, Before, BegunAfter, Begun, Phases, before_next, steps_of, reached}
+use Rattle.ripng_phases.specs.Phases.{Step, IsBegun, Before, BegunAfter, Begun, Phases, before_next, steps_of, events_of, reached}
 use Rattle.ripng_phases.proofs.Alike.{phase_alike, takes_alike}
 use Rattle.ripng_phases.proofs.Begun.{begun_of, begun_take, moment_in}
 use Rattle.ripng_phases.proofs.Lower.{IsPositive}
 use Rattle.ripng_phases.proofs.Orderly.{all_orderly}
+use Rattle.ripng_phases.proofs.Runs.{run_on, takes_run}
 use Rattle.ripng_phases.proofs.Settled.{IsSettled, settled_on, settled_from_cold, few_of, takes_keep}
 use Rattle.ripng_phases.proofs.Always.{heals_always}
 use Rattle.ripng_phases.proofs.Stages.{CalmBegun}
@@ -57,6 +61,12 @@ module _ (net : Network) (is_net : IsNetwork net) (noisy : IsNeverQuiet net) (re
     calm_begun lawful phases since (before_next w steps) is.0 end (settled_on net is_net reconfigurations steps w is.0 is.1.takes settled) is.2,
   )
 
+-- the run until now
+pub run_through : (net : Network) (events : List Event) (phases : List (List Step)) (since : List Step) (cold w end : World) → WorldRun net cold events w → Begun net w phases since end
+    → WorldRun net cold (events ++ events_of (steps_of phases ++ since)) end
+run_through net events phases since cold w end run begun =
+    run_on net events (events_of (steps_of phases ++ since)) cold w end run (takes_run net (steps_of phases ++ since) w end (begun_take net phases since _ w end begun))
+
 -- after so many phases, whatever has happened since
 pub heals_in_phases : (net : Network) (moments : List ℕ) (events : List Event) (phases : List (List Step)) (since : List Step) (cold w end : World)
     → IsNetwork net → IsNeverQuiet net → IsCold net moments cold → WorldRun net cold events w → FitsTablesSince (past_of net w)
@@ -64,7 +74,8 @@ pub heals_in_phases : (net : Network) (moments : List ℕ) (events : List Event)
 heals_in_phases net moments events phases since cold w end is_net noisy is run fits begun many =
     subst (λ cs. AreHealed (network_now (record { net = net; reconfigurations = cs })) end) (sym (takes_keep net (steps_of phases ++ since) w end (begun_take net phases since _ w end begun)))
     (heals_always now (IsKnown (past_of net w)) (positive_of now lawful) phases since _ w end many
-    (calm_begun net is_net noisy w.reconfigurations (few_of net is_net w settled.all fits) lawful phases since _ w end settled begun))
+    (calm_begun net is_net noisy w.reconfigurations (few_of net is_net w settled.all fits) lawful phases since _ w end settled begun)
+    (to_gateways net is_net moments (events ++ events_of (steps_of phases ++ since)) cold end is (run_through net events phases since cold w end run begun)))
   where
     now : Network
     now = network_now (past_of net w)
@@ -74,6 +85,14 @@ heals_in_phases net moments events phases since cold w end is_net noisy is run f
 
     lawful : IsNetwork (network_now (past_of net w))
     lawful = now_lawful w.reconfigurations net settled.all.lawful is_net
+
+-- and packets arrive
+pub arrive_in_phases : (net : Network) (moments : List ℕ) (events : List Event) (phases : List (List Step)) (since : List Step) (cold w end : World)
+    → IsNetwork net → IsNeverQuiet net → IsCold net moments cold → WorldRun net cold events w → FitsTablesSince (past_of net w)
+    → Begun net w phases since end → 28 ≤ length phases → PacketsArrive (network_now (past_of net end)) end
+arrive_in_phases net moments events phases since cold w end is_net noisy is run fits begun many =
+    arrive_in_run net is_net moments (events ++ events_of (steps_of phases ++ since)) cold end is (run_through net events phases since cold w end run begun)
+    (heals_in_phases net moments events phases since cold w end is_net noisy is run fits begun many)
 
 -- at every moment of further phases
 pub heals_then : (net : Network) (moments : List ℕ) (events : List Event) (phases later : List (List Step)) (before after : List Step) (cold w end : World)

@@ -2,7 +2,7 @@
 use Rattle.std.proofs.Common.{◌≡◌, ◌≢◌, inl, inr, ℕ, ◌+◌, ◌<◌, ◌≤◌, List, [], ◌∷◌, ◌++◌, length, All, Some, refl, sym, subst, arith}
 use Rattle.std.proofs.lemmas.Option.{slice_get_within}
 use Rattle.prefix6.specs.Prefix.{Prefix6}
-use Rattle.route_table.specs.Route.{infinity}
+use Rattle.route_table.specs.Route.{RouteValue, infinity}
 use Rattle.route_table.specs.declared.route.Clock.{Clock}
 use Rattle.route_table.specs.declared.route.Clock.TheVariants.{Fixed, Live, Dying}
 use Rattle.router_core.specs.declared.answer.Answer.{Answer}
@@ -19,7 +19,7 @@ use Rattle.ripng_phases.proofs.Calm.{orderly_here, orderly_next, recent_now, tel
 use Rattle.ripng_phases.proofs.Held.{AllHeld}
 use Rattle.ripng_phases.proofs.Moving.{step_of}
 use Rattle.ripng_phases.proofs.Orderly.{IsOrderly, IsOrderlyBy}
-use Rattle.ripng_phases.proofs.Resting.{IsRestingOn, IsAbove, rests_above, rests_low, taken_rests}
+use Rattle.ripng_phases.proofs.Resting.{BeginsFrom, IsRestingOn, IsAbove, IsRowAbove, rests_above, rests_low, row_same, taken_rests}
 use Rattle.ripng_phases.proofs.Saying.{said_on}
 use Rattle.ripng_phases.proofs.Stepping.{live_after}
 use Rattle.ripng_phases.proofs.Updating.{IsCalmPart, orderly_first}
@@ -30,12 +30,12 @@ IsPositive net = (router iface : ℕ) (here : NetInterface) → interface_at net
 abbrev pub NoneOld : ℕ → ℕ → Type 0
 NoneOld router until = ⊥
 
-pub above_less : (net : Network) (m : ℕ) (router : ℕ) (p : Prefix6) (metric : ℕ) → IsAbove net (m + 1) router p metric → IsAbove net m router p metric
-above_less net m router p metric (inl x) = inl (less m metric x)
+pub above_less : (net : Network) (m : ℕ) (router : ℕ) (p : Prefix6) (r : RouteValue) → IsRowAbove net (m + 1) router p r → IsRowAbove net m router p r
+above_less net m router p r (inl x) = inl (less m r.metric x)
   where
     less : (a b : ℕ) → a + 1 ≤ b → a ≤ b
     less a b e = omega arith
-above_less net m router p metric (inr x) = inr x
+above_less net m router p r (inr x) = inr x
 
 -- nothing was sent yet
 pub none_said : (net : Network) (w : World) (m : ℕ) → SaidAbove net w (length w.sent) m
@@ -58,13 +58,13 @@ module _ (net : Network) (known : Prefix6 → Type 0) (positive : IsPositive net
       no : (n : ℕ) → n ≡ 16 → n < 16 → ⊥
       no n e f = omega arith
 
-      by_clock : (c : Clock) → r.clock ≡ c → IsClocked r.metric c → IsOrderlyBy net router at.0.last p r c → IsAbove net (m + 1) router p r.metric
-      by_clock Fixed e k own = inr (1, own.1.0, [], record { is_walk = tt; costs = refl; owner = own.1.1 }, as_le r.metric k)
+      by_clock : (c : Clock) → r.clock ≡ c → IsClocked r.metric c → IsOrderlyBy net router at.0.last p r c → IsRowAbove net (m + 1) router p r
+      by_clock Fixed e k own = inr (1, own.1.0, [], record { is_walk = tt; costs = refl; owner = own.1.1 }, as_le r.metric k, subst (λ o. BeginsFrom net o []) (sym own.0) tt)
       by_clock (Dying until) e k own = absurd (no r.metric k low)
       by_clock (Live until) clock k own =
           let from = step_of net w w' e answer plain h router at.0 at.1 in
           elim (live_after net w e answer router from.0 at.0 from.2 p r until at.2 clock) [
-            | inl was ↦ subst (IsAbove net (m + 1) router p) (sym was.2.metric) (tables router p was.0 (from.0, from.1, was.1) (subst (λ n. n < infinity) was.2.metric low))
+            | inl was ↦ row_same net (m + 1) router p was.0 r was.2.metric was.2.origin (tables router p was.0 (from.0, from.1, was.1) (subst (λ n. n < infinity) was.2.metric low))
             | inr got ↦
                 let o = orderly.states router from.0 from.1 in
                 let x : IsRestingOn net w first router p r =
@@ -106,7 +106,7 @@ module _ (net : Network) (known : Prefix6 → Type 0) (positive : IsPositive net
             let tables = above_on (reached w before) s.after s.event s.answer plain h (orderly_here net known past w steps w' calm before s after parts) (orderly_next net known past w steps w' calm before s after parts)
             past.first m (recent_now net known past w steps w' calm before s after parts) low.said low.tables in
             record {
-              said = said_on net (reached w before) s.after past.first m tells (λ router p r at small. above_less net m router p r.metric (tables router p r at small)) low.said;
+              said = said_on net (reached w before) s.after past.first m tells (λ router p r at small. above_less net m router p r (tables router p r at small)) low.said;
               tables = tables;
               told = said_on net (reached w before) s.after (length w.sent) (m + 1) tells tables low.told;
             }

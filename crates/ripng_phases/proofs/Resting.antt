@@ -1,18 +1,20 @@
 -- What a live route rests on: an entry that its gateway sent. It is no lower than a bound that the entry keeps, and one more.
-use Rattle.std.proofs.Common.{◌≡◌, ◌≢◌, ◌⊎◌, inl, inr, ℕ, ◌+◌, min, max, ◌<◌, ◌≤◌, List, ◌∷◌, Some, slice_get, ap, ◌∙◌, arith}
+use Rattle.std.proofs.Common.{◌≡◌, ◌≢◌, ◌⊎◌, inl, inr, ℕ, ◌+◌, min, max, ◌<◌, ◌≤◌, List, [], ◌∷◌, Option, Some, option_map, unwrap_or, slice_get, refl, ap, sym, subst, ◌∙◌, arith}
 use Rattle.prefix6.specs.Prefix.{Prefix6}
 use Rattle.ripng_wire.specs.declared.rte.Rte.{Rte}
 use Rattle.ripng_wire.specs.declared.rte.Command.TheVariants.{Response}
 use Rattle.ripng_wire.specs.Layout.{Spells}
 use Rattle.route_table.specs.Route.{RouteValue, infinity}
-use Rattle.route_table.specs.declared.route.Origin.TheVariants.{Learned}
+use Rattle.route_table.specs.declared.route.Origin.{Origin}
+use Rattle.route_table.specs.declared.route.Origin.TheVariants.{Own, Learned}
 use Rattle.router_core.specs.Machine.{State, gateway_of}
 use Rattle.router_core.specs.Offers.{prefix_named}
 use Rattle.router_core.specs.declared.answer.Answer.{Answer}
-use Rattle.ripng_world.specs.Network.{Network, Node, AreLinked, config_of}
+use Rattle.ripng_world.specs.Network.{Network, Node, AreLinked, config_of, interface_at}
 use Rattle.ripng_world.specs.Truth.{IsNeighbor}
 use Rattle.ripng_world.specs.Walks.{Hop, Reaches, cost_of_interface}
 use Rattle.ripng_world.specs.World.{World, Event, address_at, arrival_of}
+use Rattle.ripng_world.specs.declared.network.NetInterface.{NetInterface}
 use Rattle.ripng_world.specs.declared.sent.Sent.{Sent}
 use Rattle.ripng_world.proofs.Members.{At}
 use Rattle.ripng_world.proofs.RoundNeighbors.{neighbor, is_another}
@@ -70,9 +72,30 @@ taken_rests net w e answer router s t node node_is config_is here p r until take
 abbrev pub IsAbove : Network → ℕ → ℕ → Prefix6 → ℕ → Type 0
 IsAbove net m router p metric = (m ≤ metric) ⊎ ((x : ℕ) × (tag : ℕ) × (walk : List Hop) × Reaches net router p x tag walk × (x ≤ metric))
 
+-- a walk begins by the interface and the gateway of the origin
+abbrev pub BeginsFrom : Network → Origin → List Hop → Type 0
+BeginsFrom net Own [] = Unit {0}
+BeginsFrom net (Learned iface from next_hop) (h ∷ walk) = (h.iface ≡ iface) × (option_map (λ (i : NetInterface). i.interface.addr) (interface_at net h.router h.router_iface) ≡ Some from)
+BeginsFrom net Own (h ∷ walk) = ⊥
+BeginsFrom net (Learned iface from next_hop) [] = ⊥
+
+-- a route's metric is the bound or more, or there is a walk that is no dearer and begins so
+abbrev pub IsRowAbove : Network → ℕ → ℕ → Prefix6 → RouteValue → Type 0
+IsRowAbove net m router p r =
+    (m ≤ r.metric) ⊎ ((x : ℕ) × (tag : ℕ) × (walk : List Hop) × Reaches net router p x tag walk × (x ≤ r.metric) × BeginsFrom net r.origin walk)
+
+pub row_above : (net : Network) (m router : ℕ) (p : Prefix6) (r : RouteValue) → IsRowAbove net m router p r → IsAbove net m router p r.metric
+row_above net m router p r (inl x) = inl x
+row_above net m router p r (inr x) = inr (x.0, x.1, x.2, x.3, x.4)
+
+-- so it stays with a route of the same metric and origin
+pub row_same : (net : Network) (m router : ℕ) (p : Prefix6) (q r : RouteValue) → r.metric ≡ q.metric → r.origin ≡ q.origin → IsRowAbove net m router p q → IsRowAbove net m router p r
+row_same net m router p q r metric origin (inl x) = inl (subst (λ n. m ≤ n) (sym metric) x)
+row_same net m router p q r metric origin (inr x) = inr (x.0, x.1, x.2, x.3, subst (λ n. x.0 ≤ n) (sym metric) x.4, subst (λ o. BeginsFrom net o x.2) (sym origin) x.5)
+
 -- one more than what its gateway told
 pub rests_above : (net : Network) (w : World) (first m router : ℕ) (p : Prefix6) (r : RouteValue) (rests : IsRestingOn net w first router p r) → 1 ≤ cost_of_interface net router rests.iface
-    → r.metric < infinity → IsAbove net m rests.sent.router p rests.entry.metric → IsAbove net (m + 1) router p r.metric
+    → r.metric < infinity → IsAbove net m rests.sent.router p rests.entry.metric → IsRowAbove net (m + 1) router p r
 rests_above net w first m router p r rests one low above =
     elim above [
       | inl y ↦ inl (next m (cost_of_interface net router rests.iface) rests.entry.metric r.metric rests.metric low one y)
@@ -86,9 +109,15 @@ rests_above net w first m router p r rests one low above =
           owner = z.3.owner;
         },
         within (cost_of_interface net router rests.iface) z.0 rests.entry.metric r.metric rests.metric low z.4,
+        subst (λ o. BeginsFrom net o (record { iface = rests.iface; router = rests.sent.router; router_iface = rests.sent.iface } ∷ z.2)) (sym rests.origin)
+            (refl, known (interface_at net rests.sent.router rests.sent.iface) rests.linked.there rests.linked.there_is),
       )
     ]
   where
+    known : (o : Option NetInterface) (there : NetInterface) → o ≡ Some there
+        → option_map (λ (i : NetInterface). i.interface.addr) o ≡ Some (unwrap_or (option_map (λ (i : NetInterface). i.interface.addr) o) 0)
+    known o there is = subst (λ (x : Option NetInterface). option_map (λ (i : NetInterface). i.interface.addr) x ≡ Some (unwrap_or (option_map (λ (i : NetInterface). i.interface.addr) x) 0)) (sym is) refl
+
     next : (m c x n : ℕ) → n ≡ min (x + c) 16 → n < 16 → 1 ≤ c → m ≤ x → m + 1 ≤ n
     next m c x n a b d e = omega arith
 

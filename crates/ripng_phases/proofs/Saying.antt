@@ -10,7 +10,7 @@ use Rattle.ripng_world.specs.declared.sent.Sent.{Sent}
 use Rattle.ripng_world.proofs.Each.{each_at_place}
 use Rattle.ripng_world.proofs.Members.{At, get_left, get_right}
 use Rattle.ripng_phases.proofs.Bounding.{TablesAbove, SaidAbove}
-use Rattle.ripng_phases.proofs.Resting.{IsAbove}
+use Rattle.ripng_phases.proofs.Resting.{IsAbove, row_above}
 use Rattle.ripng_phases.proofs.Sending.{IsToldTruly, TellsTruly}
 use Rattle.ripng_phases.proofs.Telling.{IsTrueOf}
 
@@ -35,4 +35,4 @@ said_on net w w' first m tells tables said i d late is entries spelled e stands 
         let told : IsToldTruly w' d = each_at_place (IsToldTruly w') tells.0 tells.2 a.0 d a.1 in
         let r = (each_at_place (IsTrueOf told.0.table d.iface) entries (told.2 entries spelled) stands.0 e stands.1).low low in
         subst (IsAbove net m d.router (prefix_named e)) r.2
-        (tables d.router (prefix_named e) r.0 (told.0, told.1, r.1) (subst (λ n. n < infinity) (sym r.2) low))
+        (row_above net m d.router (prefix_named e) r.0 (tables d.router (prefix_named e) r.0 (told.0, told.1, r.1) (subst (λ n. n < infinity) (sym r.2) low)))

@@ -3,15 +3,17 @@ use Rattle.std.proofs.Common.{◌≡◌, ℕ, ◌+◌, ◌-◌, ◌*◌, ◌/◌
 use Rattle.ripng_world.specs.Convergence.{IsNeverQuiet}
 use Rattle.ripng_world.specs.Healing.{AreHealed, FitsTablesSince, network_now}
 use Rattle.ripng_world.specs.Network.{Network, IsNetwork}
+use Rattle.ripng_world.specs.Packets.{PacketsArrive}
 use Rattle.ripng_world.specs.World.{World, Event, IsCold, WorldRun, past_of}
 use Rattle.ripng_world.proofs.Members.{at_from_contains, at_left}
+use Rattle.ripng_world.proofs.PacketsAfter.{arrive_in_run}
 use Rattle.ripng_phases.specs.Minutes.{Timed, AreFrom, IsPromptUpdate, IsPromptDelivery, IsTimely, untimed}
-use Rattle.ripng_phases.specs.Phases.{Takes, IsCount, reached}
+use Rattle.ripng_phases.specs.Phases.{Takes, IsCount, events_of, reached}
 use Rattle.ripng_phases.proofs.Along.{contains_from}
 use Rattle.ripng_phases.proofs.ByMinutes.{timely_minutes}
 use Rattle.ripng_phases.proofs.Cutting.{AreNotBefore, untimed_on, from_all, in_early}
 use Rattle.ripng_phases.proofs.Healing.{heals_in_phases}
-use Rattle.ripng_phases.proofs.Runs.{takes_first, takes_rest, takes_reached}
+use Rattle.ripng_phases.proofs.Runs.{run_on, takes_first, takes_rest, takes_reached, takes_run}
 use Rattle.ripng_phases.proofs.Updating.{Grows, takes_grows, still_sent}
 
 pub heals_in_minutes : (net : Network) (moments : List ℕ) (events : List Event) (history : List Timed) (start stop : ℕ) (cold w end : World)
@@ -29,6 +31,14 @@ heals_in_minutes net moments events history start stop cold w end is_net noisy i
 
     many : (s e : ℕ) → s + 28 * 60_000 ≤ e → 28 ≤ (e - s) / 60_000
     many s e f = omega arith
+
+-- and packets arrive
+pub arrive_in_minutes : (net : Network) (moments : List ℕ) (events : List Event) (history : List Timed) (start stop : ℕ) (cold w end : World)
+    → IsNetwork net → IsNeverQuiet net → IsCold net moments cold → WorldRun net cold events w → FitsTablesSince (past_of net w)
+    → IsTimely net w history start stop end → start + 28 * 60_000 ≤ stop → PacketsArrive (network_now (past_of net end)) end
+arrive_in_minutes net moments events history start stop cold w end is_net noisy is run fits timely late =
+    arrive_in_run net is_net moments (events ++ events_of (untimed history)) cold end is (run_on net events (events_of (untimed history)) cold w end run (takes_run net (untimed history) w end timely.takes))
+    (heals_in_minutes net moments events history start stop cold w end is_net noisy is run fits timely late)
 
 -- what is before a moment
 module _ (net : Network) (w : World) (history before after : List Timed) (start until stop : ℕ) (end : World) (timely : IsTimely net w history start stop end) (parts : history ≡ before ++ after)

@@ -11,12 +11,12 @@ use Rattle.ripng_world.specs.declared.watch.Stopped.{Stopped}
 use Rattle.ripng_world.proofs.Each.{each_at_place}
 use Rattle.ripng_world.proofs.Members.{at_from_contains}
 use Rattle.ripng_phases.specs.Changing.{IsLastChange, last_change, shown_in}
-use Rattle.ripng_phases.specs.Making.{AreMadeInPart, AreMadePhases, HealsIn, IsCutShort, IsInMinute, IsLast, IsLatest, IsMadePhase, IsTooLate, TellsSteps}
+use Rattle.ripng_phases.specs.Making.{AreMadeInPart, AreMadePhases, HealsIn, IsCutShort, IsInMinute, IsLast, IsLatest, IsMadePhase, IsTooLate, LetsArriveIn, TellsSteps}
 use Rattle.ripng_phases.specs.Phases.{Step, Before, IsBegun, IsHeardUpdate, IsMomentIn, IsPhase, Phases, PhasesAfter, BegunAfter, before_next, events_of, reached, steps_of}
 use Rattle.ripng_phases.specs.declared.refused.PhaseRefused.{PhaseRefused}
 use Rattle.ripng_phases.proofs.Begun.{phases_begun}
 use Rattle.ripng_phases.proofs.Changing.{next_change}
-use Rattle.ripng_phases.proofs.Healing.{heals_in_phases}
+use Rattle.ripng_phases.proofs.Healing.{arrive_in_phases, heals_in_phases}
 use Rattle.ripng_phases.proofs.Runs.{phases_take, reached_on, takes_reached}
 use Rattle.ripng_phases.proofs.Tells.{near_of, not_overtaken, recent_of, tells_on, tells_take}
 
@@ -150,4 +150,9 @@ module _ {V : Type 0} (t : V → Told → V → Type 0) (net : Network) (s : Wor
   pub all_heal : (count : ℕ) (last : Option ℕ) (s' : World × V) → HasRun net s.0 → AreMadePhases t net s count last s' → HealsIn net s.0 count s'.0
   all_heal count last s' has_run made = λ noisy fits many.
       heals_in_phases net has_run.moments has_run.events made.phases [] has_run.cold s.0 s'.0 has_run.lawful noisy has_run.is_cold has_run.run fits
+      (phases_begun net made.phases _ s.0 s'.0 made.are) (subst (λ (n : ℕ). 28 ≤ n) (sym made.as_many) many)
+
+  pub all_arrive : (count : ℕ) (last : Option ℕ) (s' : World × V) → HasRun net s.0 → AreMadePhases t net s count last s' → LetsArriveIn net s.0 count s'.0
+  all_arrive count last s' has_run made = λ noisy fits many.
+      arrive_in_phases net has_run.moments has_run.events made.phases [] has_run.cold s.0 s'.0 has_run.lawful noisy has_run.is_cold has_run.run fits
       (phases_begun net made.phases _ s.0 s'.0 made.are) (subst (λ (n : ℕ). 28 ≤ n) (sym made.as_many) many)

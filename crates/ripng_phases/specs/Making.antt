@@ -8,6 +8,7 @@ use Rattle.ripng_world.specs.Healing.{network_now, FitsTablesSince, AreHealed}
 use Rattle.ripng_world.specs.Labs.{LabValue}
 use Rattle.ripng_world.specs.AskedRounds.{is_other}
 use Rattle.ripng_world.specs.Network.{Network, AreLinked, interface_at}
+use Rattle.ripng_world.specs.Packets.{PacketsArrive}
 use Rattle.ripng_world.specs.Rounds.{IsDueTick, moment_of}
 use Rattle.ripng_world.specs.Watching.{Told, EndsAt, IfRefused, telling}
 use Rattle.ripng_world.specs.World.{World, Event, Deliver, Tick, Happens, past_of}
@@ -72,6 +73,10 @@ pub record AreMadeInPart {V F : Type 0} (takes fails : V → Told → V → Type
 -- whatever happened before, 28 phases leave each table with the least costs of now, and nothing else below infinity
 abbrev pub HealsIn : Network → World → ℕ → World → Type 0
 HealsIn net w count w' = IsNeverQuiet net → FitsTablesSince (past_of net w) → 28 ≤ count → AreHealed (network_now (past_of net w')) w'
+
+-- so packets arrive
+abbrev pub LetsArriveIn : Network → World → ℕ → World → Type 0
+LetsArriveIn net w count w' = IsNeverQuiet net → FitsTablesSince (past_of net w) → 28 ≤ count → PacketsArrive (network_now (past_of net w')) w'
 
 -- ---- a phase under way
 

@@ -5,7 +5,8 @@ ghost use Rattle.std.specs.List.{AllByRecursion};
 ghost use Rattle.router_core.specs.Machine.{State};
 ghost use Rattle.ripng_world.specs.Convergence.{IsNeverQuiet};
 ghost use Rattle.ripng_world.specs.Healing.{network_now, FitsTablesSince, AreHealed};
-ghost use Rattle.ripng_world.specs.Network.{Network, IsNetwork};
+ghost use Rattle.ripng_world.specs.Network.{Network, IsNetwork, OwnsPrefixes};
+ghost use Rattle.ripng_world.specs.Packets.{PacketsArrive};
 ghost use Rattle.ripng_world.specs.Past.{IsTableBackedSince};
 ghost use Rattle.ripng_world.specs.Rounds.{Round, SynchronousRounds};
 ghost use Rattle.ripng_world.specs.TruthSince.{IsSoundDatagramSince};
@@ -28,12 +29,12 @@ pub fn phases_go_on()
 /// At every moment of phases, whatever happened before them, each route is backed by a walk, and so is all that was sent.
 pub fn phases_keep_routes_backed()
     ensures backed { (net : Network) (moments : List ℕ) (events : List Event) (phases : List (List Step)) (before after : List Step) (cold w end : World)
-        → IsNetwork net → IsCold net moments cold → WorldRun net cold events w → Phases net w phases end
+        → OwnsPrefixes net → IsCold net moments cold → WorldRun net cold events w → Phases net w phases end
         → steps_of phases ≡ before ++ after
         → let now = reached w before in (router : ℕ) (state : State) → slice_get now.states router ≡ Some state
         → IsTableBackedSince (past_of net now) router state.table }
     ensures sent { (net : Network) (moments : List ℕ) (events : List Event) (phases : List (List Step)) (before after : List Step) (cold w end : World)
-        → IsNetwork net → IsCold net moments cold → WorldRun net cold events w → Phases net w phases end
+        → OwnsPrefixes net → IsCold net moments cold → WorldRun net cold events w → Phases net w phases end
         → steps_of phases ≡ before ++ after
         → let now = reached w before in AllByRecursion (λ d. IsSoundDatagramSince (past_of net now) d.router d.bytes) now.sent }
 {}
@@ -63,6 +64,14 @@ pub fn heals_in_phases()
         → AreHealed (network_now (past_of net end)) end }
 {}
 
+/// And packets arrive in it: after 28 phases, and at every moment from then on.
+pub fn packets_arrive_in_phases()
+    ensures { (net : Network) (moments : List ℕ) (events : List Event) (phases : List (List Step)) (since : List Step) (cold w end : World)
+        → IsNetwork net → IsNeverQuiet net → IsCold net moments cold → WorldRun net cold events w → FitsTablesSince (past_of net w)
+        → Begun net w phases since end → 28 ≤ length phases
+        → PacketsArrive (network_now (past_of net end)) end }
+{}
+
 /// By one true clock: where links keep order, lose no regular update and take less than 15 seconds, so that each minute is a phase,
 /// each table has exactly the least costs of now 28 minutes after the last change, and from then on.
 pub fn heals_in_minutes()
@@ -75,6 +84,19 @@ pub fn heals_in_minutes()
         → IsTimely net w history start stop end → start + 28 * 60_000 ≤ until → until ≤ stop
         → history ≡ before ++ after → All (λ t. t.at < until) before → AreFrom until after
         → let now = reached w (untimed before) in AreHealed (network_now (past_of net now)) now }
+{}
+
+/// And packets arrive in it by then, and at every moment from then on.
+pub fn packets_arrive_in_minutes()
+    ensures arrive { (net : Network) (moments : List ℕ) (events : List Event) (history : List Timed) (start stop : ℕ) (cold w end : World)
+        → IsNetwork net → IsNeverQuiet net → IsCold net moments cold → WorldRun net cold events w → FitsTablesSince (past_of net w)
+        → IsTimely net w history start stop end
+        → start + 28 * 60_000 ≤ stop → PacketsArrive (network_now (past_of net end)) end }
+    ensures stays { (net : Network) (moments : List ℕ) (events : List Event) (history before after : List Timed) (start until stop : ℕ) (cold w end : World)
+        → IsNetwork net → IsNeverQuiet net → IsCold net moments cold → WorldRun net cold events w → FitsTablesSince (past_of net w)
+        → IsTimely net w history start stop end
+        → start + 28 * 60_000 ≤ until → until ≤ stop → history ≡ before ++ after → All (λ t. t.at < until) before → AreFrom until after
+        → let now = reached w (untimed before) in PacketsArrive (network_now (past_of net now)) now }
 {}
 
 /// Synchronous rounds are phases, where a router's moments in a round and the next lie less than 120 seconds apart: so what is said

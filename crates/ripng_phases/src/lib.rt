@@ -13,8 +13,8 @@ mod refused;
 mod shown;
 
 pub use laws::{
-    heals_in_minutes, heals_in_phases, phases_are_run, phases_go_on, phases_keep_routes_backed,
-    phases_take_time, rounds_are_phases,
+    heals_in_minutes, heals_in_phases, packets_arrive_in_minutes, packets_arrive_in_phases,
+    phases_are_run, phases_go_on, phases_keep_routes_backed, phases_take_time, rounds_are_phases,
 };
 pub use making::run_phases;
 pub use refused::PhaseRefused;

@@ -9,7 +9,7 @@ ghost use Rattle.std.specs.Prelude.{◌≡◌, ◌↔◌, ℕ, ◌+◌, ◌^◌,
 ghost use Rattle.router_core.specs.Machine.{State};
 ghost use Rattle.ripng_world.specs.declared.watch.Stopped.TheVariants.{Refused};
 ghost use Rattle.ripng_phases.specs.Changing.{last_change, shown_in};
-ghost use Rattle.ripng_phases.specs.Making.{AreMadeInPart, AreMadePhases, GoesOn, HealsIn, IsCutShort, IsFresh, IsLatest, IsMadePhase, MakesPhase};
+ghost use Rattle.ripng_phases.specs.Making.{AreMadeInPart, AreMadePhases, GoesOn, HealsIn, IsCutShort, IsFresh, IsLatest, IsMadePhase, LetsArriveIn, MakesPhase};
 ghost use Rattle.ripng_phases.specs.declared.course.Update.{Update as UpdateValue};
 ghost use Rattle.ripng_phases.specs.declared.refused.PhaseRefused.TheVariants.{OutOfMemory};
 
@@ -298,7 +298,8 @@ fn latest<S: RouteStore>(lab: &Lab<S>) -> u64
 
 /// Phases are made one after another, by chance, until one is refused, and a watcher is told of each event. Says how many were
 /// made; and if all were, in which of them, numbered from 0, some table last changed, but for clocks and marks, or that none did.
-/// 28 of them leave each table with the least costs of now, and nothing else below 16 hops, whatever happened before.
+/// 28 of them leave each table with the least costs of now, and nothing else below 16 hops, whatever happened before; and packets
+/// arrive, from every router that has a route to their address.
 ///
 /// The first begins at the last moment of all routers, and brings no datagram that was sent before it.
 ///
@@ -320,6 +321,7 @@ pub fn run_phases<S: RouteStore, V: Watch<S>, R: Rng>(
     ensures all { OnOk result.1 (result.0 ≡ phases) }
     ensures made { IfOk result.1 (λ last. AreMadePhases V.takes lab.old.network (lab.old.world, watch.old) result.0 last (lab.new.world, watch.new)) }
     ensures heals { OnOk result.1 (HealsIn lab.old.network lab.old.world result.0 lab.new.world) }
+    ensures arrives { OnOk result.1 (LetsArriveIn lab.old.network lab.old.world result.0 lab.new.world) }
     ensures stopped { IfErr result.1 (λ why. AreMadeInPart V.takes V.fails lab.old.network (lab.old.world, watch.old) result.0 why (lab.new.world, watch.new)) }
 {
     lab.has_run();

@@ -21,11 +21,12 @@ use Rattle.ripng_world.specs.Healing.{IsTickOf}
 use Rattle.ripng_world.specs.World.{World, address_at}
 use Rattle.ripng_world.specs.Rounds.{Round}
 use Rattle.ripng_world.proofs.Improving.{RouteAt, one_route}
-use Rattle.ripng_world.proofs.HealRows.{IsRaised, one_sender, through}
+use Rattle.ripng_world.proofs.HealRows.{IsRaised, through}
 use Rattle.ripng_world.proofs.HealPlain.{IsClocked}
 use Rattle.ripng_world.proofs.HealRounds.{IsRoundOf, HasTickedOnce, HasHeardOf}
 use Rattle.ripng_world.proofs.HealStates.{IsSteady, IsSteadyBy, IsTickMoment}
 use Rattle.ripng_world.proofs.HealSteady.{IsMidBy, IsMidFresh, mid_rows}
+use Rattle.ripng_world.proofs.RoundNeighbors.{one_sender}
 
 -- the route does not run out before the next tick
 abbrev pub IsGoing : (ℕ → ℕ → Type 0) → ℕ → Clock → Type 0
@@ -201,7 +202,8 @@ module _ (net : Network) (distinct : HasDistinctAddresses net) (positive : (rout
             by_told : (y : MidFresh router p x.route.metric row.0 row.1)
                 → ((v : ℕ) × (tag : ℕ) × (walk : List Hop) × Reaches net y.sender p v tag walk × (cost_of_interface net router row.0 + v ≤ x.route.metric)) → HasBetter router p bound
             by_told y z =
-                let same = one_sender net distinct x.from y.sender y.sender_iface x.told.sender x.told.sender_iface
+                let same = one_sender net distinct router x.iface x.from y.sender y.sender_iface x.told.sender x.told.sender_iface
+                (subst (λ i. AreLinked net router i y.sender y.sender_iface) i_is y.linked) x.told.linked
                 (subst (λ f. option_map (λ (i : NetInterface). i.interface.addr) (interface_at net y.sender y.sender_iface) ≡ Some f) f_is y.from_is) x.told.from_is in
                 let reach : Reaches net x.told.sender p z.0 z.1 z.2 = subst (λ s. Reaches net s p z.0 z.1 z.2) same.0 z.3 in
                 let z_few = small (cost_of_interface net router row.0) z.0 x.route.metric bound d one z.4 x.below few in

@@ -4,6 +4,8 @@ use Rattle.std.proofs.Common.{◌≡◌, ◌⊎◌, inl, inr, ℕ, suc, ◌+◌,
 use Rattle.std.specs.FinMap as map_of
 use Rattle.prefix6.specs.Prefix.{Prefix6}
 use Rattle.route_table.specs.Route.{RouteValue, infinity}
+use Rattle.route_table.specs.declared.route.Origin.{Origin}
+use Rattle.route_table.specs.declared.route.Origin.TheVariants.{Own, Learned}
 use Rattle.route_table.specs.declared.route.Clock.{Clock}
 use Rattle.route_table.specs.declared.route.Clock.TheVariants.{Fixed, Live, Dying}
 use Rattle.route_table.proofs.TableLaws.{Some-same}
@@ -11,9 +13,9 @@ use Rattle.router_core.specs.Timers.{garbage_time}
 use Rattle.router_core.specs.Machine.{State}
 use Rattle.ripng_world.specs.declared.network.NetInterface.{NetInterface}
 use Rattle.ripng_world.specs.Network.{Network, HasDistinctAddresses, IsUsable, interface_at}
-use Rattle.ripng_world.specs.Walks.{Hop, Reaches, IsLeast, cost, cost_of_interface}
+use Rattle.ripng_world.specs.Walks.{BeginsAs, Hop, Reaches, IsLeast, cost, cost_of_interface}
 use Rattle.ripng_world.specs.Convergence.{IsNeverQuiet}
-use Rattle.ripng_world.specs.Healing.{IsTickOf, AreWithinGarbageTimeAfter, IsHealed, AreHealed}
+use Rattle.ripng_world.specs.Healing.{IsTickOf, AreWithinGarbageTimeAfter, IsLed, IsHealed, AreHealed}
 use Rattle.ripng_world.specs.World.{World}
 use Rattle.ripng_world.specs.Rounds.{Round, IsMomentOf, IsSynchronousRound, SynchronousRounds}
 use Rattle.ripng_world.proofs.Improving.{one_route}
@@ -31,6 +33,16 @@ left_after k = 13 - k
 
 abbrev pub bound_after : ℕ → ℕ
 bound_after k = 3 + (k - 12)
+
+-- a learned route goes to the gateway that told it
+abbrev pub IsToGateway : Origin → Type 0
+IsToGateway Own = Unit {0}
+IsToGateway (Learned iface from next_hop) = next_hop ≡ from
+
+-- so do all routes below infinity
+abbrev pub AreToGateways : World → Type 0
+AreToGateways w =
+    (router : ℕ) (s : State) → slice_get w.states router ≡ Some s → (p : Prefix6) (r : RouteValue) → map_of.get s.table p ≡ Some r → r.metric < infinity → IsToGateway r.origin
 
 -- a router's moment is close to its last tick
 abbrev pub AreSoon : World → (ℕ → ℕ → Type 0) → (ℕ → ℕ → Type 0) → Type 0
@@ -166,7 +178,7 @@ module _ (net : Network) (usable : IsUsable net) (noisy : IsNeverQuiet net) (dis
 
   -- ---- what is left in the end
 
-  module _ (k : ℕ) (many : 26 ≤ k) (w : World) (here : IsAt k w) where
+  module _ (k : ℕ) (many : 26 ≤ k) (w : World) (here : IsAt k w) (to_gateways : AreToGateways w) where
     no_more : {k : ℕ} → 26 ≤ k → 1 ≤ 13 - k → ⊥
     no_more e f = omega arith
 
@@ -192,8 +204,9 @@ module _ (net : Network) (usable : IsUsable net) (noisy : IsNeverQuiet net) (dis
           let f = here.found router p metric tag walk reach (few k metric many low) low in
           subst (λ (x : RouteValue). x.metric ≤ metric) (one_route w router p f.0 r f.1 (s, is, at)) f.2
 
-      -- a route below infinity is backed by a walk that is no dearer
-      backed : (p : Prefix6) (r : RouteValue) → map_of.get s.table p ≡ Some r → r.metric < infinity → (c : ℕ) × (tag : ℕ) × (walk : List Hop) × Reaches net router p c tag walk × (c ≤ r.metric)
+      -- a route below infinity is backed by a walk that is no dearer, and begins as its origin says
+      backed : (p : Prefix6) (r : RouteValue) → map_of.get s.table p ≡ Some r → r.metric < infinity
+          → (c : ℕ) × (tag : ℕ) × (walk : List Hop) × Reaches net router p c tag walk × (c ≤ r.metric) × BeginsAs net r.origin walk
       backed p r at low = by_clock r.clock (state.plain p r at).clocked (state.steady p r at)
         where
           as_le : (a : ℕ) → a ≡ 1 → 1 ≤ a
@@ -203,8 +216,8 @@ module _ (net : Network) (usable : IsUsable net) (noisy : IsNeverQuiet net) (dis
           dead a e f = omega arith
 
           by_clock : (c : Clock) → IsClocked r.metric c → IsSteadyBy net w here.recent (left_after k) (bound_after k) router (max s.last s.regular) p r c
-              → (c : ℕ) × (tag : ℕ) × (walk : List Hop) × Reaches net router p c tag walk × (c ≤ r.metric)
-          by_clock Fixed e row = (1, row.1.0, [], record { is_walk = tt; costs = refl; owner = row.1.1 }, as_le r.metric e)
+              → (c : ℕ) × (tag : ℕ) × (walk : List Hop) × Reaches net router p c tag walk × (c ≤ r.metric) × BeginsAs net r.origin walk
+          by_clock Fixed e row = (1, row.1.0, [], record { is_walk = tt; costs = refl; owner = row.1.1 }, as_le r.metric e, subst (λ o. BeginsAs net o []) (sym row.0) tt)
           by_clock (Dying until) e row = absurd (dead r.metric e low)
           by_clock (Live until) e row =
               elim row.4 [
@@ -217,15 +230,22 @@ module _ (net : Network) (usable : IsUsable net) (noisy : IsNeverQuiet net) (dis
                     record { iface = row.0; router = x.sender; router_iface = x.sender_iface } ∷ y.2,
                     record { is_walk = ((x.apart, x.linked), y.3.is_walk); costs = ap (λ n. cost_of_interface net router row.0 + n) y.3.costs; owner = y.3.owner },
                     y.4,
+                    subst (λ o. BeginsAs net o (record { iface = row.0; router = x.sender; router_iface = x.sender_iface } ∷ y.2)) (sym row.3)
+                        (refl, x.from_is, subst IsToGateway row.3 (to_gateways router s is p r at low)),
                   )
                 ]
               ]
 
+      is_led : IsLed net router s.table
+      is_led p r at low =
+          let b = backed p r at low in
+          (b.2, (b.1, subst (λ n. Reaches net router p n b.1 b.2) (same b.0 r.metric b.4 (no_dearer p r at b.0 b.1 b.2 b.3 (small b.0 r.metric b.4 low))) b.3), b.5)
+
       is_least : (p : Prefix6) (r : RouteValue) → map_of.get s.table p ≡ Some r → r.metric < infinity → IsLeast net router p r.metric
       is_least p r at low =
-          let b = backed p r at low in
+          let l = is_led p r at low in
           record {
-            reached = (b.1, b.2, subst (λ n. Reaches net router p n b.1 b.2) (same b.0 r.metric b.4 (no_dearer p r at b.0 b.1 b.2 b.3 (small b.0 r.metric b.4 low))) b.3);
+            reached = (l.1.0, l.0, l.1.1);
             least = λ metric tag walk reach. by_size metric tag walk reach;
           }
         where
@@ -245,6 +265,7 @@ module _ (net : Network) (usable : IsUsable net) (noisy : IsNeverQuiet net) (dis
       is_healed =
           record {
             least = is_least;
+            led = is_led;
             found = λ p metric l low. all_found p metric l low;
           }
         where
@@ -259,12 +280,13 @@ module _ (net : Network) (usable : IsUsable net) (noisy : IsNeverQuiet net) (dis
     all_healed router s is = is_healed router s is
 
   -- from a steady network
-  pub heals : (rounds : List Round) (w w' : World) → IsSteady net known w (λ _ _. ⊥) 13 3 → AreWithinGarbageTimeAfter (λ _ _. ⊥) rounds → SynchronousRounds net w rounds w' → 26 ≤ length rounds → AreHealed net w'
-  heals rounds w w' steady close run many =
+  pub heals : (rounds : List Round) (w w' : World) → IsSteady net known w (λ _ _. ⊥) 13 3 → AreWithinGarbageTimeAfter (λ _ _. ⊥) rounds → SynchronousRounds net w rounds w' → 26 ≤ length rounds → AreToGateways w' → AreHealed net w'
+  heals rounds w w' steady close run many to_gateways =
       all_healed (0 + length rounds) (at_least (length rounds) many) w'
       (rounds_on rounds 0 (λ _ _. ⊥) (λ _ _. ⊥) w w' steady
       (fewer_found w (λ _ _. ⊥) 1 0 (omega arith) (found_own net positive known w (λ _ _. ⊥) 13 3 steady reach_positive))
       (λ router s e is none. absurd none) close run)
+      to_gateways
     where
       at_least : (n : ℕ) → 26 ≤ n → 26 ≤ 0 + n
       at_least n h = omega arith

@@ -13,12 +13,12 @@ use Rattle.router_core.specs.Offers.{Offer}
 use Rattle.router_core.specs.Adoption.{Gateway, adopted, adopted_by_clock, refreshed, taken, lost, metric_through, is_reachable, is_through, is_preferred, is_repeated}
 use Rattle.router_core.specs.Timers.{timeout, half_timeout, garbage_time}
 use Rattle.router_core.specs.Output.{is_learned_on}
-use Rattle.ripng_world.specs.declared.network.NetInterface.{NetInterface}
 use Rattle.ripng_world.specs.Network.{Network, AreLinked, interface_at, HasDistinctAddresses}
 use Rattle.ripng_world.specs.Walks.{cost_of_interface}
 use Rattle.ripng_world.specs.World.{World}
 use Rattle.ripng_world.proofs.Improving.{RouteAt, one_route}
 use Rattle.ripng_world.proofs.RoundDeliveries.{gateway_at}
+use Rattle.ripng_world.proofs.RoundNeighbors.{one_sender}
 
 -- a neighbor tells this metric of its route
 pub record IsTold (net : Network) (mid : World) (router : ℕ) (p : Prefix6) (iface from metric : ℕ) : Type 0 where
@@ -33,24 +33,11 @@ pub record IsTold (net : Network) (mid : World) (router : ℕ) (p : Prefix6) (if
   pub in_range : route.metric ≤ infinity
   pub told : metric ≡ cond (is_learned_on sender_iface route.origin) infinity route.metric
 
--- a gateway has one interface, and tells one metric of a prefix
-pub one_sender : (net : Network) → HasDistinctAddresses net → (from sender iface sender' iface' : ℕ)
-    → option_map (λ (i : NetInterface). i.interface.addr) (interface_at net sender iface) ≡ Some from
-    → option_map (λ (i : NetInterface). i.interface.addr) (interface_at net sender' iface') ≡ Some from
-    → (sender ≡ sender') × (iface ≡ iface')
-one_sender net distinct from sender iface sender' iface' a b = by_values (interface_at net sender iface) (interface_at net sender' iface') refl refl a b
-  where
-    by_values : (x y : Option NetInterface) → interface_at net sender iface ≡ x → interface_at net sender' iface' ≡ y
-        → option_map (λ (i : NetInterface). i.interface.addr) x ≡ Some from → option_map (λ (i : NetInterface). i.interface.addr) y ≡ Some from
-        → (sender ≡ sender') × (iface ≡ iface')
-    by_values None y f g c d = absurd (None-Some from c)
-    by_values (Some x) None f g c d = absurd (None-Some from d)
-    by_values (Some x) (Some y) f g c d = distinct sender iface sender' iface' x y f g (Some-same _ _ (c ∙ sym d))
-
+-- a gateway tells one metric of a prefix
 pub one_told : (net : Network) → HasDistinctAddresses net → (mid : World) (router : ℕ) (p : Prefix6) (iface from m n : ℕ)
     → IsTold net mid router p iface from m → IsTold net mid router p iface from n → m ≡ n
 one_told net distinct mid router p iface from m n x y =
-    let one = one_sender net distinct from x.sender x.sender_iface y.sender y.sender_iface x.from_is y.from_is in
+    let one = one_sender net distinct router iface from x.sender x.sender_iface y.sender y.sender_iface x.linked y.linked x.from_is y.from_is in
     let same : x.route ≡ y.route = one_route mid y.sender p x.route y.route (subst (λ s. RouteAt mid s p x.route) one.0 x.at) y.at in
     x.told ∙ ap₂ (λ i (r : RouteValue). cond (is_learned_on i r.origin) infinity r.metric) one.1 same ∙ sym y.told
 

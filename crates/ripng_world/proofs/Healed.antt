@@ -1,9 +1,11 @@
 -- A network heals: rounds of the network as it started are rounds of the network now, and any reached world is where they may begin.
-use Rattle.std.proofs.Common.{◌≡◌, inl, inr, ℕ, ◌+◌, ◌*◌, max, ◌<◌, ◌≤◌, List, [], ◌∷◌, length, All, Option, Some, None, option_map, unwrap_or, slice_get, refl, ap, sym, subst, ◌∙◌, arith, append-nil, IsTrue, IsFalse}
+use Rattle.std.proofs.Common.{◌≡◌, inl, inr, ℕ, ◌+◌, ◌*◌, max, ◌<◌, ◌≤◌, List, [], ◌∷◌, ◌++◌, length, All, Option, Some, None, option_map, unwrap_or, slice_get, refl, ap, sym, subst, ◌∙◌, arith, append-nil, IsTrue, IsFalse}
 use Rattle.std.specs.List.{AllByRecursion}
 use Rattle.std.proofs.lemmas.List.Elements.{recursion_from_All}
 use Rattle.prefix6.specs.Prefix.{Prefix6, IsPrefix, is_routable}
 use Rattle.route_table.specs.Route.{RouteValue}
+use Rattle.route_table.specs.declared.route.Origin.{Origin}
+use Rattle.route_table.specs.declared.route.Origin.TheVariants.{Own, Learned}
 use Rattle.route_table.specs.declared.route.Clock.{Clock}
 use Rattle.route_table.specs.declared.route.Clock.TheVariants.{Fixed, Live, Dying}
 use Rattle.route_table.proofs.TableLaws.{Some-same, None-Some}
@@ -19,16 +21,20 @@ use Rattle.ripng_world.specs.Asked.{Asked}
 use Rattle.ripng_world.specs.Labs.{HasRun}
 use Rattle.ripng_world.proofs.AskedSynchronous.{made_synchronous, as_many}
 use Rattle.ripng_world.specs.Network.{Network, Node, IsNetwork, Owns, interface_at}
-use Rattle.ripng_world.specs.World.{World, Event, Deliver, Stranger, Tick, Restart, Reconfigure, RouterMoves, Happens, WorldRun, IsCold, past_of, address_at, arrival_of}
-use Rattle.ripng_world.specs.Rounds.{Round, IsDeliveryOf, AllTick, AllHeard, IsSynchronousRound, SynchronousRounds}
+use Rattle.ripng_world.specs.World.{World, Event, Deliver, Stranger, Tick, Restart, Leave, LoseLink, Reconfigure, RouterMoves, Happens, WorldRun, IsCold, past_of, address_at, arrival_of}
+use Rattle.ripng_world.specs.Rounds.{Round, IsDeliveryOf, AllTick, AllHeard, IsSynchronousRound, SynchronousRounds, events_of_rounds}
+use Rattle.ripng_world.specs.Past.{IsBackedSince}
+use Rattle.ripng_world.specs.Walks.{Hop, BeginsAs}
 use Rattle.ripng_world.proofs.Each.{each_at_place}
 use Rattle.ripng_world.proofs.HealHearing.{AreFew}
 use Rattle.ripng_world.proofs.HealStates.{IsSteady, IsSteadyBy}
-use Rattle.ripng_world.proofs.HealMany.{heals}
+use Rattle.ripng_world.proofs.HealMany.{AreToGateways, IsToGateway, heals}
 use Rattle.ripng_world.proofs.NetworkNow.{AreAlike, alike_back, linked_alike, now_alike, now_lawful, place_of, IsLawfulChange}
 use Rattle.ripng_world.proofs.Reached.{IsKnown, IsReachedBy}
 use Rattle.ripng_world.proofs.ReachedRuns.{AreReached, IsReachedState}
 use Rattle.ripng_world.proofs.ReachedWorlds.{reached_from_cold}
+use Rattle.ripng_world.proofs.RoundRuns.{rounds_run, run_on}
+use Rattle.ripng_world.proofs.WorldRuns.{run_from_cold}
 
 -- ---- rounds of networks with the same links and addresses
 
@@ -52,6 +58,8 @@ module _ (net other : Network) (same : AreAlike net other) where
   happens_alike w w' (Stranger router x) answer h = h
   happens_alike w w' (Tick router now word) answer h = h
   happens_alike w w' (Restart router now) answer h = h
+  happens_alike w w' (Leave router now) answer h = h
+  happens_alike w w' (LoseLink router now on) answer h = h
   happens_alike w w' (Reconfigure router now c) answer h = h
 
   ticks_alike : (events : List Event) (w w' : World) → AllTick net w events w' → AllTick other w events w'
@@ -94,6 +102,8 @@ ticks_keep net (Tick router now word ∷ events) w w' run = ticks_keep net event
 ticks_keep net (Deliver datagram router iface now ∷ events) w w' run = absurd run.2
 ticks_keep net (Stranger router x ∷ events) w w' run = absurd run.2
 ticks_keep net (Restart router now ∷ events) w w' run = absurd run.2
+ticks_keep net (Leave router now ∷ events) w w' run = absurd run.2
+ticks_keep net (LoseLink router now on ∷ events) w w' run = absurd run.2
 ticks_keep net (Reconfigure router now c ∷ events) w w' run = absurd run.2
 
 heard_keep : (net : Network) (first end : ℕ) (events : List Event) → AllByRecursion (IsDeliveryOf first end) events → (w w' : World) → AllHeard net w events w' → w'.reconfigurations ≡ w.reconfigurations
@@ -102,6 +112,8 @@ heard_keep net first end (Deliver datagram router iface now ∷ events) these w 
 heard_keep net first end (Stranger router x ∷ events) these w w' run = absurd these.0
 heard_keep net first end (Tick router now word ∷ events) these w w' run = absurd these.0
 heard_keep net first end (Restart router now ∷ events) these w w' run = absurd these.0
+heard_keep net first end (Leave router now ∷ events) these w w' run = absurd these.0
+heard_keep net first end (LoseLink router now on ∷ events) these w w' run = absurd these.0
 heard_keep net first end (Reconfigure router now c ∷ events) these w w' run = absurd these.0
 
 pub rounds_keep : (net : Network) (rounds : List Round) (w w' : World) → SynchronousRounds net w rounds w' → w'.reconfigurations ≡ w.reconfigurations
@@ -174,19 +186,31 @@ module _ (net : Network) (is_net : IsNetwork net) (w : World) (all : AreReached 
       there router node None is e = absurd (None-Some node.quiet e)
       there router node (Some n) is e = all.everyone router n is
 
-  pub heals_here : IsNeverQuiet net → (rounds : List Round) (end : World) → SynchronousRounds net w rounds end → AreWithinGarbageTime rounds → 26 ≤ length rounds → AreHealed (network_now (past_of net end)) end
-  heals_here noisy rounds end run close many =
+  pub heals_here : IsNeverQuiet net → (rounds : List Round) (end : World) → SynchronousRounds net w rounds end → AreWithinGarbageTime rounds → 26 ≤ length rounds → AreToGateways end → AreHealed (network_now (past_of net end)) end
+  heals_here noisy rounds end run close many to_gateways =
       let alike = now_alike w.reconfigurations net in
       let lawful = now_lawful w.reconfigurations net all.lawful is_net in
       subst (λ cs. AreHealed (network_now (record { net = net; reconfigurations = cs })) end) (sym (rounds_keep net rounds w end run))
       (heals (network_now (past_of net w)) lawful.usable (noisy_alike net (network_now (past_of net w)) alike noisy) lawful.distinct (IsKnown (past_of net w)) few rounds w end steady close
-      (rounds_alike net (network_now (past_of net w)) alike rounds w end run) many)
+      (rounds_alike net (network_now (past_of net w)) alike rounds w end run) many to_gateways)
+
+-- each route has gone to its gateway since it was taken
+pub to_gateways : (net : Network) → IsNetwork net → (moments : List ℕ) (events : List Event) (cold w : World) → IsCold net moments cold → WorldRun net cold events w → AreToGateways w
+to_gateways net is_net moments events cold w is run router s here p r at low =
+    let b : IsBackedSince (past_of net w) router p r = (((run_from_cold net is_net.owns_prefixes moments events cold w is run).states_good router s here).sound p r at).backed low in
+    gateway r.origin b.0 b.2
+  where
+    gateway : (o : Origin) (walk : List Hop) → BeginsAs net o walk → IsToGateway o
+    gateway Own walk b = tt
+    gateway (Learned iface from next_hop) [] b = absurd b
+    gateway (Learned iface from next_hop) (h ∷ walk) b = b.2
 
 pub heals_after : (net : Network) (moments : List ℕ) (events : List Event) (rounds : List Round) (cold w end : World)
     → IsNetwork net → IsNeverQuiet net → IsCold net moments cold → WorldRun net cold events w → FitsTablesSince (past_of net w)
     → SynchronousRounds net w rounds end → AreWithinGarbageTime rounds → 26 ≤ length rounds → AreHealed (network_now (past_of net end)) end
 heals_after net moments events rounds cold w end is_net noisy is run fits then close many =
     heals_here net is_net w (reached_from_cold net is_net moments events cold w is run) fits noisy rounds end then close many
+    (to_gateways net is_net moments (events ++ events_of_rounds rounds) cold end is (run_on net events (events_of_rounds rounds) cold w end run (rounds_run net rounds w end then)))
 
 -- rounds of a lab, as they are asked for
 pub heals_asked : (net : Network) (asks : List Asked) (w w' : World) → HasRun net w → All (λ a. length a.ticks ≡ length net) asks → Heals net w asks w'

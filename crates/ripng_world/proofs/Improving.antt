@@ -17,11 +17,11 @@ use Rattle.router_core.specs.Adoption.{Gateway, adopted, adopted_by_clock, refre
 use Rattle.router_core.specs.Timers.{timeout, half_timeout}
 use Rattle.router_core.specs.Output.{is_learned_on}
 use Rattle.router_core.specs.Machine.{State}
-use Rattle.ripng_world.specs.declared.network.NetInterface.{NetInterface}
 use Rattle.ripng_world.specs.Network.{Network, AreLinked, Owns, interface_at, HasDistinctAddresses}
 use Rattle.ripng_world.specs.Walks.{Hop, Reaches, cost_of_interface, end_of}
 use Rattle.ripng_world.specs.Truth.{IsNeighbor}
 use Rattle.ripng_world.specs.World.{World}
+use Rattle.ripng_world.proofs.RoundNeighbors.{one_sender}
 
 -- a router of a world has this route
 abbrev pub RouteAt : World → ℕ → Prefix6 → RouteValue → Type 0
@@ -218,8 +218,8 @@ module _ (net : Network) (distinct : HasDistinctAddresses net) (base : World) (k
   same_gateway : (iface from metric : ℕ) → IsTight net base router p iface from metric → iface ≡ g.iface → from ≡ g.from
       → (o : Offer) → IsToldOffer net base k sender sender_iface g p o → metric < infinity → (metric_through g o < infinity) × (metric_through g o ≤ metric)
   same_gateway iface from metric t i f o told low =
-      let one = distinct t.sender t.sender_iface sender sender_iface t.linked.there near.linked.there t.linked.there_is near.linked.there_is
-      (address t.linked.there from t.from_is t.linked.there_is ∙ f ∙ sym (address near.linked.there g.from near.from near.linked.there_is)) in
+      let one = one_sender net distinct router g.iface g.from t.sender t.sender_iface sender sender_iface
+      (subst (λ x. AreLinked net router x t.sender t.sender_iface) i t.linked) near.linked (t.from_is ∙ ap Some f) near.from in
       let same : t.route ≡ told.route = one_route base sender p t.route told.route (subst (λ s. RouteAt base s p t.route) one.0 t.at) told.at in
       let clean : is_learned_on sender_iface told.route.origin ≡ false =
       ap₂ (λ j (r : RouteValue). is_learned_on j r.origin) (sym one.1) (sym same) ∙ t.unpoisoned in
@@ -227,9 +227,6 @@ module _ (net : Network) (distinct : HasDistinctAddresses net) (base : World) (k
       let same_metric : t.route.metric ≡ told.route.metric = ap (λ (r : RouteValue). r.metric) same in
       through o.metric told.route.metric t.route.metric g.cost (cost_of_interface net router iface) metric m same_metric (near.cost ∙ ap (cost_of_interface net router) (sym i)) t.above low
     where
-      address : {o : Option NetInterface} (there : NetInterface) → (from' : ℕ) → option_map (λ i. i.interface.addr) o ≡ Some from' → o ≡ Some there → there.interface.addr ≡ from'
-      address there from' a b = Some-same there.interface.addr from' (sym (ap (option_map (λ (i : NetInterface). i.interface.addr)) b) ∙ a)
-
       through : (m r t c d n : ℕ) → m ≡ r → t ≡ r → c ≡ d → d + t ≤ n → n < 16 → (min (m + c) 16 < 16) × (min (m + c) 16 ≤ n)
       through m r t c d n e f g h l = (omega arith, omega arith)
 

@@ -97,7 +97,13 @@ address_at net s j b is =
     at_flat (λ (n : Node). map (λ (i : NetInterface). i.interface.addr) n.interfaces) net node.0 b.interface.addr (s, node.1)
     (j, slice_get-map (λ (i : NetInterface). i.interface.addr) (node.0).interfaces j ∙ ap (option_map (λ (i : NetInterface). i.interface.addr)) node.2)
 
-distinct : (net : Network) → NoRepeats (addresses net) → HasDistinctAddresses net
+-- no address is that of two interfaces of the network
+abbrev SharesNoAddress : Network → Type 0
+SharesNoAddress net =
+    (r i s j : ℕ) (a b : NetInterface) → interface_at net r i ≡ Some a → interface_at net s j ≡ Some b
+    → a.interface.addr ≡ b.interface.addr → (r ≡ s) × (i ≡ j)
+
+distinct : (net : Network) → NoRepeats (addresses net) → SharesNoAddress net
 distinct [] once r i s j a b here there same = absurd (None-Some a here)
 distinct (n ∷ ns) once zero i zero j a b here there same =
     let own = map (λ (t : NetInterface). t.interface.addr) n.interfaces in
@@ -123,6 +129,14 @@ distinct (n ∷ ns) once (suc r) i (suc s) j a b here there same =
     omega (arith, one) in
     let later = distinct ns rest_once r i s j a b here there same in
     (ap suc later.0, later.1)
+
+-- which is more than a network needs
+distinct_where_heard : (net : Network) → SharesNoAddress net → HasDistinctAddresses net
+distinct_where_heard net shares =
+    record {
+      on_links = λ r i s j l same. shares r i s j l.here l.there l.here_is l.there_is same;
+      of_neighbors = λ r i k s j own is l same. (shares r i s j own l.there is l.there_is same).0;
+    }
 
 -- ---- all together
 
@@ -163,7 +177,7 @@ module _ (net : Network) (none : network_fault net ≡ None) (lawful : All (λ n
   is_network =
       record {
         owns_prefixes = owned;
-        distinct = distinct net (no_repeats (addresses net)
-            (passes-append (reasons_of_each router_reasons net) (reasons_of_each address_reasons (addresses net)) (each_passes (network_reasons net) none).1).1);
+        distinct = distinct_where_heard net (distinct net (no_repeats (addresses net)
+            (passes-append (reasons_of_each router_reasons net) (reasons_of_each address_reasons (addresses net)) (each_passes (network_reasons net) none).1).1));
         usable = usable;
       }

@@ -276,10 +276,21 @@ module _ (net : Network) (router : ℕ) (c : Change) where
   change_lawful lawful is_net =
       record {
         owns_prefixes = λ r p tag owns. (owned r p tag (owned_from r p tag owns)).0;
-        distinct = λ r i s j a b at_a at_b same.
-            let x = placed (reconfigured_network net (router, c)) net (alike_back net (reconfigured_network net (router, c)) change_alike) r i a at_a in
-            let y = placed (reconfigured_network net (router, c)) net (alike_back net (reconfigured_network net (router, c)) change_alike) s j b at_b in
-            is_net.distinct r i s j x.there y.there x.there_is y.there_is (x.addr ∙ same ∙ sym y.addr);
+        distinct = record {
+          on_links = λ r i s j l same.
+              let x = placed (reconfigured_network net (router, c)) net (alike_back net (reconfigured_network net (router, c)) change_alike) r i l.here l.here_is in
+              let y = placed (reconfigured_network net (router, c)) net (alike_back net (reconfigured_network net (router, c)) change_alike) s j l.there l.there_is in
+              is_net.distinct.on_links r i s j
+              (record { here = x.there; there = y.there; here_is = x.there_is; there_is = y.there_is; same_link = x.link ∙ l.same_link ∙ sym y.link })
+              (x.addr ∙ same ∙ sym y.addr);
+          of_neighbors = λ r i k s j own at l same.
+              let o = placed (reconfigured_network net (router, c)) net (alike_back net (reconfigured_network net (router, c)) change_alike) r i own at in
+              let x = placed (reconfigured_network net (router, c)) net (alike_back net (reconfigured_network net (router, c)) change_alike) r k l.here l.here_is in
+              let y = placed (reconfigured_network net (router, c)) net (alike_back net (reconfigured_network net (router, c)) change_alike) s j l.there l.there_is in
+              is_net.distinct.of_neighbors r i k s j o.there o.there_is
+              (record { here = x.there; there = y.there; here_is = x.there_is; there_is = y.there_is; same_link = x.link ∙ l.same_link ∙ sym y.link })
+              (o.addr ∙ same ∙ sym y.addr);
+        };
         usable = record {
           costs = λ r i a at. costs r i a at;
           local = λ r i a at.

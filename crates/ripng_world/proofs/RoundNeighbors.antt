@@ -1,7 +1,8 @@
 -- The neighbor that a delivered datagram comes from, and the states when one router moves.
-use Rattle.std.proofs.Common.{◌≡◌, ◌≢◌, ◌⊎◌, inl, inr, ℕ, zero, suc, Bool, true, false, ◌||◌, ◌==◌, List, [], ◌∷◌, map, Some, option_map, unwrap_or, slice_get, slice_set, refl, ap, sym, ◌∙◌}
+use Rattle.std.proofs.Common.{◌≡◌, ◌≢◌, ◌⊎◌, inl, inr, ℕ, zero, suc, Bool, true, false, ◌||◌, ◌==◌, List, [], ◌∷◌, map, Some, option_map, unwrap_or, slice_get, slice_set, refl, ap, ap₂, sym, subst, ◌∙◌}
 use Rattle.std.specs.List.{list_any}
 use Rattle.std.proofs.lemmas.Bool.{eq-eqb, eqb-true}
+use Rattle.route_table.specs.declared.route.Origin.TheVariants.{Learned}
 use Rattle.route_table.proofs.TableLaws.{Some-same, None-Some}
 use Rattle.router_core.specs.Config.{cost_at, is_own_address}
 use Rattle.router_core.specs.Machine.{State, gateway_of}
@@ -9,6 +10,7 @@ use Rattle.ripng_world.specs.declared.network.NetInterface.{NetInterface}
 use Rattle.ripng_world.specs.declared.sent.Sent.{Sent}
 use Rattle.ripng_world.specs.Network.{Network, Node, config_of, interface_at, AreLinked, HasDistinctAddresses}
 use Rattle.ripng_world.specs.Truth.{IsNeighbor}
+use Rattle.ripng_world.specs.Walks.{Hop, IsWalk, BeginsAs}
 use Rattle.ripng_world.specs.World.{address_at, arrival_of}
 use Rattle.ripng_world.proofs.WorldRuns.{in_node, cost_is, any_at}
 
@@ -80,5 +82,42 @@ not_mine net distinct d router iface s node node_is config linked other =
     by_answer false e = e
     by_answer true e =
         let f = any_from (λ i. i.addr == address_at net d.router d.iface) (λ (i : NetInterface). i.interface) node.interfaces e in
-        absurd (other (distinct router f.0 d.router d.iface f.1 linked.here (in_node net router f.0 node node_is ∙ f.2) linked.here_is
-        (eqb-true f.1.interface.addr (address_at net d.router d.iface) f.3 ∙ source_is net d router iface linked)).0)
+        absurd (other (distinct.of_neighbors router f.0 iface d.router d.iface f.1 (in_node net router f.0 node node_is ∙ f.2)
+        (record { here = linked.there; there = linked.here; here_is = linked.there_is; there_is = linked.here_is; same_link = sym linked.same_link })
+        (eqb-true f.1.interface.addr (address_at net d.router d.iface) f.3 ∙ source_is net d router iface linked)))
+
+-- at an interface, a gateway's address is that of one interface of one router
+pub one_sender : (net : Network) → HasDistinctAddresses net → (router iface from sender sender_iface sender' sender_iface' : ℕ)
+    → AreLinked net router iface sender sender_iface → AreLinked net router iface sender' sender_iface'
+    → option_map (λ (i : NetInterface). i.interface.addr) (interface_at net sender sender_iface) ≡ Some from
+    → option_map (λ (i : NetInterface). i.interface.addr) (interface_at net sender' sender_iface') ≡ Some from
+    → (sender ≡ sender') × (sender_iface ≡ sender_iface')
+one_sender net distinct router iface from sender sender_iface sender' sender_iface' x y a b =
+    distinct.on_links sender sender_iface sender' sender_iface'
+    (record {
+      here = x.there;
+      there = y.there;
+      here_is = x.there_is;
+      there_is = y.there_is;
+      same_link = sym x.same_link ∙ ap (λ (i : NetInterface). i.link) (Some-same x.here y.here (sym x.here_is ∙ y.here_is)) ∙ y.same_link;
+    })
+    (address sender sender_iface x.there x.there_is a ∙ sym (address sender' sender_iface' y.there y.there_is b))
+  where
+    address : (s j : ℕ) (i : NetInterface) → interface_at net s j ≡ Some i → option_map (λ (i : NetInterface). i.interface.addr) (interface_at net s j) ≡ Some from → i.interface.addr ≡ from
+    address s j i is e = Some-same i.interface.addr from (sym (ap (option_map (λ (i : NetInterface). i.interface.addr)) is) ∙ e)
+
+-- so walks that begin as a learned route says have one first hop
+pub one_first_hop : (net : Network) (router iface from next_hop : ℕ) (a b : Hop) (rest rest' : List Hop) → HasDistinctAddresses net
+    → IsWalk net router (a ∷ rest) → BeginsAs net (Learned iface from next_hop) (a ∷ rest)
+    → IsWalk net router (b ∷ rest') → BeginsAs net (Learned iface from next_hop) (b ∷ rest') → a ≡ b
+one_first_hop net router iface from next_hop a b rest rest' distinct walk begins walk' begins' =
+    let one = one_sender net distinct router iface from a.router a.router_iface b.router b.router_iface
+    (subst (λ i. AreLinked net router i a.router a.router_iface) begins.0 walk.0.1)
+    (subst (λ i. AreLinked net router i b.router b.router_iface) begins'.0 walk'.0.1)
+    begins.1 begins'.1 in
+    same a b (begins.0 ∙ sym begins'.0) one.0 one.1
+  where
+    same : (x y : Hop) → x.iface ≡ y.iface → x.router ≡ y.router → x.router_iface ≡ y.router_iface → x ≡ y
+    same x y e f g =
+        ap (λ i. record { iface = i; router = x.router; router_iface = x.router_iface }) e
+        ∙ ap₂ (λ r j. record { iface = y.iface; router = r; router_iface = j }) f g

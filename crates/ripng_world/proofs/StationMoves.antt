@@ -25,9 +25,9 @@ use Rattle.router_core.specs.declared.reconfiguring.Change.{Change}
 use Rattle.router_core.specs.declared.reconfiguring.Change.TheVariants.{Cost, Own, Disown}
 use Rattle.router_core.specs.declared.reconfiguring.ReconfigureRefused.{ReconfigureRefused}
 use Rattle.router_core.specs.declared.reconfiguring.ReconfigureRefused.TheVariants as refused
-use Rattle.ripng_world.specs.World.{World, Event, RouterMoves, Happens, Deliver, Stranger, Tick, Restart, Reconfigure, reconfigurations_of, is_heard, arrival_of, sent_by}
+use Rattle.ripng_world.specs.World.{World, Event, RouterMoves, Happens, Deliver, Stranger, Tick, Restart, Leave, LoseLink, Reconfigure, reconfigurations_of, is_heard, arrival_of, sent_by}
 use Rattle.ripng_world.specs.Stations.{StationValue, MoveStations, network_of, world_of}
-use Rattle.ripng_world.specs.Labs.{LabValue, IsRefusal, asked_reasons, lab_of, event_fault, event_reasons, missing_router_reasons, named_reasons, refusal_of, step_fault, is_one_link, link_at, link_of_datagram}
+use Rattle.ripng_world.specs.Labs.{LabValue, IsRefusal, asked_reasons, lab_of, event_fault, event_reasons, missing_router_reasons, missing_interface_reasons, named_reasons, refusal_of, step_fault, is_one_link, link_at, link_of_datagram}
 use Rattle.ripng_world.specs.declared.event.LabError.{LabError}
 use Rattle.ripng_world.specs.declared.network.NetInterface.{NetInterface}
 use Rattle.ripng_world.specs.declared.sent.Sent.{Sent}
@@ -214,6 +214,13 @@ router_within stations router none =
     let few : router < length (network_of stations) = grind (arith, nat_tests, h) in
     subst (λ (n : ℕ). router < n) (length-map stations (λ (s : StationValue). s.node)) few
 
+-- and one of which an interface must be there
+pub interface_router_within : (stations : List StationValue) (router iface : ℕ) → first_reason (missing_interface_reasons (network_of stations) router iface) ≡ None → router < length stations
+interface_router_within stations router iface none =
+    let h = (each_passes (missing_interface_reasons (network_of stations) router iface) none).0 in
+    let few : router < length (network_of stations) = grind (arith, nat_tests, h) in
+    subst (λ (n : ℕ). router < n) (length-map stations (λ (s : StationValue). s.node)) few
+
 -- ---- changes of the configuration
 
 -- the router of a change
@@ -299,6 +306,8 @@ happened_passes lab (Deliver datagram router iface now) answer w' none happens =
 happened_passes lab (Stranger router x) answer w' none happens = first_reason-append (event_reasons lab (Stranger router x)) [] none
 happened_passes lab (Tick router now word) answer w' none happens = first_reason-append (event_reasons lab (Tick router now word)) [] none
 happened_passes lab (Restart router now) answer w' none happens = first_reason-append (event_reasons lab (Restart router now)) [] none
+happened_passes lab (Leave router now) answer w' none happens = first_reason-append (event_reasons lab (Leave router now)) [] none
+happened_passes lab (LoseLink router now on) answer w' none happens = first_reason-append (event_reasons lab (LoseLink router now on)) [] none
 
 pub reconfigured : (stations : List StationValue) (router now : ℕ) (c : Change) (old new : StationValue) (answer : Answer)
     → slice_get stations router ≡ Some old → new.node ≡ old.node → Moves old.state (Reconfigures now c) answer new.state

@@ -15,7 +15,7 @@ use Rattle.ripng_world.specs.Convergence.{IsNeverQuiet}
 use Rattle.ripng_world.specs.Network.{Network, Node}
 use Rattle.ripng_world.specs.Past.{Past, OwnsSince}
 use Rattle.ripng_world.specs.Rounds.{Round, IsMomentOf}
-use Rattle.ripng_world.specs.Walks.{IsLeast}
+use Rattle.ripng_world.specs.Walks.{IsBackedBy, IsLeast, IsTableBackedBy, Reaches}
 use Rattle.ripng_world.specs.World.{World, Tick, past_of}
 use Rattle.ripng_world.specs.declared.network.NetInterface.{NetInterface}
 
@@ -66,9 +66,15 @@ AreWithinGarbageTime rounds = AreWithinGarbageTimeAfter (λ _ _. ⊥) rounds
 
 -- ---- what is left
 
--- the routes below infinity have exactly the least costs, and there is one wherever the least cost is below infinity
+-- each route below infinity has a walk of its metric that begins as its origin says, to an owner of its prefix under any tag
+abbrev pub IsLed : Network → ℕ → Table → Type 0
+IsLed net router table = IsTableBackedBy (λ p r. IsBackedBy (λ metric told walk. (tag : ℕ) × Reaches net router p metric tag walk) net r) table
+
+-- the routes below infinity have exactly the least costs, and lead along walks that cost so; and there is one wherever the least
+-- cost is below infinity
 pub record IsHealed (net : Network) (router : ℕ) (table : Table) : Type 0 where
   pub least : (p : Prefix6) (r : RouteValue) → map_of.get table p ≡ Some r → r.metric < infinity → IsLeast net router p r.metric
+  pub led : IsLed net router table
   pub found : (p : Prefix6) (metric : ℕ) → IsLeast net router p metric → metric < infinity → (r : RouteValue) × (map_of.get table p ≡ Some r) × (r.metric ≡ metric)
 
 -- so are all tables

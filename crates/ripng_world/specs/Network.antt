@@ -43,11 +43,13 @@ pub record Owns (net : Network) (router : ℕ) (p : Prefix6) (tag : ℕ) : Type 
 abbrev pub OwnsPrefixes : Network → Type 0
 OwnsPrefixes net = (router : ℕ) (p : Prefix6) (tag : ℕ) → Owns net router p tag → IsPrefix p
 
--- no address is that of two interfaces
-abbrev pub HasDistinctAddresses : Network → Type 0
-HasDistinctAddresses net =
-    (r i s j : ℕ) (a b : NetInterface) → interface_at net r i ≡ Some a → interface_at net s j ≡ Some b
-    → a.interface.addr ≡ b.interface.addr → (r ≡ s) × (i ≡ j)
+-- addresses tell apart whoever hears each other; elsewhere in the network they may stand again
+pub record HasDistinctAddresses (net : Network) : Type 0 where
+  -- no address is that of two interfaces of one link
+  pub on_links : (r i s j : ℕ) (l : AreLinked net r i s j) → l.here.interface.addr ≡ l.there.interface.addr → (r ≡ s) × (i ≡ j)
+  -- no router has, at any of its interfaces, the address of another router's interface of one of its links
+  pub of_neighbors : (r i k s j : ℕ) (own : NetInterface) → interface_at net r i ≡ Some own → (l : AreLinked net r k s j)
+      → own.interface.addr ≡ l.there.interface.addr → r ≡ s
 
 -- each interface and each owned prefix is one that a router may have
 pub record IsUsable (net : Network) : Type 0 where

@@ -40,6 +40,18 @@ pub enum Event<'a> {
         router: usize,
         now: Moment,
     },
+    /// A router says good-bye: it tells every route as unreachable, and holds what it held.
+    Leave {
+        router: usize,
+        now: Moment,
+    },
+    /// A router learns that the link of an interface is lost: what it learned there is unreachable at once.
+    LoseLink {
+        router: usize,
+        now: Moment,
+        /// The number of the router's interface.
+        iface: usize,
+    },
     /// The configuration of a router is changed.
     Reconfigure {
         /// The number of the router.
@@ -148,6 +160,8 @@ impl<'a> Event<'a> {
             | Event::Stranger { router, .. }
             | Event::Tick { router, .. }
             | Event::Restart { router, .. }
+            | Event::Leave { router, .. }
+            | Event::LoseLink { router, .. }
             | Event::Reconfigure { router, .. } => *router,
         }
     }

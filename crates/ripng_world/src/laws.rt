@@ -6,6 +6,10 @@ ghost use Rattle.std.specs.FinMap as map_of;
 ghost use Rattle.prefix6.specs.Prefix.{Prefix6};
 ghost use Rattle.route_table.specs.Route.{RouteValue, infinity};
 ghost use Rattle.route_table.specs.Table.{Table};
+ghost use Rattle.ripng_wire.specs.Layout.{Spells};
+ghost use Rattle.ripng_wire.specs.declared.rte.Command.TheVariants.{Response};
+ghost use Rattle.ripng_wire.specs.declared.rte.Rte.{Rte};
+ghost use Rattle.route_table.specs.declared.route.Origin.TheVariants.{Learned};
 ghost use Rattle.router_core.specs.Ageing.{aged_table};
 ghost use Rattle.router_core.specs.Config.{Config};
 ghost use Rattle.router_core.specs.Hearing.{Hearing, Heard};
@@ -13,8 +17,9 @@ ghost use Rattle.router_core.specs.Machine.{State, Happening, Moves};
 ghost use Rattle.router_core.specs.Reconfiguring.{IsNamed, reconfigured_table};
 ghost use Rattle.router_core.specs.declared.answer.Answer.{Answer};
 ghost use Rattle.router_core.specs.declared.reconfiguring.Change.{Change};
-ghost use Rattle.ripng_world.specs.Network.{Network, IsNetwork};
-ghost use Rattle.ripng_world.specs.Walks.{Hop, IsWalk, Reaches, cost, IsTableBacked, IsLeast};
+ghost use Rattle.ripng_world.specs.Network.{Network, HasDistinctAddresses, IsNetwork, OwnsPrefixes};
+ghost use Rattle.ripng_world.specs.Packets.{Forwardings, ArriveBy, AreThere, PacketsArrive};
+ghost use Rattle.ripng_world.specs.Walks.{Hop, IsWalk, BeginsAs, Reaches, cost, IsTableBacked, IsLeast};
 ghost use Rattle.ripng_world.specs.Past.{Past, ReachesSince, IsTableBackedSince, IsLeastSince};
 ghost use Rattle.ripng_world.specs.Convergence.{IsNeverQuiet, FitsTables, AreConverged};
 ghost use Rattle.ripng_world.specs.Rounds.{Round, SynchronousRounds, AreWithinTimeout, events_of_rounds};
@@ -32,6 +37,12 @@ pub fn tells_only_walks()
     ensures fixed { (net : Network) (router : ℕ) (old new : State) (happening : Happening) (answer : Answer)
         → IsSoundTable net router old.table → Moves old happening answer new
         → AllByRecursion (λ o. IsSoundDatagram net router o.bytes) answer.sends }
+{}
+
+/// A router that says good-bye tells nothing but losses: each entry of each of its datagrams has metric 16.
+pub fn leave_tells_losses()
+    ensures { (old : State) (now : ℕ) (answer : Answer) (new : State) → Moves old (Happening.Leaves now) answer new
+        → AllByRecursion (λ o. (entries : List Rte) → Spells Response entries o.bytes → AllByRecursion (λ e. e.metric ≡ infinity) entries) answer.sends }
 {}
 
 /// To hear such entries of a neighbor, to age, and to do a change keeps routes backed.
@@ -56,18 +67,18 @@ pub fn keeps_routes_backed()
 
 /// In every network, after every list of events, reconfigurations among them, every route is backed by a walk, at costs in
 /// force since the cold start, to a router that has owned the prefix with the route's tag; and so is not below the least
-/// such cost.
+/// such cost. Addresses of interfaces may be any.
 pub fn invents_no_distance()
     ensures backed { (net : Network) (moments : List ℕ) (events : List Event) (cold w : World)
-        → IsNetwork net → IsCold net moments cold → WorldRun net cold events w
+        → OwnsPrefixes net → IsCold net moments cold → WorldRun net cold events w
         → (router : ℕ) (state : State) → slice_get w.states router ≡ Some state → IsTableBackedSince (past_of net w) router state.table }
     ensures least { (net : Network) (moments : List ℕ) (events : List Event) (cold w : World)
-        → IsNetwork net → IsCold net moments cold → WorldRun net cold events w
+        → OwnsPrefixes net → IsCold net moments cold → WorldRun net cold events w
         → (router : ℕ) (state : State) (p : Prefix6) (r : RouteValue) (metric : ℕ)
         → slice_get w.states router ≡ Some state → map_of.get state.table p ≡ Some r → r.metric < infinity
         → IsLeastSince (past_of net w) router p metric → metric ≤ r.metric }
     ensures sent { (net : Network) (moments : List ℕ) (events : List Event) (cold w : World)
-        → IsNetwork net → IsCold net moments cold → WorldRun net cold events w
+        → OwnsPrefixes net → IsCold net moments cold → WorldRun net cold events w
         → AllByRecursion (λ d. IsSoundDatagramSince (past_of net w) d.router d.bytes) w.sent }
     ensures done { (net : Network) (moments : List ℕ) (events : List Event) (cold w : World)
         → IsCold net moments cold → WorldRun net cold events w → w.reconfigurations ≡ reconfigurations_in events }
@@ -77,15 +88,15 @@ pub fn invents_no_distance()
 /// is not below the least cost: the same while no change was done.
 pub fn invents_no_distance_unchanged()
     ensures backed { (net : Network) (moments : List ℕ) (events : List Event) (cold w : World)
-        → IsNetwork net → IsCold net moments cold → WorldRun net cold events w → w.reconfigurations ≡ []
+        → OwnsPrefixes net → IsCold net moments cold → WorldRun net cold events w → w.reconfigurations ≡ []
         → (router : ℕ) (state : State) → slice_get w.states router ≡ Some state → IsTableBacked net router state.table }
     ensures least { (net : Network) (moments : List ℕ) (events : List Event) (cold w : World)
-        → IsNetwork net → IsCold net moments cold → WorldRun net cold events w → w.reconfigurations ≡ []
+        → OwnsPrefixes net → IsCold net moments cold → WorldRun net cold events w → w.reconfigurations ≡ []
         → (router : ℕ) (state : State) (p : Prefix6) (r : RouteValue) (metric : ℕ)
         → slice_get w.states router ≡ Some state → map_of.get state.table p ≡ Some r → r.metric < infinity
         → IsLeast net router p metric → metric ≤ r.metric }
     ensures sent { (net : Network) (moments : List ℕ) (events : List Event) (cold w : World)
-        → IsNetwork net → IsCold net moments cold → WorldRun net cold events w → w.reconfigurations ≡ []
+        → OwnsPrefixes net → IsCold net moments cold → WorldRun net cold events w → w.reconfigurations ≡ []
         → AllByRecursion (λ d. IsSoundDatagram net d.router d.bytes) w.sent }
 {}
 
@@ -96,6 +107,14 @@ pub fn generalises_walks()
         → past.reconfigurations ≡ [] → ReachesSince past from p metric tag walk → Reaches past.net from p metric tag walk }
     ensures still { (past : Past) (from : ℕ) (p : Prefix6) (metric tag : ℕ) (walk : List Hop)
         → Reaches past.net from p metric tag walk → ReachesSince past from p metric tag walk }
+{}
+
+/// Where addresses are distinct on each link, a learned route has one gateway: all walks that begin as its origin says have one
+/// first hop, to the interface that has the gateway's address.
+pub fn names_one_gateway()
+    ensures { (net : Network) (router iface from next_hop : ℕ) (a b : Hop) (rest rest' : List Hop) → HasDistinctAddresses net
+        → IsWalk net router (a ∷ rest) → BeginsAs net (Learned iface from next_hop) (a ∷ rest)
+        → IsWalk net router (b ∷ rest') → BeginsAs net (Learned iface from next_hop) (b ∷ rest') → a ≡ b }
 {}
 
 /// After so many synchronous rounds from a cold start, every router has exactly the least costs of walks with so many hops.
@@ -122,6 +141,20 @@ pub fn heals_in_rounds()
         → IsNetwork net → IsNeverQuiet net → IsCold net moments cold → WorldRun net cold events w → FitsTablesSince (past_of net w)
         → SynchronousRounds net w rounds end → AreWithinGarbageTime rounds → 26 ≤ length rounds
         → AreHealed (network_now (past_of net end)) end }
+{}
+
+/// Where a network has healed, packets arrive. From every router, for every address that its forwarding table matches, and so for
+/// every one of a prefix that some walk of less than 16 reaches: they are handed on from router to router, past none of them twice,
+/// to one that owns a prefix which holds the address. As long as they stay with a prefix, they cost no more than the first router
+/// says of it. And they have one way at most.
+pub fn packets_arrive()
+    ensures healed { (net : Network) (w : World) → IsNetwork net → AreThere net w → AreHealed net w → PacketsArrive net w }
+    ensures one_way { (net : Network) (fibs : Forwardings) (addr router : ℕ) (way other : List Hop) → HasDistinctAddresses net
+        → ArriveBy net fibs addr router way → ArriveBy net fibs addr router other → way ≡ other }
+    ensures after_rounds { (net : Network) (moments : List ℕ) (events : List Event) (rounds : List Round) (cold w end : World)
+        → IsNetwork net → IsNeverQuiet net → IsCold net moments cold → WorldRun net cold events w → FitsTablesSince (past_of net w)
+        → SynchronousRounds net w rounds end → AreWithinGarbageTime rounds → 26 ≤ length rounds
+        → PacketsArrive (network_now (past_of net end)) end }
 {}
 
 /// Synchronous rounds are a run of just their events.

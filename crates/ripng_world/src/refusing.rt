@@ -147,6 +147,18 @@ fn check_named<S: RouteStore>(
     }
 }
 
+/// Whether there are such a router and such an interface.
+fn check_link<S: RouteStore>(
+    stations: &[Station<S>],
+    router: usize,
+    iface: usize,
+) -> Result<(), LabError>
+    ensures { result_err result ≡ first_reason (missing_interface_reasons (network_of stations.now) router iface) }
+{
+    check_interface(stations, router, iface)?;
+    Ok(())
+}
+
 /// The first reason to refuse an event, before its router is asked.
 pub fn check<S: RouteStore>(
     stations: &[Station<S>],
@@ -163,9 +175,9 @@ pub fn check<S: RouteStore>(
             ..
         } => check_delivery(stations, sent, *datagram, *router, *iface),
         Event::Stranger { router, arrival } => check_stranger(stations, sent, *router, arrival),
-        Event::Tick { router, .. } | Event::Restart { router, .. } => {
-            check_router(stations, *router)
-        }
+        Event::Tick { router, .. } | Event::Restart { router, .. } | Event::Leave { router, .. } =>
+            { check_router(stations, *router) }
+        Event::LoseLink { router, iface, .. } => check_link(stations, *router, *iface),
         Event::Reconfigure { router, change, .. } => check_named(stations, *router, change),
     }
 }

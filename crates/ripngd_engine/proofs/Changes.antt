@@ -2,19 +2,49 @@
 use Rattle.std.proofs.Common.{◌≡◌, ℕ, List, [], ◌∷◌, refl, arith, Option}
 use Rattle.std.proofs.KnownBytes.{Appends-nil}
 use Rattle.rand_core.specs.Stream.{Stream}
-use Rattle.router_core.specs.Machine.{State, Moves, Reconfigures}
+use Rattle.router_core.specs.Machine.{State, Happening, Moves, Reconfigures, Leaves, LosesLink}
 use Rattle.router_core.specs.declared.answer.Answer.{Answer}
 use Rattle.router_core.specs.declared.reconfiguring.Change.{Change}
 use Rattle.ripngd_engine.specs.Telling.{Gains}
 use Rattle.ripngd_engine.specs.Watch.{LinkReport}
-use Rattle.ripngd_engine.specs.Run.{one_moment}
+use Rattle.ripngd_engine.specs.Run.{Machine, Trace, Moved, arrival_told, one_moment}
 use Rattle.ripngd_engine.specs.Outlet.{OutletSeen, CarriesOut}
 use Rattle.ripngd_engine.specs.Seen.{Acts}
-use Rattle.ripngd_engine.specs.Changing.{ReconfiguresOnce, ReconfiguresNothing}
+use Rattle.ripngd_engine.specs.Changing.{ReconfiguresOnce, ReconfiguresNothing, LeavesOnce, LosesLinkOnce}
 use Rattle.ripngd_engine.proofs.Tells.{Gains-nil}
 use Rattle.ripngd_engine.proofs.Steps.{around, carried, Carries-out, Shows-carried}
 
 module _ (o : OutletSeen) (router new_router : State) (lost : ℕ) (stream : Stream) (before after : Option (List ℕ)) (now : ℕ) (told : Gains before after (now ∷ [])) where
+  -- any step that is told of by its datagrams alone
+  Acts-moved : {V : Type 0} (takes : V → LinkReport → V → Type 0) (v w : V) (p : OutletSeen) (answer : Answer) (happening : Happening) → arrival_told happening answer ≡ []
+      → Moves router happening answer new_router → CarriesOut takes v w o answer p
+      → Acts (λ m t n. Moved m happening now t n) (around o router lost stream before) (around p new_router lost stream after)
+  Acts-moved takes v w p answer happening untold moves out = record {
+    trace = carried [] now answer out.hands.sends;
+    does = record {
+      answer = answer;
+      moves = moves;
+      carries = rw untold (Carries-out takes v w o p answer out [] now _ refl refl);
+      lost_memory = refl;
+      stream = refl;
+    };
+    shows = Shows-carried takes v w o p answer out [] lost lost router new_router stream stream before after now told;
+  }
+
+  pub Acts-left : {V : Type 0} (takes : V → LinkReport → V → Type 0) (v w : V) (p : OutletSeen) (answer : Answer)
+      → Moves router (Leaves now) answer new_router → CarriesOut takes v w o answer p
+      → Acts LeavesOnce (around o router lost stream before) (around p new_router lost stream after)
+  Acts-left takes v w p answer moves out =
+      let a = Acts-moved takes v w p answer (Leaves now) refl moves out in
+      record { trace = a.trace; does = (now, a.does); shows = a.shows }
+
+  pub Acts-cut_off : {V : Type 0} (takes : V → LinkReport → V → Type 0) (v w : V) (p : OutletSeen) (answer : Answer) (iface : ℕ)
+      → Moves router (LosesLink now iface) answer new_router → CarriesOut takes v w o answer p
+      → Acts (LosesLinkOnce iface) (around o router lost stream before) (around p new_router lost stream after)
+  Acts-cut_off takes v w p answer iface moves out =
+      let a = Acts-moved takes v w p answer (LosesLink now iface) refl moves out in
+      record { trace = a.trace; does = (now, a.does); shows = a.shows }
+
   pub Acts-changed : {V : Type 0} (takes : V → LinkReport → V → Type 0) (v w : V) (p : OutletSeen) (answer : Answer) (c : Change)
       → Moves router (Reconfigures now c) answer new_router → CarriesOut takes v w o answer p
       → Acts (ReconfiguresOnce c) (around o router lost stream before) (around p new_router lost stream after)

@@ -1,6 +1,6 @@
 -- Changes of the configuration of an engine's router, between its turns.
 use Rattle.std.specs.Prelude.{ℕ, ◌≡◌, List, [], ◌∷◌, Result, Ok, Err, Bool, true, false, unwrap_or}
-use Rattle.router_core.specs.Machine.{State, Reconfigures}
+use Rattle.router_core.specs.Machine.{State, Reconfigures, Leaves, LosesLink}
 use Rattle.router_core.specs.Reconfiguring.{reconfigure_fault}
 use Rattle.router_core.specs.declared.reconfiguring.Change.{Change}
 use Rattle.router_core.specs.declared.reconfiguring.ReconfigureRefused.{ReconfigureRefused}
@@ -13,6 +13,14 @@ use Rattle.ripngd_engine.specs.declared.report.ChangeFault.TheVariants.{Refused,
 -- the router was changed at the moment that the clock gave, and its answer was carried out
 abbrev pub ReconfiguresOnce : Change → Machine → Trace → Machine → Type 0
 ReconfiguresOnce c m t n = (now : ℕ) × Moved m (Reconfigures now c) now t n
+
+-- the router said good-bye
+abbrev pub LeavesOnce : Machine → Trace → Machine → Type 0
+LeavesOnce m t n = (now : ℕ) × Moved m (Leaves now) now t n
+
+-- the router was told that the link of an interface is lost
+abbrev pub LosesLinkOnce : ℕ → Machine → Trace → Machine → Type 0
+LosesLinkOnce iface m t n = (now : ℕ) × Moved m (LosesLink now iface) now t n
 
 -- a change was refused: it has used its moment, and left all else
 abbrev pub ReconfiguresNothing : Machine → Trace → Machine → Type 0
@@ -28,3 +36,10 @@ abbrev pub ReconfigureAnswer : Change → Seen → Result (Unit {0}) ChangeFault
 ReconfigureAnswer c a (Ok u) b = (b.machine.ended ≡ false) × Acts (ReconfiguresOnce c) a b
 ReconfigureAnswer c a (Err (Refused why)) b = (b.machine.ended ≡ false) × (why ≡ why_refused a.machine.router c) × Acts ReconfiguresNothing a b
 ReconfigureAnswer c a (Err Ended) b = (b.machine.ended ≡ true) × Acts (ReconfiguresOnce c) a b
+
+-- what such a step of an engine that has not ended answers: Ok, and it goes on; that memory was refused for it, which has used its
+-- moment alone; or that memory for the forwarding table was refused, after all else of the step was done
+abbrev pub StepAnswer : (Machine → Trace → Machine → Type 0) → Seen → Result (Unit {0}) ChangeFault → Seen → Type 0
+StepAnswer Does a (Ok u) b = (b.machine.ended ≡ false) × Acts Does a b
+StepAnswer Does a (Err (Refused why)) b = (b.machine.ended ≡ false) × (why ≡ refusals.OutOfMemory) × Acts ReconfiguresNothing a b
+StepAnswer Does a (Err Ended) b = (b.machine.ended ≡ true) × Acts Does a b

@@ -3,7 +3,7 @@
 ghost use Rattle.std.specs.Prelude.{◌≡◌, true, false, Err, IfOk, OnErr, is_err, length};
 ghost use Rattle.router_core.specs.Changes.{forwards};
 ghost use Rattle.router_core.specs.Reconfiguring.{NamesInterface};
-ghost use Rattle.ripngd_engine.specs.Changing.{ReconfigureAnswer};
+ghost use Rattle.ripngd_engine.specs.Changing.{LeavesOnce, LosesLinkOnce, ReconfigureAnswer, StepAnswer};
 
 use crate::clock::TimeSource;
 use crate::link::{Link, LinkChange};
@@ -191,6 +191,39 @@ impl<S: RouteStore, L: Link, C: TimeSource, R: Rng + Drop> Engine<S, L, C, R> {
     {
         match self.running.outlet.ended {
             false => self.running.reconfigure(change, log),
+            true => Err(ChangeFault::Ended),
+        }
+    }
+
+    /// The router says good-bye, between two turns, at the moment that the clock gives: its last update is handed to the link.
+    ///
+    /// # Errors
+    /// `Refused` for want of memory; only a moment of the clock was used then. `Ended` as of `reconfigure`.
+    pub fn leave<W: Write>(&mut self, log: &mut W) -> Result<(), ChangeFault>
+        ensures leaves { self.old.ended ≡ false → StepAnswer LeavesOnce (seen R.stream W.contents self.old log.old) result
+            (seen R.stream W.contents self.new log.new) }
+        ensures ended { self.old.ended ≡ true
+            → (result ≡ Err ChangeFault.Ended) × (self.new ≡ self.old) × (log.new ≡ log.old) }
+    {
+        match self.running.outlet.ended {
+            false => self.running.leave(log),
+            true => Err(ChangeFault::Ended),
+        }
+    }
+
+    /// The link of an interface is lost, between two turns, at the moment that the clock gives. What was learned there is
+    /// withdrawn and logged at once, and told by the next tick.
+    ///
+    /// # Errors
+    /// `Refused` for want of memory; only a moment of the clock was used then. `Ended` as of `reconfigure`.
+    pub fn lose_link<W: Write>(&mut self, iface: usize, log: &mut W) -> Result<(), ChangeFault>
+        ensures loses { self.old.ended ≡ false → StepAnswer (LosesLinkOnce iface) (seen R.stream W.contents self.old log.old) result
+            (seen R.stream W.contents self.new log.new) }
+        ensures ended { self.old.ended ≡ true
+            → (result ≡ Err ChangeFault.Ended) × (self.new ≡ self.old) × (log.new ≡ log.old) }
+    {
+        match self.running.outlet.ended {
+            false => self.running.lose_link(iface, log),
             true => Err(ChangeFault::Ended),
         }
     }

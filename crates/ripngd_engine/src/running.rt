@@ -9,7 +9,7 @@ ghost use Rattle.std.specs.Coded.{Coded-set, →_prop};
 ghost use Rattle.fib.specs.contracts.fib.Fib as forwarding;
 ghost use Rattle.router_core.specs.Changes.{forwards};
 ghost use Rattle.router_core.specs.Reconfiguring.{NamesInterface};
-ghost use Rattle.ripngd_engine.specs.Changing.{ReconfigureAnswer};
+ghost use Rattle.ripngd_engine.specs.Changing.{LeavesOnce, LosesLinkOnce, ReconfigureAnswer, StepAnswer};
 ghost use Rattle.ripngd_engine.specs.declared.running.TurnFault.TheVariants.{NoLink, NoMemory};
 
 use crate::clock::TimeSource;
@@ -19,7 +19,7 @@ use crate::report::ChangeFault;
 use crate::watch::{Arrived, Unwatched, Watch};
 use rand_core::Rng;
 use route_table::{Moment, RouteStore};
-use router_core::{Arrival, Change, Router};
+use router_core::{Arrival, Change, ReconfigureRefused, Router};
 use std::alloc::AllocError;
 use std::io::Write;
 
@@ -199,6 +199,44 @@ impl<S: RouteStore, L: Link, C: TimeSource, R: Rng + Drop> Running<S, L, C, R> {
                 Err(AllocError) => Err(ChangeFault::Ended),
             },
             Err(why) => Err(ChangeFault::Refused(why)),
+        }
+    }
+
+    /// The router says good-bye, at the moment that the clock gives.
+    pub(crate) fn leave<W: Write>(&mut self, log: &mut W) -> Result<(), ChangeFault>
+        requires { self.old.outlet.ended ≡ false }
+        ensures { StepAnswer LeavesOnce (running_seen L.calls C.moments R.stream W.contents self.old log.old) result
+            (running_seen L.calls C.moments R.stream W.contents self.new log.new) }
+    {
+        let now = self.clock.now();
+        let mut watch = Unwatched;
+        match self.router.leave(now) {
+            Ok(answer) => match self.outlet.carry_out(answer, log, &mut watch) {
+                Ok(()) => Ok(()),
+                Err(AllocError) => Err(ChangeFault::Ended),
+            },
+            Err(AllocError) => Err(ChangeFault::Refused(ReconfigureRefused::OutOfMemory)),
+        }
+    }
+
+    /// The link of an interface is lost, at the moment that the clock gives.
+    pub(crate) fn lose_link<W: Write>(
+        &mut self,
+        iface: usize,
+        log: &mut W,
+    ) -> Result<(), ChangeFault>
+        requires { self.old.outlet.ended ≡ false }
+        ensures { StepAnswer (LosesLinkOnce iface) (running_seen L.calls C.moments R.stream W.contents self.old log.old) result
+            (running_seen L.calls C.moments R.stream W.contents self.new log.new) }
+    {
+        let now = self.clock.now();
+        let mut watch = Unwatched;
+        match self.router.link_down(now, iface) {
+            Ok(answer) => match self.outlet.carry_out(answer, log, &mut watch) {
+                Ok(()) => Ok(()),
+                Err(AllocError) => Err(ChangeFault::Ended),
+            },
+            Err(AllocError) => Err(ChangeFault::Refused(ReconfigureRefused::OutOfMemory)),
         }
     }
 }

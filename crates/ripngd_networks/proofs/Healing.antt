@@ -140,9 +140,8 @@ module _ (net : Network) (before : List Happened) (daemons : ℕ → Option Mach
       subst (λ (s : State). IsHealed (network_now (past_of_daemons net before)) router s.table) same (world_healed router h.state h.state_is)
 
   -- and forwards by its table, unless it has ended
-  pub daemon_forwards : (router : ℕ) (m : Machine) → router < length net → daemons' router ≡ Some m → m.ended ≡ false → ForwardsLeast (network_now (past_of_daemons net before)) router m.fib
-  daemon_forwards router m low up going =
-      subst (ForwardsLeast (network_now (past_of_daemons net before)) router) (sym (life going)) (forwards_least (network_now (past_of_daemons net before)) router m.router.table (daemon_healed router m low up))
+  pub daemon_follows : (router : ℕ) (m : Machine) → router < length net → daemons' router ≡ Some m → m.ended ≡ false → m.fib ≡ forwards m.router.table
+  daemon_follows router m low up going = life going
     where
       first : (o : Option Machine) → daemons router ≡ o → IfUp o
       first None is = tt
@@ -153,3 +152,7 @@ module _ (net : Network) (before : List Happened) (daemons : ℕ → Option Mach
           let node = there_is net router low in
           life_follows (config_of node.0) (daemons router) (own_deeds router (undated history)) m (first (daemons router) refl)
           (subst (λ o. Lives (config_of node.0) (daemons router) (own_deeds router (undated history)) o) up (go.lives router node.0 node.1))
+
+  pub daemon_forwards : (router : ℕ) (m : Machine) → router < length net → daemons' router ≡ Some m → m.ended ≡ false → ForwardsLeast (network_now (past_of_daemons net before)) router m.fib
+  daemon_forwards router m low up going =
+      subst (ForwardsLeast (network_now (past_of_daemons net before)) router) (sym (daemon_follows router m low up going)) (forwards_least (network_now (past_of_daemons net before)) router m.router.table (daemon_healed router m low up))

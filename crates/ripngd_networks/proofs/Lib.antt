@@ -18,3 +18,4 @@ mod InOrder
 mod Starting
 mod Healing
 mod Staying
+pub mod Delivering

@@ -9,7 +9,7 @@ use Rattle.route_table.specs.Route.{RouteValue, infinity}
 use Rattle.route_table.proofs.TableLaws.{None-Some, get-map_values}
 use Rattle.router_core.specs.Changes.{forward, forwards, hop_of}
 use Rattle.ripng_world.specs.declared.sent.Sent.{Sent}
-use Rattle.ripng_world.specs.Network.{Network, IsNetwork, config_of}
+use Rattle.ripng_world.specs.Network.{Network, OwnsPrefixes, config_of}
 use Rattle.ripng_world.specs.Past.{IsBackedSince, IsLeastSince}
 use Rattle.ripng_world.specs.TruthSince.{IsSoundDatagramSince}
 use Rattle.ripng_world.specs.Walks.{IsBacked, IsLeast}
@@ -30,7 +30,7 @@ module _ (net : Network) (order : List Happened) (daemons : ℕ → Option Machi
       let life = ran.lives router node.0 node.1 in
       life_follows (config_of node.0) None (own_deeds router order) m tt (subst (λ o. Lives (config_of node.0) None (own_deeds router order) o) up life)
 
-  module _ (is_net : IsNetwork net) (ran : HaveRun net order daemons) where
+  module _ (owns : OwnsPrefixes net) (ran : HaveRun net order daemons) where
     run : IsRunOf net order daemons
     run = run_of net order daemons ran
 
@@ -42,7 +42,7 @@ module _ (net : Network) (order : List Happened) (daemons : ℕ → Option Machi
         → map_of.get m.router.table p ≡ Some r → r.metric < infinity → IsBackedSince (past_of_daemons net order) router p r
     route_backed router m p r low up at below =
         subst (λ past. IsBackedSince past router p r) same
-        ((((run_from_cold net is_net.owns_prefixes run.moments run.events run.cold run.after run.is_cold run.run).states_good router m.router (run.states router m low up)).sound p r at).backed below)
+        ((((run_from_cold net owns run.moments run.events run.cold run.after run.is_cold run.run).states_good router m.router (run.states router m low up)).sound p r at).backed below)
 
     pub route_least : (router : ℕ) (m : Machine) (p : Prefix6) (r : RouteValue) (metric : ℕ) → router < length net → daemons router ≡ Some m
         → map_of.get m.router.table p ≡ Some r → r.metric < infinity → IsLeastSince (past_of_daemons net order) router p metric → metric ≤ r.metric
@@ -81,4 +81,4 @@ module _ (net : Network) (order : List Happened) (daemons : ℕ → Option Machi
         let at = run.sent d there in
         subst (λ past. IsSoundDatagramSince past d.router d.bytes) same
         (each_at_place (λ s. IsSoundDatagramSince (past_of net run.after) s.router s.bytes) run.after.sent
-        (run_from_cold net is_net.owns_prefixes run.moments run.events run.cold run.after run.is_cold run.run).sent_true at.0 d at.1)
+        (run_from_cold net owns run.moments run.events run.cold run.after run.is_cold run.run).sent_true at.0 d at.1)

@@ -1,3 +1,4 @@
 pub mod Daemons
 pub mod Links
 pub mod OnTime
+pub mod Delivering

@@ -11,7 +11,7 @@ ghost use Rattle.router_core.specs.Changes.{forward, forwards};
 ghost use Rattle.router_core.specs.Config.{Config};
 ghost use Rattle.ripng_world.specs.Convergence.{IsNeverQuiet};
 ghost use Rattle.ripng_world.specs.Healing.{FitsTablesSince, IsHealed, network_now};
-ghost use Rattle.ripng_world.specs.Network.{Network, IsNetwork};
+ghost use Rattle.ripng_world.specs.Network.{Network, IsNetwork, OwnsPrefixes};
 ghost use Rattle.ripng_world.specs.Walks.{IsBacked, IsLeast};
 ghost use Rattle.ripng_world.specs.Past.{IsBackedSince, IsLeastSince};
 ghost use Rattle.ripng_world.specs.TruthSince.{IsSoundDatagramSince};
@@ -25,6 +25,8 @@ ghost use Rattle.ripngd_engine.specs.declared.report.ChangeFault.{ChangeFault};
 ghost use Rattle.ripngd_networks.specs.Daemons.{Deed, Start, Happened, Lives, reconfigurations_by, in_force, traces_of};
 ghost use Rattle.ripngd_networks.specs.Links.{HaveRun, IsRunOf, LiveOn, all_handed, past_of_daemons};
 ghost use Rattle.ripngd_networks.specs.OnTime.{AreOnTime, Dated, ForwardsLeast, GoOn, HappenFrom, undated};
+ghost use Rattle.ripngd_networks.specs.Delivering.{AllGoOn, forwardings_by};
+ghost use Rattle.ripng_world.specs.Packets.{PacketsArriveBy};
 
 /// What the contracts of an engine say is a daemon's life: its start, whatever was before, its turns, those before a link
 /// that failed or a want of memory among them, and changes of its configuration, those that are refused among them. The outside gained just what the deeds of that life did.
@@ -47,27 +49,27 @@ pub fn daemons_run_as_networks()
 
 /// So daemons invent no distance: each route of each daemon below 16 is backed by a walk at costs in force since the first starts, and
 /// none is below the least such cost; with no change done, the walk is one of the network as it is configured. The forwarding table of a
-/// daemon that has not ended is that of its routes; and each entry that a daemon ever told is true.
+/// daemon that has not ended is that of its routes; and each entry that a daemon ever told is true. Addresses of interfaces may be any.
 pub fn daemons_invent_no_distance()
-    ensures backed { (net : Network) (order : List Happened) (daemons : ℕ → Option Machine) → IsNetwork net → HaveRun net order daemons
+    ensures backed { (net : Network) (order : List Happened) (daemons : ℕ → Option Machine) → OwnsPrefixes net → HaveRun net order daemons
         → (router : ℕ) (m : Machine) (p : Prefix6) (r : RouteValue) → router < length net → daemons router ≡ Some m
         → map_of.get m.router.table p ≡ Some r → r.metric < infinity → IsBackedSince (past_of_daemons net order) router p r }
-    ensures least { (net : Network) (order : List Happened) (daemons : ℕ → Option Machine) → IsNetwork net → HaveRun net order daemons
+    ensures least { (net : Network) (order : List Happened) (daemons : ℕ → Option Machine) → OwnsPrefixes net → HaveRun net order daemons
         → (router : ℕ) (m : Machine) (p : Prefix6) (r : RouteValue) (metric : ℕ) → router < length net → daemons router ≡ Some m
         → map_of.get m.router.table p ≡ Some r → r.metric < infinity → IsLeastSince (past_of_daemons net order) router p metric → metric ≤ r.metric }
-    ensures backed_fixed { (net : Network) (order : List Happened) (daemons : ℕ → Option Machine) → IsNetwork net → HaveRun net order daemons → reconfigurations_by order ≡ []
+    ensures backed_fixed { (net : Network) (order : List Happened) (daemons : ℕ → Option Machine) → OwnsPrefixes net → HaveRun net order daemons → reconfigurations_by order ≡ []
         → (router : ℕ) (m : Machine) (p : Prefix6) (r : RouteValue) → router < length net → daemons router ≡ Some m
         → map_of.get m.router.table p ≡ Some r → r.metric < infinity → IsBacked net router p r }
-    ensures least_fixed { (net : Network) (order : List Happened) (daemons : ℕ → Option Machine) → IsNetwork net → HaveRun net order daemons → reconfigurations_by order ≡ []
+    ensures least_fixed { (net : Network) (order : List Happened) (daemons : ℕ → Option Machine) → OwnsPrefixes net → HaveRun net order daemons → reconfigurations_by order ≡ []
         → (router : ℕ) (m : Machine) (p : Prefix6) (r : RouteValue) (metric : ℕ) → router < length net → daemons router ≡ Some m
         → map_of.get m.router.table p ≡ Some r → r.metric < infinity → IsLeast net router p metric → metric ≤ r.metric }
     ensures forwards { (net : Network) (order : List Happened) (daemons : ℕ → Option Machine) → HaveRun net order daemons
         → (router : ℕ) (m : Machine) → router < length net → daemons router ≡ Some m → m.ended ≡ false → m.fib ≡ forwards m.router.table }
-    ensures entries { (net : Network) (order : List Happened) (daemons : ℕ → Option Machine) → IsNetwork net → HaveRun net order daemons
+    ensures entries { (net : Network) (order : List Happened) (daemons : ℕ → Option Machine) → OwnsPrefixes net → HaveRun net order daemons
         → (router : ℕ) (m : Machine) (p : Prefix6) (f : Forward) → router < length net → daemons router ≡ Some m → m.ended ≡ false
         → map_of.get m.fib p ≡ Some f
         → (r : RouteValue) × (map_of.get m.router.table p ≡ Some r) × (forward r ≡ Some f) × IsBackedSince (past_of_daemons net order) router p r }
-    ensures told { (net : Network) (order : List Happened) (daemons : ℕ → Option Machine) → IsNetwork net → HaveRun net order daemons
+    ensures told { (net : Network) (order : List Happened) (daemons : ℕ → Option Machine) → OwnsPrefixes net → HaveRun net order daemons
         → (d : Sent) → Contains (all_handed order) d → IsSoundDatagramSince (past_of_daemons net order) d.router d.bytes }
 {}
 
@@ -96,4 +98,20 @@ pub fn daemons_heal()
         → LiveOn net (undated early) daemons now → LiveOn net (undated late) now daemons'
         → (router : ℕ) (m : Machine) → router < length net → now router ≡ Some m
         → IsHealed (network_now (past_of_daemons net before)) router m.router.table × (m.ended ≡ false → ForwardsLeast (network_now (past_of_daemons net before)) router m.fib) }
+{}
+
+/// Then packets arrive, by the daemons' own forwarding tables, while none of the daemons has ended: from each of them, for every
+/// address that its table matches. So it is 28 minutes after the last change, and at each moment from then on.
+pub fn daemons_deliver()
+    ensures deliver { (net : Network) (before : List Happened) (daemons daemons' : ℕ → Option Machine) (history : List Dated) (start stop : ℕ)
+        → IsNetwork net → IsNeverQuiet net → HaveRun net before daemons → FitsTablesSince (past_of_daemons net before)
+        → GoOn net before daemons history start stop daemons' → AreOnTime net before daemons history start stop → start + 28 * 60_000 ≤ stop
+        → AllGoOn net daemons' → PacketsArriveBy (network_now (past_of_daemons net before)) (forwardings_by net daemons') }
+    ensures stays { (net : Network) (before : List Happened) (daemons now daemons' : ℕ → Option Machine) (early late : List Dated) (start until stop : ℕ)
+        → IsNetwork net → IsNeverQuiet net → HaveRun net before daemons → FitsTablesSince (past_of_daemons net before)
+        → GoOn net before daemons (early ++ late) start stop daemons' → AreOnTime net before daemons (early ++ late) start stop
+        → start + 28 * 60_000 ≤ until
+        → until ≤ stop → AllByRecursion (λ t. t.at < until) early → HappenFrom until late
+        → LiveOn net (undated early) daemons now → LiveOn net (undated late) now daemons'
+        → AllGoOn net now → PacketsArriveBy (network_now (past_of_daemons net before)) (forwardings_by net now) }
 {}

@@ -7,4 +7,7 @@
 
 mod laws;
 
-pub use laws::{daemons_heal, daemons_invent_no_distance, daemons_run_as_networks, engines_live};
+pub use laws::{
+    daemons_deliver, daemons_heal, daemons_invent_no_distance, daemons_run_as_networks,
+    engines_live,
+};

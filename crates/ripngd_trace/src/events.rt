@@ -22,6 +22,8 @@ pub fn router_of(event: &Event<'_>) -> usize
         | Event::Stranger { router, .. }
         | Event::Tick { router, .. }
         | Event::Restart { router, .. }
+        | Event::Leave { router, .. }
+        | Event::LoseLink { router, .. }
         | Event::Reconfigure { router, .. } => *router,
     }
 }
@@ -35,6 +37,8 @@ pub fn moment_of(event: &Event<'_>) -> Moment
         Event::Deliver { now, .. }
         | Event::Tick { now, .. }
         | Event::Restart { now, .. }
+        | Event::Leave { now, .. }
+        | Event::LoseLink { now, .. }
         | Event::Reconfigure { now, .. } => *now,
     }
 }
@@ -131,6 +135,8 @@ pub fn happened<S: RouteStore>(
         Event::Stranger { arrival, .. } => stranger(alloc, arrival),
         Event::Tick { word, .. } => Ok(Happened::Tick { word: *word }),
         Event::Restart { .. } => Ok(Happened::Restart),
+        Event::Leave { .. } => Ok(Happened::Leave),
+        Event::LoseLink { iface, .. } => Ok(Happened::LoseLink { iface: *iface }),
         Event::Reconfigure { change, .. } => Ok(change_told(change)),
     }
 }

@@ -110,6 +110,10 @@ pub enum Happened {
         word: u32,
     },
     Restart,
+    Leave,
+    LoseLink {
+        iface: usize,
+    },
     Cost {
         iface: usize,
         cost: u8,

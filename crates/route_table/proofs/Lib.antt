@@ -17,3 +17,9 @@ pub mod FirstDue
 pub mod SortedDue
 pub mod SortedMarks
 pub mod WalksWhere
+pub mod BlockLists
+pub mod BlockBounds
+pub mod BlockEdits
+pub mod BlockWalks
+pub mod BlockChanges
+pub mod SortedStore

@@ -13,7 +13,7 @@ use Rattle.route_table.specs.Place.{Entries}
 use Rattle.route_table.specs.Summary.{SummaryValue, both, summary_of, summary_of_route}
 use Rattle.route_table.specs.Table.{map_entries}
 use Rattle.route_table.specs.declared.trie.Link.{Link}
-use Rattle.route_table.specs.Trie.{linked, owned, in_turn, fork_entries, IsFork, AreShared, HasEntries}
+use Rattle.route_table.specs.Trie.{linked, owned, in_turn, fork_entries, IsFork, HasEntries}
 use Rattle.route_table.proofs.TableLaws.{is_sorted-map_entries}
 use Rattle.route_table.proofs.TrieLists.{Entry}
 

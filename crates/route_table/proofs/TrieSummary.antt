@@ -13,13 +13,13 @@ use Rattle.route_table.specs.declared.wanted.Wanted.{Wanted}
 use Rattle.route_table.specs.declared.wanted.Wanted.TheVariants.{Any, Due, Changed}
 use Rattle.route_table.proofs.TrieLists.{Entry, first_fails}
 
-earlier-assoc : (a b c : Option ℕ) → earlier a (earlier b c) ≡ earlier (earlier a b) c
+pub earlier-assoc : (a b c : Option ℕ) → earlier a (earlier b c) ≡ earlier (earlier a b) c
 earlier-assoc None b c = refl
 earlier-assoc (Some a) None c = refl
 earlier-assoc (Some a) (Some b) None = refl
 earlier-assoc (Some a) (Some b) (Some c) = ap (λ n. Some n) (omega arith)
 
-earlier-none : (a : Option ℕ) → earlier a None ≡ a
+pub earlier-none : (a : Option ℕ) → earlier a None ≡ a
 earlier-none None = refl
 earlier-none (Some a) = refl
 
@@ -27,14 +27,14 @@ or-assoc : (a b c : Bool) → (a || (b || c)) ≡ ((a || b) || c)
 or-assoc true b c = refl
 or-assoc false b c = refl
 
-or-none : (a : Bool) → (a || false) ≡ a
+pub or-none : (a : Bool) → (a || false) ≡ a
 or-none true = refl
 or-none false = refl
 
-abbrev of_two : Option ℕ → Bool → SummaryValue
+abbrev pub of_two : Option ℕ → Bool → SummaryValue
 of_two d b = record { due = d; changed = b }
 
-both-assoc : (a b c : SummaryValue) → both a (both b c) ≡ both (both a b) c
+pub both-assoc : (a b c : SummaryValue) → both a (both b c) ≡ both (both a b) c
 both-assoc a b c = ap₂ of_two (earlier-assoc a.due b.due c.due) (or-assoc a.changed b.changed c.changed)
 
 -- of two lists one after the other
@@ -47,12 +47,12 @@ pub summary-one : (e : Entry) → summary_of_route e.1 ≡ summary_of (e ∷ [])
 summary-one e = ap₂ of_two (sym (earlier-none (summary_of_route e.1).due)) (sym (or-none e.1.changed))
 
 -- what two together do not reach, neither reaches
-neither : (by : ℕ) (a b : Option ℕ) → is_reached by (earlier a b) ≡ false → (is_reached by a ≡ false) × (is_reached by b ≡ false)
+pub neither : (by : ℕ) (a b : Option ℕ) → is_reached by (earlier a b) ≡ false → (is_reached by a ≡ false) × (is_reached by b ≡ false)
 neither by None b h = (refl, h)
 neither by (Some a) None h = (h, refl)
 neither by (Some a) (Some b) h = (grind (arith, nat_tests, h), grind (arith, nat_tests, h))
 
-neither_is : (a b : Bool) → (a || b) ≡ false → (a ≡ false) × (b ≡ false)
+pub neither_is : (a b : Bool) → (a || b) ≡ false → (a ≡ false) × (b ≡ false)
 neither_is true b h = absurd (false≢true (sym h))
 neither_is false b h = (refl, h)
 

@@ -6,3 +6,4 @@ pub mod Summary
 pub mod Trie
 pub mod TrieFalls
 pub mod Packing
+pub mod Blocks

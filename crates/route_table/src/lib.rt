@@ -1,9 +1,12 @@
 //! Moments, routes, and the tables that hold the routes of a router.
 #![tactic(auto)]
 
+mod block;
+mod blocks;
 mod laws;
 mod moment;
 mod route;
+mod run;
 mod sorted;
 mod store;
 mod summary;

@@ -1,7 +1,7 @@
 //! What a fork of the trie knows of the routes below it without looking at them.
 
 ghost use Rattle.std.specs.Prelude.{◌≡◌, ◌↔◌, false, IsTrue, Option};
-ghost use Rattle.route_table.specs.Due.{is_reached};
+ghost use Rattle.route_table.specs.Due.{earlier, is_reached};
 ghost use Rattle.route_table.specs.Summary.{both, no_routes, summary_of_route};
 
 use crate::moment::Deadline;
@@ -36,6 +36,16 @@ impl Model for Summary {
       ages = same_ages s.due_ms s.ages i;
       changed = s.changed;
     } };
+}
+
+/// The earlier of two deadlines, of those that there are.
+pub fn earlier(one: Option<u64>, other: Option<u64>) -> Option<u64>
+    ensures { result ≡ earlier one other }
+{
+    match (one, other) {
+        (Some(one_ms), Some(other_ms)) => Some(one_ms.min(other_ms)),
+        (None, due) | (due, None) => due,
+    }
 }
 
 impl Summary {
@@ -127,6 +137,16 @@ impl Summary {
         ensures { result ≡ self.now.changed }
     {
         self.changed
+    }
+
+    /// Whether a route is due before a deadline, if there is one.
+    pub fn is_due_before(&self, due: Option<u64>) -> bool
+        ensures { result ≡ false → earlier due self.now.due ≡ due }
+    {
+        match due {
+            Some(due_ms) => self.ages && self.due_ms < due_ms,
+            None => self.ages,
+        }
     }
 
     /// The least deadline of the routes that age, in milliseconds.

@@ -13,10 +13,11 @@ use Rattle.prefix6.proofs.PrefixLaws.{exact_prefixes}
 use Rattle.fib.specs.declared.change.RouteChange.{RouteChange}
 use Rattle.fib.specs.Forwarding.{same_forward, prefix_of, forward_of, change_to, last_change, Replays}
 use Rattle.route_table.specs.Route.{RouteValue}
-use Rattle.route_table.specs.Table.{Table}
+use Rattle.route_table.specs.Table.{Table, map_values}
 use Rattle.route_table.proofs.TableLaws.{Some-same, None-Some, none_later, sorted_tail, get-map_values}
 use Rattle.router_core.specs.Ageing.{aged, aged_table}
 use Rattle.router_core.specs.Changes.{forward, forwards, change, changes_of_start, changes_of_ageing}
+use Rattle.router_core.specs.Severing.{severed, severed_table, changes_of_severing}
 use Rattle.router_core.proofs.HearingSteps.{same_as_key}
 use Rattle.router_core.proofs.Replaying.{same_forward-true, prefix-change_to, forward-change_to}
 
@@ -88,18 +89,29 @@ module _ (old new : RouteValue → Option RouteValue) where
       by_test true same = same_forward-true _ _ same
       by_test false same = forward-change_to p (option_and_then forward (new r))
 
-pub ageing_replays : (now : ℕ) (table : Table) → Replays (forwards table) (changes_of_ageing now table) (forwards (aged_table now table))
-ageing_replays now table p =
-    get-map_values forward (aged_table now table) p ∙ ap (option_and_then forward) (get-map_values (aged now) table p)
+-- whatever each route becomes
+pub mapped_replays : (f : RouteValue → Option RouteValue) (table : Table)
+    → Replays (forwards table) (filter_map (λ t. change t.0 (Some t.1) (f t.1)) (map_of.entries table)) (forwards (map_values f table))
+mapped_replays f table p =
+    get-map_values forward (map_values f table) p ∙ ap (option_and_then forward) (get-map_values f table p)
     ∙ by_value (map_of.get table p) refl
-    ∙ ap (unwrap_or (option_map forward_of (last_change (changes_of_ageing now table) p))) (sym (get-map_values forward table p))
+    ∙ ap (unwrap_or (option_map forward_of (last_change all p))) (sym (get-map_values forward table p))
   where
+    all : List RouteChange
+    all = filter_map (λ t. change t.0 (Some t.1) (f t.1)) (map_of.entries table)
+
     by_value : (o : Option RouteValue) → map_of.get table p ≡ o
-        → option_and_then forward (option_and_then (aged now) o) ≡ unwrap_or (option_map forward_of (last_change (changes_of_ageing now table) p)) (option_and_then forward o)
-    by_value None is = sym (ap (λ l. unwrap_or (option_map forward_of l) None) (none_of (λ r. Some r) (aged now) (map_of.entries table) p (sym (map_of.get-entries table p) ∙ is)))
+        → option_and_then forward (option_and_then f o) ≡ unwrap_or (option_map forward_of (last_change all p)) (option_and_then forward o)
+    by_value None is = sym (ap (λ l. unwrap_or (option_map forward_of l) None) (none_of (λ r. Some r) f (map_of.entries table) p (sym (map_of.get-entries table p) ∙ is)))
     by_value (Some r) is =
-        sym (left_by (λ r. Some r) (aged now) p r)
-        ∙ ap (λ l. unwrap_or (option_map forward_of l) (forward r)) (sym (one_of (λ r. Some r) (aged now) (map_of.entries table) (map_of.entries_sorted table) p r (sym (map_of.get-entries table p) ∙ is)))
+        sym (left_by (λ r. Some r) f p r)
+        ∙ ap (λ l. unwrap_or (option_map forward_of l) (forward r)) (sym (one_of (λ r. Some r) f (map_of.entries table) (map_of.entries_sorted table) p r (sym (map_of.get-entries table p) ∙ is)))
+
+pub ageing_replays : (now : ℕ) (table : Table) → Replays (forwards table) (changes_of_ageing now table) (forwards (aged_table now table))
+ageing_replays now table = mapped_replays (aged now) table
+
+pub severing_replays : (iface now : ℕ) (table : Table) → Replays (forwards table) (changes_of_severing iface now table) (forwards (severed_table iface now table))
+severing_replays iface now table = mapped_replays (λ r. Some (severed iface now r)) table
 
 pub starting_replays : (table : Table) → Replays map_of.empty (changes_of_start table) (forwards table)
 starting_replays table p =

@@ -14,8 +14,10 @@ pub mod Sending
 pub mod ConfigLaws
 pub mod Owning
 mod AgedTables
+mod AllRoutes
 mod DueRoutes
 mod EmptyRequests
+mod LostTables
 mod Silence
 mod Waking
 mod RouterSteps

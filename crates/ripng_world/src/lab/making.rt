@@ -4,6 +4,7 @@ ghost use Rattle.std.specs.Prelude.{◌≡◌, ◌<◌, ◌≤◌, ◌↔◌, ma
 ghost use Rattle.router_core.specs.Machine.{State};
 ghost use Rattle.ripng_world.specs.AskedRounds.{AreAllMade, Converges, deliveries_of, pairs_since, ticks_of};
 ghost use Rattle.ripng_world.specs.Healing.{Heals};
+ghost use Rattle.ripng_world.specs.Packets.{LetsArrive};
 ghost use Rattle.ripng_world.specs.Labs.{AreRoutesBackedSince, HaveNoneBelowLeastSince, AreDatagramsSoundSince, HoldsFixed};
 ghost use Rattle.ripng_world.specs.Stopping.{HaveStopped, RoundStops, RoundsStop, round_in};
 ghost use Rattle.ripng_world.specs.Watching.{AreMadeTold, HeardInPart, IfRefused, IsMadeTold, RoundToldInPart, RoundsToldInPart, WatchedInPart, WatchedRun, due, failures, heard};
@@ -130,7 +131,8 @@ impl<S: RouteStore> Lab<S> {
 
     /// Rounds are made one after another, each as it is asked for. From a cold start, where no router is quiet, so many
     /// rounds find the least costs of walks with so many hops. From any lab, whatever happened in it, 26 rounds that follow
-    /// one another closely leave each table with the least costs of now, and nothing else below 16 hops.
+    /// one another closely leave each table with the least costs of now, and nothing else below 16 hops; and packets arrive, from
+    /// every router that has a route to their address.
     ///
     /// # Errors
     /// A tick at which the regular update is not due, before it is done; or want of memory, also where a router skipped an
@@ -142,6 +144,7 @@ impl<S: RouteStore> Lab<S> {
         ensures made { OnOk result (AreAllMade self.old.network self.old.world rounds.entry.now self.new.world) }
         ensures converges { OnOk result (Converges self.old.network self.old.world rounds.entry.now self.new.world) }
         ensures heals { OnOk result (Heals self.old.network self.old.world rounds.entry.now self.new.world) }
+        ensures arrives { OnOk result (LetsArrive self.old.network self.old.world rounds.entry.now self.new.world) }
         ensures refused { IfErr result (λ why. HaveStopped self.old.network self.old.world rounds.entry.now why self.new.world) }
         ensures backed { AreRoutesBackedSince self.new.network self.new.world }
         ensures least { HaveNoneBelowLeastSince self.new.network self.new.world }
@@ -169,6 +172,7 @@ impl<S: RouteStore> Lab<S> {
         ensures made { OnOk result (AreAllMade self.old.network self.old.world rounds.entry.now self.new.world) }
         ensures converges { OnOk result (Converges self.old.network self.old.world rounds.entry.now self.new.world) }
         ensures heals { OnOk result (Heals self.old.network self.old.world rounds.entry.now self.new.world) }
+        ensures arrives { OnOk result (LetsArrive self.old.network self.old.world rounds.entry.now self.new.world) }
         ensures told { OnOk result (AreMadeTold V.takes self.old.network (self.old.world, watch.old) rounds.entry.now (self.new.world, watch.new)) }
         ensures told_in_part { IfErr result (λ why. RoundsToldInPart V.takes V.fails (failures why) self.old.network (self.old.world, watch.old) rounds.entry.now (self.new.world, watch.new)) }
         ensures refused { IfErr result (λ why. RoundsStop self.old.network self.old.world rounds.entry.now why self.new.world) }

@@ -1,6 +1,6 @@
 use Rattle.std.proofs.Common.{◌≡◌, ℕ, ◌+◌, Option, length, refl, sym, subst, ◌∙◌, ap, arith}
-use Rattle.ripng_phases.specs.Making.{AreMadePhases, HealsIn}
-use Rattle.ripng_phases.proofs.Together.{AreSoFar, all_heal, all_made, in_part, none_so_far, one_more}
+use Rattle.ripng_phases.specs.Making.{AreMadePhases, HealsIn, LetsArriveIn}
+use Rattle.ripng_phases.proofs.Together.{AreSoFar, all_arrive, all_heal, all_made, in_part, none_so_far, one_more}
 use Rattle.ripng_phases.proofs.making.run_phases.Goals as goal
 
 pub loop-done-init : goal.loop-done-init
@@ -41,4 +41,11 @@ returns-clause-heals g c =
     let all : c.loop-done.done ≡ c.args.phases = omega (arith, c.loop-done-test.false, c.loop-done.auto.done-end) in
     subst (λ (n : ℕ). HealsIn c.args.lab.now.network c.args.lab.now.world n c.loop-done.lab.world) all
     (all_heal g.V.Watch.takes c.args.lab.now.network (c.args.lab.now.world, c.args.watch.now) c.loop-done.done c.loop-done.last (c.loop-done.lab.world, c.loop-done.watch) c.has_run.ensures
+    (all_made g.V.Watch.takes c.args.lab.now.network (c.args.lab.now.world, c.args.watch.now) c.loop-done.done c.loop-done.begin c.loop-done.first c.loop-done.last (c.loop-done.lab.world, c.loop-done.watch) c.loop-done.invariant.so_far))
+
+pub returns-clause-arrives : goal.returns-clause-arrives
+returns-clause-arrives g c =
+    let all : c.loop-done.done ≡ c.args.phases = omega (arith, c.loop-done-test.false, c.loop-done.auto.done-end) in
+    subst (λ (n : ℕ). LetsArriveIn c.args.lab.now.network c.args.lab.now.world n c.loop-done.lab.world) all
+    (all_arrive g.V.Watch.takes c.args.lab.now.network (c.args.lab.now.world, c.args.watch.now) c.loop-done.done c.loop-done.last (c.loop-done.lab.world, c.loop-done.watch) c.has_run.ensures
     (all_made g.V.Watch.takes c.args.lab.now.network (c.args.lab.now.world, c.args.watch.now) c.loop-done.done c.loop-done.begin c.loop-done.first c.loop-done.last (c.loop-done.lab.world, c.loop-done.watch) c.loop-done.invariant.so_far))

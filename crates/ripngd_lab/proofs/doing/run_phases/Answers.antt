@@ -1,5 +1,6 @@
+use Rattle.std.proofs.Common.{◌≡◌, ℕ, subst}
 use Rattle.std.proofs.lemmas.Result.{IfErr-at_err, IfOk-at_ok}
-use Rattle.ripng_phases.specs.Making.{AreMadeInPart, AreMadePhases}
+use Rattle.ripng_phases.specs.Making.{AreMadeInPart, AreMadePhases, HealsIn}
 use Rattle.ripngd_lab.proofs.ScriptWatching.{phases_told, phases_stopped, stops_in}
 use Rattle.ripngd_lab.proofs.doing.run_phases.Goals as goal
 
@@ -17,3 +18,9 @@ pub returns-in-Err-clause-stopped : goal.returns-in-Err-clause-stopped
 returns-in-Err-clause-stopped g c =
     stops_in g.V.Watch-2.takes g.V.Watch-2.fails (c.args.lab.now, c.args.watch.now) (c.run_phases-phase.new.lab, c.run_phases-phase.new.watch) c.run_phases-phase.result.0 c.in-Err.why c.stop_at.result c.stop_at.ensures
     (IfErr-at_err (λ e. AreMadeInPart g.V.Watch-2.takes g.V.Watch-2.fails c.args.lab.now.network (c.args.lab.now.world, c.args.watch.now) c.run_phases-phase.result.0 e (c.run_phases-phase.new.lab.world, c.run_phases-phase.new.watch)) c.in-Err.is c.run_phases-phase.ensures.stopped)
+
+pub returns-in-Ok-clause-heals : goal.returns-in-Ok-clause-heals
+returns-in-Ok-clause-heals g c =
+    let all : c.run_phases-phase.result.0 ≡ c.args.phases = IfOk-at_ok (λ _. c.run_phases-phase.result.0 ≡ c.args.phases) c.in-Ok.is c.run_phases-phase.ensures.all in
+    subst (λ (n : ℕ). HealsIn c.args.lab.now.network c.args.lab.now.world n c.run_phases-phase.new.lab.world) all
+    (IfOk-at_ok (λ _. HealsIn c.args.lab.now.network c.args.lab.now.world c.run_phases-phase.result.0 c.run_phases-phase.new.lab.world) c.in-Ok.is c.run_phases-phase.ensures.heals)

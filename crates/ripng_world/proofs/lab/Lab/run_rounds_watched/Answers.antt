@@ -6,6 +6,7 @@ use Rattle.ripng_world.specs.Watching.{AreMadeTold}
 use Rattle.ripng_world.proofs.AskedSynchronous.{all_made, converging, on_ok, to_ok}
 use Rattle.ripng_world.proofs.WatchedRounds.{rounds_still}
 use Rattle.ripng_world.proofs.Healed.{heals_asked}
+use Rattle.ripng_world.proofs.PacketsAfter.{arrive_asked}
 use Rattle.ripng_world.proofs.LabRuns.{backed, least, truth, fixed}
 use Rattle.ripng_world.proofs.lab.Lab.run_rounds_watched.Goals as goal
 
@@ -31,6 +32,12 @@ pub returns-clause-heals : goal.returns-clause-heals
 returns-clause-heals g c =
     to_ok c.make_rounds-outcome.result _
     (heals_asked c.args.self.now.network c.args.rounds.now c.args.self.now.world c.make_rounds-outcome.new.self.world
+    (subst (λ (l : LabValue). HasRun l.network l.world) c.self.view_is c.self.invariant) c.requires)
+
+pub returns-clause-arrives : goal.returns-clause-arrives
+returns-clause-arrives g c =
+    to_ok c.make_rounds-outcome.result _
+    (arrive_asked c.args.self.now.network c.args.rounds.now c.args.self.now.world c.make_rounds-outcome.new.self.world
     (subst (λ (l : LabValue). HasRun l.network l.world) c.self.view_is c.self.invariant) c.requires)
 
 pub returns-clause-backed : goal.returns-clause-backed

@@ -1,38 +1,36 @@
-use Rattle.std.proofs.Common.{ap, refl, arith}
-use Rattle.std.specs.Result.{is_ok}
-use Rattle.std.proofs.lemmas.Grind.{common_steps}
-use Rattle.route_table.proofs.SortedTable.{sorted_if, table_if, absent_at, len_is}
+use Rattle.std.proofs.Common.{◌∙◌, sym, refl, arith}
+use Rattle.route_table.specs.Blocks.{joined}
+use Rattle.route_table.proofs.SortedTable.{get_is, len_is, table_put}
+use Rattle.route_table.proofs.SortedStore.{added}
 use Rattle.route_table.proofs.sorted.SortedRoutesRouteStore.add.Goals as goal
-use Rattle.route_table.proofs.sorted.SortedRoutesRouteStore.add.Goals.{in-Ok, in-Err-insert}
 
-pub returns-then-len-ge-TABLE_LIMIT-clause-full : goal.returns-then-len-ge-TABLE_LIMIT-clause-full
-returns-then-len-ge-TABLE_LIMIT-clause-full c =
-    let e = len_is c.self.inside.routes.items c.self.invariant.sorted c.args.self.now c.self.view_is in
-    (λ _. omega (arith, e), λ _. refl)
+pub returns-then-self-ge-TABLE_LIMIT-clause-full : goal.returns-then-self-ge-TABLE_LIMIT-clause-full
+returns-then-self-ge-TABLE_LIMIT-clause-full c =
+    let n = c.self.inside in
+    let e = len_is (joined n.blocks.items) c.self.invariant.blocks.sorted c.args.self.now c.self.view_is in
+    (λ _. omega (arith, e, c.self.invariant.counted), λ _. refl)
 
-pub unreachable-requires : goal.unreachable-requires
-unreachable-requires c = absent_at c.self.inside.routes.items c.self.invariant.sorted c.args.self.now c.self.view_is c.args.prefix c.in_default.field-0 c.requires.absent (rw c.deref.ensures.value at c.in_default.ensures.found)
+pub insert-requires-clause-absent : goal.insert-requires-clause-absent
+insert-requires-clause-absent c = sym (get_is (joined c.self.inside.blocks.items) c.self.invariant.blocks.sorted c.args.self.now c.self.view_is c.args.prefix) ∙ c.requires.absent
 
-pub invariant_of-self : goal.invariant_of-self
-invariant_of-self c =
-    let absent = rw c.deref.ensures.value at c.in-Err.ensures.absent in
-    record {
-      sorted = sorted_if c.self.inside.routes.items c.self.invariant.sorted c.args.self.now c.self.view_is c.args.prefix c.args.route c.in-Err.at absent _ (is_ok c.insert.result) c.insert.ensures.items;
-      few = grind (arith, common_steps, c.insert.ensures.len, c.if-len-ge-TABLE_LIMIT.false);
-    }
+pub returns-in_default-clause-full : goal.returns-in_default-clause-full
+returns-in_default-clause-full c =
+    let n = c.self.inside in
+    let e = len_is (joined n.blocks.items) c.self.invariant.blocks.sorted c.args.self.now c.self.view_is in
+    (λ h. cc, λ h. absurd (omega (arith, e, c.self.invariant.counted, c.if-self-ge-TABLE_LIMIT.false)))
+
+pub invariant_of-self-2 : goal.invariant_of-self-2
+invariant_of-self-2 c =
+    let n = c.self.inside in
+    added n.count n.blocks.items c.self.invariant c.args.self.now c.self.view_is c.insert.new.blocks.items c.insert.ensures.filled c.args.prefix c.args.route c.requires.absent c.if-self-ge-TABLE_LIMIT.false c.in-Ok.ensures.ok
 
 pub returns-clause-ok : goal.returns-clause-ok
 returns-clause-ok c =
-    let absent = rw c.deref.ensures.value at c.in-Err.ensures.absent in
-    elim c.match-insert.branch [
-      | in-Ok w ↦ rw w.result-is (table_if c.self.inside.routes.items c.self.invariant.sorted c.args.self.now c.self.view_is c.args.prefix c.args.route c.in-Err.at absent _ (is_ok c.insert.result) c.insert.ensures.items (ap is_ok w.in-Ok.is))
-      | in-Err-insert w ↦ rw w.result-is tt
-    ]
+    let n = c.self.inside in
+    table_put (joined n.blocks.items) c.self.invariant.blocks.sorted c.args.self.now c.self.view_is c.args.prefix c.args.route (joined c.insert.new.blocks.items) (sym c.in-Ok.ensures.ok)
 
 pub returns-clause-full : goal.returns-clause-full
 returns-clause-full c =
-    let e = len_is c.self.inside.routes.items c.self.invariant.sorted c.args.self.now c.self.view_is in
-    elim c.match-insert.branch [
-      | in-Ok w ↦ rw w.result-is (λ h. cc, λ h. absurd (omega (arith, e)))
-      | in-Err-insert w ↦ rw w.result-is (λ h. cc, λ h. absurd (omega (arith, e)))
-    ]
+    let n = c.self.inside in
+    let e = len_is (joined n.blocks.items) c.self.invariant.blocks.sorted c.args.self.now c.self.view_is in
+    (λ h. cc, λ h. absurd (omega (arith, e, c.self.invariant.counted, c.if-self-ge-TABLE_LIMIT.false)))

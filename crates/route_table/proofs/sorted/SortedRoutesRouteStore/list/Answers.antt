@@ -1,13 +1,14 @@
 use Rattle.std.proofs.Common.{◌++◌, sym, ap, ◌∙◌, arith}
+use Rattle.route_table.specs.Blocks.{joined}
 use Rattle.route_table.proofs.SortedTable.{len_is, entries_are}
 use Rattle.route_table.proofs.sorted.SortedRoutesRouteStore.list.Goals as goal
 
-pub unreachable-requires : goal.unreachable-requires
-unreachable-requires c =
-    let items = c.self.inside.routes.items in
-    omega (arith, c.in_default.ensures.full, c.requires.room, c.deref.ensures.len, len_is items c.self.invariant.sorted c.args.self.now c.self.view_is)
+pub list-requires : goal.list-requires
+list-requires c =
+    let bs = c.self.inside.blocks.items in
+    rw c.deref.ensures.value (omega (arith, len_is (joined bs) c.self.invariant.blocks.sorted c.args.self.now c.self.view_is, c.requires.room))
 
 pub returns : goal.returns
 returns c =
-    let items = c.self.inside.routes.items in
-    c.in-Ok.ensures.items ∙ ap (λ l. c.args.out.now.items ++ l) (c.deref.ensures.value ∙ sym (entries_are items c.self.invariant.sorted c.args.self.now c.self.view_is))
+    let bs = c.self.inside.blocks.items in
+    c.list.ensures ∙ ap (λ l. c.args.out.now.items ++ joined l) c.deref.ensures.value ∙ ap (λ l. c.args.out.now.items ++ l) (sym (entries_are (joined bs) c.self.invariant.blocks.sorted c.args.self.now c.self.view_is))

@@ -1,20 +1,22 @@
-use Rattle.std.proofs.Common.{sym, ◌∙◌, arith}
-use Rattle.prefix6.proofs.SortedEntries.{where_at}
-use Rattle.route_table.proofs.SortedTable.{table_without, sorted_without, present_gap}
+use Rattle.std.proofs.Common.{sym, subst}
+use Rattle.std.specs.Prelude.{IsSome}
+use Rattle.route_table.specs.Blocks.{joined}
+use Rattle.route_table.proofs.SortedTable.{get_is, table_without}
+use Rattle.route_table.proofs.SortedStore.{some_left, removed}
 use Rattle.route_table.proofs.sorted.SortedRoutesRouteStore.remove.Goals as goal
 
-pub unreachable-requires : goal.unreachable-requires
-unreachable-requires c = present_gap c.self.inside.routes.items c.self.invariant.sorted c.args.self.now c.self.view_is c.args.prefix.now c.in_default.field-0 c.requires.present (rw c.deref.ensures.value at c.in_default.ensures.absent)
+pub remove-requires-clause-present : goal.remove-requires-clause-present
+remove-requires-clause-present c = subst IsSome (get_is (joined c.self.inside.blocks.items) c.self.invariant.blocks.sorted c.args.self.now c.self.view_is c.args.prefix.now) c.requires.present
+
+pub overflow_sub-self : goal.overflow_sub-self
+overflow_sub-self c =
+    let n = c.self.inside in
+    some_left n.count n.blocks.items c.self.invariant c.args.self.now c.self.view_is c.remove.new.blocks.items c.remove.ensures.filled c.args.prefix.now c.requires.present
 
 pub invariant_of-self : goal.invariant_of-self
 invariant_of-self c =
-    let found = rw c.deref.ensures.value at c.in-Ok.ensures.found in
-    record {
-      sorted = sorted_without c.self.inside.routes.items c.self.invariant.sorted c.args.self.now c.self.view_is c.args.prefix.now _ (where_at _ _ _ c.self.invariant.sorted found ∙ sym c.remove.ensures.items);
-      few = omega (arith, c.self.invariant.few, c.remove.ensures.len);
-    }
+    let n = c.self.inside in
+    removed n.count n.blocks.items c.self.invariant c.args.self.now c.self.view_is c.remove.new.blocks.items c.remove.ensures.filled c.args.prefix.now c.requires.present c.remove.ensures.kept
 
 pub returns : goal.returns
-returns c =
-    let found = rw c.deref.ensures.value at c.in-Ok.ensures.found in
-    table_without c.self.inside.routes.items c.self.invariant.sorted c.args.self.now c.self.view_is c.args.prefix.now _ (where_at _ _ _ c.self.invariant.sorted found ∙ sym c.remove.ensures.items)
+returns c = table_without (joined c.self.inside.blocks.items) c.self.invariant.blocks.sorted c.args.self.now c.self.view_is c.args.prefix.now (joined c.remove.new.blocks.items) (sym c.remove.ensures.kept)

@@ -1,28 +1,20 @@
-use Rattle.std.proofs.Common.{sym, ◌∙◌, ap, Some, arith}
-use Rattle.std.proofs.lemmas.Grind.{common_steps}
-use Rattle.prefix6.proofs.SortedEntries.{put_at}
-use Rattle.route_table.proofs.SortedTable.{get_at, get_gap, table_put, sorted_put}
+use Rattle.std.proofs.Common.{◌∙◌, sym}
+use Rattle.route_table.specs.Blocks.{joined}
+use Rattle.route_table.proofs.SortedTable.{get_is}
+use Rattle.route_table.proofs.SortedStore.{updated, table_updated}
 use Rattle.route_table.proofs.sorted.SortedRoutesRouteStore.update.Goals as goal
-
-pub returns-in_default-clause-before : goal.returns-in_default-clause-before
-returns-in_default-clause-before g c =
-    let absent = rw c.deref.ensures.value at c.in_default.ensures.absent in
-    sym (get_gap c.self.inside.routes.items c.self.invariant.sorted c.args.self.now c.self.view_is c.args.prefix.now c.in_default.field-0 absent)
 
 pub invariant_of-self : goal.invariant_of-self
 invariant_of-self g c =
-    let found = rw c.deref.ensures.value at c.in-Ok.ensures.found in
-    record {
-      sorted = sorted_put c.self.inside.routes.items c.self.invariant.sorted c.args.self.now c.self.view_is c.args.prefix.now c.make-after.result _ (put_at _ _ _ _ c.self.invariant.sorted found);
-      few = grind (arith, common_steps, c.self.invariant.few);
-    }
+    let n = c.self.inside in
+    updated n.count n.blocks.items c.self.invariant c.args.self.now c.self.view_is c.update.new.blocks.items c.update.ensures.filled c.args.prefix.now c.update.result c.update.ensures.before c.update.ensures.after
 
 pub returns-clause-before : goal.returns-clause-before
 returns-clause-before g c =
-    let found = rw c.deref.ensures.value at c.in-Ok.ensures.found in
-    ap (λ e. Some e.1) c.index.ensures ∙ get_at c.self.inside.routes.items c.self.invariant.sorted c.args.self.now c.self.view_is c.args.prefix.now c.in-Ok.at c.index.result.now found
+    let n = c.self.inside in
+    c.update.ensures.before ∙ sym (get_is (joined n.blocks.items) c.self.invariant.blocks.sorted c.args.self.now c.self.view_is c.args.prefix.now)
 
 pub returns-clause-after : goal.returns-clause-after
 returns-clause-after g c =
-    let found = rw c.deref.ensures.value at c.in-Ok.ensures.found in
-    table_put c.self.inside.routes.items c.self.invariant.sorted c.args.self.now c.self.view_is c.args.prefix.now c.make-after.result _ (put_at _ _ _ _ c.self.invariant.sorted found)
+    let n = c.self.inside in
+    table_updated n.count n.blocks.items c.self.invariant c.args.self.now c.self.view_is c.update.new.blocks.items c.update.ensures.filled c.args.prefix.now c.update.result c.update.ensures.after

@@ -1,0 +1,83 @@
+-- A router that leaves tells nothing but losses.
+use Rattle.std.proofs.Common.{◌≡◌, ℕ, ◌+◌, ◌*◌, ◌-◌, ◌/◌, Bool, true, false, cond, List, [], ◌∷◌, map, drop, length, flat_map, slice_range, Option, Some, None, refl, ap, sym, subst}
+use Rattle.std.specs.Prelude.{⊤}
+use Rattle.std.specs.List.{AllByRecursion, enumerate_from}
+use Rattle.std.specs.FinMap as map_of
+use Rattle.prefix6.specs.Prefix.{Prefix6}
+use Rattle.ripng_wire.specs.declared.rte.Rte.{Rte}
+use Rattle.ripng_wire.specs.declared.rte.Command.TheVariants.{Response}
+use Rattle.ripng_wire.specs.Layout.{Spells, entries_for_mtu}
+use Rattle.ripng_wire.specs.declared.rte.Command.{Command}
+use Rattle.ripng_wire.proofs.OneReading.{one_reading}
+use Rattle.route_table.specs.Route.{RouteValue, infinity}
+use Rattle.route_table.specs.Table.{Table}
+use Rattle.route_table.proofs.TableLaws.{all_entries, at_map_values, Some-same}
+use Rattle.router_core.specs.Adoption.{lost}
+use Rattle.router_core.specs.Config.{Config, mtu_at}
+use Rattle.router_core.specs.Leaving.{unreachable_table, leave_messages}
+use Rattle.router_core.specs.Machine.{State, Happening, Leaves, Moves}
+use Rattle.router_core.specs.Output.{Message, AreSpelled, told, told_entry, is_learned_on, every_route, numbers_below, pieces, responses}
+use Rattle.router_core.specs.declared.answer.Answer.{Answer}
+use Rattle.router_core.specs.declared.answer.Destination.{Destination}
+use Rattle.router_core.specs.declared.answer.Destination.TheVariants.{Group}
+use Rattle.router_core.specs.declared.answer.Outgoing.{Outgoing}
+use Rattle.ripng_world.proofs.Each.{each_filter, each_take, each_drop, each_mapped, each_image, each_flat, each_weaker}
+
+-- the entry says that its prefix is unreachable
+abbrev pub IsLoss : Rte → Type 0
+IsLoss e = e.metric ≡ infinity
+
+abbrev AllLosses : List Rte → Type 0
+AllLosses entries = AllByRecursion IsLoss entries
+
+unreachable : (now : ℕ) (table : Table) (p : Prefix6) (r : RouteValue) → map_of.get (unreachable_table now table) p ≡ Some r → r.metric ≡ infinity
+unreachable now table =
+    at_map_values (λ r. Some (lost now r)) (λ t. ⊤) (λ t. t.1.metric ≡ infinity)
+    (λ p r r' s is. subst (λ (x : RouteValue). x.metric ≡ infinity) (Some-same _ r' is) refl) table (λ p r at. tt)
+
+told_lost : (iface : ℕ) (p : Prefix6) (r : RouteValue) → r.metric ≡ infinity → IsLoss (told_entry iface (p, r))
+told_lost iface p r is = elim (is_learned_on iface r.origin) as (λ b. cond b infinity r.metric ≡ infinity) [ true ↦ refl | false ↦ is ]
+
+all_lost : (iface now : ℕ) (table : Table) → AllLosses (told iface every_route (unreachable_table now table))
+all_lost iface now table =
+    each_mapped IsLoss (told_entry iface) _
+    (each_filter (λ (t : Prefix6 × RouteValue). IsLoss (told_entry iface t)) (λ t. every_route t.1) (map_of.entries (unreachable_table now table))
+    (all_entries (λ t. IsLoss (told_entry iface t)) (unreachable_table now table) (λ p r here. told_lost iface p r (unreachable now table p r here))))
+
+abbrev IsFarewell : Message → Type 0
+IsFarewell m = (m.command ≡ Response) × AllLosses m.entries
+
+pieces_lost : (n : ℕ) (entries : List Rte) → AllLosses entries → AllByRecursion AllLosses (pieces n entries)
+pieces_lost n entries all =
+    each_image AllLosses (λ k. slice_range entries (n * k) (n * k + n))
+    (λ k. each_take IsLoss ((n * k + n) - n * k) (drop (n * k) entries) (each_drop IsLoss (n * k) entries all))
+    (numbers_below ((length entries + (n - 1)) / n))
+
+responses_lost : (config : Config) (iface : ℕ) (to : Destination) (entries : List Rte) → AllLosses entries → AllByRecursion IsFarewell (responses config iface to entries)
+responses_lost config iface to entries all =
+    each_mapped IsFarewell (λ piece. record { iface = iface; to = to; command = Response; entries = piece }) (pieces (entries_for_mtu (mtu_at config iface)) entries)
+    (each_weaker (λ piece. (Response ≡ Response) × AllLosses piece) AllLosses (λ piece t. (refl, t)) _ (pieces_lost (entries_for_mtu (mtu_at config iface)) entries all))
+
+farewell : (config : Config) (now : ℕ) (table : Table) → AllByRecursion IsFarewell (leave_messages config now table)
+farewell config now table =
+    elim config.quiet as (λ b. AllByRecursion IsFarewell (cond b [] (flat_map (λ t. responses config t.0 Group (told t.0 every_route (unreachable_table now table))) (enumerate_from 0 config.interfaces)))) [
+      | true ↦ tt
+      | false ↦ each_flat IsFarewell (λ t. responses config t.0 Group (told t.0 every_route (unreachable_table now table)))
+          (λ t. responses_lost config t.0 Group (told t.0 every_route (unreachable_table now table)) (all_lost t.0 now table)) (enumerate_from 0 config.interfaces)
+    ]
+
+spelled : (ms : List Message) (sends : List Outgoing) → AllByRecursion IsFarewell ms → AreSpelled ms sends
+    → AllByRecursion (λ o. (entries : List Rte) → Spells Response entries o.bytes → AllByRecursion (λ e. e.metric ≡ infinity) entries) sends
+spelled [] [] all is = tt
+spelled [] (o ∷ os) all is = absurd is
+spelled (m ∷ ms) [] all is = absurd is
+spelled (m ∷ ms) (o ∷ os) all is = (
+  λ entries read.
+      let one : (m.command ≡ Response) × (m.entries ≡ entries) = one_reading m.command Response m.entries entries o.bytes is.0.bytes read in
+      subst AllLosses one.1 all.0.1,
+  spelled ms os all.1 is.1,
+)
+
+pub leave_tells_losses : (old : State) (now : ℕ) (answer : Answer) (new : State) → Moves old (Leaves now) answer new
+    → AllByRecursion (λ o. (entries : List Rte) → Spells Response entries o.bytes → AllByRecursion (λ e. e.metric ≡ infinity) entries) answer.sends
+leave_tells_losses old now answer new moves = spelled _ answer.sends (farewell old.config _ old.table) moves.answer_is.sends

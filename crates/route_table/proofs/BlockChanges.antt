@@ -1,0 +1,190 @@
+-- Blocks after one of them was changed, parted or taken out.
+use Rattle.std.proofs.Common.{◌≡◌, ℕ, zero, suc, Bool, true, false, if◌then◌else◌, get_or, ◌+◌, ◌<◌, ◌≤◌, List, [], ◌∷◌, ◌++◌, length, take, drop, set, map, Result, Ok, Err, refl, sym, ap, ap₂, subst, ◌∙◌, arith, append_assoc, length-append, length-take, length-drop}
+use mathlib.Core.Bool.{false≢true}
+use Rattle.std.specs.Prelude.{T, All, OnOk, OnErr}
+use Rattle.std.specs.List.{insert, remove}
+use Rattle.std.specs.declared.cmp.Ordering.TheVariants.{Less}
+use Rattle.std.specs.FinMap.{is_sorted}
+use Rattle.std.specs.FinMap.Entries.{put}
+use Rattle.std.proofs.lemmas.List.{append-nil, take_all, drop_all, take_at, drop_at, get_or_at, get_or_read, length_push, length-take-le, take_more_set, drop-set-lt, take-append-drop}
+use Rattle.std.proofs.lemmas.List.Elements.{All-append, All-cons, All-take, All-drop, All-map, All-weaker, filter_map-append}
+use Rattle.std.specs.Option.{option_map}
+use Rattle.prefix6.specs.Prefix.{Prefix6, prefix_cmp}
+use Rattle.prefix6.proofs.PrefixLaws.{prefixes_total}
+use Rattle.route_table.specs.Route.{RouteValue}
+use Rattle.route_table.specs.Place.{Entries}
+use Rattle.route_table.specs.Table.{map_entries}
+use Rattle.route_table.specs.Due.{without_mark}
+use Rattle.route_table.specs.Trie.{in_turn}
+use Rattle.route_table.specs.Blocks.{block_limit, joined, block_at, StartsAt, AreBlocks, AreFilled, IsHome, HasRoom}
+use Rattle.route_table.proofs.BlockLists.{joined-append, joined_at, before_block, below_from, above_from}
+use Rattle.route_table.proofs.TrieLists.{Entry, put_right, put_some, turned}
+use Rattle.route_table.proofs.TrieMarks.{plain_length}
+
+-- ---- marks
+abbrev pub plain : Entries → Entries
+plain = map_entries without_mark
+
+pub joined_plain : (bs : List Entries) → joined (map plain bs) ≡ plain (joined bs)
+joined_plain [] = refl
+joined_plain (b ∷ bs) = ap (λ l. plain b ++ l) (joined_plain bs) ∙ sym (filter_map-append (λ (e : Entry). option_map (λ r. (e.0, r)) (without_mark e.1)) b (joined bs))
+
+pub filled_plain : (bs : List Entries) → AreFilled bs → AreFilled (map plain bs)
+filled_plain bs h = All-map (λ (b : Entries). 0 < length b) plain bs (All-weaker (λ (b : Entries). 0 < length b) (λ (b : Entries). 0 < length (plain b)) (λ b some. omega (arith, plain_length b)) bs h)
+
+pub all_plain : (bs : List Entries) (n : ℕ) → length bs ≤ n → map plain (take n bs) ++ drop n bs ≡ map plain bs
+all_plain bs n le = ap₂ (λ (xs ys : List Entries). map plain xs ++ ys) (take_all n bs le) (drop_all n bs le) ∙ append-nil (map plain bs)
+
+-- ---- one taken out
+pub removed_empty : (bs : List Entries) (i : ℕ) → i < length bs → length (block_at bs i) ≡ 0 → joined (remove bs i) ≡ joined bs
+removed_empty [] i lt none = absurd (omega arith)
+removed_empty ([] ∷ bs) zero lt none = refl
+removed_empty ((e ∷ b) ∷ bs) zero lt none = absurd (omega arith)
+removed_empty (b ∷ bs) (suc i) lt none = ap (λ l. b ++ l) (removed_empty bs i (omega arith) none)
+
+-- ---- one more at the end
+pub joined_push : (bs : List Entries) (p : Prefix6) (v : RouteValue) → All (λ e. prefix_cmp e.0 p ≡ Less) (joined bs) → joined (bs ++ ((p, v) ∷ []) ∷ []) ≡ put prefix_cmp p v (joined bs)
+joined_push bs p v h =
+    joined-append bs (((p, v) ∷ []) ∷ [])
+    ∙ sym (put_right p v (joined bs) [] (λ k d lt. turned _ p Less (h k d lt)))
+    ∙ ap (put prefix_cmp p v) (append-nil (joined bs))
+
+-- where the last block lies before a prefix, all do
+pub all_behind : (bs : List Entries) (h : AreBlocks bs) (m : ℕ) (p : Prefix6) → m + 1 ≡ length bs → All (λ e. prefix_cmp e.0 p ≡ Less) (block_at bs m) → All (λ e. prefix_cmp e.0 p ≡ Less) (joined bs)
+all_behind bs h m p last all =
+    let lt : m < length bs = omega arith in
+    let some : 0 < length (block_at bs m) = h.filled m [] lt in
+    let nothing : joined (drop (m + 1) bs) ≡ [] = ap joined (drop_all (m + 1) bs (omega arith)) in
+    let P = λ (e : Entry). prefix_cmp e.0 p ≡ Less in
+    subst (All P) (sym (joined_at bs m lt))
+    (All-append P (joined (take m bs)) (block_at bs m ++ joined (drop (m + 1) bs))
+    (λ k d k_in. prefixes_total.trans _ _ p (before_block bs h m lt k 0 d k_in some) (all 0 d some))
+    (All-append P (block_at bs m) (joined (drop (m + 1) bs)) all (subst (All P) (sym nothing) (λ k d k_in. absurd (omega arith)))))
+
+-- ---- a block parted in two
+module _ (ts rs : List Entries) (lo hi : Entries) (i : ℕ) (len : length ts ≡ i) where
+  regrouped : ts ++ lo ∷ hi ∷ rs ≡ (ts ++ lo ∷ []) ++ hi ∷ rs
+  regrouped = sym (append_assoc ts (lo ∷ []) (hi ∷ rs))
+
+  regrouped_behind : ts ++ lo ∷ hi ∷ rs ≡ ((ts ++ lo ∷ []) ++ hi ∷ []) ++ rs
+  regrouped_behind = regrouped ∙ sym (append_assoc (ts ++ lo ∷ []) (hi ∷ []) rs)
+
+  one_more : length (ts ++ lo ∷ []) ≡ i + 1
+  one_more = omega (arith, length_push ts lo)
+
+  two_more : length ((ts ++ lo ∷ []) ++ hi ∷ []) ≡ i + 1 + 1
+  two_more = omega (arith, one_more, length_push (ts ++ lo ∷ []) hi)
+
+  take_lower : take i (ts ++ lo ∷ hi ∷ rs) ≡ ts
+  take_lower = take_at ts (lo ∷ hi ∷ rs) i len
+
+  lower_at : block_at (ts ++ lo ∷ hi ∷ rs) i ≡ lo
+  lower_at = get_or_at ts lo (hi ∷ rs) [] i len
+
+  upper_at : block_at (ts ++ lo ∷ hi ∷ rs) (i + 1) ≡ hi
+  upper_at = ap (λ l. block_at l (i + 1)) regrouped ∙ get_or_at (ts ++ lo ∷ []) hi rs [] (i + 1) one_more
+
+  drop_upper : drop (i + 1 + 1) (ts ++ lo ∷ hi ∷ rs) ≡ rs
+  drop_upper = ap (drop (i + 1 + 1)) regrouped_behind ∙ drop_at ((ts ++ lo ∷ []) ++ hi ∷ []) rs (i + 1 + 1) two_more
+
+  parted_length : length (ts ++ lo ∷ hi ∷ rs) ≡ i + 1 + 1 + length rs
+  parted_length = omega (arith, ap length regrouped_behind, length-append ((ts ++ lo ∷ []) ++ hi ∷ []) rs, two_more)
+
+  joined_parted : joined (ts ++ lo ∷ hi ∷ rs) ≡ in_turn (joined ts) (lo ++ hi) (joined rs)
+  joined_parted = joined-append ts (lo ∷ hi ∷ rs) ∙ ap (λ l. joined ts ++ l) (sym (append_assoc lo hi (joined rs)))
+
+  filled_parted : AreFilled ts → AreFilled rs → 0 < length lo → 0 < length hi → AreFilled (ts ++ lo ∷ hi ∷ rs)
+  filled_parted t r l h =
+      let P = λ (b : Entries). 0 < length b in
+      All-append P ts (lo ∷ hi ∷ rs) t (All-cons P lo (hi ∷ rs) l (All-cons P hi rs h r))
+
+-- the block i of bs has become two
+module _ (bs : List Entries) (i : ℕ) (h : AreBlocks bs) (lt : i < length bs) (lo hi : Entries) (lo_is : lo ≡ take 64 (block_at bs i)) (hi_is : hi ≡ drop 64 (block_at bs i)) (full : block_limit ≤ length (block_at bs i)) (cs : List Entries) (is : cs ≡ insert (set bs i lo) (i + 1) hi) where
+  parted_is : cs ≡ take i bs ++ lo ∷ hi ∷ drop (i + 1) bs
+  parted_is =
+      is
+      ∙ ap₂ (λ (xs ys : List Entries). xs ++ hi ∷ ys) (take_more_set bs i lo lt) (drop-set-lt (i + 1) bs i lo (omega arith))
+      ∙ append_assoc (take i bs) (lo ∷ []) (hi ∷ drop (i + 1) bs)
+
+  front_length : length (take i bs) ≡ i
+  front_length = length-take-le i bs (omega arith)
+
+  pub parted_same : joined cs ≡ joined bs
+  parted_same =
+      ap joined parted_is
+      ∙ joined_parted (take i bs) (drop (i + 1) bs) lo hi i front_length
+      ∙ ap (λ l. in_turn (joined (take i bs)) l (joined (drop (i + 1) bs))) (ap₂ (λ (xs ys : Entries). xs ++ ys) lo_is hi_is ∙ take-append-drop 64 (block_at bs i))
+      ∙ sym (joined_at bs i lt)
+
+  pub parted_filled : AreFilled cs
+  parted_filled = subst AreFilled (sym parted_is) (filled_parted (take i bs) (drop (i + 1) bs) lo hi i front_length
+      (All-take (λ (b : Entries). 0 < length b) i bs h.filled) (All-drop (λ (b : Entries). 0 < length b) (i + 1) bs h.filled)
+      (omega (arith, ap length lo_is, length-take 64 (block_at bs i))) (omega (arith, ap length hi_is, length-drop 64 (block_at bs i))))
+
+  parted_blocks : AreBlocks cs
+  parted_blocks = record { sorted = subst (λ l. T (is_sorted prefix_cmp l)) (sym parted_same) h.sorted; filled = parted_filled }
+
+  in_it : i + 1 < length cs
+  in_it = omega (arith, ap length parted_is, parted_length (take i bs) (drop (i + 1) bs) lo hi i front_length)
+
+  upper_is : block_at cs (i + 1) ≡ hi
+  upper_is = ap (λ l. block_at l (i + 1)) parted_is ∙ upper_at (take i bs) (drop (i + 1) bs) lo hi i front_length
+
+  lower_is : block_at cs i ≡ lo
+  lower_is = ap (λ l. block_at l i) parted_is ∙ lower_at (take i bs) (drop (i + 1) bs) lo hi i front_length
+
+  module _ (p f : Prefix6) (home : IsHome bs p i) (starts : StartsAt f hi) where
+    starts_upper : StartsAt f (block_at cs (i + 1))
+    starts_upper = subst (StartsAt f) (sym upper_is) starts
+
+    pub room_below : prefix_cmp p f ≡ Less → HasRoom cs p i
+    room_below less = record {
+      home = record {
+        in_range = omega (arith, in_it);
+        below = subst (λ l. All (λ e. prefix_cmp e.0 p ≡ Less) (joined l)) (sym (ap (take i) parted_is ∙ take_lower (take i bs) (drop (i + 1) bs) lo hi i front_length)) home.below;
+        above = above_from cs parted_blocks (i + 1) in_it f p starts_upper less;
+      };
+      room = omega (arith, ap length lower_is, ap length lo_is, length-take 64 (block_at bs i));
+    }
+
+    pub room_above : length hi < block_limit → (prefix_cmp p f ≡ Less → ⊥) → HasRoom cs p (i + 1)
+    room_above room not = record {
+      home = record {
+        in_range = in_it;
+        below = below_from cs parted_blocks (i + 1) in_it f p starts_upper not;
+        above = subst (λ l. All (λ e. prefix_cmp p e.0 ≡ Less) (joined l)) (sym (ap (drop (i + 1 + 1)) parted_is ∙ drop_upper (take i bs) (drop (i + 1) bs) lo hi i front_length)) home.above;
+      };
+      room = omega (arith, room, ap length upper_is);
+    }
+
+-- ---- what was put into a block, if there was memory
+module _ {A E : Type 0} (p : Prefix6) (v : RouteValue) (b c : Entries) where
+  pub filled_either : (r : Result A E) → OnOk r (c ≡ put prefix_cmp p v b) → OnErr r (c ≡ b) → 0 < length b → 0 < length c
+  filled_either (Ok x) is same some = subst (λ l. 0 < length l) (sym is) (put_some p v b)
+  filled_either (Err x) is same some = subst (λ l. 0 < length l) (sym same) some
+
+-- what holds once a block is parted: all is there as before, and the prefix has a home with room
+pub record IsParted (bs cs : List Entries) (p f : Prefix6) (i : ℕ) : Type 0 where
+  pub same : joined cs ≡ joined bs
+  pub filled : AreFilled cs
+  pub lower : prefix_cmp p f ≡ Less → HasRoom cs p i
+  pub upper : (prefix_cmp p f ≡ Less → ⊥) → HasRoom cs p (i + 1)
+
+taken : (b : Bool) (fs xs ys : List Entries) → fs ≡ (if b then xs else ys) → b ≡ true → fs ≡ xs
+taken true fs xs ys is h = is
+taken false fs xs ys is h = absurd (false≢true h)
+
+pub are_parted : (bs ds : List Entries) (i : ℕ) (b lo hi : Entries) (cs : List Entries) (p f : Prefix6) → ds ≡ bs → b ≡ get_or ds i b → lo ≡ take 64 b → hi ≡ drop 64 b
+    → (ok : Bool) → cs ≡ (if ok then insert (set ds i lo) (i + 1) hi else set ds i lo) → ok ≡ true
+    → AreBlocks bs → IsHome bs p i → block_limit ≤ length (block_at bs i) → StartsAt f hi → length hi < block_limit → IsParted bs cs p f i
+are_parted bs ds i b lo hi cs p f ds_is b_is lo_is hi_is ok cs_is went h home full starts room =
+    let block : b ≡ block_at bs i = get_or_read bs i b home.in_range (b_is ∙ ap (λ l. get_or l i b) ds_is) [] in
+    let low : lo ≡ take 64 (block_at bs i) = lo_is ∙ ap (take 64) block in
+    let high : hi ≡ drop 64 (block_at bs i) = hi_is ∙ ap (drop 64) block in
+    let is : cs ≡ insert (set bs i lo) (i + 1) hi = taken ok cs _ _ cs_is went ∙ ap (λ l. insert (set l i lo) (i + 1) hi) ds_is in
+    record {
+      same = parted_same bs i h home.in_range lo hi low high full cs is;
+      filled = parted_filled bs i h home.in_range lo hi low high full cs is;
+      lower = room_below bs i h home.in_range lo hi low high full cs is p f home starts;
+      upper = room_above bs i h home.in_range lo hi low high full cs is p f home starts room;
+    }

@@ -1,6 +1,0 @@
-use Rattle.std.proofs.Common.{◌≡◌, take}
-use Rattle.route_table.specs.Summary.{summary_of}
-use Rattle.route_table.proofs.sorted.least_deadline.Given as goal
-
-abbrev pub invariant-loop-route : goal.invariant-loop-route
-invariant-loop-route l = l.summary ≡ summary_of (take l.route-index l.routes)

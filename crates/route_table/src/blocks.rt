@@ -1,0 +1,283 @@
+//! Blocks of routes one after the other, in the order of their prefixes.
+
+ghost use Rattle.std.specs.Prelude.{◌≡◌, ◌+◌, ◌<◌, ◌≤◌, ◌++◌, length, IfOk, IfSome, OnOk, OnErr, All, IsSome, IsTrue, [], ◌∷◌, false, None, Some, option_map, vec_len, vec_capacity};
+ghost use Rattle.std.specs.declared.cmp.Ordering.TheVariants.{Less};
+ghost use Rattle.std.specs.FinMap.{find};
+ghost use Rattle.std.specs.FinMap.Entries.{put};
+ghost use Rattle.prefix6.specs.Prefix.{prefix_cmp};
+ghost use Rattle.route_table.specs.Blocks.{block_at, block_limit, joined, AreBlocks, AreFilled, HasRoom, IsHome, IsPlaced, IsStart};
+ghost use Rattle.route_table.specs.Due.{first_where, least_deadline, without_mark};
+ghost use Rattle.route_table.specs.Summary.{meets};
+ghost use Rattle.route_table.specs.Table.{map_entries};
+ghost use Rattle.route_table.specs.Trie.{without, entries_with};
+
+use crate::block::Block;
+use crate::route::Route;
+use crate::wanted::Wanted;
+use prefix6::Prefix;
+use std::alloc::{AllocError, Global};
+
+/// A block, and a place in it.
+pub type Place = (usize, usize);
+
+/// The block in which a prefix is, or into which it would go. The last is looked at first, since routes are learned in order.
+fn home(blocks: &[Block], prefix: &Prefix) -> usize
+    requires ordered { AreBlocks blocks.now }
+    requires some { 0 < length blocks.now }
+    ensures { IsHome blocks.now prefix.now result }
+{
+    let mut low = 0;
+    let mut high = blocks.len();
+    let mut middle = high - 1;
+    while low + 1 < high {
+        if *prefix < blocks[middle].first() {
+            high = middle;
+        } else {
+            low = middle;
+        }
+        middle = low + (high - low) / 2;
+    }
+    low
+}
+
+/// The block of a prefix and its place there, if it has one.
+fn locate(blocks: &[Block], prefix: &Prefix) -> Option<Place>
+    requires { AreBlocks blocks.now }
+    ensures found { IfSome result (IsPlaced blocks.now prefix.now) }
+    ensures absent { result ≡ None → find prefix_cmp prefix.now (joined blocks.now) ≡ None }
+{
+    if blocks.is_empty() {
+        return None;
+    }
+    let block = home(blocks, prefix);
+    match blocks[block].place(prefix) {
+        Some(at) => Some((block, at)),
+        None => None,
+    }
+}
+
+/// The same, where a place is looked at first.
+fn locate_from(blocks: &[Block], first: Place, prefix: &Prefix) -> Option<Place>
+    requires { AreBlocks blocks.now }
+    ensures found { IfSome result (IsPlaced blocks.now prefix.now) }
+    ensures absent { result ≡ None → find prefix_cmp prefix.now (joined blocks.now) ≡ None }
+{
+    if first.0 < blocks.len() && blocks[first.0].has_at(first.1, prefix) {
+        return Some(first);
+    }
+    locate(blocks, prefix)
+}
+
+/// The place behind another.
+fn behind(blocks: &[Block], place: Place) -> Place {
+    let next = place.1.saturating_add(1);
+    if place.0 < blocks.len() && next < blocks[place.0].len() {
+        (place.0, next)
+    } else {
+        (place.0.saturating_add(1), 0)
+    }
+}
+
+/// The route to a prefix, if there is one.
+pub fn get(blocks: &[Block], prefix: &Prefix) -> Option<Route>
+    requires { AreBlocks blocks.now }
+    ensures { result ≡ find prefix_cmp prefix.now (joined blocks.now) }
+{
+    if blocks.is_empty() {
+        return None;
+    }
+    blocks[home(blocks, prefix)].get(prefix)
+}
+
+/// The block from which on routes lie past a prefix.
+fn start(blocks: &[Block], after: &Option<Prefix>) -> usize
+    requires { AreBlocks blocks.now }
+    ensures { IsStart blocks.now after.now result }
+{
+    match after {
+        Some(prefix) if !blocks.is_empty() => home(blocks, prefix),
+        _ => 0,
+    }
+}
+
+/// The first route past the prefix that is wanted.
+pub fn first_wanted(
+    blocks: &[Block],
+    after: &Option<Prefix>,
+    wanted: Wanted,
+) -> Option<(Prefix, Route)>
+    requires { AreBlocks blocks.now }
+    ensures { result ≡ first_where (meets wanted) after.now (joined blocks.now) }
+{
+    for k in start(blocks, after)..blocks.len() {
+        let found = blocks[k].first_wanted(after, wanted);
+        if found.is_some() {
+            return found;
+        }
+    }
+    None
+}
+
+/// The least deadline of the routes that age, in milliseconds.
+pub fn due_ms(blocks: &[Block]) -> Option<u64>
+    ensures { result ≡ least_deadline (joined blocks.now) }
+{
+    let mut due = None;
+    for block in blocks.iter() {
+        due = block.earlier_due(due);
+    }
+    due
+}
+
+/// Appends all routes in their order, into room that is there.
+pub fn list(blocks: &[Block], out: &mut Vec<(Prefix, Route)>)
+    requires room { vec_len out.old + length (joined blocks.now) ≤ vec_capacity out.old }
+    ensures { out.new.items ≡ out.old.items ++ joined blocks.now }
+{
+    for block in blocks.iter() {
+        block.list(out);
+    }
+}
+
+/// Puts what is made of the route to a prefix in its place, and hands out both, if there is one. The place where it looks first
+/// becomes the one behind it.
+pub fn update<F: FnOnce(Route) -> Route>(
+    blocks: &mut Vec<Block>,
+    next: &mut Place,
+    prefix: &Prefix,
+    make: F,
+) -> Option<(Route, Route)>
+    requires callable { F.IsAlwaysCallable make }
+    requires ordered { AreBlocks blocks.old.items }
+    ensures before { option_map (λ made. made.0) result ≡ find prefix_cmp prefix.now (joined blocks.old.items) }
+    ensures by { IfSome result (λ made. F.post make made.0 made.1) }
+    ensures after { joined blocks.new.items ≡ entries_with prefix.now result (joined blocks.old.items) }
+    ensures filled { AreFilled blocks.new.items }
+{
+    let Some((block, at)) = locate_from(blocks, *next, prefix) else {
+        return None;
+    };
+    *next = behind(blocks, (block, at));
+    let made = blocks[block].update(at, prefix, make);
+    Some(made)
+}
+
+/// Takes the marks of all routes.
+pub fn unmark(blocks: &mut Vec<Block>)
+    requires { AreFilled blocks.old.items }
+    ensures unmarked { joined blocks.new.items ≡ map_entries without_mark (joined blocks.old.items) }
+    ensures filled { AreFilled blocks.new.items }
+{
+    for k in 0..blocks.len() {
+        blocks[k].unmark();
+    }
+}
+
+/// Takes the route to a prefix out, and its block where that is left empty.
+pub fn remove(blocks: &mut Vec<Block>, prefix: &Prefix)
+    requires ordered { AreBlocks blocks.old.items }
+    requires present { IsSome (find prefix_cmp prefix.now (joined blocks.old.items)) }
+    ensures kept { joined blocks.new.items ≡ without prefix.now (joined blocks.old.items) }
+    ensures filled { AreFilled blocks.new.items }
+{
+    let Some((block, at)) = locate(blocks, prefix) else {
+        unreachable!()
+    };
+    blocks[block].remove(at, prefix);
+    if blocks[block].len() == 0 {
+        let _ = blocks.remove(block);
+    }
+}
+
+/// Whether a prefix that has no route is to begin a block behind all others: where the last block is full, so that routes that
+/// are learned in order fill their blocks.
+fn begins_block(blocks: &[Block], prefix: &Prefix) -> bool
+    requires { AreBlocks blocks.now }
+    ensures behind { IsTrue result → All (λ e. prefix_cmp e.0 prefix.now ≡ Less) (joined blocks.now) }
+    ensures some { result ≡ false → 0 < length blocks.now }
+{
+    let len = blocks.len();
+    if len == 0 {
+        return true;
+    }
+    let last = &blocks[len - 1];
+    if !last.is_full() {
+        return false;
+    }
+    last.ends_before(prefix)
+}
+
+/// Adds a block of one route behind all others.
+fn append(
+    blocks: &mut Vec<Block>,
+    alloc: Global,
+    prefix: Prefix,
+    route: Route,
+) -> Result<(), AllocError>
+    requires behind { All (λ e. prefix_cmp e.0 prefix ≡ Less) (joined blocks.old.items) }
+    requires filled { AreFilled blocks.old.items }
+    ensures ok { OnOk result (joined blocks.new.items ≡ put prefix_cmp prefix route (joined blocks.old.items)) }
+    ensures err { OnErr result (joined blocks.new.items ≡ joined blocks.old.items) }
+    ensures filled { AreFilled blocks.new.items }
+{
+    blocks.reserve(1)?;
+    let block = Block::of(alloc, prefix, route)?;
+    blocks.push_reserved(block);
+    Ok(())
+}
+
+/// Parts a full block in two, and says into which of them a prefix goes.
+fn part(blocks: &mut Vec<Block>, at: usize, prefix: &Prefix) -> Result<usize, AllocError>
+    requires ordered { AreBlocks blocks.old.items }
+    requires home { IsHome blocks.old.items prefix.now at }
+    requires full { block_limit ≤ length (block_at blocks.old.items at) }
+    ensures ok { IfOk result (HasRoom blocks.new.items prefix.now) }
+    ensures same { joined blocks.new.items ≡ joined blocks.old.items }
+    ensures filled { AreFilled blocks.new.items }
+{
+    blocks.reserve(1)?;
+    let upper = blocks[at].split()?;
+    let first = upper.first();
+    let Ok(()) = blocks.insert(at + 1, upper) else {
+        unreachable!()
+    };
+    Ok(if *prefix < first { at } else { at + 1 })
+}
+
+/// The block into which a prefix goes, where there is room for it.
+fn home_with_room(blocks: &mut Vec<Block>, prefix: &Prefix) -> Result<usize, AllocError>
+    requires ordered { AreBlocks blocks.old.items }
+    requires some { 0 < length blocks.old.items }
+    ensures ok { IfOk result (HasRoom blocks.new.items prefix.now) }
+    ensures same { joined blocks.new.items ≡ joined blocks.old.items }
+    ensures filled { AreFilled blocks.new.items }
+{
+    let at = home(blocks, prefix);
+    if blocks[at].is_full() {
+        return part(blocks, at, prefix);
+    }
+    Ok(at)
+}
+
+/// Puts a route to a prefix that has none into its place.
+///
+/// # Errors
+/// Only want of memory.
+pub fn insert(
+    blocks: &mut Vec<Block>,
+    alloc: Global,
+    prefix: Prefix,
+    route: Route,
+) -> Result<(), AllocError>
+    requires ordered { AreBlocks blocks.old.items }
+    requires absent { find prefix_cmp prefix (joined blocks.old.items) ≡ None }
+    ensures ok { OnOk result (joined blocks.new.items ≡ put prefix_cmp prefix route (joined blocks.old.items)) }
+    ensures err { OnErr result (joined blocks.new.items ≡ joined blocks.old.items) }
+    ensures filled { AreFilled blocks.new.items }
+{
+    if begins_block(blocks, &prefix) {
+        return append(blocks, alloc, prefix, route);
+    }
+    let at = home_with_room(blocks, &prefix)?;
+    blocks[at].insert(prefix, route)
+}

@@ -1,0 +1,89 @@
+//! Routes side by side in the order of their prefixes, searched by bisection.
+
+ghost use Rattle.std.specs.Prelude.{◌≡◌, T, IfOk, IfErr};
+ghost use Rattle.std.specs.FinMap.{is_sorted};
+ghost use Rattle.prefix6.specs.Prefix.{prefix_cmp};
+ghost use Rattle.prefix6.specs.Places.{IsAt, IsGap};
+ghost use Rattle.route_table.specs.Due.{first_where, least_deadline, without_mark};
+ghost use Rattle.route_table.specs.Place.{IsStartPast};
+ghost use Rattle.route_table.specs.Summary.{meets, summary_of};
+ghost use Rattle.route_table.specs.Table.{map_entries};
+
+use crate::route::Route;
+use crate::summary::Summary;
+use crate::wanted::Wanted;
+use prefix6::Prefix;
+
+/// Where the prefix is, or where it would go.
+pub fn search(routes: &[(Prefix, Route)], prefix: &Prefix) -> Result<usize, usize>
+    requires { T (is_sorted prefix_cmp routes.now) }
+    ensures found { IfOk result (IsAt routes.now prefix.now) }
+    ensures absent { IfErr result (IsGap routes.now prefix.now) }
+{
+    routes.binary_search_by_key(prefix, |&(p, _)| p)
+}
+
+/// The same, where the end is looked at first, since routes are learned in the order of their prefixes.
+pub fn search_from_end(routes: &[(Prefix, Route)], prefix: &Prefix) -> Result<usize, usize>
+    requires { T (is_sorted prefix_cmp routes.now) }
+    ensures found { IfOk result (IsAt routes.now prefix.now) }
+    ensures absent { IfErr result (IsGap routes.now prefix.now) }
+{
+    let len = routes.len();
+    if len != 0 && routes[len - 1].0 < *prefix {
+        return Err(len);
+    }
+    search(routes, prefix)
+}
+
+/// Where the routes past the prefix begin, or past none.
+fn place_past(routes: &[(Prefix, Route)], after: Option<Prefix>) -> usize
+    requires { T (is_sorted prefix_cmp routes.now) }
+    ensures { IsStartPast routes.now after result }
+{
+    match after {
+        None => 0,
+        Some(prefix) => match search(routes, &prefix) {
+            Ok(at) => at + 1,
+            Err(at) => at,
+        },
+    }
+}
+
+/// What is known of these routes together.
+pub fn sum_up(routes: &[(Prefix, Route)]) -> Summary
+    ensures { result ≡ summary_of routes.now }
+{
+    let mut summary = Summary::nothing();
+    for (_, route) in routes.iter() {
+        summary = summary.and(Summary::of(route));
+    }
+    summary
+}
+
+/// The first route past the prefix that is wanted.
+pub fn first_wanted(
+    routes: &[(Prefix, Route)],
+    after: Option<Prefix>,
+    wanted: Wanted,
+) -> Option<(Prefix, Route)>
+    requires { T (is_sorted prefix_cmp routes.now) }
+    ensures { result ≡ first_where (meets wanted) after routes.now }
+{
+    for k in place_past(routes, after)..routes.len() {
+        let entry = routes[k];
+        if wanted.is_met_by(&entry.1) {
+            return Some(entry);
+        }
+    }
+    None
+}
+
+/// Takes the marks of all routes.
+pub fn unmark(routes: &mut [(Prefix, Route)])
+    ensures { routes.new ≡ map_entries without_mark routes.old }
+{
+    for entry in routes.iter_mut() {
+        entry.1 = entry.1.with_mark(false);
+    }
+}

@@ -1,0 +1,14 @@
+-- What a router tells as it leaves: every route of its table, own or learned, as unreachable.
+use Rattle.std.specs.Prelude.{ℕ, List, Some}
+use Rattle.route_table.specs.Table.{Table, map_values}
+use Rattle.router_core.specs.Config.{Config}
+use Rattle.router_core.specs.Adoption.{lost}
+use Rattle.router_core.specs.Output.{Message, update_messages, every_route}
+
+-- every route of the table, unreachable
+abbrev pub unreachable_table : ℕ → Table → Table
+unreachable_table now table = map_values (λ r. Some (lost now r)) table
+
+-- the last update: all routes, on each interface, with metric 16
+abbrev pub leave_messages : Config → ℕ → Table → List Message
+leave_messages config now table = update_messages config every_route (unreachable_table now table)
