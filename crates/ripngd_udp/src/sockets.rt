@@ -321,5 +321,3 @@ impl<'a, R: Clock, S: Carrier + Source + Drop, W: Waiting + Drop> Sockets<'a, R,
 
 mod serving;
 mod telling;
-#[cfg(test)]
-mod tests;

@@ -256,6 +256,3 @@ impl<R: Clock> Link for Udp<'_, R> {
         answer
     }
 }
-
-#[cfg(test)]
-mod tests;
