@@ -16,7 +16,7 @@ use Rattle.router_core.specs.declared.answer.Answer.{Answer}
 use Rattle.router_core.specs.declared.answer.Outgoing.{Outgoing}
 use Rattle.router_core.specs.declared.arrival.Fault.{Fault}
 use Rattle.ripng_world.specs.Network.{Network}
-use Rattle.ripng_world.specs.World.{World, Event, Deliver, Stranger, Tick, Restart, Leave, LoseLink, Reconfigure, RouterMoves, Happens, arrival_of, sent_by}
+use Rattle.ripng_world.specs.World.{World, Event, Deliver, Stranger, Tick, Restart, Shutdown, LinkDown, Reconfigure, RouterMoves, Happens, arrival_of, sent_by}
 use Rattle.ripng_world.specs.declared.sent.Sent.{Sent}
 use Rattle.ripng_world.proofs.Each.{each_mapped, each_weaker}
 use Rattle.ripng_world.proofs.HealHearing.{AreFew}
@@ -93,6 +93,6 @@ module _ (net : Network) (known : Prefix6 → Type 0) (fits : AreFew known) wher
       (subst (λ (s : State). AreTrue s.table answer.sends) (sym m.moves.state)
       (ticked_true m.old n word answer.sends (tick_sound (aged_table n m.old.table) clean m.old n answer.sends refl m.moves.answer_is.sends) (is_regular_due m.old n) (is_triggered_due m.old n)))
   event_tells w w' orderly (Restart to now) answer plain m = absurd plain
-  event_tells w w' orderly (Leave to now) answer plain m = absurd plain
-  event_tells w w' orderly (LoseLink to now on) answer plain m = absurd plain
+  event_tells w w' orderly (Shutdown to now) answer plain m = absurd plain
+  event_tells w w' orderly (LinkDown to now on) answer plain m = absurd plain
   event_tells w w' orderly (Reconfigure to now c) answer plain m = absurd plain

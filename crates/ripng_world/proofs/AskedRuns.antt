@@ -9,7 +9,7 @@ use Rattle.router_core.specs.declared.answer.Answer.{Answer}
 use Rattle.ripng_world.specs.AskedRounds.{ticks_of}
 use Rattle.ripng_world.specs.Network.{Network}
 use Rattle.ripng_world.specs.Rounds.{AllTick, IsDueTick}
-use Rattle.ripng_world.specs.World.{World, Event, Happens, Deliver, Stranger, Tick, Restart, Leave, LoseLink, Reconfigure, sent_by}
+use Rattle.ripng_world.specs.World.{World, Event, Happens, Deliver, Stranger, Tick, Restart, Shutdown, LinkDown, Reconfigure, sent_by}
 
 pub tick_on : (net : Network) (es : List Event) (e : Event) (answer : Answer) (w mid w' : World) → AllTick net w es mid → IsDueTick mid e → Happens net mid e answer w'
     → AllTick net w (es ++ e ∷ []) w'
@@ -49,8 +49,8 @@ ticks_grow net (Tick router now word ∷ es) w w' is =
 ticks_grow net (Deliver datagram router iface now ∷ es) w w' is = absurd is.2
 ticks_grow net (Stranger router x ∷ es) w w' is = absurd is.2
 ticks_grow net (Restart router now ∷ es) w w' is = absurd is.2
-ticks_grow net (Leave router now ∷ es) w w' is = absurd is.2
-ticks_grow net (LoseLink router now on ∷ es) w w' is = absurd is.2
+ticks_grow net (Shutdown router now ∷ es) w w' is = absurd is.2
+ticks_grow net (LinkDown router now on ∷ es) w w' is = absurd is.2
 ticks_grow net (Reconfigure router now change ∷ es) w w' is = absurd is.2
 
 pub undue : (b : Bool) (due now : ℕ) → b ≡ false → (due ≤ now → b ≡ true) → now < due

@@ -21,7 +21,7 @@ use Rattle.router_core.specs.Offers.{Offer, offers, offer_at, is_offer, flaw, en
 use Rattle.router_core.specs.Adoption.{Gateway, adopted, adopted_by_clock, refreshed, taken, lost, metric_through, is_reachable, is_through, is_preferred, is_repeated}
 use Rattle.router_core.specs.Ageing.{aged, aged_by_clock, aged_table, unmarked, without_mark}
 use Rattle.router_core.specs.Output.{is_learned_on}
-use Rattle.router_core.specs.Severing.{is_live_on, severed, severed_table}
+use Rattle.router_core.specs.LinkDown.{is_live_on, after_link_down, table_after_link_down}
 use Rattle.router_core.specs.Hearing.{Hearing, Heard, is_refused}
 use Rattle.router_core.specs.Timers.{timeout, half_timeout}
 use Rattle.router_core.specs.Owning.{owned_route}
@@ -116,26 +116,26 @@ module _ (past : Past) (config : Config) where
 
   -- ---- the loss of a link
 
-  severed_row : (iface last n : ℕ) → last ≤ n → (p : Prefix6) (r : RouteValue) → IsReachedRow past config last p r → IsReachedRow past config n p (severed iface n r)
-  severed_row iface last n le p r row = by_test (is_live_on iface r)
+  link_down_row : (iface last n : ℕ) → last ≤ n → (p : Prefix6) (r : RouteValue) → IsReachedRow past config last p r → IsReachedRow past config n p (after_link_down iface n r)
+  link_down_row iface last n le p r row = by_test (is_live_on iface r)
     where
       by_test : (b : Bool) → IsReachedRow past config n p (cond b (lost n r) r)
       by_test true = lost_row last n p r row
       by_test false = later_row past config last n p r le row
 
-  pub severed_rows : (iface last n : ℕ) (table : Table) → last ≤ n → AreRows past config last table → AreRows past config n (severed_table iface n table)
-  severed_rows iface last n table le rows p q at = by_value (map_of.get table p) refl (sym (get-map_values (λ r. Some (severed iface n r)) table p) ∙ at)
+  pub link_down_rows : (iface last n : ℕ) (table : Table) → last ≤ n → AreRows past config last table → AreRows past config n (table_after_link_down iface n table)
+  link_down_rows iface last n table le rows p q at = by_value (map_of.get table p) refl (sym (get-map_values (λ r. Some (after_link_down iface n r)) table p) ∙ at)
     where
-      by_value : (o : Option RouteValue) → map_of.get table p ≡ o → option_and_then (λ r. Some (severed iface n r)) o ≡ Some q → IsReachedRow past config n p q
+      by_value : (o : Option RouteValue) → map_of.get table p ≡ o → option_and_then (λ r. Some (after_link_down iface n r)) o ≡ Some q → IsReachedRow past config n p q
       by_value None is e = absurd (None-Some q e)
-      by_value (Some r) is e = subst (IsReachedRow past config n p) (Some-same _ q e) (severed_row iface last n le p r (rows p r is))
+      by_value (Some r) is e = subst (IsReachedRow past config n p) (Some-same _ q e) (link_down_row iface last n le p r (rows p r is))
 
   -- a route that never ages was not learned
-  pub severed_owned : (iface last n : ℕ) (table : Table) → AreRows past config last table → HasOwned config table → HasOwned config (severed_table iface n table)
-  severed_owned iface last n table rows owned p tag a =
+  pub link_down_owned : (iface last n : ℕ) (table : Table) → AreRows past config last table → HasOwned config table → HasOwned config (table_after_link_down iface n table)
+  link_down_owned iface last n table rows owned p tag a =
       let o = owned p tag a in (
         o.0,
-        get-map_values (λ r. Some (severed iface n r)) table p ∙ ap (option_and_then (λ r. Some (severed iface n r))) o.1
+        get-map_values (λ r. Some (after_link_down iface n r)) table p ∙ ap (option_and_then (λ r. Some (after_link_down iface n r))) o.1
             ∙ ap (λ x. Some (cond (is_learned_on iface x && nat_lt o.0.metric infinity) (lost n o.0) o.0)) (own_origin o.0 o.0.clock o.2 (rows p o.0 o.1).reached),
         o.2,
       )

@@ -11,7 +11,7 @@ use Rattle.route_table.specs.Route.{infinity}
 use Rattle.router_core.specs.Config.{cost_at}
 use Rattle.router_core.specs.Faults.{fault}
 use Rattle.router_core.specs.Received.{Received}
-use Rattle.router_core.specs.Machine.{State, Arrives, Ticks, Restarts, Reconfigures, Leaves, LosesLink, Hears, Replies, Refuses, gateway_of}
+use Rattle.router_core.specs.Machine.{State, Arrives, Ticks, Restarts, Reconfigures, ShutsDown, LinkGoesDown, Hears, Replies, Refuses, gateway_of}
 use Rattle.router_core.specs.Reconfiguring.{reconfigured_config}
 use Rattle.router_core.specs.declared.answer.Answer.{Answer}
 use Rattle.router_core.specs.declared.arrival.Fault.{Fault}
@@ -21,13 +21,13 @@ use Rattle.ripng_world.specs.Healing.{reconfigured_node, network_now}
 use Rattle.ripng_world.specs.Network.{Network, IsNetwork, config_of, interface_at}
 use Rattle.ripng_world.specs.Past.{OwnsSince}
 use Rattle.ripng_world.specs.TruthSince.{IsSoundDatagramSince, IsSoundEntrySince}
-use Rattle.ripng_world.specs.World.{World, Event, Deliver, Stranger, Tick, Restart, Leave, LoseLink, Reconfigure, Happens, WorldRun, IsCold, past_of, arrival_of}
+use Rattle.ripng_world.specs.World.{World, Event, Deliver, Stranger, Tick, Restart, Shutdown, LinkDown, Reconfigure, Happens, WorldRun, IsCold, past_of, arrival_of}
 use Rattle.ripng_world.proofs.Each.{each_append, each_at_place}
 use Rattle.ripng_world.proofs.ColdStates.{cold_states}
 use Rattle.ripng_world.proofs.Members.{At}
 use Rattle.ripng_world.proofs.WorldRuns.{IsGood, cost_is, ran, cold_good}
 use Rattle.ripng_world.proofs.NetworkNow.{AreLawful, changed_alike, changed_at, now_lawful, now_more}
-use Rattle.ripng_world.proofs.Reached.{IsKnown, IsReached, waited_reached, started_rows, started_owned, heard_rows, heard_owned, severed_rows, severed_owned}
+use Rattle.ripng_world.proofs.Reached.{IsKnown, IsReached, waited_reached, started_rows, started_owned, heard_rows, heard_owned, link_down_rows, link_down_owned}
 use Rattle.ripng_world.proofs.ReachedRuns.{IsReachedState, AreReached, moved, unchanging, ticked_reached, ticked_config, max_later, changed_reached, reached_grows, done_lawful}
 
 module _ (net : Network) (is_net : IsNetwork net) where
@@ -85,17 +85,17 @@ module _ (net : Network) (is_net : IsNetwork net) where
           rows = started_rows (past_of net w) m.old.config now (known_own w good router m.old m.old_is);
           owned = started_owned (past_of net w) m.old.config;
         }))
-    happened (Leave router now) answer m =
-        unchanging net is_net w w' router (Leaves now) answer m refl all (ap (λ (s : State). s.config) m.moves.state)
+    happened (Shutdown router now) answer m =
+        unchanging net is_net w w' router (ShutsDown now) answer m refl all (ap (λ (s : State). s.config) m.moves.state)
         (waited_reached (past_of net w) m.old m.new (max m.old.last now) (max_later net is_net m.old.last now) m.moves.state (state_of router m.old m.old_is))
-    happened (LoseLink router now iface) answer m =
+    happened (LinkDown router now iface) answer m =
         let t = state_of router m.old m.old_is in
         let le = max_later net is_net m.old.last now in
-        unchanging net is_net w w' router (LosesLink now iface) answer m refl all (ap (λ (s : State). s.config) m.moves.state)
+        unchanging net is_net w w' router (LinkGoesDown now iface) answer m refl all (ap (λ (s : State). s.config) m.moves.state)
         (subst (IsReached (past_of net w)) (sym m.moves.state)
         (record {
-          rows = severed_rows (past_of net w) m.old.config iface m.old.last (max m.old.last now) m.old.table le t.rows;
-          owned = severed_owned (past_of net w) m.old.config iface m.old.last (max m.old.last now) m.old.table t.rows t.owned;
+          rows = link_down_rows (past_of net w) m.old.config iface m.old.last (max m.old.last now) m.old.table le t.rows;
+          owned = link_down_owned (past_of net w) m.old.config iface m.old.last (max m.old.last now) m.old.table t.rows t.owned;
         }))
     happened (Stranger router x) answer i =
         let m = i.moves in

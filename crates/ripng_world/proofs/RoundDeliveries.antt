@@ -30,7 +30,7 @@ use Rattle.ripng_world.specs.Network.{Network, Node, config_of, AreLinked, HasDi
 use Rattle.ripng_world.specs.Walks.{cost_of_interface}
 use Rattle.ripng_world.specs.Truth.{IsNeighbor}
 use Rattle.router_core.proofs.HearingSteps.{at_place}
-use Rattle.ripng_world.specs.World.{World, Event, Deliver, Stranger, Tick, Restart, Leave, LoseLink, Reconfigure, RouterMoves, Delivers, address_at, arrival_of}
+use Rattle.ripng_world.specs.World.{World, Event, Deliver, Stranger, Tick, Restart, Shutdown, LinkDown, Reconfigure, RouterMoves, Delivers, address_at, arrival_of}
 use Rattle.ripng_world.specs.Rounds.{router_of, moment_of, IsDeliveryOf, AllHeard}
 use Rattle.ripng_world.specs.Network.{IsUsable}
 use Rattle.ripng_world.specs.Convergence.{FitsTables}
@@ -316,8 +316,8 @@ module _ (net : Network) (usable : IsUsable net) (distinct : HasDistinctAddresse
     event_stays w w' steps (Stranger router x) h = tt
     event_stays w w' steps (Tick router now word) h = tt
     event_stays w w' steps (Restart router now) h = tt
-    event_stays w w' steps (Leave router now) h = tt
-    event_stays w w' steps (LoseLink router now on) h = tt
+    event_stays w w' steps (Shutdown router now) h = tt
+    event_stays w w' steps (LinkDown router now on) h = tt
     event_stays w w' steps (Reconfigure router now c) h = tt
 
     steps_trans : (a b c : World) → StepsTo a b → StepsTo b c → StepsTo a c
@@ -353,6 +353,6 @@ module _ (net : Network) (usable : IsUsable net) (distinct : HasDistinctAddresse
     deliveries_done (Stranger router x ∷ events) w w' all moments these run = absurd these.0
     deliveries_done (Tick router now word ∷ events) w w' all moments these run = absurd these.0
     deliveries_done (Restart router now ∷ events) w w' all moments these run = absurd these.0
-    deliveries_done (Leave router now ∷ events) w w' all moments these run = absurd these.0
-    deliveries_done (LoseLink router now on ∷ events) w w' all moments these run = absurd these.0
+    deliveries_done (Shutdown router now ∷ events) w w' all moments these run = absurd these.0
+    deliveries_done (LinkDown router now on ∷ events) w w' all moments these run = absurd these.0
     deliveries_done (Reconfigure router now c ∷ events) w w' all moments these run = absurd these.0

@@ -19,14 +19,14 @@ use Rattle.router_core.specs.Faults.{fault, ripng_port}
 use Rattle.router_core.specs.Adoption.{lost}
 use Rattle.router_core.specs.Ageing.{aged, aged_by_clock, aged_table, without_mark, unmarked}
 use Rattle.router_core.specs.Output.{Message, AreSpelled, told, told_entry, is_learned_on, every_route, is_changed, numbers_below, pieces, filled, reply_entry, reply, asks_for_all, responses, start_messages, update_messages, reply_messages, whole_table_request}
-use Rattle.router_core.specs.Machine.{State, Happening, Arrives, Ticks, Restarts, Reconfigures, Leaves, LosesLink, Moves, Starts, Hears, Replies, Refuses, Accepts, tick_messages, is_regular_due, is_triggered_due}
+use Rattle.router_core.specs.Machine.{State, Happening, Arrives, Ticks, Restarts, Reconfigures, ShutsDown, LinkGoesDown, Moves, Starts, Hears, Replies, Refuses, Accepts, tick_messages, is_regular_due, is_triggered_due}
 use Rattle.router_core.specs.declared.answer.Answer.{Answer}
 use Rattle.router_core.specs.declared.arrival.Fault.{Fault}
 use Rattle.router_core.specs.declared.answer.Outgoing.{Outgoing}
 use Rattle.router_core.specs.declared.answer.Destination.{Destination}
 use Rattle.router_core.specs.declared.answer.Destination.TheVariants.{Group, Peer}
-use Rattle.router_core.specs.Leaving.{unreachable_table}
-use Rattle.router_core.specs.Severing.{is_live_on, severed, severed_table}
+use Rattle.router_core.specs.Shutdown.{unreachable_table}
+use Rattle.router_core.specs.LinkDown.{is_live_on, after_link_down, table_after_link_down}
 use Rattle.ripng_world.specs.Walks.{Hop}
 use Rattle.ripng_world.specs.Past.{Past, ReachesSince}
 use Rattle.ripng_world.specs.TruthSince.{IsSoundSince, IsSoundTableSince, IsSoundEntrySince, IsSoundDatagramSince}
@@ -60,16 +60,16 @@ module _ (past : Past) (router : ℕ) where
       at_map_values (aged now) (λ t. IsSoundSince past router t.0 t.1) (λ t. IsSoundSince past router t.0 t.1)
       (λ p r r' s is. by_clock now p r r' s r.clock is) table sound
 
-  -- of a router that leaves, all routes are unreachable
+  -- of a router that shuts down, all routes are unreachable
   unreachable_sound : (now : ℕ) (table : Table) → IsSoundTableSince past router table → IsSoundTableSince past router (unreachable_table now table)
   unreachable_sound now table sound =
       at_map_values (λ r. Some (lost now r)) (λ t. IsSoundSince past router t.0 t.1) (λ t. IsSoundSince past router t.0 t.1)
       (λ p r r' s is. subst (IsSoundSince past router p) (Some-same _ r' is) (lost_sound now p r s)) table sound
 
   -- where a link is lost, routes end or stay
-  pub severed_sound : (iface now : ℕ) (table : Table) → IsSoundTableSince past router table → IsSoundTableSince past router (severed_table iface now table)
-  severed_sound iface now table sound =
-      at_map_values (λ r. Some (severed iface now r)) (λ t. IsSoundSince past router t.0 t.1) (λ t. IsSoundSince past router t.0 t.1)
+  pub link_down_sound : (iface now : ℕ) (table : Table) → IsSoundTableSince past router table → IsSoundTableSince past router (table_after_link_down iface now table)
+  link_down_sound iface now table sound =
+      at_map_values (λ r. Some (after_link_down iface now r)) (λ t. IsSoundSince past router t.0 t.1) (λ t. IsSoundSince past router t.0 t.1)
       (λ p r r' s is. subst (IsSoundSince past router p) (Some-same _ r' is) (by_test p r s (is_live_on iface r))) table sound
     where
       by_test : (p : Prefix6) (r : RouteValue) → IsSoundSince past router p r → (b : Bool) → IsSoundSince past router p (cond b (lost now r) r)
@@ -222,9 +222,9 @@ module _ (past : Past) (router : ℕ) where
       spelled_true (tick_messages old (max old.last now)) answer.sends (tick_true old (max old.last now) sound) moves.answer_is.sends
   sends_true old (Restarts now) answer new sound moves = spelled_true (start_messages old.config) answer.sends (starts_true old.config) moves.answer_is.sends
   sends_true old (Reconfigures now c) answer new sound moves = spelled_true [] answer.sends tt moves.answer_is.sends
-  sends_true old (Leaves now) answer new sound moves =
+  sends_true old (ShutsDown now) answer new sound moves =
       spelled_true _ answer.sends (updates_true old.config every_route (unreachable_table (max old.last now) old.table) (unreachable_sound (max old.last now) old.table sound)) moves.answer_is.sends
-  sends_true old (LosesLink now iface) answer new sound moves = spelled_true [] answer.sends tt moves.answer_is.sends
+  sends_true old (LinkGoesDown now iface) answer new sound moves = spelled_true [] answer.sends tt moves.answer_is.sends
 
   pub starting_true : (config : Config) (now : ℕ) (answer : Answer) (new : State) → Starts config now answer new → AllSound answer.sends
   starting_true config now answer new starts = spelled_true (start_messages config) answer.sends (starts_true config) starts.answer_is.sends

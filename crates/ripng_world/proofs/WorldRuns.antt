@@ -16,7 +16,7 @@ use Rattle.router_core.specs.Config.{Config, cost_at, is_own_address}
 use Rattle.router_core.specs.Received.{Received}
 use Rattle.router_core.specs.Faults.{fault, arrival_reasons, response_reasons, request_reasons}
 use Rattle.router_core.specs.Ageing.{aged_table, unmarked}
-use Rattle.router_core.specs.Machine.{State, Happening, Arrives, Ticks, Restarts, Reconfigures, Leaves, LosesLink, Hears, Replies, Refuses, started, ticked, owned_table, gateway_of, is_regular_due, is_triggered_due}
+use Rattle.router_core.specs.Machine.{State, Happening, Arrives, Ticks, Restarts, Reconfigures, ShutsDown, LinkGoesDown, Hears, Replies, Refuses, started, ticked, owned_table, gateway_of, is_regular_due, is_triggered_due}
 use Rattle.router_core.specs.Adoption.{lost}
 use Rattle.router_core.specs.Owning.{owned_route}
 use Rattle.router_core.specs.Reconfiguring.{IsNamed, with_cost, reconfigured_config, reconfigured_table, newly_owned, disowned}
@@ -30,13 +30,13 @@ use Rattle.ripng_world.specs.declared.network.NetInterface.{NetInterface}
 use Rattle.ripng_world.specs.declared.sent.Sent.{Sent}
 use Rattle.ripng_world.specs.Network.{Network, Node, config_of, interface_at, AreLinked, Owns, OwnsPrefixes}
 use Rattle.ripng_world.specs.Walks.{cost_of_interface}
-use Rattle.ripng_world.specs.World.{World, Event, Deliver, Stranger, Tick, Restart, Leave, LoseLink, Reconfigure, RouterMoves, Happens, WorldRun, StartsFrom, IsCold, past_of, reconfigurations_of, reconfiguration_in, reconfigurations_in, sent_by, address_at, arrival_of}
+use Rattle.ripng_world.specs.World.{World, Event, Deliver, Stranger, Tick, Restart, Shutdown, LinkDown, Reconfigure, RouterMoves, Happens, WorldRun, StartsFrom, IsCold, past_of, reconfigurations_of, reconfiguration_in, reconfigurations_in, sent_by, address_at, arrival_of}
 use Rattle.ripng_world.specs.Past.{Past, HasCostSince, OwnsSince}
 use Rattle.ripng_world.specs.TruthSince.{IsNeighborSince, IsSoundSince, IsSoundTableSince, IsSoundDatagramSince}
 use Rattle.ripng_world.proofs.Each.{each_append, each_filter, each_mapped, each_weaker, each_from_places, each_at_place}
 use Rattle.ripng_world.proofs.Members.{at_right}
 use Rattle.ripng_world.proofs.Growing.{cost_grows, owner_grows, table_grows, truth_grows}
-use Rattle.ripng_world.proofs.Telling.{lost_sound, aged_sound, severed_sound, unmarked_sound, sends_true, starting_true}
+use Rattle.ripng_world.proofs.Telling.{lost_sound, aged_sound, link_down_sound, unmarked_sound, sends_true, starting_true}
 use Rattle.ripng_world.proofs.Keeping.{heard_sound}
 
 -- ---- tests
@@ -406,14 +406,14 @@ module _ (net : Network) (owns : OwnsPrefixes net) where
       let old_good = good.states_good router m.old m.old_is in
       unchanging w w' router (Restarts now) answer m good
       (subst (IsGoodState (past_of net w) router) (sym m.moves.state) (started_good (past_of net w) router m.old.config old_good.configured now))
-  happened w (Leave router now) answer w' m good =
-      unchanging w w' router (Leaves now) answer m good
+  happened w (Shutdown router now) answer w' m good =
+      unchanging w w' router (ShutsDown now) answer m good
       (waited_good (past_of net w) router m.old m.new (max m.old.last now) (good.states_good router m.old m.old_is) m.moves.state)
-  happened w (LoseLink router now iface) answer w' m good =
+  happened w (LinkDown router now iface) answer w' m good =
       let old_good = good.states_good router m.old m.old_is in
-      unchanging w w' router (LosesLink now iface) answer m good
+      unchanging w w' router (LinkGoesDown now iface) answer m good
       (subst (IsGoodState (past_of net w) router) (sym m.moves.state)
-      (record { configured = old_good.configured; sound = severed_sound (past_of net w) router iface (max m.old.last now) m.old.table old_good.sound }))
+      (record { configured = old_good.configured; sound = link_down_sound (past_of net w) router iface (max m.old.last now) m.old.table old_good.sound }))
   happened w (Reconfigure router now change) answer w' m good =
       let old_good = good.states_good router m.old m.old_is in
       moved w w' router (Reconfigures now change) answer m good
@@ -485,8 +485,8 @@ module _ (net : Network) (owns : OwnsPrefixes net) where
 pub done_by : (net : Network) (w : World) (e : Event) (answer : Answer) (w' : World) → Happens net w e answer w' → w'.reconfigurations ≡ w.reconfigurations ++ cons_option (reconfiguration_in e) []
 done_by net w (Tick router now word) answer w' m = m.reconfigurations
 done_by net w (Restart router now) answer w' m = m.reconfigurations
-done_by net w (Leave router now) answer w' m = m.reconfigurations
-done_by net w (LoseLink router now on) answer w' m = m.reconfigurations
+done_by net w (Shutdown router now) answer w' m = m.reconfigurations
+done_by net w (LinkDown router now on) answer w' m = m.reconfigurations
 done_by net w (Reconfigure router now change) answer w' m = m.reconfigurations
 done_by net w (Stranger router x) answer w' i = i.moves.reconfigurations
 done_by net w (Deliver datagram router iface now) answer w' d = d.moves.reconfigurations

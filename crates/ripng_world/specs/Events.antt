@@ -1,5 +1,5 @@
 -- The events of the code as the events of the model.
-use Rattle.ripng_world.specs.World.{Event, Deliver, Stranger, Tick, Restart, Leave, LoseLink, Reconfigure}
+use Rattle.ripng_world.specs.World.{Event, Deliver, Stranger, Tick, Restart, Shutdown, LinkDown, Reconfigure}
 use Rattle.ripng_world.specs.declared.event.Event as coded
 use Rattle.ripng_world.specs.declared.event.Event.TheVariants as variants
 
@@ -9,6 +9,6 @@ event_of (variants.Deliver datagram router iface now) = Deliver datagram router 
 event_of (variants.Stranger router arrival) = Stranger router arrival
 event_of (variants.Tick router now word) = Tick router now word
 event_of (variants.Restart router now) = Restart router now
-event_of (variants.Leave router now) = Leave router now
-event_of (variants.LoseLink router now iface) = LoseLink router now iface
+event_of (variants.Shutdown router now) = Shutdown router now
+event_of (variants.LinkDown router now iface) = LinkDown router now iface
 event_of (variants.Reconfigure router now c) = Reconfigure router now c

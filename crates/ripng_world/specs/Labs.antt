@@ -20,7 +20,7 @@ use Rattle.ripng_world.specs.Walks.{IsTableBacked, IsLeast}
 use Rattle.ripng_world.specs.Past.{IsTableBackedSince, IsLeastSince}
 use Rattle.ripng_world.specs.Truth.{IsSoundDatagram}
 use Rattle.ripng_world.specs.TruthSince.{IsSoundDatagramSince}
-use Rattle.ripng_world.specs.World.{World, Event, Deliver, Stranger, Tick, Restart, Leave, LoseLink, Reconfigure, Happens, WorldRun, IsCold, is_heard, past_of}
+use Rattle.ripng_world.specs.World.{World, Event, Deliver, Stranger, Tick, Restart, Shutdown, LinkDown, Reconfigure, Happens, WorldRun, IsCold, is_heard, past_of}
 use Rattle.ripng_world.specs.declared.event.LabError.{LabError}
 use Rattle.ripng_world.specs.declared.event.LabError.TheVariants.{NoSuchRouter, NoSuchInterface, NoSuchDatagram, OtherLink, NotAStranger, OutOfMemory, NotALiar}
 use Rattle.ripng_world.specs.declared.sent.Sent.{Sent}
@@ -143,8 +143,8 @@ event_reasons lab (Deliver datagram router iface now) =
 event_reasons lab (Stranger router x) = missing_interface_reasons lab.network router x.iface ++ (is_heard_at lab.world router x, NotAStranger) ∷ []
 event_reasons lab (Tick router now word) = missing_router_reasons lab.network router
 event_reasons lab (Restart router now) = missing_router_reasons lab.network router
-event_reasons lab (Leave router now) = missing_router_reasons lab.network router
-event_reasons lab (LoseLink router now iface) = missing_interface_reasons lab.network router iface
+event_reasons lab (Shutdown router now) = missing_router_reasons lab.network router
+event_reasons lab (LinkDown router now iface) = missing_interface_reasons lab.network router iface
 event_reasons lab (Reconfigure router now c) = named_reasons lab.network router c
 
 -- the first reason that applies, before the router itself is asked

@@ -6,7 +6,7 @@ use Rattle.router_core.specs.Machine.{State}
 use Rattle.router_core.specs.declared.answer.Answer.{Answer}
 use Rattle.router_core.specs.declared.answer.NoteKind.TheVariants.{NoMemory}
 use Rattle.ripng_world.specs.Network.{Network, AreLinked}
-use Rattle.ripng_world.specs.World.{World, Event, Deliver, Stranger, Tick, Restart, Leave, LoseLink, Reconfigure, Happens}
+use Rattle.ripng_world.specs.World.{World, Event, Deliver, Stranger, Tick, Restart, Shutdown, LinkDown, Reconfigure, Happens}
 use Rattle.ripng_world.specs.declared.sent.Sent.{Sent}
 
 -- the ticks of a round, and then its deliveries
@@ -20,8 +20,8 @@ router_of (Deliver datagram router iface now) = router
 router_of (Stranger router x) = router
 router_of (Tick router now word) = router
 router_of (Restart router now) = router
-router_of (Leave router now) = router
-router_of (LoseLink router now on) = router
+router_of (Shutdown router now) = router
+router_of (LinkDown router now on) = router
 router_of (Reconfigure router now c) = router
 
 -- the moment at which it happens there
@@ -30,8 +30,8 @@ moment_of (Deliver datagram router iface now) = now
 moment_of (Stranger router x) = x.now
 moment_of (Tick router now word) = now
 moment_of (Restart router now) = now
-moment_of (Leave router now) = now
-moment_of (LoseLink router now on) = now
+moment_of (Shutdown router now) = now
+moment_of (LinkDown router now on) = now
 moment_of (Reconfigure router now c) = now
 
 -- a tick at which the router's regular update is due

@@ -3,7 +3,7 @@ use Rattle.std.specs.Prelude.{◌≡◌, ℕ, ◌<◌, suc, Bool, true, false, �
 use Rattle.ripng_wire.specs.Wire.{is_response}
 use Rattle.router_core.specs.Received.{Received}
 use Rattle.router_core.specs.Faults.{fault, ripng_port}
-use Rattle.router_core.specs.Machine.{State, Happening, Arrives, Ticks, Restarts, Reconfigures, Leaves, LosesLink, Moves, Starts}
+use Rattle.router_core.specs.Machine.{State, Happening, Arrives, Ticks, Restarts, Reconfigures, ShutsDown, LinkGoesDown, Moves, Starts}
 use Rattle.router_core.specs.declared.answer.Answer.{Answer}
 use Rattle.router_core.specs.declared.answer.Outgoing.{Outgoing}
 use Rattle.router_core.specs.declared.answer.Destination.{Destination}
@@ -30,8 +30,8 @@ pub data Event : Type 0 where
   Tick : (router now word : ℕ) → Event
   Restart : (router now : ℕ) → Event
   Reconfigure : (router now : ℕ) → Change → Event
-  Leave : (router now : ℕ) → Event
-  LoseLink : (router now iface : ℕ) → Event
+  Shutdown : (router now : ℕ) → Event
+  LinkDown : (router now iface : ℕ) → Event
 
 -- a datagram with the router that sent it
 abbrev pub sent_by : ℕ → Outgoing → Sent
@@ -97,8 +97,8 @@ Happens net w (Deliver datagram router iface now) answer w' = Delivers net w dat
 Happens net w (Stranger router x) answer w' = Intrudes w router x answer w'
 Happens net w (Tick router now word) answer w' = RouterMoves w router (Ticks now word) answer w'
 Happens net w (Restart router now) answer w' = RouterMoves w router (Restarts now) answer w'
-Happens net w (Leave router now) answer w' = RouterMoves w router (Leaves now) answer w'
-Happens net w (LoseLink router now iface) answer w' = RouterMoves w router (LosesLink now iface) answer w'
+Happens net w (Shutdown router now) answer w' = RouterMoves w router (ShutsDown now) answer w'
+Happens net w (LinkDown router now iface) answer w' = RouterMoves w router (LinkGoesDown now iface) answer w'
 Happens net w (Reconfigure router now c) answer w' = RouterMoves w router (Reconfigures now c) answer w'
 
 -- the events happen one after another

@@ -40,13 +40,13 @@ pub enum Event<'a> {
         router: usize,
         now: Moment,
     },
-    /// A router says good-bye: it tells every route as unreachable, and holds what it held.
-    Leave {
+    /// A router shuts down: its last update poisons every route. It holds what it held.
+    Shutdown {
         router: usize,
         now: Moment,
     },
-    /// A router learns that the link of an interface is lost: what it learned there is unreachable at once.
-    LoseLink {
+    /// The link of an interface goes down: what the router learned there is unreachable at once.
+    LinkDown {
         router: usize,
         now: Moment,
         /// The number of the router's interface.
@@ -160,8 +160,8 @@ impl<'a> Event<'a> {
             | Event::Stranger { router, .. }
             | Event::Tick { router, .. }
             | Event::Restart { router, .. }
-            | Event::Leave { router, .. }
-            | Event::LoseLink { router, .. }
+            | Event::Shutdown { router, .. }
+            | Event::LinkDown { router, .. }
             | Event::Reconfigure { router, .. } => *router,
         }
     }

@@ -39,9 +39,9 @@ pub fn tells_only_walks()
         → AllByRecursion (λ o. IsSoundDatagram net router o.bytes) answer.sends }
 {}
 
-/// A router that says good-bye tells nothing but losses: each entry of each of its datagrams has metric 16.
-pub fn leave_tells_losses()
-    ensures { (old : State) (now : ℕ) (answer : Answer) (new : State) → Moves old (Happening.Leaves now) answer new
+/// A router that shuts down tells nothing but losses: each entry of each of its datagrams has metric 16.
+pub fn shutdown_tells_losses()
+    ensures { (old : State) (now : ℕ) (answer : Answer) (new : State) → Moves old (Happening.ShutsDown now) answer new
         → AllByRecursion (λ o. (entries : List Rte) → Spells Response entries o.bytes → AllByRecursion (λ e. e.metric ≡ infinity) entries) answer.sends }
 {}
 

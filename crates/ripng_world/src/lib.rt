@@ -18,8 +18,8 @@ pub use event::{Event, LabError};
 pub use lab::Lab;
 pub use laws::{
     converges_in_rounds, generalises_walks, heals_in_rounds, invents_no_distance,
-    invents_no_distance_unchanged, keeps_routes_backed, leave_tells_losses, names_one_gateway,
-    packets_arrive, rounds_are_run, rounds_go_on, runs_go_on, tells_only_walks,
+    invents_no_distance_unchanged, keeps_routes_backed, names_one_gateway, packets_arrive,
+    rounds_are_run, rounds_go_on, runs_go_on, shutdown_tells_losses, tells_only_walks,
 };
 pub use network::{NetConfig, NetInterface, NetRefused, Node, ROUTER_LIMIT};
 pub use rounds::{Round, RoundsRefused};

@@ -8,7 +8,7 @@ ghost use Rattle.ripng_world.specs.Events.{event_of};
 ghost use Rattle.ripng_world.specs.Labs.{IsRefusal, event_fault, lab_of, named_reasons};
 ghost use Rattle.ripng_world.specs.Lying.{LieStations, lie_fault};
 ghost use Rattle.ripng_world.specs.Stations.{MoveStations, network_of};
-ghost use Rattle.ripng_world.specs.World.{Deliver, Stranger, Tick, Restart, Leave, LoseLink, Reconfigure, arrival_of, reconfigurations_in, sent_by};
+ghost use Rattle.ripng_world.specs.World.{Deliver, Stranger, Tick, Restart, Shutdown, LinkDown, Reconfigure, arrival_of, reconfigurations_in, sent_by};
 ghost use Rattle.ripng_world.specs.declared.sent.Sent.{Sent as SentValue};
 
 use crate::event::{Event, LabError};
@@ -153,36 +153,36 @@ fn restart<S: RouteStore>(
     stations[router].restart(now)
 }
 
-/// A router says good-bye.
-fn leave<S: RouteStore>(
+/// A router shuts down.
+fn shutdown<S: RouteStore>(
     stations: &mut [Station<S>],
     sent: &mut Vec<Sent>,
     router: usize,
     now: Moment,
 ) -> Result<Answer, AllocError>
     requires { router < length stations.old }
-    ensures moves { IfOk result (λ answer. (reconfigurations : List (ℕ × ChangeValue)) → MoveStations stations.old sent.old.items reconfigurations (Leave router now) answer stations.new) }
+    ensures moves { IfOk result (λ answer. (reconfigurations : List (ℕ × ChangeValue)) → MoveStations stations.old sent.old.items reconfigurations (Shutdown router now) answer stations.new) }
     ensures room { IfOk result (λ answer. vec_len sent.new + length answer.sends ≤ vec_capacity sent.new) }
     ensures sent { sent.new.items ≡ sent.old.items }
     ensures err { OnErr result (stations.new ≡ stations.old) }
 {
     sent.reserve(stations[router].update_room())?;
-    stations[router].leave(now)
+    stations[router].shutdown(now)
 }
 
-/// The link of an interface of a router is lost. Nothing is sent.
-fn lose_link<S: RouteStore>(
+/// The link of an interface of a router goes down. Nothing is sent.
+fn link_down<S: RouteStore>(
     stations: &mut [Station<S>],
     router: usize,
     now: Moment,
     iface: usize,
 ) -> Result<Answer, AllocError>
     requires { router < length stations.old }
-    ensures moves { IfOk result (λ answer. (sent : List SentValue) (reconfigurations : List (ℕ × ChangeValue)) → MoveStations stations.old sent reconfigurations (LoseLink router now iface) answer stations.new) }
+    ensures moves { IfOk result (λ answer. (sent : List SentValue) (reconfigurations : List (ℕ × ChangeValue)) → MoveStations stations.old sent reconfigurations (LinkDown router now iface) answer stations.new) }
     ensures silent { IfOk result (λ answer. answer.sends ≡ []) }
     ensures err { OnErr result (stations.new ≡ stations.old) }
 {
-    stations[router].lose_link(now, iface)
+    stations[router].link_down(now, iface)
 }
 
 /// The configuration of a router is changed. Room for the change, among those that were done, is made first.
@@ -234,9 +234,9 @@ pub fn happen<S: RouteStore>(
         Event::Stranger { router, arrival } => Ok(intrude(stations, sent, *router, arrival)?),
         Event::Tick { router, now, word } => Ok(tick(stations, sent, *router, *now, *word)?),
         Event::Restart { router, now } => Ok(restart(stations, sent, *router, *now)?),
-        Event::Leave { router, now } => Ok(leave(stations, sent, *router, *now)?),
-        Event::LoseLink { router, now, iface } => {
-            Ok(lose_link(stations, *router, *now, *iface)?)
+        Event::Shutdown { router, now } => Ok(shutdown(stations, sent, *router, *now)?),
+        Event::LinkDown { router, now, iface } => {
+            Ok(link_down(stations, *router, *now, *iface)?)
         }
         Event::Reconfigure {
             router,

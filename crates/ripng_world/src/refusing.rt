@@ -175,9 +175,10 @@ pub fn check<S: RouteStore>(
             ..
         } => check_delivery(stations, sent, *datagram, *router, *iface),
         Event::Stranger { router, arrival } => check_stranger(stations, sent, *router, arrival),
-        Event::Tick { router, .. } | Event::Restart { router, .. } | Event::Leave { router, .. } =>
-            { check_router(stations, *router) }
-        Event::LoseLink { router, iface, .. } => check_link(stations, *router, *iface),
+        Event::Tick { router, .. }
+        | Event::Restart { router, .. }
+        | Event::Shutdown { router, .. } => { check_router(stations, *router) }
+        Event::LinkDown { router, iface, .. } => check_link(stations, *router, *iface),
         Event::Reconfigure { router, change, .. } => check_named(stations, *router, change),
     }
 }

@@ -145,25 +145,25 @@ impl<S: RouteStore> Station<S> {
         self.router.restart(now)
     }
 
-    /// The router says good-bye.
+    /// The router shuts down.
     ///
     /// # Errors
     /// Only want of memory; the router is then as it was.
-    pub fn leave(&mut self, now: Moment) -> Result<Answer, AllocError>
-        ensures moves { IfOk result (λ answer. Moves self.old.state (Happening.Leaves now) answer self.new.state) }
+    pub fn shutdown(&mut self, now: Moment) -> Result<Answer, AllocError>
+        ensures moves { IfOk result (λ answer. Moves self.old.state (Happening.ShutsDown now) answer self.new.state) }
         ensures few { IfOk result (λ answer. length answer.sends ≤ map_of.len self.old.state.table * length self.old.state.config.interfaces) }
         ensures node { self.new.node ≡ self.old.node }
         ensures err { OnErr result (self.new ≡ self.old) }
     {
-        self.router.leave(now)
+        self.router.shutdown(now)
     }
 
-    /// The link of one of its interfaces is lost.
+    /// The link of one of its interfaces goes down.
     ///
     /// # Errors
     /// Only want of memory; the router is then as it was.
-    pub fn lose_link(&mut self, now: Moment, iface: usize) -> Result<Answer, AllocError>
-        ensures moves { IfOk result (λ answer. Moves self.old.state (Happening.LosesLink now iface) answer self.new.state) }
+    pub fn link_down(&mut self, now: Moment, iface: usize) -> Result<Answer, AllocError>
+        ensures moves { IfOk result (λ answer. Moves self.old.state (Happening.LinkGoesDown now iface) answer self.new.state) }
         ensures silent { IfOk result (λ answer. answer.sends ≡ []) }
         ensures node { self.new.node ≡ self.old.node }
         ensures err { OnErr result (self.new ≡ self.old) }

@@ -2,7 +2,7 @@
 use Rattle.std.proofs.Common.{◌≡◌, ℕ, List, [], ◌∷◌, refl, arith, Option}
 use Rattle.std.proofs.KnownBytes.{Appends-nil}
 use Rattle.rand_core.specs.Stream.{Stream}
-use Rattle.router_core.specs.Machine.{State, Happening, Moves, Reconfigures, Leaves, LosesLink}
+use Rattle.router_core.specs.Machine.{State, Happening, Moves, Reconfigures, ShutsDown, LinkGoesDown}
 use Rattle.router_core.specs.declared.answer.Answer.{Answer}
 use Rattle.router_core.specs.declared.reconfiguring.Change.{Change}
 use Rattle.ripngd_engine.specs.Telling.{Gains}
@@ -10,7 +10,7 @@ use Rattle.ripngd_engine.specs.Watch.{LinkReport}
 use Rattle.ripngd_engine.specs.Run.{Machine, Trace, Moved, arrival_told, one_moment}
 use Rattle.ripngd_engine.specs.Outlet.{OutletSeen, CarriesOut}
 use Rattle.ripngd_engine.specs.Seen.{Acts}
-use Rattle.ripngd_engine.specs.Changing.{ReconfiguresOnce, ReconfiguresNothing, LeavesOnce, LosesLinkOnce}
+use Rattle.ripngd_engine.specs.Changing.{ReconfiguresOnce, ReconfiguresNothing, ShutsDownOnce, LinkGoesDownOnce}
 use Rattle.ripngd_engine.proofs.Tells.{Gains-nil}
 use Rattle.ripngd_engine.proofs.Steps.{around, carried, Carries-out, Shows-carried}
 
@@ -32,17 +32,17 @@ module _ (o : OutletSeen) (router new_router : State) (lost : ℕ) (stream : Str
   }
 
   pub Acts-left : {V : Type 0} (takes : V → LinkReport → V → Type 0) (v w : V) (p : OutletSeen) (answer : Answer)
-      → Moves router (Leaves now) answer new_router → CarriesOut takes v w o answer p
-      → Acts LeavesOnce (around o router lost stream before) (around p new_router lost stream after)
+      → Moves router (ShutsDown now) answer new_router → CarriesOut takes v w o answer p
+      → Acts ShutsDownOnce (around o router lost stream before) (around p new_router lost stream after)
   Acts-left takes v w p answer moves out =
-      let a = Acts-moved takes v w p answer (Leaves now) refl moves out in
+      let a = Acts-moved takes v w p answer (ShutsDown now) refl moves out in
       record { trace = a.trace; does = (now, a.does); shows = a.shows }
 
   pub Acts-cut_off : {V : Type 0} (takes : V → LinkReport → V → Type 0) (v w : V) (p : OutletSeen) (answer : Answer) (iface : ℕ)
-      → Moves router (LosesLink now iface) answer new_router → CarriesOut takes v w o answer p
-      → Acts (LosesLinkOnce iface) (around o router lost stream before) (around p new_router lost stream after)
+      → Moves router (LinkGoesDown now iface) answer new_router → CarriesOut takes v w o answer p
+      → Acts (LinkGoesDownOnce iface) (around o router lost stream before) (around p new_router lost stream after)
   Acts-cut_off takes v w p answer iface moves out =
-      let a = Acts-moved takes v w p answer (LosesLink now iface) refl moves out in
+      let a = Acts-moved takes v w p answer (LinkGoesDown now iface) refl moves out in
       record { trace = a.trace; does = (now, a.does); shows = a.shows }
 
   pub Acts-changed : {V : Type 0} (takes : V → LinkReport → V → Type 0) (v w : V) (p : OutletSeen) (answer : Answer) (c : Change)

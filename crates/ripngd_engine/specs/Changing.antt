@@ -1,6 +1,6 @@
 -- Changes of the configuration of an engine's router, between its turns.
 use Rattle.std.specs.Prelude.{ℕ, ◌≡◌, List, [], ◌∷◌, Result, Ok, Err, Bool, true, false, unwrap_or}
-use Rattle.router_core.specs.Machine.{State, Reconfigures, Leaves, LosesLink}
+use Rattle.router_core.specs.Machine.{State, Reconfigures, ShutsDown, LinkGoesDown}
 use Rattle.router_core.specs.Reconfiguring.{reconfigure_fault}
 use Rattle.router_core.specs.declared.reconfiguring.Change.{Change}
 use Rattle.router_core.specs.declared.reconfiguring.ReconfigureRefused.{ReconfigureRefused}
@@ -14,13 +14,13 @@ use Rattle.ripngd_engine.specs.declared.report.ChangeFault.TheVariants.{Refused,
 abbrev pub ReconfiguresOnce : Change → Machine → Trace → Machine → Type 0
 ReconfiguresOnce c m t n = (now : ℕ) × Moved m (Reconfigures now c) now t n
 
--- the router said good-bye
-abbrev pub LeavesOnce : Machine → Trace → Machine → Type 0
-LeavesOnce m t n = (now : ℕ) × Moved m (Leaves now) now t n
+-- the router shut down
+abbrev pub ShutsDownOnce : Machine → Trace → Machine → Type 0
+ShutsDownOnce m t n = (now : ℕ) × Moved m (ShutsDown now) now t n
 
 -- the router was told that the link of an interface is lost
-abbrev pub LosesLinkOnce : ℕ → Machine → Trace → Machine → Type 0
-LosesLinkOnce iface m t n = (now : ℕ) × Moved m (LosesLink now iface) now t n
+abbrev pub LinkGoesDownOnce : ℕ → Machine → Trace → Machine → Type 0
+LinkGoesDownOnce iface m t n = (now : ℕ) × Moved m (LinkGoesDown now iface) now t n
 
 -- a change was refused: it has used its moment, and left all else
 abbrev pub ReconfiguresNothing : Machine → Trace → Machine → Type 0

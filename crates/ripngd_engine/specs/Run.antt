@@ -5,7 +5,7 @@ use Rattle.rand_core.specs.Stream.{Stream, next_u32}
 use Rattle.fib.specs.Forwarding.{Forwarding, Replays}
 use Rattle.fib.specs.declared.change.RouteChange.{RouteChange}
 use Rattle.router_core.specs.Config.{Config}
-use Rattle.router_core.specs.Machine.{State, Happening, Arrives, Ticks, Restarts, Reconfigures, Leaves, LosesLink, Moves, Starts}
+use Rattle.router_core.specs.Machine.{State, Happening, Arrives, Ticks, Restarts, Reconfigures, ShutsDown, LinkGoesDown, Moves, Starts}
 use Rattle.router_core.specs.Received.{Received}
 use Rattle.router_core.specs.declared.answer.Answer.{Answer}
 use Rattle.router_core.specs.declared.answer.Outgoing.{Outgoing}
@@ -82,8 +82,8 @@ arrival_told (Arrives x) answer = Heard (arrived x) x.bytes answer.fault answer.
 arrival_told (Ticks now word) answer = []
 arrival_told (Restarts now) answer = []
 arrival_told (Reconfigures now c) answer = []
-arrival_told (Leaves now) answer = []
-arrival_told (LosesLink now iface) answer = []
+arrival_told (ShutsDown now) answer = []
+arrival_told (LinkGoesDown now iface) answer = []
 
 -- the count after so many more, which stays at the greatest u64
 abbrev pub counted : ℕ → ℕ → ℕ

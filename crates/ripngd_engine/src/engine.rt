@@ -3,7 +3,7 @@
 ghost use Rattle.std.specs.Prelude.{◌≡◌, true, false, Err, IfOk, OnErr, is_err, length};
 ghost use Rattle.router_core.specs.Changes.{forwards};
 ghost use Rattle.router_core.specs.Reconfiguring.{NamesInterface};
-ghost use Rattle.ripngd_engine.specs.Changing.{LeavesOnce, LosesLinkOnce, ReconfigureAnswer, StepAnswer};
+ghost use Rattle.ripngd_engine.specs.Changing.{ShutsDownOnce, LinkGoesDownOnce, ReconfigureAnswer, StepAnswer};
 
 use crate::clock::TimeSource;
 use crate::link::{Link, LinkChange};
@@ -195,35 +195,36 @@ impl<S: RouteStore, L: Link, C: TimeSource, R: Rng + Drop> Engine<S, L, C, R> {
         }
     }
 
-    /// The router says good-bye, between two turns, at the moment that the clock gives: its last update is handed to the link.
+    /// The router shuts down, between two turns, at the moment that the clock gives: its last update, which poisons every
+    /// route, is handed to the link.
     ///
     /// # Errors
     /// `Refused` for want of memory; only a moment of the clock was used then. `Ended` as of `reconfigure`.
-    pub fn leave<W: Write>(&mut self, log: &mut W) -> Result<(), ChangeFault>
-        ensures leaves { self.old.ended ≡ false → StepAnswer LeavesOnce (seen R.stream W.contents self.old log.old) result
+    pub fn shutdown<W: Write>(&mut self, log: &mut W) -> Result<(), ChangeFault>
+        ensures shuts_down { self.old.ended ≡ false → StepAnswer ShutsDownOnce (seen R.stream W.contents self.old log.old) result
             (seen R.stream W.contents self.new log.new) }
         ensures ended { self.old.ended ≡ true
             → (result ≡ Err ChangeFault.Ended) × (self.new ≡ self.old) × (log.new ≡ log.old) }
     {
         match self.running.outlet.ended {
-            false => self.running.leave(log),
+            false => self.running.shutdown(log),
             true => Err(ChangeFault::Ended),
         }
     }
 
-    /// The link of an interface is lost, between two turns, at the moment that the clock gives. What was learned there is
+    /// The link of an interface goes down, between two turns, at the moment that the clock gives. What was learned there is
     /// withdrawn and logged at once, and told by the next tick.
     ///
     /// # Errors
     /// `Refused` for want of memory; only a moment of the clock was used then. `Ended` as of `reconfigure`.
-    pub fn lose_link<W: Write>(&mut self, iface: usize, log: &mut W) -> Result<(), ChangeFault>
-        ensures loses { self.old.ended ≡ false → StepAnswer (LosesLinkOnce iface) (seen R.stream W.contents self.old log.old) result
+    pub fn link_down<W: Write>(&mut self, iface: usize, log: &mut W) -> Result<(), ChangeFault>
+        ensures link_down { self.old.ended ≡ false → StepAnswer (LinkGoesDownOnce iface) (seen R.stream W.contents self.old log.old) result
             (seen R.stream W.contents self.new log.new) }
         ensures ended { self.old.ended ≡ true
             → (result ≡ Err ChangeFault.Ended) × (self.new ≡ self.old) × (log.new ≡ log.old) }
     {
         match self.running.outlet.ended {
-            false => self.running.lose_link(iface, log),
+            false => self.running.link_down(iface, log),
             true => Err(ChangeFault::Ended),
         }
     }

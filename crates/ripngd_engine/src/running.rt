@@ -9,7 +9,7 @@ ghost use Rattle.std.specs.Coded.{Coded-set, →_prop};
 ghost use Rattle.fib.specs.contracts.fib.Fib as forwarding;
 ghost use Rattle.router_core.specs.Changes.{forwards};
 ghost use Rattle.router_core.specs.Reconfiguring.{NamesInterface};
-ghost use Rattle.ripngd_engine.specs.Changing.{LeavesOnce, LosesLinkOnce, ReconfigureAnswer, StepAnswer};
+ghost use Rattle.ripngd_engine.specs.Changing.{ShutsDownOnce, LinkGoesDownOnce, ReconfigureAnswer, StepAnswer};
 ghost use Rattle.ripngd_engine.specs.declared.running.TurnFault.TheVariants.{NoLink, NoMemory};
 
 use crate::clock::TimeSource;
@@ -202,15 +202,15 @@ impl<S: RouteStore, L: Link, C: TimeSource, R: Rng + Drop> Running<S, L, C, R> {
         }
     }
 
-    /// The router says good-bye, at the moment that the clock gives.
-    pub(crate) fn leave<W: Write>(&mut self, log: &mut W) -> Result<(), ChangeFault>
+    /// The router shuts down, at the moment that the clock gives.
+    pub(crate) fn shutdown<W: Write>(&mut self, log: &mut W) -> Result<(), ChangeFault>
         requires { self.old.outlet.ended ≡ false }
-        ensures { StepAnswer LeavesOnce (running_seen L.calls C.moments R.stream W.contents self.old log.old) result
+        ensures { StepAnswer ShutsDownOnce (running_seen L.calls C.moments R.stream W.contents self.old log.old) result
             (running_seen L.calls C.moments R.stream W.contents self.new log.new) }
     {
         let now = self.clock.now();
         let mut watch = Unwatched;
-        match self.router.leave(now) {
+        match self.router.shutdown(now) {
             Ok(answer) => match self.outlet.carry_out(answer, log, &mut watch) {
                 Ok(()) => Ok(()),
                 Err(AllocError) => Err(ChangeFault::Ended),
@@ -219,14 +219,14 @@ impl<S: RouteStore, L: Link, C: TimeSource, R: Rng + Drop> Running<S, L, C, R> {
         }
     }
 
-    /// The link of an interface is lost, at the moment that the clock gives.
-    pub(crate) fn lose_link<W: Write>(
+    /// The link of an interface goes down, at the moment that the clock gives.
+    pub(crate) fn link_down<W: Write>(
         &mut self,
         iface: usize,
         log: &mut W,
     ) -> Result<(), ChangeFault>
         requires { self.old.outlet.ended ≡ false }
-        ensures { StepAnswer (LosesLinkOnce iface) (running_seen L.calls C.moments R.stream W.contents self.old log.old) result
+        ensures { StepAnswer (LinkGoesDownOnce iface) (running_seen L.calls C.moments R.stream W.contents self.old log.old) result
             (running_seen L.calls C.moments R.stream W.contents self.new log.new) }
     {
         let now = self.clock.now();

@@ -4,7 +4,7 @@ use Rattle.std.specs.Prelude.{⊤}
 use Rattle.std.specs.List.{cons_option}
 use Rattle.std.proofs.lemmas.Bool.{eq-eqb, eqb-true}
 use Rattle.ripng_wire.specs.Wire.{is_response}
-use Rattle.router_core.specs.Machine.{State, Happening, Arrives, Ticks, Restarts, Reconfigures, Leaves, LosesLink, Moves, Starts}
+use Rattle.router_core.specs.Machine.{State, Happening, Arrives, Ticks, Restarts, Reconfigures, ShutsDown, LinkGoesDown, Moves, Starts}
 use Rattle.router_core.specs.declared.answer.Answer.{Answer}
 use Rattle.router_core.specs.declared.answer.Outgoing.{Outgoing}
 use Rattle.router_core.specs.declared.config.Interface.{Interface}
@@ -20,7 +20,7 @@ use Rattle.ripngd_engine.specs.Run as engine
 use Rattle.ripngd_engine.specs.Run.{Machine, Trace, Sends, MovedOrLost, Moved, ComesUp, arrival, counted, followed_by, one_call, handed, datagrams_of}
 use Rattle.ripngd_engine.specs.Watch.{LinkReport, Heard}
 use Rattle.ripngd_engine.specs.declared.watch.Arrived.{Arrived}
-use Rattle.ripngd_networks.specs.Daemons.{Act, Start, Listen, Tick, Reconfigure, Leave, LoseLink, Refuse, Deed, Does, Goes, HearsCall, in_force, reconfiguration_by}
+use Rattle.ripngd_networks.specs.Daemons.{Act, Start, Listen, Tick, Reconfigure, Shutdown, LinkDown, Refuse, Deed, Does, Goes, HearsCall, in_force, reconfiguration_by}
 use Rattle.ripngd_networks.specs.Links.{handed_in, handed_by, IsCopyOf, IsOfAStranger}
 use Rattle.ripngd_networks.specs.OnTime.{IsNumbered}
 use Rattle.ripngd_networks.proofs.Addresses.{addresses_of, fault_same, moves_addresses}
@@ -78,8 +78,8 @@ IsEventOf count router (Listen (Gave d)) (Some number) trace e answer = (now : �
 IsEventOf count router (Listen (Gave d)) None trace e answer = (now : ℕ) × (e ≡ world.Stranger router (arrival now d)) × IsHeard trace now answer
 IsEventOf count router Tick number trace e answer = (now : ℕ) × (word : ℕ) × (e ≡ world.Tick router now word) × IsTicked trace now answer
 IsEventOf count router (Reconfigure c) number trace e answer = (now : ℕ) × (e ≡ world.Reconfigure router now c)
-IsEventOf count router Leave number trace e answer = (now : ℕ) × (e ≡ world.Leave router now)
-IsEventOf count router (LoseLink on) number trace e answer = (now : ℕ) × (e ≡ world.LoseLink router now on)
+IsEventOf count router Shutdown number trace e answer = (now : ℕ) × (e ≡ world.Shutdown router now)
+IsEventOf count router (LinkDown on) number trace e answer = (now : ℕ) × (e ≡ world.LinkDown router now on)
 IsEventOf count router act number trace e answer = ⊥
 
 -- a daemon lost a step for memory
@@ -93,8 +93,8 @@ IsIdle daemon Start n = ⊥
 IsIdle daemon (Listen (Gave d)) n = HasLost daemon n
 IsIdle daemon Tick n = HasLost daemon n
 IsIdle daemon (Reconfigure c) n = ⊥
-IsIdle daemon Leave n = ⊥
-IsIdle daemon (LoseLink on) n = ⊥
+IsIdle daemon Shutdown n = ⊥
+IsIdle daemon (LinkDown on) n = ⊥
 IsIdle daemon act n = ⊤
 
 -- what a deed is in a world: a step, or none
@@ -274,24 +274,24 @@ module _ (net : Network) (first : List Sent) (daemons : ℕ → Option Machine) 
         (handed_of (record { act = Reconfigure c; trace = t }) moved.carries.sends moved.answer moved.carries.all_sends (ap handed_in_trace moved.carries.trace))
         (now, refl)
 
-    left_on : (number : Option ℕ) (t : Trace) (n : Machine) → Goes Leave m t n → Onward n (record { act = Leave; trace = t }) number
+    left_on : (number : Option ℕ) (t : Trace) (n : Machine) → Goes Shutdown m t n → Onward n (record { act = Shutdown; trace = t }) number
     left_on number t n did =
         let now = did.1.0 in
         let moved = did.1.1 in
-        let moves : Moves here.state (Leaves now) moved.answer n.router = subst (λ s. Moves s (Leaves now) moved.answer n.router) (sym was) moved.moves in
-        moved_on (Leaves now) moved.answer n moves (record { act = Leave; trace = t }) number (world.Leave router now) refl
-        (router_moves (Leaves now) moved.answer n moves)
-        (handed_of (record { act = Leave; trace = t }) moved.carries.sends moved.answer moved.carries.all_sends (ap handed_in_trace moved.carries.trace))
+        let moves : Moves here.state (ShutsDown now) moved.answer n.router = subst (λ s. Moves s (ShutsDown now) moved.answer n.router) (sym was) moved.moves in
+        moved_on (ShutsDown now) moved.answer n moves (record { act = Shutdown; trace = t }) number (world.Shutdown router now) refl
+        (router_moves (ShutsDown now) moved.answer n moves)
+        (handed_of (record { act = Shutdown; trace = t }) moved.carries.sends moved.answer moved.carries.all_sends (ap handed_in_trace moved.carries.trace))
         (now, refl)
 
-    cut_off_on : (on : ℕ) (number : Option ℕ) (t : Trace) (n : Machine) → Goes (LoseLink on) m t n → Onward n (record { act = LoseLink on; trace = t }) number
+    cut_off_on : (on : ℕ) (number : Option ℕ) (t : Trace) (n : Machine) → Goes (LinkDown on) m t n → Onward n (record { act = LinkDown on; trace = t }) number
     cut_off_on on number t n did =
         let now = did.1.0 in
         let moved = did.1.1 in
-        let moves : Moves here.state (LosesLink now on) moved.answer n.router = subst (λ s. Moves s (LosesLink now on) moved.answer n.router) (sym was) moved.moves in
-        moved_on (LosesLink now on) moved.answer n moves (record { act = LoseLink on; trace = t }) number (world.LoseLink router now on) refl
-        (router_moves (LosesLink now on) moved.answer n moves)
-        (handed_of (record { act = LoseLink on; trace = t }) moved.carries.sends moved.answer moved.carries.all_sends (ap handed_in_trace moved.carries.trace))
+        let moves : Moves here.state (LinkGoesDown now on) moved.answer n.router = subst (λ s. Moves s (LinkGoesDown now on) moved.answer n.router) (sym was) moved.moves in
+        moved_on (LinkGoesDown now on) moved.answer n moves (record { act = LinkDown on; trace = t }) number (world.LinkDown router now on) refl
+        (router_moves (LinkGoesDown now on) moved.answer n moves)
+        (handed_of (record { act = LinkDown on; trace = t }) moved.carries.sends moved.answer moved.carries.all_sends (ap handed_in_trace moved.carries.trace))
         (now, refl)
 
     refused_on : (c : Change) (number : Option ℕ) (t : Trace) (n : Machine) → Goes (Refuse c) m t n → Onward n (record { act = Refuse c; trace = t }) number
@@ -384,8 +384,8 @@ module _ (net : Network) (first : List Sent) (daemons : ℕ → Option Machine) 
     gone_on (Listen call) number t n did given = heard_on call number t n did.1 given
     gone_on Tick number t n did given = ticked_on number t n did
     gone_on (Reconfigure c) number t n did given = reconfigured_on c number t n did
-    gone_on Leave number t n did given = left_on number t n did
-    gone_on (LoseLink on) number t n did given = cut_off_on on number t n did
+    gone_on Shutdown number t n did given = left_on number t n did
+    gone_on (LinkDown on) number t n did given = cut_off_on on number t n did
     gone_on (Refuse c) number t n did given = refused_on c number t n did
 
   pub done_on : (before : Option Machine) → daemons router ≡ before → (act : Act) (number : Option ℕ) (t : Trace) (n : Machine) → Does (config_of node) before act t n
@@ -394,12 +394,12 @@ module _ (net : Network) (first : List Sent) (daemons : ℕ → Option Machine) 
   done_on None is (Listen call) number t n did given = absurd did
   done_on None is Tick number t n did given = absurd did
   done_on None is (Reconfigure c) number t n did given = absurd did
-  done_on None is Leave number t n did given = absurd did
-  done_on None is (LoseLink on) number t n did given = absurd did
+  done_on None is Shutdown number t n did given = absurd did
+  done_on None is (LinkDown on) number t n did given = absurd did
   done_on None is (Refuse c) number t n did given = absurd did
   done_on (Some m) is (Listen call) number t n did given = gone_on m is (Listen call) number t n did given
   done_on (Some m) is Tick number t n did given = gone_on m is Tick number t n did given
   done_on (Some m) is (Reconfigure c) number t n did given = gone_on m is (Reconfigure c) number t n did given
-  done_on (Some m) is Leave number t n did given = gone_on m is Leave number t n did given
-  done_on (Some m) is (LoseLink on) number t n did given = gone_on m is (LoseLink on) number t n did given
+  done_on (Some m) is Shutdown number t n did given = gone_on m is Shutdown number t n did given
+  done_on (Some m) is (LinkDown on) number t n did given = gone_on m is (LinkDown on) number t n did given
   done_on (Some m) is (Refuse c) number t n did given = gone_on m is (Refuse c) number t n did given

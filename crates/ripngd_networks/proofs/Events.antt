@@ -7,7 +7,7 @@ use Rattle.ripng_world.specs.World.{Event}
 use Rattle.ripng_phases.specs.Phases.{IsOrdinary}
 use Rattle.ripngd_engine.specs.Link.{Datagram, Gave, Silent, RecvFailed, Handed}
 use Rattle.ripngd_engine.specs.Run.{Trace, arrival}
-use Rattle.ripngd_networks.specs.Daemons.{Act, Start, Listen, Tick, Reconfigure, Leave, LoseLink, Refuse}
+use Rattle.ripngd_networks.specs.Daemons.{Act, Start, Listen, Tick, Reconfigure, Shutdown, LinkDown, Refuse}
 use Rattle.ripngd_networks.specs.OnTime.{IsPlain}
 use Rattle.ripngd_networks.proofs.Deeds.{IsEventOf, IsHeard}
 
@@ -46,8 +46,8 @@ plain_event count router Tick number trace e answer plain is =
       notes = inl is.3.notes;
     }
 plain_event count router (Reconfigure c) number trace e answer plain is = absurd plain
-plain_event count router Leave number trace e answer plain is = absurd plain
-plain_event count router (LoseLink on) number trace e answer plain is = absurd plain
+plain_event count router Shutdown number trace e answer plain is = absurd plain
+plain_event count router (LinkDown on) number trace e answer plain is = absurd plain
 plain_event count router (Refuse c) number trace e answer plain is = absurd is
 
 -- a delivery is of what a link gave
@@ -101,13 +101,13 @@ gift_of count router (Reconfigure c) number trace e answer datagram other iface 
   where
     no : world.Reconfigure router is.0 c ≡ world.Deliver datagram other iface now → ⊥
     no e = cc
-gift_of count router Leave number trace e answer datagram other iface now is same = absurd (no (sym is.1 ∙ same))
+gift_of count router Shutdown number trace e answer datagram other iface now is same = absurd (no (sym is.1 ∙ same))
   where
-    no : world.Leave router is.0 ≡ world.Deliver datagram other iface now → ⊥
+    no : world.Shutdown router is.0 ≡ world.Deliver datagram other iface now → ⊥
     no e = cc
-gift_of count router (LoseLink on) number trace e answer datagram other iface now is same = absurd (no (sym is.1 ∙ same))
+gift_of count router (LinkDown on) number trace e answer datagram other iface now is same = absurd (no (sym is.1 ∙ same))
   where
-    no : world.LoseLink router is.0 on ≡ world.Deliver datagram other iface now → ⊥
+    no : world.LinkDown router is.0 on ≡ world.Deliver datagram other iface now → ⊥
     no e = cc
 gift_of count router (Refuse c) number trace e answer datagram other iface now is same = absurd is
 
@@ -134,6 +134,6 @@ tick_of count router (Listen (Handed o went)) number trace e answer other now wo
 tick_of count router Tick number trace e answer other now word plain is same =
     record { ticks = refl; router_is = ap router_of (sym is.2 ∙ same); moment = is.3.moments ∙ ap (λ n. n ∷ []) (ap moment_of (sym is.2 ∙ same)) }
 tick_of count router (Reconfigure c) number trace e answer other now word plain is same = absurd plain
-tick_of count router Leave number trace e answer other now word plain is same = absurd plain
-tick_of count router (LoseLink on) number trace e answer other now word plain is same = absurd plain
+tick_of count router Shutdown number trace e answer other now word plain is same = absurd plain
+tick_of count router (LinkDown on) number trace e answer other now word plain is same = absurd plain
 tick_of count router (Refuse c) number trace e answer other now word plain is same = absurd is

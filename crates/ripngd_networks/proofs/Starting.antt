@@ -1,12 +1,12 @@
 -- The next regular update of a daemon is due 45 seconds after its last step at the latest, whatever it did since its start.
 use Rattle.std.proofs.Common.{◌≡◌, inl, inr, ℕ, ◌+◌, max, ◌≤◌, ◌<◌, List, [], ◌∷◌, length, Option, Some, None, refl, sym, subst, arith}
 use Rattle.router_core.specs.Config.{Config}
-use Rattle.router_core.specs.Machine.{State, Happening, Arrives, Ticks, Restarts, Reconfigures, Leaves, LosesLink, Moves}
+use Rattle.router_core.specs.Machine.{State, Happening, Arrives, Ticks, Restarts, Reconfigures, ShutsDown, LinkGoesDown, Moves}
 use Rattle.router_core.specs.declared.answer.Answer.{Answer}
 use Rattle.ripng_world.specs.Network.{Network, config_of}
 use Rattle.ripngd_engine.specs.Link.{Call, Gave, Silent, RecvFailed, Handed}
 use Rattle.ripngd_engine.specs.Run.{Machine, Trace, MovedOrLost, arrival}
-use Rattle.ripngd_networks.specs.Daemons.{Act, Start, Listen, Tick, Reconfigure, Leave, LoseLink, Refuse, Deed, Does, Happened, HearsCall, Lives, own_deeds}
+use Rattle.ripngd_networks.specs.Daemons.{Act, Start, Listen, Tick, Reconfigure, Shutdown, LinkDown, Refuse, Deed, Does, Happened, HearsCall, Lives, own_deeds}
 use Rattle.ripngd_networks.specs.Links.{HaveRun}
 use Rattle.ripngd_networks.proofs.Running.{there_is}
 use Rattle.ripngd_networks.proofs.Winding.{arrived_wound, ticked_wound}
@@ -24,11 +24,11 @@ moved_set old (Restarts now) answer new set moves = subst IsSet (sym moves.state
   where
     more : (n : ℕ) → n ≤ n + 45_000
     more n = omega arith
-moved_set old (Leaves now) answer new set moves = subst IsSet (sym moves.state) (up old.last old.regular now set)
+moved_set old (ShutsDown now) answer new set moves = subst IsSet (sym moves.state) (up old.last old.regular now set)
   where
     up : (a b n : ℕ) → b ≤ a + 45_000 → b ≤ max a n + 45_000
     up a b n e = omega arith
-moved_set old (LosesLink now iface) answer new set moves = subst IsSet (sym moves.state) (up old.last old.regular now set)
+moved_set old (LinkGoesDown now iface) answer new set moves = subst IsSet (sym moves.state) (up old.last old.regular now set)
   where
     up : (a b n : ℕ) → b ≤ a + 45_000 → b ≤ max a n + 45_000
     up a b n e = omega arith
@@ -63,14 +63,14 @@ does_set config before Start t n set did = subst IsSet (sym did.1.starts.state) 
 does_set config (Some m) (Listen call) t n set did = heard_set call m t n set did.1
 does_set config (Some m) Tick t n set did = stepped_set (record m { stream = did.1.stream }) (Ticks did.1.now did.1.word) did.1.now t n set did.1.step
 does_set config (Some m) (Reconfigure c) t n set did = moved_set m.router (Reconfigures did.1.0 c) did.1.1.answer n.router set did.1.1.moves
-does_set config (Some m) Leave t n set did = moved_set m.router (Leaves did.1.0) did.1.1.answer n.router set did.1.1.moves
-does_set config (Some m) (LoseLink on) t n set did = moved_set m.router (LosesLink did.1.0 on) did.1.1.answer n.router set did.1.1.moves
+does_set config (Some m) Shutdown t n set did = moved_set m.router (ShutsDown did.1.0) did.1.1.answer n.router set did.1.1.moves
+does_set config (Some m) (LinkDown on) t n set did = moved_set m.router (LinkGoesDown did.1.0 on) did.1.1.answer n.router set did.1.1.moves
 does_set config (Some m) (Refuse c) t n set did = same_set m n did.1.2 set
 does_set config None (Listen call) t n set did = absurd did
 does_set config None Tick t n set did = absurd did
 does_set config None (Reconfigure c) t n set did = absurd did
-does_set config None Leave t n set did = absurd did
-does_set config None (LoseLink on) t n set did = absurd did
+does_set config None Shutdown t n set did = absurd did
+does_set config None (LinkDown on) t n set did = absurd did
 does_set config None (Refuse c) t n set did = absurd did
 
 life_set : (config : Config) (before : Option Machine) (deeds : List Deed) (m : Machine) → IfUp before → Lives config before deeds (Some m) → IsSet m.router

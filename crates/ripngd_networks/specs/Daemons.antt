@@ -3,19 +3,19 @@ use Rattle.std.specs.Prelude.{◌≡◌, ℕ, ◌==◌, if◌then◌else◌, Lis
 use Rattle.rand_core.specs.Stream.{Stream}
 use Rattle.router_core.specs.Config.{Config}
 use Rattle.router_core.specs.declared.reconfiguring.Change.{Change}
-use Rattle.ripngd_engine.specs.Changing.{ReconfiguresOnce, LeavesOnce, LosesLinkOnce, ReconfiguresNothing}
+use Rattle.ripngd_engine.specs.Changing.{ReconfiguresOnce, ShutsDownOnce, LinkGoesDownOnce, ReconfiguresNothing}
 use Rattle.ripngd_engine.specs.Link.{Call, RecvFailed}
 use Rattle.ripngd_engine.specs.Run.{Machine, Trace, ComesUp, TakesIn, TicksOnce, followed_by, one_call}
 
 -- a daemon comes up; it asks its link once, and takes in what that gave; it ticks; its configuration is changed, or the change
--- is refused; it says good-bye; it loses a link
+-- is refused; it shuts down; a link of it goes down
 pub data Act : Type 0 where
   Start : Act
   Listen : Call → Act
   Tick : Act
   Reconfigure : Change → Act
-  Leave : Act
-  LoseLink : ℕ → Act
+  Shutdown : Act
+  LinkDown : ℕ → Act
   Refuse : Change → Act
 
 -- the change that an act does, if it does one
@@ -43,8 +43,8 @@ Goes Start m t n = ⊥
 Goes (Listen call) m t n = (m.ended ≡ false) × HearsCall call m t n
 Goes Tick m t n = (m.ended ≡ false) × TicksOnce m t n
 Goes (Reconfigure c) m t n = (m.ended ≡ false) × ReconfiguresOnce c m t n
-Goes Leave m t n = (m.ended ≡ false) × LeavesOnce m t n
-Goes (LoseLink on) m t n = (m.ended ≡ false) × LosesLinkOnce on m t n
+Goes Shutdown m t n = (m.ended ≡ false) × ShutsDownOnce m t n
+Goes (LinkDown on) m t n = (m.ended ≡ false) × LinkGoesDownOnce on m t n
 Goes (Refuse c) m t n = (m.ended ≡ false) × ReconfiguresNothing m t n
 
 -- the configuration in force: that of the first start, or that of the daemon, as it was changed

@@ -24,7 +24,7 @@ use Rattle.ripngd_engine.specs.Link.{Datagram, Gave}
 use Rattle.ripngd_engine.specs.Run.{Machine}
 use Rattle.ripngd_engine.specs.Watch.{Heard}
 use Rattle.ripngd_engine.specs.declared.watch.Arrived.{Arrived}
-use Rattle.ripngd_networks.specs.Daemons.{Act, Start, Listen, Tick, Reconfigure, Leave, LoseLink, Happened, Lives, own_deeds}
+use Rattle.ripngd_networks.specs.Daemons.{Act, Start, Listen, Tick, Reconfigure, Shutdown, LinkDown, Happened, Lives, own_deeds}
 use Rattle.ripngd_networks.specs.Links.{IsCopyOf, IsOfAStranger, LiveOn, handed_by, all_handed}
 
 -- ---- deeds by the true clock
@@ -63,8 +63,8 @@ AreNumbered net handed (t ∷ history) =
 abbrev pub IsPlain : Act → Type 0
 IsPlain Start = ⊥
 IsPlain (Reconfigure c) = ⊥
-IsPlain Leave = ⊥
-IsPlain (LoseLink on) = ⊥
+IsPlain Shutdown = ⊥
+IsPlain (LinkDown on) = ⊥
 IsPlain _ = ⊤
 
 -- a daemon ticks, from one moment on and before another

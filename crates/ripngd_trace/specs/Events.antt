@@ -18,7 +18,7 @@ use Rattle.router_core.specs.declared.reconfiguring.Change.TheVariants.{Cost, Ow
 use Rattle.ripng_world.specs.Labs.{LabValue}
 use Rattle.ripng_world.specs.Rounds.{moment_of, router_of}
 use Rattle.ripng_world.specs.Watching.{Told}
-use Rattle.ripng_world.specs.World.{Event, Deliver, Stranger, Tick, Restart, Leave, LoseLink, Reconfigure}
+use Rattle.ripng_world.specs.World.{Event, Deliver, Stranger, Tick, Restart, Shutdown, LinkDown, Reconfigure}
 use Rattle.ripng_world.specs.declared.sent.Sent.{Sent}
 use Rattle.ripngd_trace.specs.Records.{timers_in}
 use Rattle.ripngd_trace.specs.declared.records.ChangeRecord.{ChangeRecord}
@@ -68,8 +68,8 @@ SaysHappened lab (Deliver datagram router iface now) said = said ≡ told.Delive
 SaysHappened lab (Stranger router x) said = SaysArrival x said
 SaysHappened lab (Tick router now word) said = said ≡ told.Tick word
 SaysHappened lab (Restart router now) said = said ≡ told.Restart
-SaysHappened lab (Leave router now) said = said ≡ told.Leave
-SaysHappened lab (LoseLink router now iface) said = said ≡ told.LoseLink iface
+SaysHappened lab (Shutdown router now) said = said ≡ told.Shutdown
+SaysHappened lab (LinkDown router now iface) said = said ≡ told.LinkDown iface
 SaysHappened lab (Reconfigure router now c) said = said ≡ change_told c
 
 -- ---- the answer

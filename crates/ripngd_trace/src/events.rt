@@ -22,8 +22,8 @@ pub fn router_of(event: &Event<'_>) -> usize
         | Event::Stranger { router, .. }
         | Event::Tick { router, .. }
         | Event::Restart { router, .. }
-        | Event::Leave { router, .. }
-        | Event::LoseLink { router, .. }
+        | Event::Shutdown { router, .. }
+        | Event::LinkDown { router, .. }
         | Event::Reconfigure { router, .. } => *router,
     }
 }
@@ -37,8 +37,8 @@ pub fn moment_of(event: &Event<'_>) -> Moment
         Event::Deliver { now, .. }
         | Event::Tick { now, .. }
         | Event::Restart { now, .. }
-        | Event::Leave { now, .. }
-        | Event::LoseLink { now, .. }
+        | Event::Shutdown { now, .. }
+        | Event::LinkDown { now, .. }
         | Event::Reconfigure { now, .. } => *now,
     }
 }
@@ -135,8 +135,8 @@ pub fn happened<S: RouteStore>(
         Event::Stranger { arrival, .. } => stranger(alloc, arrival),
         Event::Tick { word, .. } => Ok(Happened::Tick { word: *word }),
         Event::Restart { .. } => Ok(Happened::Restart),
-        Event::Leave { .. } => Ok(Happened::Leave),
-        Event::LoseLink { iface, .. } => Ok(Happened::LoseLink { iface: *iface }),
+        Event::Shutdown { .. } => Ok(Happened::Shutdown),
+        Event::LinkDown { iface, .. } => Ok(Happened::LinkDown { iface: *iface }),
         Event::Reconfigure { change, .. } => Ok(change_told(change)),
     }
 }

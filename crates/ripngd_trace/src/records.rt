@@ -110,8 +110,8 @@ pub enum Happened {
         word: u32,
     },
     Restart,
-    Leave,
-    LoseLink {
+    Shutdown,
+    LinkDown {
         iface: usize,
     },
     Cost {

@@ -41,8 +41,8 @@ impl Display for Happened {
             }
             Happened::Tick { .. } => f.write_str("looks at its timers"),
             Happened::Restart => f.write_str("starts again"),
-            Happened::Leave => f.write_str("says good-bye"),
-            Happened::LoseLink { iface } => write!(f, "loses the link of interface {iface}"),
+            Happened::Shutdown => f.write_str("shuts down"),
+            Happened::LinkDown { iface } => write!(f, "sees the link of interface {iface} go down"),
             Happened::Cost { iface, cost } => write!(f, "has cost {cost} on interface {iface}"),
             Happened::Gain { prefix, tag } => write!(f, "owns {prefix} with tag {tag}"),
             Happened::Disown { prefix } => write!(f, "owns {prefix} no longer"),

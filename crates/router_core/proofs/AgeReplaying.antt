@@ -17,7 +17,7 @@ use Rattle.route_table.specs.Table.{Table, map_values}
 use Rattle.route_table.proofs.TableLaws.{Some-same, None-Some, none_later, sorted_tail, get-map_values}
 use Rattle.router_core.specs.Ageing.{aged, aged_table}
 use Rattle.router_core.specs.Changes.{forward, forwards, change, changes_of_start, changes_of_ageing}
-use Rattle.router_core.specs.Severing.{severed, severed_table, changes_of_severing}
+use Rattle.router_core.specs.LinkDown.{after_link_down, table_after_link_down, changes_of_link_down}
 use Rattle.router_core.proofs.HearingSteps.{same_as_key}
 use Rattle.router_core.proofs.Replaying.{same_forward-true, prefix-change_to, forward-change_to}
 
@@ -110,8 +110,8 @@ mapped_replays f table p =
 pub ageing_replays : (now : ℕ) (table : Table) → Replays (forwards table) (changes_of_ageing now table) (forwards (aged_table now table))
 ageing_replays now table = mapped_replays (aged now) table
 
-pub severing_replays : (iface now : ℕ) (table : Table) → Replays (forwards table) (changes_of_severing iface now table) (forwards (severed_table iface now table))
-severing_replays iface now table = mapped_replays (λ r. Some (severed iface now r)) table
+pub link_down_replays : (iface now : ℕ) (table : Table) → Replays (forwards table) (changes_of_link_down iface now table) (forwards (table_after_link_down iface now table))
+link_down_replays iface now table = mapped_replays (λ r. Some (after_link_down iface now r)) table
 
 pub starting_replays : (table : Table) → Replays map_of.empty (changes_of_start table) (forwards table)
 starting_replays table p =

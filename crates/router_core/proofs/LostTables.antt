@@ -7,7 +7,7 @@ use Rattle.route_table.specs.Route.{RouteValue}
 use Rattle.route_table.specs.Table.{Table, map_entries}
 use Rattle.route_table.proofs.TableLaws.{entries-map_values}
 use Rattle.router_core.specs.Adoption.{lost}
-use Rattle.router_core.specs.Leaving.{unreachable_table}
+use Rattle.router_core.specs.Shutdown.{unreachable_table}
 
 each_lost : (now : ℕ) (es : List (Prefix6 × RouteValue)) → map_entries (λ r. Some (lost now r)) es ≡ map (λ t. (t.0, lost now t.1)) es
 each_lost now [] = refl

@@ -19,8 +19,8 @@ use Rattle.router_core.specs.Ageing.{aged, aged_by_clock, aged_table, without_ma
 use Rattle.router_core.specs.Received.{Received}
 use Rattle.router_core.specs.Faults.{fault}
 use Rattle.router_core.specs.Reconfiguring.{reconfigure_fault, reconfigured_config, reconfigured_table, newly_owned, disowned}
-use Rattle.router_core.specs.Machine.{State, Happening, Arrives, Ticks, Restarts, Reconfigures, Leaves, LosesLink, Moves, Accepts, Hears, Replies, Refuses, Starts, owned_table, ticked, is_regular_due, is_triggered_due}
-use Rattle.router_core.specs.Severing.{severed, severed_table}
+use Rattle.router_core.specs.Machine.{State, Happening, Arrives, Ticks, Restarts, Reconfigures, ShutsDown, LinkGoesDown, Moves, Accepts, Hears, Replies, Refuses, Starts, owned_table, ticked, is_regular_due, is_triggered_due}
+use Rattle.router_core.specs.LinkDown.{after_link_down, table_after_link_down}
 use Rattle.router_core.specs.Output.{is_learned_on}
 use Rattle.route_table.specs.Route.{infinity}
 use Rattle.router_core.specs.Adoption.{lost}
@@ -93,10 +93,10 @@ aged_keeps : (now : ℕ) (table : Table) → KeepsFixed table (aged_table now ta
 aged_keeps now table p tag h =
     (h.0, get-map_values (aged now) table p ∙ ap (option_and_then (aged now)) h.1 ∙ ap (aged_by_clock now h.0) h.2.clock, h.2)
 
-severed_keeps : (iface now : ℕ) (table : Table) → KeepsFixed table (severed_table iface now table)
-severed_keeps iface now table p tag h = (
+link_down_keeps : (iface now : ℕ) (table : Table) → KeepsFixed table (table_after_link_down iface now table)
+link_down_keeps iface now table p tag h = (
   h.0,
-  get-map_values (λ r. Some (severed iface now r)) table p ∙ ap (option_and_then (λ r. Some (severed iface now r))) h.1
+  get-map_values (λ r. Some (after_link_down iface now r)) table p ∙ ap (option_and_then (λ r. Some (after_link_down iface now r))) h.1
       ∙ ap (λ o. Some (cond (is_learned_on iface o && nat_lt h.0.metric infinity) (lost now h.0) h.0)) h.2.origin,
   h.2,
 )
@@ -218,10 +218,10 @@ moves_keep_owned old new (Ticks now word) answer moves h = subst HoldsAt (sym mo
 moves_keep_owned old new (Restarts now) answer moves h = subst HoldsAt (sym moves.state) (started_owned old.config h.once)
 moves_keep_owned old new (Reconfigures now change) answer moves h =
     subst HoldsAt (sym moves.state) (changed_owned (max old.last now) old.config old.table change moves.allowed h)
-moves_keep_owned old new (Leaves now) answer moves h = subst HoldsAt (sym moves.state) (record { once = h.once; held = h.held })
-moves_keep_owned old new (LosesLink now iface) answer moves h =
+moves_keep_owned old new (ShutsDown now) answer moves h = subst HoldsAt (sym moves.state) (record { once = h.once; held = h.held })
+moves_keep_owned old new (LinkGoesDown now iface) answer moves h =
     subst HoldsAt (sym moves.state)
-    (kept_owned old.config old.table (severed_table iface (max old.last now) old.table) (severed_keeps iface (max old.last now) old.table) h)
+    (kept_owned old.config old.table (table_after_link_down iface (max old.last now) old.table) (link_down_keeps iface (max old.last now) old.table) h)
 
 pub starts_owned : (config : Config) (now : ℕ) (answer : Answer) (new : State) → OwnsOnce config.prefixes → Starts config now answer new → HoldsOwned new.config new.table
 starts_owned config now answer new once starts = subst HoldsAt (sym starts.state) (started_owned config once)

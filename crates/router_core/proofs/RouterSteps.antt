@@ -20,7 +20,7 @@ use Rattle.router_core.specs.Hearing.{Hearing, Heard, hearing}
 use Rattle.router_core.specs.Machine.{State, Hears, gateway_of, hearing_of, owned_table, is_regular_due, is_triggered_due, tick_messages}
 use Rattle.router_core.specs.Output.{AreSpelled, update_messages, every_route, is_changed}
 use Rattle.router_core.specs.Received.{Received}
-use Rattle.router_core.specs.Severing.{severed_table, changes_of_severing}
+use Rattle.router_core.specs.LinkDown.{table_after_link_down, changes_of_link_down}
 use Rattle.router_core.specs.Updates.{entries_in, update_due, update_of}
 use Rattle.router_core.specs.declared.answer.Answer.{Answer}
 use Rattle.router_core.specs.declared.answer.Note.{Note}
@@ -29,7 +29,7 @@ use Rattle.router_core.specs.Settling.{told_route}
 use Rattle.router_core.specs.declared.tell.Selection.{Selection}
 use Rattle.router_core.specs.declared.tell.Selection.TheVariants.{Every, Changed}
 use Rattle.router_core.specs.declared.config.Interface.{Interface}
-use Rattle.router_core.proofs.AgeReplaying.{ageing_replays, severing_replays, starting_replays}
+use Rattle.router_core.proofs.AgeReplaying.{ageing_replays, link_down_replays, starting_replays}
 use Rattle.router_core.proofs.AgedTables.{map_values-twice}
 use Rattle.router_core.proofs.ConfigLaws.{cost_high}
 use Rattle.router_core.proofs.Replaying.{hearing_replays}
@@ -111,11 +111,11 @@ ticked_replays now was_told old new changes settled listed =
     by_mark false = refl
 
 -- the changes of the loss of a link, replayed
-pub severed_replays : (iface now : ℕ) (old new : Table) (changes : List RouteChange) → new ≡ severed_table iface now old → changes ≡ changes_of_severing iface now old
+pub lost_on_replays : (iface now : ℕ) (old new : Table) (changes : List RouteChange) → new ≡ table_after_link_down iface now old → changes ≡ changes_of_link_down iface now old
     → Replays (forwards old) changes (forwards new)
-severed_replays iface now old new changes settled listed =
+lost_on_replays iface now old new changes settled listed =
     subst (λ (cs : List RouteChange). Replays (forwards old) cs (forwards new)) (sym listed)
-    (subst (λ (t : Table). Replays (forwards old) (changes_of_severing iface now old) (forwards t)) (sym settled) (severing_replays iface now old))
+    (subst (λ (t : Table). Replays (forwards old) (changes_of_link_down iface now old) (forwards t)) (sym settled) (link_down_replays iface now old))
 
 -- no more routes are told than there are
 pub length-told : (now : ℕ) (which : Selection) (t : Table) → length (map_entries (told_route now which) (map_of.entries t)) ≤ map_of.len t

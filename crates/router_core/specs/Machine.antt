@@ -17,8 +17,8 @@ use Rattle.router_core.specs.Ageing.{aged_table, unmarked}
 use Rattle.router_core.specs.Output.{Message, AreSpelled, start_messages, update_messages, reply_messages, every_route, is_changed}
 use Rattle.fib.specs.Forwarding.{Forwarding}
 use Rattle.router_core.specs.Changes.{forwards, changes_of_start, changes_of_ageing, changes_of_hearing}
-use Rattle.router_core.specs.Leaving.{leave_messages}
-use Rattle.router_core.specs.Severing.{severed_table, changes_of_severing}
+use Rattle.router_core.specs.Shutdown.{shutdown_messages}
+use Rattle.router_core.specs.LinkDown.{table_after_link_down, changes_of_link_down}
 use Rattle.router_core.specs.Owning.{owned_route}
 use Rattle.router_core.specs.Reconfiguring.{IsNamed, reconfigure_fault, reconfigured_config, reconfigured_table, changes_of_reconfiguring}
 use Rattle.router_core.specs.declared.answer.Answer.{Answer}
@@ -41,8 +41,8 @@ pub data Happening : Type 0 where
   Ticks : (now word : ℕ) → Happening
   Restarts : (now : ℕ) → Happening
   Reconfigures : (now : ℕ) → Change → Happening
-  Leaves : (now : ℕ) → Happening
-  LosesLink : (now iface : ℕ) → Happening
+  ShutsDown : (now : ℕ) → Happening
+  LinkGoesDown : (now iface : ℕ) → Happening
 
 -- an answer with no fault, of these messages, changes and notes
 pub record IsAnswer (messages : List Message) (changes : List RouteChange) (notes : List Note) (answer : Answer) : Type 0 where
@@ -138,23 +138,23 @@ pub record Obeys (old : State) (now : ℕ) (c : Change) (answer : Answer) (new :
   pub state : new ≡ reconfigured old now c
   pub answer_is : IsAnswer [] (changes_of_reconfiguring now old.table c) [] answer
 
--- the router says good-bye: it tells every route as unreachable, and holds all that it held
-pub record SaysGoodbye (old : State) (now : ℕ) (answer : Answer) (new : State) : Type 0 where
+-- the router shuts down: its last update poisons every route, and it holds all that it held
+pub record PoisonsAll (old : State) (now : ℕ) (answer : Answer) (new : State) : Type 0 where
   pub state : new ≡ record old { last = now }
-  pub answer_is : IsAnswer (leave_messages old.config now old.table) [] [] answer
+  pub answer_is : IsAnswer (shutdown_messages old.config now old.table) [] [] answer
 
--- the link of an interface is lost: what was learned there ends, and is told by the next tick
-pub record Severs (old : State) (now iface : ℕ) (answer : Answer) (new : State) : Type 0 where
-  pub state : new ≡ record old { table = severed_table iface now old.table; last = now }
-  pub answer_is : IsAnswer [] (changes_of_severing iface now old.table) [] answer
+-- the link of an interface goes down: what was learned there ends, and is told by the next tick
+pub record LosesRoutes (old : State) (now iface : ℕ) (answer : Answer) (new : State) : Type 0 where
+  pub state : new ≡ record old { table = table_after_link_down iface now old.table; last = now }
+  pub answer_is : IsAnswer [] (changes_of_link_down iface now old.table) [] answer
 
 -- the router may answer so, and is then so. Time does not go back, but at a restart
 abbrev pub Moves : State → Happening → Answer → State → Type 0
 Moves old (Restarts now) answer new = Starts old.config now answer new
 Moves old (Ticks now word) answer new = Updates old (max old.last now) word answer new
 Moves old (Reconfigures now c) answer new = Obeys old (max old.last now) c answer new
-Moves old (Leaves now) answer new = SaysGoodbye old (max old.last now) answer new
-Moves old (LosesLink now iface) answer new = Severs old (max old.last now) iface answer new
+Moves old (ShutsDown now) answer new = PoisonsAll old (max old.last now) answer new
+Moves old (LinkGoesDown now iface) answer new = LosesRoutes old (max old.last now) iface answer new
 Moves old (Arrives x) answer new =
     MatchOption (fault old.config x)
     (Accepts old (max old.last x.now) x answer new)
@@ -166,5 +166,5 @@ forwards_before old (Restarts now) = map_of.empty
 forwards_before old (Ticks now word) = forwards old.table
 forwards_before old (Arrives x) = forwards old.table
 forwards_before old (Reconfigures now c) = forwards old.table
-forwards_before old (Leaves now) = forwards old.table
-forwards_before old (LosesLink now iface) = forwards old.table
+forwards_before old (ShutsDown now) = forwards old.table
+forwards_before old (LinkGoesDown now iface) = forwards old.table

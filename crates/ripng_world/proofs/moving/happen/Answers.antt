@@ -26,15 +26,15 @@ returns-in_ok-restart-in-Restart-clause-moves g c =
     subst (λ e. MoveStations c.args.stations.now c.args.sent.now.items c.args.reconfigurations.now.items (event_of e) c.in_ok-restart-in-Restart.field-0 c.restart.new.stations)
     (sym c.in-Restart.is) (c.in_ok-restart-in-Restart.ensures.moves c.args.reconfigurations.now.items)
 
-pub returns-in_ok-leave-in-Leave-clause-moves : goal.returns-in_ok-leave-in-Leave-clause-moves
-returns-in_ok-leave-in-Leave-clause-moves g c =
-    subst (λ e. MoveStations c.args.stations.now c.args.sent.now.items c.args.reconfigurations.now.items (event_of e) c.in_ok-leave-in-Leave.field-0 c.leave.new.stations)
-    (sym c.in-Leave.is) (c.in_ok-leave-in-Leave.ensures.moves c.args.reconfigurations.now.items)
+pub returns-in_ok-shutdown-in-Shutdown-clause-moves : goal.returns-in_ok-shutdown-in-Shutdown-clause-moves
+returns-in_ok-shutdown-in-Shutdown-clause-moves g c =
+    subst (λ e. MoveStations c.args.stations.now c.args.sent.now.items c.args.reconfigurations.now.items (event_of e) c.in_ok-shutdown-in-Shutdown.field-0 c.shutdown.new.stations)
+    (sym c.in-Shutdown.is) (c.in_ok-shutdown-in-Shutdown.ensures.moves c.args.reconfigurations.now.items)
 
-pub returns-in_ok-lose_link-in-LoseLink-clause-moves : goal.returns-in_ok-lose_link-in-LoseLink-clause-moves
-returns-in_ok-lose_link-in-LoseLink-clause-moves g c =
-    subst (λ e. MoveStations c.args.stations.now c.args.sent.now.items c.args.reconfigurations.now.items (event_of e) c.in_ok-lose_link-in-LoseLink.field-0 c.lose_link.new.stations)
-    (sym c.in-LoseLink.is) (c.in_ok-lose_link-in-LoseLink.ensures.moves c.args.sent.now.items c.args.reconfigurations.now.items)
+pub returns-in_ok-link_down-in-LinkDown-clause-moves : goal.returns-in_ok-link_down-in-LinkDown-clause-moves
+returns-in_ok-link_down-in-LinkDown-clause-moves g c =
+    subst (λ e. MoveStations c.args.stations.now c.args.sent.now.items c.args.reconfigurations.now.items (event_of e) c.in_ok-link_down-in-LinkDown.field-0 c.link_down.new.stations)
+    (sym c.in-LinkDown.is) (c.in_ok-link_down-in-LinkDown.ensures.moves c.args.sent.now.items c.args.reconfigurations.now.items)
 
 pub returns-in-Reconfigure-clause-refused : goal.returns-in-Reconfigure-clause-refused
 returns-in-Reconfigure-clause-refused g c =
@@ -57,13 +57,13 @@ tick-requires g c = router_within c.args.stations.now c.in-Tick.router (subst (�
 pub restart-requires : goal.restart-requires
 restart-requires g c = router_within c.args.stations.now c.in-Restart.router (subst (λ e. event_fault (lab_of c.args.stations.now c.args.sent.now.items c.args.reconfigurations.now.items) (event_of e) ≡ None) c.in-Restart.is c.requires)
 
-pub leave-requires : goal.leave-requires
-leave-requires g c = router_within c.args.stations.now c.in-Leave.router (subst (λ e. event_fault (lab_of c.args.stations.now c.args.sent.now.items c.args.reconfigurations.now.items) (event_of e) ≡ None) c.in-Leave.is c.requires)
+pub shutdown-requires : goal.shutdown-requires
+shutdown-requires g c = router_within c.args.stations.now c.in-Shutdown.router (subst (λ e. event_fault (lab_of c.args.stations.now c.args.sent.now.items c.args.reconfigurations.now.items) (event_of e) ≡ None) c.in-Shutdown.is c.requires)
 
-pub lose_link-requires : goal.lose_link-requires
-lose_link-requires g c =
-    interface_router_within c.args.stations.now c.in-LoseLink.router c.in-LoseLink.iface
-    (subst (λ e. event_fault (lab_of c.args.stations.now c.args.sent.now.items c.args.reconfigurations.now.items) (event_of e) ≡ None) c.in-LoseLink.is c.requires)
+pub link_down-requires : goal.link_down-requires
+link_down-requires g c =
+    interface_router_within c.args.stations.now c.in-LinkDown.router c.in-LinkDown.iface
+    (subst (λ e. event_fault (lab_of c.args.stations.now c.args.sent.now.items c.args.reconfigurations.now.items) (event_of e) ≡ None) c.in-LinkDown.is c.requires)
 
 pub reconfigure-requires : goal.reconfigure-requires
 reconfigure-requires g c = subst (λ e. event_fault (lab_of c.args.stations.now c.args.sent.now.items c.args.reconfigurations.now.items) (event_of e) ≡ None) c.in-Reconfigure.is c.requires
@@ -82,8 +82,8 @@ returns-in_err-tick-in-Tick-clause-refused g c = err_is c.from_residual-in_err-t
 pub returns-in_err-restart-in-Restart-clause-refused : goal.returns-in_err-restart-in-Restart-clause-refused
 returns-in_err-restart-in-Restart-clause-refused g c = err_is c.from_residual-in_err-restart-in-Restart.result _ _ (λ why is. inr (c.requires, is)) c.from_residual-in_err-restart-in-Restart.ensures.1
 
-pub returns-in_err-leave-in-Leave-clause-refused : goal.returns-in_err-leave-in-Leave-clause-refused
-returns-in_err-leave-in-Leave-clause-refused g c = err_is c.from_residual-in_err-leave-in-Leave.result _ _ (λ why is. inr (c.requires, is)) c.from_residual-in_err-leave-in-Leave.ensures.1
+pub returns-in_err-shutdown-in-Shutdown-clause-refused : goal.returns-in_err-shutdown-in-Shutdown-clause-refused
+returns-in_err-shutdown-in-Shutdown-clause-refused g c = err_is c.from_residual-in_err-shutdown-in-Shutdown.result _ _ (λ why is. inr (c.requires, is)) c.from_residual-in_err-shutdown-in-Shutdown.ensures.1
 
-pub returns-in_err-lose_link-in-LoseLink-clause-refused : goal.returns-in_err-lose_link-in-LoseLink-clause-refused
-returns-in_err-lose_link-in-LoseLink-clause-refused g c = err_is c.from_residual-in_err-lose_link-in-LoseLink.result _ _ (λ why is. inr (c.requires, is)) c.from_residual-in_err-lose_link-in-LoseLink.ensures.1
+pub returns-in_err-link_down-in-LinkDown-clause-refused : goal.returns-in_err-link_down-in-LinkDown-clause-refused
+returns-in_err-link_down-in-LinkDown-clause-refused g c = err_is c.from_residual-in_err-link_down-in-LinkDown.result _ _ (λ why is. inr (c.requires, is)) c.from_residual-in_err-link_down-in-LinkDown.ensures.1

@@ -1,4 +1,4 @@
--- What a router tells as it leaves: every route of its table, own or learned, as unreachable.
+-- What a router tells as it shuts down: every route of its table, own or learned, as unreachable (route poisoning).
 use Rattle.std.specs.Prelude.{ℕ, List, Some}
 use Rattle.route_table.specs.Table.{Table, map_values}
 use Rattle.router_core.specs.Config.{Config}
@@ -10,5 +10,5 @@ abbrev pub unreachable_table : ℕ → Table → Table
 unreachable_table now table = map_values (λ r. Some (lost now r)) table
 
 -- the last update: all routes, on each interface, with metric 16
-abbrev pub leave_messages : Config → ℕ → Table → List Message
-leave_messages config now table = update_messages config every_route (unreachable_table now table)
+abbrev pub shutdown_messages : Config → ℕ → Table → List Message
+shutdown_messages config now table = update_messages config every_route (unreachable_table now table)

@@ -1,4 +1,4 @@
--- A router that leaves tells nothing but losses.
+-- A router that shuts down tells nothing but losses.
 use Rattle.std.proofs.Common.{◌≡◌, ℕ, ◌+◌, ◌*◌, ◌-◌, ◌/◌, Bool, true, false, cond, List, [], ◌∷◌, map, drop, length, flat_map, slice_range, Option, Some, None, refl, ap, sym, subst}
 use Rattle.std.specs.Prelude.{⊤}
 use Rattle.std.specs.List.{AllByRecursion, enumerate_from}
@@ -14,8 +14,8 @@ use Rattle.route_table.specs.Table.{Table}
 use Rattle.route_table.proofs.TableLaws.{all_entries, at_map_values, Some-same}
 use Rattle.router_core.specs.Adoption.{lost}
 use Rattle.router_core.specs.Config.{Config, mtu_at}
-use Rattle.router_core.specs.Leaving.{unreachable_table, leave_messages}
-use Rattle.router_core.specs.Machine.{State, Happening, Leaves, Moves}
+use Rattle.router_core.specs.Shutdown.{unreachable_table, shutdown_messages}
+use Rattle.router_core.specs.Machine.{State, Happening, ShutsDown, Moves}
 use Rattle.router_core.specs.Output.{Message, AreSpelled, told, told_entry, is_learned_on, every_route, numbers_below, pieces, responses}
 use Rattle.router_core.specs.declared.answer.Answer.{Answer}
 use Rattle.router_core.specs.declared.answer.Destination.{Destination}
@@ -44,8 +44,8 @@ all_lost iface now table =
     (each_filter (λ (t : Prefix6 × RouteValue). IsLoss (told_entry iface t)) (λ t. every_route t.1) (map_of.entries (unreachable_table now table))
     (all_entries (λ t. IsLoss (told_entry iface t)) (unreachable_table now table) (λ p r here. told_lost iface p r (unreachable now table p r here))))
 
-abbrev IsFarewell : Message → Type 0
-IsFarewell m = (m.command ≡ Response) × AllLosses m.entries
+abbrev IsLastUpdate : Message → Type 0
+IsLastUpdate m = (m.command ≡ Response) × AllLosses m.entries
 
 pieces_lost : (n : ℕ) (entries : List Rte) → AllLosses entries → AllByRecursion AllLosses (pieces n entries)
 pieces_lost n entries all =
@@ -53,20 +53,20 @@ pieces_lost n entries all =
     (λ k. each_take IsLoss ((n * k + n) - n * k) (drop (n * k) entries) (each_drop IsLoss (n * k) entries all))
     (numbers_below ((length entries + (n - 1)) / n))
 
-responses_lost : (config : Config) (iface : ℕ) (to : Destination) (entries : List Rte) → AllLosses entries → AllByRecursion IsFarewell (responses config iface to entries)
+responses_lost : (config : Config) (iface : ℕ) (to : Destination) (entries : List Rte) → AllLosses entries → AllByRecursion IsLastUpdate (responses config iface to entries)
 responses_lost config iface to entries all =
-    each_mapped IsFarewell (λ piece. record { iface = iface; to = to; command = Response; entries = piece }) (pieces (entries_for_mtu (mtu_at config iface)) entries)
+    each_mapped IsLastUpdate (λ piece. record { iface = iface; to = to; command = Response; entries = piece }) (pieces (entries_for_mtu (mtu_at config iface)) entries)
     (each_weaker (λ piece. (Response ≡ Response) × AllLosses piece) AllLosses (λ piece t. (refl, t)) _ (pieces_lost (entries_for_mtu (mtu_at config iface)) entries all))
 
-farewell : (config : Config) (now : ℕ) (table : Table) → AllByRecursion IsFarewell (leave_messages config now table)
-farewell config now table =
-    elim config.quiet as (λ b. AllByRecursion IsFarewell (cond b [] (flat_map (λ t. responses config t.0 Group (told t.0 every_route (unreachable_table now table))) (enumerate_from 0 config.interfaces)))) [
+last_update : (config : Config) (now : ℕ) (table : Table) → AllByRecursion IsLastUpdate (shutdown_messages config now table)
+last_update config now table =
+    elim config.quiet as (λ b. AllByRecursion IsLastUpdate (cond b [] (flat_map (λ t. responses config t.0 Group (told t.0 every_route (unreachable_table now table))) (enumerate_from 0 config.interfaces)))) [
       | true ↦ tt
-      | false ↦ each_flat IsFarewell (λ t. responses config t.0 Group (told t.0 every_route (unreachable_table now table)))
+      | false ↦ each_flat IsLastUpdate (λ t. responses config t.0 Group (told t.0 every_route (unreachable_table now table)))
           (λ t. responses_lost config t.0 Group (told t.0 every_route (unreachable_table now table)) (all_lost t.0 now table)) (enumerate_from 0 config.interfaces)
     ]
 
-spelled : (ms : List Message) (sends : List Outgoing) → AllByRecursion IsFarewell ms → AreSpelled ms sends
+spelled : (ms : List Message) (sends : List Outgoing) → AllByRecursion IsLastUpdate ms → AreSpelled ms sends
     → AllByRecursion (λ o. (entries : List Rte) → Spells Response entries o.bytes → AllByRecursion (λ e. e.metric ≡ infinity) entries) sends
 spelled [] [] all is = tt
 spelled [] (o ∷ os) all is = absurd is
@@ -78,6 +78,6 @@ spelled (m ∷ ms) (o ∷ os) all is = (
   spelled ms os all.1 is.1,
 )
 
-pub leave_tells_losses : (old : State) (now : ℕ) (answer : Answer) (new : State) → Moves old (Leaves now) answer new
+pub shutdown_tells_losses : (old : State) (now : ℕ) (answer : Answer) (new : State) → Moves old (ShutsDown now) answer new
     → AllByRecursion (λ o. (entries : List Rte) → Spells Response entries o.bytes → AllByRecursion (λ e. e.metric ≡ infinity) entries) answer.sends
-leave_tells_losses old now answer new moves = spelled _ answer.sends (farewell old.config _ old.table) moves.answer_is.sends
+shutdown_tells_losses old now answer new moves = spelled _ answer.sends (last_update old.config _ old.table) moves.answer_is.sends

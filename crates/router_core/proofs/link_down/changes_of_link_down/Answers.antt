@@ -8,14 +8,14 @@ use Rattle.fib.specs.declared.change.RouteChange.{RouteChange}
 use Rattle.route_table.specs.Route.{RouteValue}
 use Rattle.route_table.specs.Table.{Table}
 use Rattle.std.specs.FinMap.{entries}
-use Rattle.router_core.specs.Severing.{severed}
+use Rattle.router_core.specs.LinkDown.{after_link_down}
 use Rattle.router_core.specs.Changes.{change}
 use Rattle.router_core.proofs.AllRoutes.{any_route}
-use Rattle.router_core.proofs.severing.changes_of_severing.Goals as goal
-use Rattle.router_core.proofs.severing.changes_of_severing.Goals.{in-Some-change_of_severing+in_ok-push, in_default-change_of_severing}
+use Rattle.router_core.proofs.link_down.changes_of_link_down.Goals as goal
+use Rattle.router_core.proofs.link_down.changes_of_link_down.Goals.{in-Some-change_of_link_down+in_ok-push, in_default-change_of_link_down}
 
 abbrev change_at : ℕ → ℕ → Prefix6 × RouteValue → Option RouteChange
-change_at iface now t = change t.0 (Some t.1) (Some (severed iface now t.1))
+change_at iface now t = change t.0 (Some t.1) (Some (after_link_down iface now t.1))
 
 -- the list with the change at one more entry
 listed_next : (iface now : ℕ) {t : Table} {k : ℕ} {e : Prefix6 × RouteValue} (listed : List RouteChange) (o : Option RouteChange) → IsEntryAt t k e
@@ -41,10 +41,10 @@ loop-preserved g c =
     let m = WalksWhere-entry any_route t (Listed c.args.iface c.args.now t listed) (by c.args.iface c.args.now t listed) c.loop.invariant.walks c.walk.ensures c.in-Some.is in
     record {
       walks = WalksWhere-next m (
-          let more = listed_next c.args.iface c.args.now listed c.change_of_severing.result m.here m.holds c.change_of_severing.ensures in
-          elim c.match-change_of_severing.branch [
-            | in-Some-change_of_severing+in_ok-push w ↦ rw (w.changes-is, w.in_ok-push.ensures.items) (rw w.in-Some-change_of_severing.is at more)
-            | in_default-change_of_severing w ↦ rw w.changes-is (sym (append-nil _) ∙ (rw w.in_default-change_of_severing.is at more))
+          let more = listed_next c.args.iface c.args.now listed c.change_of_link_down.result m.here m.holds c.change_of_link_down.ensures in
+          elim c.match-change_of_link_down.branch [
+            | in-Some-change_of_link_down+in_ok-push w ↦ rw (w.changes-is, w.in_ok-push.ensures.items) (rw w.in-Some-change_of_link_down.is at more)
+            | in_default-change_of_link_down w ↦ rw w.changes-is (sym (append-nil _) ∙ (rw w.in_default-change_of_link_down.is at more))
           ]);
       end = c.loop.invariant.end;
     }

@@ -1,9 +1,9 @@
-//! What the loss of a link makes of the routes that were learned there (RFC 2080, section 2.3).
+//! What becomes of routes when the link goes down on which they were learned (RFC 2080, section 2.3).
 
 ghost use Rattle.std.specs.Prelude.{◌≡◌, IfOk, Some};
 ghost use Rattle.std.specs.FinMap.{get};
 ghost use Rattle.router_core.specs.Changes.{change};
-ghost use Rattle.router_core.specs.Severing.{is_live_on, severed, severed_table, changes_of_severing};
+ghost use Rattle.router_core.specs.LinkDown.{is_live_on, after_link_down, table_after_link_down, changes_of_link_down};
 
 use crate::forwarding::change;
 use crate::timers::GARBAGE_TIME_MS;
@@ -25,9 +25,9 @@ fn is_live_on(iface: usize, route: Route) -> bool
     }
 }
 
-/// What is left of a route when the link of an interface is lost.
-fn sever(route: Route, iface: usize, now: Moment) -> Route
-    ensures { result ≡ severed iface now route }
+/// What is left of a route when the link of an interface goes down.
+fn lose_on(route: Route, iface: usize, now: Moment) -> Route
+    ensures { result ≡ after_link_down iface now route }
 {
     if is_live_on(iface, route) {
         route.lost(now.later(GARBAGE_TIME_MS))
@@ -36,29 +36,29 @@ fn sever(route: Route, iface: usize, now: Moment) -> Route
     }
 }
 
-/// The change of a prefix's forwarding entry as the link of an interface is lost, if the entry differs.
-fn change_of_severing(
+/// The change of a prefix's forwarding entry as the link of an interface goes down, if the entry differs.
+fn change_of_link_down(
     prefix: Prefix,
     route: Route,
     iface: usize,
     now: Moment,
 ) -> Option<RouteChange>
-    ensures { result ≡ change prefix (Some route) (Some (severed iface now route)) }
+    ensures { result ≡ change prefix (Some route) (Some (after_link_down iface now route)) }
 {
-    change(prefix, Some(route), Some(sever(route, iface, now)))
+    change(prefix, Some(route), Some(lose_on(route, iface, now)))
 }
 
 /// The changes of the routes that end, in the order of prefixes. Takes no memory where none does.
 ///
 /// # Errors
 /// Only want of memory.
-pub fn changes_of_severing<S: RouteStore>(
+pub fn changes_of_link_down<S: RouteStore>(
     alloc: Global,
     store: &S,
     iface: usize,
     now: Moment,
 ) -> Result<Vec<RouteChange>, AllocError>
-    ensures { IfOk result (λ v. v.items ≡ changes_of_severing iface now (S.table store.now)) }
+    ensures { IfOk result (λ v. v.items ≡ changes_of_link_down iface now (S.table store.now)) }
 {
     let mut changes = Vec::new(alloc);
     let mut after = None;
@@ -66,7 +66,7 @@ pub fn changes_of_severing<S: RouteStore>(
         let Some(entry) = store.walk(after) else {
             return Ok(changes);
         };
-        if let Some(change) = change_of_severing(entry.0, entry.1, iface, now) {
+        if let Some(change) = change_of_link_down(entry.0, entry.1, iface, now) {
             changes.push(change)?;
         }
         after = Some(entry.0);
@@ -75,15 +75,15 @@ pub fn changes_of_severing<S: RouteStore>(
 }
 
 /// Every route that was learned on the interface ends.
-pub fn sever_all<S: RouteStore>(store: &mut S, iface: usize, now: Moment)
-    ensures { S.table store.new ≡ severed_table iface now (S.table store.old) }
+pub fn lose_all_on<S: RouteStore>(store: &mut S, iface: usize, now: Moment)
+    ensures { S.table store.new ≡ table_after_link_down iface now (S.table store.old) }
 {
     let mut after = None;
     for _ in 0..store.len() {
         let Some(entry) = store.walk(after) else {
             return;
         };
-        store.replace(&entry.0, sever(entry.1, iface, now));
+        store.replace(&entry.0, lose_on(entry.1, iface, now));
         after = Some(entry.0);
     }
 }

@@ -2,11 +2,11 @@ use Rattle.std.proofs.Common.{◌≤◌, ◌∙◌, length, ap, arith}
 use Rattle.std.proofs.lemmas.Result.{IfOk-weaker}
 use Rattle.std.specs.FinMap.{len, entries}
 use Rattle.std.proofs.Math.Nat.{mul-le-mul_right}
-use Rattle.router_core.specs.Leaving.{unreachable_table}
+use Rattle.router_core.specs.Shutdown.{unreachable_table}
 use Rattle.router_core.specs.Output.{every_route}
 use Rattle.router_core.proofs.DueRoutes.{filter-all}
 use Rattle.router_core.proofs.LostTables.{unreachable_many}
-use Rattle.router_core.proofs.router.Router.farewell.Goals as goal
+use Rattle.router_core.proofs.router.Router.last_update.Goals as goal
 
 pub returns-clause-spelled : goal.returns-clause-spelled
 returns-clause-spelled g c =

@@ -2,7 +2,7 @@ use Rattle.std.proofs.Common.{ap, refl, sym, ◌∙◌, length}
 use Rattle.router_core.specs.Config.{Config}
 use Rattle.ripngd_engine.proofs.Steps.{follows}
 use Rattle.ripngd_engine.proofs.Changes.{Acts-cut_off, Acts-unchanged}
-use Rattle.ripngd_engine.proofs.running.Running.lose_link.Goals as goal
+use Rattle.ripngd_engine.proofs.running.Running.link_down.Goals as goal
 
 pub invariant_of-self : goal.invariant_of-self
 invariant_of-self g c = record {

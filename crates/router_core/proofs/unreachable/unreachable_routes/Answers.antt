@@ -2,7 +2,7 @@ use Rattle.std.proofs.Common.{map, ap, ◌∙◌}
 use Rattle.std.proofs.lemmas.Result.{IfOk-weaker}
 use Rattle.router_core.specs.Adoption.{lost}
 use Rattle.router_core.proofs.LostTables.{unreachable_entries}
-use Rattle.router_core.proofs.leaving.unreachable_routes.Goals as goal
+use Rattle.router_core.proofs.unreachable.unreachable_routes.Goals as goal
 
 pub returns : goal.returns
 returns g c =

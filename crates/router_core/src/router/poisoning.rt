@@ -1,38 +1,38 @@
-//! The last step of a router, and the loss of a link.
+//! Steps after which routes are told as unreachable: a router shuts down, or a link of it goes down.
 
 ghost use Rattle.std.specs.Prelude.{◌≡◌, ◌≤◌, ◌*◌, max, IfOk, OnErr, [], length};
 ghost use Rattle.std.specs.FinMap as map_of;
 ghost use Rattle.fib.specs.Forwarding.{Replays};
 ghost use Rattle.router_core.specs.Changes.{forwards};
-ghost use Rattle.router_core.specs.Leaving.{leave_messages};
+ghost use Rattle.router_core.specs.Shutdown.{shutdown_messages};
 ghost use Rattle.router_core.specs.Machine.{Happening, Moves};
 ghost use Rattle.router_core.specs.Output.{AreSpelled};
 
 use super::{Router, answer_of};
 use crate::answer::{Answer, Outgoing};
-use crate::leaving::unreachable_routes;
-use crate::severing::{changes_of_severing, sever_all};
+use crate::link_down::{changes_of_link_down, lose_all_on};
 use crate::tell::updates;
+use crate::unreachable::unreachable_routes;
 use route_table::{Moment, RouteStore};
 use std::alloc::AllocError;
 
 impl<S: RouteStore> Router<S> {
     /// The datagrams of the last update.
-    fn farewell(&self, now: Moment) -> Result<Vec<Outgoing>, AllocError>
-        ensures spelled { IfOk result (λ sends. AreSpelled (leave_messages self.now.config now self.now.table) sends.items) }
+    fn last_update(&self, now: Moment) -> Result<Vec<Outgoing>, AllocError>
+        ensures spelled { IfOk result (λ sends. AreSpelled (shutdown_messages self.now.config now self.now.table) sends.items) }
         ensures few { IfOk result (λ sends. length sends.items ≤ map_of.len self.now.table * length self.now.config.interfaces) }
     {
         let routes = unreachable_routes(self.alloc, &self.store, now)?;
         updates(self.alloc, &self.config, &routes)
     }
 
-    /// The router says good-bye: an update on each interface tells every route as unreachable, unless the router is quiet. What
-    /// it is configured with, its routes and its timers stay.
+    /// The router shuts down: an update on each interface poisons every route, that is tells it with metric 16, unless the router
+    /// is quiet. What it is configured with, its routes and its timers stay.
     ///
     /// # Errors
     /// Only want of memory; the router is then as it was.
-    pub fn leave(&mut self, now: Moment) -> Result<Answer, AllocError>
-        ensures moves { IfOk result (λ answer. Moves self.old (Happening.Leaves now) answer self.new) }
+    pub fn shutdown(&mut self, now: Moment) -> Result<Answer, AllocError>
+        ensures moves { IfOk result (λ answer. Moves self.old (Happening.ShutsDown now) answer self.new) }
         ensures err { OnErr result (self.new ≡ self.old) }
         ensures config { self.new.config ≡ self.old.config }
         ensures table { self.new.table ≡ self.old.table }
@@ -40,26 +40,26 @@ impl<S: RouteStore> Router<S> {
         ensures replays { IfOk result (λ answer. Replays (forwards self.old.table) answer.changes (forwards self.new.table)) }
     {
         let now = self.effective(now);
-        let sends = self.farewell(now)?;
+        let sends = self.last_update(now)?;
         self.last = now;
         Ok(answer_of(sends, Vec::new(self.alloc), Vec::new(self.alloc)))
     }
 
-    /// The link of an interface is lost: each route that was learned there is unreachable at once, and told so by the next
+    /// The link of an interface goes down: each route that was learned there is unreachable at once, and told so by the next
     /// tick. Nothing is sent.
     ///
     /// # Errors
     /// Only want of memory; the router is then as it was.
     pub fn link_down(&mut self, now: Moment, iface: usize) -> Result<Answer, AllocError>
-        ensures moves { IfOk result (λ answer. Moves self.old (Happening.LosesLink now iface) answer self.new) }
+        ensures moves { IfOk result (λ answer. Moves self.old (Happening.LinkGoesDown now iface) answer self.new) }
         ensures err { OnErr result (self.new ≡ self.old) }
         ensures config { self.new.config ≡ self.old.config }
         ensures sends { IfOk result (λ answer. answer.sends ≡ []) }
         ensures replays { IfOk result (λ answer. Replays (forwards self.old.table) answer.changes (forwards self.new.table)) }
     {
         let now = self.effective(now);
-        let changes = changes_of_severing(self.alloc, &self.store, iface, now)?;
-        sever_all(&mut self.store, iface, now);
+        let changes = changes_of_link_down(self.alloc, &self.store, iface, now)?;
+        lose_all_on(&mut self.store, iface, now);
         self.last = now;
         Ok(answer_of(Vec::new(self.alloc), changes, Vec::new(self.alloc)))
     }

@@ -1,9 +1,9 @@
-//! The routes of a router that leaves, as it tells them.
+//! The routes of a router that shuts down, as it tells them.
 
 ghost use Rattle.std.specs.Prelude.{◌≡◌, map, IfOk};
 ghost use Rattle.std.specs.FinMap.{entries};
 ghost use Rattle.router_core.specs.Adoption.{lost};
-ghost use Rattle.router_core.specs.Leaving.{unreachable_table};
+ghost use Rattle.router_core.specs.Shutdown.{unreachable_table};
 
 use crate::tell::listed;
 use crate::timers::GARBAGE_TIME_MS;

@@ -2,11 +2,11 @@ use Rattle.std.proofs.Common.{ap, refl, sym, ◌∙◌, length}
 use Rattle.router_core.specs.Config.{Config}
 use Rattle.ripngd_engine.proofs.Steps.{follows}
 use Rattle.ripngd_engine.proofs.Changes.{Acts-left, Acts-unchanged}
-use Rattle.ripngd_engine.proofs.running.Running.leave.Goals as goal
+use Rattle.ripngd_engine.proofs.running.Running.shutdown.Goals as goal
 
 pub invariant_of-self : goal.invariant_of-self
 invariant_of-self g c = record {
-  same_interfaces = c.carry_out.ensures.same ∙ c.args.self.now.same_interfaces ∙ sym (ap (λ (k : Config). length k.interfaces) c.leave.ensures.config);
+  same_interfaces = c.carry_out.ensures.same ∙ c.args.self.now.same_interfaces ∙ sym (ap (λ (k : Config). length k.interfaces) c.shutdown.ensures.config);
   fib_follows = λ on. follows _ _ _ _ _ _ c.carry_out.ensures.carries _ _ (c.args.self.now.fib_follows c.requires) c.in-Ok.ensures.replays on;
 }
 
