@@ -6,10 +6,10 @@ use fib::RouteChange;
 use prefix6::parse_addr;
 use route_table::{Moment, TrieRoutes};
 use router_core::{Answer, Arrival, Interface, Outgoing, Router, RouterConfig};
-use std::alloc::Global;
 use std::collections::VecDeque;
-use std::io::{self, Error, ErrorKind, Write};
-use std::process::ExitCode;
+use std::io::{self, Error, ErrorKind};
+
+type Link = VecDeque<Outgoing>;
 
 /// The Response of a neighbor that tells `2001:db8::/48` with metric 1.
 const TOLD: [u8; 24] = [
@@ -17,20 +17,13 @@ const TOLD: [u8; 24] = [
 ];
 
 /// Does what an answer asks for: its changes are printed, and its datagrams wait for the link.
-fn carry_out<W: Write>(
-    out: &mut W,
-    link: &mut VecDeque<Outgoing>,
-    now: Moment,
-    answer: Answer,
-) -> io::Result<()> {
+fn carry_out(rt: &HostRuntime, link: &mut Link, ms: u64, answer: Answer) -> io::Result<()> {
     for change in answer.changes.as_slice() {
-        let ms = now.ms();
         match change {
-            RouteChange::Install { prefix, metric, .. } => writeln!(
-                out,
-                "{ms} ms: {prefix} metric {metric}"
-            )?,
-            RouteChange::Withdraw { prefix } => writeln!(out, "{ms} ms: {prefix} is gone")?,
+            RouteChange::Install { prefix, metric, .. } => {
+                println!(rt; "{ms} ms: {prefix} metric {metric}")?
+            }
+            RouteChange::Withdraw { prefix } => println!(rt; "{ms} ms: {prefix} is gone")?,
         }
     }
     for datagram in answer.sends.into_vec() {
@@ -39,40 +32,34 @@ fn carry_out<W: Write>(
     Ok(())
 }
 
-fn run<W: Write>(alloc: Global, out: &mut W) -> io::Result<()> {
+fn main(rt: HostRuntime) -> io::Result<()> {
     let unlawful = || Error::from(ErrorKind::InvalidInput);
     let mut now = Moment::new(0).ok_or_else(unlawful)?;
-    let mut link = VecDeque::new(alloc);
-    let addr = parse_addr("fe80::1").map_err(|_| unlawful())?;
-    let interfaces = vec![in alloc;
-        Interface {
-            addr,
-            cost: 1,
-            mtu: 1500
-        },
-    ]?;
-    let config = RouterConfig::check(interfaces, Vec::new(alloc), false).map_err(|_| unlawful())?;
-    let (mut router, answer) = Router::<TrieRoutes>::start(alloc, config, now)?;
-    carry_out(out, &mut link, now, answer)?;
-    if !router.config().interfaces().is_empty() {
-        let heard = Arrival {
-            now,
-            iface: 0,
-            source: parse_addr("fe80::2").map_err(|_| unlawful())?,
-            source_port: 521,
-            hop_limit: 255,
-            to_group: true,
-            bytes: &TOLD,
-        };
-        carry_out(out, &mut link, now, router.arrive(heard)?)?;
+    let mut link = VecDeque::new(rt.alloc());
+    let interface = Interface {
+        addr: parse_addr("fe80::1").map_err(|_| unlawful())?,
+        cost: 1,
+        mtu: 1500,
+    };
+    let (interfaces, prefixes) = (vec![in rt.alloc(); interface]?, Vec::new(rt.alloc()));
+    let config = RouterConfig::check(interfaces, prefixes, false).map_err(|_| unlawful())?;
+    let (mut router, answer) = Router::<TrieRoutes>::start(rt.alloc(), config, now)?;
+    carry_out(&rt, &mut link, now.ms(), answer)?;
+    let heard = Arrival {
+        now,
+        iface: 0,
+        source: parse_addr("fe80::2").map_err(|_| unlawful())?,
+        source_port: 521,
+        hop_limit: 255,
+        to_group: true,
+        bytes: &TOLD,
+    };
+    if heard.iface < router.config().interfaces().len() {
+        carry_out(&rt, &mut link, now.ms(), router.arrive(heard)?)?;
     }
     for _ in 0..20 {
-        carry_out(out, &mut link, now, router.tick(now, 0)?)?;
+        carry_out(&rt, &mut link, now.ms(), router.tick(now, 0)?)?;
         now = Moment::new(router.wakes_at().ms()).ok_or_else(unlawful)?;
     }
-    writeln!(out, "{} datagrams", link.len())
-}
-
-fn main(rt: HostRuntime) -> ExitCode {
-    ExitCode::from(u8::from(run(rt.alloc(), &mut rt.stdout()).is_err()))
+    println!(rt; "{} datagrams", link.len())
 }

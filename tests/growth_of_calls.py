@@ -1,0 +1,98 @@
+#!/usr/bin/env python3
+"""Each growth of calls refused in turn: crates/test_rows plays each case of its data/memory.txt with its first allocation refused, then
+with its second, and so on until none is; and with all refused from the first on, from the second on, and so on.
+
+    tests/growth_of_calls.py ROWS_PROGRAM
+
+A call that is refused has to leave all readers as they were, and made again it has to do what it does undisturbed: then the case
+turns out as without the refusal. An engine may lose a step, which it counts once, or end where its forwarding table is refused. What
+takes no memory succeeds whatever is refused. Only where the program itself cannot go on it ends with status 3.
+"""
+
+import os
+import pathlib
+import subprocess
+import sys
+
+sys.dont_write_bytecode = True
+from refusing import Refuser, is_same
+from suite import Failed, play
+
+ROWS = pathlib.Path(__file__).resolve().parent.parent / "crates/test_rows/data/memory.txt"
+
+# What has to be refused at least once, for each case: the program tells on standard error which call it was.
+REFUSED = {
+    "what is read is written, the highest byte of each number first": "encode",
+    "the longest prefix wins": "apply",
+    "a start owns its prefixes": "start",
+    "a route is learned": "router, hear, a new route",
+    "bad entries are noted and the rest is learned": "router, hear, a new route",
+    "a silent neighbor is given up": "router, hear, a new route, tick",
+    "the whole table is told with poison to whoever may ask": "router, hear",
+    "other requests are answered entry by entry": "router, hear",
+    "a restart owns what was gained last": "gain, drop, restart",
+    "a router shuts down, and its link goes down": "shutdown, link-down",
+    "what changes nothing takes no memory": "router, tick",
+    "a line of three routers": "check, cold, tick, deliver, a new route, restart, hear",
+    "a line of three routers runs by one call": "check, cold, run",
+    "a line of three routers makes rounds": "check, cold, round",
+    "an engine learns a route and loses it": "engine, the first forwarding table, the forwarding table, a step of an engine, a route of an engine",
+}
+
+
+def cases_of_rows():
+    """The text of each case, by its name."""
+    head, *cases = ROWS.read_text().split("\n# ")
+    return {case.partition("\n")[0]: f"{head}\n# {case}" for case in cases}
+
+
+def judged(run, want):
+    """Which calls were refused in a run that does what the undisturbed one does, or ends since the program wants memory itself."""
+    if run.returncode == 3 and want.stdout.startswith(run.stdout):
+        return set()
+    if (run.returncode, run.stdout) != (0, want.stdout):
+        return None
+    told = run.stderr.decode().splitlines()
+    return {line.removeprefix("refused: ") for line in told} if all(line.startswith("refused: ") for line in told) else None
+
+
+def run_without(refuser, file, first):
+    """A run in which the first allocation that is named is refused, and all behind it."""
+    environment = dict(os.environ, LD_PRELOAD=refuser.library, REFUSE_FROM=str(first))
+    return subprocess.run([refuser.program, file], stdin=subprocess.DEVNULL, capture_output=True, timeout=60, env=environment)
+
+
+def sweep(refuser, folder, name, text):
+    """Refuses each allocation of a case in turn, and then all from each on."""
+    file = pathlib.Path(folder, "rows")
+    file.write_text(text)
+    want, total = refuser.run([str(file)], 0)
+    if want.returncode or want.stderr or b"1 passed, 0 failed" not in want.stdout:
+        raise Failed(f"undisturbed it ends with {want.returncode}: {want.stdout.decode()}")
+    refused = set()
+    for nth in range(1, total + 2):
+        alone, _ = refuser.run([str(file)], nth)
+        for run in alone, run_without(refuser, file, nth):
+            calls = judged(run, want)
+            if calls is None:
+                raise Failed(f"without allocation {nth} it ends with {run.returncode}: {run.stdout.decode()} {run.stderr.decode()}")
+            refused |= calls
+    if not is_same(run, want):
+        raise Failed("a run in which none is refused is another")
+    missing = set(REFUSED[name].split(", ")) - refused
+    if missing:
+        raise Failed(f"never refused: {', '.join(sorted(missing))}")
+
+
+def cases_of_calls(refuser):
+    """A case for each of data/memory.txt."""
+    return [(f"calls: {name}", lambda folder, name=name, text=text: sweep(refuser, folder, name, text)) for name, text in cases_of_rows().items()]
+
+
+def main(program):
+    with Refuser(program) as refuser:
+        return play(cases_of_calls(refuser))
+
+
+if __name__ == "__main__":
+    sys.exit(main(*sys.argv[1:]))
