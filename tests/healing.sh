@@ -46,11 +46,11 @@ needs_120_seconds() {
 
 # No table differs from the least costs that are computed of what is configured.
 random_networks_heal() {
-    "$tests/rounds_needed.py" "$program" 12
+    "$tools/rounds_needed.py" "$program" 12
 }
 
-"$tests/worst_cases.py" "$program" "$folder"
-"$tests/needs_28_phases.py" "$folder/needs_28_phases.lab"
+"$tools/worst_cases.py" "$program" "$folder"
+"$tools/needs_28_phases.py" "$folder/needs_28_phases.lab"
 passed=0
 failed=0
 for name in needs_26_rounds needs_120_seconds needs_28_phases random_networks_heal; do

@@ -346,7 +346,7 @@ visit() {
 # The least times of a step in networks of many routers, routes and events, as `page_times.py` has them; the median is what a reader
 # meets, but rests on what else the machine does.
 steps_are_quick() {
-    python3 "$root/tests/page_times.py" "$program" chromium > "$folder/times" || because "no times" || return
+    python3 "$root/tools/page_times.py" "$program" chromium > "$folder/times" || because "no times" || return
     awk -F 'a step ' '{ split($2, took, ","); most = /10,000/ ? 50 : 100; if (took[1] >= most) { print; failed = 1 } } END { exit failed || NR != 3 }' \
         "$folder/times" > "$folder/slow" || because "$(head -n 1 "$folder/slow")"
 }

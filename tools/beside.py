@@ -1,7 +1,7 @@
 #!/usr/bin/env python3
 """What this router costs beside BIRD, on one machine and in one run.
 
-    tests/beside.py [PROGRAM [ROUTES [TIMES]]]        bin/ripngd, 65536 routes and 3 times if they are not named
+    tools/beside.py [PROGRAM [ROUTES [TIMES]]]        bin/ripngd, 65536 routes and 3 times if they are not named
 
 One neighbor, which is this script, talks to each daemon by itself, one daemon after the other, TIMES over: to PROGRAM over UDP on
 127.0.0.1, to BIRD over a pair of virtual interfaces between two name spaces. It tells ROUTES routes of metric 1, 72 in a datagram,

@@ -1,7 +1,7 @@
 #!/usr/bin/env python3
 """Writes a script of a laboratory, whose history is 27 phases that leave a table wrong: so no number below 28 would do.
 
-    tests/needs_28_phases.py FILE
+    tools/needs_28_phases.py FILE
 
 Routers P, Q and R stand in a ring. X is a neighbor of P, and of Y, which owns the prefix; the walk from X to Y costs 15, and one
 from the ring through X costs more. O owned the prefix, and has forgotten it.

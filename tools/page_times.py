@@ -1,7 +1,7 @@
 #!/usr/bin/env python3
 """How long a step of the page takes in large networks: films of them, stepped in a browser.
 
-    tests/page_times.py PROGRAM chromium|firefox
+    tools/page_times.py PROGRAM chromium|firefox
 
 A line for each network: its steps, how long its film takes to come up, and of fifty steps near the end the least, the median, the most.
 A step is from the click to the page's new layout. Run nothing else meanwhile.
@@ -12,7 +12,8 @@ import sys
 import tempfile
 import time
 
-import browser
+sys.path.insert(0, os.path.join(os.path.dirname(os.path.realpath(__file__)), "../tests"))
+import browser  # noqa: E402
 
 
 def grid(side, owners, ends):

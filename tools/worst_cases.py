@@ -1,7 +1,7 @@
 #!/usr/bin/env python3
 """Writes two scripts of a laboratory, which show that neither number of the clause `heals` can be smaller:
 
-    tests/worst_cases.py PROGRAM FOLDER
+    tools/worst_cases.py PROGRAM FOLDER
 
 PROGRAM is ripngd; it is run on the script so far, to learn which datagrams each tick sends. FOLDER gets
 needs_26_rounds.lab and needs_120_seconds.lab, which print the tables at the end of some rounds.
