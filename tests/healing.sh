@@ -8,7 +8,7 @@
 set -u
 
 program=$(realpath "${1:-bin/ripngd}")
-tests=$(realpath "$(dirname "$0")")
+tools=$(realpath "$(dirname "$0")/../tools")
 folder=$(mktemp -d)
 trap 'rm -rf "$folder"' EXIT
 
