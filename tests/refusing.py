@@ -3,7 +3,9 @@
 import collections
 import os
 import pathlib
+import shutil
 import subprocess
+import sys
 import tempfile
 
 from suite import Failed, same
@@ -19,6 +21,8 @@ class Refuser:
         self.program = str(pathlib.Path(program).resolve(strict=True))
 
     def __enter__(self):
+        if not shutil.which("cc"):
+            sys.exit("FAILED: there is no C compiler, by which calls are refused")
         self.folder = tempfile.TemporaryDirectory(prefix="ripngd-refuse-")
         self.library = os.path.join(self.folder.name, "refuse.so")
         source = pathlib.Path(__file__).resolve().parent / "refuse.c"

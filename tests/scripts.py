@@ -166,32 +166,31 @@ def events_of_a_phase_are_in_its_minute(program, seed):
     same("who learns", {event["router"] for event in events for route in event["routes"] if route["metric"] == 5}, {1})
 
 
+def walks():
+    """Scripts whose routes are walks, with how many are printed below 16, at least."""
+    examples = [(file.name, file.read_text() + "\nprint\n", 0) for file in sorted(EXAMPLES.glob("**/*.lab")) if "liar" not in file.name]
+    return [*examples,
+            ("parallel links", TWINS + "".join(f"round {now}\nprint\n" for now in (0, 15000, 30000)), 16),
+            ("a square whose routers come up again", restarted_square(), 40),
+            *((f"a square that changes, {seed}", changing_square(seed), 20) for seed in range(1, 7))]
+
+
+def rounds():
+    """Networks up to their start, with how many rounds are made."""
+    known = [(name, start, count) for name, start in (("square", square()), ("twins", TWINS), ("ends", ENDS)) for count in range(1, 6)]
+    return known + [(f"random {seed}", random_network(seed), count) for seed in range(1, 13) for count in (1, 2, 4, 14)]
+
+
 def main(program):
     program = str(pathlib.Path(program).resolve(strict=True))
-    cases = []
-
-    def case(name, function, *arguments):
-        cases.append((name, lambda folder: function(program, *arguments)))
-
-    for file in sorted(EXAMPLES.glob("**/*.lab")):
-        if "liar" not in file.name:
-            case(f"routes of {file.name} are walks", all_walks, file.read_text() + "\nprint\n", 0)
-    case("routes over parallel links are walks", all_walks, TWINS + "".join(f"round {now}\nprint\n" for now in (0, 15000, 30000)), 16)
-    case("routes are walks whoever comes up again", all_walks, restarted_square(), 40)
-    for seed in range(1, 7):
-        case(f"routes are walks since the cold start, {seed}", all_walks, changing_square(seed), 20)
-    for name, start in (("square", square()), ("twins", TWINS), ("ends", ENDS)):
-        for rounds in range(1, 6):
-            case(f"{rounds} rounds find the least costs, {name}", leaves_least, f"{start}rounds {rounds} 0 15000", rounds)
-    for seed in range(1, 13):
-        for rounds in (1, 2, 4, 14):
-            case(f"{rounds} random rounds find the least costs, {seed}", leaves_least, f"{random_network(seed)}rounds {rounds} 0 15000", rounds)
-    for seed in range(1, 9):
-        case(f"phases heal random networks, {seed}", heals_by_phases, seed)
-    case("tables change last where it is said", tables_change_last_where_it_is_said)
-    for seed in range(4):
-        case(f"events of a phase are in its minute, {seed}", events_of_a_phase_are_in_its_minute, seed)
-    return play(cases)
+    cases = [
+        *((f"routes of {name} are walks", all_walks, script, least) for name, script, least in walks()),
+        *((f"{count} rounds find the least costs, {name}", leaves_least, f"{start}rounds {count} 0 15000", count) for name, start, count in rounds()),
+        *((f"phases heal random networks, {seed}", heals_by_phases, seed) for seed in range(1, 9)),
+        *((f"events of a phase are in its minute, {seed}", events_of_a_phase_are_in_its_minute, seed) for seed in range(4)),
+        ("tables change last where it is said", tables_change_last_where_it_is_said),
+    ]
+    return play([(name, lambda folder, case=case, words=words: case(program, *words)) for name, case, *words in cases])
 
 
 if __name__ == "__main__":
