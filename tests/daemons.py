@@ -37,14 +37,14 @@ def table(name, **keys):
     return "".join([f"[[{name}]]\n", *(f"{key} = {toml(value)}\n" for key, value in keys.items())])
 
 
-def interface(number, port, *peers, cost=1, **keys):
+def interface(number, local_port, *peers, cost=1, **keys):
     """An interface fe80::NUMBER at a port, with its peers."""
-    return table("interface", address=f"fe80::{number}", cost=cost, local_port=port, **keys) + "".join(peers)
+    return table("interface", address=f"fe80::{number}", cost=cost, local_port=local_port, **keys) + "".join(peers)
 
 
-def peer(number, port, **keys):
+def peer(number, local_port, **keys):
     """A peer fe80::NUMBER at a port, of the interface before it."""
-    return table("interface.peer", address=f"fe80::{number}", local_port=port, **keys)
+    return table("interface.peer", address=f"fe80::{number}", local_port=local_port, **keys)
 
 
 def prefix(text, **keys):
