@@ -11,17 +11,20 @@ import stat
 import subprocess
 import sys
 import time
+from errno import EAGAIN, ECONNRESET, EINTR, EPIPE
 
 sys.dont_write_bytecode = True
-from daemons import SECONDS, interface, main, peer, prefix, same, until
+from daemons import interface, listed, main, peer, prefix, SECONDS, until
 from datagrams import entry, feed, response, table
+from ordered import environment
+from suite import same
 
 ROUTES = int(os.environ.get("ROUTES", 20_000))
 EAST, WEST, OWN = "2001:db8:e::/48", "2001:db8:f::/48", "2001:db8::/32"
 OWN_TABLE = f"{OWN} metric 1 direct\n"
 
 
-def pair(case, *words):
+def pair(case):
     """Two neighbors that listen, once each has learned the other's prefix."""
     here, there = case.port(), case.port()
     east = case.listening("east", interface("e", here, peer("f", there)) + prefix(EAST, tag=9), "-R", "east.log")
@@ -31,9 +34,9 @@ def pair(case, *words):
     return east, west
 
 
-def alone(case, name="alone", *words):
+def alone(case, name="alone", *words, **environment):
     """A router that listens, with a neighbor that is not there."""
-    return case.listening(name, interface(1, case.port(), peer(2, case.port())) + prefix(OWN), *words)
+    return case.listening(name, interface(1, case.port(), peer(2, case.port())) + prefix(OWN), *words, **environment)
 
 
 def plain(text):
@@ -53,6 +56,7 @@ def refuses(router, words, why):
     answers(router, words, f"refused {why}\n", 1)
 
 
+@listed
 def a_router_is_asked(case):
     east, west = pair(case)
     answers(east, "routes", f"{EAST} metric 1 tag 9 own fixed\n{WEST} metric 2 tag 9 via fe80::f iface 0 from fe80::f live T\n")
@@ -63,6 +67,7 @@ def a_router_is_asked(case):
     same("whether a route lives up to 180 seconds", 100_000 < live <= 180_000, True)
 
 
+@listed
 def a_router_tells_of_its_neighbors(case):
     """One is heard only with a fault; the other tells a metric of 17 beside a good one."""
     far, near = case.neighbor(), case.neighbor()
@@ -77,6 +82,7 @@ def a_router_tells_of_its_neighbors(case):
     until("heard", lambda: plain(router.ctl("neighbors").out) == first + second)
 
 
+@listed
 def a_router_is_told(case):
     """What east is told is seen in its log and at west; that its interface costs more, in what it learns of west then."""
     east, west = pair(case)
@@ -96,6 +102,7 @@ def a_router_is_told(case):
     east.logs("add 2001:db8:2::/48 metric 6 via fe80::f iface 0")
 
 
+@listed
 def a_router_meets_and_leaves_a_neighbor(case):
     """East does not know west at first, whose datagrams are those of a stranger; then it does, and then no more."""
     here, there, nobody = case.port(), case.port(), case.port()
@@ -123,6 +130,7 @@ def a_router_meets_and_leaves_a_neighbor(case):
     same("whether east still hears west", "2001:db8:3:" in east.log(), False)
 
 
+@listed
 def an_interface_has_256_peers_at_most(case):
     """Its configuration may give it more; none more is added then."""
     peers = [peer(f"{number:x}", 1_000 + number) for number in range(2, 257)]
@@ -133,6 +141,7 @@ def an_interface_has_256_peers_at_most(case):
     answers(router, "peer 0 fe80::1:2 999")
 
 
+@listed
 def a_log_beside_a_socket_has_its_moments(case):
     router = alone(case, "alone", "--stamp", "-R", "alone.log")
     answers(router, "gain 2001:db8:a::/48 7")
@@ -140,6 +149,7 @@ def a_log_beside_a_socket_has_its_moments(case):
     same("the log", lines, [f"add {OWN} metric 1 direct", "add 2001:db8:a::/48 metric 1 direct"])
 
 
+@listed
 def a_router_is_stopped(case):
     router = alone(case, "alone", "-d")
     answers(router, "stop")
@@ -150,12 +160,14 @@ def a_router_is_stopped(case):
     same("an answer where nobody listens", router.ctl("routes"), (3, "", "ripngd: nobody listens at alone.sock\n"))
 
 
+@listed
 def a_router_that_is_not_told_to_listens_nowhere(case):
     router = case.start("closed", interface(1, case.port()))
     links = [os.readlink(f"/proc/{router.process.pid}/fd/{name}") for name in os.listdir(f"/proc/{router.process.pid}/fd")]
     same("the number of its sockets", len([link for link in links if link.startswith("socket:")]), 1)
 
 
+@listed
 def a_socket_of_a_router_that_is_gone_is_replaced(case):
     gone = alone(case, "gone")
     gone.end()
@@ -163,6 +175,7 @@ def a_socket_of_a_router_that_is_gone_is_replaced(case):
     answers(alone(case, "gone"), "table", OWN_TABLE)
 
 
+@listed
 def a_socket_at_which_somebody_answers_is_not_replaced(case):
     """A second start at it fails, with its log as it was, and disturbs nobody."""
     router = alone(case, "first")
@@ -174,6 +187,7 @@ def a_socket_at_which_somebody_answers_is_not_replaced(case):
     answers(router, "table", OWN_TABLE)
 
 
+@listed
 def a_file_that_another_has_made_since_is_left(case):
     """A router takes away its own socket alone at its end."""
     router = alone(case, "moved")
@@ -185,6 +199,7 @@ def a_file_that_another_has_made_since_is_left(case):
     same("the file", case.read("moved.sock"), "kept\n")
 
 
+@listed
 def what_is_no_socket_is_left(case):
     case.file("alone.toml", interface(1, case.port()))
     case.file("alone.sock", "kept\n")
@@ -202,6 +217,7 @@ def started_under(case, mask):
     return done.returncode, done.stdout, done.stderr
 
 
+@listed
 def a_socket_that_others_may_write_to_is_refused(case):
     refused = (3, "", "ripngd: cannot listen at open.sock: others may write to it; start under umask 077\n")
     for mask in ("000", "002", "020", "075", "057"):
@@ -210,6 +226,7 @@ def a_socket_that_others_may_write_to_is_refused(case):
         same(f"the start under {mask}", started_under(case, mask), (0, "", "ripngd: running, 1 interfaces\n"))
 
 
+@listed
 def clients_are_served_one_after_the_other(case):
     """Each is told what it asks, once its line is whole, and its connection then ends; what stands behind the line is not done."""
     router = alone(case)
@@ -224,6 +241,7 @@ def clients_are_served_one_after_the_other(case):
     same("whether it runs", router.is_there(), True)
 
 
+@listed
 def what_is_no_command_is_refused(case):
     router = alone(case)
     refused = "refused 52 NoSuchCommand\n"
@@ -232,6 +250,7 @@ def what_is_no_command_is_refused(case):
     answers(router, "table", OWN_TABLE)
 
 
+@listed
 def a_line_has_1024_bytes_at_most(case):
     """Its line feed is among them. More are refused before it comes."""
     router = alone(case)
@@ -241,6 +260,7 @@ def a_line_has_1024_bytes_at_most(case):
     same("the answer to 1,023 bytes and a line feed", router.client().say(b"a" * 1_023 + b"\n").all(), "refused 52 NoSuchCommand\n")
 
 
+@listed
 def a_client_that_goes_away_is_let_go(case):
     """Before it has said anything, within a line, and behind one."""
     router = alone(case)
@@ -249,6 +269,32 @@ def a_client_that_goes_away_is_let_go(case):
         answers(router, "table", OWN_TABLE)
 
 
+@listed
+def a_client_whose_socket_is_interrupted_is_answered(case):
+    """One that is reset is let go, and disturbs nobody."""
+    passing, gone = (EINTR, EAGAIN), (ECONNRESET, EPIPE)
+    for call, errors in (("recv", passing), ("send", passing), ("recv", gone[:1]), ("send", gone)):
+        for error in errors:
+            name = f"{call}{error}"
+            router = alone(case, name, **environment(case.folder, name, fail=f"{call}:1:1:{error}"))
+            same(f"the answer at {name}", router.client().say(b"table\n").all(), f"{OWN_TABLE}ok\n" if errors is passing else "")
+            answers(router, "table", OWN_TABLE)
+
+
+@listed
+def a_client_that_reads_slowly_gets_all(case):
+    """In many parts, since its socket takes no more at once."""
+    source, at = case.neighbor(), case.port()
+    router = case.listening("long", interface(1, at, peer(2, source.port)), "-R", "long.log")
+    feed(source, at, table("e", ROUTES))
+    until("the whole table", lambda: router.log().count(" metric 2 ") == ROUTES)
+    client = router.client().say(b"table\n")
+    while client.more():
+        time.sleep(0.05)
+    same("the answer", client.text.decode(), case.run("table", "long.log").out + "ok\n")
+
+
+@listed
 def a_client_that_says_nothing_is_let_go_after_two_seconds(case):
     router = alone(case)
     begun = time.monotonic()
@@ -257,6 +303,7 @@ def a_client_that_says_nothing_is_let_go_after_two_seconds(case):
     same(f"whether {passed} is some two seconds", 1.9 < passed < 12, True)
 
 
+@listed
 def clients_that_say_or_read_nothing_keep_nobody_from_anything(case):
     """A table is fed to a router while one client says nothing, the next reads nothing of a long answer, and one goes away. Nothing of the
     table is lost, and the next client gets its answer whole."""
@@ -277,24 +324,4 @@ def clients_that_say_or_read_nothing_keep_nobody_from_anything(case):
 
 
 if __name__ == "__main__":
-    main([
-        a_router_is_asked,
-        a_router_tells_of_its_neighbors,
-        a_router_is_told,
-        a_router_meets_and_leaves_a_neighbor,
-        an_interface_has_256_peers_at_most,
-        a_log_beside_a_socket_has_its_moments,
-        a_router_is_stopped,
-        a_router_that_is_not_told_to_listens_nowhere,
-        a_socket_of_a_router_that_is_gone_is_replaced,
-        a_socket_at_which_somebody_answers_is_not_replaced,
-        a_file_that_another_has_made_since_is_left,
-        what_is_no_socket_is_left,
-        a_socket_that_others_may_write_to_is_refused,
-        clients_are_served_one_after_the_other,
-        what_is_no_command_is_refused,
-        a_line_has_1024_bytes_at_most,
-        a_client_that_goes_away_is_let_go,
-        a_client_that_says_nothing_is_let_go_after_two_seconds,
-        clients_that_say_or_read_nothing_keep_nobody_from_anything,
-    ], workers=8)
+    main()

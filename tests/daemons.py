@@ -9,7 +9,7 @@ import subprocess
 import sys
 import time
 
-from suite import Failed, Ports, play, same
+from suite import Failed, Ports, play
 
 SECONDS = 60
 RUNNING = "ripngd: running, "
@@ -246,19 +246,29 @@ class Neighbor:
         self.socket.close()
 
 
-def main(cases, workers=None):
-    """Plays cases, functions of a `Case`, on the program that is named first, or those of them that are named behind it."""
+CASES = []
+
+
+def listed(function):
+    """Puts a function of a `Case` among the cases of a suite."""
+    CASES.append(function)
+    return function
+
+
+def played(function, program):
+    def play_in(folder):
+        case = Case(program, folder)
+        try:
+            function(case)
+        finally:
+            case.close()
+    return play_in
+
+
+def main(workers=8):
+    """Plays the cases on the program that is named first, or those of them that are named behind it."""
     if len(sys.argv) < 2:
         sys.exit(f"usage: {sys.argv[0]} PROGRAM [NAME..]")
     program = os.path.realpath(sys.argv[1])
-
-    def played(function):
-        def play_in(folder):
-            case = Case(program, folder)
-            try:
-                function(case)
-            finally:
-                case.close()
-        return play_in
-    chosen = [case for case in cases if not sys.argv[2:] or case.__name__ in sys.argv[2:]]
-    sys.exit(play([(case.__name__, played(case)) for case in chosen], workers))
+    chosen = [case for case in CASES if not sys.argv[2:] or case.__name__ in sys.argv[2:]]
+    sys.exit(play([(case.__name__, played(case, program)) for case in chosen], workers))

@@ -10,8 +10,9 @@ import sys
 import time
 
 sys.dont_write_bytecode = True
-from daemons import Process, interface, main, peer, prefix, same, until
+from daemons import interface, listed, main, peer, prefix, Process, until
 from datagrams import feed, table
+from suite import same
 
 ROUTES = int(os.environ.get("ROUTES", 20_000))
 EAST, WEST, OWN = "2001:db8:e::/48", "2001:db8:f::/48", "2001:db8::/32"
@@ -36,6 +37,7 @@ def made_of(case, name):
     return made.out
 
 
+@listed
 def a_router_is_followed(case):
     """One follows from the start on, and one from later on: both are told the table first, and each change behind it. The router answers
     others meanwhile."""
@@ -62,6 +64,7 @@ def a_router_is_followed(case):
     west.end()
 
 
+@listed
 def that_the_table_is_whole_stands_between_it_and_its_changes(case):
     router = case.listening("owner", interface(1, case.port()) + prefix(OWN))
     client = router.client().say(b"changes\n")
@@ -74,6 +77,7 @@ def that_the_table_is_whole_stands_between_it_and_its_changes(case):
     same("what is told of an empty table", empty.client().say(b"changes\n").upto(b"\n"), "ok\n")
 
 
+@listed
 def a_long_table_is_told_whole_and_is_a_log(case):
     """Of 600 routes, which are told in pieces."""
     source, at = case.neighbor(), case.port()
@@ -86,6 +90,7 @@ def a_long_table_is_told_whole_and_is_a_log(case):
     same("the table", made_of(case, "told"), router.ctl("table").out)
 
 
+@listed
 def who_follows_is_told_though_the_log_has_failed(case):
     router = case.listening("full", interface(1, case.port()) + prefix(OWN), "-R", "/dev/full")
     client = router.client().say(b"changes\n")
@@ -95,6 +100,7 @@ def who_follows_is_told_though_the_log_has_failed(case):
     same("whether it is counted that the log failed", router.ctl("counts").out.endswith("\nlog failed\n"), True)
 
 
+@listed
 def who_follows_and_takes_nothing_is_let_go(case):
     """A table is fed to a router while one follows that reads nothing, and another that misses nothing."""
     source, at = case.neighbor(), case.port()
@@ -110,6 +116,7 @@ def who_follows_and_takes_nothing_is_let_go(case):
     until("all told to who reads", lambda: made_of(case, "keen") == told)
 
 
+@listed
 def sixteen_may_follow(case):
     """And another once one of them has gone."""
     router = case.listening("many", interface(1, case.port()) + prefix(OWN))
@@ -125,6 +132,7 @@ def sixteen_may_follow(case):
     until("room for another", lambda: begin()[1] == begun)
 
 
+@listed
 def who_follows_may_say_more_and_is_not_answered(case):
     router = case.listening("owner", interface(1, case.port()) + prefix(OWN))
     client = router.client().say(b"changes\nstop\n")
@@ -135,12 +143,4 @@ def who_follows_may_say_more_and_is_not_answered(case):
 
 
 if __name__ == "__main__":
-    main([
-        a_router_is_followed,
-        that_the_table_is_whole_stands_between_it_and_its_changes,
-        a_long_table_is_told_whole_and_is_a_log,
-        who_follows_is_told_though_the_log_has_failed,
-        who_follows_and_takes_nothing_is_let_go,
-        sixteen_may_follow,
-        who_follows_may_say_more_and_is_not_answered,
-    ], workers=8)
+    main()

@@ -7,14 +7,14 @@ A line for each case that fails, and last how many passed. ROUTES=N tells how ma
 
 import os
 import signal
-import socket
 import subprocess
 import sys
 import time
 
 sys.dont_write_bytecode = True
-from daemons import Failed, interface, main, peer, prefix, same, until
+from daemons import interface, listed, main, peer, prefix, until
 from datagrams import feed, table
+from suite import same
 
 ROUTES = int(os.environ.get("ROUTES", 20_000))
 SOON = 12
@@ -45,6 +45,7 @@ def shows(case, router, lines):
     until(f"this table of {router.name}:\n{lines}", lambda: case.run("table", f"{router.name}.log") == (0, lines, ""))
 
 
+@listed
 def two_routers_learn_from_each_other(case):
     east, west = pair(case)
     east = case.start("east", east, "--seconds", "8", "-R", "east.log")
@@ -57,6 +58,7 @@ def two_routers_learn_from_each_other(case):
     same("standard error", east.said() + west.said(), "")
 
 
+@listed
 def the_table_of_a_router_that_runs_is_made_of_its_log(case):
     east, west = pair(case)
     east, west = case.start("east", east, "-R", "east.log"), case.start("west", west, "-R", "west.log")
@@ -69,6 +71,7 @@ def the_table_of_a_router_that_runs_is_made_of_its_log(case):
     shows(case, east, AT_EAST)
 
 
+@listed
 def a_router_goes_on_after_it_was_stopped(case):
     east, west = pair(case)
     east = case.start("east", east, "-R", "east.log", "--control", "east.sock")
@@ -84,6 +87,7 @@ def a_router_goes_on_after_it_was_stopped(case):
     same("status and standard error", (east.finish(), east.said()), (0, ""))
 
 
+@listed
 def a_log_that_is_emptied_goes_on_at_its_end(case):
     """As `copytruncate` of logrotate(8) does it."""
     east, west = pair(case)
@@ -95,6 +99,7 @@ def a_log_that_is_emptied_goes_on_at_its_end(case):
     same("the log", east.log(), f"add {WEST} metric 2 via fe80::f iface 0\n")
 
 
+@listed
 def a_quiet_router_learns_and_tells_nothing(case):
     east, west = pair(case)
     east = case.start("east", east, "-q", "--control", "east.sock")
@@ -104,6 +109,7 @@ def a_quiet_router_learns_and_tells_nothing(case):
     same("its neighbor's table", west.out(), f"{WEST} metric 1 direct\n")
 
 
+@listed
 def one_of_sixteen_interfaces_is_busy(case):
     """Only the last has a neighbor, which owns 200 prefixes: four datagrams tell them."""
     ports = [(case.port(), case.port()) for _ in range(16)]
@@ -116,6 +122,7 @@ def one_of_sixteen_interfaces_is_busy(case):
     same("whether both run", (hub.is_there(), leaf.is_there()), (True, True))
 
 
+@listed
 def what_the_last_turn_tells_is_sent(case):
     """1,024 prefixes take more datagrams than go at once, and are told in the last turn."""
     here, there = case.port(), case.port()
@@ -141,6 +148,7 @@ def memory_of(router):
         return next(int(line.split()[1]) for line in status if line.startswith("VmRSS:"))
 
 
+@listed
 def a_router_under_fire_keeps_its_routes(case):
     """Strangers send nonsense to the ports of one of two neighbors, and so does another neighbor of it; the routes stay, and what that
     neighbor tells in the end is learned."""
@@ -158,6 +166,7 @@ def a_router_under_fire_keeps_its_routes(case):
     same("routes that were lost", [line for line in east.log() + west.log() if line.startswith("del")], [])
 
 
+@listed
 def one_neighbor_that_sends_without_end_takes_no_room_of_another(case):
     """One sends the longest datagrams that there are, while the other tells a large table at once. All of it is learned."""
     loud, quiet, first, second = case.neighbor(), case.neighbor(), case.port(), case.port()
@@ -193,6 +202,7 @@ def half_and_half(case):
     return (east, west), ports, feeds
 
 
+@listed
 def two_routers_learn_a_large_table_from_each_other(case):
     """East has its half before west comes up, and tells it in answer to a Request; west gets its own later, and tells it by a triggered
     update."""
@@ -208,6 +218,7 @@ def two_routers_learn_a_large_table_from_each_other(case):
     learns(east, half, 3)
 
 
+@listed
 def three_neighbors_learn_a_large_table_at_once(case):
     """Two on one interface of a hub, one on another, which come up at once."""
     at, one, two, *three = [case.port() for _ in range(6)]
@@ -224,16 +235,4 @@ def three_neighbors_learn_a_large_table_at_once(case):
 
 
 if __name__ == "__main__":
-    main([
-        two_routers_learn_from_each_other,
-        the_table_of_a_router_that_runs_is_made_of_its_log,
-        a_router_goes_on_after_it_was_stopped,
-        a_log_that_is_emptied_goes_on_at_its_end,
-        a_quiet_router_learns_and_tells_nothing,
-        one_of_sixteen_interfaces_is_busy,
-        what_the_last_turn_tells_is_sent,
-        a_router_under_fire_keeps_its_routes,
-        one_neighbor_that_sends_without_end_takes_no_room_of_another,
-        two_routers_learn_a_large_table_from_each_other,
-        three_neighbors_learn_a_large_table_at_once,
-    ])
+    main()

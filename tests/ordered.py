@@ -7,13 +7,13 @@ import subprocess
 import tempfile
 import threading
 
-from daemons import Router, same
+from daemons import Router
+from suite import same
 
 COMPILED = pathlib.Path(tempfile.mkdtemp(prefix="ripngd-system-"), "system.so")
 LOCK = threading.Lock()
 atexit.register(shutil.rmtree, COMPILED.parent, ignore_errors=True)
 
-EPERM, EINTR, EIO, ENOMEM, EACCES, ENOSPC, EADDRINUSE = 1, 4, 5, 12, 13, 28, 98
 
 
 def environment(folder, name, **orders):

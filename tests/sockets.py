@@ -1,5 +1,5 @@
 #!/usr/bin/env python3
-"""What a router's sockets on 127.0.0.1 give it, what it sends by them and when, and what is lost.
+"""What a router's sockets on 127.0.0.1 give it: who is heard, when they are read, and what is lost; and how they are had.
 
     tests/sockets.py PROGRAM [NAME..]
 
@@ -7,21 +7,17 @@ A line for each case that fails, and last how many passed. Where moments count, 
 are exact: it stands still but for what is slept and waited."""
 
 import re
-import socket
-import struct
 import sys
 import time
+from errno import EACCES, EADDRINUSE, EINTR, EIO, ENOMEM
 
 sys.dont_write_bytecode = True
-from daemons import Neighbor, interface, main, peer, prefix, same, until
-from datagrams import REQUEST, entry, feed, response
-from ordered import EACCES, EADDRINUSE, EINTR, EIO, ENOMEM, EPERM, Ordered, calls, environment
+from daemons import interface, listed, main, Neighbor, peer, prefix, until
+from datagrams import REQUEST, entry, response
+from ordered import Ordered, calls, environment
+from suite import same
 
 OWN = "2001:db8::/32"
-MANY = "".join(prefix(f"2001:db8:{number:x}::/48") for number in range(1_024))
-"""More prefixes than go into 16 datagrams of 1,280 bytes, which have 61 entries each: 17 tell them."""
-STAMPED = 35
-"""The option SO_TIMESTAMPNS of sockets, which Python has no name for."""
 EVIL = response(entry(OWN, 17))
 """What each neighbor may send and is noted for, entry by entry."""
 
@@ -40,8 +36,7 @@ def interfaces(case, *peers):
     return ports, neighbors, text
 
 
-# What is heard.
-
+@listed
 def an_idle_turn_waits_once_and_reads_no_socket(case):
     _, _, text = interfaces(case, (2, 3), (4, 5))
     router = Ordered(case, "idle", text, "-q", "--turns", "3", clock=0).done()
@@ -49,6 +44,7 @@ def an_idle_turn_waits_once_and_reads_no_socket(case):
     same("what it read", router.calls("recvfrom"), [])
 
 
+@listed
 def what_comes_is_read_at_once_and_no_other_socket_is(case):
     ports, neighbors, text = interfaces(case, (2, 3), (4, 5))
     router = Ordered(case, "busy", text, "-q", "-d", "--turns", "3", clock=0)
@@ -61,6 +57,7 @@ def what_comes_is_read_at_once_and_no_other_socket_is(case):
     same("how often it read", (router.reads(ports[0]), router.reads(ports[1])), (0, 3))
 
 
+@listed
 def interfaces_are_served_in_turn(case):
     ports, neighbors, text = interfaces(case, (2, 3), (4, 5))
     router = Ordered(case, "turns", text, "-q", "-d", "--turns", "7", clock=0)
@@ -72,6 +69,7 @@ def interfaces_are_served_in_turn(case):
     same("who was heard", refused(router), [(0, "2"), (1, "4"), (0, "3"), (1, "5"), (0, "2"), (0, "2")])
 
 
+@listed
 def a_neighbor_without_end_takes_no_room_of_another_interface(case):
     """A turn takes in 512 and gives one: after 32 turns 16,352 wait, so the next has room for 32, and each later one for one."""
     ports, neighbors, text = interfaces(case, (2, 3), (4, 5))
@@ -84,6 +82,7 @@ def a_neighbor_without_end_takes_no_room_of_another_interface(case):
     same("what was lost", router.said().splitlines()[-1], "ripngd: lost sends 0, lost steps 9")
 
 
+@listed
 def datagrams_wait_up_to_32_mib_together(case):
     """1,024 of 32,768 bytes are just as many: 512 are taken in a turn, and one is given; so the third has room for two more."""
     for size, reads in ((32_768, 512 + 512 + 3 + 2), (32_769, 512 + 512 + 2 + 2)):
@@ -95,6 +94,7 @@ def datagrams_wait_up_to_32_mib_together(case):
         same("what was lost", router.said(), "ripngd: lost sends 0, lost steps 2\n")
 
 
+@listed
 def a_stranger_is_dropped_and_does_not_end_the_wait(case):
     """One at a peer's port of another address, one at another port, and a peer of the other interface."""
     ports, neighbors, text = interfaces(case, (2, 3), (4, 5))
@@ -109,6 +109,7 @@ def a_stranger_is_dropped_and_does_not_end_the_wait(case):
     same("what was lost", router.said(), "arrivals 0 sends 0 failed 0\n")
 
 
+@listed
 def a_read_that_is_interrupted_comes_again(case):
     ports, neighbors, text = interfaces(case, (2,))
     router = Ordered(case, "interrupted", text, "-q", "-d", "--turns", "1", clock=0, fail=f"recvfrom:1:1:{EINTR}")
@@ -118,6 +119,7 @@ def a_read_that_is_interrupted_comes_again(case):
     same("how long it waited", router.waits(), [50, 0])
 
 
+@listed
 def a_read_or_a_wait_that_fails_ends_the_router(case):
     for fail, turns in ((f"recvfrom:2:1:{EIO}", 0), (f"wait:2:1:{EIO}", 1)):
         ports, neighbors, text = interfaces(case, (2,))
@@ -128,6 +130,7 @@ def a_read_or_a_wait_that_fails_ends_the_router(case):
         same("standard error", router.said(), f"ripngd: link fault after {turns} turns\n")
 
 
+@listed
 def a_whole_table_on_one_of_many_interfaces_is_taken_in_at_once(case):
     source, ports = case.neighbor(), [case.port() for _ in range(16)]
     text = "".join(interface(f"a:{iface}", port, *([peer(2, source.port, hop_limit=64)] if iface == 15 else []))
@@ -141,6 +144,7 @@ def a_whole_table_on_one_of_many_interfaces_is_taken_in_at_once(case):
     same("how long it waited", router.waits(), [50] + 67 * [0])
 
 
+@listed
 def a_datagram_of_a_peer_arrives_as_configured(case):
     """Its port, its hop limit, and whether it was sent to the group: to a router alone any hop limit will do."""
     neighbors, ports = [case.neighbor() for _ in range(4)], (case.port(), case.port())
@@ -157,6 +161,7 @@ def a_datagram_of_a_peer_arrives_as_configured(case):
     same("the log", len(router.log().splitlines()), 2)
 
 
+@listed
 def two_interfaces_have_two_peers_each_and_mix_none_up(case):
     neighbors, ports = [case.neighbor() for _ in range(4)], (case.port(), case.port())
     peers = [peer(f"1{number}", neighbor.port, **keys)
@@ -175,6 +180,7 @@ def two_interfaces_have_two_peers_each_and_mix_none_up(case):
         same("the first datagram, and where it came from", neighbor.receive(), (REQUEST, ports[number // 2]))
 
 
+@listed
 def a_peer_is_heard_from_when_it_is_added_until_it_is_removed(case):
     neighbor, port = case.neighbor(), case.port()
     router = case.listening("changing", interface(1, port))
@@ -193,170 +199,9 @@ def a_peer_is_heard_from_when_it_is_added_until_it_is_removed(case):
     counts(1, 4)
 
 
-# What is sent.
-
-def a_router_asks_and_tells_its_neighbor(case):
-    """An update has the own prefix with its tag, and a learned one poisoned."""
-    neighbor, port = case.neighbor(), case.port()
-    router = Ordered(case, "telling", interface(1, port, peer(2, neighbor.port)) + prefix(OWN, tag=9), "--turns", "1", clock=0)
-    neighbor.send(port, response(entry("2001:db9::/32", 1)))
-    router.done()
-    same("what was sent", neighbor.rest(), [REQUEST, response(entry(OWN, 1, 9), entry("2001:db9::/32", 16))])
-
-
-def prefixes_without_a_tag_have_the_one_that_is_ordered(case):
-    neighbor, port = case.neighbor(), case.port()
-    text = interface(1, port, peer(2, neighbor.port)) + prefix(OWN) + prefix("2001:db9::/32", tag=7)
-    Ordered(case, "tagged", text, "-t", "4660", "--turns", "1", clock=0).done()
-    same("what was sent", neighbor.rest(), [REQUEST, response(entry(OWN, 1, 4660), entry("2001:db9::/32", 1, 7))])
-    Ordered(case, "untagged", text, "--turns", "1", clock=0).done()
-    same("what was sent", neighbor.rest(), [REQUEST, response(entry(OWN, 1, 0), entry("2001:db9::/32", 1, 7))])
-
-
-def a_quiet_router_sends_nothing_of_itself(case):
-    """In an hour, but an answer to who asks from a port other than 521."""
-    neighbor, asker, port = case.neighbor(), case.neighbor(), case.port()
-    text = interface(1, port, peer(2, neighbor.port), peer(3, asker.port, port=2_000)) + prefix(OWN)
-    router = Ordered(case, "quiet", text, "-q", "--seconds", "3600", clock=0)
-    neighbor.send(port, REQUEST)
-    asker.send(port, REQUEST)
-    router.done()
-    same("what was sent", (neighbor.rest(), asker.rest()), ([], [response(entry(OWN, 1))]))
-
-
-def what_goes_to_the_group_goes_to_each_peer_and_an_answer_to_one(case):
-    first, second, port = case.neighbor(), case.neighbor(), case.port()
-    text = interface(1, port, peer(2, first.port), peer(3, second.port, port=2_000)) + prefix(OWN)
-    router = Ordered(case, "group", text, "--turns", "1", clock=0)
-    second.send(port, REQUEST)
-    router.done()
-    told = response(entry(OWN, 1))
-    same("what each got", (first.rest(), second.rest()), ([REQUEST, told], [REQUEST, told, told]))
-
-
-def the_port_for_the_group_gets_what_goes_to_the_group_once(case):
-    first, second, group, port = case.neighbor(), case.neighbor(), case.neighbor(), case.port()
-    text = interface(1, port, peer(2, first.port), peer(3, second.port, port=2_000), group_port=group.port)
-    router = case.listening("grouped", text + prefix(OWN))
-    told = response(entry(OWN, 1))
-    same("what the group's port gets", [group.receive()[0], group.receive()[0]], [REQUEST, told])
-    second.send(port, REQUEST)
-    same("the answer", second.receive()[0], told)
-    same("what others got", (first.rest(), second.rest(), group.rest()), ([], [], []))
-    same("a peer there", router.ctl("peer", "0", "fe80::4", str(group.port)), (1, "refused 62 PortTwice\n", ""))
-
-
-def a_peer_that_cannot_be_sent_to_is_told_and_the_next_is_sent_to(case):
-    first, second, port = case.neighbor(), case.neighbor(), case.port()
-    text = interface(1, port, peer(2, first.port), peer(3, second.port)) + prefix(OWN)
-    router = Ordered(case, "failing", text, "-d", "--turns", "1", clock=0, fail=f"sendto:1:1:{EPERM}").done()
-    told = response(entry(OWN, 1))
-    same("what each got", (first.rest(), second.rest()), ([told], [REQUEST, told]))
-    same("what is said", router.said(), "arrivals 0 sends 1 failed 0\nripngd: lost sends 1, lost steps 0\n")
-
-
-def a_send_that_is_interrupted_is_tried_16_times(case):
-    neighbor, port = case.neighbor(), case.port()
-    text = interface(1, port, peer(2, neighbor.port)) + prefix(OWN)
-    told = [REQUEST, response(entry(OWN, 1))]
-    for times, got, lost in ((15, told, ""), (16, told[1:], "ripngd: lost sends 1, lost steps 0\n")):
-        router = Ordered(case, f"interrupted{times}", text, "--turns", "1", clock=0, fail=f"sendto:1:{times}:{EINTR}").done()
-        same("what was sent", neighbor.rest(), got)
-        same("how often it was tried", len(router.calls("sendto")), 17)
-        same("what was lost", router.said(), lost)
-
-
-# When it is sent.
-
-def sixteen_datagrams_go_at_once_and_as_many_four_milliseconds_later(case):
-    """At 0 the Request of the start and 15 datagrams of the answers to two askers; the rest of them and of the update, 36, at their pace
-    while a turn waits, which ends in time. On the other interface the update waits for itself alone."""
-    ports, neighbors = (case.port(), case.port()), [case.neighbor() for _ in range(3)]
-    text = interface(1, ports[0], peer(2, neighbors[0].port, port=2_000))
-    text += interface(2, ports[1], peer(3, neighbors[1].port), peer(4, neighbors[2].port))
-    router = Ordered(case, "paced", text + MANY, "--turns", "3", clock=0)
-    for _ in range(2):
-        neighbors[0].send(ports[0], REQUEST)
-    router.done()
-    same("when it was sent", router.sends(ports[0]), {0: 16, 4: 16, 8: 16, 12: 4})
-    same("when it was sent to two peers", router.sends(ports[1]), {0: 32, 4: 4})
-    same("how long it waited", router.waits(), [50, 0, 4, 4, 4, 38])
-    same("what was sent behind the Request", neighbors[0].rest()[1:], 3 * neighbors[1].rest()[1:])
-
-
-def what_waits_goes_out_at_the_end_at_its_pace_and_in_order(case):
-    """And a clock that stands still holds nothing back for ever."""
-    neighbor, port = case.neighbor(), case.port()
-    text = interface(1, port, peer(2, neighbor.port, port=2_000)) + MANY
-    whole = []
-    for clock, moments in (("0", {0: 16, 4: 16, 8: 16, 12: 4}), ("still", {0: 52})):
-        router = Ordered(case, f"ending{clock}", text, "--turns", "2", clock=clock)
-        for _ in range(2):
-            neighbor.send(port, REQUEST)
-        router.done()
-        same("when it was sent", router.sends(port), moments)
-        if clock == "0":
-            same("how long it slept", [ms for _, _, ms, _ in router.calls("sleep")], [4, 4, 4])
-        same("what was lost", router.said(), "")
-        whole.append(neighbor.rest())
-    same("how many came", [len(came) for came in whole], [52, 52])
-    same("whether each whole table came in order", whole[0][1:18] == whole[0][18:35] == whole[0][35:] == whole[1][1:18], True)
-    numbers = [struct.unpack(">H", datagram[at + 4:at + 6])[0] for datagram in whole[0][1:18] for at in range(4, len(datagram), 20)]
-    same("the order of what was told", numbers, list(range(1_024)))
-
-
-def no_turn_waits_while_a_datagram_is_there(case):
-    """Not for what is still to be sent, either."""
-    neighbor, port = case.neighbor(), case.port()
-    router = Ordered(case, "eager", interface(1, port, peer(2, neighbor.port)) + MANY, "-d", "--turns", "40", clock=0)
-    for _ in range(40):
-        neighbor.send(port, EVIL)
-    router.done()
-    same("how long it waited", router.waits(), [50] + 39 * [0])
-    same("when it was sent", router.sends(port), {0: 16, 4: 2})
-
-
-def more_than_4096_that_wait_are_refused(case):
-    """While the clock stands still: of the 17 datagrams to each of 250 askers, of the update and the Request, 16 go and 4,096 wait."""
-    neighbor, port = case.neighbor(), case.port()
-    router = Ordered(case, "full", interface(1, port, peer(2, neighbor.port, port=2_000)) + MANY, "-d", "--turns", "250", clock="still")
-    for _ in range(250):
-        neighbor.send(port, REQUEST)
-    router.done()
-    refused = 250 * 17 + 17 + 1 - 16 - 4_096
-    same("what is said", router.said(), f"arrivals 250 sends {250 * 17 + 17} failed {refused}\nripngd: lost sends {refused}, lost steps 0\n")
-    same("how many were sent", router.sends(port), {0: 16 + 4_096})
-
-
-def what_waited_and_could_not_be_sent_is_counted(case):
-    neighbor, port = case.neighbor(), case.port()
-    text = interface(1, port, peer(2, neighbor.port, port=2_000)) + MANY
-    router = Ordered(case, "failing", text, "-d", "--turns", "2", clock=0, fail=f"sendto:17:99:{EPERM}")
-    for _ in range(2):
-        neighbor.send(port, REQUEST)
-    router.done()
-    same("how many came", len(neighbor.rest()), 16)
-    same("what is said", router.said(), "arrivals 2 sends 51 failed 0\nripngd: lost sends 36, lost steps 0\n")
-
-
-def the_pace_is_kept_by_the_clock_of_the_system(case):
-    """By the stamps of the system at the receiver: of 1,024 prefixes no 17 datagrams come within three milliseconds."""
-    neighbor, port = case.neighbor(), case.port()
-    neighbor.socket.setsockopt(socket.SOL_SOCKET, STAMPED, 1)
-    router = case.start("real", interface(1, port, peer(2, neighbor.port, port=2_000)) + MANY)
-    moments = []
-    for _ in range(3):
-        neighbor.send(port, REQUEST)
-    while len(moments) < 1 + 4 * 17:
-        _, [(_, _, stamp)], _, _ = neighbor.socket.recvmsg(2_048, 64)
-        moments.append(struct.unpack("qq", stamp)[0] * 1_000 + struct.unpack("qq", stamp)[1] / 1e6)
-    spans = [later - moment for moment, later in zip(moments, moments[16:])]
-    same(f"whether the least of {spans} is three milliseconds", min(spans) >= 3, True)
-    same("whether it runs", router.is_there(), True)
-
-
 # Which ports are asked for, and what the clock tells.
 
+@listed
 def sockets_are_asked_for_in_order_until_one_cannot_be_had(case):
     ports = case.port(), case.port()
     case.file("two.toml", interface(1, ports[0]) + interface(2, ports[1]))
@@ -367,6 +212,7 @@ def sockets_are_asked_for_in_order_until_one_cannot_be_had(case):
         same("what was asked for", [port for _, _, port, _ in calls(case, f"two{number}", "bind")], list(ports[:first]))
 
 
+@listed
 def the_clock_of_a_router_begins_at_0(case):
     neighbor, port = case.neighbor(), case.port()
     router = case.start("clock", interface(1, port, peer(2, neighbor.port)), "-d")
@@ -379,6 +225,7 @@ def the_clock_of_a_router_begins_at_0(case):
     same(f"whether {moments} are moments since its start", 0 <= moments[0] < 20_000 and 200 <= moments[1] - moments[0] < 20_000, True)
 
 
+@listed
 def a_clock_that_cannot_be_read_tells_its_last_moment(case):
     """One that never can, the first; one that can be read some times, each seven seconds behind the one before, the last of these."""
     for last, told in ((0, 0), (5, 7_000)):
@@ -392,33 +239,4 @@ def a_clock_that_cannot_be_read_tells_its_last_moment(case):
 
 
 if __name__ == "__main__":
-    main([
-        an_idle_turn_waits_once_and_reads_no_socket,
-        what_comes_is_read_at_once_and_no_other_socket_is,
-        interfaces_are_served_in_turn,
-        a_neighbor_without_end_takes_no_room_of_another_interface,
-        datagrams_wait_up_to_32_mib_together,
-        a_stranger_is_dropped_and_does_not_end_the_wait,
-        a_read_that_is_interrupted_comes_again,
-        a_read_or_a_wait_that_fails_ends_the_router,
-        a_whole_table_on_one_of_many_interfaces_is_taken_in_at_once,
-        a_datagram_of_a_peer_arrives_as_configured,
-        two_interfaces_have_two_peers_each_and_mix_none_up,
-        a_peer_is_heard_from_when_it_is_added_until_it_is_removed,
-        a_router_asks_and_tells_its_neighbor,
-        prefixes_without_a_tag_have_the_one_that_is_ordered,
-        a_quiet_router_sends_nothing_of_itself,
-        what_goes_to_the_group_goes_to_each_peer_and_an_answer_to_one,
-        the_port_for_the_group_gets_what_goes_to_the_group_once,
-        a_peer_that_cannot_be_sent_to_is_told_and_the_next_is_sent_to,
-        a_send_that_is_interrupted_is_tried_16_times,
-        sixteen_datagrams_go_at_once_and_as_many_four_milliseconds_later,
-        what_waits_goes_out_at_the_end_at_its_pace_and_in_order,
-        no_turn_waits_while_a_datagram_is_there,
-        more_than_4096_that_wait_are_refused,
-        what_waited_and_could_not_be_sent_is_counted,
-        the_pace_is_kept_by_the_clock_of_the_system,
-        sockets_are_asked_for_in_order_until_one_cannot_be_had,
-        the_clock_of_a_router_begins_at_0,
-        a_clock_that_cannot_be_read_tells_its_last_moment,
-    ], workers=8)
+    main()

@@ -9,8 +9,8 @@
  *   SYSTEM_LENGTH=N    it has N bytes, zeros behind those that came
  *   SYSTEM_FAIL=NAME:FIRST:COUNT:ERROR,..   of the calls of a name so many fail, from the FIRST on, with that number of an error
  *
- * Watched are bind, sendto, recvfrom, wait (of epoll), sleep, clock, wall (both alone in SYSTEM_FAIL), and write1, write2 and write3: to
- * standard output, standard error, and any file. */
+ * Watched are bind, sendto, recvfrom, wait (of epoll), sleep, write1, write2 and write3 (to standard output, standard error, and any
+ * file), recv and send (of a client); and in SYSTEM_FAIL alone clock and wall, the readings of the two clocks. */
 #define _GNU_SOURCE
 #include <errno.h>
 #include <fcntl.h>
@@ -25,8 +25,9 @@
 #include <time.h>
 #include <unistd.h>
 
-enum call { BIND, SENDTO, RECVFROM, WAIT, SLEEP, CLOCK, WALL, WRITE1, WRITE2, WRITE3, CALLS };
-static const char *const names[CALLS] = {"bind", "sendto", "recvfrom", "wait", "sleep", "clock", "wall", "write1", "write2", "write3"};
+enum call { BIND, SENDTO, RECVFROM, WAIT, SLEEP, CLOCK, WALL, WRITE1, WRITE2, WRITE3, RECV, SEND, CALLS };
+static const char *const names[CALLS] = {
+    "bind", "sendto", "recvfrom", "wait", "sleep", "clock", "wall", "write1", "write2", "write3", "recv", "send"};
 static long counts[CALLS];
 static long now_ms;
 
@@ -36,13 +37,15 @@ static void note(enum call call, const char *format, ...)
     char line[256];
     int length = snprintf(line, sizeof line, "%ld %s ", now_ms, names[call]);
     va_list values;
+    int error = errno;
     if (file == -2) file = getenv("SYSTEM_LOG") ? open(getenv("SYSTEM_LOG"), O_WRONLY | O_CREAT | O_APPEND | O_CLOEXEC, 0600) : -1;
-    if (file < 0) return;
+    if (file < 0) return (void)(errno = error);
     va_start(values, format);
     length += vsnprintf(line + length, sizeof line - length, format, values);
     va_end(values);
     line[length++] = '\n';
     syscall(SYS_write, file, line, length);
+    errno = error;
 }
 
 /* Whether a call is one of those that fail; it is counted. */
@@ -66,7 +69,9 @@ static int port_at(int fd)
 {
     struct sockaddr_in address = {0};
     socklen_t length = sizeof address;
+    int error = errno;
     syscall(SYS_getsockname, fd, &address, &length);
+    errno = error;
     return port_of(&address);
 }
 
@@ -116,9 +121,7 @@ static long receive(int fd, void *bytes, size_t room, int flags, struct sockaddr
 ssize_t recvfrom(int fd, void *bytes, size_t room, int flags, struct sockaddr *from, socklen_t *size)
 {
     long answer = fails(RECVFROM) ? -1 : receive(fd, bytes, room, flags, from, size);
-    int error = errno;
     note(RECVFROM, "%d %zu = %ld", port_at(fd), room, answer);
-    errno = error;
     return answer;
 }
 
@@ -177,5 +180,19 @@ ssize_t write(int fd, const void *bytes, size_t length)
     enum call call = fd == 1 ? WRITE1 : fd == 2 ? WRITE2 : WRITE3;
     long answer = fails(call) ? -1 : syscall(SYS_write, fd, bytes, length);
     note(call, "%zu = %ld", length, answer);
+    return answer;
+}
+
+ssize_t recv(int fd, void *bytes, size_t room, int flags)
+{
+    long answer = fails(RECV) ? -1 : syscall(SYS_recvfrom, fd, bytes, room, flags, NULL, NULL);
+    note(RECV, "%zu = %ld", room, answer);
+    return answer;
+}
+
+ssize_t send(int fd, const void *bytes, size_t length, int flags)
+{
+    long answer = fails(SEND) ? -1 : syscall(SYS_sendto, fd, bytes, length, flags, NULL, 0);
+    note(SEND, "%zu = %ld", length, answer);
     return answer;
 }

@@ -8,11 +8,13 @@ wall clock tells what is wanted, and writes fail in turn."""
 
 import re
 import sys
+from errno import ENOSPC
 
 sys.dont_write_bytecode = True
-from daemons import interface, main, peer, prefix, same, until
+from daemons import interface, listed, main, peer, prefix, until
 from datagrams import REQUEST, entry, feed, response, table
-from ordered import ENOSPC, Ordered, environment
+from ordered import Ordered, environment
+from suite import same
 
 OWN = "2001:db8::/32"
 OWN_TABLE = f"{OWN} metric 1 direct\n"
@@ -23,6 +25,7 @@ FULL = 65_536
 
 # What is said and counted.
 
+@listed
 def each_fault_has_its_line_and_its_count(case):
     """In the order of their numbers, but for the second: no datagram of this machine is too long by itself."""
     port, other, neighbors = case.port(), case.port(), [case.neighbor() for _ in range(6)]
@@ -46,6 +49,7 @@ def each_fault_has_its_line_and_its_count(case):
     same("what is said", router.said(), f"{lines}arrivals 11 sends 0 failed 0\n{counts}")
 
 
+@listed
 def the_longest_datagram_of_all_has_room_and_is_too_long(case):
     neighbor, port = case.neighbor(), case.port()
     router = Ordered(case, "long", interface(1, port, peer(2, neighbor.port)), "-q", "-d", "--turns", "1", clock=0, length=65_535)
@@ -55,6 +59,7 @@ def the_longest_datagram_of_all_has_room_and_is_too_long(case):
     same("what was read, and into how many bytes", [call[3:] for call in router.calls("recvfrom")][0], (65_536, 65_535))
 
 
+@listed
 def each_of_many_notes_has_its_line_and_is_counted(case):
     """In one Response, fifteen times over: a length past 128, a prefix of many, and a metric of 17."""
     neighbor, port = case.neighbor(), case.port()
@@ -67,6 +72,7 @@ def each_of_many_notes_has_its_line_and_is_counted(case):
     same("what is said", router.said(), f"{lines}arrivals 1 sends 0 failed 0\n{counts}")
 
 
+@listed
 def a_route_more_than_a_table_holds_is_noted(case):
     neighbor, port = case.neighbor(), case.port()
     router = case.listening("full", interface(1, port, peer(2, neighbor.port)), "-q", "-d")
@@ -76,6 +82,7 @@ def a_route_more_than_a_table_holds_is_noted(case):
     same("the last line of its counts", router.ctl("counts").out.splitlines()[1], "noted 23 TableFull 1")
 
 
+@listed
 def sends_that_fail_are_counted(case):
     """Of five updates two."""
     neighbor, port = case.neighbor(), case.port()
@@ -93,6 +100,7 @@ def said_of(router):
     return re.sub(r" last \d+$", " last T", router.ctl("neighbors").out, flags=re.M)
 
 
+@listed
 def each_sender_has_a_row(case):
     """By interface and address: one address on two interfaces is two senders."""
     first, second, ports = case.neighbor(), case.neighbor(), (case.port(), case.port())
@@ -111,6 +119,7 @@ def each_sender_has_a_row(case):
          "refused 11 EmptyRequest 1\nnoted 20 BadLength 1\nnoted 22 BadMetric 1\nlost sends 0 steps 0 arrivals 0\nstrangers 0\n")
 
 
+@listed
 def senders_beyond_64_are_counted_together(case):
     neighbors, port = [case.neighbor() for _ in range(66)], case.port()
     router = case.listening("many", interface(1, port, *[peer(f"1:{number:x}", neighbor.port) for number, neighbor in enumerate(neighbors)]))
@@ -135,6 +144,7 @@ def segments(case):
     return neighbor, port, interface(1, port, peer(2, neighbor.port, hop_limit=64)) + prefix(OWN)
 
 
+@listed
 def a_failed_write_of_standard_error_ends_its_lines_and_nothing_else(case):
     """Each write in turn. What stands before it in the lines of the run is there, and then the counts, whole."""
     neighbor, port, text = segments(case)
@@ -157,6 +167,7 @@ def a_failed_write_of_standard_error_ends_its_lines_and_nothing_else(case):
         same(f"what is said where write {number} fails", router.err(), cut)
 
 
+@listed
 def a_failed_write_of_the_log_ends_it_alone(case):
     """Each write in turn, of the lines of a route that is told and taken back. No later one is tried."""
     neighbor, port = case.neighbor(), case.port()
@@ -178,6 +189,7 @@ def a_failed_write_of_the_log_ends_it_alone(case):
     same("whether it ends", False, True)
 
 
+@listed
 def each_of_many_changes_has_its_line(case):
     neighbor, port = case.neighbor(), case.port()
     router = Ordered(case, "many", interface(1, port, peer(2, neighbor.port)), "-q", "-R", "many.log", "--turns", "1", clock=0)
@@ -187,6 +199,7 @@ def each_of_many_changes_has_its_line(case):
     same("the log", router.log(), "".join(f"add {line}" for line in lines))
 
 
+@listed
 def a_start_sends_before_it_logs(case):
     router = Ordered(case, "start", interface(1, case.port(), peer(2, case.port())) + prefix(OWN), "-R", "start.log", "--turns", "1", clock=0)
     router.done()
@@ -206,6 +219,7 @@ def stamped(case, wall, *words, **orders):
     return case.read("alone.log"), done.err.partition("\n")[2]
 
 
+@listed
 def a_line_has_the_moment_of_the_wall_clock(case):
     """To the millisecond that has begun, as `date -u` has them."""
     for wall, stamp in (
@@ -218,39 +232,26 @@ def a_line_has_the_moment_of_the_wall_clock(case):
         same(f"log and loss at {wall}", stamped(case, wall), (f"{stamp} add {OWN} metric 1 direct\n", ""))
 
 
+@listed
 def each_line_is_stamped_as_it_ends(case):
     log, _ = stamped(case, "951782399.000000000", "--append")
     same("the log", log, f"\n2000-02-28T23:59:59.000Z start\n2000-02-29T00:00:00.000Z add {OWN} metric 1 direct\n")
 
 
+@listed
 def behind_the_last_moment_no_line_is_written(case):
     same("log and loss", stamped(case, "253402207201.000000000"), ("", LOST_LOG))
 
 
+@listed
 def a_line_without_a_moment_is_not_written(case):
     same("log and loss", stamped(case, "0.000000000", fail="wall:1:1:22"), ("", LOST_LOG))
 
 
+@listed
 def a_stamped_line_that_cannot_be_written_ends_the_log(case):
     same("log and loss", stamped(case, "0.000000000", fail=f"write3:1:1:{ENOSPC}"), ("", LOST_LOG))
 
 
 if __name__ == "__main__":
-    main([
-        each_fault_has_its_line_and_its_count,
-        the_longest_datagram_of_all_has_room_and_is_too_long,
-        each_of_many_notes_has_its_line_and_is_counted,
-        a_route_more_than_a_table_holds_is_noted,
-        sends_that_fail_are_counted,
-        each_sender_has_a_row,
-        senders_beyond_64_are_counted_together,
-        a_failed_write_of_standard_error_ends_its_lines_and_nothing_else,
-        a_failed_write_of_the_log_ends_it_alone,
-        each_of_many_changes_has_its_line,
-        a_start_sends_before_it_logs,
-        a_line_has_the_moment_of_the_wall_clock,
-        each_line_is_stamped_as_it_ends,
-        behind_the_last_moment_no_line_is_written,
-        a_line_without_a_moment_is_not_written,
-        a_stamped_line_that_cannot_be_written_ends_the_log,
-    ], workers=8)
+    main()
