@@ -13,8 +13,8 @@ from errno import ENOSPC
 sys.dont_write_bytecode = True
 from daemons import interface, listed, main, peer, prefix, until
 from datagrams import REQUEST, entry, feed, response, table
-from ordered import Ordered, environment
-from suite import same
+from ordered import Ordered, calls, environment
+from suite import Failed, same
 
 OWN = "2001:db8::/32"
 OWN_TABLE = f"{OWN} metric 1 direct\n"
@@ -138,55 +138,52 @@ def senders_beyond_64_are_counted_together(case):
 
 # Where a write fails.
 
-def segments(case):
-    """A router that refuses two datagrams and counts them."""
-    neighbor, port = case.neighbor(), case.port()
-    return neighbor, port, interface(1, port, peer(2, neighbor.port, hop_limit=64)) + prefix(OWN)
-
-
 @listed
 def a_failed_write_of_standard_error_ends_its_lines_and_nothing_else(case):
-    """Each write in turn. What stands before it in the lines of the run is there, and then the counts, whole."""
-    neighbor, port, text = segments(case)
+    """Each write in turn, of the lines of an arrival that is refused and of one with three notes. What stands before it in these lines is
+    there, and then the counts, whole."""
+    far, near, port = case.neighbor(), case.neighbor(), case.port()
+    text = interface(1, port, peer(2, far.port, hop_limit=64), peer(3, near.port)) + prefix(OWN)
 
     def run(number):
         router = Ordered(case, f"lines{number}", text, "-d", "--turns", "3", clock=0, fail=f"write2:{number}:1:{ENOSPC}")
-        for _ in range(2):
-            neighbor.send(port, response(entry(OWN, 1)))
+        far.send(port, response())
+        near.send(port, response(*[entry(OWN, 17)] * 3))
         same("the table", router.done().out(), OWN_TABLE)
         return router
     whole = run(9_999)
-    text_of = whole.err()
-    lengths = [length for _, _, length, _ in whole.calls("write2")]
-    begun = sum(lengths[:3])
-    lines, counts = text_of[begun:text_of.index("arrivals")], text_of[text_of.index("arrivals"):]
-    same("what is said", (text_of[:begun], lines.count("refused 10 HopLimit\n")), ("ripngd: running, 1 interfaces\n", 2))
-    for number in range(4, len(lengths) + 1):
-        before, router = sum(lengths[:number - 1]), run(number)
-        cut = text_of[:before] + (counts if before < begun + len(lines) else "")
-        same(f"what is said where write {number} fails", router.err(), cut)
+    said, lengths = whole.err(), [length for _, _, length, _ in whole.calls("write2")]
+    begun = len("ripngd: running, 1 interfaces\n")
+    counts = said[said.index("arrivals "):]
+    same("the lines", [line.split(" port 521 ")[1] for line in said[begun:-len(counts)].splitlines()],
+         ["refused 10 HopLimit"] + [f"entry {number} noted 22 BadMetric" for number in range(3)])
+    for number in range(1, len(lengths) + 1):
+        before = sum(lengths[:number - 1])
+        if before >= begun:
+            ends = len(said) - (len(counts) if before < len(said) - len(counts) else 0)
+            same(f"what is said where write {number} fails", run(number).err(), said[:before] + said[ends:])
 
 
 @listed
 def a_failed_write_of_the_log_ends_it_alone(case):
-    """Each write in turn, of the lines of a route that is told and taken back. No later one is tried."""
+    """Each write in turn, of the lines of three routes that are told at once and taken back. No later one is tried."""
     neighbor, port = case.neighbor(), case.port()
     text = interface(1, port, peer(2, neighbor.port))
-    whole = f"add {OWN} metric 2 via fe80::2 iface 0\ndel {OWN}\n"
+    routes = [f"2001:db8:{number}::/48" for number in (1, 2, 3)]
+    whole = "".join([f"add {route} metric 2 via fe80::2 iface 0\n" for route in routes] + [f"del {route}\n" for route in routes])
     for number in range(1, 99):
         router = Ordered(case, f"log{number}", text, "-R", f"log{number}.log", "--turns", "5", clock=0, fail=f"write3:{number}:1:{ENOSPC}")
         for metric in (1, 16):
-            neighbor.send(port, response(entry(OWN, metric)))
+            neighbor.send(port, response(*[entry(route, metric) for route in routes]))
         same("the table", router.done().out(), "")
         same("the sends", len(router.calls("sendto")), 3)
         writes = router.calls("write3")
-        kept = sum(length for _, _, length, answer in writes if answer >= 0)
-        same("the log", router.log(), whole[:kept])
+        same("the log", router.log(), whole[:sum(length for _, _, length, answer in writes if answer >= 0)])
         if len(writes) < number:
             same("what is said, and the log", (router.said(), router.log()), ("", whole))
             return
         same("what is said, and the number of writes", (router.said(), len(writes)), (LOST_LOG, number))
-    same("whether it ends", False, True)
+    raise Failed("it is written without end")
 
 
 @listed
@@ -234,8 +231,10 @@ def a_line_has_the_moment_of_the_wall_clock(case):
 
 @listed
 def each_line_is_stamped_as_it_ends(case):
+    """Whatever parts it comes in, it is written at once."""
     log, _ = stamped(case, "951782399.000000000", "--append")
     same("the log", log, f"\n2000-02-28T23:59:59.000Z start\n2000-02-29T00:00:00.000Z add {OWN} metric 1 direct\n")
+    same("the length of each write", [length for _, _, length, _ in calls(case, "alone", "write3")], list(map(len, log.splitlines(True))))
 
 
 @listed
