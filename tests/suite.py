@@ -21,15 +21,14 @@ def same(what, got, wanted):
         raise Failed(f"{what} is {got!r} and not {wanted!r}")
 
 
-def is_free(port):
-    """Whether nothing stands at a port of 127.0.0.1, neither for datagrams nor for connections."""
-    for kind in (socket.SOCK_DGRAM, socket.SOCK_STREAM):
-        with socket.socket(socket.AF_INET, kind) as probe:
-            try:
-                probe.bind(("127.0.0.1", port))
-            except OSError:
-                return False
-    return True
+def taken():
+    """The ports of this machine at which something stands. They are read and not tried, since a socket that tries one lives on in a
+    program that is started at that moment."""
+    found = set()
+    for name in ("udp", "udp6", "tcp", "tcp6"):
+        with contextlib.suppress(FileNotFoundError), open(f"/proc/net/{name}") as file:
+            found.update(int(line.split()[1].rpartition(":")[2], 16) for line in file.readlines()[1:])
+    return found
 
 
 class Ports:
@@ -45,7 +44,7 @@ class Ports:
             held = socket.socket(socket.AF_UNIX, socket.SOCK_DGRAM)
             with contextlib.suppress(OSError):
                 held.bind(f"\0ripngd.tests.{port}")
-                if is_free(port):
+                if port not in taken():
                     self.held.append(held)
                     return port
             held.close()
