@@ -10,38 +10,33 @@ network needed more than 26.
 """
 import collections
 import os
+import pathlib
 import random
-import subprocess
 import sys
-import tempfile
+
+sys.path.insert(0, str(pathlib.Path(__file__).resolve().parent.parent / "tests"))
+from networks import Network, Owner, Port, lab, lines_of
 
 PREFIXES = ["2001:db8::/48", "2001:db8:1::/48", "2001:db8:2::/48"]
 ROUNDS = 30
 
 
-class Network:
-    """A script of a network, with the costs and owners that it leaves."""
+class Troubled:
+    """A script of a network in which much happens, with the costs and owners that it leaves."""
 
-    def __init__(self, program, path, seed):
-        self.program, self.path, self.random = program, path, random.Random(seed)
+    def __init__(self, program, seed):
+        self.program, self.random = program, random.Random(seed)
         self.routers = self.random.randint(3, 12)
         self.ports, self.owners, self.now, self.sent = [], set(), 0, []
         for router in range(self.routers):
             links = [router, (router + 1) % self.routers] + self.random.choices(range(self.routers), k=self.random.randint(0, 1))
-            self.ports += [[router, i, self.random.choice([1, 1, 1, 1, 2, 4, 7]), link] for i, link in enumerate(links)]
-        self.lines = []
-        for router in range(self.routers):
-            self.lines.append("router")
-            self.lines += [f"iface fe80::{router + 1:x}:{i} {cost} 1280 {link}" for r, i, cost, link in self.ports if r == router]
+            self.ports += [Port(router, i, f"fe80::{router + 1:x}:{i}", self.random.choice([1, 1, 1, 1, 2, 4, 7]), link)
+                           for i, link in enumerate(links)]
         # A router that stands alone: its one line is the last of each table that is printed.
-        self.lines += ["router", "iface fe80::ffff 1 1280 9999", "own 2002::/16 0", "cold 0"]
+        self.lines = [*lines_of(self.ports, []), "router", "iface fe80::ffff 1 1280 9999", "own 2002::/16 0", "cold 0"]
 
     def run(self, more):
-        with open(self.path, "w") as f:
-            f.write("\n".join(self.lines + more) + "\n")
-        out = subprocess.run([self.program, "lab", self.path], capture_output=True, text=True, check=True).stdout
-        assert "refused" not in out, out.splitlines()[-1]
-        return out.splitlines()
+        return lab(self.program, "\n".join(self.lines + more) + "\n")
 
     def deliver(self):
         """One of the newest datagrams comes to one of the interfaces of its link."""
@@ -49,8 +44,8 @@ class Network:
             return
         number = max(0, len(self.sent) - 1 - self.random.randrange(60))
         router, iface = self.sent[number]
-        links = [link for r, i, _, link in self.ports if (r, i) == (router, iface)]
-        heard = [(r, i) for r, i, _, link in self.ports if link in links and (r, i) != (router, iface)]
+        links = [port.link for port in self.ports if port[:2] == (router, iface)]
+        heard = [port[:2] for port in self.ports if port.link in links and port[:2] != (router, iface)]
         if heard:
             r, i = self.random.choice(heard)
             self.lines.append(f"deliver {number} {r} {i} {self.now}")
@@ -58,9 +53,9 @@ class Network:
     def change(self):
         """A cost changes, or a prefix is gained or given up."""
         if self.random.random() < 0.4:
-            port = self.random.choice(self.ports)
-            port[2] = self.random.choice([1, 1, 2, 4, 9])
-            self.lines.append(f"cost {port[0]} {port[1]} {self.now} {port[2]}")
+            place = self.random.randrange(len(self.ports))
+            port = self.ports[place] = self.ports[place]._replace(cost=self.random.choice([1, 1, 2, 4, 9]))
+            self.lines.append(f"cost {port.router} {port.iface} {self.now} {port.cost}")
             return
         owner = self.random.randrange(self.routers), self.random.randrange(len(PREFIXES))
         if owner in self.owners:
@@ -86,22 +81,12 @@ class Network:
         rows = [line.split() for line in self.run(["sent"])]
         self.sent = [(int(r[2]), int(r[4])) for r in rows if r[1] == "router"]
 
-    def least(self, prefix):
-        """The least cost to an owner of the prefix from each router, at the costs of now, where it is below 16."""
-        known = {r: 1 for r, p in self.owners if p == prefix}
-        for _ in range(self.routers):
-            for r, _, cost, link in self.ports:
-                for told, _, _, other in self.ports:
-                    if other == link and told != r and known.get(told, 16) + cost < known.get(r, 16):
-                        known[r] = known[told] + cost
-        return known
-
     def needed(self):
         """After how many rounds, behind all that happened, the tables are right for good."""
         begin, rounds = self.now + 45000, []
         for number in range(ROUNDS):
             rounds += ["print", f"rounds 1 {begin + 15000 * number} 0"]
-        right = {(r, PREFIXES[p]): m for p in range(len(PREFIXES)) for r, m in self.least(p).items()}
+        right = Network(self.ports, [Owner(router, PREFIXES[number], router) for router, number in self.owners]).least_costs()
         tables, table = [], {}
         for line in self.run(rounds + ["print"]):
             words = line.split()
@@ -117,12 +102,11 @@ class Network:
 def main():
     program, networks = os.path.realpath(sys.argv[1]), int(sys.argv[2]) if len(sys.argv) > 2 else 100
     counts = collections.Counter()
-    with tempfile.TemporaryDirectory() as folder:
-        for seed in range(networks):
-            network = Network(program, os.path.join(folder, "network.lab"), seed)
-            for _ in range(20):
-                network.go_on()
-            counts[network.needed()] += 1
+    for seed in range(networks):
+        network = Troubled(program, seed)
+        for _ in range(20):
+            network.go_on()
+        counts[network.needed()] += 1
     for number in sorted(counts):
         print(number, counts[number])
     sys.exit(max(counts) > 26)
