@@ -14,7 +14,8 @@ folder=$(mktemp -d)
 trap 'rm -rf "$folder"' EXIT
 
 # The longest first.
-suites="links.sh page.sh control.py growth.py growth_of_calls.py cases.py sockets.py page_requests.py scripts.py healing.sh floods.sh examples.sh"
+suites="links.sh page.sh page_connections.py sending.py neighbors.py control.py followers.py sockets.py watching.py growth.py
+growth_of_calls.py cases.py scripts.py page_requests.py broken_output.py"
 
 # `arguments SUITE`: which of the two programs a suite is given.
 arguments() {
