@@ -1,6 +1,5 @@
 -- A router shuts down, and a neighbor hears all of its last update and nothing else of it.
-use Rattle.std.proofs.Common.{◌≡◌, ℕ, true, false, max, ◌<◌, ◌≤◌, ◌==◌, List, [], ◌∷◌, map, filter, length, Contains, All, Option, Some, None, slice_get, refl, ap, ap₂, sym, subst, ◌∙◌}
-use Rattle.std.specs.Prelude.{IsTrue}
+use Rattle.std.proofs.Common.{◌≡◌, ℕ, true, false, max, ◌<◌, ◌≤◌, ◌==◌, List, filter, length, Contains, All, Option, Some, None, refl, ap₂, subst, ◌∙◌}
 use Rattle.std.specs.List.{AllByRecursion}
 use Rattle.std.specs.FinMap as map_of
 use Rattle.std.proofs.lemmas.List.Elements.{recursion_from_All}

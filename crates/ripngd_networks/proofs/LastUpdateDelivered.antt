@@ -1,5 +1,5 @@
 -- In a network: a router shuts down, and all of its last update and nothing else of it is delivered to a neighbor.
-use Rattle.std.proofs.Common.{◌≡◌, ◌≢◌, inl, inr, ℕ, zero, suc, max, ◌<◌, ◌≤◌, ◌==◌, ◌&&◌, ◌||◌, Bool, true, false, cond, List, [], ◌∷◌, ◌++◌, map, filter, length, Contains, All, Option, Some, None, option_map, option_and_then, unwrap_or, slice_get, refl, ap, sym, subst, ◌∙◌, arith}
+use Rattle.std.proofs.Common.{◌≡◌, ◌≢◌, inl, inr, ℕ, zero, suc, max, ◌<◌, ◌≤◌, ◌==◌, ◌&&◌, ◌||◌, Bool, true, false, List, [], ◌∷◌, ◌++◌, map, length, Contains, Option, Some, None, option_map, option_and_then, unwrap_or, slice_get, refl, ap, sym, subst, ◌∙◌, arith}
 use Rattle.std.specs.Prelude.{IsTrue}
 use Rattle.std.specs.List.{AllByRecursion}
 use Rattle.std.specs.FinMap as map_of
@@ -12,7 +12,6 @@ use Rattle.ripng_wire.specs.Layout.{Spells}
 use Rattle.route_table.specs.Route.{RouteValue, IsRoute, infinity, is_dying, is_fixed, is_own}
 use Rattle.route_table.specs.declared.route.Clock.{Clock}
 use Rattle.route_table.specs.declared.route.Clock.TheVariants.{Fixed, Live, Dying}
-use Rattle.route_table.specs.declared.route.Origin.TheVariants.{Own, Learned}
 use Rattle.route_table.proofs.TableLaws.{Some-same, None-Some}
 use Rattle.router_core.specs.Config.{Config, mtu_at}
 use Rattle.router_core.specs.Machine.{State, ShutsDown, Moves}
@@ -39,7 +38,7 @@ use Rattle.ripng_world.proofs.WorldRuns.{IsGood, get_map, in_node, ran, run_from
 use Rattle.ripngd_networks.specs.LastUpdate.{AreRoutes, HasNoneBy, IsDeliveredWhole, IsHeardWhole, IsSentBetween, sent_on}
 use Rattle.ripngd_networks.proofs.Addresses.{addresses_of}
 use Rattle.ripngd_networks.proofs.LastUpdate.{neighbor_ends}
-use Rattle.ripngd_networks.proofs.LastUpdateSeen.{IsOf, IsOurs, Seen, seen}
+use Rattle.ripngd_networks.proofs.LastUpdateSeen.{IsOf, Seen, seen}
 use Rattle.ripngd_networks.proofs.LastUpdateSteps.{TellsLosses}
 use Rattle.ripngd_networks.proofs.LastUpdateTold.{at_sent_on, of_sent_on, sent_responses}
 

@@ -1,41 +1,28 @@
 -- A neighbor that hears the last update of a router has no reachable route by it left, to any prefix that it tells.
-use Rattle.std.proofs.Common.{◌≡◌, ◌⊎◌, inl, inr, ℕ, zero, suc, ◌+◌, ◌-◌, min, max, ◌<◌, ◌≤◌, ◌==◌, nat_le, nat_lt, Bool, true, false, cond, not, ◌&&◌, ◌||◌, List, [], ◌∷◌, ◌++◌, length, Contains, Option, Some, None, is_none, is_some, slice_get, refl, ap, ap₂, sym, subst, ◌∙◌, arith, le_refl}
+use Rattle.std.proofs.Common.{◌≡◌, ℕ, zero, suc, ◌+◌, ◌-◌, min, ◌<◌, ◌≤◌, ◌==◌, nat_lt, Bool, true, false, cond, not, ◌&&◌, ◌||◌, List, [], ◌∷◌, length, Contains, Option, Some, None, is_none, is_some, slice_get, refl, ap, ap₂, sym, subst, ◌∙◌, arith, le_refl}
 use Rattle.std.specs.Prelude.{⊤}
 use Rattle.std.specs.List.{AllByRecursion}
 use Rattle.std.specs.FinMap as map_of
-use Rattle.std.proofs.lemmas.Bool.{eq-eqb, eqb-true, ltb-true}
+use Rattle.std.proofs.lemmas.Bool.{eq-eqb, ltb-true}
 use Rattle.std.proofs.lemmas.Bool.Decides.{nat_tests}
 use Rattle.std.proofs.lemmas.Option.{slice_get_within}
-use Rattle.prefix6.specs.Prefix.{Prefix6, IsPrefix, cleared, is_routable, same_prefix}
+use Rattle.prefix6.specs.Prefix.{Prefix6, is_routable, same_prefix}
 use Rattle.prefix6.proofs.PrefixLaws.{same_prefix-itself}
 use Rattle.ripng_wire.specs.declared.rte.Rte.{Rte}
-use Rattle.ripng_wire.specs.declared.rte.Command.TheVariants.{Response}
-use Rattle.ripng_wire.specs.Layout.{Spells, is_next_hop}
-use Rattle.ripng_wire.specs.Wire.{is_response}
-use Rattle.ripng_wire.proofs.OneReading.{one_reading}
+use Rattle.ripng_wire.specs.Layout.{is_next_hop}
 use Rattle.route_table.specs.Route.{RouteValue, IsRoute, infinity, is_own, is_fixed, is_dying}
 use Rattle.route_table.specs.Table.{Table}
-use Rattle.route_table.specs.declared.route.Origin.{Origin}
 use Rattle.route_table.specs.declared.route.Origin.TheVariants.{Own, Learned}
 use Rattle.route_table.specs.declared.route.Clock.{Clock}
 use Rattle.route_table.specs.declared.route.Clock.TheVariants.{Fixed, Live, Dying}
-use Rattle.route_table.proofs.TableLaws.{Some-same, None-Some}
 use Rattle.router_core.specs.Adoption.{Gateway, adopted, adopted_by_clock, refreshed, taken, lost, metric_through, is_reachable, is_through, is_preferred, is_repeated}
-use Rattle.router_core.specs.Faults.{fault}
 use Rattle.router_core.specs.Hearing.{Hearing, Heard, route_after, is_refused, is_refusal, note_at, notes_of_new, notes_of_offer, would_add}
-use Rattle.router_core.specs.Machine.{State, Happening, Arrives, Ticks, Restarts, Reconfigures, ShutsDown, LinkGoesDown, Moves, Hears, gateway_of, hearing_of}
 use Rattle.router_core.specs.Offers.{Offer, flaw, is_offer, offer_at, prefix_named}
-use Rattle.router_core.specs.Received.{Received}
-use Rattle.router_core.specs.declared.answer.Answer.{Answer}
 use Rattle.router_core.specs.declared.answer.NoteKind.{NoteKind}
 use Rattle.router_core.specs.declared.answer.NoteKind.TheVariants.{BadLength, BadPrefix, BadMetric}
 use Rattle.router_core.proofs.HearingSteps.{after_one, before_all}
-use Rattle.ripng_world.specs.World.{is_heard}
 use Rattle.ripng_world.proofs.Each.{each_at_place}
-use Rattle.ripng_world.proofs.Members.{At, at_left, split_at}
-use Rattle.ripngd_networks.specs.LastUpdate.{AreRoutes, HasNoneBy, HearsFrom, heard_from}
-use Rattle.ripngd_networks.proofs.LastUpdateTold.{Names}
-use Rattle.ripngd_networks.proofs.OneRoute.{OfRoute, IsKept, adopted_keeps, entries_keep, heard_keeps, moves_keep}
+use Rattle.ripngd_networks.proofs.OneRoute.{OfRoute, IsKept, entries_keep, heard_keeps}
 
 clash : true ≡ false → ⊥
 clash e = cc

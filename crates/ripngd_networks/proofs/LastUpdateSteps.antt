@@ -1,17 +1,16 @@
 -- What becomes of the route to a prefix, step after step, while a router hears losses alone from a gateway.
-use Rattle.std.proofs.Common.{◌≡◌, ◌⊎◌, inl, inr, ℕ, zero, suc, max, ◌<◌, ◌≤◌, ◌==◌, Bool, true, false, cond, ◌&&◌, MatchBool, MatchOption, List, [], ◌∷◌, ◌++◌, Contains, All, Option, Some, None, is_none, slice_get, refl, ap, ap₂, sym, subst, ◌∙◌}
-use Rattle.std.specs.Prelude.{⊤, IsTrue}
+use Rattle.std.proofs.Common.{◌≡◌, inl, inr, ℕ, zero, suc, max, ◌≤◌, ◌==◌, Bool, true, false, cond, ◌&&◌, MatchBool, MatchOption, List, [], ◌∷◌, ◌++◌, Option, Some, None, is_none, slice_get, refl, ap, ap₂, sym, subst, ◌∙◌}
+use Rattle.std.specs.Prelude.{⊤}
 use Rattle.std.specs.List.{AllByRecursion}
 use Rattle.std.specs.FinMap as map_of
 use Rattle.std.proofs.lemmas.Bool.{eqb-true}
-use Rattle.std.proofs.lemmas.List.Elements.{recursion_from_All}
-use Rattle.prefix6.specs.Prefix.{Prefix6, IsPrefix, cleared, is_routable}
+use Rattle.prefix6.specs.Prefix.{Prefix6, is_routable}
 use Rattle.ripng_wire.specs.declared.rte.Rte.{Rte}
 use Rattle.ripng_wire.specs.declared.rte.Command.TheVariants.{Response}
 use Rattle.ripng_wire.specs.Layout.{Spells}
 use Rattle.ripng_wire.specs.Wire.{is_response}
 use Rattle.ripng_wire.proofs.OneReading.{one_reading}
-use Rattle.route_table.specs.Route.{RouteValue, infinity}
+use Rattle.route_table.specs.Route.{infinity}
 use Rattle.route_table.proofs.TableLaws.{Some-same, None-Some}
 use Rattle.router_core.specs.Faults.{fault}
 use Rattle.router_core.specs.Machine.{State, Happening, Arrives, Ticks, Restarts, Reconfigures, ShutsDown, LinkGoesDown, Moves, Hears, hearing_of}
@@ -20,10 +19,9 @@ use Rattle.router_core.specs.Received.{Received}
 use Rattle.router_core.specs.declared.answer.Answer.{Answer}
 use Rattle.router_core.specs.declared.arrival.Fault.{Fault}
 use Rattle.ripng_world.specs.World.{is_heard}
-use Rattle.ripng_world.proofs.Each.{each_append, each_at_place, each_from_places}
-use Rattle.ripng_world.proofs.Members.{At, at_from_contains, split_at}
-use Rattle.ripngd_networks.specs.LastUpdate.{AreRoutes, HasNoneBy, HearsFrom, heard_from}
-use Rattle.ripngd_networks.proofs.LastUpdateHeard.{AllLosses, CanEnd, HasEnded, can_end_kept, has_ended_kept, lawful_can_end, loss_ends, losses_keep, take_live, take_other}
+use Rattle.ripng_world.proofs.Members.{At, split_at}
+use Rattle.ripngd_networks.specs.LastUpdate.{HearsFrom, heard_from}
+use Rattle.ripngd_networks.proofs.LastUpdateHeard.{CanEnd, HasEnded, can_end_kept, has_ended_kept, loss_ends, losses_keep, take_live, take_other}
 use Rattle.ripngd_networks.proofs.OneRoute.{OfRoute, HearsWell, heard_keeps, moves_keep}
 
 -- if the bytes are a Response, they tell losses alone

@@ -1,5 +1,5 @@
 -- The last update of a router that shuts down tells each prefix of its table on each interface.
-use Rattle.std.proofs.Common.{◌≡◌, ℕ, zero, suc, ◌+◌, ◌-◌, ◌/◌, ◌<◌, ◌≤◌, ◌==◌, Bool, true, false, cond, List, [], ◌∷◌, map, filter, flat_map, length, Option, Some, None, option_and_then, slice_get, refl, ap, sym, subst, ◌∙◌, arith}
+use Rattle.std.proofs.Common.{◌≡◌, ℕ, zero, suc, ◌+◌, ◌-◌, ◌/◌, ◌<◌, ◌≤◌, ◌==◌, Bool, true, false, cond, List, [], ◌∷◌, map, filter, flat_map, length, Some, option_and_then, slice_get, refl, ap, sym, subst, ◌∙◌, arith}
 use Rattle.std.specs.List.{AllByRecursion, enumerate_from}
 use Rattle.std.specs.FinMap as map_of
 use Rattle.std.proofs.lemmas.Bool.{eq-eqb, eqb-true}
@@ -7,22 +7,21 @@ use Rattle.prefix6.specs.Prefix.{Prefix6}
 use Rattle.ripng_wire.specs.declared.rte.Rte.{Rte}
 use Rattle.ripng_wire.specs.declared.rte.Command.TheVariants.{Response}
 use Rattle.ripng_wire.specs.Layout.{Spells, entries_for_mtu}
-use Rattle.route_table.specs.Route.{RouteValue, infinity}
+use Rattle.route_table.specs.Route.{RouteValue}
 use Rattle.route_table.specs.Table.{Table}
 use Rattle.route_table.proofs.TableLaws.{Some-same, None-Some, get-map_values}
 use Rattle.router_core.specs.Adoption.{lost}
 use Rattle.router_core.specs.Config.{Config, mtu_at}
-use Rattle.router_core.specs.Machine.{State, ShutsDown, Moves}
+use Rattle.router_core.specs.Machine.{State}
 use Rattle.router_core.specs.Output.{Message, AreSpelled, told, told_entry, every_route, pieces, responses}
 use Rattle.router_core.specs.Shutdown.{unreachable_table, shutdown_messages}
-use Rattle.router_core.specs.declared.answer.Answer.{Answer}
 use Rattle.router_core.specs.declared.answer.Destination.TheVariants.{Group}
 use Rattle.router_core.specs.declared.answer.Outgoing.{Outgoing}
 use Rattle.router_core.specs.declared.config.Interface.{Interface}
 use Rattle.router_core.proofs.Cutting.{joined-pieces}
 use Rattle.router_core.proofs.HearingSteps.{at_place, numbered_at}
 use Rattle.ripng_world.proofs.Each.{each_flat, each_image}
-use Rattle.ripng_world.proofs.Members.{At, at_map, at_left, at_right, at_flat, at_filter, at_entries, in_joined}
+use Rattle.ripng_world.proofs.Members.{At, at_map, at_flat, at_filter, at_entries, in_joined}
 use Rattle.ripng_world.proofs.RoundTicks.{spelled_at}
 use Rattle.ripngd_networks.specs.LastUpdate.{sent_on}
 

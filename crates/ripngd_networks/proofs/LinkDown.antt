@@ -1,5 +1,5 @@
 -- What is left of the routes of a router when the link of an interface goes down.
-use Rattle.std.proofs.Common.{◌≡◌, ◌≢◌, ℕ, max, ◌<◌, ◌≤◌, ◌&&◌, ◌==◌, nat_lt, Bool, true, false, cond, Option, Some, None, option_and_then, refl, ap, ap₂, sym, subst, ◌∙◌, arith, le_refl}
+use Rattle.std.proofs.Common.{◌≡◌, ◌≢◌, ℕ, max, ◌≤◌, ◌&&◌, nat_lt, Bool, true, false, cond, Option, Some, None, option_and_then, refl, ap, sym, subst, ◌∙◌, arith, le_refl}
 use Rattle.std.specs.Prelude.{◌↔◌}
 use Rattle.std.specs.FinMap as map_of
 use Rattle.std.proofs.lemmas.Bool.{eq-eqb}

@@ -1,8 +1,7 @@
 -- What holds of the route to one prefix, while a router goes on: whatever it does makes a route of the old one, or one of its own, or
 -- takes one that is offered.
-use Rattle.std.proofs.Common.{◌≡◌, ℕ, zero, suc, ◌+◌, ◌-◌, ◌%◌, ◌<◌, ◌≤◌, max, nat_le, nat_lt, ◌==◌, Bool, true, false, cond, not, ◌&&◌, ◌||◌, MatchBool, MatchOption, List, [], ◌∷◌, map, length, Option, Some, None, option_map, option_and_then, slice_get, refl, ap, sym, subst, ◌∙◌, arith, le_refl}
+use Rattle.std.proofs.Common.{◌≡◌, ℕ, zero, suc, ◌+◌, ◌%◌, ◌≤◌, max, nat_le, Bool, true, false, cond, not, ◌&&◌, ◌||◌, MatchBool, MatchOption, map, length, Option, Some, None, option_and_then, slice_get, refl, sym, subst, arith}
 use Rattle.std.specs.Prelude.{⊤}
-use Rattle.std.specs.List.{AllByRecursion}
 use Rattle.std.specs.FinMap as map_of
 use Rattle.std.specs.Ordering.{eq_by_cmp}
 use Rattle.prefix6.specs.Prefix.{Prefix6, prefix_cmp, same_prefix}
@@ -12,7 +11,7 @@ use Rattle.route_table.specs.Route.{RouteValue}
 use Rattle.route_table.specs.Table.{Table, with_value}
 use Rattle.route_table.specs.declared.route.Clock.{Clock}
 use Rattle.route_table.specs.declared.route.Clock.TheVariants.{Fixed, Live, Dying}
-use Rattle.route_table.proofs.TableLaws.{Some-same, at_from_entries, get-map_values}
+use Rattle.route_table.proofs.TableLaws.{at_from_entries, get-map_values}
 use Rattle.route_table.proofs.TableSteps.{get-with_value}
 use Rattle.router_core.specs.Adoption.{Gateway, adopted, adopted_by_clock, refreshed, taken, lost, metric_through, is_reachable, is_through, is_preferred, is_repeated}
 use Rattle.router_core.specs.Ageing.{aged, aged_by_clock, aged_table, unmarked, without_mark}
@@ -29,7 +28,7 @@ use Rattle.router_core.specs.declared.answer.Answer.{Answer}
 use Rattle.router_core.specs.declared.arrival.Fault.{Fault}
 use Rattle.router_core.specs.declared.reconfiguring.Change.{Change}
 use Rattle.router_core.specs.declared.reconfiguring.Change.TheVariants.{Cost, Own, Disown}
-use Rattle.router_core.proofs.HearingSteps.{heard_one, before_all, after_one, at_place}
+use Rattle.router_core.proofs.HearingSteps.{before_all, after_one, at_place}
 use Rattle.ripng_world.proofs.Each.{each_image}
 
 -- what holds of a route that there may be

@@ -1,20 +1,20 @@
 -- Packets that arrive by a longer prefix than they left with. Of three routers in a line, the second owns 2001:db8::/32 and the third
 -- 2001:db8:1::/48, which is as far as 16 for the first: so this one holds the shorter prefix alone, and the second one the longer, too.
-use Rattle.std.proofs.Common.{◌≡◌, ◌≢◌, ℕ, zero, suc, ◌+◌, ◌^◌, ◌<◌, ◌≤◌, Bool, true, false, cond, List, [], ◌∷◌, length, Option, Some, None, IsSomeAnd, is_some, option_map, nat_eq, refl, ap, sym, subst, ◌∙◌, arith}
+use Rattle.std.proofs.Common.{◌≡◌, ◌≢◌, ℕ, zero, suc, ◌+◌, ◌^◌, ◌<◌, ◌≤◌, Bool, true, false, cond, [], ◌∷◌, Option, Some, None, IsSomeAnd, is_some, refl, ap, sym, subst, ◌∙◌, arith}
 use Rattle.std.specs.FinMap as map_of
 use Rattle.std.specs.List.{IsDistinct}
 use Rattle.std.specs.Ordering.{eq_by_cmp}
 use Rattle.std.proofs.lemmas.Bool.{ltb-true}
 use Rattle.std.proofs.lemmas.Map.Views.{tells_apart}
-use Rattle.prefix6.specs.Prefix.{Prefix6, IsPrefix, Holds, prefix_cmp}
+use Rattle.prefix6.specs.Prefix.{Prefix6, prefix_cmp}
 use Rattle.prefix6.proofs.PrefixLaws.{exact_prefixes, prefixes_total}
 use Rattle.prefix6.proofs.PrefixSets.{is_prefix_at}
-use Rattle.fib.specs.Forwarding.{Forward, Forwarding, IsLongestMatch, IsMatch}
+use Rattle.fib.specs.Forwarding.{Forward, Forwarding, IsLongestMatch}
 use Rattle.fib.specs.declared.change.Hop.{Hop as FibHop}
 use Rattle.fib.specs.declared.change.Hop.TheVariants.{Direct, Via}
-use Rattle.route_table.proofs.TableLaws.{Some-same, None-Some}
-use Rattle.ripng_world.specs.Network.{Network, Node, interface_at}
-use Rattle.ripng_world.specs.Packets.{Forwardings, ForwardsBy, HandsOn, Arrive, ArriveBy, routers_of}
+use Rattle.route_table.proofs.TableLaws.{Some-same}
+use Rattle.ripng_world.specs.Network.{Network}
+use Rattle.ripng_world.specs.Packets.{Forwardings, ForwardsBy, Arrive, ArriveBy}
 use Rattle.ripng_world.specs.Walks.{Hop, cost}
 use Rattle.ripng_world.specs.declared.network.NetInterface.{NetInterface}
 
