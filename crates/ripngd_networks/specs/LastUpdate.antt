@@ -11,7 +11,7 @@ use Rattle.router_core.specs.declared.answer.Outgoing.{Outgoing}
 use Rattle.ripng_world.specs.World.{World, Event, Deliver, is_heard}
 use Rattle.ripng_world.specs.declared.sent.Sent.{Sent}
 
--- each route of the table to the prefix that was learned on the interface from that address is unreachable
+-- where the table's route to the prefix was learned on the interface from that address, it is unreachable
 abbrev pub HasNoneBy : (iface from : ℕ) → Table → Prefix6 → Type 0
 HasNoneBy iface from table p =
     (r : RouteValue) (next_hop : ℕ) → map_of.get table p ≡ Some r → r.origin ≡ Learned iface from next_hop → infinity ≤ r.metric
@@ -27,7 +27,7 @@ abbrev pub heard_from : (iface from : ℕ) → State → Happening → List (Lis
 heard_from iface from s (Arrives x) = if x.iface == iface && x.source == from && is_heard s x then x.bytes ∷ [] else []
 heard_from iface from s _ = []
 
--- the happenings lead the router from one state to another, and this is all that it hears so meanwhile, in order
+-- the happenings lead the router from one state to another, and this is all that it hears so on the way, in order
 abbrev pub HearsFrom : (iface from : ℕ) → State → List Happening → List (List ℕ) → State → Type 0
 HearsFrom iface from s [] heard s' = (heard ≡ []) × (s' ≡ s)
 HearsFrom iface from s (h ∷ happenings) heard s' =
@@ -49,8 +49,8 @@ pub record IsHeardWhole (sent heard : List (List ℕ)) : Type 0 where
 abbrev pub IsSentBetween : World → World → ℕ → Type 0
 IsSentBetween w w' datagram = (length w.sent ≤ datagram) × (datagram < length w'.sent)
 
--- what the router sent on its interface between two worlds is delivered to the interface of another, in whatever order and however
--- often, and nothing else that is sent there before the last world
+-- what the router sent on its interface between two worlds is delivered to the interface of another router, in whatever order and
+-- however often; and of all that it sent there until the last world, nothing else is
 pub record IsDeliveredWhole (w w' end : World) (router iface other on : ℕ) (events : List Event) : Type 0 where
   pub all : (datagram : ℕ) (d : Sent) → slice_get w'.sent datagram ≡ Some d → IsSentBetween w w' datagram → d.iface ≡ iface
       → (now : ℕ) × Contains events (Deliver datagram other on now)

@@ -17,9 +17,10 @@ ghost use Rattle.ripngd_networks.specs.LastUpdate.{AreRoutes, HasNoneBy, HearsFr
 
 use ripng_world::shutdown_tells_losses;
 
-/// A neighbor that hears the whole last update of a router that shuts down, in whatever order and however often, and nothing else of
-/// that router, then has no reachable route by it to any prefix of that router's table, whatever else happens to the neighbor
-/// meanwhile. So it is for one router that hears a gateway, and for two routers of a network whose run delivers the datagrams.
+/// A router that is not quiet shuts down, and a neighbor hears the whole of its last update on their link, in whatever order and
+/// however often, and nothing else that it sent there. Then the neighbor has no reachable route by it to any prefix of its table,
+/// whatever else happens to the neighbor meanwhile. So it is of one router that hears a gateway (`heard`), and of two routers of a
+/// network that runs (`delivered`).
 pub fn shutdown_ends_routes()
     ensures heard { (a a' b b' : State) (now iface on from : ℕ) (answer : Answer) (happenings : List Happening) (heard : List (List ℕ))
         → a.config.quiet ≡ false → iface < length a.config.interfaces → 1280 ≤ mtu_at a.config iface → Moves a (ShutsDown now) answer a'
@@ -34,8 +35,8 @@ pub fn shutdown_ends_routes()
     shutdown_tells_losses()
 }
 
-/// When the link of an interface goes down, the router has no reachable route by that interface left, whatever gateway it was of, and
-/// forwards nothing there. Its own routes and those of other interfaces are as they were.
+/// When the link of an interface goes down, the router has no reachable route by that interface left, of whatever gateway, and
+/// forwards nothing there. Its own routes, and those that it learned on other interfaces, are as they were.
 pub fn link_down_ends_routes()
     ensures none_left { (old new : State) (now iface : ℕ) (answer : Answer) → Moves old (LinkGoesDown now iface) answer new
         → (p : Prefix6) (from : ℕ) → HasNoneBy iface from new.table p }
