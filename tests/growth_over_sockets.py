@@ -62,7 +62,7 @@ class Router:
         count = self.folder / "count"
         words = [self.refuser.program, "run", "--turns", "20", "-d", "-R", "log", "router.toml"]
         process = subprocess.Popen(words, cwd=self.folder, stdin=subprocess.DEVNULL, stdout=subprocess.PIPE, stderr=subprocess.PIPE,
-                                   env=self.refuser.environment("memory", nth, nth, count=count))
+                                   env=self.refuser.environment(nth, count))
         end = time.monotonic() + SECONDS
         while process.poll() is None and time.monotonic() < end:
             self.neighbor.sendto(RESPONSE, ("127.0.0.1", self.here))
@@ -106,7 +106,7 @@ def ask_twice(refuser, folder, nth):
     count = pathlib.Path(folder, "count")
     words = [refuser.program, "page", "--port", "0", "--requests", "2"]
     with subprocess.Popen(words, stdin=subprocess.DEVNULL, stdout=subprocess.PIPE, stderr=subprocess.PIPE,
-                          env=refuser.environment("memory", nth, nth, count=count)) as process:
+                          env=refuser.environment(nth, count)) as process:
         address, answers = process.stdout.readline(), []
         while address and sum(map(bool, answers)) < 2 and len(answers) < 4:
             answers.append(ask(int(address.split(b":")[2].strip(b"/\n"))))
