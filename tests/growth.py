@@ -3,11 +3,12 @@
 A run has to end with status 3 and `out of memory`, and nothing that looks like more than it is; or do what the undisturbed run does; or
 say what it has left out for want of memory, as a router may do. No run hangs, ends by a signal, or gives another answer.
 
-    tests/growth.py PROGRAM [ROWS_PROGRAM]
+    tests/growth.py PROGRAM [ROWS_PROGRAM] [NAME..]        all cases, or those that have NAME in theirs
 
-ROWS_PROGRAM is crates/test_rows, whose calls no command reaches: tests/growth_of_calls.py plays them, where it is there.
+ROWS_PROGRAM is a file, crates/test_rows as it was built: calls that no command reaches, which tests/growth_of_calls.py has it make.
 """
 
+import contextlib
 import json
 import pathlib
 import re
@@ -16,7 +17,7 @@ import sys
 sys.dont_write_bytecode = True
 from growth_over_sockets import sweep_page, sweep_router
 from refusing import MESSAGE, Refuser, is_told, sweep
-from suite import Failed, play
+from suite import Failed, named, play
 
 TESTS = pathlib.Path(__file__).resolve().parent
 EXAMPLES = TESTS.parent / "examples"
@@ -155,15 +156,16 @@ def cases_of(refuser):
     ]
 
 
-def main(program, rows=None):
-    with Refuser(program) as refuser:
-        cases = cases_of(refuser)
-        if rows:
-            # What ROWS_PROGRAM plays, with each growth of each call refused in turn.
+def main(program, *words):
+    rows = [word for word in words if pathlib.Path(word).is_file()]
+    names = [word for word in words if word not in rows]
+    with contextlib.ExitStack() as stack:
+        cases = cases_of(stack.enter_context(Refuser(program)))
+        for each in rows:
+            # What it plays, with each growth of each call refused in turn.
             from growth_of_calls import cases_of_calls
-            with Refuser(rows) as of_calls:
-                return play(cases + cases_of_calls(of_calls), 8)
-        return play(cases, 8)
+            cases += cases_of_calls(stack.enter_context(Refuser(each)))
+        return play(named(cases, names), 8)
 
 
 if __name__ == "__main__":

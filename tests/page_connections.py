@@ -2,7 +2,7 @@
 """Whom the page's server serves, in which order, how long, and what ends it: clients that are silent, slow, deaf or many, and calls of the
 system that fail. Times and limits are those of page/README.md.
 
-    tests/page_connections.py PROGRAM
+    tests/page_connections.py PROGRAM [NAME..]     all cases, or those that have NAME in theirs
 """
 
 import contextlib
@@ -18,7 +18,7 @@ import time
 sys.dont_write_bytecode = True
 from ordered import environment
 from page_server import Server, split
-from suite import Failed, Ports, play, same
+from suite import Failed, Ports, named, play, same
 
 # What is answered to a datagram without an entry, to what is not there, and to what is no request.
 SHOWN = ("HTTP/1.1 200 OK", b"response entries 0\n")
@@ -297,11 +297,11 @@ SERVING = [
 ]
 
 
-def main(program):
+def main(program, *names):
     program = str(pathlib.Path(program).resolve(strict=True))
     serving = [(case.__name__.replace("_", " "), lambda folder, case=case: case(program)) for case in SERVING]
     # They mostly wait.
-    return play(serving + Failing(program).cases(), 40)
+    return play(named(serving + Failing(program).cases(), names), 40)
 
 
 if __name__ == "__main__":
