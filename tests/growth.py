@@ -47,6 +47,9 @@ sent
 print
 """
 
+# In two minutes the second router learns of the prefix.
+PHASES = "router\niface fe80::a0 1 1280 0\nown 2001:db8::/32 9\nrouter\niface fe80::b0 4 1280 0\ncold 0\nphases 2 7\nprint\n"
+
 
 def is_told_behind_lines(run, want):
     """A run that says so behind whole lines of the undisturbed one."""
@@ -117,43 +120,51 @@ def is_told_or_has_an_entry_skipped(run, want):
     return "an entry skipped" if noted and whole else is_told(run, want)
 
 
-def log_of(folder):
-    """A log that adds and deletes, with a line `start` between."""
-    lines = ["add ::/0 metric 1 direct", "start", *(f"add 2001:db8:{net}::/48 metric 2 via fe80::2 iface 0" for net in range(20)), "del 2001:db8:7::/48"]
-    return written(folder, "log", "\n".join(lines) + "\n")
-
-
-def written(folder, name, text):
-    file = pathlib.Path(folder, name)
-    file.write_text(text)
-    return str(file)
+# A log that adds and deletes, with a line `start` between; a configuration and a script that are refused.
+LOG = "\n".join(["add ::/0 metric 1 direct", "start", *(f"add 2001:db8:{net}::/48 metric 2 via fe80::2 iface 0" for net in range(20)),
+                 "del 2001:db8:7::/48", ""])
+BAD_CONFIGURATION = "[[interface]]\naddress = 5\n"
+BAD_SCRIPT = "router\niface fe80::1 1 1280 0\ncold 0\ntik 0 0 0\n"
 
 
 def cases_of(refuser):
     """Each command with what its runs may do."""
-    line, moving = str(EXAMPLES / "line.lab"), str(EXAMPLES / "moving.lab")
+    east, line, moving, rounds = (str(EXAMPLES / name) for name in ("east.toml", "line.lab", "moving.lab", "rounds.lab"))
 
-    def told(*words):
-        return lambda folder: sweep(refuser, words, is_told)
+    def case(name, judge, *words, text=None):
+        """A command whose last word names a file that holds the text, where there is one."""
+        return name, lambda folder: sweep(refuser, [*words, *written(folder, text)], judge)
+
+    def laboratory(name, *file, text=None):
+        return name, lambda folder: Laboratory(refuser, *file, *written(folder, text)).sweep()
 
     return [
-        ("show of one route", told("show", ONE_ROUTE)),
-        ("show of six routes", told("show", SIX_ROUTES)),
-        ("show of what is no datagram", told("show", "0x")),
-        ("check", told("check", str(EXAMPLES / "east.toml"))),
-        ("check of a router that is refused", lambda folder: sweep(refuser, ["check", written(folder, "config", "[[interface]]\naddress = 5\n")], is_told)),
-        ("table", lambda folder: sweep(refuser, ["table", log_of(folder)], is_told)),
-        ("help", told("help", "lab")),
-        ("lab of the line, and its trace", lambda folder: Laboratory(refuser, line).sweep()),
-        ("lab of a prefix that moves, and its trace", lambda folder: Laboratory(refuser, moving).sweep()),
-        ("lab of strangers, and its trace", lambda folder: Laboratory(refuser, written(folder, "strangers.lab", STRANGERS)).sweep()),
-        ("lab of rounds", lambda folder: sweep(refuser, ["lab", str(EXAMPLES / "rounds.lab")], is_told_behind_lines)),
-        ("lab of a line that is refused", lambda folder: sweep(refuser, ["lab", written(folder, "refused.lab", "router\niface fe80::1 1 1280 0\ncold 0\ntik 0 0 0\n")],
-                                                                  is_told_or_has_no_hint)),
-        ("page --film", lambda folder: sweep(refuser, ["page", "--film", line], is_told_or_has_an_entry_skipped)),
+        case("show of one route", is_told, "show", ONE_ROUTE),
+        case("show of six routes", is_told, "show", SIX_ROUTES),
+        case("show of what is no datagram", is_told, "show", "0x"),
+        case("check", is_told, "check", east),
+        case("check of a configuration that is refused", is_told, "check", text=BAD_CONFIGURATION),
+        case("table", is_told, "table", text=LOG),
+        case("help", is_told, "help", "lab"),
+        laboratory("lab of the line, and its trace", line),
+        laboratory("lab of a prefix that moves, and its trace", moving),
+        laboratory("lab of strangers, and its trace", text=STRANGERS),
+        laboratory("lab of phases, and its trace", text=PHASES),
+        case("lab of rounds", is_told_behind_lines, "lab", rounds),
+        case("lab of a line that is refused", is_told_or_has_no_hint, "lab", text=BAD_SCRIPT),
+        case("page --film", is_told_or_has_an_entry_skipped, "page", "--film", line),
         ("page over a socket", lambda folder: sweep_page(refuser, folder)),
-        *(("run, " + str(first), lambda folder, first=first: sweep_router(refuser, folder, first, 8)) for first in range(1, 9)),
+        *((f"run, {first}", lambda folder, first=first: sweep_router(refuser, folder, first, 8)) for first in range(1, 9)),
     ]
+
+
+def written(folder, text):
+    """The file that holds a text, if there is one."""
+    if text is None:
+        return []
+    file = pathlib.Path(folder, "text")
+    file.write_text(text)
+    return [str(file)]
 
 
 def main(program, *words):

@@ -273,7 +273,8 @@ class Failing:
             same("whether the server is there", server.process.poll(), None)
 
     def cases(self):
-        cannot_accept, cannot_bind, no_memory = b"ripngd: cannot accept a connection\n", b"ripngd: cannot bind PORT\n", b"ripngd: out of memory\n"
+        cannot_accept, cannot_bind = b"ripngd: cannot accept a connection\n", b"ripngd: cannot bind PORT\n"
+        no_memory = b"ripngd: out of memory\n"
         calls = [
             (self.bind, "EACCES", cannot_bind), (self.bind, "EADDRINUSE", cannot_bind), (self.bind, "ENOMEM", no_memory),
             *((self.accept, name, cannot_accept) for name in ("EIO", "EPERM", "ETIMEDOUT")), (self.accept, "ENOMEM", no_memory),
@@ -284,8 +285,12 @@ class Failing:
             (self.ends_alone, "option", 2, "EIO"), (self.ends_alone, "option", 3, "EIO"),
             (self.nobody_is_timed, 1), (self.nobody_is_timed, 2),
         ]
-        return [(f"{call.__name__} {words}", lambda folder, call=call, words=words: call(folder, *(getattr(errno, str(word), word) for word in words)))
-                for call, *words in calls]
+        return [(f"{call.__name__} {words}", lambda folder, call=call, words=words: call(folder, *map(number_of, words))) for call, *words in calls]
+
+
+def number_of(word):
+    """The number of an error that has that name; another word as it is."""
+    return getattr(errno, str(word), word)
 
 
 SERVING = [
