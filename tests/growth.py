@@ -23,6 +23,7 @@ TESTS = pathlib.Path(__file__).resolve().parent
 EXAMPLES = TESTS.parent / "examples"
 
 NO_MEMORY = '"number":24,"name":"NoMemory"'
+SKIPPED = "is skipped, 24 NoMemory"
 
 # A Response with 2001:db8::/32 at metric 1, and one of six entries.
 ONE_ROUTE = "0201000020010db800000000000000000000000000002001"
@@ -47,15 +48,19 @@ sent
 print
 """
 
-# In two minutes the second router learns of the prefix.
-PHASES = "router\niface fe80::a0 1 1280 0\nown 2001:db8::/32 9\nrouter\niface fe80::b0 4 1280 0\ncold 0\nphases 2 7\nprint\n"
+# In two minutes, or rounds, the second router learns of the prefix.
+PAIR = "router\niface fe80::a0 1 1280 0\nown 2001:db8::/32 9\nrouter\niface fe80::b0 4 1280 0\ncold 0\n"
+PHASES, ROUNDS = PAIR + "phases 2 7\nprint\n", PAIR + "rounds 2 0 15000\nprint\n"
 
 
-def is_told_behind_lines(run, want):
-    """A run that says so behind whole lines of the undisturbed one."""
-    whole = run.stdout == b"" or run.stdout.endswith(b"\n")
-    told = (run.returncode, run.stderr) == (3, MESSAGE) and want.stdout.startswith(run.stdout)
-    return "out of memory" if whole and told else None
+def is_told_behind_lines(run, want, noted=None):
+    """A run that says so behind whole lines of the undisturbed one, and perhaps one that notes a skipped entry: rounds and phases end with
+    it."""
+    lines, wanted = run.stdout.decode().splitlines(True), want.stdout.decode().splitlines(True)
+    if noted and lines and noted in lines[-1]:
+        lines.pop()
+    told = (run.returncode, run.stderr) == (3, MESSAGE) and lines == wanted[:len(lines)]
+    return "out of memory" if told and all(line.endswith("\n") for line in lines) else None
 
 
 def is_told_or_has_no_hint(run, want):
@@ -66,33 +71,33 @@ def is_told_or_has_no_hint(run, want):
 
 class Laboratory:
     """A script, whose routers may skip an entry for want of memory, as the trace says. What it prints then, the script prints without
-    the trace, too."""
+    the trace, too. Rounds and phases do not go on behind that."""
 
-    def __init__(self, refuser, script):
-        self.refuser, self.script, self.answers = refuser, script, set()
+    def __init__(self, refuser, script, skips=True):
+        self.refuser, self.script, self.skips, self.answers = refuser, script, skips, set()
 
     def sweep(self):
         sweep(self.refuser, ["lab", "--trace", self.script], self.is_traced)
         sweep(self.refuser, ["lab", "--explain", self.script], self.is_explained)
         sweep(self.refuser, ["lab", self.script], self.is_printed)
-        if not self.answers:
-            raise Failed("no entry was skipped")
+        if self.skips != bool(self.answers):
+            raise Failed(f"answers where an entry was skipped: {self.answers}")
 
     def is_traced(self, run, want):
         """A trace that is the undisturbed one up to the event that notes the skipped entry."""
         records, wanted = run.stdout.splitlines(), want.stdout.splitlines()
         noted = [place for place, record in enumerate(records) if NO_MEMORY.encode() in record]
         if run.returncode not in (0, 1) or run.stderr or len(noted) != 1 or records[:noted[0]] != wanted[:noted[0]]:
-            return is_told_behind_lines(run, want)
+            return is_told_behind_lines(run, want, NO_MEMORY)
         self.answers.add((run.returncode, printed_of(records)))
         return "an entry skipped"
 
     def is_explained(self, run, want):
         lines = run.stdout.decode().splitlines()
         said = [line for line in lines if re.match(r"\d+\.\d{3} s |datagram \d+ is lost$", line)]
-        noted = sum("is skipped, 24 NoMemory" in line for line in said) == 1
+        noted = sum(SKIPPED in line for line in said) == 1
         answer = (run.returncode, tuple(line for line in lines if line not in said))
-        return "an entry skipped" if noted and answer in self.answers else is_told_behind_lines(run, want)
+        return "an entry skipped" if noted and answer in self.answers else is_told_behind_lines(run, want, SKIPPED)
 
     def is_printed(self, run, want):
         answer = (run.returncode, tuple(run.stdout.decode().splitlines()))
@@ -129,14 +134,14 @@ BAD_SCRIPT = "router\niface fe80::1 1 1280 0\ncold 0\ntik 0 0 0\n"
 
 def cases_of(refuser):
     """Each command with what its runs may do."""
-    east, line, moving, rounds = (str(EXAMPLES / name) for name in ("east.toml", "line.lab", "moving.lab", "rounds.lab"))
+    east, line, moving = (str(EXAMPLES / name) for name in ("east.toml", "line.lab", "moving.lab"))
 
     def case(name, judge, *words, text=None):
         """A command whose last word names a file that holds the text, where there is one."""
         return name, lambda folder: sweep(refuser, [*words, *written(folder, text)], judge)
 
-    def laboratory(name, *file, text=None):
-        return name, lambda folder: Laboratory(refuser, *file, *written(folder, text)).sweep()
+    def laboratory(name, *file, text=None, skips=True):
+        return name, lambda folder: Laboratory(refuser, *file, *written(folder, text), skips).sweep()
 
     return [
         case("show of one route", is_told, "show", ONE_ROUTE),
@@ -149,8 +154,8 @@ def cases_of(refuser):
         laboratory("lab of the line, and its trace", line),
         laboratory("lab of a prefix that moves, and its trace", moving),
         laboratory("lab of strangers, and its trace", text=STRANGERS),
-        laboratory("lab of phases, and its trace", text=PHASES),
-        case("lab of rounds", is_told_behind_lines, "lab", rounds),
+        laboratory("lab of phases, and its trace", text=PHASES, skips=False),
+        laboratory("lab of rounds, and its trace", text=ROUNDS, skips=False),
         case("lab of a line that is refused", is_told_or_has_no_hint, "lab", text=BAD_SCRIPT),
         case("page --film", is_told_or_has_an_entry_skipped, "page", "--film", line),
         ("page over a socket", lambda folder: sweep_page(refuser, folder)),
