@@ -49,7 +49,7 @@ def sweep(first, step, run, needed):
 
 
 class Router:
-    """A router whose neighbor sends it the same Response over and over, until it has made its twenty turns."""
+    """A router whose neighbor sends it the same Response over and over, until it has made its forty turns."""
 
     def __init__(self, refuser, folder, ports):
         self.refuser, self.folder = refuser, pathlib.Path(folder)
@@ -60,9 +60,9 @@ class Router:
 
     def run(self, nth):
         count = self.folder / "count"
-        words = [self.refuser.program, "run", "--turns", "20", "-d", "-R", "log", "router.toml"]
+        words = [self.refuser.program, "run", "--turns", "40", "-d", "-R", "log", "router.toml"]
         process = subprocess.Popen(words, cwd=self.folder, stdin=subprocess.DEVNULL, stdout=subprocess.PIPE, stderr=subprocess.PIPE,
-                                   env=self.refuser.environment("memory", nth, nth, count=count))
+                                   env=self.refuser.environment(nth, count))
         end = time.monotonic() + SECONDS
         while process.poll() is None and time.monotonic() < end:
             self.neighbor.sendto(RESPONSE, ("127.0.0.1", self.here))
@@ -94,11 +94,10 @@ def sweep_router(refuser, folder, first, step):
 def ask(port):
     """What the server answers to a script, if it does."""
     request = b"POST /trace HTTP/1.1\r\nHost: localhost:%d\r\nContent-Length: %d\r\n\r\n%s" % (port, len(SCRIPT), SCRIPT)
-    with socket.create_connection(("127.0.0.1", port), timeout=SECONDS) as client:
-        with contextlib.suppress(ConnectionError):
-            client.sendall(request)
-            return b"".join(iter(lambda: client.recv(65536), b""))
-        return b""
+    with contextlib.suppress(ConnectionError), socket.create_connection(("127.0.0.1", port), timeout=SECONDS) as client:
+        client.sendall(request)
+        return b"".join(iter(lambda: client.recv(65536), b""))
+    return b""
 
 
 def ask_twice(refuser, folder, nth):
@@ -106,7 +105,7 @@ def ask_twice(refuser, folder, nth):
     count = pathlib.Path(folder, "count")
     words = [refuser.program, "page", "--port", "0", "--requests", "2"]
     with subprocess.Popen(words, stdin=subprocess.DEVNULL, stdout=subprocess.PIPE, stderr=subprocess.PIPE,
-                          env=refuser.environment("memory", nth, nth, count=count)) as process:
+                          env=refuser.environment(nth, count)) as process:
         address, answers = process.stdout.readline(), []
         while address and sum(map(bool, answers)) < 2 and len(answers) < 4:
             answers.append(ask(int(address.split(b":")[2].strip(b"/\n"))))
@@ -117,10 +116,10 @@ def ask_twice(refuser, folder, nth):
 
 def kind_of(ended, address, answers):
     """It has ended for want of memory, or has answered all but one as it does undisturbed, and that one that there was none, or nothing."""
-    if not address:
-        return "out of memory" if (ended.returncode, ended.stderr) == (3, MESSAGE) else None
     odd = [answer for answer in answers if not (answer.startswith(b"HTTP/1.1 200 OK\r\n") and answer.endswith(ANSWERED))]
-    if ended.returncode != 0 or ended.stderr or len(odd) > 1:
+    if (ended.returncode, ended.stderr) == (3, MESSAGE) and not any(odd):
+        return "out of memory"
+    if not address or ended.returncode != 0 or ended.stderr or len(odd) > 1:
         return None
     if not odd:
         return "undisturbed"

@@ -2,11 +2,12 @@
 """Whom the page's server serves, in which order, how long, and what ends it: clients that are silent, slow, deaf or many, and calls of the
 system that fail. Times and limits are those of page/README.md.
 
-    tests/page_connections.py PROGRAM
+    tests/page_connections.py PROGRAM [NAME..]     all cases, or those that have NAME in theirs
 """
 
 import contextlib
 import errno
+import os
 import pathlib
 import select
 import socket
@@ -15,9 +16,9 @@ import sys
 import time
 
 sys.dont_write_bytecode = True
+from ordered import environment
 from page_server import Server, split
-from refusing import Refuser
-from suite import Failed, Ports, play, same
+from suite import Failed, Ports, named, play, same
 
 # What is answered to a datagram without an entry, to what is not there, and to what is no request.
 SHOWN = ("HTTP/1.1 200 OK", b"response entries 0\n")
@@ -228,66 +229,68 @@ def sixty_four_are_served_in_turn(program):
 class Failing:
     """Servers for which calls of the system fail."""
 
-    def __init__(self, refuser):
-        self.refuser = refuser
+    def __init__(self, program):
+        self.program = program
 
-    def server(self, call, first, last, number, requests=1):
-        return Server(self.refuser.program, requests, environment=self.refuser.environment(call, first, last, number))
+    def server(self, folder, call, first, count, number, port=0):
+        """A server for which so many such calls fail from the first on."""
+        failing = environment(folder, "page", fail=f"{call}:{first}:{count}:{number}")
+        return Server(self.program, 1, port, dict(os.environ, **failing))
 
-    def bind(self, number, err):
+    def bind(self, folder, number, said):
         with contextlib.closing(Ports()) as ports:
             port = ports.next()
-            with Server(self.refuser.program, 1, port, self.refuser.environment("bind", 1, 1, number)) as server:
+            with self.server(folder, "bind", 1, 1, number, port) as server:
                 same("the address", server.address, "")
-                server.ended(3, err % port if b"%d" in err else err)
+                server.ended(3, said.replace(b"PORT", b"%d" % port))
 
-    def accept(self, number, err):
+    def accept(self, folder, number, said):
         """Which error ends the server, and how."""
-        with self.server("accept4", 1, 1, number) as server:
+        with self.server(folder, "accept", 1, 1, number) as server:
             same("the beginning of the address", server.address[:17], "http://127.0.0.1:")
-            server.ended(3, err)
+            server.ended(3, said)
 
-    def accept_again(self, number):
-        """A connection that was lost before it was taken is passed over."""
-        with self.server("accept4", 1, 3, number) as server:
+    def goes_on(self, folder, call, number):
+        """A connection that was lost before it was taken is passed over; a read that was interrupted is made again."""
+        with self.server(folder, call, 1, 3, number) as server:
             expect_and_close(server)
             server.ended()
 
-    def receive_again(self, number):
-        """A read that was interrupted is made again."""
-        with self.server("recv", 1, 3, number) as server:
-            expect_and_close(server)
-            server.ended()
-
-    def ends_alone(self, call, nth, number):
+    def ends_alone(self, folder, call, nth, number):
         """What goes wrong on a connection ends that one."""
-        with self.server(call, nth, nth, number) as server:
+        with self.server(folder, call, nth, 1, number) as server:
             with server.asks(server.post(b"/show", b"02010000")) as client:
                 same("what comes", client.answer(), b"")
             expect_and_close(server)
             server.ended()
 
-    def nobody_is_timed(self, first):
+    def nobody_is_timed(self, folder, first):
         """Who cannot be timed is not heard, and let go at once."""
-        with self.server("clock_gettime", first, EVER, errno.EIO) as server:
+        with self.server(folder, "clock", first, EVER, errno.EIO) as server:
             for _ in range(3):
                 with server.asks() as client:
                     same("what comes", client.answer(), b"")
             same("whether the server is there", server.process.poll(), None)
 
     def cases(self):
-        cannot_accept, cannot_bind, no_memory = b"ripngd: cannot accept a connection\n", b"ripngd: cannot bind %d\n", b"ripngd: out of memory\n"
+        cannot_accept, cannot_bind = b"ripngd: cannot accept a connection\n", b"ripngd: cannot bind PORT\n"
+        no_memory = b"ripngd: out of memory\n"
         calls = [
-            *((self.bind, number, cannot_bind) for number in (errno.EACCES, errno.EADDRINUSE)), (self.bind, errno.ENOMEM, no_memory),
-            *((self.accept, number, cannot_accept) for number in (errno.EIO, errno.EPERM, errno.ETIMEDOUT)), (self.accept, errno.ENOMEM, no_memory),
-            *((self.accept_again, number) for number in (errno.EAGAIN, errno.ECONNABORTED, errno.ECONNRESET, errno.EINTR)),
-            *((self.receive_again, number) for number in (errno.EINTR, errno.ETIMEDOUT, errno.EAGAIN)),
-            (self.ends_alone, "recv", 1, errno.ECONNRESET),
+            (self.bind, "EACCES", cannot_bind), (self.bind, "EADDRINUSE", cannot_bind), (self.bind, "ENOMEM", no_memory),
+            *((self.accept, name, cannot_accept) for name in ("EIO", "EPERM", "ETIMEDOUT")), (self.accept, "ENOMEM", no_memory),
+            *((self.goes_on, "accept", name) for name in ("EAGAIN", "ECONNABORTED", "ECONNRESET", "EINTR")),
+            *((self.goes_on, "recv", name) for name in ("EAGAIN", "ETIMEDOUT", "EINTR")),
+            (self.ends_alone, "recv", 1, "ECONNRESET"),
             # The first is that of the listener, and two are of each connection.
-            (self.ends_alone, "setsockopt", 2, errno.EIO), (self.ends_alone, "setsockopt", 3, errno.EIO),
+            (self.ends_alone, "option", 2, "EIO"), (self.ends_alone, "option", 3, "EIO"),
             (self.nobody_is_timed, 1), (self.nobody_is_timed, 2),
         ]
-        return [(" ".join(map(str, (call.__name__, *words))), lambda folder, call=call, words=words: call(*words)) for call, *words in calls]
+        return [(f"{call.__name__} {words}", lambda folder, call=call, words=words: call(folder, *map(number_of, words))) for call, *words in calls]
+
+
+def number_of(word):
+    """The number of an error that has that name; another word as it is."""
+    return getattr(errno, str(word), word)
 
 
 SERVING = [
@@ -299,12 +302,11 @@ SERVING = [
 ]
 
 
-def main(program):
+def main(program, *names):
     program = str(pathlib.Path(program).resolve(strict=True))
-    with Refuser(program) as refuser:
-        serving = [(case.__name__.replace("_", " "), lambda folder, case=case: case(program)) for case in SERVING]
-        # They mostly wait.
-        return play(serving + Failing(refuser).cases(), 40)
+    serving = [(case.__name__.replace("_", " "), lambda folder, case=case: case(program)) for case in SERVING]
+    # They mostly wait.
+    return play(named(serving + Failing(program).cases(), names), 40)
 
 
 if __name__ == "__main__":

@@ -1,7 +1,7 @@
 #!/usr/bin/env python3
 """What the page's server answers to requests over a socket: those of tests/requests, and answers as long as they may be.
 
-    tests/page_requests.py PROGRAM
+    tests/page_requests.py PROGRAM [NAME..]        all cases, or those that have NAME in theirs
 
 A file NAME.case of tests/requests is text. An empty line, and one that begins with `#`, says nothing; the others are
 
@@ -25,7 +25,7 @@ import sys
 
 sys.dont_write_bytecode = True
 from page_server import SECONDS, Server, split
-from suite import Failed, play, same
+from suite import Failed, named, play, same
 
 FILES = pathlib.Path(__file__).resolve().parent / "requests"
 ANSWER_LIMIT = 33_554_432
@@ -123,14 +123,14 @@ def the_longest_answer_is_given(program):
         server.ended()
 
 
-def main(program):
+def main(program, *names):
     program = str(pathlib.Path(program).resolve(strict=True))
     cases = [("traces are those of the program", lambda folder: traces_are_those_of_the_program(program)),
              ("the longest answer is given, and no longer one", lambda folder: the_longest_answer_is_given(program))]
     for file in sorted(FILES.glob("*.case")):
         for sentence, requests in cases_of(file.read_text()):
             cases.append((f"{file.name}: {sentence}", lambda folder, requests=requests: answered(program, requests)))
-    return play(cases)
+    return play(named(cases, names))
 
 
 if __name__ == "__main__":

@@ -1,4 +1,4 @@
-"""Runs of a program in which calls of the C library are refused, by tests/refuse.c."""
+"""Runs of a program to which memory is refused, by tests/refuse.c."""
 
 import collections
 import os
@@ -15,42 +15,33 @@ MESSAGE = b"ripngd: out of memory\n"
 
 
 class Refuser:
-    """A program, and the library that refuses it calls, which is compiled into a folder of its own for the time of a `with`."""
+    """A program, and the library that refuses it memory, which is compiled into a folder of its own for the time of a `with`."""
 
     def __init__(self, program):
         self.program = str(pathlib.Path(program).resolve(strict=True))
 
     def __enter__(self):
         if not shutil.which("cc"):
-            sys.exit("FAILED: there is no C compiler, by which calls are refused")
+            sys.exit("FAILED: there is no C compiler, by which memory is refused")
         self.folder = tempfile.TemporaryDirectory(prefix="ripngd-refuse-")
         self.library = os.path.join(self.folder.name, "refuse.so")
-        source = pathlib.Path(__file__).resolve().parent / "refuse.c"
-        subprocess.run(["cc", "-shared", "-fPIC", "-O1", "-o", self.library, str(source), "-ldl"], check=True)
+        subprocess.run(["cc", "-shared", "-fPIC", "-O1", "-o", self.library, pathlib.Path(__file__).with_name("refuse.c")], check=True)
         return self
 
     def __exit__(self, *_):
         self.folder.cleanup()
 
-    def environment(self, call, first, last, number=12, count=None):
-        """Where each such call from the first to the last fails with that error number. At its end the program writes to `count` how many
-        it has made."""
-        more = {"LD_PRELOAD": self.library, "REFUSE": f"{call} {first} {last} {number}"}
-        if count:
-            more["REFUSE_COUNT"] = str(count)
-        return dict(os.environ, **more)
+    def environment(self, nth, count):
+        """Where the nth allocation is refused, or none where that is 0. At its end the program writes to `count` how many it has asked
+        for."""
+        return dict(os.environ, LD_PRELOAD=self.library, REFUSE=str(nth), REFUSE_COUNT=str(count))
 
-    def run(self, words, call, nth, number=12, last=None, count=None):
-        """A run of the program with these words, whose nth such call fails, or those to the last that is given. None does where nth
-        is 0."""
-        return subprocess.run([self.program, *words], stdin=subprocess.DEVNULL, capture_output=True, timeout=SECONDS,
-                              env=self.environment(call, nth, last or nth, number, count))
-
-    def count(self, words, call):
-        """How many such calls the undisturbed run makes, and that run."""
-        with tempfile.NamedTemporaryFile("r", dir=self.folder.name) as told:
-            run = self.run(words, call, 0, count=told.name)
-            return int(told.read()), run
+    def run(self, words, nth):
+        """A run of the program with these words whose nth allocation is refused, and how many it has asked for."""
+        with tempfile.NamedTemporaryFile("r", dir=self.folder.name) as count:
+            run = subprocess.run([self.program, *words], stdin=subprocess.DEVNULL, capture_output=True, timeout=SECONDS,
+                                 env=self.environment(nth, count.name))
+            return run, int(count.read() or 0)
 
 
 def shown(nth, run):
@@ -70,10 +61,10 @@ def is_told(run, want):
 def sweep(refuser, words, judge):
     """Refuses each allocation of the run with these words in turn, and one past the last. `judge` says what a run is that is not the
     undisturbed one, or nothing where it may not be that. Answers how many runs there were of each kind."""
-    total, want = refuser.count(words, "memory")
+    want, total = refuser.run(words, 0)
     kinds = collections.Counter()
     for nth in range(1, total + 2):
-        run = refuser.run(words, "memory", nth)
+        run, _ = refuser.run(words, nth)
         kind = "undisturbed" if is_same(run, want) else judge(run, want)
         if kind is None:
             raise Failed(shown(nth, run))

@@ -2,7 +2,7 @@
 """What `lab` prints of networks, compared with a plain search of the walks in them: each metric below 16 is the cost of a walk, and rounds
 and phases leave the least costs.
 
-    tests/scripts.py PROGRAM
+    tests/scripts.py PROGRAM [NAME..]      all cases, or those that have NAME in theirs
 """
 
 import json
@@ -12,7 +12,7 @@ import sys
 
 sys.dont_write_bytecode = True
 from networks import Network, Owner, Port, lab, lines_of, metrics_of, routes_of
-from suite import Failed, play, same
+from suite import Failed, named, play, same
 
 EXAMPLES = pathlib.Path(__file__).resolve().parent.parent / "examples"
 
@@ -181,7 +181,7 @@ def rounds():
     return known + [(f"random {seed}", random_network(seed), count) for seed in range(1, 13) for count in (1, 2, 4, 14)]
 
 
-def main(program):
+def main(program, *names):
     program = str(pathlib.Path(program).resolve(strict=True))
     cases = [
         *((f"routes of {name} are walks", all_walks, script, least) for name, script, least in walks()),
@@ -190,7 +190,7 @@ def main(program):
         *((f"events of a phase are in its minute, {seed}", events_of_a_phase_are_in_its_minute, seed) for seed in range(4)),
         ("tables change last where it is said", tables_change_last_where_it_is_said),
     ]
-    return play([(name, lambda folder, case=case, words=words: case(program, *words)) for name, case, *words in cases])
+    return play([(name, lambda folder, case=case, words=words: case(program, *words)) for name, case, *words in named(cases, names)])
 
 
 if __name__ == "__main__":

@@ -85,3 +85,8 @@ def play(cases, workers=None):
                 print(said, flush=True)
     print(f"{len(cases) - failed} passed, {failed} failed", flush=True)
     return 1 if failed or not cases else 0
+
+
+def named(cases, names):
+    """The cases whose name has one of these words in it, all where there are none."""
+    return [case for case in cases if not names or any(name in case[0] for name in names)]
