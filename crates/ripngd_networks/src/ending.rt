@@ -18,9 +18,9 @@ ghost use Rattle.ripngd_networks.specs.LastUpdate.{AreRoutes, HasNoneBy, HearsFr
 use ripng_world::shutdown_tells_losses;
 
 /// A router that is not quiet shuts down, and a neighbor hears the whole of its last update on their link, in whatever order and
-/// however often, and nothing else that it sent there. Then the neighbor has no reachable route by it to any prefix of its table,
-/// whatever else happens to the neighbor meanwhile. So it is of one router that hears a gateway (`heard`), and of two routers of a
-/// network that runs (`delivered`).
+/// however often, and nothing else that it sent there. Then the neighbor has no reachable route by that router to any prefix of that
+/// router's table, whatever else happens to the neighbor meanwhile. So it is of one router that hears a gateway (`heard`), and of
+/// two routers of a network that runs (`delivered`).
 pub fn shutdown_ends_routes()
     ensures heard { (a a' b b' : State) (now iface on from : ℕ) (answer : Answer) (happenings : List Happening) (heard : List (List ℕ))
         → a.config.quiet ≡ false → iface < length a.config.interfaces → 1280 ≤ mtu_at a.config iface → Moves a (ShutsDown now) answer a'
