@@ -42,11 +42,11 @@ all: bin/ripngd
 
 # Where this kit compiles nothing without its proof (status 3), it is proved.
 bin/ripngd: crates.txt $(shell find crates -path '*/src/*.rt' ! -path 'crates/test_*' ! -path 'crates/bench_*')
-	@if tools/unproved.sh ripngd_program $@; then echo 'bin/ripngd is not proved: `make prove` proves it' >&2; \
+	@if tools/unproved.sh crates/ripngd_program $@; then echo 'bin/ripngd is not proved: `make prove` proves it' >&2; \
 	elif [ $$? = 3 ]; then echo 'so it is proved now, which takes half an hour' >&2; tools/prove.sh ripngd_program $@; else exit 2; fi
 
 bin/test_rows: $(shell find crates/*/src -name '*.rt')
-	tools/unproved.sh test_rows $@
+	tools/unproved.sh crates/test_rows $@
 
 ifdef CRATE
 prove:
@@ -117,8 +117,8 @@ beside: proved
 pictures: bin/ripngd
 	page/pictures.sh
 
-mutants:
-	tools/mutants
+mutants: bin/ripngd bin/test_rows
+	tools/mutants bin/ripngd bin/test_rows
 
 clean:
 	rm -rf bin dist crates/*/out

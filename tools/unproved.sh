@@ -1,7 +1,9 @@
 #!/usr/bin/env bash
 # Compiles a program from the sources as they stand. Nothing is proved: a check at run time stands in the place of each proof.
 #
-#     tools/unproved.sh CRATE PROGRAM [LEVEL]        LEVEL is clang's, -O1 if none is named; -O0 is sooner there and far slower
+#     tools/unproved.sh FOLDER PROGRAM [LEVEL]
+#
+# FOLDER is that of a crate, as crates/ripngd_program; LEVEL is clang's, -O1 if none is named; -O0 is sooner there and far slower.
 #
 # `rt try` of the Rattle kit makes such a program, runs it once and throws it away. Here it calls a clang that keeps what it compiled,
 # without the address sanitizer, and the kit's own linker makes a program of that. What a check at run time refuses ends the program
@@ -9,10 +11,10 @@
 # does not lend its calls to this.
 set -eu
 
-crate=${1:?a crate that is a program}
+crate=$(realpath "${1:?the folder of a crate that is a program}")
 program=$(realpath -m "${2:?where the program goes}")
 level=${3:--O1}
-root=$(realpath "$(dirname "$0")/..")
+root=$(realpath "$crate/../..")
 
 if ! command -v rt > /dev/null; then
     echo "the Rattle kit is not on this machine (there is no rt): README.md says what it is" >&2
@@ -52,7 +54,7 @@ cp "$root/crates.txt" "$root/HANDLES" "$folder/sources"
 (cd "$root" && find crates -name out -prune -o -name must-fail -prune -o -type f -print0 | xargs -0 cp --parents -t "$folder/sources")
 sed -i 's/^\(pub const VERSION: &str = "[^"]*\)";/\1 unproved";/' "$folder/sources/crates/ripngd_command_line/src/help.rt"
 
-cd "$folder/sources/crates/$crate"
+cd "$folder/sources/crates/$(basename "$crate")"
 "$folder/kit/bin/rt" try --steps 1 -- --version < /dev/null > "$folder/said" 2>&1 || true
 if [ ! -s "$folder/module.o" ]; then
     cat "$folder/said" >&2
