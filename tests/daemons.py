@@ -37,14 +37,19 @@ def table(name, **keys):
     return "".join([f"[[{name}]]\n", *(f"{key} = {toml(value)}\n" for key, value in keys.items())])
 
 
+def address(number):
+    """fe80::NUMBER, or another address as it is."""
+    return number if "::" in str(number) else f"fe80::{number}"
+
+
 def interface(number, local_port, *peers, cost=1, **keys):
-    """An interface fe80::NUMBER at a port, with its peers."""
-    return table("interface", address=f"fe80::{number}", cost=cost, local_port=local_port, **keys) + "".join(peers)
+    """An interface of an address at a port, with its peers."""
+    return table("interface", address=address(number), cost=cost, local_port=local_port, **keys) + "".join(peers)
 
 
 def peer(number, local_port, **keys):
-    """A peer fe80::NUMBER at a port, of the interface before it."""
-    return table("interface.peer", address=f"fe80::{number}", local_port=local_port, **keys)
+    """A peer of an address at a port, of the interface before it."""
+    return table("interface.peer", address=address(number), local_port=local_port, **keys)
 
 
 def prefix(text, **keys):
@@ -220,8 +225,9 @@ class Neighbor:
         self.socket.bind((host, port))
         self.socket.settimeout(SECONDS)
 
-    def send(self, port, bytes):
-        self.socket.sendto(bytes, ("127.0.0.1", port))
+    def send(self, port, bytes, times=1):
+        for _ in range(times):
+            self.socket.sendto(bytes, ("127.0.0.1", port))
 
     def receive(self):
         """The next datagram, and the port that it came from."""

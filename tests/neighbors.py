@@ -13,12 +13,14 @@ import time
 
 sys.dont_write_bytecode = True
 from daemons import interface, listed, main, peer, prefix, until
-from datagrams import feed, table
-from suite import same
+from datagrams import feed, table, waiting_at
+from suite import Failed, same
 
 ROUTES = int(os.environ.get("ROUTES", 20_000))
 SOON = 12
 """How many seconds what is told at once may take: fewer than pass until a router tells it again, which are 15 to 45."""
+LATE = 100
+"""How many seconds two more updates take."""
 EAST, WEST = "2001:db8:e::/48", "2001:db8:f::/48"
 AT_EAST = f"{EAST} metric 1 direct\n{WEST} metric 2 via fe80::f iface 0\n"
 AT_WEST = f"{EAST} metric 2 via fe80::e iface 0\n{WEST} metric 1 direct\n"
@@ -35,9 +37,18 @@ def learned(router, metric):
     return sum(line.startswith("add ") and f" metric {metric} via " in line for line in router.log().splitlines())
 
 
-def learns(router, count, metric, seconds=SOON):
-    """Waits until a router has learned so many routes with that metric."""
-    until(f"{count} routes of metric {metric} at {router.name}", lambda: learned(router, metric) == count, seconds)
+def learns(router, count, metric):
+    """Waits until a router has learned so many routes with that metric: at once, or where the system has lost datagrams on the way, as it
+    does where programs wait long for a processor, with the updates that follow."""
+    def has():
+        return learned(router, metric) == count
+    what = f"{count} routes of metric {metric} at {router.name}"
+    try:
+        until(what, has, SOON)
+    except Failed:
+        if not any(waiting_at(port)[1] for port in router.case.ports.numbers):
+            raise
+        until(f"{what}, though some datagrams were lost", has, LATE)
 
 
 def shows(case, router, lines):
@@ -133,13 +144,11 @@ def what_the_last_turn_tells_is_sent(case):
     learns(hub, 1_024, 2)
 
 
-def fire(neighbors, ports, rounds):
-    """So many times, to each of these ports, ten datagrams of random bytes, and the longest that UDP has."""
+def fire(neighbor, port, rounds):
+    """So many times ten datagrams of random bytes, and the longest that UDP has."""
     for _ in range(rounds):
-        for neighbor, port in zip(neighbors, ports):
-            for _ in range(10):
-                neighbor.send(port, os.urandom(1_400))
-            neighbor.send(port, bytes(65_507))
+        neighbor.send(port, os.urandom(1_400), 10)
+        neighbor.send(port, bytes(65_507))
 
 
 def memory_of(router):
@@ -159,7 +168,8 @@ def a_router_under_fire_keeps_its_routes(case):
     west = case.start("west", interface("f", there, peer("e", here)) + prefix(WEST), "-R", "west.log")
     learns(east, 1, 2)
     learns(west, 1, 2)
-    fire([*strangers, noise], [here, at, at], 100)
+    for neighbor, port in ((strangers[0], here), (strangers[1], at), (noise, at)):
+        fire(neighbor, port, 100)
     feed(noise, at, table("d", 100))
     learns(east, 101, 2)
     same("whether it holds less than 64 MB", memory_of(east) < 65_536, True)
@@ -170,13 +180,12 @@ def a_router_under_fire_keeps_its_routes(case):
 def one_neighbor_that_sends_without_end_takes_no_room_of_another(case):
     """One sends the longest datagrams that there are, while the other tells a large table at once. All of it is learned."""
     loud, quiet, first, second = case.neighbor(), case.neighbor(), case.port(), case.port()
-    between = case.listening("between", interface("a", first, peer("b", loud.port)) + interface("c", second, peer("d", quiet.port)),
-                             "-R", "between.log")
+    between = case.start("between", interface("a", first, peer("b", loud.port)) + interface("c", second, peer("d", quiet.port)),
+                         "-R", "between.log")
     flood = subprocess.Popen([sys.executable, "-c", FLOOD, str(first)], stdin=loud.socket)
     try:
         feed(quiet, second, table("e", ROUTES))
         learns(between, ROUTES, 2)
-        until("lost arrivals", lambda: " arrivals 0\n" not in between.ctl("counts").out)
         same("whether it holds less than 100 MB", memory_of(between) < 102_400, True)
     finally:
         flood.kill()

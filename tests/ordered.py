@@ -1,4 +1,4 @@
-"""Routers to whom the system answers as is ordered (tests/system.c): a clock of the test's own, calls that fail, and a list of all calls."""
+"""Routers to whom the system answers as is ordered (tests/system.c): a clock of the test's own, and calls that fail; each call is noted."""
 
 import atexit
 import pathlib
@@ -8,16 +8,17 @@ import tempfile
 import threading
 
 from daemons import Router
-from suite import same
+from suite import Failed, same
 
 COMPILED = pathlib.Path(tempfile.mkdtemp(prefix="ripngd-system-"), "system.so")
 LOCK = threading.Lock()
 atexit.register(shutil.rmtree, COMPILED.parent, ignore_errors=True)
 
 
-
 def environment(folder, name, **orders):
     """What orders the system's answers to a program, as tests/system.c has them; its calls stand in NAME.calls."""
+    if not shutil.which("cc"):
+        raise Failed("there is no compiler of C, cc")
     with LOCK:
         if not COMPILED.exists():
             source = pathlib.Path(__file__).with_name("system.c")

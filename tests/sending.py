@@ -22,7 +22,8 @@ MANY = "".join(prefix(f"2001:db8:{number:x}::/48") for number in range(1_024))
 """More prefixes than go into 16 datagrams of 1,280 bytes, which have 61 entries each: 17 tell them."""
 STAMPED = 35
 """The option SO_TIMESTAMPNS of sockets, which Python has no name for."""
-EVIL = response(entry(OWN, 17))
+FAULTY = response(entry(OWN, 17))
+"""A Response of which nothing is learned."""
 
 
 # What is sent, and to whom.
@@ -115,8 +116,7 @@ def sixteen_datagrams_go_at_once_and_as_many_four_milliseconds_later(case):
     text = interface(1, ports[0], peer(2, neighbors[0].port, port=2_000))
     text += interface(2, ports[1], peer(3, neighbors[1].port), peer(4, neighbors[2].port))
     router = Ordered(case, "paced", text + MANY, "--turns", "3", clock=0)
-    for _ in range(2):
-        neighbors[0].send(ports[0], REQUEST)
+    neighbors[0].send(ports[0], REQUEST, 2)
     router.done()
     same("when it was sent", router.sends(ports[0]), {0: 16, 4: 16, 8: 16, 12: 4})
     same("when it was sent to two peers", router.sends(ports[1]), {0: 32, 4: 4})
@@ -132,8 +132,7 @@ def what_waits_goes_out_at_the_end_at_its_pace_and_in_order(case):
     whole = []
     for clock, moments in (("0", {0: 16, 4: 16, 8: 16, 12: 4}), ("still", {0: 52})):
         router = Ordered(case, f"ending{clock}", text, "--turns", "2", clock=clock)
-        for _ in range(2):
-            neighbor.send(port, REQUEST)
+        neighbor.send(port, REQUEST, 2)
         router.done()
         same("when it was sent", router.sends(port), moments)
         if clock == "0":
@@ -151,8 +150,7 @@ def no_turn_waits_while_a_datagram_is_there(case):
     """Not for what is still to be sent, either."""
     neighbor, port = case.neighbor(), case.port()
     router = Ordered(case, "eager", interface(1, port, peer(2, neighbor.port)) + MANY, "-d", "--turns", "40", clock=0)
-    for _ in range(40):
-        neighbor.send(port, EVIL)
+    neighbor.send(port, FAULTY, 40)
     router.done()
     same("how long it waited", router.waits(), [50] + 39 * [0])
     same("when it was sent", router.sends(port), {0: 16, 4: 2})
@@ -163,11 +161,11 @@ def more_than_4096_that_wait_are_refused(case):
     """While the clock stands still: of the 17 datagrams to each of 250 askers, of the update and the Request, 16 go and 4,096 wait."""
     neighbor, port = case.neighbor(), case.port()
     router = Ordered(case, "full", interface(1, port, peer(2, neighbor.port, port=2_000)) + MANY, "-d", "--turns", "250", clock="still")
-    for _ in range(250):
-        neighbor.send(port, REQUEST)
+    neighbor.send(port, REQUEST, 250)
     router.done()
     refused = 250 * 17 + 17 + 1 - 16 - 4_096
-    same("what is said", router.said(), f"arrivals 250 sends {250 * 17 + 17} failed {refused}\nripngd: lost sends {refused}, lost steps 0\n")
+    same("what is said", router.said(),
+         f"arrivals 250 sends {250 * 17 + 17} failed {refused}\nripngd: lost sends {refused}, lost steps 0\n")
     same("how many were sent", router.sends(port), {0: 16 + 4_096})
 
 
@@ -176,8 +174,7 @@ def what_waited_and_could_not_be_sent_is_counted(case):
     neighbor, port = case.neighbor(), case.port()
     text = interface(1, port, peer(2, neighbor.port, port=2_000)) + MANY
     router = Ordered(case, "failing", text, "-d", "--turns", "2", clock=0, fail=f"sendto:17:99:{EPERM}")
-    for _ in range(2):
-        neighbor.send(port, REQUEST)
+    neighbor.send(port, REQUEST, 2)
     router.done()
     same("how many came", len(neighbor.rest()), 16)
     same("what is said", router.said(), "arrivals 2 sends 51 failed 0\nripngd: lost sends 36, lost steps 0\n")
@@ -191,8 +188,7 @@ def the_pace_is_kept_by_the_clock_of_the_system(case):
     neighbor.socket.setsockopt(socket.SOL_SOCKET, STAMPED, 1)
     router = case.start("real", interface(1, port, peer(2, neighbor.port, port=2_000)) + MANY)
     moments = []
-    for _ in range(3):
-        neighbor.send(port, REQUEST)
+    neighbor.send(port, REQUEST, 3)
     while len(moments) < 1 + 4 * 17:
         _, [(_, _, stamp)], _, _ = neighbor.socket.recvmsg(2_048, 64)
         moments.append(struct.unpack("qq", stamp)[0] * 1_000 + struct.unpack("qq", stamp)[1] / 1e6)

@@ -18,8 +18,8 @@ from ordered import Ordered, calls, environment
 from suite import same
 
 OWN = "2001:db8::/32"
-EVIL = response(entry(OWN, 17))
-"""What each neighbor may send and is noted for, entry by entry."""
+FAULTY = response(entry(OWN, 17))
+"""A Response of which nothing is learned, and something is said."""
 
 
 def refused(router):
@@ -48,8 +48,8 @@ def an_idle_turn_waits_once_and_reads_no_socket(case):
 def what_comes_is_read_at_once_and_no_other_socket_is(case):
     ports, neighbors, text = interfaces(case, (2, 3), (4, 5))
     router = Ordered(case, "busy", text, "-q", "-d", "--turns", "3", clock=0)
-    neighbors[5].send(ports[1], EVIL)
-    neighbors[4].send(ports[1], EVIL)
+    neighbors[5].send(ports[1], FAULTY)
+    neighbors[4].send(ports[1], FAULTY)
     router.done()
     same("who was heard", refused(router), [(1, "5"), (1, "4")])
     # The second datagram was there, so the second turn did not wait. Behind a read that gives nothing the socket is left.
@@ -62,9 +62,9 @@ def interfaces_are_served_in_turn(case):
     ports, neighbors, text = interfaces(case, (2, 3), (4, 5))
     router = Ordered(case, "turns", text, "-q", "-d", "--turns", "7", clock=0)
     for number in (2, 3, 2, 2):
-        neighbors[number].send(ports[0], EVIL)
+        neighbors[number].send(ports[0], FAULTY)
     for number in (4, 5):
-        neighbors[number].send(ports[1], EVIL)
+        neighbors[number].send(ports[1], FAULTY)
     router.done()
     same("who was heard", refused(router), [(0, "2"), (1, "4"), (0, "3"), (1, "5"), (0, "2"), (0, "2")])
 
@@ -74,8 +74,8 @@ def a_neighbor_without_end_takes_no_room_of_another_interface(case):
     """A turn takes in 512 and gives one: after 32 turns 16,352 wait, so the next has room for 32, and each later one for one."""
     ports, neighbors, text = interfaces(case, (2, 3), (4, 5))
     router = Ordered(case, "loud", text, "-q", "-d", "--turns", "41", clock=0, again=20_500)
-    neighbors[2].send(ports[0], EVIL)
-    neighbors[4].send(ports[1], EVIL)
+    neighbors[2].send(ports[0], FAULTY)
+    neighbors[4].send(ports[1], FAULTY)
     router.done()
     same("who was heard", refused(router), [(0, "2"), (1, "4")] + 39 * [(0, "2")])
     # Of the 41 turns one served the other interface, and so took in 512 and gave none.
@@ -101,7 +101,7 @@ def a_stranger_is_dropped_and_does_not_end_the_wait(case):
     router = Ordered(case, "strange", text, "-q", "-d", "--turns", "1", clock=0)
     elsewhere, other = Neighbor(neighbors[2].port, "127.0.0.2"), case.neighbor()
     for stranger in (elsewhere, other, neighbors[4]):
-        stranger.send(ports[0], EVIL)
+        stranger.send(ports[0], FAULTY)
     elsewhere.close()
     router.done()
     same("who was heard", refused(router), [])
@@ -113,7 +113,7 @@ def a_stranger_is_dropped_and_does_not_end_the_wait(case):
 def a_read_that_is_interrupted_comes_again(case):
     ports, neighbors, text = interfaces(case, (2,))
     router = Ordered(case, "interrupted", text, "-q", "-d", "--turns", "1", clock=0, fail=f"recvfrom:1:1:{EINTR}")
-    neighbors[2].send(ports[0], EVIL)
+    neighbors[2].send(ports[0], FAULTY)
     router.done()
     same("who was heard", refused(router), [(0, "2")])
     same("how long it waited", router.waits(), [50, 0])
@@ -124,7 +124,7 @@ def a_read_or_a_wait_that_fails_ends_the_router(case):
     for fail, turns in ((f"recvfrom:2:1:{EIO}", 0), (f"wait:2:1:{EIO}", 1)):
         ports, neighbors, text = interfaces(case, (2,))
         router = Ordered(case, f"failing{turns}", text, "-q", "--turns", "9", clock=0, fail=fail)
-        neighbors[2].send(ports[0], EVIL)
+        neighbors[2].send(ports[0], FAULTY)
         same("status", router.go().finish(), 3)
         same("standard output", router.out(), "")
         same("standard error", router.said(), f"ripngd: link fault after {turns} turns\n")
@@ -136,8 +136,7 @@ def a_whole_table_on_one_of_many_interfaces_is_taken_in_at_once(case):
     text = "".join(interface(f"a:{iface}", port, *([peer(2, source.port, hop_limit=64)] if iface == 15 else []))
                    for iface, port in enumerate(ports))
     router = Ordered(case, "many", text, "-q", "-d", "--turns", "68", clock=0)
-    for _ in range(68):
-        source.send(ports[-1], response(*[entry(OWN, 1)] * 61))
+    source.send(ports[-1], response(*[entry(OWN, 1)] * 61), 68)
     router.done()
     same("who was heard", refused(router), 68 * [(15, "2")])
     # Nothing was waited for in vain.
@@ -157,7 +156,8 @@ def a_datagram_of_a_peer_arrives_as_configured(case):
     router.logs("add 2001:db8:3::/48 metric 8 via fe80::13 iface 1")
     until("all heard", lambda: router.ctl("counts").out.startswith("arrivals 4 "))
     said = sorted(re.sub(r"^\d+", "T", line) for line in router.said().splitlines())
-    same("what is said", said, ["T iface 0 from fe80::10 port 522 refused 7 NotRipngPort", "T iface 0 from fe80::11 port 521 refused 10 HopLimit"])
+    same("what is said", said, ["T iface 0 from fe80::10 port 522 refused 7 NotRipngPort",
+                                "T iface 0 from fe80::11 port 521 refused 10 HopLimit"])
     same("the log", len(router.log().splitlines()), 2)
 
 
@@ -188,14 +188,13 @@ def a_peer_is_heard_from_when_it_is_added_until_it_is_removed(case):
     def counts(arrivals, strangers):
         until(f"{arrivals} arrivals and {strangers} strangers", lambda: (lambda said: said.startswith(f"arrivals {arrivals} ")
               and f"\nstrangers {strangers}\n" in said)(router.ctl("counts").out))
-    for _ in range(3):
-        neighbor.send(port, EVIL)
+    neighbor.send(port, FAULTY, 3)
     counts(0, 3)
     same("the answer to peer", router.ctl("peer", "0", "fe80::2", str(neighbor.port)), (0, "", ""))
-    neighbor.send(port, EVIL)
+    neighbor.send(port, FAULTY)
     counts(1, 3)
     same("the answer to unpeer", router.ctl("unpeer", "0", "fe80::2"), (0, "", ""))
-    neighbor.send(port, EVIL)
+    neighbor.send(port, FAULTY)
     counts(1, 4)
 
 
@@ -218,7 +217,7 @@ def the_clock_of_a_router_begins_at_0(case):
     router = case.start("clock", interface(1, port, peer(2, neighbor.port)), "-d")
     moments = []
     for number in (1, 2):
-        neighbor.send(port, EVIL)
+        neighbor.send(port, FAULTY)
         until("said", lambda: router.said().count("\n") == number)
         moments.append(int(router.said().splitlines()[-1].split()[0]))
         time.sleep(0.2)
@@ -232,8 +231,7 @@ def a_clock_that_cannot_be_read_tells_its_last_moment(case):
         neighbor, port = case.neighbor(), case.port()
         text = interface(1, port, peer(2, neighbor.port))
         router = Ordered(case, f"clock{last}", text, "-q", "-d", "--turns", "9", clock=7_000, fail=f"clock:{last + 1}:99999:22")
-        for _ in range(3):
-            neighbor.send(port, EVIL)
+        neighbor.send(port, FAULTY, 3)
         router.done()
         same("the moments", {line.split()[0] for line in router.said().splitlines()[:3]}, {str(told)})
 

@@ -36,7 +36,7 @@ class Ports:
     without a file, named for the port, tells that it is taken. The system gives ports of this range to nobody by itself."""
 
     def __init__(self):
-        self.held = []
+        self.held, self.numbers = [], []
 
     def next(self):
         while True:
@@ -46,6 +46,7 @@ class Ports:
                 held.bind(f"\0ripngd.tests.{port}")
                 if port not in taken():
                     self.held.append(held)
+                    self.numbers.append(port)
                     return port
             held.close()
 

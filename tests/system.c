@@ -155,10 +155,9 @@ int epoll_wait(int set, struct epoll_event *events, int most, int limit)
 {
     const char *gate = getenv("SYSTEM_GATE");
     int own = getenv("SYSTEM_CLOCK") != NULL;
-    int failed = fails(WAIT);
     long answer;
-    while (gate && counts[WAIT] == 1 && access(gate, F_OK)) pause_for(1);
-    answer = failed ? -1 : syscall(SYS_epoll_wait, set, events, most, own ? 0 : limit);
+    while (gate && counts[WAIT] == 0 && access(gate, F_OK)) pause_for(1);
+    answer = fails(WAIT) ? -1 : syscall(SYS_epoll_wait, set, events, most, own ? 0 : limit);
     note(WAIT, "%d = %ld", limit, answer);
     if (own && answer == 0) go_on(limit);
     return answer;
