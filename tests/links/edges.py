@@ -174,7 +174,8 @@ def links_come_and_go(net, program):
     bird = Bird(b, {"to-o": 1}, owned["b"], update=120)
     ours = Ours(o, program, {"to-b": {}, "to-c": {}}, owned["o"])
     routers = {"b": bird, "o": ours}
-    settle(routers, least(cables, owned))
+    # An answer that comes before the router is up is lost, and BIRD's next update is two minutes away.
+    settle(routers, least(cables, owned), 150)
     o.do("sysctl", "-qw", "net.ipv6.conf.to-b.accept_dad=0")
     for _ in range(3):
         o.do("ip", "-batch", "-", input="link set to-b down\nlink set to-b up\n")
