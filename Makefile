@@ -1,19 +1,19 @@
-# make              proves and builds the program, and leaves it at bin/ripngd
+# make              leaves the program at bin/ripngd, in some minutes. It is not proved, and says so
+# make prove        proves it and builds it, and puts it in the place of the other; with CRATE=, proves that crate and all that stand on it
+# make test         the merge gate: every proof, the edits that must fail, all tests of the proved program
+# make check        all tests of the program that stands at bin/ripngd, proved or not
 # make lab SCRIPT=  runs a network of routers from a script
-# make try SCRIPT=  the same on the sources as they stand, with no proof; with a folder, all of its scripts
 # make show HEX=    decodes one datagram, given as hexadecimal digits
 # make page         serves the page of the laboratory, at PORT of 127.0.0.1, until it is interrupted
-# make install      puts the program, its companion for real links, their manual pages, a unit of systemd for each, and the examples
-#                   below PREFIX (and DESTDIR before it)
+# make install      puts the proved program, its companion for real links, their manual pages, a unit of systemd for each, and the
+#                   examples below PREFIX (and DESTDIR before it); with UNPROVED=1 a program that is not proved, too
 # make uninstall    takes them away again
-# make dist         the program with its pages, films and examples as they are installed, and checksums, in one file below dist
+# make dist         what is installed, and checksums, in one file below dist
 # make bench        times of a router and its forwarding table, as tables grow
 # make beside       what a route costs here and in BIRD, one after the other (needs root and BIRD, a package of the system)
 # make pictures     films and pictures of the examples, below docs (needs Chromium, a package of the system)
-# make test         the merge gate: every proof from nothing, the edits that must fail, tests and programs
-# make check CRATE= proves a crate and all above it, and runs their tests
-# make edits CRATE= tries all wrong bodies of a crate, also those that the gate leaves out; with EDIT= the one of that name
-# make clean        forgets what earlier runs kept
+# make mutants      wrong programs that no contract sees: which test catches each (an hour)
+# make clean        forgets what earlier runs built here
 
 HEX ?= 02010000
 SCRIPT ?= examples/line.lab
@@ -34,34 +34,54 @@ INSTALL ?= install
 folders = docs docs/films docs/pictures examples examples/lessons page
 
 VERSION = $(shell sed -n 's/^pub const VERSION: &str = "\(.*\)";/\1/p' crates/ripngd_command_line/src/help.rt)
-name = ripngd-$(VERSION)-x86_64-linux
+name = ripngd-$(VERSION)$(if $(UNPROVED),-unproved)-x86_64-linux
 
-.PHONY: all lab try show page install uninstall dist bench beside pictures test check edits clean
+.PHONY: all prove test check lab show page install uninstall dist proved bench beside pictures mutants clean
 
-all:
-	tests/build.py ripngd_program
-	mkdir -p bin
-	cp crates/ripngd_program/out/ripngd_program bin/ripngd
+all: bin/ripngd
 
-lab: all
+# Where this kit compiles nothing without its proof (status 3), it is proved.
+bin/ripngd: crates.txt $(shell find crates -path '*/src/*.rt' ! -path 'crates/test_*' ! -path 'crates/bench_*')
+	@if tools/unproved.sh crates/ripngd_program $@; then echo 'bin/ripngd is not proved: `make prove` proves it' >&2; \
+	elif [ $$? = 3 ]; then echo 'so it is proved now, which takes half an hour' >&2; tools/prove.sh ripngd_program $@; else exit 2; fi
+
+bin/test_rows: $(shell find crates/*/src -name '*.rt')
+	tools/unproved.sh crates/test_rows $@
+
+ifdef CRATE
+prove:
+	rt ci $$(tools/crates.py above $(CRATE))
+else
+prove:
+	tools/prove.sh ripngd_program bin/ripngd
+endif
+
+test:
+	.ci/run
+
+check: bin/ripngd bin/test_rows
+	tests/all.sh bin/ripngd bin/test_rows
+
+lab: bin/ripngd
 	bin/ripngd lab $(SCRIPT)
 
-try:
-	tests/try.sh $(SCRIPT)
-
-show: all
+show: bin/ripngd
 	bin/ripngd show $(HEX)
 
-page: all
+page: bin/ripngd
 	bin/ripngd page --port $(PORT)
 
-# What `make` built is installed; where nothing was built yet, it is built first.
-bin/ripngd:
-	$(MAKE) all
+# What is installed is proved, but where UNPROVED says otherwise.
+proved:
+	@if [ ! -x bin/ripngd ] || { [ -z '$(UNPROVED)' ] && bin/ripngd --version | grep -q unproved; }; then \
+	echo 'bin/ripngd is not there, or not proved: `make prove` first, or `make` and UNPROVED=1' >&2; exit 1; fi
+
+# Units start no unproved program, but where one is installed.
+for_units = -e 's|@bindir@|$(bindir)|' -e 's|@unproved@|$(if $(UNPROVED), --unproved)|' $(if $(UNPROVED),-e '/grep unproved/d')
 
 # Pages keep their places to one another, so that what one says of another is found. The companion's modules stand beside it, and
 # `bindir` has a link to it.
-install: bin/ripngd
+install: proved
 	$(INSTALL) -d $(DESTDIR)$(bindir) $(DESTDIR)$(mandir)/man8 $(DESTDIR)$(unitdir) $(DESTDIR)$(linksdir)
 	$(INSTALL) -d $(addprefix $(DESTDIR)$(docdir)/,$(folders) links)
 	$(INSTALL) -m 755 bin/ripngd $(DESTDIR)$(bindir)/ripngd
@@ -72,7 +92,7 @@ install: bin/ripngd
 	$(INSTALL) -m 644 README.md $(DESTDIR)$(docdir)
 	$(INSTALL) -m 755 links/bird.* $(DESTDIR)$(docdir)/links
 	for folder in $(folders); do $(INSTALL) -m 644 $$folder/*.* $(DESTDIR)$(docdir)/$$folder || exit; done
-	for unit in ripngd@ ripngd-links@; do sed 's|@bindir@|$(bindir)|' docs/$$unit.service > $(DESTDIR)$(unitdir)/$$unit.service || exit; done
+	for unit in ripngd@ ripngd-links@; do sed $(for_units) docs/$$unit.service > $(DESTDIR)$(unitdir)/$$unit.service || exit; done
 
 uninstall:
 	for name in ripngd ripngd-links; do rm -f $(DESTDIR)$(bindir)/$$name $(DESTDIR)$(mandir)/man8/$$name.8 $(DESTDIR)$(unitdir)/$$name@.service; done
@@ -87,24 +107,18 @@ dist:
 
 # Memory is measured by a program of its own for each size, since freed memory is used again.
 bench:
-	tests/build.py bench_router
-	crates/bench_router/out/bench_router $(ROUTES)
-	for routes in $(ROUTES); do crates/bench_router/out/bench_router memory $$routes; done
+	tools/prove.sh bench_router bin/bench_router
+	bin/bench_router $(ROUTES)
+	for routes in $(ROUTES); do bin/bench_router memory $$routes; done
 
-beside: bin/ripngd
-	tests/beside.py bin/ripngd
+beside: proved
+	tools/beside.py bin/ripngd
 
 pictures: bin/ripngd
 	page/pictures.sh
 
-test:
-	tests/gate.sh
-
-check:
-	tests/above.py $(CRATE)
-
-edits:
-	tests/edits.py $(CRATE) $(EDIT)
+mutants: bin/ripngd bin/test_rows
+	tools/mutants bin/ripngd bin/test_rows
 
 clean:
 	rm -rf bin dist crates/*/out

@@ -30,6 +30,16 @@ def configuration(interfaces, owned):
     return "\n".join(lines) + "\n"
 
 
+def refuse_unproved(program):
+    """Refuses a router whose version says that it is not proved."""
+    try:
+        said = subprocess.run([program, "--version"], capture_output=True, text=True, preexec_fn=leave, check=False).stdout
+    except OSError as fault:
+        raise Fault(f"cannot start {program}: {fault.strerror}") from None
+    if "unproved" in said:
+        raise Fault(f"{program} is not proved, and is taken only with --unproved")
+
+
 def say(text):
     print(f"ripngd-links: {text}", file=sys.stderr, flush=True)
 

@@ -1,11 +1,11 @@
 #!/usr/bin/env bash
-# The laboratory's page: what its server answers on a real socket, and in a headless browser each example as a film, and the
-# page as the server gives it.
+# The laboratory's page in a headless browser: each example as a film, and the page as its server gives it. What the server answers, and
+# whom it serves, is tried by page_requests.py and page_connections.py.
 #
 #     tests/page.sh [PROGRAM [SCRIPT..]]
 #
 # Tries PROGRAM, bin/ripngd if none is named, with the scripts, examples/*.lab if none is named. A line for each case, `ok NAME`
-# or `FAILED NAME: why`, and last `N passed, M failed`. The exit status is 0 exactly where M is 0. Needs bash, sed, awk and curl,
+# or `FAILED NAME: why`, and last `N passed, M failed`. The exit status is 0 exactly where M is 0. Needs bash, sed and awk,
 # for the page Chromium and Firefox (packages of the system; python3 drives them), and node for its modules alone. Where one of them
 # is missing a line `skipped: ..` says what was not tried. Takes some minutes.
 set -u
@@ -19,12 +19,6 @@ trap 'rm -rf "$folder"; [ -z "$server" ] || kill "$server" 2> /dev/null' EXIT
 passed=0
 failed=0
 why=
-
-# The fields by which an answer is kept from other pages and from caches.
-guards="cache-control: no-store
-content-security-policy: frame-ancestors 'none'
-cross-origin-resource-policy: same-origin
-x-content-type-options: nosniff"
 
 browser=$(command -v chromium || command -v chromium-browser || command -v google-chrome)
 firefox=$(command -v python3 > /dev/null && { command -v firefox-esr || command -v firefox; })
@@ -346,7 +340,7 @@ visit() {
 # The least times of a step in networks of many routers, routes and events, as `page_times.py` has them; the median is what a reader
 # meets, but rests on what else the machine does.
 steps_are_quick() {
-    python3 "$root/tests/page_times.py" "$program" chromium > "$folder/times" || because "no times" || return
+    python3 "$root/tools/page_times.py" "$program" chromium > "$folder/times" || because "no times" || return
     awk -F 'a step ' '{ split($2, took, ","); most = /10,000/ ? 50 : 100; if (took[1] >= most) { print; failed = 1 } } END { exit failed || NR != 3 }' \
         "$folder/times" > "$folder/slow" || because "$(head -n 1 "$folder/slow")"
 }
@@ -369,94 +363,6 @@ serve() {
     done
     address=$(cat "$folder/address")
     [ -n "$address" ] || because "no address is printed: $(cat "$folder/errors")"
-}
-
-# The server has ended, with status 0.
-ended() {
-    local status=0
-    wait "$server" || status=$?
-    server=
-    same "the exit status" "$status" 0
-}
-
-# `status CURL-ARGUMENTS..`: the status of an answer, whose body is left in `$folder/body`.
-status() {
-    curl --silent --max-time 10 --output "$folder/body" --write-out '%{http_code}' "$@"
-}
-
-# The page, a trace and a datagram, as the program prints them; other hosts, other pages and other paths are refused.
-a_server_answers() {
-    serve 8 || return
-    local script=$root/examples/line.lab
-    same "the page's status" "$(status "$address")" 200 || return
-    grep -q '<div data-name="line.lab">' "$folder/body" || because "the page has no examples" || return
-    same "the status of a trace" "$(status --data-binary "@$script" "${address}trace")" 200 || return
-    same "the trace" "$(cat "$folder/body")" "$("$program" lab --trace "$script")" || return
-    same "the status of a datagram" "$(status --data-binary 02010000 "${address}show")" 200 || return
-    same "the datagram" "$(cat "$folder/body")" "$("$program" show 02010000)" || return
-    same "what keeps it from other pages" "$(curl --silent --max-time 10 --output /dev/null --dump-header - "$address" | tr -d '\r' | grep -F "$guards" | sort)" "$guards" || return
-    same "another host" "$(status --header 'Host: example.com' "$address")" 403 || return
-    same "another page" "$(status --header 'Origin: http://example.com' --data 02 "${address}show")" 403 || return
-    same "another path" "$(status "${address}etc/passwd")" 404 || return
-    same "another method" "$(status --request PUT "$address")" 405 || return
-    ended
-}
-
-# A body of more than 262,144 bytes is refused, and another request is answered.
-a_long_body_is_refused() {
-    serve 2 || return
-    head -c 262145 /dev/zero > "$folder/long"
-    same "the status" "$(status --header 'Expect:' --data-binary "@$folder/long" "${address}trace")" 413 || return
-    same "the text" "$(cat "$folder/body")" "a script, or the digits of a datagram, have at most 262144 bytes here" || return
-    same "the status of the next" "$(status "$address")" 200 || return
-    ended
-}
-
-# Another request is answered within a second beside twenty connections that say nothing and one that stops within its request, which
-# is told so when its time is up.
-silence_stops_nothing() {
-    serve 2 || return
-    local port=${address##*:} number socket sockets=()
-    for number in $(seq 20); do
-        exec {socket}<> "/dev/tcp/127.0.0.1/${port%/}"
-        sockets+=("$socket")
-    done
-    exec 4<> "/dev/tcp/127.0.0.1/${port%/}"
-    printf 'POST /trace HTTP/1.1\r\nHost: localhost\r\nContent-Length: 10\r\n\r\nrou' >&4
-    same "the status" "$(status --max-time 1 "$address")" 200 &&
-        same "what is told to who stops" "$(timeout 10 cat <&4 | sed -n '1p;$p' | tr -d '\r')" "HTTP/1.1 408 Request Timeout
-a request has 2 seconds to come in, whole"
-    local told=$?
-    for socket in "${sockets[@]}" 4; do
-        exec {socket}>&-
-    done
-    [ "$told" = 0 ] && ended
-}
-
-# Behind sixty-four connections that say nothing three requests wait: none is answered before the first of those has had its time, then
-# each with its own answer.
-who_waits_is_answered() {
-    serve 3 || return
-    local port=${address##*:} number socket sockets=() asked waiting=() told=0
-    for number in $(seq 64); do
-        exec {socket}<> "/dev/tcp/127.0.0.1/${port%/}"
-        sockets+=("$socket")
-    done
-    for asked in 02010000 0x 0; do
-        curl --silent --max-time 10 --data-binary "$asked" --output "$folder/told-$asked" --write-out '%{time_total}\n' \
-            "${address}show" > "$folder/took-$asked" &
-        waiting+=("$!")
-    done
-    wait "${waiting[@]}"
-    for asked in 02010000 0x 0; do
-        same "what is told to who asks $asked" "$(cat "$folder/told-$asked")" "$("$program" show "$asked")" &&
-            { awk '{ exit !(1 < $1 && $1 < 5) }' "$folder/took-$asked" || because "an answer took $(cat "$folder/took-$asked") seconds"; }
-        told=$((told + $?))
-    done
-    for socket in "${sockets[@]}"; do
-        exec {socket}>&-
-    done
-    [ "$told" = 0 ] && ended
 }
 
 # The page that the server gives asks it to run the first of its scripts, and has its icon in itself, for which a browser would ask.
@@ -506,6 +412,7 @@ else
     try files_are_loaded_and_runs_called_off
     try a_teacher_acts
     try an_address_names_a_route_or_nothing
+    try a_served_page_runs_its_scripts
 fi
 if [ -n "$browser" ] && command -v python3 > /dev/null; then
     try a_newcomer chromium
@@ -528,15 +435,6 @@ if command -v node > /dev/null; then
     try modules_agree_with_the_program
 else
     echo "skipped: there is no node, so no module is run on random scripts"
-fi
-if command -v curl > /dev/null; then
-    try a_server_answers
-    try a_long_body_is_refused
-    try silence_stops_nothing
-    try who_waits_is_answered
-    [ -z "$browser" ] || try a_served_page_runs_its_scripts
-else
-    echo "skipped: there is no curl, so no server is asked"
 fi
 
 echo "$passed passed, $failed failed"

@@ -13,7 +13,7 @@ from spaces import Net, Wrong
 
 CASES = [networks.a_line, networks.a_ring, networks.a_lossy_cable, networks.many_routes]
 CASES += [edges.a_stranger, edges.many_neighbors, edges.a_flood, edges.a_killed_companion]
-CASES += [edges.addresses_come_and_go, edges.links_come_and_go, edges.the_page, edges.no_privilege]
+CASES += [edges.addresses_come_and_go, edges.links_come_and_go, edges.the_page, edges.no_privilege, edges.an_unproved_router]
 # Played only where it is named.
 LONG = [soak.ten_minutes]
 

@@ -174,7 +174,8 @@ def links_come_and_go(net, program):
     bird = Bird(b, {"to-o": 1}, owned["b"], update=120)
     ours = Ours(o, program, {"to-b": {}, "to-c": {}}, owned["o"])
     routers = {"b": bird, "o": ours}
-    settle(routers, least(cables, owned))
+    # An answer that comes before the router is up is lost, and BIRD's next update is two minutes away.
+    settle(routers, least(cables, owned), 150)
     o.do("sysctl", "-qw", "net.ipv6.conf.to-b.accept_dad=0")
     for _ in range(3):
         o.do("ip", "-batch", "-", input="link set to-b down\nlink set to-b up\n")
@@ -205,7 +206,7 @@ def the_page(net, program):
     here.do(*words)
     try:
         found = [f"RUNTIME_DIRECTORY={folder}", f"PATH={folder}:{os.environ['PATH']}"]
-        here.start("companion", "env", *found, sys.executable, COMPANION, ROOT / "links/bird.toml")
+        here.start("companion", "env", *found, sys.executable, COMPANION, "--unproved", ROOT / "links/bird.toml")
         until(TRIGGERED, "the route is there", lambda: set(here.routes("proto", "152")) == {"2001:db8:b::/48"})
     finally:
         here.do(*words, "down", check=False)
@@ -214,6 +215,17 @@ def the_page(net, program):
 def status(pid, key):
     lines = pathlib.Path(f"/proc/{pid}/status").read_text().splitlines()
     return next(line for line in lines if line.startswith(key + ":")).split()[1]
+
+
+def an_unproved_router(net, program):
+    """A program that says of itself that it is not proved is not started, unless that is asked for."""
+    other, table = net.folder / "another-program", net.folder / "another.toml"
+    other.write_text("#!/bin/sh\necho ripngd 0 unproved\n")
+    other.chmod(0o755)
+    table.write_text(f'user = "nobody"\nprogram = "{other}"\nfolder = "{net.folder}"\n[[link]]\ndevice = "lo"\n')
+    done = subprocess.run([sys.executable, COMPANION, table], capture_output=True, text=True, timeout=30, check=False)
+    same("the status", done.returncode, 1)
+    same("what is said", done.stderr, f"ripngd-links: {other} is not proved, and is taken only with --unproved\n")
 
 
 def no_privilege(net, program):

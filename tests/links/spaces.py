@@ -144,7 +144,7 @@ class Ours:
         self.start()
 
     def start(self):
-        self.process = self.space.start("companion", *self.by, sys.executable, COMPANION, *self.words, self.config)
+        self.process = self.space.start("companion", *self.by, sys.executable, COMPANION, "--unproved", *self.words, self.config)
 
     def end(self, signal):
         self.process.send_signal(signal)

@@ -16,7 +16,7 @@ pub record Step : Type 0 where
   pub answer : Answer
   pub after : World
 
--- it starts no router anew and changes no configuration
+-- it starts no router anew and shuts none down, takes no link down, and changes no configuration
 abbrev pub IsOrdinary : Event → Type 0
 IsOrdinary (Restart router now) = ⊥
 IsOrdinary (Shutdown router now) = ⊥

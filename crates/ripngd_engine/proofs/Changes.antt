@@ -31,17 +31,17 @@ module _ (o : OutletSeen) (router new_router : State) (lost : ℕ) (stream : Str
     shows = Shows-carried takes v w o p answer out [] lost lost router new_router stream stream before after now told;
   }
 
-  pub Acts-left : {V : Type 0} (takes : V → LinkReport → V → Type 0) (v w : V) (p : OutletSeen) (answer : Answer)
+  pub Acts-shut_down : {V : Type 0} (takes : V → LinkReport → V → Type 0) (v w : V) (p : OutletSeen) (answer : Answer)
       → Moves router (ShutsDown now) answer new_router → CarriesOut takes v w o answer p
       → Acts ShutsDownOnce (around o router lost stream before) (around p new_router lost stream after)
-  Acts-left takes v w p answer moves out =
+  Acts-shut_down takes v w p answer moves out =
       let a = Acts-moved takes v w p answer (ShutsDown now) refl moves out in
       record { trace = a.trace; does = (now, a.does); shows = a.shows }
 
-  pub Acts-cut_off : {V : Type 0} (takes : V → LinkReport → V → Type 0) (v w : V) (p : OutletSeen) (answer : Answer) (iface : ℕ)
+  pub Acts-link_down : {V : Type 0} (takes : V → LinkReport → V → Type 0) (v w : V) (p : OutletSeen) (answer : Answer) (iface : ℕ)
       → Moves router (LinkGoesDown now iface) answer new_router → CarriesOut takes v w o answer p
       → Acts (LinkGoesDownOnce iface) (around o router lost stream before) (around p new_router lost stream after)
-  Acts-cut_off takes v w p answer iface moves out =
+  Acts-link_down takes v w p answer iface moves out =
       let a = Acts-moved takes v w p answer (LinkGoesDown now iface) refl moves out in
       record { trace = a.trace; does = (now, a.does); shows = a.shows }
 

@@ -1,4 +1,4 @@
--- Changes of the configuration of an engine's router, between its turns.
+-- What is done to an engine's router between its turns: changes of its configuration, its shutdown, and links of it that go down.
 use Rattle.std.specs.Prelude.{ℕ, ◌≡◌, List, [], ◌∷◌, Result, Ok, Err, Bool, true, false, unwrap_or}
 use Rattle.router_core.specs.Machine.{State, Reconfigures, ShutsDown, LinkGoesDown}
 use Rattle.router_core.specs.Reconfiguring.{reconfigure_fault}
@@ -18,7 +18,7 @@ ReconfiguresOnce c m t n = (now : ℕ) × Moved m (Reconfigures now c) now t n
 abbrev pub ShutsDownOnce : Machine → Trace → Machine → Type 0
 ShutsDownOnce m t n = (now : ℕ) × Moved m (ShutsDown now) now t n
 
--- the router was told that the link of an interface is lost
+-- the link of an interface of the router went down
 abbrev pub LinkGoesDownOnce : ℕ → Machine → Trace → Machine → Type 0
 LinkGoesDownOnce iface m t n = (now : ℕ) × Moved m (LinkGoesDown now iface) now t n
 

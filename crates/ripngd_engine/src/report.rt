@@ -40,7 +40,7 @@ impl From<AllocError> for EngineFault {
     }
 }
 
-/// Why a change of the configuration was not made whole.
+/// Why a change of the configuration, a shutdown, or what follows from a link that goes down, was not made whole.
 #[derive(Clone, Copy, Debug, PartialEq, Eq)]
 pub enum ChangeFault {
     /// The router refused it, and is as it was.

@@ -87,7 +87,7 @@ abbrev pub HasLost : Option Machine → Machine → Type 0
 HasLost None n = ⊥
 HasLost (Some m) n = n.lost_memory ≡ counted m.lost_memory 1
 
--- a deed that is no event: nothing came, a change was refused, or a step was lost
+-- a deed that is no event: nothing came, a step was refused, or one was lost
 abbrev pub IsIdle : Option Machine → Act → Machine → Type 0
 IsIdle daemon Start n = ⊥
 IsIdle daemon (Listen (Gave d)) n = HasLost daemon n
@@ -250,15 +250,22 @@ module _ (net : Network) (first : List Sent) (daemons : ℕ → Option Machine) 
     lost_one : (n : Machine) → n.lost_memory ≡ counted m.lost_memory 1 → HasLost (daemons router) n
     lost_one n is = subst (λ o. HasLost o n) (sym up) is
 
+    -- it made one step
+    once_on : (act : Act) (h : Happening) (e : Event) (now : ℕ) (number : Option ℕ) (t : Trace) (n k : Machine) → here.state ≡ k.router → (moved : Moved k h now t n)
+        → world.reconfigurations_of router h ≡ change_done router (record { act = act; trace = t })
+        → ((w' : World) → RouterMoves w router h moved.answer w' → Happens net w e moved.answer w')
+        → IsEventOf (length first) router act number t e moved.answer → Onward n (record { act = act; trace = t }) number
+    once_on act h e now number t n k same moved changed happens event =
+        let moves : Moves here.state h moved.answer n.router = subst (λ s. Moves s h moved.answer n.router) (sym same) moved.moves in
+        moved_on h moved.answer n moves (record { act = act; trace = t }) number e changed (happens (moved_world h moved.answer n moves) (router_moves h moved.answer n moves))
+        (handed_of (record { act = act; trace = t }) moved.carries.sends moved.answer moved.carries.all_sends (ap handed_in_trace moved.carries.trace)) event
+
     ticked_on : (number : Option ℕ) (t : Trace) (n : Machine) → Goes Tick m t n → Onward n (record { act = Tick; trace = t }) number
     ticked_on number t n did = by_step did.1.step
       where
         by_step : MovedOrLost (record m { stream = did.1.stream }) (Ticks did.1.now did.1.word) did.1.now t n → Onward n (record { act = Tick; trace = t }) number
         by_step (inl moved) =
-            let moves : Moves here.state (Ticks did.1.now did.1.word) moved.answer n.router = subst (λ s. Moves s (Ticks did.1.now did.1.word) moved.answer n.router) (sym was) moved.moves in
-            moved_on (Ticks did.1.now did.1.word) moved.answer n moves (record { act = Tick; trace = t }) number (world.Tick router did.1.now did.1.word) refl
-            (router_moves (Ticks did.1.now did.1.word) moved.answer n moves)
-            (handed_of (record { act = Tick; trace = t }) moved.carries.sends moved.answer moved.carries.all_sends (ap handed_in_trace moved.carries.trace))
+            once_on Tick (Ticks did.1.now did.1.word) (world.Tick router did.1.now did.1.word) did.1.now number t n (record m { stream = did.1.stream }) was moved refl (λ w' r. r)
             (did.1.now, did.1.word, refl, record { moments = ap (λ (x : Trace). x.moments) moved.carries.trace; notes = moved.moves.answer_is.notes_are })
         by_step (inr lost) =
             stayed_on n (record { act = Tick; trace = t }) number (was ∙ sym (ap (λ (x : Machine). x.router) lost.machine)) (ap handed_in_trace lost.trace) refl
@@ -266,37 +273,18 @@ module _ (net : Network) (first : List Sent) (daemons : ℕ → Option Machine) 
 
     reconfigured_on : (c : Change) (number : Option ℕ) (t : Trace) (n : Machine) → Goes (Reconfigure c) m t n → Onward n (record { act = Reconfigure c; trace = t }) number
     reconfigured_on c number t n did =
-        let now = did.1.0 in
-        let moved = did.1.1 in
-        let moves : Moves here.state (Reconfigures now c) moved.answer n.router = subst (λ s. Moves s (Reconfigures now c) moved.answer n.router) (sym was) moved.moves in
-        moved_on (Reconfigures now c) moved.answer n moves (record { act = Reconfigure c; trace = t }) number (world.Reconfigure router now c) refl
-        (router_moves (Reconfigures now c) moved.answer n moves)
-        (handed_of (record { act = Reconfigure c; trace = t }) moved.carries.sends moved.answer moved.carries.all_sends (ap handed_in_trace moved.carries.trace))
-        (now, refl)
+        once_on (Reconfigure c) (Reconfigures did.1.0 c) (world.Reconfigure router did.1.0 c) did.1.0 number t n m was did.1.1 refl (λ w' r. r) (did.1.0, refl)
 
-    left_on : (number : Option ℕ) (t : Trace) (n : Machine) → Goes Shutdown m t n → Onward n (record { act = Shutdown; trace = t }) number
-    left_on number t n did =
-        let now = did.1.0 in
-        let moved = did.1.1 in
-        let moves : Moves here.state (ShutsDown now) moved.answer n.router = subst (λ s. Moves s (ShutsDown now) moved.answer n.router) (sym was) moved.moves in
-        moved_on (ShutsDown now) moved.answer n moves (record { act = Shutdown; trace = t }) number (world.Shutdown router now) refl
-        (router_moves (ShutsDown now) moved.answer n moves)
-        (handed_of (record { act = Shutdown; trace = t }) moved.carries.sends moved.answer moved.carries.all_sends (ap handed_in_trace moved.carries.trace))
-        (now, refl)
+    shut_down_on : (number : Option ℕ) (t : Trace) (n : Machine) → Goes Shutdown m t n → Onward n (record { act = Shutdown; trace = t }) number
+    shut_down_on number t n did = once_on Shutdown (ShutsDown did.1.0) (world.Shutdown router did.1.0) did.1.0 number t n m was did.1.1 refl (λ w' r. r) (did.1.0, refl)
 
-    cut_off_on : (on : ℕ) (number : Option ℕ) (t : Trace) (n : Machine) → Goes (LinkDown on) m t n → Onward n (record { act = LinkDown on; trace = t }) number
-    cut_off_on on number t n did =
-        let now = did.1.0 in
-        let moved = did.1.1 in
-        let moves : Moves here.state (LinkGoesDown now on) moved.answer n.router = subst (λ s. Moves s (LinkGoesDown now on) moved.answer n.router) (sym was) moved.moves in
-        moved_on (LinkGoesDown now on) moved.answer n moves (record { act = LinkDown on; trace = t }) number (world.LinkDown router now on) refl
-        (router_moves (LinkGoesDown now on) moved.answer n moves)
-        (handed_of (record { act = LinkDown on; trace = t }) moved.carries.sends moved.answer moved.carries.all_sends (ap handed_in_trace moved.carries.trace))
-        (now, refl)
+    link_down_on : (on : ℕ) (number : Option ℕ) (t : Trace) (n : Machine) → Goes (LinkDown on) m t n → Onward n (record { act = LinkDown on; trace = t }) number
+    link_down_on on number t n did =
+        once_on (LinkDown on) (LinkGoesDown did.1.0 on) (world.LinkDown router did.1.0 on) did.1.0 number t n m was did.1.1 refl (λ w' r. r) (did.1.0, refl)
 
-    refused_on : (c : Change) (number : Option ℕ) (t : Trace) (n : Machine) → Goes (Refuse c) m t n → Onward n (record { act = Refuse c; trace = t }) number
-    refused_on c number t n did =
-        stayed_on n (record { act = Refuse c; trace = t }) number (was ∙ sym (ap (λ (x : Machine). x.router) did.1.2)) (ap handed_in_trace did.1.1) refl tt
+    refused_on : (number : Option ℕ) (t : Trace) (n : Machine) → Goes Refuse m t n → Onward n (record { act = Refuse; trace = t }) number
+    refused_on number t n did =
+        stayed_on n (record { act = Refuse; trace = t }) number (was ∙ sym (ap (λ (x : Machine). x.router) did.1.2)) (ap handed_in_trace did.1.1) refl tt
 
     -- what its link gave it was heard
     heard_then : (d : Datagram) (now : ℕ) (taken t : Trace) (n : Machine) (moved : Moved m (Arrives (arrival now d)) now taken n) → t ≡ followed_by (one_call (Gave d)) taken
@@ -384,9 +372,9 @@ module _ (net : Network) (first : List Sent) (daemons : ℕ → Option Machine) 
     gone_on (Listen call) number t n did given = heard_on call number t n did.1 given
     gone_on Tick number t n did given = ticked_on number t n did
     gone_on (Reconfigure c) number t n did given = reconfigured_on c number t n did
-    gone_on Shutdown number t n did given = left_on number t n did
-    gone_on (LinkDown on) number t n did given = cut_off_on on number t n did
-    gone_on (Refuse c) number t n did given = refused_on c number t n did
+    gone_on Shutdown number t n did given = shut_down_on number t n did
+    gone_on (LinkDown on) number t n did given = link_down_on on number t n did
+    gone_on Refuse number t n did given = refused_on number t n did
 
   pub done_on : (before : Option Machine) → daemons router ≡ before → (act : Act) (number : Option ℕ) (t : Trace) (n : Machine) → Does (config_of node) before act t n
       → IsNumbered net handed_over router (config_of node) act number → StepsOn net first daemons handed_over done w router n (record { act = act; trace = t }) number
@@ -396,10 +384,10 @@ module _ (net : Network) (first : List Sent) (daemons : ℕ → Option Machine) 
   done_on None is (Reconfigure c) number t n did given = absurd did
   done_on None is Shutdown number t n did given = absurd did
   done_on None is (LinkDown on) number t n did given = absurd did
-  done_on None is (Refuse c) number t n did given = absurd did
+  done_on None is Refuse number t n did given = absurd did
   done_on (Some m) is (Listen call) number t n did given = gone_on m is (Listen call) number t n did given
   done_on (Some m) is Tick number t n did given = gone_on m is Tick number t n did given
   done_on (Some m) is (Reconfigure c) number t n did given = gone_on m is (Reconfigure c) number t n did given
   done_on (Some m) is Shutdown number t n did given = gone_on m is Shutdown number t n did given
   done_on (Some m) is (LinkDown on) number t n did given = gone_on m is (LinkDown on) number t n did given
-  done_on (Some m) is (Refuse c) number t n did given = gone_on m is (Refuse c) number t n did given
+  done_on (Some m) is Refuse number t n did given = gone_on m is Refuse number t n did given

@@ -48,7 +48,7 @@ plain_event count router Tick number trace e answer plain is =
 plain_event count router (Reconfigure c) number trace e answer plain is = absurd plain
 plain_event count router Shutdown number trace e answer plain is = absurd plain
 plain_event count router (LinkDown on) number trace e answer plain is = absurd plain
-plain_event count router (Refuse c) number trace e answer plain is = absurd is
+plain_event count router Refuse number trace e answer plain is = absurd is
 
 -- a delivery is of what a link gave
 pub record IsGift (count router : ℕ) (act : Act) (number : Option ℕ) (datagram other iface : ℕ) : Type 0 where
@@ -109,7 +109,7 @@ gift_of count router (LinkDown on) number trace e answer datagram other iface no
   where
     no : world.LinkDown router is.0 on ≡ world.Deliver datagram other iface now → ⊥
     no e = cc
-gift_of count router (Refuse c) number trace e answer datagram other iface now is same = absurd is
+gift_of count router Refuse number trace e answer datagram other iface now is same = absurd is
 
 -- a tick is a tick
 pub record IsOwnTick (router : ℕ) (act : Act) (trace : Trace) (other now : ℕ) : Type 0 where
@@ -136,4 +136,4 @@ tick_of count router Tick number trace e answer other now word plain is same =
 tick_of count router (Reconfigure c) number trace e answer other now word plain is same = absurd plain
 tick_of count router Shutdown number trace e answer other now word plain is same = absurd plain
 tick_of count router (LinkDown on) number trace e answer other now word plain is same = absurd plain
-tick_of count router (Refuse c) number trace e answer other now word plain is same = absurd is
+tick_of count router Refuse number trace e answer other now word plain is same = absurd is

@@ -43,7 +43,7 @@ gone Tick m t n follows did = stepped (record m { stream = did.1.stream }) (Tick
 gone (Reconfigure c) m t n follows did = stepped m (Reconfigures did.1.0 c) did.1.0 t n refl did.0 follows (inl did.1.1)
 gone Shutdown m t n follows did = stepped m (ShutsDown did.1.0) did.1.0 t n refl did.0 follows (inl did.1.1)
 gone (LinkDown on) m t n follows did = stepped m (LinkGoesDown did.1.0 on) did.1.0 t n refl did.0 follows (inl did.1.1)
-gone (Refuse c) m t n follows did = subst Follows (sym did.1.2) follows
+gone Refuse m t n follows did = subst Follows (sym did.1.2) follows
 
 does : (config : Config) (before : Option Machine) (act : Act) (t : Trace) (n : Machine) → IfUp before → Does config before act t n → Follows n
 does config before Start t n follows did =
@@ -56,13 +56,13 @@ does config (Some m) Tick t n follows did = gone Tick m t n follows did
 does config (Some m) (Reconfigure c) t n follows did = gone (Reconfigure c) m t n follows did
 does config (Some m) Shutdown t n follows did = gone Shutdown m t n follows did
 does config (Some m) (LinkDown on) t n follows did = gone (LinkDown on) m t n follows did
-does config (Some m) (Refuse c) t n follows did = gone (Refuse c) m t n follows did
+does config (Some m) Refuse t n follows did = gone Refuse m t n follows did
 does config None (Listen call) t n follows did = absurd did
 does config None Tick t n follows did = absurd did
 does config None (Reconfigure c) t n follows did = absurd did
 does config None Shutdown t n follows did = absurd did
 does config None (LinkDown on) t n follows did = absurd did
-does config None (Refuse c) t n follows did = absurd did
+does config None Refuse t n follows did = absurd did
 
 -- after all of its life
 pub life_follows : (config : Config) (before : Option Machine) (deeds : List Deed) (m : Machine) → IfUp before → Lives config before deeds (Some m) → Follows m

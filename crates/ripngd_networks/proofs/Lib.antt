@@ -19,3 +19,12 @@ mod Starting
 mod Healing
 mod Staying
 pub mod Delivering
+mod OneRoute
+mod LastUpdateTold
+mod LastUpdateHeard
+mod LastUpdateSteps
+mod LastUpdate
+mod LastUpdateSeen
+mod LastUpdateDelivered
+mod LinkDown
+mod PacketExamples

@@ -5,14 +5,14 @@ use Rattle.router_core.specs.Config.{Config}
 use Rattle.ripngd_engine.specs.Link.{Call, Gave, Silent, RecvFailed, Handed}
 use Rattle.ripngd_engine.specs.Run.{Machine, Trace, TakesIn, TicksOnce, TicksUnless, Turn, Turns, followed_by, all_joined, no_step, one_call}
 use Rattle.router_core.specs.declared.reconfiguring.Change.{Change}
-use Rattle.ripngd_engine.specs.Changing.{ReconfigureAnswer, ReconfiguresOnce}
+use Rattle.ripngd_engine.specs.Changing.{LinkGoesDownOnce, ReconfigureAnswer, ReconfiguresNothing, ReconfiguresOnce, ShutsDownOnce, StepAnswer}
 use Rattle.ripngd_engine.specs.Seen.{Acts, Seen, Shows, TurnsAnswer}
 use Rattle.ripngd_engine.specs.declared.report.ChangeFault.{ChangeFault}
 use Rattle.ripngd_engine.specs.declared.report.ChangeFault.TheVariants.{Refused, Ended}
 use Rattle.ripngd_engine.specs.declared.report.EngineFault.{EngineFault}
 use Rattle.ripngd_engine.specs.declared.report.EngineFault.TheVariants.{LinkFault, OutOfMemory}
 use Rattle.ripngd_engine.proofs.Steps.{Shows-trans, Shows-listens}
-use Rattle.ripngd_networks.specs.Daemons.{Deed, Listen, Tick, Reconfigure, Refuse, HearsCall, Lives, traces_of}
+use Rattle.ripngd_networks.specs.Daemons.{Act, Deed, Listen, Tick, Reconfigure, Shutdown, LinkDown, Refuse, Does as DoesNext, HearsCall, Lives, traces_of}
 
 followed_by-no_step : (t : Trace) → followed_by t no_step ≡ t
 followed_by-no_step t = simp append-nil
@@ -102,18 +102,38 @@ answer_lives config count a (Err (LinkFault done)) b answer =
     (led_on config a.machine until.middle.machine b.machine (all_joined until.ran.traces) (one_call RecvFailed) (turns_led config a.machine until.ran.traces until.middle.machine until.ran.turns) deaf)
     (Shows-trans a.outside until.middle.outside b.outside (all_joined until.ran.traces) (one_call RecvFailed) until.ran.shows (Shows-listens RecvFailed until.middle b tt until.deaf))
 
--- a change that was done
-changed : (config : Config) (c : Change) (a b : Seen) → a.machine.ended ≡ false → Acts (ReconfiguresOnce c) a b → ShowsLife config a b
-changed config c a b going acts =
+-- one act
+acted : (config : Config) (act : Act) (Does : Machine → Trace → Machine → Type 0) (a b : Seen) → ((m : Machine) (t : Trace) (n : Machine) → m.ended ≡ false → Does m t n → DoesNext config (Some m) act t n)
+    → a.machine.ended ≡ false → Acts Does a b → ShowsLife config a b
+acted config act Does a b next going acts =
     shown config a b acts.trace
-    (record { deeds = record { act = Reconfigure c; trace = acts.trace } ∷ []; lives = (b.machine, (going, acts.does), refl); trace = followed_by-no_step acts.trace })
+    (record {
+      deeds = record { act = act; trace = acts.trace } ∷ [];
+      lives = (b.machine, next a.machine acts.trace b.machine going acts.does, refl);
+      trace = followed_by-no_step acts.trace;
+    })
     acts.shows
+
+-- a refused one
+refused : (config : Config) (a b : Seen) → a.machine.ended ≡ false → Acts ReconfiguresNothing a b → ShowsLife config a b
+refused config a b going acts = acted config Refuse ReconfiguresNothing a b (λ m t n on does. (on, does)) going acts
 
 -- and so is what a change of the configuration answers
 pub change_lives : (config : Config) (c : Change) (a : Seen) (result : Result (Unit {0}) ChangeFault) (b : Seen) → a.machine.ended ≡ false → ReconfigureAnswer c a result b → ShowsLife config a b
-change_lives config c a (Ok u) b going answer = changed config c a b going answer.1
-change_lives config c a (Err Ended) b going answer = changed config c a b going answer.1
-change_lives config c a (Err (Refused why)) b going answer =
-    shown config a b answer.2.trace
-    (record { deeds = record { act = Refuse c; trace = answer.2.trace } ∷ []; lives = (b.machine, (going, answer.2.does), refl); trace = followed_by-no_step answer.2.trace })
-    answer.2.shows
+change_lives config c a (Ok u) b going answer = acted config (Reconfigure c) (ReconfiguresOnce c) a b (λ m t n on does. (on, does)) going answer.1
+change_lives config c a (Err Ended) b going answer = acted config (Reconfigure c) (ReconfiguresOnce c) a b (λ m t n on does. (on, does)) going answer.1
+change_lives config c a (Err (Refused why)) b going answer = refused config a b going answer.2
+
+-- and what any other such step answers, if it is an act
+step_lives : (config : Config) (act : Act) (Does : Machine → Trace → Machine → Type 0) → ((m : Machine) (t : Trace) (n : Machine) → m.ended ≡ false → Does m t n → DoesNext config (Some m) act t n)
+    → (a : Seen) (result : Result (Unit {0}) ChangeFault) (b : Seen) → a.machine.ended ≡ false → StepAnswer Does a result b → ShowsLife config a b
+step_lives config act Does next a (Ok u) b going answer = acted config act Does a b next going answer.1
+step_lives config act Does next a (Err Ended) b going answer = acted config act Does a b next going answer.1
+step_lives config act Does next a (Err (Refused why)) b going answer = refused config a b going answer.2
+
+pub shutdown_lives : (config : Config) (a : Seen) (result : Result (Unit {0}) ChangeFault) (b : Seen) → a.machine.ended ≡ false → StepAnswer ShutsDownOnce a result b → ShowsLife config a b
+shutdown_lives config = step_lives config Shutdown ShutsDownOnce (λ m t n on does. (on, does))
+
+pub link_down_lives : (config : Config) (iface : ℕ) (a : Seen) (result : Result (Unit {0}) ChangeFault) (b : Seen) → a.machine.ended ≡ false → StepAnswer (LinkGoesDownOnce iface) a result b
+    → ShowsLife config a b
+link_down_lives config iface = step_lives config (LinkDown iface) (LinkGoesDownOnce iface) (λ m t n on does. (on, does))

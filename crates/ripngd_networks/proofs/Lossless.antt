@@ -37,7 +37,7 @@ did_up config Tick m t n plain did = step_up (record m { stream = did.1.stream }
 did_up config (Reconfigure c) m t n plain did = absurd plain
 did_up config Shutdown m t n plain did = absurd plain
 did_up config (LinkDown on) m t n plain did = absurd plain
-did_up config (Refuse c) m t n plain did = same_up m n did.1.2
+did_up config Refuse m t n plain did = same_up m n did.1.2
 
 -- one that is not up does nothing but come up
 down_does : (config : Config) (act : Act) (t : Trace) (n : Machine) → IsPlain act → Does config None act t n → ⊥
@@ -47,7 +47,7 @@ down_does config Tick t n plain did = did
 down_does config (Reconfigure c) t n plain did = plain
 down_does config Shutdown t n plain did = plain
 down_does config (LinkDown on) t n plain did = plain
-down_does config (Refuse c) t n plain did = did
+down_does config Refuse t n plain did = did
 
 abbrev pub ArePlain : List Deed → Type 0
 ArePlain deeds = AllByRecursion (λ d. IsPlain d.act) deeds

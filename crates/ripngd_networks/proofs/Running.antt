@@ -78,7 +78,7 @@ numbered net handed_over router config Tick given = (None, tt)
 numbered net handed_over router config (Reconfigure c) given = (None, tt)
 numbered net handed_over router config Shutdown given = (None, tt)
 numbered net handed_over router config (LinkDown on) given = (None, tt)
-numbered net handed_over router config (Refuse c) given = (None, tt)
+numbered net handed_over router config Refuse given = (None, tt)
 
 -- so the world goes on with deeds
 record GoesOn (net : Network) (first : List Sent) (w : World) (daemons : ℕ → Option Machine) (handed_over : List Sent) (done : List (ℕ × Change)) : Type 0 where

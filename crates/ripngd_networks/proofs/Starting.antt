@@ -65,13 +65,13 @@ does_set config (Some m) Tick t n set did = stepped_set (record m { stream = did
 does_set config (Some m) (Reconfigure c) t n set did = moved_set m.router (Reconfigures did.1.0 c) did.1.1.answer n.router set did.1.1.moves
 does_set config (Some m) Shutdown t n set did = moved_set m.router (ShutsDown did.1.0) did.1.1.answer n.router set did.1.1.moves
 does_set config (Some m) (LinkDown on) t n set did = moved_set m.router (LinkGoesDown did.1.0 on) did.1.1.answer n.router set did.1.1.moves
-does_set config (Some m) (Refuse c) t n set did = same_set m n did.1.2 set
+does_set config (Some m) Refuse t n set did = same_set m n did.1.2 set
 does_set config None (Listen call) t n set did = absurd did
 does_set config None Tick t n set did = absurd did
 does_set config None (Reconfigure c) t n set did = absurd did
 does_set config None Shutdown t n set did = absurd did
 does_set config None (LinkDown on) t n set did = absurd did
-does_set config None (Refuse c) t n set did = absurd did
+does_set config None Refuse t n set did = absurd did
 
 life_set : (config : Config) (before : Option Machine) (deeds : List Deed) (m : Machine) → IfUp before → Lives config before deeds (Some m) → IsSet m.router
 life_set config before [] m set lives = subst IfUp (sym lives) set

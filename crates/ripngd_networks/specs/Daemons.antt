@@ -7,8 +7,8 @@ use Rattle.ripngd_engine.specs.Changing.{ReconfiguresOnce, ShutsDownOnce, LinkGo
 use Rattle.ripngd_engine.specs.Link.{Call, RecvFailed}
 use Rattle.ripngd_engine.specs.Run.{Machine, Trace, ComesUp, TakesIn, TicksOnce, followed_by, one_call}
 
--- a daemon comes up; it asks its link once, and takes in what that gave; it ticks; its configuration is changed, or the change
--- is refused; it shuts down; a link of it goes down
+-- a daemon comes up; it asks its link once, and takes in what that gave; it ticks; its configuration is changed; it shuts down; a
+-- link of it goes down; one of these three is refused
 pub data Act : Type 0 where
   Start : Act
   Listen : Call → Act
@@ -16,7 +16,7 @@ pub data Act : Type 0 where
   Reconfigure : Change → Act
   Shutdown : Act
   LinkDown : ℕ → Act
-  Refuse : Change → Act
+  Refuse : Act
 
 -- the change that an act does, if it does one
 abbrev pub reconfiguration_of : Act → Option Change
@@ -45,7 +45,7 @@ Goes Tick m t n = (m.ended ≡ false) × TicksOnce m t n
 Goes (Reconfigure c) m t n = (m.ended ≡ false) × ReconfiguresOnce c m t n
 Goes Shutdown m t n = (m.ended ≡ false) × ShutsDownOnce m t n
 Goes (LinkDown on) m t n = (m.ended ≡ false) × LinkGoesDownOnce on m t n
-Goes (Refuse c) m t n = (m.ended ≡ false) × ReconfiguresNothing m t n
+Goes Refuse m t n = (m.ended ≡ false) × ReconfiguresNothing m t n
 
 -- the configuration in force: that of the first start, or that of the daemon, as it was changed
 abbrev pub in_force : Config → Option Machine → Config

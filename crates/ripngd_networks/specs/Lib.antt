@@ -2,3 +2,4 @@ pub mod Daemons
 pub mod Links
 pub mod OnTime
 pub mod Delivering
+pub mod LastUpdate

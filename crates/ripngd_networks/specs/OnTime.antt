@@ -59,7 +59,7 @@ AreNumbered net handed (t ∷ history) =
 
 -- ---- daemons that go on
 
--- it starts no daemon anew, and changes no configuration
+-- it starts no daemon anew and shuts none down, takes no link down, and changes no configuration
 abbrev pub IsPlain : Act → Type 0
 IsPlain Start = ⊥
 IsPlain (Reconfigure c) = ⊥

@@ -17,7 +17,7 @@ ghost use Rattle.ripng_world.specs.Past.{IsBackedSince, IsLeastSince};
 ghost use Rattle.ripng_world.specs.TruthSince.{IsSoundDatagramSince};
 ghost use Rattle.ripng_world.specs.declared.sent.Sent.{Sent};
 ghost use Rattle.router_core.specs.declared.reconfiguring.Change.{Change};
-ghost use Rattle.ripngd_engine.specs.Changing.{ReconfigureAnswer};
+ghost use Rattle.ripngd_engine.specs.Changing.{LinkGoesDownOnce, ReconfigureAnswer, ShutsDownOnce, StepAnswer};
 ghost use Rattle.ripngd_engine.specs.Run.{Machine, all_joined};
 ghost use Rattle.ripngd_engine.specs.Seen.{Seen, Outside, Shows, Started, TurnsAnswer};
 ghost use Rattle.ripngd_engine.specs.declared.report.EngineFault.{EngineFault};
@@ -29,13 +29,18 @@ ghost use Rattle.ripngd_networks.specs.Delivering.{AllGoOn, forwardings_by};
 ghost use Rattle.ripng_world.specs.Packets.{PacketsArriveBy};
 
 /// What the contracts of an engine say is a daemon's life: its start, whatever was before, its turns, those before a link
-/// that failed or a want of memory among them, and changes of its configuration, those that are refused among them. The outside gained just what the deeds of that life did.
+/// that failed or a want of memory among them, changes of its configuration, its shutdowns, and links of it that go down, those that
+/// are refused among them. The outside gained just what the deeds of that life did.
 pub fn engines_live()
     ensures start { (config : Config) (stream : Stream) (a : Outside) (b : Seen) (before : Option Machine) → Started (in_force config before) stream a b
         → (deed : Deed) × (deed.act ≡ Start) × Lives config before (deed ∷ []) (Some b.machine) × Shows a deed.trace b.outside }
     ensures turns { (config : Config) (count : ℕ) (a : Seen) (result : Result (Unit {0}) EngineFault) (b : Seen) → TurnsAnswer count a result b
         → (deeds : List Deed) × Lives config (Some a.machine) deeds (Some b.machine) × Shows a.outside (all_joined (traces_of deeds)) b.outside }
     ensures reconfigurations { (config : Config) (c : Change) (a : Seen) (result : Result (Unit {0}) ChangeFault) (b : Seen) → a.machine.ended ≡ false → ReconfigureAnswer c a result b
+        → (deeds : List Deed) × Lives config (Some a.machine) deeds (Some b.machine) × Shows a.outside (all_joined (traces_of deeds)) b.outside }
+    ensures shutdowns { (config : Config) (a : Seen) (result : Result (Unit {0}) ChangeFault) (b : Seen) → a.machine.ended ≡ false → StepAnswer ShutsDownOnce a result b
+        → (deeds : List Deed) × Lives config (Some a.machine) deeds (Some b.machine) × Shows a.outside (all_joined (traces_of deeds)) b.outside }
+    ensures link_downs { (config : Config) (iface : ℕ) (a : Seen) (result : Result (Unit {0}) ChangeFault) (b : Seen) → a.machine.ended ≡ false → StepAnswer (LinkGoesDownOnce iface) a result b
         → (deeds : List Deed) × Lives config (Some a.machine) deeds (Some b.machine) × Shows a.outside (all_joined (traces_of deeds)) b.outside }
     ensures on { (config : Config) (a b c : Option Machine) (deeds later : List Deed)
         → Lives config a deeds b → Lives config b later c → Lives config a (deeds ++ later) c }
@@ -74,9 +79,9 @@ pub fn daemons_invent_no_distance()
 {}
 
 /// Networks of daemons heal by themselves. Whatever was before, let daemons go on for 28 minutes of a true clock that none of
-/// them sees, with no start and no reconfiguration, a tick in each half second and no want of memory, and let links keep order,
-/// lose no regular update, and take less than 13 seconds. Then each daemon holds, and forwards by, just the least costs of now;
-/// and so it is at each moment from then on, while they go on so.
+/// them sees, with no start, no shutdown, no link that goes down and no reconfiguration, a tick in each half second and no want of
+/// memory, and let links keep order, lose no regular update, and take less than 13 seconds. Then each daemon holds, and forwards by,
+/// just the least costs of now; and so it is at each moment from then on, while they go on so.
 pub fn daemons_heal()
     ensures healed { (net : Network) (before : List Happened) (daemons daemons' : ℕ → Option Machine) (history : List Dated) (start stop : ℕ)
         → IsNetwork net → IsNeverQuiet net → HaveRun net before daemons → FitsTablesSince (past_of_daemons net before)

@@ -111,6 +111,7 @@ pub enum Happened {
     },
     Restart,
     Shutdown,
+    #[serde(rename = "link_down")]
     LinkDown {
         iface: usize,
     },

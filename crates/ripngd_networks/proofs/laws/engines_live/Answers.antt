@@ -1,6 +1,6 @@
 use Rattle.std.proofs.Common.{refl}
 use Rattle.ripngd_networks.specs.Daemons.{Start}
-use Rattle.ripngd_networks.proofs.Lives.{answer_lives, change_lives, lives_on}
+use Rattle.ripngd_networks.proofs.Lives.{answer_lives, change_lives, link_down_lives, lives_on, shutdown_lives}
 use Rattle.ripngd_networks.proofs.laws.engines_live.Goals as goal
 
 pub returns-clause-start : goal.returns-clause-start
@@ -12,6 +12,12 @@ returns-clause-turns c = answer_lives
 
 pub returns-clause-reconfigurations : goal.returns-clause-reconfigurations
 returns-clause-reconfigurations c = change_lives
+
+pub returns-clause-shutdowns : goal.returns-clause-shutdowns
+returns-clause-shutdowns c = shutdown_lives
+
+pub returns-clause-link_downs : goal.returns-clause-link_downs
+returns-clause-link_downs c = link_down_lives
 
 pub returns-clause-on : goal.returns-clause-on
 returns-clause-on c = lives_on

@@ -1,7 +1,7 @@
 use Rattle.std.proofs.Common.{ap, refl, sym, ◌∙◌, length}
 use Rattle.router_core.specs.Config.{Config}
 use Rattle.ripngd_engine.proofs.Steps.{follows}
-use Rattle.ripngd_engine.proofs.Changes.{Acts-cut_off, Acts-unchanged}
+use Rattle.ripngd_engine.proofs.Changes.{Acts-link_down, Acts-unchanged}
 use Rattle.ripngd_engine.proofs.running.Running.link_down.Goals as goal
 
 pub invariant_of-self : goal.invariant_of-self
@@ -13,13 +13,13 @@ invariant_of-self g c = record {
 pub returns-in-Ok-carry_out : goal.returns-in-Ok-carry_out
 returns-in-Ok-carry_out g c = (
   c.in-Ok-carry_out.ensures.ended,
-  Acts-cut_off _ _ _ _ _ _ _ _ c.now-now.ensures.gained _ _ _ _ c.in-Ok.answer c.args.iface c.in-Ok.ensures.moves c.carry_out.ensures.carries,
+  Acts-link_down _ _ _ _ _ _ _ _ c.now-now.ensures.gained _ _ _ _ c.in-Ok.answer c.args.iface c.in-Ok.ensures.moves c.carry_out.ensures.carries,
 )
 
 pub returns-in-Err-carry_out : goal.returns-in-Err-carry_out
 returns-in-Err-carry_out g c = (
   c.in-Err-carry_out.ensures.ended,
-  Acts-cut_off _ _ _ _ _ _ _ _ c.now-now.ensures.gained _ _ _ _ c.in-Ok.answer c.args.iface c.in-Ok.ensures.moves c.carry_out.ensures.carries,
+  Acts-link_down _ _ _ _ _ _ _ _ c.now-now.ensures.gained _ _ _ _ c.in-Ok.answer c.args.iface c.in-Ok.ensures.moves c.carry_out.ensures.carries,
 )
 
 pub returns-in-Err : goal.returns-in-Err

@@ -1,0 +1,48 @@
+//! Laws of how routes end: those by a router that shuts down, at a neighbor, and those by a link that goes down.
+
+ghost use Rattle.std.specs.Prelude.{◌≡◌, ◌≢◌, ◌↔◌, ℕ, ◌<◌, ◌≤◌, List, [], ◌∷◌, length, Some, slice_get, true, false, IsTrue};
+ghost use Rattle.std.specs.FinMap as map_of;
+ghost use Rattle.fib.specs.Forwarding.{Forward};
+ghost use Rattle.fib.specs.declared.change.Hop.TheVariants.{Via};
+ghost use Rattle.prefix6.specs.Prefix.{Prefix6, IsPrefix, is_routable};
+ghost use Rattle.route_table.specs.Route.{RouteValue};
+ghost use Rattle.router_core.specs.Changes.{forwards};
+ghost use Rattle.router_core.specs.Config.{mtu_at};
+ghost use Rattle.router_core.specs.Machine.{State, Happening, ShutsDown, LinkGoesDown, Moves};
+ghost use Rattle.router_core.specs.Output.{is_learned_on};
+ghost use Rattle.router_core.specs.declared.answer.Answer.{Answer};
+ghost use Rattle.ripng_world.specs.Network.{Network, AreLinked, IsNetwork};
+ghost use Rattle.ripng_world.specs.World.{World, Event, Shutdown, Happens, IsCold, WorldRun, address_at};
+ghost use Rattle.ripngd_networks.specs.LastUpdate.{AreRoutes, HasNoneBy, HearsFrom, IsDeliveredWhole, IsHeardWhole, sent_on};
+
+use ripng_world::shutdown_tells_losses;
+
+/// A router that is not quiet shuts down, and a neighbor hears the whole of its last update on their link, in whatever order and
+/// however often, and nothing else that it sent there. Then the neighbor has no reachable route by that router to any prefix of that
+/// router's table, whatever else happens to the neighbor meanwhile. So it is of one router that hears a gateway (`heard`), and of
+/// two routers of a network that runs (`delivered`).
+pub fn shutdown_ends_routes()
+    ensures heard { (a a' b b' : State) (now iface on from : ℕ) (answer : Answer) (happenings : List Happening) (heard : List (List ℕ))
+        → a.config.quiet ≡ false → iface < length a.config.interfaces → 1280 ≤ mtu_at a.config iface → Moves a (ShutsDown now) answer a'
+        → AreRoutes b.table → HearsFrom on from b happenings heard b' → IsHeardWhole (sent_on iface answer.sends) heard
+        → (p : Prefix6) (r : RouteValue) → map_of.get a.table p ≡ Some r → IsPrefix p → IsTrue (is_routable p) → HasNoneBy on from b'.table p }
+    ensures delivered { (net : Network) (moments : List ℕ) (events later : List Event) (cold w w' end : World) (router iface other on now : ℕ) (answer : Answer) (s t : State)
+        → IsNetwork net → IsCold net moments cold → WorldRun net cold events w → slice_get w.states router ≡ Some s → s.config.quiet ≡ false
+        → Happens net w (Shutdown router now) answer w' → WorldRun net w' later end → slice_get end.states other ≡ Some t
+        → router ≢ other → AreLinked net router iface other on → IsDeliveredWhole w w' end router iface other on later
+        → (p : Prefix6) (r : RouteValue) → map_of.get s.table p ≡ Some r → HasNoneBy on (address_at net router iface) t.table p }
+{
+    shutdown_tells_losses()
+}
+
+/// When the link of an interface goes down, the router has no reachable route by that interface left, of whatever gateway, and
+/// forwards nothing there. Its own routes, and those that it learned on other interfaces, are as they were.
+pub fn link_down_ends_routes()
+    ensures none_left { (old new : State) (now iface : ℕ) (answer : Answer) → Moves old (LinkGoesDown now iface) answer new
+        → (p : Prefix6) (from : ℕ) → HasNoneBy iface from new.table p }
+    ensures none_forwarded { (old new : State) (now iface : ℕ) (answer : Answer) → Moves old (LinkGoesDown now iface) answer new
+        → (p : Prefix6) (f : Forward) (next_hop : ℕ) → map_of.get (forwards new.table) p ≡ Some f → f.hop ≢ Via iface next_hop }
+    ensures others_stay { (old new : State) (now iface : ℕ) (answer : Answer) → Moves old (LinkGoesDown now iface) answer new
+        → (p : Prefix6) (r : RouteValue) → is_learned_on iface r.origin ≡ false
+        → (map_of.get old.table p ≡ Some r) ↔ (map_of.get new.table p ≡ Some r) }
+{}

@@ -1,0 +1,58 @@
+#!/usr/bin/env bash
+# All tests of a built program, proved or not, side by side.
+#
+#     tests/all.sh [PROGRAM [ROWS]]        bin/ripngd, and bin/test_rows of crates/test_rows, if none is named
+#
+# Each suite prints what failed in it and what it had to skip; its seconds stand behind its name. What was skipped stands in the line
+# before the last; the last is `N passed, M failed`. The exit status is 0 exactly where M is 0.
+set -u
+
+program=$(realpath "${1:-bin/ripngd}")
+rows=$(realpath "${2:-bin/test_rows}")
+cd "$(dirname "$0")/.." || exit 1
+folder=$(mktemp -d)
+trap 'rm -rf "$folder"' EXIT
+
+# The longest first.
+suites="links.sh page.sh page_connections.py sending.py neighbors.py control.py followers.py sockets.py watching.py growth.py
+growth_of_calls.py cases.py scripts.py page_requests.py"
+
+# `arguments SUITE`: which of the two programs a suite is given.
+arguments() {
+    case $1 in
+        growth_of_calls.py) echo "$rows" ;;
+        *) echo "$program" ;;
+    esac
+}
+
+# `run SUITE`: leaves what it said, and how many seconds it took. What fills processors gives way to what looks at the clock.
+run() {
+    local begun=$SECONDS gives_way=
+    [[ $1 != growth* ]] || gives_way='nice -n 10'
+    $gives_way "tests/$1" "$(arguments "$1")" > "$folder/$1" 2>&1
+    echo $((SECONDS - begun)) > "$folder/$1.seconds"
+}
+
+for suite in $suites; do
+    run "$suite" &
+done
+wait
+
+passed=0
+failed=0
+for suite in $suites; do
+    echo "== $suite, $(cat "$folder/$suite.seconds") s"
+    grep -v '^ok ' "$folder/$suite"
+    last=$(tail -n 1 "$folder/$suite")
+    if [[ $last =~ ^([0-9]+)\ passed,\ ([0-9]+)\ failed$ ]]; then
+        passed=$((passed + BASH_REMATCH[1]))
+        failed=$((failed + BASH_REMATCH[2]))
+    else
+        echo "FAILED $suite: it did not come to its end"
+        failed=$((failed + 1))
+    fi
+done
+skipped=$(cd "$folder" && grep -h '^skipped: ' $suites | sed 's/^skipped: //' | paste -sd ';')
+echo "skipped: ${skipped:-nothing}"
+echo "$passed passed, $failed failed"
+[ "$failed" = 0 ] && [ "$passed" != 0 ]

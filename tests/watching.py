@@ -1,0 +1,257 @@
+#!/usr/bin/env python3
+"""What a router says and counts of what it refuses, and what it writes to its log and when: also where a write fails.
+
+    tests/watching.py PROGRAM [NAME..]
+
+A line for each case that fails, and last how many passed. The system answers as is ordered (tests/system.c): its clock stands still, its
+wall clock tells what is wanted, and writes fail in turn."""
+
+import re
+import sys
+from errno import ENOSPC
+
+sys.dont_write_bytecode = True
+from daemons import interface, listed, main, peer, prefix, until
+from datagrams import REQUEST, entry, feed, response, table
+from ordered import Ordered, calls, environment
+from suite import Failed, same
+
+OWN = "2001:db8::/32"
+OWN_TABLE = f"{OWN} metric 1 direct\n"
+LOST_LOG = "ripngd: lost sends 0, lost steps 0, log failed\n"
+FULL = 65_536
+"""How many routes a router has at most."""
+
+
+# What is said and counted.
+
+@listed
+def each_fault_has_its_line_and_its_count(case):
+    """In the order of their numbers, but for the second: no datagram of this machine is too long by itself."""
+    port, other, neighbors = case.port(), case.port(), [case.neighbor() for _ in range(6)]
+    plain, odd, routed, own, far, multicast = neighbors
+    peers = [peer(2, plain.port), peer(3, odd.port, port=522), peer("2001:db8::9", routed.port), peer(21, own.port),
+             peer(5, far.port, hop_limit=64), peer("ff02::9", multicast.port, port=2_000)]
+    router = Ordered(case, "faults", interface(1, port, *peers) + interface(21, other), "-q", "-d", "--turns", "11", clock=0)
+    empty = response()
+    for neighbor, datagram in ((plain, empty[:3]), (plain, empty + b"\0"), (plain, bytes([3, 1, 0, 0])), (plain, bytes([2, 2, 0, 0])),
+                               (plain, bytes([2, 1, 0, 1])), (odd, empty), (routed, empty), (own, empty), (far, empty),
+                               (plain, REQUEST[:4]), (multicast, REQUEST)):
+        neighbor.send(port, datagram)
+    router.done()
+    said = [("fe80::2", 521, "1 Short"), ("fe80::2", 521, "3 Ragged"), ("fe80::2", 521, "4 BadCommand"), ("fe80::2", 521, "5 BadVersion"),
+            ("fe80::2", 521, "6 NotZero"), ("fe80::3", 522, "7 NotRipngPort"), ("2001:db8::9", 521, "8 NotLinkLocal"),
+            ("fe80::21", 521, "9 OwnAddress"), ("fe80::5", 521, "10 HopLimit"), ("fe80::2", 521, "11 EmptyRequest"),
+            ("ff02::9", 2_000, "12 BadSource")]
+    lines = "".join(f"0 iface 0 from {source} port {at} refused {why}\n" for source, at, why in said)
+    counts = "".join(f"refused {why} 1\n" for _, _, why in said)
+    same("what is said", router.said(), f"{lines}arrivals 11 sends 0 failed 0\n{counts}")
+
+
+@listed
+def the_longest_datagram_of_all_has_room_and_is_too_long(case):
+    neighbor, port = case.neighbor(), case.port()
+    router = Ordered(case, "long", interface(1, port, peer(2, neighbor.port)), "-q", "-d", "--turns", "1", clock=0, length=65_535)
+    neighbor.send(port, response())
+    router.done()
+    same("what is said", router.said(),
+         "0 iface 0 from fe80::2 port 521 refused 2 TooLong\narrivals 1 sends 0 failed 0\nrefused 2 TooLong 1\n")
+    same("what was read, and into how many bytes", [call[3:] for call in router.calls("recvfrom")][0], (65_536, 65_535))
+
+
+@listed
+def each_of_many_notes_has_its_line_and_is_counted(case):
+    """In one Response, fifteen times over: a length past 128, a prefix of many, and a metric of 17."""
+    neighbor, port = case.neighbor(), case.port()
+    router = Ordered(case, "notes", interface(1, port, peer(2, neighbor.port)), "-q", "-d", "--turns", "1", clock=0)
+    kinds = ((f"{OWN[:-3]}/129", 1, "20 BadLength"), ("ff02::/16", 1, "21 BadPrefix"), (OWN, 17, "22 BadMetric"))
+    neighbor.send(port, response(*[entry(text, metric) for text, metric, _ in kinds] * 15))
+    router.done()
+    lines = "".join(f"0 iface 0 from fe80::2 port 521 entry {number} noted {kinds[number % 3][2]}\n" for number in range(45))
+    counts = "".join(f"noted {why} 15\n" for _, _, why in kinds)
+    same("what is said", router.said(), f"{lines}arrivals 1 sends 0 failed 0\n{counts}")
+
+
+@listed
+def a_route_more_than_a_table_holds_is_noted(case):
+    neighbor, port = case.neighbor(), case.port()
+    router = case.listening("full", interface(1, port, peer(2, neighbor.port)), "-q", "-d")
+    feed(neighbor, port, table("e", FULL) + [response(entry("2001:f::/48", 1), entry("2001:e::/48", 2))])
+    until("noted", lambda: "noted" in router.said())
+    same("what is said", re.sub(r"^\d+", "T", router.said()), "T iface 0 from fe80::2 port 521 entry 0 noted 23 TableFull\n")
+    same("the last line of its counts", router.ctl("counts").out.splitlines()[1], "noted 23 TableFull 1")
+
+
+@listed
+def sends_that_fail_are_counted(case):
+    """Of five updates two."""
+    neighbor, port = case.neighbor(), case.port()
+    text = interface(1, port, peer(2, neighbor.port)) + prefix(OWN)
+    router = Ordered(case, "sends", text, "-d", "--seconds", "150", clock=0, fail="sendto:3:2:1").done()
+    sends = int(re.search(r"^arrivals 0 sends (\d+) failed 2\n", router.said())[1])
+    same("the number of sends", sends, len(router.calls("sendto")) - 1)
+    # One every 15 to 45 seconds.
+    same(f"whether {sends} are those of 150 seconds", 4 <= sends <= 11, True)
+    same("what was lost", router.said().splitlines()[-1], "ripngd: lost sends 2, lost steps 0")
+
+
+def said_of(router):
+    """What `ctl neighbors` answers, without its moments."""
+    return re.sub(r" last \d+$", " last T", router.ctl("neighbors").out, flags=re.M)
+
+
+@listed
+def each_sender_has_a_row(case):
+    """By interface and address: one address on two interfaces is two senders."""
+    first, second, ports = case.neighbor(), case.neighbor(), (case.port(), case.port())
+    router = case.listening("rows", interface(1, ports[0], peer(2, first.port)) + interface(3, ports[1], peer(2, second.port)))
+    entries = [entry("2001:db8::/129", 1), *[entry(OWN, 1)] * 6, entry(OWN, 17)]
+    for datagram in (b"\2\1", response(*entries), REQUEST[:4]):
+        first.send(ports[0], datagram)
+    until("heard", lambda: "arrivals 3 " in said_of(router))
+    for datagram in (REQUEST, response()):
+        second.send(ports[1], datagram)
+    until("heard", lambda: "arrivals 2 " in said_of(router))
+    same("the rows", said_of(router), "iface 0 from fe80::2 arrivals 3 responses 1 entries 8 last T\nrefused 1 Short 1\n"
+         "refused 11 EmptyRequest 1\nnoted 20 BadLength 1\nnoted 22 BadMetric 1\n"
+         "iface 1 from fe80::2 arrivals 2 responses 1 entries 0 last T\n")
+    counts = re.sub(r"sends \d+ failed", "sends S failed", router.ctl("counts").out)
+    same("the counts", counts, "arrivals 5 sends S failed 0\nrefused 1 Short 1\n"
+         "refused 11 EmptyRequest 1\nnoted 20 BadLength 1\nnoted 22 BadMetric 1\nlost sends 0 steps 0 arrivals 0\nstrangers 0\n")
+
+
+@listed
+def senders_beyond_64_are_counted_together(case):
+    neighbors, port = [case.neighbor() for _ in range(66)], case.port()
+    peers = [peer(f"1:{number:x}", neighbor.port) for number, neighbor in enumerate(neighbors)]
+    router = case.listening("many", interface(1, port, *peers))
+    for neighbor in neighbors:
+        neighbor.send(port, response(entry(OWN, 1)))
+    neighbors[2].send(port, b"\2\1")
+    until("heard", lambda: router.ctl("counts").out.startswith("arrivals 67 "))
+    lines = said_of(router).splitlines()
+    same("the first rows", lines[:4], ["iface 0 from fe80::1:0 arrivals 1 responses 1 entries 1 last T",
+         "iface 0 from fe80::1:1 arrivals 1 responses 1 entries 1 last T", "iface 0 from fe80::1:2 arrivals 2 responses 1 entries 1 last T",
+         "refused 1 Short 1"])
+    same("the number of lines", len(lines), 64 + 1 + 1)
+    same("the last line", lines[-1], "others arrivals 2 responses 2 entries 2 last T")
+
+
+# Where a write fails.
+
+@listed
+def a_failed_write_of_standard_error_ends_its_lines_and_nothing_else(case):
+    """Each write in turn, of the lines of an arrival that is refused and of one with three notes. What stands before it in these lines is
+    there, and then the counts, whole."""
+    far, near, port = case.neighbor(), case.neighbor(), case.port()
+    text = interface(1, port, peer(2, far.port, hop_limit=64), peer(3, near.port)) + prefix(OWN)
+
+    def run(number):
+        router = Ordered(case, f"lines{number}", text, "-d", "--turns", "3", clock=0, fail=f"write2:{number}:1:{ENOSPC}")
+        far.send(port, response())
+        near.send(port, response(*[entry(OWN, 17)] * 3))
+        same("the table", router.done().out(), OWN_TABLE)
+        return router
+    whole = run(9_999)
+    said, lengths = whole.err(), [length for _, _, length, _ in whole.calls("write2")]
+    begun = len("ripngd: running, 1 interfaces\n")
+    counts = said[said.index("arrivals "):]
+    same("the lines", [line.split(" port 521 ")[1] for line in said[begun:-len(counts)].splitlines()],
+         ["refused 10 HopLimit"] + [f"entry {number} noted 22 BadMetric" for number in range(3)])
+    for number in range(1, len(lengths) + 1):
+        before = sum(lengths[:number - 1])
+        if before >= begun:
+            ends = len(said) - (len(counts) if before < len(said) - len(counts) else 0)
+            same(f"what is said where write {number} fails", run(number).err(), said[:before] + said[ends:])
+
+
+@listed
+def a_failed_write_of_the_log_ends_it_alone(case):
+    """Each write in turn, of the lines of three routes that are told at once and taken back. No later one is tried."""
+    neighbor, port = case.neighbor(), case.port()
+    text = interface(1, port, peer(2, neighbor.port))
+    routes = [f"2001:db8:{number}::/48" for number in (1, 2, 3)]
+    whole = "".join([f"add {route} metric 2 via fe80::2 iface 0\n" for route in routes] + [f"del {route}\n" for route in routes])
+    for number in range(1, 99):
+        router = Ordered(case, f"log{number}", text, "-R", f"log{number}.log", "--turns", "5", clock=0, fail=f"write3:{number}:1:{ENOSPC}")
+        for metric in (1, 16):
+            neighbor.send(port, response(*[entry(route, metric) for route in routes]))
+        same("the table", router.done().out(), "")
+        same("the sends", len(router.calls("sendto")), 3)
+        writes = router.calls("write3")
+        same("the log", router.log(), whole[:sum(length for _, _, length, answer in writes if answer >= 0)])
+        if len(writes) < number:
+            same("what is said, and the log", (router.said(), router.log()), ("", whole))
+            return
+        same("what is said, and the number of writes", (router.said(), len(writes)), (LOST_LOG, number))
+    raise Failed("it is written without end")
+
+
+@listed
+def each_of_many_changes_has_its_line(case):
+    neighbor, port = case.neighbor(), case.port()
+    router = Ordered(case, "many", interface(1, port, peer(2, neighbor.port)), "-q", "-R", "many.log", "--turns", "1", clock=0)
+    neighbor.send(port, response(*[entry(f"2001:db8:{number:x}::/48", 1) for number in range(70)]))
+    lines = [f"2001:db8:{number:x}::/48".replace(":0::", "::") + " metric 2 via fe80::2 iface 0\n" for number in range(70)]
+    same("the table", router.done().out(), "".join(lines))
+    same("the log", router.log(), "".join(f"add {line}" for line in lines))
+
+
+@listed
+def a_start_sends_before_it_logs(case):
+    text = interface(1, case.port(), peer(2, case.port())) + prefix(OWN)
+    Ordered(case, "start", text, "-R", "start.log", "--turns", "1", clock=0).done()
+    names = dict.fromkeys(line.split()[1] for line in case.read("start.calls").splitlines())
+    same("what it does first, one after the other", list(names)[:5], ["bind", "write2", "sendto", "write3", "wait"])
+
+
+# Stamps.
+
+def stamped(case, wall, *words, **orders):
+    """What a router of one turn writes to its log by a wall clock, and what it says beside."""
+    case.file("alone.toml", interface(1, case.port()) + prefix(OWN))
+    case.file("alone.log", "")
+    words = ["run", "--stamp", "--turns", "1", "-R", "alone.log", *words, "alone.toml"]
+    done = case.run(*words, **environment(case.folder, "alone", wall=wall, **orders))
+    same("status and table", (done.status, done.out), (0, OWN_TABLE))
+    return case.read("alone.log"), done.err.partition("\n")[2]
+
+
+@listed
+def a_line_has_the_moment_of_the_wall_clock(case):
+    """To the millisecond that has begun, as `date -u` has them."""
+    for wall, stamp in (
+        ("0.000000000", "1970-01-01T00:00:00.000Z"), ("0.001000000", "1970-01-01T00:00:00.001Z"),
+        ("0.999999999", "1970-01-01T00:00:00.999Z"), ("951782399.999000000", "2000-02-28T23:59:59.999Z"),
+        ("951782400.000000000", "2000-02-29T00:00:00.000Z"), ("1709251199.500000000", "2024-02-29T23:59:59.500Z"),
+        ("2147483647.000000000", "2038-01-19T03:14:07.000Z"), ("2147483648.010000000", "2038-01-19T03:14:08.010Z"),
+        ("4102444799.000000000", "2099-12-31T23:59:59.000Z"), ("253402207200.999000000", "9999-12-30T22:00:00.999Z"),
+    ):
+        same(f"log and loss at {wall}", stamped(case, wall), (f"{stamp} add {OWN} metric 1 direct\n", ""))
+
+
+@listed
+def each_line_is_stamped_as_it_ends(case):
+    """Whatever parts it comes in, it is written at once."""
+    log, _ = stamped(case, "951782399.000000000", "--append")
+    same("the log", log, f"\n2000-02-28T23:59:59.000Z start\n2000-02-29T00:00:00.000Z add {OWN} metric 1 direct\n")
+    same("the length of each write", [length for _, _, length, _ in calls(case, "alone", "write3")], list(map(len, log.splitlines(True))))
+
+
+@listed
+def behind_the_last_moment_no_line_is_written(case):
+    same("log and loss", stamped(case, "253402207201.000000000"), ("", LOST_LOG))
+
+
+@listed
+def a_line_without_a_moment_is_not_written(case):
+    same("log and loss", stamped(case, "0.000000000", fail="wall:1:1:22"), ("", LOST_LOG))
+
+
+@listed
+def a_stamped_line_that_cannot_be_written_ends_the_log(case):
+    same("log and loss", stamped(case, "0.000000000", fail=f"write3:1:1:{ENOSPC}"), ("", LOST_LOG))
+
+
+if __name__ == "__main__":
+    main()

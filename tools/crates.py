@@ -1,0 +1,28 @@
+#!/usr/bin/env python3
+"""Which crates stand on which, as crates.txt says.
+
+    tools/crates.py below CRATE        the crate, and all that it stands on
+    tools/crates.py above CRATE        the crate, and all that stand on it
+"""
+import pathlib
+import sys
+
+LINES = (pathlib.Path(__file__).parent.parent / "crates.txt").read_text().splitlines()
+USES = {name: used.split() for name, colon, used in (line.partition(":") for line in LINES if line[:1] != "#") if colon}
+
+
+def below(crate):
+    """The crate, and all that it stands on in this repository."""
+    return {crate}.union(*(below(one) for one in USES[crate] if one in USES))
+
+
+def main():
+    way, crate = sys.argv[1:]
+    if crate not in USES:
+        sys.exit(f"crates.txt has no crate {crate}")
+    found = below(crate) if way == "below" else {one for one in USES if crate in below(one)}
+    print(*(one for one in USES if one in found))
+
+
+if __name__ == "__main__":
+    main()
