@@ -41,7 +41,7 @@ name = ripngd-$(VERSION)$(if $(UNPROVED),-unproved)-x86_64-linux
 all: bin/ripngd
 
 # Where this kit compiles nothing without its proof (status 3), it is proved.
-bin/ripngd: crates.txt $(shell find crates -path '*/src/*.rt' ! -path 'crates/test_*' ! -path 'crates/bench_*')
+bin/ripngd: crates.txt $(shell find crates -path '*/src/*.rt' ! -path 'crates/test_*')
 	@if tools/unproved.sh crates/ripngd_program $@; then echo 'bin/ripngd is not proved: `make prove` proves it' >&2; \
 	elif [ $$? = 3 ]; then echo 'so it is proved now, which takes half an hour' >&2; tools/prove.sh ripngd_program $@; else exit 2; fi
 
@@ -107,9 +107,8 @@ dist:
 
 # Memory is measured by a program of its own for each size, since freed memory is used again.
 bench:
-	tools/prove.sh bench_router bin/bench_router
-	bin/bench_router $(ROUTES)
-	for routes in $(ROUTES); do bin/bench_router memory $$routes; done
+	tools/prove.sh test_rows bin/test_rows
+	tools/bench.py bin/test_rows $(ROUTES)
 
 beside: proved
 	tools/beside.py bin/ripngd

@@ -1,6 +1,6 @@
 #!/usr/bin/env python3
-"""Each growth of calls refused in turn: crates/test_rows plays each case of its data/memory.txt with its first allocation refused, then
-with its second, and so on until none is; and with all refused from the first on, from the second on, and so on.
+"""Each growth of calls refused in turn: crates/test_rows plays cases of its data with the first allocation refused, then with the second,
+and so on until none is; and with all refused from the first on, from the second on, and so on.
 
     tests/growth_of_calls.py ROWS_PROGRAM
 
@@ -18,9 +18,9 @@ sys.dont_write_bytecode = True
 from refusing import Refuser, is_same
 from suite import Failed, play
 
-ROWS = pathlib.Path(__file__).resolve().parent.parent / "crates/test_rows/data/memory.txt"
+DATA = pathlib.Path(__file__).resolve().parent.parent / "crates/test_rows/data"
 
-# What has to be refused at least once, for each case: the program tells on standard error which call it was.
+# The cases, and what has to be refused at least once in each: the program tells on standard error which call it was.
 REFUSED = {
     "what is read is written, the highest byte of each number first": "encode",
     "the longest prefix wins": "apply",
@@ -40,10 +40,10 @@ REFUSED = {
 }
 
 
-def cases_of_rows():
+def texts():
     """The text of each case, by its name."""
-    head, *cases = ROWS.read_text().split("\n# ")
-    return {case.partition("\n")[0]: f"{head}\n# {case}" for case in cases}
+    cases = (case for file in DATA.glob("*.txt") for case in file.read_text().split("\n# ")[1:])
+    return {case.partition("\n")[0]: f"\n# {case}" for case in cases}
 
 
 def judged(run, want):
@@ -85,8 +85,9 @@ def sweep(refuser, folder, name, text):
 
 
 def cases_of_calls(refuser):
-    """A case for each of data/memory.txt."""
-    return [(f"calls: {name}", lambda folder, name=name, text=text: sweep(refuser, folder, name, text)) for name, text in cases_of_rows().items()]
+    """What is played for each of the cases."""
+    text = texts()
+    return [(f"calls: {name}", lambda folder, name=name: sweep(refuser, folder, name, text[name])) for name in REFUSED]
 
 
 def main(program):

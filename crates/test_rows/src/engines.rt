@@ -94,7 +94,8 @@ fn spoiled<'a, S: RouteStore>(
     let Ok(mut rig) = start_once::<S>(row, doubles, failing)? else {
         return Err(AllocError);
     };
-    let _ = rig.engine.turns(turns, &mut rig.doubles);
+    let mut log = doubles;
+    let _ = rig.engine.turns(turns, &mut log);
     let (mut text, writes) = doubles.take(row)?;
     text.push_str(entries_of(row, rig.engine.fib())?.as_str())?;
     Ok((text, writes, rig.engine.report().log_failed))
