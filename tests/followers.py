@@ -89,7 +89,7 @@ def a_long_table_is_told_in_pieces_and_is_a_log(case):
     told = router.client().say(b"changes\n").upto(b"ok\n").splitlines(True)
     same("the number of lines", len(told), 601)
     pieces = [sum(map(len, told[first:end])) for first, end in ((0, 256), (256, 512), (512, 600), (600, 601))]
-    same("the lengths of its pieces", [length for _, _, length, _ in calls(case, "long", "send")], pieces)
+    until(f"pieces of {pieces} bytes", lambda: [length for _, _, length, _ in calls(case, "long", "send")] == pieces)
     case.file("told.out", "".join(told[:600]))
     same("the table", made_of(case, "told"), router.ctl("table").out)
 
