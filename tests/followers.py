@@ -12,6 +12,7 @@ import time
 sys.dont_write_bytecode = True
 from daemons import interface, listed, main, peer, prefix, Process, until
 from datagrams import feed, table
+from ordered import calls, environment
 from suite import same
 
 ROUTES = int(os.environ.get("ROUTES", 20_000))
@@ -78,15 +79,18 @@ def that_the_table_is_whole_stands_between_it_and_its_changes(case):
 
 
 @listed
-def a_long_table_is_told_whole_and_is_a_log(case):
-    """Of 600 routes, which are told in pieces."""
+def a_long_table_is_told_in_pieces_and_is_a_log(case):
+    """Of 600 routes: 256 entries, as many again, the other 88, and that it is whole."""
     source, at = case.neighbor(), case.port()
-    router = case.listening("long", interface(1, at, peer(2, source.port)), "-R", "long.log")
+    text = interface(1, at, peer(2, source.port))
+    router = case.listening("long", text, "-R", "long.log", **environment(case.folder, "long"))
     feed(source, at, table("e", 600))
     until("600 routes", lambda: router.log().count("add ") == 600)
-    told = router.client().say(b"changes\n").upto(b"ok\n")
-    same("the number of lines", told.count("\n"), 601)
-    case.file("told.out", told.removesuffix("ok\n"))
+    told = router.client().say(b"changes\n").upto(b"ok\n").splitlines(True)
+    same("the number of lines", len(told), 601)
+    pieces = [sum(map(len, told[first:end])) for first, end in ((0, 256), (256, 512), (512, 600), (600, 601))]
+    until(f"pieces of {pieces} bytes", lambda: [length for _, _, length, _ in calls(case, "long", "send")] == pieces)
+    case.file("told.out", "".join(told[:600]))
     same("the table", made_of(case, "told"), router.ctl("table").out)
 
 

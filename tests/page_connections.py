@@ -137,13 +137,25 @@ def an_answer_has_thirty_seconds(program):
             at_least("the deaf one", time.monotonic() - deaf.begun, 29.5)
 
 
+def is_ready(client):
+    """Whether something has come on a connection, or its end."""
+    return bool(select.select([client.socket], [], [], 0)[0])
+
+
 def nobody_is_held_up_by_the_silent(program):
-    """A request is answered beside twenty connections that say nothing and one that stops, while all of them are open."""
+    """A request is answered behind four connections that say nothing and one that stops, before any of these is let go."""
     def is_first():
         with contextlib.ExitStack() as stack, Server(program, 1) as server:
-            others = [stack.enter_context(server.asks()) for _ in range(20)] + [stack.enter_context(server.asks(b"POST /trace HTTP/1.1\r\n"))]
-            expect_and_close(server)
-            return not select.select([other.socket for other in others], [], [], 0)[0]
+            server.stop()
+            others = [stack.enter_context(server.asks(*pieces)) for pieces in ([], [], [], [], [b"POST /trace HTTP/1.1\r\n"])]
+            client = stack.enter_context(asking(server))
+            server.go_on()
+            while not is_ready(client):
+                if any(map(is_ready, others)) and not is_ready(client):
+                    return False
+                time.sleep(0.01)
+            expect(client, SHOWN)
+            return True
     in_some_try(is_first)
 
 
@@ -173,13 +185,12 @@ def expect_in_order(clients, answers):
     """Whenever one has an answer, all before it have theirs."""
     left = list(clients)
     while left:
-        ready = {client for client in reversed(left) if select.select([client.socket], [], [], 0)[0]}
+        ready = {client for client in reversed(left) if is_ready(client)}
         while left and left[0] in ready:
             ready.remove(left.pop(0))
-        later = [client for client in ready if not select.select([left[0].socket], [], [], 0)[0]]
-        if later:
+        if ready and not is_ready(left[0]):
             raise Failed("who asked later is answered sooner")
-        time.sleep(0.0005)
+        time.sleep(0.001)
     for client, answer in zip(clients, answers):
         expect(client, answer)
 
@@ -206,10 +217,17 @@ def who_waits_behind_sixty_four_is_answered_once_there_is_room(program):
         waiting = [stack.enter_context(client) for client in (asking(server), astray(server), asking(server))]
         begun = time.monotonic()
         server.go_on()
-        expect_in_order(waiting, [SHOWN, ASTRAY, SHOWN])
+        while not is_ready(silent[0]):
+            if any(map(is_ready, waiting)) and not is_ready(silent[0]):
+                raise Failed("who waits is answered while there is no room")
+            time.sleep(0.01)
+        same("what the silent one has", silent[0].answer(), b"")
         at_least("to wait for room", time.monotonic() - begun, 1.9)
+        # The others leave: a busy machine takes long to look at each, and who waits has two seconds from when it is taken in.
+        for client in silent:
+            client.socket.close()
+        expect_in_order(waiting, [SHOWN, ASTRAY, SHOWN])
         server.ended()
-        same("what the silent have", {client.answer() for client in silent}, {b""})
 
 
 def sixty_four_are_served_in_turn(program):
