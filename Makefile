@@ -105,7 +105,6 @@ dist:
 	cd dist/$(name) && find . -type f -print0 | LC_ALL=C sort -z | xargs -0 sha256sum > ../SHA256SUMS && mv ../SHA256SUMS .
 	cd dist && tar --sort=name --owner=0 --group=0 --numeric-owner --mtime=@0 -czf $(name).tar.gz $(name) && sha256sum $(name).tar.gz > $(name).tar.gz.sha256
 
-# Memory is measured by a program of its own for each size, since freed memory is used again.
 bench:
 	tools/prove.sh test_rows bin/test_rows
 	tools/bench.py bin/test_rows $(ROUTES)
