@@ -28,11 +28,10 @@ pub fn entries_of(row: &Row<'_>, fib: &Fib) -> Result<String, AllocError> {
     Ok(text)
 }
 
-fn write_hop(out: &mut String, hop: Option<Hop>) -> Done {
+fn write_hop(out: &mut String, hop: Hop) -> Done {
     match hop {
-        None => writeln!(out, "no hop"),
-        Some(Hop::Direct) => writeln!(out, "direct"),
-        Some(Hop::Via { iface, next_hop }) => writeln!(out, "via {next_hop} iface {iface}"),
+        Hop::Direct => writeln!(out, "direct"),
+        Hop::Via { iface, next_hop } => writeln!(out, "via {next_hop} iface {iface}"),
     }
 }
 
@@ -90,10 +89,10 @@ impl Forwarding {
                 row.tell_time(start)?;
                 writeln!(row.text, "{count}")?;
             }
-            "lookup" => {
-                let hop = self.fib.lookup(row.addr());
-                write_hop(&mut row.text, hop)?;
-            }
+            "lookup" => match self.fib.lookup(row.addr()) {
+                Some(hop) => write_hop(&mut row.text, hop)?,
+                None => writeln!(row.text, "no hop")?,
+            },
             "entries" => {
                 let entries = entries_of(row, &self.fib)?;
                 row.text.push_str(entries.as_str())?;

@@ -7,7 +7,7 @@ use crate::writing::{write_bytes, write_found, write_one, write_routes};
 use prefix6::{Addr6, Prefix};
 use ripng_wire::{MAX_ENTRIES, Rte, decode, encode};
 use ripngd_show::{PrintFault, show};
-use route_table::{AddRefused, Moment, Origin, Route, RouteStore};
+use route_table::{Moment, Origin, Route, RouteStore};
 use std::alloc::AllocError;
 use std::cell::RefCell;
 
@@ -38,8 +38,7 @@ fn add<S: RouteStore>(row: &mut Row<'_>, store: &mut S, prefix: Prefix, route: R
     }
     match store.add(prefix, route) {
         Ok(()) => Ok(()),
-        Err(AddRefused::Full) => writeln!(row.text, "refused Full"),
-        Err(AddRefused::NoMemory) => Err(AllocError),
+        Err(why) => writeln!(row.text, "refused {} {}: {why}", why.number(), why.name()),
     }
 }
 
@@ -135,8 +134,9 @@ fn write_moment(row: &mut Row<'_>) -> Done {
 /// The bytes that the entries of a datagram are written as, and again if that wanted memory.
 fn write_encoded(row: &mut Row<'_>) -> Done {
     let bytes = row.bytes()?;
-    let Ok(datagram) = decode(bytes.as_slice()) else {
-        return row.spoil();
+    let datagram = match decode(bytes.as_slice()) {
+        Ok(datagram) => datagram,
+        Err(why) => return writeln!(row.text, "refused {} {}: {why}", why.number(), why.name()),
     };
     let entries: Vec<Rte> = datagram.entries().collect(row.alloc)?;
     if entries.len() > MAX_ENTRIES {
