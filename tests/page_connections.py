@@ -164,9 +164,16 @@ def who_is_reset_ends_alone(program):
         for piece in (b"", b"POST /show HTTP/1.1\r\n"):
             with server.asks(piece) as client:
                 client.socket.setsockopt(socket.SOL_SOCKET, socket.SO_LINGER, struct.pack("ii", 1, 0))
-        with server.asks(NOISE) as client:
-            client.socket.shutdown(socket.SHUT_RDWR)
         expect_and_close(server)
+        server.ended()
+
+
+def a_request_is_answered_behind_silence_and_noise(program):
+    with Server(program, 2) as server:
+        with server.asks() as silent, server.asks(NOISE) as noisy, asking(server) as client:
+            silent.socket.shutdown(socket.SHUT_RDWR)
+            expect(noisy, NO_REQUEST)
+            expect(client, SHOWN)
         server.ended()
 
 
@@ -311,7 +318,8 @@ def number_of(word):
 SERVING = [
     the_port_of_loopback_is_bound_and_printed, a_port_is_bound_once, slow_pieces_have_their_answer, who_does_not_close_has_half_a_second,
     who_closes_is_not_waited_for, the_silent_are_closed_after_two_seconds_and_not_counted, a_request_that_stops_is_told_so_after_two_seconds,
-    an_answer_has_thirty_seconds, nobody_is_held_up_by_the_silent, who_is_reset_ends_alone, who_asks_later_is_answered_later,
+    an_answer_has_thirty_seconds, nobody_is_held_up_by_the_silent, who_is_reset_ends_alone,
+    a_request_is_answered_behind_silence_and_noise, who_asks_later_is_answered_later,
     each_has_its_own_answer_behind_one_that_is_slow_and_one_that_is_silent, who_waits_behind_sixty_four_is_answered_once_there_is_room,
     sixty_four_are_served_in_turn,
 ]
