@@ -7,6 +7,7 @@ system that fail. Times and limits are those of page/README.md.
 
 import contextlib
 import errno
+import functools
 import os
 import pathlib
 import select
@@ -51,10 +52,15 @@ def at_least(what, seconds, least):
         raise Failed(f"{what} took {seconds:.2f} seconds and not {least}")
 
 
-def in_some_try(attempt):
-    """Whether something holds in one of five tries: a machine that is busy may hold up whoever looks."""
-    if not any(attempt() for _ in range(5)):
-        raise Failed("in none of five tries")
+def patient(case):
+    """A case that is tried up to five times: on a busy machine two seconds may pass before the server, or who looks at it, goes on."""
+    @functools.wraps(case)
+    def tried(program):
+        for _ in range(4):
+            with contextlib.suppress(Failed):
+                return case(program)
+        return case(program)
+    return tried
 
 
 def the_port_of_loopback_is_bound_and_printed(program):
@@ -74,6 +80,7 @@ def a_port_is_bound_once(program):
         second.ended(3, b"ripngd: cannot bind %d\n" % first.port)
 
 
+@patient
 def slow_pieces_have_their_answer(program):
     """One request comes in two pieces, and its answer is read two bytes at a time, beside another."""
     with Server(program, 2) as server:
@@ -85,25 +92,24 @@ def slow_pieces_have_their_answer(program):
         server.ended()
 
 
+@patient
 def who_does_not_close_has_half_a_second(program):
     """The answer ends, and then the server waits for the other side to close."""
-    def waits():
-        with Server(program, 1) as server, asking(server) as client:
-            expect(client, SHOWN)
-            end = time.monotonic()
-            server.ended()
-            return time.monotonic() - end >= 0.4
-    in_some_try(waits)
+    with Server(program, 1) as server, asking(server) as client:
+        expect(client, SHOWN)
+        end = time.monotonic()
+        server.ended()
+        at_least("to wait for who does not close", time.monotonic() - end, 0.4)
 
 
+@patient
 def who_closes_is_not_waited_for(program):
-    def ends_at_once():
-        with Server(program, 1) as server:
-            expect_and_close(server)
-            end = time.monotonic()
-            server.ended()
-            return time.monotonic() - end < 0.4
-    in_some_try(ends_at_once)
+    with Server(program, 1) as server:
+        expect_and_close(server)
+        end = time.monotonic()
+        server.ended()
+        if time.monotonic() - end > 0.4:
+            raise Failed("the server waits for who has closed")
 
 
 def expect_and_close(server):
@@ -142,21 +148,19 @@ def is_ready(client):
     return bool(select.select([client.socket], [], [], 0)[0])
 
 
+@patient
 def nobody_is_held_up_by_the_silent(program):
     """A request is answered behind four connections that say nothing and one that stops, before any of these is let go."""
-    def is_first():
-        with contextlib.ExitStack() as stack, Server(program, 1) as server:
-            server.stop()
-            others = [stack.enter_context(server.asks(*pieces)) for pieces in ([], [], [], [], [b"POST /trace HTTP/1.1\r\n"])]
-            client = stack.enter_context(asking(server))
-            server.go_on()
-            while not is_ready(client):
-                if any(map(is_ready, others)) and not is_ready(client):
-                    return False
-                time.sleep(0.01)
-            expect(client, SHOWN)
-            return True
-    in_some_try(is_first)
+    with contextlib.ExitStack() as stack, Server(program, 1) as server:
+        server.stop()
+        others = [stack.enter_context(server.asks(*pieces)) for pieces in ([], [], [], [], [b"POST /trace HTTP/1.1\r\n"])]
+        client = stack.enter_context(asking(server))
+        server.go_on()
+        while not is_ready(client):
+            if any(map(is_ready, others)) and not is_ready(client):
+                raise Failed("others are let go before")
+            time.sleep(0.01)
+        expect(client, SHOWN)
 
 
 def who_is_reset_ends_alone(program):
@@ -202,6 +206,7 @@ def expect_in_order(clients, answers):
         expect(client, answer)
 
 
+@patient
 def each_has_its_own_answer_behind_one_that_is_slow_and_one_that_is_silent(program):
     with Server(program, 3) as server:
         whole = server.get(b"/none")
@@ -216,6 +221,7 @@ def each_has_its_own_answer_behind_one_that_is_slow_and_one_that_is_silent(progr
             same("what the silent one has", silent.answer(), b"")
 
 
+@patient
 def who_waits_behind_sixty_four_is_answered_once_there_is_room(program):
     """Nobody who waits is taken in while the silent are there; once they leave, each is answered, in order."""
     with contextlib.ExitStack() as stack, Server(program, 3) as server:
