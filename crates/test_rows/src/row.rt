@@ -198,7 +198,7 @@ impl<'a> Row<'a> {
     }
 
     /// What was refused memory is lost for good.
-    pub fn end(&mut self, lost: &'static str) {
+    pub fn end(&mut self, lost: &'a str) {
         self.refused = lost;
         self.is_over = true;
     }

@@ -73,8 +73,10 @@ pub fn write_routes<S: RouteStore>(out: &mut String, store: &S) -> Done {
         let Some(entry) = store.walk(after) else {
             break;
         };
-        write_found(out, Some(entry))?;
-        after = Some(entry.0);
+        let prefix = entry.0;
+        let route = entry.1;
+        write_found(out, Some((prefix, route)))?;
+        after = Some(prefix);
     }
     Ok(())
 }
