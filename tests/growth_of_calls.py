@@ -24,6 +24,9 @@ DATA = pathlib.Path(__file__).resolve().parent.parent / "crates/test_rows/data"
 REFUSED = {
     "what is read is written, the highest byte of each number first": "encode",
     "the longest prefix wins": "apply",
+    "a default route holds all": "apply",
+    "changes in order are merged": "apply",
+    "changes are appended at the end": "apply",
     "a start owns its prefixes": "start",
     "a route is learned": "router, hear, a new route",
     "bad entries are noted and the rest is learned": "router, hear, a new route",
