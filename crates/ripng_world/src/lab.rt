@@ -143,7 +143,7 @@ impl<S: RouteStore> Lab<S> {
     }
 
     /// The changes that routers have done since the cold start, each with its router, in order.
-    pub fn reconfigurations(&self) -> &[(usize, Change)]
+    pub fn changes_done(&self) -> &[(usize, Change)]
         ensures { result.now ≡ self.now.world.reconfigurations }
     {
         self.running.reconfigurations()

@@ -181,7 +181,7 @@ pub fn obey<S: RouteStore>(
     match verb {
         "print" => print(row, lab),
         "sent" => write_sent(&mut row.text, lab.sent()),
-        "changes" => writeln!(row.text, "{:?}", lab.reconfigurations()),
+        "changes" => writeln!(row.text, "{:?}", lab.changes_done()),
         "round" => round(row, lab),
         "run" => {
             let events = mem::replace(waiting, Vec::new(row.alloc));

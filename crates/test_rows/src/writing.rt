@@ -175,6 +175,6 @@ pub fn write_lab<S: RouteStore>(out: &mut String, lab: &Lab<S>) -> Done {
             write_readers(out, router)?;
         }
     }
-    writeln!(out, "{:?}", lab.reconfigurations())?;
+    writeln!(out, "{:?}", lab.changes_done())?;
     write_sent(out, lab.sent())
 }
