@@ -6,8 +6,7 @@ ghost use Rattle.ripngd.specs.Exit.{AnswersAsk, AnswersWords, AsksForHelp, Fails
 ghost use Rattle.ripngd_daemon.specs.Failing.{MayFail};
 ghost use Rattle.ripngd_daemon.specs.declared.failure.Failure.TheVariants as failures;
 
-use crate::browser::serve;
-use crate::subcommands::{explain_file, film_file, lab_file, show_digits, trace_file};
+use crate::subcommands::{explain_file, lab_file, show_digits, trace_file};
 use clap::error::ErrorKind;
 use ripngd_command_line::{Ask, ask, is_misused, misuse_text};
 use ripngd_daemon::{
@@ -42,8 +41,8 @@ pub(crate) enum Status {
 /// - 2 at a fault of the command line, or where `--append` has no file to go on in or `--stamp` no log, or a number of an
 ///   option has a sign; the text is written to `err`;
 /// - 3 where something else failed, as a line on `err` says, with why where the system says so: `ripngd: cannot read FILE`,
-///   `ripngd: cannot write FILE` (with `stdout` for `out`), `ripngd: cannot bind PORT`, `ripngd: cannot accept a connection`,
-///   `ripngd: link fault after N turns` or `ripngd: out of memory`; but nothing is said of an `out` that nobody reads any more.
+///   `ripngd: cannot write FILE` (with `stdout` for `out`), `ripngd: cannot bind PORT`, `ripngd: link fault after N turns` or
+///   `ripngd: out of memory`; but nothing is said of an `out` that nobody reads any more.
 ///
 /// A run that is debugged writes what it refuses to `err`, and counts. One that lost something has a last line on `err` that says what, also with status 0: `ripngd: lost sends N, lost
 /// steps M`, with `, log failed` behind it where a write of the log failed.
@@ -139,8 +138,6 @@ fn accepts<
         Ask::Run(order) => run(rt, files, order, ports, out, err, lost),
         Ask::Ctl(question) => ctl(rt, question, out),
         Ask::Table(file) => table_file(rt.alloc(), files, file, out),
-        Ask::Page(order) => serve(rt, order, out),
-        Ask::Film(order) => film_file(rt.alloc(), files, order, out),
     }
 }
 
