@@ -17,7 +17,6 @@ use ripngd_udp::Ports;
 use std::fs::File;
 use std::io::{self, Write};
 use std::net::Net;
-use std::random::RandomSource;
 use std::rt::{Clock, Files};
 
 /// The exit status of the program.
@@ -48,11 +47,12 @@ pub(crate) enum Status {
 /// steps M`, with `, log failed` behind it where a write of the log failed.
 ///
 /// What was written to `out` is flushed before a status of 0 or 1 is answered. A failure of `err` changes no status.
-pub fn program<
-    R: AllocGlobal + Files<File = File> + Print + Clock + Net + RandomSource,
-    O: Write,
-    E: Write,
->(rt: &R, words: &[&str], out: &mut O, err: &mut E) -> u8
+pub fn program<R: AllocGlobal + Files<File = File> + Print + Clock + Net, O: Write, E: Write>(
+    rt: &R,
+    words: &[&str],
+    out: &mut O,
+    err: &mut E,
+) -> u8
     ensures done { result ≡ 0 → AnswersWords holds_any (map (λ w. w.now) words.now) true (O.contents out.old) (O.contents out.new)
         ⊎ AsksForHelp (map (λ w. w.now) words.now) }
     ensures refused { result ≡ 1
@@ -73,7 +73,7 @@ pub fn program<
 /// Does what the words ask for.
 fn outcome<
     'a,
-    R: AllocGlobal + Files<File = File> + Print + Clock + Net + RandomSource,
+    R: AllocGlobal + Files<File = File> + Print + Clock + Net,
     F: FileSource,
     O: Write,
     E: Write,
@@ -112,7 +112,7 @@ fn explain_misuse<E: Write>(asked: Ask<'_>, err: &mut E) -> Status
 /// Does what is asked, and answers whether what was given is accepted.
 fn accepts<
     'a,
-    R: AllocGlobal + Files<File = File> + Print + Clock + Net + RandomSource,
+    R: AllocGlobal + Files<File = File> + Print + Clock + Net,
     F: FileSource,
     O: Write,
     E: Write,
@@ -144,7 +144,7 @@ fn accepts<
 /// Does what is asked.
 fn answer<
     'a,
-    R: AllocGlobal + Files<File = File> + Print + Clock + Net + RandomSource,
+    R: AllocGlobal + Files<File = File> + Print + Clock + Net,
     F: FileSource,
     O: Write,
     E: Write,
