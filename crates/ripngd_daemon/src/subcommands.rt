@@ -30,13 +30,7 @@ pub fn check_file<'a, F: FileSource, O: Write, E: Write>(
         × IsChecked config accepted (O.contents out.old) (O.contents out.new)) }
     ensures failed { IfErr result (MayFail (asks.Check file.entry)) }
 {
-    Ok(check_named(
-        alloc,
-        file,
-        files.read(file)?.as_slice(),
-        out,
-        err,
-    )?)
+    Ok(check_named(alloc, file, files.read(file)?.as_slice(), out, err)?)
 }
 
 /// `table LOG`: whether every line of the file is that of a change.
