@@ -88,7 +88,7 @@ class Relay:
 
     def transmit(self, data, to):
         """Sends on the link."""
-        what = "sent" if self.up else "not sent: no carrier"
+        what = "sent" if self.up else "not sent: no carrier or no link-local address"
         try:
             if self.up:
                 self.wire.send(data, self.device, to)

@@ -16,19 +16,21 @@ LINK = {"device": str, "cost": 1, "peers": 64, "own": True, "tag": 0, "stub": Fa
 PREFIX = {"prefix": str, "tag": 0}
 NUMBERS = {"cost": 15, "peers": 256, "tag": 65535, "table": 2**32 - 1, "protocol": 255, "priority": 2**32 - 1}
 LEAST = {"tag": 0, "protocol": 5}
+KINDS = {str: "a text", int: "a number", bool: "true or false", list: "an array of tables"}
 
 
 def made(keys, words, place=""):
     """A table of TOML with those keys."""
     for key, value in words.items():
         if key not in keys:
-            raise Fault(f"{place}{key} is no key")
-        if type(value) is not (keys[key] if isinstance(keys[key], type) else type(keys[key])):
-            raise Fault(f"{place}{key} is of another kind")
+            raise Fault(f"unknown key {place}{key}")
+        kind = keys[key] if isinstance(keys[key], type) else type(keys[key])
+        if type(value) is not kind:
+            raise Fault(f"{place}{key} must be {KINDS[kind]}")
         if key in NUMBERS and not LEAST.get(key, 1) <= value <= NUMBERS[key]:
-            raise Fault(f"{place}{key} is not from {LEAST.get(key, 1)} to {NUMBERS[key]}")
-    if wanting := [key for key in keys if isinstance(keys[key], type) and key not in words]:
-        raise Fault(f"{place}{wanting[0]} is wanting")
+            raise Fault(f"{place}{key} must be from {LEAST.get(key, 1)} to {NUMBERS[key]}")
+    if missing := [key for key in keys if isinstance(keys[key], type) and key not in words]:
+        raise Fault(f"{place}{missing[0]} is missing")
     return SimpleNamespace(**keys | words)
 
 

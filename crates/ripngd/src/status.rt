@@ -36,7 +36,7 @@ pub(crate) enum Status {
 ///
 /// - 0 where it is done; help or the version, if that was asked for, is written to `out`;
 /// - 1 where the datagram, the configuration, or a line of the script or of the log is refused, as a line on `out` says; of a
-///   script that `lab` runs, a line on `err` may say what the line should have been;
+///   script that `lab` runs, a line on `err` may say what the line should have been, and of a configuration where its fault is;
 /// - 2 at a fault of the command line, or where `--append` has no file to go on in or `--stamp` no log, or a number of an
 ///   option has a sign; the text is written to `err`;
 /// - 3 where something else failed, as a line on `err` says, with why where the system says so: `ripngd: cannot read FILE`,
@@ -131,7 +131,7 @@ fn accepts<
 {
     match asked {
         Ask::Show(hex) => show_digits(rt.alloc(), hex, out),
-        Ask::Check(file) => check_file(rt.alloc(), files, file, out),
+        Ask::Check(file) => check_file(rt.alloc(), files, file, out, err),
         Ask::Lab(file) => lab_file(rt.alloc(), files, file, out, err),
         Ask::Trace(file) => trace_file(rt.alloc(), files, file, out),
         Ask::Explain(file) => explain_file(rt.alloc(), files, file, out),

@@ -25,9 +25,9 @@ Example:
 /// Of `check`.
 pub(crate) const CHECK: &str = "\
 A configuration is a TOML text. Where a router can run on it, one line counts
-its interfaces, its prefixes and its peers. Else one line names the first fault
-and what has it: a key, an interface, a prefix, or the line and the column of a
-text that is no TOML. The exit status is then 1.
+its interfaces, its prefixes and its peers. Else one line names the first fault,
+with the key that has it; where it has none, standard error says which interface
+or prefix it is, or at which line and column. The exit status is then 1.
 
 Example:
   ripngd check examples/east.toml";
@@ -75,7 +75,7 @@ What the router answers is printed. The commands are
                          a neighbor of that address stands at that port
   unpeer INTERFACE ADDRESS
                          no neighbor of that address is there any more
-  stop                   it ends, as after its last turn
+  stop                   it ends, as after its last turn; neighbors are not told
 Where the router refuses, it says `refused NR NAME`, and the exit status is 1;
 where nobody listens at PATH, it is 3.
 

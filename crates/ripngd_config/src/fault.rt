@@ -11,12 +11,13 @@ use std::alloc::{AllocError, AllocFailed, Global};
 use thiserror::Error;
 
 /// Why a configuration is refused. Where the fault is one of a key or a table, its path says which, as in
-/// `interface[0].peer[1].port`; a text that is no TOML has a place, and a refusal of the router a subject. Each refusal has a number, which never changes, and a name; its text is what the program
-/// prints after `refused`.
+/// `interface[0].peer[1].port`. Each refusal has a number, which never changes, and a name; its text is what the program
+/// prints after `refused`. A text that is no TOML has a place, and a refusal of the router a subject, which are no part of
+/// that text.
 #[derive(Debug, Drop, Error)]
 pub enum ConfigFault {
     /// 1: the text is not TOML, or not UTF-8, as was found at this place.
-    #[error("1 BadToml at {0}")]
+    #[error("1 BadToml")]
     BadToml(TextPlace),
     /// 2: a required key is not there.
     #[error("2 MissingKey {0}")]
@@ -31,7 +32,7 @@ pub enum ConfigFault {
     #[error("5 UnknownKey {0}")]
     UnknownKey(String),
     /// 6: the router's own check refuses its interfaces and prefixes, for what this is of.
-    #[error("6 Router {} {}{}", .0.number(), .0.name(), .1)]
+    #[error("6 Router {} {}", .0.number(), .0.name())]
     Router(ConfigRefused, Subject),
     /// 7: the local port of an interface is that of an earlier one.
     #[error("7 PortTwice {0}")]

@@ -85,13 +85,13 @@ pub enum Subject {
     Prefix(Prefix),
 }
 
-/// Behind the name of the refusal; nothing of the whole.
+/// Nothing of the whole.
 impl Display for Subject {
     fn fmt<W: fmt::Write>(&self, f: &mut fmt::Formatter<W>) -> fmt::Result {
         match *self {
             Subject::Whole => Ok(()),
-            Subject::Interface(index, addr) => write!(f, " at iface {index}, {addr}"),
-            Subject::Prefix(prefix) => write!(f, " at prefix {prefix}"),
+            Subject::Interface(index, addr) => write!(f, "interface {index}, {addr}"),
+            Subject::Prefix(prefix) => write!(f, "prefix {prefix}"),
         }
     }
 }

@@ -33,15 +33,6 @@ fn words_of(alloc: Global, question: Question<'_>) -> Result<String, AllocError>
     }
 }
 
-/// The command of a question's words, in which no number has a sign.
-fn command_of(words: &str) -> Option<Command> {
-    if words.contains(" +") {
-        None
-    } else {
-        command_in(words)
-    }
-}
-
 /// Sends a command.
 pub(crate) fn send<T: Write>(command: Command, stream: &mut T) -> io::Result<()>
     ensures { OnOk result (Appends (T.contents stream.old) (T.contents stream.new) (command_line command)) }
@@ -162,7 +153,7 @@ pub fn ctl<'a, R: Net + AllocGlobal, O: Write>(
     let Ok(words) = words_of(rt.alloc(), question) else {
         return Err(Failure::OutOfMemory);
     };
-    match command_of(words.as_str()) {
+    match command_in(words.as_str()) {
         Some(command) => ask(rt, question.socket, command, out),
         None => refuse(out),
     }

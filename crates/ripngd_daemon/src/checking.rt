@@ -4,7 +4,7 @@ ghost use Rattle.std.specs.Prelude.{◌≡◌, ◌≢◌, IfOk, OnOk, false};
 ghost use Rattle.std.specs.Io.KnownBytes.{Appends};
 ghost use Rattle.ripngd_daemon.specs.Checked.{IsChecked, counts_line, peers_counted};
 
-use ripngd_config::{Config, ConfigFault, Peer, read_config};
+use ripngd_config::{Config, ConfigFault, Peer, Subject, read_config};
 use ripngd_show::PrintFault;
 use std::alloc::Global;
 use std::io::{self, Write};
@@ -18,12 +18,30 @@ pub fn check<W: Write>(alloc: Global, text: &[u8], out: &mut W) -> Result<bool, 
     ensures checked { IfOk result (λ accepted. IsChecked text.now accepted (W.contents out.old) (W.contents out.new)) }
     ensures out_of_memory { result ≡ Err PrintFault.OutOfMemory → out.new ≡ out.old }
 {
+    check_named(alloc, "", text, out, &mut io::sink())
+}
+
+/// Does the same of the text of a file, and tells `err` where in it a fault stands that has no path. A failure of `err`
+/// changes nothing else.
+///
+/// # Errors
+/// Those of [`check`].
+pub(crate) fn check_named<W: Write, E: Write>(
+    alloc: Global,
+    file: &str,
+    text: &[u8],
+    out: &mut W,
+    err: &mut E,
+) -> Result<bool, PrintFault>
+    ensures checked { IfOk result (λ accepted. IsChecked text.now accepted (W.contents out.old) (W.contents out.new)) }
+    ensures out_of_memory { result ≡ Err PrintFault.OutOfMemory → out.new ≡ out.old }
+{
     match read_config(alloc, text, 0, false) {
         Ok(config) => match write_counts(&config, out) {
             Ok(()) => Ok(true),
             Err(_) => Err(PrintFault::Write),
         },
-        Err(fault) => write_refusal(&fault, out),
+        Err(fault) => write_refusal(file, &fault, out, err),
     }
 }
 
@@ -50,19 +68,37 @@ fn write_counts<W: Write>(config: &Config, out: &mut W) -> io::Result<()>
     )
 }
 
-/// Writes why a configuration is refused, and answers that it is not accepted.
+/// Writes why the configuration of a file is refused, and answers that it is not accepted. Where the fault stands, `err` is
+/// told; its failure changes nothing else.
 ///
 /// # Errors
 /// `OutOfMemory` where that is the fault, and then nothing is written; `Write` where `out` failed.
-pub(crate) fn write_refusal<W: Write>(fault: &ConfigFault, out: &mut W) -> Result<bool, PrintFault>
+pub(crate) fn write_refusal<W: Write, E: Write>(
+    file: &str,
+    fault: &ConfigFault,
+    out: &mut W,
+    err: &mut E,
+) -> Result<bool, PrintFault>
     ensures refused { IfOk result (λ accepted. (accepted ≡ false) × (fault.now ≢ ConfigFault.OutOfMemory)) }
     ensures out_of_memory { result ≡ Err PrintFault.OutOfMemory → out.new ≡ out.old }
 {
     match fault {
         ConfigFault::OutOfMemory => Err(PrintFault::OutOfMemory),
         _ => {
+            let _ = write_place(file, fault, err);
             writeln!(out, "refused {fault}").map_err(|_| PrintFault::Write)?;
             Ok(false)
         }
+    }
+}
+
+/// Writes where a fault stands in a file, as `ripngd: FILE: at line 1, column 5`, if it has a place there or is of one
+/// interface or prefix.
+fn write_place<W: Write>(file: &str, fault: &ConfigFault, err: &mut W) -> io::Result<()> {
+    match fault {
+        ConfigFault::BadToml(place) => writeln!(err, "ripngd: {file}: at {place}"),
+        ConfigFault::Router(_, Subject::Whole) => Ok(()),
+        ConfigFault::Router(_, subject) => writeln!(err, "ripngd: {file}: at {subject}"),
+        _ => Ok(()),
     }
 }

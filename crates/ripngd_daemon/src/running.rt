@@ -43,7 +43,8 @@ use std::rt::{Clock, Files};
 /// forwarding table, a line for each entry. Each change of a route is a line of the log, if a file is named for it, whose old
 /// contents are lost once all ports are bound, but where it is to be gone on in: a line feed and a line `start` are then written
 /// behind them. Where its lines are to be stamped, each begins with the moment at which it is written.
-/// A configuration that is refused is written as `refused ..`, before that file is touched, and the answer is then false.
+/// A configuration that is refused is written as `refused ..`, before that file is touched, and the answer is then false; `err`
+/// gets the place of its fault, as it does from `check`.
 /// What the router lost is left in `lost`, also where it ended early, and `ports` knows which ports were bound and, after a run, each
 /// call of the link over them. `err` gets the line `ripngd: running, N interfaces` once
 /// all ports are bound and the log is begun, and before it one for each interface that is its own peer. Where the router is
@@ -83,7 +84,7 @@ pub fn run<
             run_plan(rt, plan, ports, out, err, lost)?;
             Ok(true)
         }
-        Err(fault) => Ok(write_refusal(&fault, out)?),
+        Err(fault) => Ok(write_refusal(order.config, &fault, out, err)?),
     }
 }
 

@@ -8,28 +8,29 @@ ghost use Rattle.ripngd_daemon.specs.Checked.{IsChecked};
 ghost use Rattle.ripngd_daemon.specs.Failing.{MayFail};
 ghost use Rattle.ripngd_daemon.specs.Tabled.{IsTabled};
 
-use crate::checking::check;
+use crate::checking::check_named;
 use crate::failure::Failure;
 use crate::forwarding::table;
 use crate::reading::FileSource;
 use std::alloc::Global;
 use std::io::Write;
 
-/// `check CONFIG`: whether the file is a configuration.
+/// `check CONFIG`: whether the file is a configuration. Where in it a fault stands that has no path is told on `err`.
 ///
 /// # Errors
 /// `Read` with the file, `Output` or `OutOfMemory`.
-pub fn check_file<'a, F: FileSource, O: Write>(
+pub fn check_file<'a, F: FileSource, O: Write, E: Write>(
     alloc: Global,
     files: &F,
     file: &'a str,
     out: &mut O,
+    err: &mut E,
 ) -> Result<bool, Failure<'a>>
     ensures checked { IfOk result (λ accepted. (config : List ℕ) × F.holds files.now file.entry.now config
         × IsChecked config accepted (O.contents out.old) (O.contents out.new)) }
     ensures failed { IfErr result (MayFail (asks.Check file.entry)) }
 {
-    Ok(check(alloc, files.read(file)?.as_slice(), out)?)
+    Ok(check_named(alloc, file, files.read(file)?.as_slice(), out, err)?)
 }
 
 /// `table LOG`: whether every line of the file is that of a change.

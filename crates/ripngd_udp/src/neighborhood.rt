@@ -14,7 +14,7 @@ use router_core::Destination;
 use std::alloc::{AllocError, Global};
 use std::marker::Model;
 
-/// How many peers an interface has at most, beyond those of its configuration.
+/// How many peers an interface may have for another to be added. A configuration may have more.
 pub const PEER_LIMIT: usize = 256;
 
 /// Where an interface stands, and who else is on its link.
