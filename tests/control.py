@@ -11,12 +11,12 @@ import stat
 import subprocess
 import sys
 import time
-from errno import EAGAIN, ECONNRESET, EINTR, EPIPE
+from errno import EAGAIN, ECONNABORTED, ECONNRESET, EINTR, EIO, EMFILE, EPIPE
 
 sys.dont_write_bytecode = True
 from daemons import interface, listed, main, peer, prefix, SECONDS, until
 from datagrams import entry, feed, response, table
-from ordered import environment
+from ordered import calls, environment
 from suite import same
 
 ROUTES = int(os.environ.get("ROUTES", 20_000))
@@ -280,6 +280,16 @@ def a_client_whose_socket_is_interrupted_is_answered(case):
         router = alone(case, name, **environment(case.folder, name, fail=f"{call}:1:1:{error}"))
         same(f"the answer at {name}", router.client().say(b"table\n").all(), told)
         answers(router, "table", OWN_TABLE)
+
+
+@listed
+def a_client_that_cannot_be_let_in_is_let_in_later(case):
+    """Whatever the system says of it: the router makes its turns and tries again."""
+    for error in (EAGAIN, ECONNABORTED, EINTR, EIO, EMFILE):
+        name = f"accept{error}"
+        router = alone(case, name, **environment(case.folder, name, fail=f"accept:1:20:{error}"))
+        answers(router, "table", OWN_TABLE)
+        same(f"the first calls at {name}", {answer for _, _, answer in calls(case, name, "accept")[:20]}, {-1})
 
 
 @listed

@@ -15,7 +15,7 @@ import re
 import sys
 
 sys.dont_write_bytecode = True
-from growth_over_sockets import sweep_page, sweep_router
+from growth_over_sockets import sweep_router
 from refusing import MESSAGE, Refuser, is_told, sweep
 from suite import Failed, named, play
 
@@ -118,13 +118,6 @@ def printed_of(records):
     return tuple(lines)
 
 
-def is_told_or_has_an_entry_skipped(run, want):
-    """A film whose trace notes the skipped entry."""
-    noted = run.stdout.count(NO_MEMORY.encode()) == 1 and not run.stderr and run.returncode in (0, 1)
-    whole = run.stdout.startswith(want.stdout[:1000]) and run.stdout.endswith(want.stdout[-1000:])
-    return "an entry skipped" if noted and whole else is_told(run, want)
-
-
 # A log that adds and deletes, with a line `start` between; a configuration and a script that are refused.
 LOG = "\n".join(["add ::/0 metric 1 direct", "start", *(f"add 2001:db8:{net}::/48 metric 2 via fe80::2 iface 0" for net in range(20)),
                  "del 2001:db8:7::/48", ""])
@@ -157,8 +150,6 @@ def cases_of(refuser):
         laboratory("lab of phases, and its trace", text=PHASES, skips=False),
         laboratory("lab of rounds, and its trace", text=ROUNDS, skips=False),
         case("lab of a line that is refused", is_told_or_has_no_hint, "lab", text=BAD_SCRIPT),
-        case("page --film", is_told_or_has_an_entry_skipped, "page", "--film", line),
-        ("page over a socket", lambda folder: sweep_page(refuser, folder)),
         *((f"run, {first}", lambda folder, first=first: sweep_router(refuser, folder, first, 8)) for first in range(1, 9)),
     ]
 

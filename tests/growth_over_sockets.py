@@ -1,4 +1,4 @@
-"""Each growth refused in turn of what serves others: a router with a neighbor, and the page's server with who asks it."""
+"""Each growth refused in turn of a router that has a neighbor."""
 
 import collections
 import contextlib
@@ -25,10 +25,6 @@ prefix = '2001:db8:1::/48'
 # 2001:db8::/32 at metric 1.
 RESPONSE = bytes.fromhex("0201000020010db800000000000000000000000000002001")
 TABLE = b"2001:db8::/32 metric 2 via fe80::2 iface 0\n2001:db8:1::/48 metric 1 direct\n"
-
-SCRIPT = b"cold 7\n"
-ANSWERED = b'\r\n\r\n{"line":1,"record":"start","now":7,"routers":[],"sent":[]}\n'
-WITHOUT_MEMORY = b"\r\n\r\nout of memory\n"
 
 
 def sweep(first, step, run, needed):
@@ -89,44 +85,3 @@ def sweep_router(refuser, folder, first, step):
         router = Router(refuser, folder, ports)
         with router.neighbor:
             sweep(first, step, router.run, ["out of memory", "a step lost"])
-
-
-def ask(port):
-    """What the server answers to a script, if it does."""
-    request = b"POST /trace HTTP/1.1\r\nHost: localhost:%d\r\nContent-Length: %d\r\n\r\n%s" % (port, len(SCRIPT), SCRIPT)
-    with contextlib.suppress(ConnectionError), socket.create_connection(("127.0.0.1", port), timeout=SECONDS) as client:
-        client.sendall(request)
-        return b"".join(iter(lambda: client.recv(65536), b""))
-    return b""
-
-
-def ask_twice(refuser, folder, nth):
-    """A server that ends after two answers, and is asked until it has given them."""
-    count = pathlib.Path(folder, "count")
-    words = [refuser.program, "page", "--port", "0", "--requests", "2"]
-    with subprocess.Popen(words, stdin=subprocess.DEVNULL, stdout=subprocess.PIPE, stderr=subprocess.PIPE,
-                          env=refuser.environment(nth, count)) as process:
-        address, answers = process.stdout.readline(), []
-        while address and sum(map(bool, answers)) < 2 and len(answers) < 4:
-            answers.append(ask(int(address.split(b":")[2].strip(b"/\n"))))
-        status = process.wait(SECONDS)
-        ended = subprocess.CompletedProcess(words, status, address + b" ".join(answers), process.stderr.read())
-    return ended, kind_of(ended, address, answers), int(count.read_text())
-
-
-def kind_of(ended, address, answers):
-    """It has ended for want of memory, or has answered all but one as it does undisturbed, and that one that there was none, or nothing."""
-    odd = [answer for answer in answers if not (answer.startswith(b"HTTP/1.1 200 OK\r\n") and answer.endswith(ANSWERED))]
-    if (ended.returncode, ended.stderr) == (3, MESSAGE) and not any(odd):
-        return "out of memory"
-    if not address or ended.returncode != 0 or ended.stderr or len(odd) > 1:
-        return None
-    if not odd:
-        return "undisturbed"
-    if odd == [b""]:
-        return "no answer"
-    return "answered 503" if odd[0].startswith(b"HTTP/1.1 503 Service Unavailable\r\n") and odd[0].endswith(WITHOUT_MEMORY) else None
-
-
-def sweep_page(refuser, folder):
-    sweep(1, 1, lambda nth: ask_twice(refuser, folder, nth), ["out of memory", "answered 503"])

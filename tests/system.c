@@ -9,9 +9,8 @@
  *   SYSTEM_LENGTH=N    it has N bytes, zeros behind those that came
  *   SYSTEM_FAIL=NAME:FIRST:COUNT:ERROR,..   of the calls of a name so many fail, from the FIRST on, with that number of an error
  *
- * Watched are bind, accept, option (setsockopt), sendto, recvfrom, wait (of epoll), sleep, write1, write2 and write3 (to standard output,
- * standard error, and any file), recv and send (of a connection); and in SYSTEM_FAIL alone clock and wall, the readings of the two
- * clocks. */
+ * Watched are bind, accept, sendto, recvfrom, wait (of epoll), sleep, write1, write2 and write3 (to standard output, standard error, and any
+ * file), recv and send (of a connection); and in SYSTEM_FAIL alone clock and wall, the readings of the two clocks. */
 #define _GNU_SOURCE
 #include <errno.h>
 #include <fcntl.h>
@@ -26,9 +25,9 @@
 #include <time.h>
 #include <unistd.h>
 
-enum call { BIND, ACCEPT, OPTION, SENDTO, RECVFROM, WAIT, SLEEP, CLOCK, WALL, WRITE1, WRITE2, WRITE3, RECV, SEND, CALLS };
+enum call { BIND, ACCEPT, SENDTO, RECVFROM, WAIT, SLEEP, CLOCK, WALL, WRITE1, WRITE2, WRITE3, RECV, SEND, CALLS };
 static const char *const names[CALLS] = {
-    "bind", "accept", "option", "sendto", "recvfrom", "wait", "sleep", "clock", "wall", "write1", "write2", "write3", "recv", "send"};
+    "bind", "accept", "sendto", "recvfrom", "wait", "sleep", "clock", "wall", "write1", "write2", "write3", "recv", "send"};
 static long counts[CALLS];
 static long now_ms;
 
@@ -89,13 +88,6 @@ int accept4(int fd, struct sockaddr *from, socklen_t *size, int flags)
 {
     long answer = fails(ACCEPT) ? -1 : syscall(SYS_accept4, fd, from, size, flags);
     note(ACCEPT, "= %ld", answer);
-    return answer;
-}
-
-int setsockopt(int fd, int level, int option, const void *value, socklen_t size)
-{
-    long answer = fails(OPTION) ? -1 : syscall(SYS_setsockopt, fd, level, option, value, size);
-    note(OPTION, "%d = %ld", option, answer);
     return answer;
 }
 

@@ -42,6 +42,3 @@ answer_kept holds ports (asks.Ctl question) accepted old mid new (answer, (text,
     (answer, (text, is, appends_kept text old mid new wrote kept))
 answer_kept holds ports (asks.Table file) accepted old mid new (log, held, text, is, wrote) kept =
     (log, held, text, is, appends_kept text old mid new wrote kept)
-answer_kept holds ports (asks.Page serve) accepted old mid new answer kept = answer
-answer_kept holds ports (asks.Film filming) accepted old mid new (script, held, trace, wrote) kept =
-    (script, held, trace, appends_kept _ old mid new wrote kept)

@@ -1,5 +1,5 @@
 -- What the exit statuses of ripngd tell (they are this project's choice).
-use Rattle.std.specs.Prelude.{◌≡◌, ◌≢◌, ◌⊎◌, ℕ, Bool, true, List, [], Option, ⊤}
+use Rattle.std.specs.Prelude.{◌≢◌, ◌⊎◌, ℕ, Bool, List, [], Option, ⊤}
 use Rattle.std.specs.Io.KnownBytes.{Appends}
 use Rattle.clap.specs.Faults.{fault_of}
 use Rattle.clap.specs.Kinds.{IsAmong}
@@ -9,9 +9,6 @@ use Rattle.ripngd_command_line.specs.declared.asked.Ask.{Ask}
 use Rattle.ripngd_command_line.specs.declared.asked.Ask.TheVariants as asks
 use Rattle.ripngd_daemon.specs.declared.failure.Failure.{Failure}
 use Rattle.ripngd_daemon.specs.declared.failure.Failure.TheVariants as failures
-use Rattle.ripngd_udp.specs.declared.bind_cause.BindCause.TheVariants as causes
-use Rattle.ripngd_page.specs.declared.fault.ServeFault.{ServeFault}
-use Rattle.ripngd_page.specs.declared.fault.ServeFault.TheVariants as serving
 use Rattle.ripngd_command_line.specs.Asked.{Asks, IsMisused}
 use Rattle.ripngd_daemon.specs.Asking.{IsAnswerWritten}
 use Rattle.ripngd_daemon.specs.Checked.{IsChecked}
@@ -19,13 +16,12 @@ use Rattle.ripngd_command_line.specs.CommandLine.{ripngd}
 use Rattle.ripngd_daemon.specs.Failing.{MayFail}
 use Rattle.ripngd_daemon.specs.Ran.{IsRan}
 use Rattle.ripngd_daemon.specs.Tabled.{IsTabled}
-use Rattle.ripngd_page.specs.Film.{film_text, script_name}
 use Rattle.ripngd_show.specs.Shown.{IsShown}
 use Rattle.ripngd_udp.specs.Told.{PortsState}
 
 -- the bytes of a writer grew by the answer to what is asked, of a text that the file which is asked about may hold, and of a run by
 -- what the calls of its link make, over ports of which this is known. What `lab` prints, and that a trace is that of its script, is
--- not said here; nor what a server answers
+-- not said here
 abbrev pub AnswersAsk : (List ℕ → List ℕ → Type 0) → PortsState → Ask → Bool → Option (List ℕ) → Option (List ℕ) → Type 0
 AnswersAsk holds ports (asks.Show hex) accepted old new = (text : List ℕ) × IsShown hex.now accepted text × Appends old new text
 AnswersAsk holds ports (asks.Check file) accepted old new =
@@ -38,9 +34,6 @@ AnswersAsk holds ports (asks.Run order) accepted old new =
 AnswersAsk holds ports (asks.Ctl question) accepted old new = (answer : List ℕ) × IsAnswerWritten answer accepted old new
 AnswersAsk holds ports (asks.Table file) accepted old new = (log : List ℕ) × holds file.now log
     × (text : List ℕ) × IsTabled log accepted text × Appends old new text
-AnswersAsk holds ports (asks.Page serve) accepted old new = accepted ≡ true
-AnswersAsk holds ports (asks.Film filming) accepted old new = (script : List ℕ) × holds filming.script.now script
-    × (trace : List ℕ) × Appends old new (film_text (script_name filming.script.now) script trace)
 
 -- the bytes of a writer grew by the answer to what the words ask, over some ports
 abbrev pub AnswersWords : (List ℕ → List ℕ → Type 0) → List Text → Bool → Option (List ℕ) → Option (List ℕ) → Type 0
@@ -64,10 +57,3 @@ AsksForHelp words = IsAmong DisplayHelp (fault_of ripngd words) ⊎ IsAmong Disp
 -- the words have a fault, or make no sense together
 abbrev pub HaveFault : List Text → Type 0
 HaveFault words = (fault_of ripngd words ≢ []) ⊎ ((ask : Ask) × Asks words ask × IsMisused ask)
-
--- what a fault of the page's server is to the program
-abbrev pub failure_of_serve : ServeFault → Failure
-failure_of_serve (serving.Bind port) = failures.Bind port causes.Other
-failure_of_serve serving.Accept = failures.Accept
-failure_of_serve serving.Write = failures.Output
-failure_of_serve serving.OutOfMemory = failures.OutOfMemory

@@ -1,13 +1,12 @@
 //! What the program `ripngd` does: its subcommands, and its exit statuses.
 #![tactic(auto)]
 
-mod browser;
 mod laboratory;
 mod status;
 mod subcommands;
 
 pub use laboratory::{explain, lab, trace};
-pub use ripngd_command_line::{Ask, Filming, Order, Question, Serve, VERSION, ask};
+pub use ripngd_command_line::{Ask, Order, Question, VERSION, ask};
 pub use ripngd_config::{Config, ConfigFault, Peer, read_config};
 pub use ripngd_daemon::{check, table};
 pub use ripngd_engine::{Engine, EngineFault, Link, LinkFault, Received, Report, TimeSource};

@@ -6,8 +6,7 @@ ghost use Rattle.ripngd.specs.Exit.{AnswersAsk, AnswersWords, AsksForHelp, Fails
 ghost use Rattle.ripngd_daemon.specs.Failing.{MayFail};
 ghost use Rattle.ripngd_daemon.specs.declared.failure.Failure.TheVariants as failures;
 
-use crate::browser::serve;
-use crate::subcommands::{explain_file, film_file, lab_file, show_digits, trace_file};
+use crate::subcommands::{explain_file, lab_file, show_digits, trace_file};
 use clap::error::ErrorKind;
 use ripngd_command_line::{Ask, ask, is_misused, misuse_text};
 use ripngd_daemon::{
@@ -18,7 +17,6 @@ use ripngd_udp::Ports;
 use std::fs::File;
 use std::io::{self, Write};
 use std::net::Net;
-use std::random::RandomSource;
 use std::rt::{Clock, Files};
 
 /// The exit status of the program.
@@ -42,18 +40,19 @@ pub(crate) enum Status {
 /// - 2 at a fault of the command line, or where `--append` has no file to go on in or `--stamp` no log, or a number of an
 ///   option has a sign; the text is written to `err`;
 /// - 3 where something else failed, as a line on `err` says, with why where the system says so: `ripngd: cannot read FILE`,
-///   `ripngd: cannot write FILE` (with `stdout` for `out`), `ripngd: cannot bind PORT`, `ripngd: cannot accept a connection`,
-///   `ripngd: link fault after N turns` or `ripngd: out of memory`; but nothing is said of an `out` that nobody reads any more.
+///   `ripngd: cannot write FILE` (with `stdout` for `out`), `ripngd: cannot bind PORT`, `ripngd: link fault after N turns` or
+///   `ripngd: out of memory`; but nothing is said of an `out` that nobody reads any more.
 ///
 /// A run that is debugged writes what it refuses to `err`, and counts. One that lost something has a last line on `err` that says what, also with status 0: `ripngd: lost sends N, lost
 /// steps M`, with `, log failed` behind it where a write of the log failed.
 ///
 /// What was written to `out` is flushed before a status of 0 or 1 is answered. A failure of `err` changes no status.
-pub fn program<
-    R: AllocGlobal + Files<File = File> + Print + Clock + Net + RandomSource,
-    O: Write,
-    E: Write,
->(rt: &R, words: &[&str], out: &mut O, err: &mut E) -> u8
+pub fn program<R: AllocGlobal + Files<File = File> + Print + Clock + Net, O: Write, E: Write>(
+    rt: &R,
+    words: &[&str],
+    out: &mut O,
+    err: &mut E,
+) -> u8
     ensures done { result ≡ 0 → AnswersWords holds_any (map (λ w. w.now) words.now) true (O.contents out.old) (O.contents out.new)
         ⊎ AsksForHelp (map (λ w. w.now) words.now) }
     ensures refused { result ≡ 1
@@ -74,7 +73,7 @@ pub fn program<
 /// Does what the words ask for.
 fn outcome<
     'a,
-    R: AllocGlobal + Files<File = File> + Print + Clock + Net + RandomSource,
+    R: AllocGlobal + Files<File = File> + Print + Clock + Net,
     F: FileSource,
     O: Write,
     E: Write,
@@ -113,7 +112,7 @@ fn explain_misuse<E: Write>(asked: Ask<'_>, err: &mut E) -> Status
 /// Does what is asked, and answers whether what was given is accepted.
 fn accepts<
     'a,
-    R: AllocGlobal + Files<File = File> + Print + Clock + Net + RandomSource,
+    R: AllocGlobal + Files<File = File> + Print + Clock + Net,
     F: FileSource,
     O: Write,
     E: Write,
@@ -139,15 +138,13 @@ fn accepts<
         Ask::Run(order) => run(rt, files, order, ports, out, err, lost),
         Ask::Ctl(question) => ctl(rt, question, out),
         Ask::Table(file) => table_file(rt.alloc(), files, file, out),
-        Ask::Page(order) => serve(rt, order, out),
-        Ask::Film(order) => film_file(rt.alloc(), files, order, out),
     }
 }
 
 /// Does what is asked.
 fn answer<
     'a,
-    R: AllocGlobal + Files<File = File> + Print + Clock + Net + RandomSource,
+    R: AllocGlobal + Files<File = File> + Print + Clock + Net,
     F: FileSource,
     O: Write,
     E: Write,

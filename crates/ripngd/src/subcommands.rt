@@ -5,12 +5,9 @@ ghost use Rattle.std.specs.Prelude.{IfErr, IfOk, List, ℕ};
 ghost use Rattle.std.specs.Io.KnownBytes.{Appends};
 ghost use Rattle.ripngd_daemon.specs.Failing.{MayFail};
 ghost use Rattle.ripngd_command_line.specs.declared.asked.Ask.TheVariants as asks;
-ghost use Rattle.ripngd_page.specs.Film.{film_text, script_name};
 ghost use Rattle.ripngd_show.specs.Shown.{IsShown};
 
-use crate::browser::film;
 use crate::laboratory::{explain, lab_hinted, trace};
-use ripngd_command_line::Filming;
 use ripngd_daemon::{Failure, FileSource};
 use ripngd_show::show;
 use std::alloc::Global;
@@ -67,19 +64,4 @@ pub(crate) fn explain_file<'a, F: FileSource, O: Write>(
     ensures failed { IfErr result (MayFail (asks.Explain file.entry)) }
 {
     Ok(explain(alloc, files.read(file)?.as_slice(), out)?)
-}
-
-/// `page --film SCRIPT`: whether every line of the file was done.
-pub(crate) fn film_file<'a, F: FileSource, O: Write>(
-    alloc: Global,
-    files: &F,
-    order: Filming<'a>,
-    out: &mut O,
-) -> Result<bool, Failure<'a>>
-    ensures answered { IfOk result (λ accepted. (script : List ℕ) × F.holds files.now order.entry.script.now script
-        × (trace : List ℕ) × Appends (O.contents out.old) (O.contents out.new) (film_text (script_name order.entry.script.now) script trace)) }
-    ensures failed { IfErr result (MayFail (asks.Film order.entry)) }
-{
-    let file = order.script;
-    Ok(film(alloc, file, files.read(file)?.as_slice(), out)?)
 }

@@ -111,7 +111,7 @@ plus_is_taken : takes ripngd (codes "ripngd" ∷ codes "run" ∷ codes "--turns"
 unfolding clap_on_literals
 plus_is_taken = refl
 
--- `page --port=-0`: and so does this
-minus_is_taken : takes ripngd (codes "ripngd" ∷ codes "page" ∷ codes "--port=-0" ∷ []) ≡ true
+-- `run -t-0 c`: and so does this
+minus_is_taken : takes ripngd (codes "ripngd" ∷ codes "run" ∷ codes "-t-0" ∷ codes "c" ∷ []) ≡ true
 unfolding clap_on_literals
 minus_is_taken = refl

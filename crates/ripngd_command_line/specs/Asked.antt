@@ -4,10 +4,8 @@ use Rattle.std.specs.Str.Parse.{digits_value, without_leading_plus}
 use Rattle.clap.specs.Walk.{Row, Text, first_of, one_of}
 use Rattle.clap.specs.Simple.{subcommand_of}
 use Rattle.ripngd_command_line.specs.declared.asked.Ask.{Ask}
-use Rattle.ripngd_command_line.specs.declared.asked.Filming.{Filming}
 use Rattle.ripngd_command_line.specs.declared.asked.Order.{Order}
 use Rattle.ripngd_command_line.specs.declared.asked.Question.{Question}
-use Rattle.ripngd_command_line.specs.declared.asked.Serve.{Serve}
 use Rattle.ripngd_command_line.specs.declared.asked.Ask.TheVariants as asks
 use Rattle.ripngd_command_line.specs.CommandLine.{ripngd}
 
@@ -35,10 +33,6 @@ HasSign rows id = IsSigned (first_of id rows)
 -- a number of `run` is
 abbrev pub HasSignedOrder : List Row → Type 0
 HasSignedOrder rows = HasSign rows (codes "tag") ⊎ HasSign rows (codes "turns") ⊎ HasSign rows (codes "seconds")
-
--- a number of `page` is
-abbrev pub HasSignedServe : List Row → Type 0
-HasSignedServe rows = HasSign rows (codes "port") ⊎ HasSign rows (codes "requests")
 
 -- these seconds were given; or none were
 abbrev pub AreSeconds : Option ℕ → List Row → Type 0
@@ -80,8 +74,6 @@ IsMisordered order = GoesOnInNoFile order ⊎ StampsNoLog order ⊎ IsTrue order
 -- what is asked makes no sense, though clap takes each word of it, or has a number with a sign
 abbrev pub IsMisused : Ask → Type 0
 IsMisused (asks.Run order) = IsMisordered order
-IsMisused (asks.Page serve) = IsTrue serve.signed
-IsMisused (asks.Film filming) = IsTrue filming.signed
 IsMisused _ = ⊥
 
 -- the rows of `ctl` ask this
@@ -91,19 +83,6 @@ pub record IsQuestion (question : Question) (rows : List Row) : Type 0 where
   pub what : option_map (λ s. s.now) question.what ≡ first_of (codes "WHAT") rows
   pub value : option_map (λ s. s.now) question.value ≡ first_of (codes "VALUE") rows
   pub port : option_map (λ s. s.now) question.port ≡ first_of (codes "PORT") rows
-
--- the rows of `page` order this, without a film
-pub record IsServed (serve : Serve) (rows : List Row) : Type 0 where
-  pub port : HasNumber rows (codes "port") serve.port
-  pub requests : HasNumber rows (codes "requests") serve.requests
-  pub some_request : 1 ≤ serve.requests
-  pub signed : IsTrue serve.signed ↔ HasSignedServe rows
-  pub no_film : first_of (codes "film") rows ≡ None
-
--- the rows of `page` order this film
-pub record IsFilmed (filming : Filming) (rows : List Row) : Type 0 where
-  pub script : first_of (codes "film") rows ≡ Some filming.script.now
-  pub signed : IsTrue filming.signed ↔ HasSignedServe rows
 
 -- the subcommand of this name, with the rows of its arguments, is what is asked
 abbrev pub IsAsked : Ask → Text → List Row → Type 0
@@ -121,8 +100,6 @@ IsAsked (asks.Run order) name rows = (name ≡ codes "run") × IsOrdered order r
 IsAsked (asks.Ctl question) name rows = (name ≡ codes "ctl") × IsQuestion question rows
 IsAsked (asks.Table file) name rows =
     (name ≡ codes "table") × (first_of (codes "LOG") rows ≡ Some file.now)
-IsAsked (asks.Page serve) name rows = (name ≡ codes "page") × IsServed serve rows
-IsAsked (asks.Film filming) name rows = (name ≡ codes "page") × IsFilmed filming rows
 
 -- the words ask this
 abbrev pub Asks : List Text → Ask → Type 0

@@ -84,28 +84,6 @@ trace_option = record (new_rule (codes "trace")) { long = Some (codes "trace"); 
 abbrev pub explain_option : Rule
 explain_option = record (new_rule (codes "explain")) { long = Some (codes "explain"); action = Some SetTrue }
 
--- `--port N`, from 0 to 65,535; 8532 if it is not given
-abbrev pub port_option : Rule
-port_option = record (new_rule (codes "port")) {
-  long = Some (codes "port");
-  value_names = 1;
-  parser = Some (parsers.Signed (pos 0) (pos 65535));
-  defaults = codes "8532" ∷ [];
-}
-
--- `--requests N`, from 1 to 4,294,967,295, and that if it is not given
-abbrev pub requests_option : Rule
-requests_option = record (new_rule (codes "requests")) {
-  long = Some (codes "requests");
-  value_names = 1;
-  parser = Some (parsers.Signed (pos 1) (pos 4294967295));
-  defaults = codes "4294967295" ∷ [];
-}
-
--- `--film SCRIPT`
-abbrev pub film_option : Rule
-film_option = record (new_rule (codes "film")) { long = Some (codes "film"); value_names = 1 }
-
 -- a subcommand with one argument
 abbrev pub one_argument : Text → Text → App
 one_argument name id = with_rule (new_app name) (positional id)
@@ -136,18 +114,13 @@ ctl_command =
     (positional (codes "PATH"))) (positional (codes "COMMAND"))) (optional_rule (codes "WHAT"))) (optional_rule (codes "VALUE")))
     (optional_rule (codes "PORT"))
 
--- `page [--port N] [--requests N] [--film SCRIPT]`
-abbrev pub page_command : App
-page_command = with_rule (with_rule (with_rule (new_app (codes "page")) port_option) requests_option) film_option
-
--- `ripngd`, which tells its version, with `show HEX`, `check CONFIG`, `lab`, `run`, `table LOG`, `page` or `ctl`
+-- `ripngd`, which tells its version, with `show HEX`, `check CONFIG`, `lab`, `run`, `table LOG` or `ctl`
 abbrev pub ripngd : App
-ripngd = with_subcommand (with_subcommand (with_subcommand (with_subcommand (with_subcommand (with_subcommand (with_subcommand
+ripngd = with_subcommand (with_subcommand (with_subcommand (with_subcommand (with_subcommand (with_subcommand
     (subcommand_required (versioned (new_app (codes "ripngd"))))
     (one_argument (codes "show") (codes "HEX")).top)
     (one_argument (codes "check") (codes "CONFIG")).top)
     lab_command.top)
     run_command.top)
     (one_argument (codes "table") (codes "LOG")).top)
-    page_command.top)
     ctl_command.top

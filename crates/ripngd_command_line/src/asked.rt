@@ -19,30 +19,6 @@ pub enum Ask<'a> {
     Ctl(Question<'a>),
     /// `table LOG`: the forwarding table that a file's log makes.
     Table(&'a str),
-    /// `page [--port N] [--requests N]`: the page of a laboratory, to browsers of this machine.
-    Page(Serve),
-    /// `page --film SCRIPT`: the page, with what happens as a file's script is run.
-    Film(Filming<'a>),
-}
-
-/// How the page is to be served.
-#[derive(Clone, Copy, Debug, PartialEq, Eq)]
-pub struct Serve {
-    /// The TCP port of 127.0.0.1 that browsers ask; 0 for one that the system chooses.
-    pub port: u16,
-    /// How many requests are answered, at least 1.
-    pub requests: u32,
-    /// Whether one of these numbers was given with a sign.
-    pub signed: bool,
-}
-
-/// What the page is written with.
-#[derive(Clone, Copy, Debug, PartialEq, Eq)]
-pub struct Filming<'a> {
-    /// The file of the script that is run.
-    pub script: &'a str,
-    /// Whether a number of how the page is served was given beside it, with a sign.
-    pub signed: bool,
 }
 
 /// How a router is to run.

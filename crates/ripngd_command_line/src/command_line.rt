@@ -7,10 +7,10 @@ ghost use Rattle.clap.specs.Simple.{subcommand_of};
 ghost use Rattle.clap.specs.Takes.{takes};
 ghost use Rattle.clap.specs.Walk.{Row, Text, first_of, rows_of};
 ghost use Rattle.clap.specs.Words.{found_of, kind_of, subcommand_rows_of};
-ghost use Rattle.ripngd_command_line.specs.Asked.{AreSeconds, Asks, HasNumber, HasSign, HasSignedOrder, HasSignedServe, IsAsked, IsSet, IsSigned};
+ghost use Rattle.ripngd_command_line.specs.Asked.{AreSeconds, Asks, HasNumber, HasSign, HasSignedOrder, IsAsked, IsSet, IsSigned};
 ghost use Rattle.ripngd_command_line.specs.CommandLine.{ripngd};
 
-use crate::asked::{Ask, Filming, Order, Question, Serve};
+use crate::asked::{Ask, Order, Question};
 use crate::subcommands::command;
 use clap::error::ErrorKind;
 use clap::{ArgMatches, Error};
@@ -64,7 +64,6 @@ fn asked_of<'a>(name: &'a str, matches: &ArgMatches<'a>) -> Option<Ask<'a>>
         "lab" => lab_asked(matches),
         "run" => run_asked(matches),
         "table" => Some(Ask::Table(text(matches, "LOG")?)),
-        "page" => page_asked(matches),
         "ctl" => ctl_asked(matches),
         _ => None,
     }
@@ -82,21 +81,6 @@ fn lab_asked<'a>(matches: &ArgMatches<'a>) -> Option<Ask<'a>>
     } else {
         Ask::Lab(script)
     })
-}
-
-/// The page: a film of it where the option was given, or how it is served.
-fn page_asked<'a>(matches: &ArgMatches<'a>) -> Option<Ask<'a>>
-    ensures { IfSome result (λ a. IsAsked a (codes "page") (rows_of (found_of matches.now))) }
-{
-    let signed = has_signed_serve(matches);
-    match text(matches, "film") {
-        Some(script) => Some(Ask::Film(Filming { script, signed })),
-        None => Some(Ask::Page(Serve {
-            port: port_given(matches)?,
-            requests: requests_given(matches)?,
-            signed,
-        })),
-    }
 }
 
 /// A run, with what was found for its options.
@@ -169,13 +153,6 @@ fn has_signed_order(matches: &ArgMatches<'_>) -> bool
     has_sign(matches, "tag") || has_sign(matches, "turns") || has_sign(matches, "seconds")
 }
 
-/// Whether a number of `page` is.
-fn has_signed_serve(matches: &ArgMatches<'_>) -> bool
-    ensures { IsTrue result ↔ HasSignedServe (rows_of (found_of matches.now)) }
-{
-    has_sign(matches, "port") || has_sign(matches, "requests")
-}
-
 fn tag_given(matches: &ArgMatches<'_>) -> Option<u16>
     ensures { IfSome result (HasNumber (rows_of (found_of matches.now)) (codes "tag")) }
 {
@@ -203,18 +180,4 @@ fn seconds_given(matches: &ArgMatches<'_>) -> Option<Option<u32>>
     } else {
         Some(Some(seconds))
     }
-}
-
-fn port_given(matches: &ArgMatches<'_>) -> Option<u16>
-    ensures { IfSome result (HasNumber (rows_of (found_of matches.now)) (codes "port")) }
-{
-    matches.get_one::<u16>("port")
-}
-
-fn requests_given(matches: &ArgMatches<'_>) -> Option<u32>
-    ensures number { IfSome result (HasNumber (rows_of (found_of matches.now)) (codes "requests")) }
-    ensures some { IfSome result (λ n. 1 ≤ n) }
-{
-    let requests = matches.get_one::<u32>("requests")?;
-    if requests == 0 { None } else { Some(requests) }
 }

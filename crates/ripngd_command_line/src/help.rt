@@ -93,14 +93,3 @@ the exit status is 1.
 
 Example:
   ripngd table east.log";
-
-/// Of `page`.
-pub(crate) const PAGE: &str = "\
-The address of the page is printed, and a browser of this machine shows there
-what happens in a network as a script runs. It stops after N requests, or when a
-signal ends it. With `--film` nothing is served: the page with the script's
-events in it is printed, as one file that any browser opens by itself. A script
-that is refused gives a film up to there, and the exit status 1.
-
-Example:
-  ripngd page --film examples/line.lab > line.html";

@@ -8,7 +8,7 @@ mod misuse;
 mod options;
 mod subcommands;
 
-pub use asked::{Ask, Filming, Order, Question, Serve};
+pub use asked::{Ask, Order, Question};
 pub use command_line::ask;
 pub use help::VERSION;
 pub use misuse::{is_misused, misuse_text};

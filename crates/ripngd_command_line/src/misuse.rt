@@ -64,8 +64,6 @@ pub fn is_misused(asked: Ask<'_>) -> bool
 {
     match asked {
         Ask::Run(order) => is_misordered(order),
-        Ask::Page(serve) => serve.signed,
-        Ask::Film(filming) => filming.signed,
         _ => false,
     }
 }

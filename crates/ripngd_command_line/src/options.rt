@@ -1,7 +1,7 @@
 //! The options and arguments of the subcommands.
 
 ghost use Rattle.std.specs.Prelude.{codes};
-ghost use Rattle.ripngd_command_line.specs.CommandLine.{IsArg, append_option, control_option, debug_option, explain_option, film_option, log_option, optional_rule, port_option, positional, quiet_option, requests_option, seconds_option, stamp_option, tag_option, trace_option, turns_option};
+ghost use Rattle.ripngd_command_line.specs.CommandLine.{IsArg, append_option, control_option, debug_option, explain_option, log_option, optional_rule, positional, quiet_option, seconds_option, stamp_option, tag_option, trace_option, turns_option};
 
 use clap::{Arg, ArgAction, value_parser};
 use std::alloc::Global;
@@ -132,40 +132,4 @@ pub(crate) fn explain<'a>(alloc: Global) -> Arg<'a>
         .long("explain")
         .action(ArgAction::SetTrue)
         .help("Print a line of English for all that happens, beside what the script prints")
-}
-
-/// `--port N`, from 0 to 65,535.
-pub(crate) fn port<'a>(alloc: Global) -> Arg<'a>
-    ensures { IsArg result port_option }
-{
-    Arg::new(alloc, "port")
-        .long("port")
-        .value_name("N")
-        .value_parser(value_parser!(u16))
-        .default_value("8532")
-        .help("The TCP port of 127.0.0.1 that a browser asks for the page; 0 is one that is free")
-}
-
-/// `--requests N`, from 1 to 4,294,967,295.
-pub(crate) fn requests<'a>(alloc: Global) -> Arg<'a>
-    ensures { IsArg result requests_option }
-{
-    Arg::new(alloc, "requests")
-        .long("requests")
-        .value_name("N")
-        .value_parser(value_parser!(u32).range(1..))
-        .default_value("4294967295")
-        .help("End after N requests")
-}
-
-/// `--film SCRIPT`.
-pub(crate) fn film<'a>(alloc: Global) -> Arg<'a>
-    ensures { IsArg result film_option }
-{
-    Arg::new(alloc, "film")
-        .long("film")
-        .value_name("SCRIPT")
-        .help(
-            "Serve nothing, and print the page with all that happens as the script of the file runs",
-        )
 }

@@ -2,12 +2,12 @@
 
 ghost use Rattle.std.specs.Prelude.{IfOk, codes};
 ghost use Rattle.clap.specs.Simple.{App, with_subcommand};
-ghost use Rattle.ripngd_command_line.specs.CommandLine.{IsCommand, ctl_command, lab_command, one_argument, page_command, ripngd, run_command};
+ghost use Rattle.ripngd_command_line.specs.CommandLine.{IsCommand, ctl_command, lab_command, one_argument, ripngd, run_command};
 
 use crate::help;
 use crate::options::{
-    append, control, debug, explain, film, log, optional, port, quiet, requests, required, seconds,
-    stamp, tag, trace, turns,
+    append, control, debug, explain, log, optional, quiet, required, seconds, stamp, tag, trace,
+    turns,
 };
 use clap::Command;
 use std::alloc::{AllocError, Global};
@@ -82,18 +82,6 @@ fn ctl<'a>(alloc: Global) -> Result<Command<'a>, AllocError>
         .arg(optional(alloc, "PORT", "The port of a neighbor"))
 }
 
-/// `page [--port N] [--requests N] [--film SCRIPT]`.
-fn page<'a>(alloc: Global) -> Result<Command<'a>, AllocError>
-    ensures { IfOk result (λ c. IsCommand c page_command) }
-{
-    Command::new(alloc, "page")
-        .about("Serve the page of a laboratory to a browser of this machine")
-        .after_help(help::PAGE)
-        .arg(port(alloc))?
-        .arg(requests(alloc))?
-        .arg(film(alloc))
-}
-
 /// `show HEX`.
 fn show<'a>(alloc: Global) -> Result<Command<'a>, AllocError>
     ensures { IfOk result (λ c. IsCommand c (one_argument (codes "show") (codes "HEX"))) }
@@ -161,6 +149,5 @@ pub(crate) fn command<'a>(alloc: Global) -> Result<Command<'a>, AllocError>
     let command = with(command, lab(alloc))?;
     let command = with(command, run(alloc))?;
     let command = with(command, table(alloc))?;
-    let command = with(command, page(alloc))?;
     with(command, ctl(alloc))
 }

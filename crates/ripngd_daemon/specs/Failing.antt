@@ -16,8 +16,6 @@ file_of (asks.Explain file) = Some file.now
 file_of (asks.Run order) = Some order.config.now
 file_of (asks.Ctl question) = None
 file_of (asks.Table file) = Some file.now
-file_of (asks.Page serve) = None
-file_of (asks.Film filming) = Some filming.script.now
 
 -- the file that gets its log
 abbrev pub log_file_of : Ask → Option (List ℕ)
@@ -39,15 +37,10 @@ abbrev pub turns_of : Ask → ℕ
 turns_of (asks.Run order) = order.turns
 turns_of _ = 0
 
--- whether it takes connections of browsers
-abbrev pub serves : Ask → Bool
-serves (asks.Page serve) = true
-serves _ = false
-
 -- whether it has sockets
 abbrev pub has_sockets : Ask → Bool
 has_sockets (asks.Run order) = true
-has_sockets ask = serves ask
+has_sockets _ = false
 
 -- what may fail where this is asked: no file and no path but those that it names, and no link after its turns
 abbrev pub MayFail : Ask → Failure → Type 0
@@ -58,7 +51,6 @@ MayFail ask (failures.Bind port cause) = IsTrue (has_sockets ask)
 MayFail ask (failures.Listen path why) = door_of ask ≡ Some path.now
 MayFail ask (failures.Ask path) = asks_at ask ≡ Some path.now
 MayFail ask (failures.Answer path) = asks_at ask ≡ Some path.now
-MayFail ask failures.Accept = IsTrue (serves ask)
 MayFail ask (failures.Link done) = done < turns_of ask
 MayFail ask failures.OutOfMemory = ⊤
 

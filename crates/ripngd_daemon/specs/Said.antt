@@ -41,7 +41,6 @@ failure_text (failures.Bind port cause) = codes "cannot bind " ++ (decimal port 
 failure_text (failures.Listen path why) = codes "cannot listen at " ++ (path.now ++ why_text why)
 failure_text (failures.Ask path) = codes "nobody listens at " ++ path.now
 failure_text (failures.Answer path) = codes "no whole answer from " ++ path.now
-failure_text failures.Accept = codes "cannot accept a connection"
 failure_text (failures.Link done) = codes "link fault after " ++ (decimal done ++ codes " turns")
 failure_text failures.OutOfMemory = codes "out of memory"
 

@@ -32,8 +32,6 @@ pub enum Failure<'a> {
     Ask(&'a str),
     /// Who listens at a path gives no whole answer.
     Answer(&'a str),
-    /// No browser's connection can be taken.
-    Accept,
     /// A socket failed, after so many turns.
     Link(u32),
     /// Memory was refused.
@@ -74,7 +72,6 @@ impl Display for Failure<'_> {
             Failure::Listen(path, why) => write!(f, "cannot listen at {path}{}", why_text(why)),
             Failure::Ask(path) => write!(f, "nobody listens at {path}"),
             Failure::Answer(path) => write!(f, "no whole answer from {path}"),
-            Failure::Accept => write!(f, "cannot accept a connection"),
             Failure::Link(done) => write!(f, "link fault after {done} turns"),
             Failure::OutOfMemory => write!(f, "out of memory"),
         }

@@ -6,18 +6,17 @@ use std::fs::File;
 use std::io::{self, BufWriter, ErrorKind, Write};
 use std::net::Net;
 use std::process::ExitCode;
-use std::random::RandomSource;
 use std::rt::{Clock, Env, Files};
 
 /// Does what the arguments ask for, and answers the exit status.
 ///
 /// # Errors
 /// `OutOfMemory`, or `InvalidData` where an argument is not UTF-8.
-fn run<
-    R: AllocGlobal + Env + Files<File = File> + Print + Clock + Net + RandomSource,
-    O: Write + Drop,
-    E: Write,
->(rt: &R, out: O, err: &mut E) -> io::Result<u8> {
+fn run<R: AllocGlobal + Env + Files<File = File> + Print + Clock + Net, O: Write + Drop, E: Write>(
+    rt: &R,
+    out: O,
+    err: &mut E,
+) -> io::Result<u8> {
     let arguments: Vec<String> = env::args(rt)?.collect(rt.alloc())?;
     let words: Vec<&str> = arguments
         .iter()

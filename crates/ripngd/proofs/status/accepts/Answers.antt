@@ -41,15 +41,3 @@ returns-in-Table-clause-answered g c = rw c.in-Table.is c.table_file.ensures.tab
 
 pub returns-in-Table-clause-failed : goal.returns-in-Table-clause-failed
 returns-in-Table-clause-failed g c = rw c.in-Table.is c.table_file.ensures.failed
-
-pub returns-in-Film-clause-answered : goal.returns-in-Film-clause-answered
-returns-in-Film-clause-answered g c = rw c.in-Film.is c.film_file.ensures.answered
-
-pub returns-in-Film-clause-failed : goal.returns-in-Film-clause-failed
-returns-in-Film-clause-failed g c = rw c.in-Film.is c.film_file.ensures.failed
-
-pub returns-in-Page-clause-answered : goal.returns-in-Page-clause-answered
-returns-in-Page-clause-answered g c = rw c.in-Page.is c.serve.ensures.served
-
-pub returns-in-Page-clause-failed : goal.returns-in-Page-clause-failed
-returns-in-Page-clause-failed g c = rw c.in-Page.is c.serve.ensures.failed

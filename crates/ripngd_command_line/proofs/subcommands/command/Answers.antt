@@ -15,5 +15,4 @@ returns c =
     let s3 = c.in_ok-command-3.ensures _ _ s2 c.lab.ensures in
     let s4 = c.in_ok-command-4.ensures _ _ s3 c.run.ensures in
     let s5 = c.in_ok-command-5.ensures _ _ s4 c.table.ensures in
-    let s6 = c.in_ok-command-6.ensures _ _ s5 c.page.ensures in
-    c.with-7.ensures _ _ s6 c.ctl.ensures
+    c.with-6.ensures _ _ s5 c.ctl.ensures
