@@ -102,8 +102,12 @@
     tell(ran.length - count, textOf('#editing'), textOf('#events li:last-child'));
   }
 
-  // What stops the laboratory is said: want of memory, and a fault of it.
+  // What keeps a trace from being shown is said: its length, want of memory, and a fault of the laboratory.
   async function sayFaults() {
+    const good = script.value;
+    await type(`${good}rounds 1000 60000 15000\n${'rounds 1000 +15000 15000\n'.repeat(24)}`);
+    tell(textOf('#editing').replace(/\d+ MiB/, 'so many MiB'), lastLine());
+    await type(good);
     for (const fault of ['it wants more memory than there is', 'the laboratory has stopped (unreachable)']) {
       window.traced = () => Promise.reject(new Error(fault));
       await type(`${script.value}# ${fault}\n`);

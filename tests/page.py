@@ -228,7 +228,9 @@ class Page:
 
     def faults(self, folder):
         said = ["it wants more memory than there is", "the laboratory has stopped (unreachable)"]
-        same("the report", self.report(folder, "sayFaults"), [f"not run: {fault} again | # {fault}" for fault in said])
+        same("the report", self.report(folder, "sayFaults"),
+             ["not run: its trace has so many MiB, and at most 64 are shown again | rounds 1000 +15000 15000",
+              *(f"not run: {fault} again | # {fault}" for fault in said)])
 
     def keys(self, folder):
         """One thing of each pane is reached by Tab, the next by an arrow; the focus stays; a left or right arrow steps and nothing else."""
