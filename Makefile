@@ -4,21 +4,22 @@
 # make check        all tests of the program that stands at bin/ripngd, proved or not
 # make lab SCRIPT=  runs a network of routers from a script
 # make show HEX=    decodes one datagram, given as hexadecimal digits
-# make page         serves the page of the laboratory, at PORT of 127.0.0.1, until it is interrupted
+# make page         makes docs/lab.html, the laboratory in one file, with a module of proved libraries (needs Debian's binaryen)
+# make film SCRIPT= the same with a script in it, at OUT; film.html if none is named
 # make install      puts the proved program, its companion for real links, their manual pages, a unit of systemd for each, and the
 #                   examples below PREFIX (and DESTDIR before it); with UNPROVED=1 a program that is not proved, too
 # make uninstall    takes them away again
 # make dist         what is installed, and checksums, in one file below dist
 # make bench        times of a router and its forwarding table, as tables grow
 # make beside       what a route costs here and in BIRD, one after the other (needs root and BIRD, a package of the system)
-# make pictures     films and pictures of the examples, below docs (needs Chromium, a package of the system)
+# make pictures     pictures of the examples, below docs (needs Chromium, a package of the system)
 # make mutants      wrong programs that no contract sees: which test catches each (an hour)
 # make clean        forgets what earlier runs built here
 
 HEX ?= 02010000
 SCRIPT ?= examples/line.lab
 ROUTES ?= 1024 4096 16384 65536
-PORT ?= 8532
+OUT ?= film.html
 
 # Where `make install` puts things, under the names that packages use. PREFIX is heard too.
 PREFIX ?= /usr/local
@@ -31,12 +32,12 @@ linksdir ?= $(prefix)/lib/ripngd-links
 INSTALL ?= install
 
 # The folders with what goes beside README.md.
-folders = docs docs/films docs/pictures examples examples/lessons page
+folders = docs docs/pictures examples examples/lessons page
 
 VERSION = $(shell sed -n 's/^pub const VERSION: &str = "\(.*\)";/\1/p' crates/ripngd_command_line/src/help.rt)
 name = ripngd-$(VERSION)$(if $(UNPROVED),-unproved)-x86_64-linux
 
-.PHONY: all prove test check lab show page install uninstall dist proved bench beside pictures mutants clean
+.PHONY: all prove test check lab show page film install uninstall dist proved bench beside pictures mutants clean
 
 all: bin/ripngd
 
@@ -68,8 +69,11 @@ lab: bin/ripngd
 show: bin/ripngd
 	bin/ripngd show $(HEX)
 
-page: bin/ripngd
-	bin/ripngd page --port $(PORT)
+page:
+	page/build.sh
+
+film:
+	page/film.py $(SCRIPT) > $(OUT)
 
 # What is installed is proved, but where UNPROVED says otherwise.
 proved:
@@ -112,8 +116,8 @@ bench:
 beside: proved
 	tools/beside.py bin/ripngd
 
-pictures: bin/ripngd
-	page/pictures.sh
+pictures:
+	page/pictures.py
 
 mutants: bin/ripngd bin/test_rows
 	tools/mutants bin/ripngd bin/test_rows

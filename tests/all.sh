@@ -13,14 +13,15 @@ cd "$(dirname "$0")/.." || exit 1
 folder=$(mktemp -d)
 trap 'rm -rf "$folder"' EXIT
 
-# The longest first.
-suites="links.sh page.sh sending.py neighbors.py control.py followers.py sockets.py watching.py growth.py
-growth_of_calls.py mutated.py cases.py scripts.py"
+# The longest first. What stands behind a colon is given to the suite, too.
+suites="links.sh page.py:chromium page.py:firefox lab_file.py page.py:modules sending.py neighbors.py control.py followers.py
+sockets.py watching.py growth.py growth_of_calls.py mutated.py cases.py scripts.py"
 
-# `arguments SUITE`: which of the two programs a suite is given.
+# `arguments SUITE`: which of the two programs a suite is given, and its word.
 arguments() {
     case $1 in
         growth_of_calls.py) echo "$rows" ;;
+        *:*) echo "$program" "${1#*:}" ;;
         *) echo "$program" ;;
     esac
 }
@@ -29,7 +30,9 @@ arguments() {
 run() {
     local begun=$SECONDS gives_way=
     [[ $1 != growth* ]] || gives_way='nice -n 10'
-    $gives_way "tests/$1" "$(arguments "$1")" > "$folder/$1" 2>&1
+    local words
+    read -ra words <<< "$(arguments "$1")"
+    $gives_way "tests/${1%:*}" "${words[@]}" > "$folder/$1" 2>&1
     echo $((SECONDS - begun)) > "$folder/$1.seconds"
 }
 

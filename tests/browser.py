@@ -1,9 +1,5 @@
-#!/usr/bin/env python3
-"""A real browser with real clicks and keys, for tests/page.sh and tests/reader.py: Chromium by the pipe of its DevTools, or Firefox by
-the socket of Marionette. Nothing is needed but the browser and the standard library.
-
-    tests/browser.py chromium|firefox reports FOLDER < LINES     opens the page of each line, which a play of tests/page.js ends
-                                                                 with a report, and writes that to FOLDER/LINE'S FIRST WORD
+"""A real browser with real clicks and keys: Chromium by the pipe of its DevTools, or Firefox by the socket of Marionette. Nothing is
+needed but the browser and the standard library.
 """
 import base64
 import json
@@ -31,7 +27,7 @@ def open_browser(kind, width=1400, height=900):
 
 
 class Browser:
-    """What both have; each has `call`, `open`, `value`, `click_at`, `press`, `picture` and `size`, and Chromium `media`."""
+    """What both have; each has `call`, `open`, `value`, `promised`, `click_at`, `press`, `picture` and `size`, and Chromium `media`."""
 
     def __init__(self):
         self.folder = tempfile.mkdtemp(prefix='browser-')
@@ -48,6 +44,14 @@ class Browser:
                 return value
             time.sleep(0.05)
         raise TimeoutError(f'this did not come to be: {expression}')
+
+    def traced(self, scripts):
+        """The traces that the laboratory makes of scripts, one after another."""
+        return self.promised(f'''(async () => {{
+          const page = window.wrappedJSObject ?? window, traces = [];
+          for (const script of {json.dumps(scripts)}) traces.push(await page.traced(script));
+          return traces;
+        }})()''')
 
     def downloaded(self, name, seconds=30):
         """The path of a file that the page gives to save, once it is whole."""
@@ -78,7 +82,7 @@ class Chromium(Browser):
                                         pass_fds=(theirs_in, theirs_out), stdout=subprocess.DEVNULL, stderr=subprocess.DEVNULL)
         os.close(theirs_in)
         os.close(theirs_out)
-        self.answers = os.fdopen(answers, 'rb')
+        self.answers, self.begun = os.fdopen(answers, 'rb', 1 << 20), bytearray()
         self.session = None
         target = next(one for one in self.call('Target.getTargets')['targetInfos'] if one['type'] == 'page')
         self.session = self.call('Target.attachToTarget', targetId=target['targetId'], flatten=True)['sessionId']
@@ -87,10 +91,11 @@ class Chromium(Browser):
         self.size(width, height)
 
     def read(self):
-        text = b''
-        while not text.endswith(b'\0'):
-            text += self.answers.read(1) or sys.exit('Chromium has ended')
-        return json.loads(text[:-1])
+        while b'\0' not in self.begun:
+            self.begun += self.answers.read1() or sys.exit('Chromium has ended')
+        text, _, behind = self.begun.partition(b'\0')
+        self.begun = bytearray(behind)
+        return json.loads(bytes(text))
 
     def call(self, method, **parameters):
         self.number += 1
@@ -115,6 +120,9 @@ class Chromium(Browser):
         if 'exceptionDetails' in answer:
             raise RuntimeError(f'{expression}: {answer["exceptionDetails"]}')
         return answer['result'].get('value')
+
+    def promised(self, expression):
+        return self.value(expression)
 
     def click_at(self, x, y):
         for kind in ('mouseMoved', 'mousePressed', 'mouseReleased'):
@@ -172,10 +180,10 @@ class Firefox(Browser):
         length = b''
         while not length.endswith(b':'):
             length += self.socket.recv(1) or sys.exit('Firefox has ended')
-        text = b''
+        text = bytearray()
         while len(text) < int(length[:-1]):
-            text += self.socket.recv(int(length[:-1]) - len(text))
-        return json.loads(text)
+            text += self.socket.recv(int(length[:-1]) - len(text)) or sys.exit('Firefox has ended')
+        return json.loads(bytes(text))
 
     def call(self, method, **parameters):
         self.number += 1
@@ -192,6 +200,10 @@ class Firefox(Browser):
 
     def value(self, expression):
         return self.call('WebDriver:ExecuteScript', script=f'return ({expression})', args=[])['value']
+
+    def promised(self, expression):
+        script = f'const end = arguments[arguments.length - 1]; ({expression}).then(end)'
+        return self.call('WebDriver:ExecuteAsyncScript', script=script, args=[], scriptTimeout=300_000)['value']
 
     def click_at(self, x, y):
         moves = [{'type': 'pointerMove', 'x': int(x), 'y': int(y)}, {'type': 'pointerDown', 'button': 0}, {'type': 'pointerUp', 'button': 0}]
@@ -214,25 +226,3 @@ class Firefox(Browser):
     def picture(self, path):
         with open(path, 'wb') as file:
             file.write(base64.b64decode(self.call('WebDriver:TakeScreenshot', full=False)['value']))
-
-
-def reports(kind, folder):
-    browser = open_browser(kind)
-    try:
-        for line in sys.stdin:
-            name, url = line.split()
-            browser.open(url)
-            try:
-                text = browser.wait('document.getElementById("report")?.textContent', 300)
-            except TimeoutError:
-                text = ''
-            with open(os.path.join(folder, name), 'w') as file:
-                file.write(text)
-    finally:
-        browser.close()
-
-
-if __name__ == '__main__':
-    if len(sys.argv) != 4 or sys.argv[1] not in PROGRAMS or sys.argv[2] != 'reports':
-        sys.exit(__doc__)
-    reports(sys.argv[1], sys.argv[3])

@@ -1,4 +1,5 @@
-// Put into a page by tests/page.sh, behind its own script: does what a reader does, and reports what the page shows, a line each.
+// Put into the page by tests/page.py, behind its own script: does what a reader does, by the play that the address names (?PLAY), and
+// reports what the page shows, a line each.
 'use strict';
 
 {
@@ -9,12 +10,20 @@
   const press = id => document.getElementById(id).click();
   const textOf = selector => one(selector)?.textContent.trim().replace(/\s+/g, ' ') ?? 'nothing';
   const after = pause => new Promise(resolve => { setTimeout(resolve, pause); });
-  const settled = () => after(400);
+  // The page runs a script a while after the last key.
+  const settled = async () => {
+    await after(300);
+    while (isRunning()) await after(20);
+    await after(20);
+  };
   const key = (name, more = {}) => document.activeElement.dispatchEvent(new KeyboardEvent('keydown', { key: name, bubbles: true, cancelable: true, ...more }));
   const buttonOf = text => all('#detail button, #acts button').find(button => button.textContent === text);
   const set = (selector, value) => { one(selector).value = value; one(selector).dispatchEvent(new Event('input', { bubbles: true })); };
   const lastLine = () => script.value.trimEnd().split('\n').at(-1);
   const tell = (...facts) => report.push(facts.join(' | '));
+  // The scripts that the page has run.
+  const ran = [], trace = window.traced;
+  window.traced = script => { ran.push(script); return trace(script); };
 
   async function type(text) {
     script.focus();
@@ -43,7 +52,7 @@
     return sums.length;
   }
 
-  // Steps a film to its end and back.
+  // Steps a script to its end and back, and has the page decode every datagram.
   function playFilm() {
     const steps = view.trace.steps.length;
     let walks = 0;
@@ -55,10 +64,10 @@
     }
     for (let step = 1; step < steps; step++) press('back');
     report.push(`steps ${steps}`, `walks ${walks}`, textOf('#where'));
+    report.push(...view.trace.datagrams.flatMap(({ bytes }) => decode(bytes).split('\n')).map(line => `show ${line}`));
   }
 
-  // Every datagram as the page decodes it, and the sums behind a step, which the address names.
-  const decodeAll = () => report.push(...view.trace.datagrams.flatMap(({ bytes }) => decode(bytes).split('\n')).map(line => `show ${line}`));
+  // The sums behind a step, which the address names.
   const showAsked = () => report.push(textOf('#sum'), textOf('#walk tbody').replace(/line \d+/g, ''));
   const showWhere = () => { press('step'); tell(textOf('#where'), one('[data-choose][aria-pressed=true], tr.chosen') ? 'chosen' : 'nothing chosen'); };
   const showRefusals = () => report.push(...all('#events .bad').map(text => text.textContent));
@@ -71,32 +80,73 @@
     report.push(`appended ${lastLine()}`, `last ${textOf('#events li:last-child')}`, textOf('#where'), `marks ${all('#drawing .pile').length > 0}`);
     await type(`${script.value}tick 9 400 0\n`);
     report.push(`refused line ${textOf('#gutter .refused')}`, `last ${textOf('#events li:last-child')}`);
-    await type(`${script.value}x`);
-    report.push(textOf('#editing'));
   }
 
-  // What is typed stays while the server is gone, whatever is stepped; and is run when it is there again.
-  async function keepDraft() {
-    const first = script.value;
-    SERVER.isGone = true;
-    await type(`${first}tick 0 400 0\n`);
-    tell(textOf('#editing'));
-    press('back');
-    press('last');
-    tell(lastLine(), textOf('#where'));
-    SERVER.isGone = false;
+  // A long run is called off by the next, by its button and by Escape; what is typed stays, and can be run again. Meanwhile the page steps.
+  async function callOffRuns() {
+    const good = script.value, begun = async () => {
+      while (!textOf('#editing').startsWith('running')) await after(50);
+    };
+    const long = `${good}rounds 1000 60000 15000\n${'rounds 1000 +15000 15000\n'.repeat(99)}`;
+    for (const stop of [() => press('step'), () => click(one('[data-act=stop]')), () => key('Escape')]) {
+      set('#script', long);
+      await begun();
+      stop();
+      tell(isRunning(), textOf('#where').split(',')[0], textOf('#editing'), script.value === long);
+    }
     click(one('[data-act=again]'));
+    await begun();
+    const count = ran.length;
+    set('#script', `${good}tick 0 400 0\n`);
     await settled();
-    press('last');
-    tell(textOf('#events li:last-child'), localStorage.getItem('ripngd draft').includes('tick 0 400 0'));
-    await type('x\n'.repeat(140000));
-    tell(textOf('#editing'), script.value.length);
+    tell(ran.length - count, textOf('#editing'), textOf('#events li:last-child'));
+  }
+
+  // What keeps a trace from being shown is said: its length, want of memory, and a fault of the laboratory.
+  async function sayFaults() {
+    const good = script.value;
+    await type(`${good}rounds 1000 60000 15000\n${'rounds 1000 +15000 15000\n'.repeat(24)}`);
+    tell(textOf('#editing').replace(/\d+ MiB/, 'so many MiB'), lastLine());
+    await type(good);
+    for (const fault of ['it wants more memory than there is', 'the laboratory has stopped (unreachable)']) {
+      window.traced = () => Promise.reject(new Error(fault));
+      await type(`${script.value}# ${fault}\n`);
+      tell(textOf('#editing'), lastLine());
+    }
+  }
+
+  // Drafts have names of their own, one beside another, and each can be opened again; a link begins with the address that was set.
+  async function keepDrafts() {
+    const choose = async name => {
+      Object.assign(one('#examples'), { value: name }).dispatchEvent(new Event('change'));
+      await settled();
+    };
+    const listed = () => all('#examples optgroup')[0].label + all('#examples optgroup:first-of-type option').map(option => ` ${option.value}`).join('');
+    tell(listed().startsWith('examples'), all('#examples optgroup').map(({ label }) => label));
+    await type(`${script.value}# first\n`);
+    tell(listed());
+    await choose('line.lab');
+    await type(`${script.value}# second\n`);
+    tell(listed());
+    await choose('own-line.lab');
+    tell(lastLine(), one('#name').value);
+    one('#name').value = 'mine.lab';
+    one('#name').dispatchEvent(new Event('change'));
+    tell(listed());
+    press('redo');
+    set('#place-of-page', 'https://example.org/lab.html');
+    await share();
+    set('#place-of-page', 'https://example.org/lab.html');
+    await after(200);
+    const link = new URL(one('#link').value);
+    tell(link.origin + link.pathname, await unpacked(new URLSearchParams(link.hash.slice(1)).get('script')) === script.value);
+    one('#sharing').close();
   }
 
   // A click whose line is refused leaves no line; one with a blank field, or a link past the next router, makes none; behind a refused
   // line nothing is put.
   async function refuseClicks() {
-    const asked = () => SERVER.asked.length;
+    const asked = () => ran.length;
     click(one('.router[data-router="0"]'));
     set('#detail [name=prefix]', 'ff00::/8');
     click(buttonOf('own it'));
@@ -201,7 +251,7 @@
     tell(at().join() === place.join());
   }
 
-  // A file of another system has its lines and its name, and can be loaded again; twelve keys are one run, and the next calls off one.
+  // A file of another system has its lines and its name, and can be loaded again; twelve keys are one run.
   async function loadFiles() {
     const files = new DataTransfer(), good = script.value;
     const file = new File([good.replace(/\n/g, '\r\n')], 'mine.lab');
@@ -211,18 +261,10 @@
     for (let times = 0; times < 3; times++) await file.text();
     await settled();
     tell(script.value === good, one('#name').value, one('#file').value === '', textOf('#where'), textOf('#editing'));
-    const before = SERVER.asked.length;
-    SERVER.delay = 1000;
+    const before = ran.length;
     for (let count = 0; count < 12; count++) set('#script', `${good}${'#'.repeat(count)}`);
     await settled();
-    tell(SERVER.asked.length - before, textOf('#editing'));
-    await after(200);
-    tell(textOf('#editing'));
-    set('#script', good);
-    await settled();
-    tell(SERVER.asked.length - before, SERVER.calledOff);
-    await after(2000);
-    tell(textOf('#editing'));
+    tell(ran.length - before, textOf('#editing'));
   }
 
   // Rounds by a click, a lost datagram, a branch, a moment that stays as it was typed, and a datagram before it is sent.
@@ -258,10 +300,10 @@
   }
 
   const script = document.getElementById('script');
-  const plays = { film: playFilm, decode: decodeAll, asked: showAsked, where: showWhere, refusals: showRefusals, edit, keepDraft, refuseClicks, undoAll, useKeys,
-    keepDrawing, loadFiles, useActs };
+  const plays = { film: playFilm, asked: showAsked, where: showWhere, refusals: showRefusals, edit, callOffRuns, sayFaults, keepDrafts, refuseClicks, undoAll,
+    useKeys, keepDrawing, loadFiles, useActs };
   const write = () => { document.body.innerHTML = '<pre id="report"></pre>'; document.getElementById('report').textContent = `${report.join('\n')}\n`; };
   window.onerror = message => { report.push(`wrong ${message}`); };
   window.onunhandledrejection = ({ reason }) => { report.push(`wrong ${reason}`); };
-  settled().then(() => plays[PLAY]()).catch(error => { report.push(`wrong ${error.stack}`); }).then(write);
+  settled().then(() => plays[location.search.slice(1)]()).catch(error => { report.push(`wrong ${error.stack}`); }).then(write);
 }

@@ -182,7 +182,7 @@ function checkPanes(script, trace) {
       const plain = trace.datagrams.filter(({ end: from, sentAt, arrivals }) => from === end && sentAt <= step && !(others.length > 0 && others.every(other => arrivals.some(({ end: to, step: at }) => to === other && at <= step))));
       same('what is under way', onTheirWay(end, step).map(({ datagram }) => datagram), plain.map(({ datagram }) => datagram).reverse());
     }
-    const state = { trace, wiring, spots, pane, step, shifts: [], typed: {}, names: new Map(trace.ends.map((_, router) => [router, 'A-long-name-of-a-router'])), captions: captionsOf(script), place: 'end', served: true, chosen: pick(chosen) };
+    const state = { trace, wiring, spots, pane, step, shifts: [], typed: {}, names: new Map(trace.ends.map((_, router) => [router, 'A-long-name-of-a-router'])), captions: captionsOf(script), place: 'end', chosen: pick(chosen) };
     const pilesOf = ({ parts }) => parts.filter(({ text }) => text.includes('class="pile')).length;
     same('the datagrams, whatever is chosen', pilesOf(drawingOf(state)), pilesOf(drawingOf({ ...state, chosen: null })));
     for (const [, x, y, text] of drawingOf(state).parts.flatMap(part => [...part.text.matchAll(/class="prefix" x="(.*?)" y="(.*?)">(.*?)</g)])) {
@@ -223,17 +223,15 @@ const CASES = {
     same('the joined network', trace.ends.map(ends => ends.map(({ link }) => link)), [[0, 2, 4], [0, 1], [1, 2, 3], [3, 4]]);
     same('a link to itself, from nowhere, past the next', [joined(ring, 1, 1, 1), joined(ring, 9, 1, 1), joined(ring, 1, 40, 1)], [null, null, null]);
   },
-  'where a refusal belongs': () => {
-    const network = 'router\niface fe80::1 1 1280 0\nrouter\niface fe80::1 1 1280 0\ncold 0\n';
-    same('a shared address', hintOf(network, 5, '4 AddressSharedInNetwork'), '; see lines 2 and 4');
-    same('a router', hintOf(network, 5, '3 BadRouter 1 3 AddressNotLinkLocal'), '; router 1 begins at line 3');
-    same('a blank', hintOf('router \n', 1, 'BadLine'), '; its form is router [quiet] [NAME]; a space or a tab is too many');
-    same('a line out of place', hintOf(`${network}router\n`, 6, 'BadLine'), '; its form is router [quiet] [NAME]; it belongs before cold');
-    same('another word', hintOf('constructor\n', 1, 'BadLine'), '; no line begins so');
+  'what to do about a refusal': () => {
+    const refused = { record: 'refused', line: 5, why: '4 AddressSharedInNetwork' };
+    same('no hint', [hintOf(refused), hintOf({ ...refused, hint: null })], ['', '']);
+    same('a hint of the line', hintOf({ ...refused, hint: { line: 5, text: 'so' } }), '; so');
+    same('a hint of another line', hintOf({ ...refused, hint: { line: 2, text: 'so' } }), '; line 2: so');
   },
   'an interface alone on its link is drawn, and what it sent is lost': () => {
-    const trace = readTrace(ran('router\niface fe80::1 3 1280 0\nown 2001:db8::/32 1\ncold 0\ntick 0 0 0\n', '--trace')), wiring = wiringOf(trace);
-    const state = { trace, wiring, spots: layOut(wiring), pane: { width: 500, height: 400 }, step: 1, place: 'end', shifts: [], names: new Map(), served: false, chosen: null };
+    const trace = readTrace(ran('router\niface fe80::1 3 1280 0\nown 2001:db8::/32 1\ncold 0\ntick 0 0 0\ntick 0 10 0\n', '--trace')), wiring = wiringOf(trace);
+    const state = { trace, wiring, spots: layOut(wiring), pane: { width: 500, height: 400 }, step: 1, place: 'end', shifts: [], names: new Map(), chosen: null };
     for (const text of ['data-choose="iface 0 0"', 'data-choose="datagram 1"', 'class="pile fresh lost"']) same(text, drawingOf(state).parts.some(part => part.text.includes(text)), true);
   },
   // A line of three, by hand: the far one's least cost is 3, and none while the link or the router between is out.
@@ -247,7 +245,7 @@ const CASES = {
       [['line 10: link 1 is cut'], ['line 12: link 1 is mended', 'line 13: router Mid falls silent']]);
     for (const text of at(11).said) same(text, eventOf(at(11), 0).text.includes(text), true);
     const wiring = wiringOf(trace), state = { trace, wiring, spots: layOut(wiring), pane: { width: 500, height: 400 }, step: 0, shifts: [],
-      names: namesOf(script), served: false, chosen: null };
+      names: namesOf(script), chosen: null };
     same('the wire', drawingOf(state).parts.map(({ text }) => text.includes('class="wire cut"')), drawingOf(state).parts.map((_, part) => part === 1));
   },
   // The card has each line of docs/FORMATS.md, by its first word, and no other.

@@ -1,5 +1,5 @@
 #!/usr/bin/env python3
-"""Visits to a page that is served, by real clicks and keys, for tests/page.sh.
+"""Visits to the laboratory's page by real clicks and keys, for tests/page.py.
 
     tests/visits.py chromium|firefox newcomer|keyboard|sizes URL      says nothing, or why it went wrong, with status 1
 
@@ -12,6 +12,7 @@ import sys
 
 import browser
 
+NAMES = ('newcomer', 'keyboard', 'sizes')
 ROUTE = '2001:db8::/32'
 # The point to click of what is named so: a button or a field by its words, a thing of the drawing by its title.
 FIND = '''(name => {
@@ -52,14 +53,17 @@ def same(what, given, wanted):
 
 
 class Visit:
-    def __init__(self, kind, url):
-        self.page = browser.open_browser(kind)
+    def __init__(self, page, url):
+        self.page, self.url = page, url
+        self.open(url)
+
+    def open(self, url):
         self.page.open(url)
-        self.comes('the page is up', f'{text_of("#where")}.startsWith("step 1 of")')
+        self.comes('the page is up', f'{text_of("#where")}.startsWith("step ")')
 
     def comes(self, what, expression):
         try:
-            return self.page.wait(expression)
+            return self.page.wait(expression, 60)
         except TimeoutError:
             raise AssertionError(f'it is never so that {what}; the page says {self.read("#editing")!r}') from None
 
@@ -90,14 +94,16 @@ class Visit:
         self.outage(f'R1, metric 2 for {ROUTE}', 'take it down', '#drawing .router.silent', '1 2 4 3 2')
         self.outage('R1, silent', 'bring it up', '#drawing:not(:has(.silent))', '1 2 3 3 2')
         self.why()
-        self.click('film')
+        self.click('export recording')
         film = self.page.downloaded('ring-5.html')
         where = self.read('#where')
-        self.page.open(f'file://{film}')
-        self.comes('the film is up', f'{text_of("#where")}.startsWith("step 1 of")')
+        self.open(f'file://{film}')
         self.click('last')
         same('the last step of the film', self.read('#where'), where)
         self.why()
+        # Who gets a film goes on from it.
+        self.rounds('1 2 3 3 2')
+        self.outage('link 4', 'cut the link', '#drawing .wire.cut', '1 2 3 4 5')
 
     def outage(self, thing, act, sign, metrics):
         if not self.page.value(f'{FIND}({json.dumps(act)})'):
@@ -143,10 +149,14 @@ class Visit:
         before = self.page.value(script)
         for key in 'xyz':
             self.page.press(key)
-        same('what was typed', len(self.page.value(script)) - len(before), 3)
+        typed = self.page.value(script)
+        same('what was typed', len(typed) - len(before), 3)
         self.page.press('z', 'Control')
         same('whether the script is as before', self.page.value(script) == before, True)
-
+        self.page.press('y', 'Control')
+        # The draft outlives the page.
+        self.open(self.url)
+        same('whether the draft is there again', self.page.value(script) == typed, True)
 
     def sizes(self):
         """Nothing is cut off on narrow windows, steps are at hand beside the tables, and targets are large enough."""
@@ -179,17 +189,21 @@ class Visit:
         same('the motion for who wants less', self.page.value(motion), 'none')
 
 
+def visit(page, url, name):
+    getattr(Visit(page, url), name)()
+
+
 def main(kind, name, url):
-    visit = Visit(kind, url)
+    page = browser.open_browser(kind)
     try:
-        getattr(visit, name)()
+        visit(page, url, name)
     except AssertionError as fault:
         sys.exit(str(fault))
     finally:
-        visit.page.close()
+        page.close()
 
 
 if __name__ == '__main__':
-    if len(sys.argv) != 4 or sys.argv[1] not in browser.PROGRAMS or sys.argv[2] not in ('newcomer', 'keyboard', 'sizes'):
+    if len(sys.argv) != 4 or sys.argv[1] not in browser.PROGRAMS or sys.argv[2] not in NAMES:
         sys.exit(__doc__)
     main(*sys.argv[1:])

@@ -8,7 +8,8 @@ import pathlib
 import sys
 
 LINES = (pathlib.Path(__file__).parent.parent / "crates.txt").read_text().splitlines()
-USES = {name: used.split() for name, colon, used in (line.partition(":") for line in LINES if line[:1] != "#") if colon}
+# A line has a name, for a static library that word, and behind a colon what it uses.
+USES = {head.split()[0]: used.split() for head, colon, used in (line.partition(":") for line in LINES if line[:1] != "#") if colon}
 
 
 def below(crate):

@@ -1,19 +1,21 @@
 #!/usr/bin/env python3
-"""How long a step of the page takes in large networks: films of them, stepped in a browser.
+"""How long large networks take in the page, docs/lab.html.
 
-    tools/page_times.py PROGRAM chromium|firefox
+    tools/page_times.py chromium|firefox
 
-A line for each network: its steps, how long its film takes to come up, and of fifty steps near the end the least, the median, the most.
-A step is from the click to the page's new layout. Run nothing else meanwhile.
+First when the page is painted, with the example that it opens. Then a line for each network, a film of it: its steps, the milliseconds
+that the module takes, of three runs the least, and its memory, how long the film takes to come up, and of fifty steps near the end the
+least, the median, the most. A step is from the click to the page's new layout. Run nothing else meanwhile.
 """
 import os
-import subprocess
 import sys
-import tempfile
 import time
 
-sys.path.insert(0, os.path.join(os.path.dirname(os.path.realpath(__file__)), "../tests"))
+ROOT = os.path.join(os.path.dirname(os.path.realpath(__file__)), "..")
+sys.path[:0] = [os.path.join(ROOT, folder) for folder in ("tests", "page")]
+sys.dont_write_bytecode = True
 import browser  # noqa: E402
+import film  # noqa: E402
 
 
 def grid(side, owners, ends):
@@ -41,33 +43,57 @@ STEP = '''(() => {
 })()'''
 
 
-def times(page, program, name, lines):
-    script, film = os.path.join(page.folder, 'network.lab'), os.path.join(page.folder, 'network.html')
-    with open(script, 'w') as file:
-        file.write('\n'.join(lines) + '\n')
-    with open(film, 'w') as file:
-        subprocess.run([program, 'page', '--film', script], stdout=file, check=True)
+# Runs a script three times in a module of its own, in the page itself: the least time, and the memory.
+RUN = '''(async () => {
+  const text = document.getElementById('worker').textContent, url = URL.createObjectURL(new Blob([text], { type: 'text/javascript' }));
+  const worker = new Worker(url), script = document.querySelector('#own > div').textContent, times = [];
+  const answer = words => new Promise(resolve => { worker.onmessage = ({ data }) => resolve(data); worker.postMessage(words); });
+  worker.postMessage({ code: document.getElementById('module').textContent });
+  let memory = 0;
+  for (let run = 0; run < 3; run++) {
+    const began = performance.now();
+    ({ memory } = await answer({ script: new TextEncoder().encode(script) }));
+    times.push(performance.now() - began);
+  }
+  worker.terminate();
+  return [Math.min(...times), memory];
+})()'''
+PAINTED = 'performance.getEntriesByName("first-contentful-paint")[0]?.startTime'
+
+
+def come_up(page, path):
+    """Opens a file, and says how long it takes until a step is shown."""
     began = time.time()
-    page.open(f'file://{film}')
+    page.open(f'file://{path}')
     page.wait('document.getElementById("where").textContent', 120)
-    load = time.time() - began
+    return time.time() - began
+
+
+def times(page, name, lines):
+    path = os.path.join(page.folder, 'network.html')
+    with open(os.path.join(ROOT, 'docs/lab.html')) as lab, open(path, 'w') as file:
+        file.write(film.film(lab.read(), 'network.lab', '\n'.join(lines) + '\n'))
+    load = come_up(page, path)
+    run, memory = page.promised(RUN)
     page.value('document.getElementById("last").click()')
-    took = [page.value(STEP) for _ in range(50)]
+    took = sorted(page.value(STEP) for _ in range(50))
     steps = page.value('Number(document.getElementById("slider").max) + 1')
-    took.sort()
-    print(f'{name}: {steps} steps, up in {load:.1f} s, a step {took[0]:.0f}, {took[25]:.0f}, {took[-1]:.0f} ms', flush=True)
+    print(f'{name}: {steps} steps, module {run:.0f} ms and {memory / 2**20:.0f} MiB, up in {load:.1f} s, '
+          f'a step {took[0]:.0f}, {took[25]:.0f}, {took[-1]:.0f} ms', flush=True)
 
 
-def main(program, kind):
+def main(kind):
     page = browser.open_browser(kind)
     try:
+        load = come_up(page, os.path.realpath(os.path.join(ROOT, 'docs/lab.html')))
+        print(f'the page: painted after {page.wait(PAINTED):.0f} ms, up in {load:.1f} s', flush=True)
         for name, lines in NETWORKS.items():
-            times(page, program, name, lines)
+            times(page, name, lines)
     finally:
         page.close()
 
 
 if __name__ == '__main__':
-    if len(sys.argv) != 3 or sys.argv[2] not in browser.PROGRAMS:
+    if len(sys.argv) != 2 or sys.argv[1] not in browser.PROGRAMS:
         sys.exit(__doc__)
-    main(*sys.argv[1:])
+    main(sys.argv[1])

@@ -1,25 +1,35 @@
 #!/usr/bin/env bash
 # Proves a program and builds it, by `rt ci` of the Rattle kit: the kit alone says what is proved.
 #
-#     tools/prove.sh [CRATE [PROGRAM]]        ripngd_program and bin/ripngd if none is named
+#     tools/prove.sh [CRATE [PROGRAM]]             ripngd_program and bin/ripngd if none is named
+#     tools/prove.sh --libraries CRATE FOLDER      a library: it, and those below it, stay in the new folder FOLDER with what `rt ci` made of them
 #
 # `rt ci` runs over a copy of the crate and of those below it, without the edits that must fail. What it passes it keeps on this
 # machine, and the merge gate takes it from there; so it takes from the gate what that passed. The exit status is 0 exactly where all is proved.
 set -eu
 
-crate=${1:-ripngd_program}
-program=$(realpath -m "${2:-bin/ripngd}")
 cd "$(dirname "$0")/.."
-folder=$(mktemp -d)
-trap 'rm -rf "$folder"' EXIT
+if [ "${1:-}" = --libraries ]; then
+    crate=$2
+    program=
+    folder=$(realpath -m "$3")
+    mkdir "$folder"
+else
+    crate=${1:-ripngd_program}
+    program=$(realpath -m "${2:-bin/ripngd}")
+    folder=$(mktemp -d)
+    trap 'rm -rf "$folder"' EXIT
+fi
 
 mkdir "$folder/crates"
 cp HANDLES "$folder"
 for name in $(tools/crates.py below "$crate"); do
-    grep "^$name:" crates.txt >> "$folder/crates.txt"
+    grep -E "^$name( staticlib)?:" crates.txt >> "$folder/crates.txt"
     mkdir "$folder/crates/$name"
     find "crates/$name" -mindepth 1 -maxdepth 1 ! -name out ! -name must-fail -exec cp -r -t "$folder/crates/$name" {} +
 done
 (cd "$folder" && git init -q && rt ci) || { echo "$crate is not proved" >&2; exit 1; }
-mkdir -p "$(dirname "$program")"
-cp "$folder/crates/$crate/out/$crate" "$program"
+if [ "$program" ]; then
+    mkdir -p "$(dirname "$program")"
+    cp "$folder/crates/$crate/out/$crate" "$program"
+fi

@@ -94,11 +94,11 @@ function drawLabel({ fit: { places, radius, roomy, width, height }, names, wirin
 }
 
 // What a router sent on an interface and is on its way: the newest, and how many more. What was lost before this step
-// is a small sign alone, with how many. At the end of a script that can go on nothing is lost yet.
+// is a small sign alone, with how many. At the end of a script, which can go on, nothing is lost yet.
 function drawPile(scene, wire, end) {
-  const { trace, routers, step, chosen, served, fit } = scene, [newest, ...others] = onTheirWay(end, step);
+  const { trace, routers, step, chosen, fit } = scene, [newest, ...others] = onTheirWay(end, step);
   if (!newest) return html``;
-  const isEnd = served && step === trace.steps.length - 1, lost = !isEnd && isLost(newest, step);
+  const isEnd = step === trace.steps.length - 1, lost = !isEnd && isLost(newest, step);
   const fresh = newest.sentAt === step, old = lost && !fresh, more = others.length > 0 ? ` +${others.length}` : '';
   const names = classes(fresh && 'fresh', lost && 'lost', old && 'old',
     others.some(({ datagram }) => chosen === `datagram ${datagram}`) && 'chosen');
@@ -124,13 +124,13 @@ function drawMark({ fit: { roomy }, chosen }, place, { datagram, router }, names
   const says = names.includes('old') ? `${label.slice(1)} of R${router} lost, the last of them datagram ${datagram}`
     : `datagram ${label} of R${router}${names.includes('lost') ? ', which nobody hears' : ''}`;
   return html`<g class="${classes('pile', names, chosen === text && 'chosen', flight && 'flying')}"
-    style="${flight ? motionOf(flight, { x, y }) : ''}" ${choice(text, says, chosen)}>
+    data-motion="${flight ? motionOf(flight, { x, y }) : ''}" ${choice(text, says, chosen)}>
     <rect class="target" x="${x - broad / 2}" y="${y - 12}" width="${broad}" height="24"/>
     <rect x="${x - wide / 2}" y="${y - high / 2}" width="${wide}" height="${high}" rx="3"/>
     ${roomy ? html`<text x="${x}" y="${y}">${label}</text>` : ''}<title>${says}</title></g>`;
 }
 
-// From where, and past where, a mark comes to its place: for the style's animation.
+// From where, and past where, a mark comes to its place: the style for its animation, which `showing.js` sets.
 function motionOf({ from, by }, { x, y }) {
   const middle = by ?? { x: (from.x + x) / 2, y: (from.y + y) / 2 };
   return `--from: ${from.x - x}px, ${from.y - y}px; --by: ${middle.x - x}px, ${middle.y - y}px`;

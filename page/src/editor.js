@@ -3,9 +3,9 @@
 import { describe, hintOf } from './texts.js';
 import { html } from './markup.js';
 
-// The bytes of a script, at most; the pause after the last key before it is run, and that between two states.
-const SCRIPT_LIMIT = 262144, PAUSE = 250, ONE_EDIT = 1000, KEPT = 'ripngd draft';
-const editor = { text: '', name: '', past: [], future: [], typedAt: 0, timer: null, running: null };
+// The pause after the last key before the script is run, and that between two states.
+const PAUSE = 250, ONE_EDIT = 1000;
+const editor = { text: '', name: '', past: [], future: [], typedAt: 0, timer: null, listed: null };
 const isSaid = () => byId('editing').textContent;
 
 function say(text, isBad = false, buttons = '') {
@@ -25,29 +25,51 @@ function setDraft(text, name = editor.name) {
 
 // A script that is no example any more has a name of its own. The draft outlives the page, if the browser keeps it.
 function showDraft({ text, name }) {
-  const area = byId('script'), before = area.value, example = SCRIPTS.get(name) === text, lines = text.split('\n');
-  Object.assign(editor, { text, name: !example && SCRIPTS.has(name) ? `own-${name}` : name });
+  const area = byId('script'), before = area.value, example = SCRIPTS.get(name)?.text === text, lines = text.split('\n');
+  Object.assign(editor, { text, name: !example && SCRIPTS.has(name) ? freeName(`own-${name}`, text) : name });
   if (before !== text) {
     const at = [...text].findIndex((sign, index) => sign !== before[index]);
     area.value = text;
     if (at >= 0) area.setSelectionRange(at, at);
   }
   byId('name').value = editor.name;
-  byId('examples').value = example ? name : '';
+  if (example || !text) forgetDraft(editor.name);
+  else keepDraft(editor);
+  showScripts();
   byId('undo').disabled = editor.past.length === 0;
   byId('redo').disabled = editor.future.length === 0;
   if (byId('gutter').children.length !== lines.length) {
     fill('gutter', html`${lines.map((_, at) => html`<div data-choose="line ${at + 1}">${at + 1}</div>`)}`);
   }
-  if (view.served) kept(() => localStorage.setItem(KEPT, JSON.stringify(snapshot())));
 }
 
-function kept(access) {
-  try {
-    return access();
-  } catch {
-    return null;
+// The scripts to choose from: the drafts, and those of this file. A script that is not kept is none of them.
+function showScripts() {
+  const ofKind = kind => [...SCRIPTS].filter(([, script]) => script.kind === kind).map(([name]) => name);
+  const kinds = [...new Set([...SCRIPTS.values()].map(({ kind }) => kind))], names = draftNames();
+  const groups = [['your own', names], ...kinds.map(kind => [kind, ofKind(kind)])].filter(([, listed]) => listed.length > 0);
+  if (editor.listed !== names.join()) {
+    fill('examples', html`<option value="" disabled>own script</option>${groups.map(([kind, listed]) =>
+      html`<optgroup label="${kind}">${listed.map(name => html`<option>${name}</option>`)}</optgroup>`)}`);
   }
+  editor.listed = names.join();
+  byId('examples').value = editor.name;
+  if (byId('examples').selectedIndex < 0) byId('examples').value = '';
+}
+const scriptNamed = name => SCRIPTS.get(name)?.text ?? draftNamed(name)?.text;
+
+// A name for a script, which no other draft has.
+function freeName(name, text) {
+  let free = name;
+  for (let number = 2; (draftNamed(free)?.text ?? text) !== text; number++) free = name.replace(/(\.lab)?$/, `-${number}$1`);
+  return free;
+}
+
+// Another name takes the place of the draft's; that of an example stays its own.
+function renameDraft() {
+  const name = freeName(byId('name').value.trim() || 'own.lab', editor.text);
+  if (name !== editor.name) forgetDraft(editor.name);
+  setDraft(editor.text, name);
 }
 
 function onTyped() {
@@ -70,32 +92,29 @@ const redo = () => travel(editor.future, editor.past);
 
 // Another script takes the place of the draft, which can be gone back to.
 function openScript(text, name) {
-  setDraft(text.replace(/\r\n?/g, '\n'), name);
+  const lines = text.replace(/\r\n?/g, '\n');
+  setDraft(lines, freeName(name, lines));
   return runDraft(() => 0);
 }
 
 // ---- Running it ----
-async function ask(path, body, signal) {
-  const answer = await fetch(path, { method: 'POST', body, signal }), text = await answer.text();
-  if (!answer.ok) throw new Error(text.trim() || answer.statusText);
-  return text;
-}
-
-// Runs a script and hands its trace on, unless a later one was to be run meanwhile. What keeps it from running is said.
+// Runs a script and hands its trace on, unless a later one is run meanwhile. What keeps it from running is said.
 async function runScript(script, then) {
   clearTimeout(editor.timer);
-  editor.running?.abort();
-  const running = editor.running = new AbortController(), { length } = new TextEncoder().encode(script);
-  const notice = setTimeout(() => say('running ..'), PAUSE);
+  const run = traced(script), again = html`<button data-act="again">again</button>`;
+  const notice = setTimeout(() => say('running .. ', false, html`<button data-act="stop" title="Escape">stop</button>`), PAUSE);
   try {
-    if (length > SCRIPT_LIMIT) throw new Error(`the script has ${length} bytes, and at most ${SCRIPT_LIMIT} are taken`);
-    const answer = await ask('/trace', script, running.signal);
-    if (!running.signal.aborted) await then(answer);
+    await then(await run);
   } catch (error) {
-    if (!running.signal.aborted) say(`not run: ${error.message} `, true, html`<button data-act="again">again</button>`);
+    if (error !== CALLED_OFF) say(`not run: ${error.message} `, true, again);
   } finally {
     clearTimeout(notice);
   }
+}
+
+function stopRun() {
+  callOff();
+  say('The run was stopped. ', true, html`<button data-act="again">again</button>`);
 }
 
 function runDraft(stepOf) {
@@ -111,52 +130,9 @@ function change(script, limit, goTo) {
     const last = JSON.parse(answer.trimEnd().split('\n').at(-1) || '{}'), isRefused = last.record === 'refused';
     if (editor.text !== text) return say('The script was changed meanwhile: nothing was put in.', true);
     if (isRefused && last.line < limit) {
-      return say(`not put in: ${describe(last)}${hintOf(script, last.line, last.why)}`, true);
+      return say(`not put in: ${describe(last)}${hintOf(last)}`, true);
     }
     setDraft(script);
     return showRun(script, answer, goTo && (({ steps }) => steps.findLastIndex(({ record }) => record.line <= goTo)));
   });
-}
-
-// ---- Files and links ----
-function download(ending, text, type) {
-  const link = document.createElement('a'), name = editor.name.replace(/(\.lab)?$/, ending);
-  Object.assign(link, { href: URL.createObjectURL(new Blob([text], { type })), download: name });
-  link.click();
-  setTimeout(() => URL.revokeObjectURL(link.href), 1000);
-}
-
-// The page as the server gave it, with this script and its trace alone.
-const saveFilm = () => runScript(editor.text, async answer => {
-  const page = await (await fetch('/')).text(), mark = '</div>\n<div id="trace" hidden>\n';
-  const inner = text => text.replace(/&/g, '&amp;').replace(/</g, '&lt;').replace(/"/g, '&quot;');
-  const scripts = page.indexOf('<div data-name='), trace = page.indexOf(mark) + mark.length;
-  const script = `<div data-name="${inner(editor.name)}">${inner(editor.text)}</div>\n`;
-  download('.html', `${page.slice(0, scripts)}${script}${mark}${inner(answer)}${page.slice(trace)}`, 'text/html');
-  say('');
-});
-
-async function through(bytes, stream) {
-  return new Uint8Array(await new Response(new Blob([bytes]).stream().pipeThrough(stream)).arrayBuffer());
-}
-async function packed(text) {
-  const bytes = await through(text, new CompressionStream('deflate-raw'));
-  const code = btoa(Array.from(bytes, byte => String.fromCharCode(byte)).join(''));
-  return code.replace(/\+/g, '-').replace(/\//g, '_').replace(/=+$/, '');
-}
-async function unpacked(code) {
-  const bytes = Uint8Array.from(atob(code.replace(/-/g, '+').replace(/_/g, '/')), sign => sign.charCodeAt(0));
-  return new TextDecoder().decode(await through(bytes, new DecompressionStream('deflate-raw')));
-}
-
-// To the clipboard, if the browser lets the page.
-async function copy(text, said) {
-  const isCopied = await navigator.clipboard?.writeText(text).then(() => true, () => false);
-  say(isCopied ? `${said}: copied.` : `${said}: the browser copies nothing.`, !isCopied);
-}
-
-async function share() {
-  const words = new URLSearchParams({ name: editor.name, step: view.step + 1, script: await packed(editor.text) });
-  history.replaceState(null, '', `#${words}`);
-  await copy(location.href, 'The address of this page holds the script now, and opens wherever `ripngd page` runs');
 }

@@ -67,7 +67,7 @@ const chosenRouter = () => named(view.chosen, view.trace).router;
 
 const toggle = (button, name) => button.setAttribute('aria-pressed', document.body.classList.toggle(name));
 const ACTS = {
-  undo, redo, share, again: () => runDraft(), film: saveFilm,
+  undo, redo, share, copyLink, again: () => runDraft(), stop: stopRun, film: saveFilm,
   save: () => download('.lab', editor.text, 'text/plain'),
   load: () => byId('file').click(),
   svg: () => view.wiring && download('.svg', drawingAlone(), 'image/svg+xml'),
@@ -76,7 +76,7 @@ const ACTS = {
   rounds: () => putIn(`rounds 5 ${nextRound()} 30000`),
   ticks: () => putIn(view.trace.ends.map((_, router) => `tick ${router} ${nextRound()} 0`).join('\n')),
   help: () => byId('help').showModal(),
-  close: () => byId('help').close(),
+  close: button => button.closest('dialog').close(),
   large(button) { toggle(button, 'large'); render(); },
   quiz: button => toggle(button, 'quiz'),
   tidy() { view.shifts = []; render(); },
@@ -131,12 +131,12 @@ const isField = target => target.matches('input:not([type=range]), textarea:not(
 function onKey(event) {
   const { key, target } = event, [, act] = Object.values(MOVES).find(([moves]) => moves === key) ?? [];
   const isCommand = event.ctrlKey || event.metaKey, isOther = isField(target) && target.id !== 'script';
-  if (isCommand && /^[zy]$/i.test(key) && view.served && !isOther) {
+  if (isCommand && /^[zy]$/i.test(key) && !isOther) {
     event.preventDefault();
     return key.toLowerCase() === 'y' || event.shiftKey ? redo() : undo();
   }
-  if (event.altKey || isCommand || byId('help').open) return;
-  if (key === 'Escape') return choose(null);
+  if (event.altKey || isCommand || document.querySelector('dialog[open]')) return;
+  if (key === 'Escape') return isRunning() ? stopRun() : choose(null);
   const presses = ['Enter', ' '].includes(key), thing = target.closest('g[data-choose]');
   if (isField(target) || presses && target.matches('button, select, summary, a')) return;
   const pane = target.closest('#drawing, #tables, #events'), items = pane ? itemsOf(pane) : [];
@@ -170,8 +170,9 @@ function listen() {
   for (const [id, [, act]] of Object.entries(MOVES)) byId(id).onclick = act;
   byId('script').onscroll = () => { byId('gutter').scrollTop = byId('script').scrollTop; };
   byId('script').oninput = onTyped;
-  byId('name').onchange = () => setDraft(editor.text, byId('name').value.trim() || 'own.lab');
-  byId('examples').onchange = ({ target }) => openScript(SCRIPTS.get(target.value), target.value);
+  byId('name').onchange = renameDraft;
+  byId('examples').onchange = ({ target }) => openScript(scriptNamed(target.value), target.value);
+  byId('place-of-page').oninput = onPlace;
   byId('file').onchange = async ({ target }) => {
     const [file] = target.files;
     await openScript(await file.text(), file.name);
@@ -190,12 +191,15 @@ function listen() {
 }
 
 // ---- The page comes up ----
-// `#step=12&router=1&prefix=2001:db8::/32` shows that step, and why that router's metric is what it is.
+// `#NAME` opens the example or lesson of that name. `step=12&router=1&prefix=2001:db8::/32` shows that step, and why that router's metric
+// is what it is; `script=` has a script itself.
 async function followAddress() {
-  const asked = new URLSearchParams(location.hash.slice(1)), script = view.served && asked.get('script');
+  const asked = new URLSearchParams(location.hash.slice(1)), [[first = ''] = []] = [...asked], script = asked.get('script');
   const text = `route ${asked.get('router')} ${asked.get('prefix')}`, step = asked.get('step') ?? '';
+  const example = [first, `${first}.lab`].find(name => SCRIPTS.has(name));
   try {
     if (script) await openScript(await unpacked(script), asked.get('name') ?? 'shared.lab');
+    else if (example && example !== editor.name) await openScript(SCRIPTS.get(example).text, example);
   } catch {
     say('The address holds no script.', true);
   }
@@ -203,31 +207,28 @@ async function followAddress() {
   go(/^\d{1,9}$/.test(step) ? Number(step) - 1 : 0);
 }
 
-// The address follows the step, if it may.
+// The address follows the script, if it is one of this file, and the step.
 function writeAddress() {
   const { kind, router, prefix } = named(view.chosen, view.trace) ?? {};
   const route = kind === 'route' ? `&router=${router}&prefix=${prefix}` : '';
+  const script = SCRIPTS.has(editor.name) ? `${encodeURIComponent(editor.name.replace(/\.lab$/, ''))}&` : '';
   clearTimeout(view.address);
-  const write = () => history.replaceState(null, '', `#step=${view.step + 1}${route}`);
+  const write = () => history.replaceState(null, '', `#${script}step=${view.step + 1}${route}`);
   if (view.isUp) view.address = setTimeout(write, 300);
 }
 
-// A page with a trace is a film; any other asks the server that it came from to run its scripts.
+// First comes the script that the address names, else the latest draft, else the first of this file.
 async function comeUp() {
-  const film = byId('trace').textContent.trim(), [[name, first]] = SCRIPTS;
-  const draft = film ? null : kept(() => JSON.parse(localStorage.getItem(KEPT)));
-  view.served = !film;
-  const options = [...SCRIPTS.keys()].map(example => html`<option>${example}</option>`);
-  fill('examples', html`<option value="" disabled>own script</option>${options}`);
+  const [[name, { text }]] = SCRIPTS, [draft] = drafts(), [asked] = new URLSearchParams(location.hash.slice(1)).keys();
+  const first = [asked, `${asked}.lab`].find(other => SCRIPTS.has(other));
   fill('card', html`${cardOf()}`);
   listen();
-  for (const element of document.querySelectorAll('.served')) element.hidden = !view.served;
-  byId('script').readOnly = byId('name').readOnly = byId('examples').disabled = !view.served;
-  showDraft(draft?.text ? draft : { text: first, name });
-  await (film ? showRun(first, film) : runDraft());
+  showDraft(first ? { text: SCRIPTS.get(first).text, name: first } : draft ?? { text, name });
+  await runDraft();
   await followAddress();
-  const isOwn = draft?.text && !SCRIPTS.has(draft.name);
-  if (isOwn && !isSaid()) say('This is your script of before. Each example is in the list above.');
+  if (!first && draft?.name === editor.name && !isSaid()) {
+    say('This is your script of before. Others, the examples and the lessons are in the list above.');
+  }
   view.isUp = true;
 }
 

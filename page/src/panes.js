@@ -2,7 +2,7 @@
 import { UNREACHABLE, hasCome, isLost, named, onTheirWay, otherEnds, senderAt } from './trace.js';
 import { leastCosts, metricRuns, offersOf, tallyAll, walkOf, wayText, withoutRings } from './walks.js';
 import { decode, prefixKey } from './datagrams.js';
-import { LINES, describe, plural, refusals, seconds } from './texts.js';
+import { LINES, describe, hintOf, plural, refusals, seconds } from './texts.js';
 import { choice, classes, html } from './markup.js';
 
 const badIf = isBad => isBad ? 'bad' : '';
@@ -95,11 +95,11 @@ export function detailOf(state) {
   const thing = wiring && named(chosen, trace), badness = badIf(record?.record === 'refused');
   if (!record) return html`<p class="faint">Nothing has happened.</p>`;
   const lose = record.event?.kind === 'deliver' ? html`<button data-act="lose">lose this datagram</button>` : '';
-  return html`<p class="${badness}"><b>Line ${record.line}: ${describe(record)}</b>${
+  return html`<p class="${badness}"><b>Line ${record.line}: ${describe(record)}${hintOf(record)}</b>${
     record.event ? ` at ${seconds(record.now)}` : ''}</p>${said.map(text => html`<p>Behind it, ${text}.</p>`)}
     ${refusals(record).map(text => html`<p class="bad">${text}</p>`)}
     ${record.prints ? html`<pre>${record.prints.join('\n')}</pre>` : ''}
-    ${thing ? DETAILS[thing.kind](state, thing) : html`${offersText(trace, step)}${choices(state, lose)}`}`;
+    ${thing ? DETAILS[thing.kind](state, thing) : html`${offersText(trace, step)}${choices(lose)}`}`;
 }
 
 function offersText(trace, step) {
@@ -182,8 +182,8 @@ function plotOf({ trace, step }, router, prefix) {
 
 // ---- What can be done by clicks ----
 // The step behind which new lines go.
-export const stepOfNew = ({ served, place, trace, step }) => trace.steps.at(served && place === 'end' ? -1 : step);
-const choices = ({ served }, buttons) => served && buttons ? html`<div class="choices">${buttons}</div>` : '';
+export const stepOfNew = ({ place, trace, step }) => trace.steps.at(place === 'end' ? -1 : step);
+const choices = buttons => buttons ? html`<div class="choices">${buttons}</div>` : '';
 // A button that puts lines into the script; `{now}` and other names stand for the fields beside it.
 const does = (label, lines) => html`<button data-lines="${lines}">${label}</button> `;
 const field = ({ typed }, name, label, value, kind) =>
@@ -200,15 +200,15 @@ function routerDetail(state, { router }) {
   const name = state.names.get(router), next = routers.length;
   return html`<h2>${titleOf(router, name, quiet)}</h2><p>Its regular update is due at ${seconds(regular)}${
     due ? `, its route to ${due.prefix} ends at ${seconds(due.until)}` : ''}.</p>
-    ${choices(state, html`${moment(state)}${does('tick', `tick ${router} {now} 0`)}
+    ${choices(html`${moment(state)}${does('tick', `tick ${router} {now} 0`)}
       ${does('restart', `restart ${router} {now}`)}
       ${isDown ? does('bring it up', `speaks ${router}`) : does('take it down', `silent ${router}`)}`)}
-    ${choices(state, html`${prefixField(state, `2001:db8:${router.toString(16)}::/48`)}
+    ${choices(html`${prefixField(state, `2001:db8:${router.toString(16)}::/48`)}
       ${count(state, 'tag', 'tag', 0, 0, 65535)}${does('own it', `gain ${router} {now} {prefix} {tag}`)}
       ${prefixes.map(({ prefix }) => does(`give up ${prefix}`, `drop ${router} {now} ${prefix}`))}`)}
-    ${choices(state, html`${count(state, 'other', 'link to R', next, 0, next)}${count(state, 'cost', 'cost', 1, 1, 15)}
+    ${choices(html`${count(state, 'other', 'link to R', next, 0, next)}${count(state, 'cost', 'cost', 1, 1, 15)}
       <button data-act="join">link them</button> <span class="faint">R${next} would be a new router</span>`)}
-    ${choices(state, html`<label>name <input name="name" size="12" value="${state.typed.name ?? name}"
+    ${choices(html`<label>name <input name="name" size="12" value="${state.typed.name ?? name}"
       pattern="(?!quiet$)[A-Za-z][A-Za-z0-9_\\-]*"></label> <button data-act="name">name it</button>`)}`;
 }
 
@@ -217,10 +217,10 @@ function ifaceDetail(state, { router, iface }) {
   const isCut = stepOfNew(state).out.has(`link ${link}`);
   const from = `stranger ${router} ${iface} {now} {source} {port} {hop} group`;
   return html`<h2>Link ${link}, at R${router}'s interface ${iface}</h2><p>${addr}, cost ${cost}, MTU ${mtu}.</p>
-    ${choices(state, isCut ? does('mend the link', `mend ${link}`) : does('cut the link', `cut ${link}`))}
-    ${choices(state, html`${moment(state)}${count(state, 'cost', 'cost', cost, 1, 15)}
+    ${choices(isCut ? does('mend the link', `mend ${link}`) : does('cut the link', `cut ${link}`))}
+    ${choices(html`${moment(state)}${count(state, 'cost', 'cost', cost, 1, 15)}
       ${does('set it', `cost ${router} ${iface} {now} {cost}`)}`)}
-    ${choices(state, html`<b>A stranger</b> ${field(state, 'source', 'at', 'fe80::99', html`size="9"`)}
+    ${choices(html`<b>A stranger</b> ${field(state, 'source', 'at', 'fe80::99', html`size="9"`)}
       ${count(state, 'port', 'port', 521, 0, 65535)}${count(state, 'hop', 'hop limit', 255, 0, 255)}
       ${does('asks for all routes', `${from} {ask}`)}${prefixField(state, '2001:db8::/32')}
       ${count(state, 'metric', 'metric', 1, 0, 255)}${does('tells it that lie', `${from} {lie}`)}
@@ -238,7 +238,7 @@ function datagramDetail(state, { number }) {
     <p>Sent at ${stepLink(trace, sentAt)} to ${peer ? `${peer.addr} port ${peer.port}` : 'the group of all routers'}.
       ${fateOf(datagram, others, step)}</p>
     <pre id="decoded">${decode(bytes)}</pre>
-    ${sentAt > step ? '' : choices(state, html`${moment(state)}${others.map(deliver)}`)}
+    ${sentAt > step ? '' : choices(html`${moment(state)}${others.map(deliver)}`)}
     ${waiting.length > 0 ? html`<p>On the way from here: ${waiting}</p>` : ''}`;
 }
 

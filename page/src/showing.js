@@ -9,13 +9,15 @@ import { detailOf, eventOf, tablesOf, tallyOf } from './panes.js';
 
 const byId = id => document.getElementById(id);
 const fill = (id, markup) => { byId(id).innerHTML = markup.text; };
-const SCRIPTS = new Map([...byId('scripts').children].map(script => [script.dataset.name, script.textContent]));
+// The scripts of this file, its own before the examples and the lessons.
+const SCRIPTS = new Map([...document.querySelectorAll('#own > div, #scripts > div')].map(script =>
+  [script.dataset.name, { text: script.textContent, kind: script.dataset.kind ?? 'of this file' }]));
 
 // What is shown: a script that was run with its trace, a step of it, what was chosen, and what was typed into fields.
 // The script that was run last, `ran`, may have no network; then `stale` is true, and the last network shows.
 const view = {
   script: '', trace: readTrace(''), step: 0, chosen: null, typed: {}, ran: null, refused: null, stale: false,
-  wiring: null, spots: [], shifts: [], names: new Map(), captions: [''], eventsFrom: null, place: 'end', served: false,
+  wiring: null, spots: [], shifts: [], names: new Map(), captions: [''], eventsFrom: null, place: 'end',
 };
 const current = () => view.trace.steps[view.step];
 
@@ -24,7 +26,7 @@ function showRun(script, text, stepOf = () => view.step) {
   const trace = readTrace(text, script), last = trace.steps.at(-1)?.record, hasNetwork = trace.ends.length > 0;
   const refused = last?.record === 'refused' ? last : null;
   Object.assign(view, { ran: script, refused, stale: !hasNetwork && view.wiring !== null });
-  if (refused) say(`line ${refused.line}, ${describe(refused)}${hintOf(script, refused.line, refused.why)}`, true);
+  if (refused) say(`line ${refused.line}, ${describe(refused)}${hintOf(refused)}`, true);
   else say(hasNetwork ? '' : 'no network yet: the script has no line "cold NOW"');
   if (!view.stale) showTrace(script, trace);
   go(stepOf(view.trace));
@@ -118,6 +120,7 @@ function renderDrawing(flying) {
   for (const [name, value] of Object.entries(attributes)) svg.setAttribute(name, value);
   byId('nothing').hidden = isThere;
   patch(byId('parts'), 'g', parts);
+  for (const mark of byId('parts').querySelectorAll('[data-motion]')) mark.style = mark.dataset.motion;
 }
 
 function renderTables() {

@@ -66,22 +66,10 @@ export const LINES = [
   ['refused NAME', 'the next line is to be refused so'],
 ];
 
-// What is wrong with a line that was refused, as far as its text shows it, and which lines a refused network speaks of.
-export function hintOf(script, line, why) {
-  const lines = script.split('\n'), numbers = test => lines.flatMap((text, at) => test(text) ? [at + 1] : []);
-  const text = lines[line - 1] ?? '', starts = word => other => other.split(' ')[0] === word;
-  if (why.startsWith('BadLine')) {
-    const form = LINES.find(([words]) => words.split(' ')[0] === text.trim().split(/\s/)[0])?.[0];
-    const space = /^\s|\s$|\s\s|\t/.test(text) ? '; a space or a tab is too many' : '';
-    const isLate = /^(router|iface|own)\b/.test(text) && numbers(starts('cold')).some(cold => cold < line);
-    const late = isLate ? '; it belongs before cold' : '';
-    return `${form ? `; its form is ${form}` : '; no line begins so'}${space}${late}`;
-  }
-  const router = /BadRouter (\d+)/.exec(why)?.[1];
-  if (router) return `; router ${router} begins at line ${numbers(starts('router'))[router]}`;
-  const addressAt = at => lines[at - 1].split(' ')[1], all = numbers(starts('iface'));
-  const twice = all.filter(at => all.some(other => other !== at && addressAt(other) === addressAt(at)));
-  return why.includes('AddressShared') && twice.length > 0 ? `; see lines ${twice.join(' and ')}` : '';
+// What to do about a line that was refused, as the laboratory says it, and at which line.
+export function hintOf({ line, hint }) {
+  if (!hint) return '';
+  return `; ${hint.line === line ? '' : `line ${hint.line}: `}${hint.text}`;
 }
 
 const HAPPENED = {

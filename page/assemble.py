@@ -1,0 +1,127 @@
+#!/usr/bin/env python3
+"""The laboratory in one file, docs/lab.html: the page with the module, the examples and the lessons in it.
+
+    page/assemble.py page MODULE KIT WASM_OPT proved|unproved     prints the file, with that module, and says what made the module
+    page/assemble.py sum sources|code                             prints the sum of all sources, or of those of the module
+    page/assemble.py fact NAME FILE                               prints what a file notes: sources, code, kit, wasm-opt or proof
+    page/assemble.py module FILE                                  prints the module of a file
+
+The page is put together of page/src: into frame.html go style.css and the modules, of whose script and style its policy has the hashes.
+The modules stand in one script, so their imports, the word `export` and lines that are a remark alone are left out.
+"""
+import base64
+import hashlib
+import html
+import pathlib
+import re
+import subprocess
+import sys
+
+PAGE = pathlib.Path(__file__).resolve().parent
+ROOT = PAGE.parent
+# The modules in order, of the page and of its worker.
+PAGE_MODULES = ["trace", "datagrams", "walks", "building", "layout", "markup", "texts", "drawing", "panes", "showing", "keeping", "laboratory",
+                "editor", "giving", "page"]
+WORKER_MODULES = ["module", "worker"]
+FACTS = ("sources", "code", "kit", "wasm-opt", "proof")
+MADE = {"proved": "It was compiled from the proved sources", "unproved": "It was compiled from the sources without their proof"}
+
+
+def escaped(text):
+    """A text as it stands within an element."""
+    return text.replace("&", "&amp;").replace("<", "&lt;").replace("\r", "&#13;")
+
+
+def joined(names):
+    """Modules as one script."""
+    lines = [line for name in names for line in (PAGE / "src" / f"{name}.js").read_text().splitlines()]
+    kept = [line for line in lines if line and not re.match(r"import |\s*// ", line)]
+    return "\n".join(line.removeprefix("export ") for line in kept)
+
+
+def scripts():
+    """The examples and the lessons, each an element with its name."""
+    kinds = {"examples": "examples", "lessons": "examples/lessons"}
+    files = [(kind, file) for kind, folder in kinds.items() for file in sorted((ROOT / folder).glob("*.lab"))]
+    return "\n".join(f'<div data-name="{file.name}" data-kind="{kind}">{escaped(file.read_text())}</div>' for kind, file in files)
+
+
+def hash_of(text):
+    """The hash of what stands between the tags of a script or a style, as a policy names it."""
+    return base64.b64encode(hashlib.sha256(text.encode()).digest()).decode()
+
+
+def between(text, tag):
+    return re.search(f"<{tag}>(.*?)</{tag}>", text, re.DOTALL)[1]
+
+
+def page(module, *facts):
+    """The whole page. What is put in first decides the hashes, which are put in last."""
+    noted = dict(zip(FACTS, [sum_of("sources"), sum_of("code"), *facts]))
+    metas = "\n".join(f'<meta name="{name}" content="{html.escape(value)}">' for name, value in noted.items())
+    made = f"{MADE[noted['proof']]}, by {noted['kit']} and wasm-opt {noted['wasm-opt']}. The sum of the sources is <code>{noted['sources'][:16]}</code>."
+    parts = {
+        "facts": metas, "made": made, "style": (PAGE / "src/style.css").read_text().rstrip("\n"), "scripts": scripts(),
+        "module": base64.b64encode(pathlib.Path(module).read_bytes()).decode(), "worker": escaped(joined(WORKER_MODULES)),
+        "script": joined(PAGE_MODULES),
+    }
+    text = (PAGE / "src/frame.html").read_text()
+    for name, part in parts.items():
+        before, mark, behind = text.partition(f"<!-- {name} -->")
+        assert mark, name
+        text = before + part + behind
+    for tag in ("script", "style"):
+        text = text.replace(f"{tag.upper()}-HASH", hash_of(between(text, tag)), 1)
+    return text
+
+
+def crates_below():
+    return subprocess.run([ROOT / "tools/crates.py", "below", "lab_page"], capture_output=True, text=True, check=True).stdout.split()
+
+
+def code():
+    """What the module is made of: the code of the crate lab_page and of those below it, and what compiles it."""
+    crates = [file for crate in crates_below() for file in (ROOT / "crates" / crate / "src").rglob("*.rt")]
+    return [*crates, *(PAGE / name for name in ("wasm.sh", "lower.py", "heap.c")), ROOT / "tools/lent.sh"]
+
+
+def sources():
+    """What the file is made of: the module, the page, and the scripts."""
+    return [*code(), PAGE / "assemble.py", *(PAGE / "src").iterdir(), *(ROOT / "examples").rglob("*.lab")]
+
+
+def sum_of(what):
+    total = hashlib.sha256()
+    for file in sorted({"code": code, "sources": sources}[what]()):
+        total.update(f"{file.relative_to(ROOT)} {hashlib.sha256(file.read_bytes()).hexdigest()}\n".encode())
+    return total.hexdigest()
+
+
+def fact(name, file):
+    """What a file notes by that name, or nothing."""
+    found = re.search(f'<meta name="{name}" content="(.*?)">', pathlib.Path(file).read_text())
+    return html.unescape(found[1]) if found else ""
+
+
+def module_of(file):
+    return base64.b64decode(re.search('<div id="module" hidden(?:="")?>(.*?)</div>', pathlib.Path(file).read_text())[1])
+
+
+def main(way, *words):
+    match way, len(words):
+        case "page", 4:
+            sys.stdout.write(page(*words))
+        case "sum", 1:
+            print(sum_of(*words))
+        case "fact", 2:
+            print(fact(*words))
+        case "module", 1:
+            sys.stdout.buffer.write(module_of(*words))
+        case _:
+            sys.exit(__doc__)
+
+
+if __name__ == "__main__":
+    if len(sys.argv) < 2:
+        sys.exit(__doc__)
+    main(*sys.argv[1:])
