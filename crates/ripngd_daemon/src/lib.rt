@@ -8,8 +8,6 @@ mod controlled;
 mod desk;
 mod failure;
 mod file_cause;
-mod follower;
-mod following;
 mod forwarding;
 mod limit;
 mod listening;

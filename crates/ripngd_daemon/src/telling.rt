@@ -57,7 +57,7 @@ impl Telling {
     }
 
     /// Begins to wait anew.
-    pub(crate) fn begin_to_wait<R: Clock>(&mut self, rt: &R) -> Step {
+    fn begin_to_wait<R: Clock>(&mut self, rt: &R) -> Step {
         match Patience::new(rt) {
             Ok(patience) => {
                 self.patience = patience;

@@ -5,10 +5,10 @@ ghost use Rattle.ripngd_daemon.specs.Controlled.{IsHeard};
 
 use crate::router::Running;
 use crate::telling::{PIECES, Step, Telling};
-use ripngd_control::{Command, Reply, Rest, read_command, write_rest};
+use ripngd_control::{Command, Rest, read_command, write_rest};
 use ripngd_door::{Heard, line_in};
 use std::alloc::Global;
-use std::io::{self, Write};
+use std::io;
 use std::os::unix::net::UnixStream;
 use std::rt::Clock;
 
@@ -87,19 +87,6 @@ impl Visit {
             Step::Done => self.telling.tell_once(rt),
             step => step,
         }
-    }
-
-    /// Whether it is to follow the forwarding table.
-    pub(crate) fn is_to_follow(&self) -> bool {
-        matches!(self.rest, Some(Rest::Changes))
-    }
-
-    /// Says that it cannot follow the forwarding table.
-    pub(crate) fn refuse_to_follow(&mut self) {
-        self.rest = match writeln!(self.telling.text, "{}", Reply::CannotFollow) {
-            Ok(()) => Some(Rest::Nothing),
-            Err(_) => Some(Rest::Lost),
-        };
     }
 
     /// Tells what may be told now, and answers whether the visit goes on.
