@@ -62,7 +62,7 @@ fn attend<R: Clock + AllocGlobal, W: Write>(
         lost,
         &mut peering,
         log,
-        &mut visit.telling.text,
+        &mut visit.text,
     );
     visit.rest = Some(response.rest);
     response.course

@@ -19,7 +19,6 @@ mod router;
 mod run_log;
 mod running;
 mod subcommands;
-mod telling;
 mod visit;
 mod warnings;
 
