@@ -14,7 +14,7 @@ import time
 from errno import EAGAIN, ECONNABORTED, ECONNRESET, EINTR, EIO, EMFILE, EPIPE
 
 sys.dont_write_bytecode = True
-from daemons import interface, listed, main, peer, prefix, SECONDS, until
+from daemons import interface, listed, main, peer, prefix, Router, SECONDS, until
 from datagrams import entry, feed, response, table
 from ordered import calls, environment
 from suite import same
@@ -143,11 +143,21 @@ def an_interface_has_256_peers_at_most(case):
 
 
 @listed
-def a_log_beside_a_socket_has_its_moments(case):
-    router = alone(case, "alone", "--stamp", "-R", "alone.log")
-    answers(router, "gain 2001:db8:a::/48 7")
-    lines = [line.partition("Z ")[2] for line in router.log().splitlines()]
-    same("the log", lines, [f"add {OWN} metric 1 direct", "add 2001:db8:a::/48 metric 1 direct"])
+def a_log_beside_a_socket_has_each_change_as_it_is_told(case):
+    """In a file, and on standard output."""
+    for name, file, log in (("filed", "filed.log", Router.log), ("printed", "-", Router.out)):
+        router = alone(case, name, "-R", file)
+        for words in ("gain 2001:db8:a::/48 7", "drop 2001:db8:a::/48"):
+            answers(router, words)
+        same(f"the log in {file}", log(router), f"add {OWN_TABLE}add 2001:db8:a::/48 metric 1 direct\ndel 2001:db8:a::/48\n")
+
+
+@listed
+def a_log_that_has_failed_is_counted_and_the_router_goes_on(case):
+    router = alone(case, "full", "-R", "/dev/full")
+    answers(router, "gain ::/0 7")
+    answers(router, "table", f"::/0 metric 1 direct\n{OWN_TABLE}")
+    same("whether it is counted", router.ctl("counts").out.endswith("\nlog failed\n"), True)
 
 
 @listed

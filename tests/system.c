@@ -3,14 +3,13 @@
  *   SYSTEM_LOG=FILE    gets a line for each call that is watched: the clock's milliseconds, its name, what it was asked, its answer
  *   SYSTEM_CLOCK=N     the clock is the test's own: it begins at 0, goes on by what is slept, by waits in which nothing comes, and by N
  *                      milliseconds behind each reading. `still` never goes on
- *   SYSTEM_WALL=S.N    what the wall clock tells first, as seconds and nanoseconds since 1970; each later time it is a second further
  *   SYSTEM_GATE=FILE   the first wait for datagrams is held back until there is such a file
  *   SYSTEM_AGAIN=N     the first datagram that comes is there N times again
  *   SYSTEM_LENGTH=N    it has N bytes, zeros behind those that came
  *   SYSTEM_FAIL=NAME:FIRST:COUNT:ERROR,..   of the calls of a name so many fail, from the FIRST on, with that number of an error
  *
  * Watched are bind, accept, sendto, recvfrom, wait (of epoll), sleep, write1, write2 and write3 (to standard output, standard error, and any
- * file), recv and send (of a connection); and in SYSTEM_FAIL alone clock and wall, the readings of the two clocks. */
+ * file), recv and send (of a connection); and in SYSTEM_FAIL alone clock, the readings of the clock. */
 #define _GNU_SOURCE
 #include <errno.h>
 #include <fcntl.h>
@@ -25,9 +24,9 @@
 #include <time.h>
 #include <unistd.h>
 
-enum call { BIND, ACCEPT, SENDTO, RECVFROM, WAIT, SLEEP, CLOCK, WALL, WRITE1, WRITE2, WRITE3, RECV, SEND, CALLS };
+enum call { BIND, ACCEPT, SENDTO, RECVFROM, WAIT, SLEEP, CLOCK, WRITE1, WRITE2, WRITE3, RECV, SEND, CALLS };
 static const char *const names[CALLS] = {
-    "bind", "accept", "sendto", "recvfrom", "wait", "sleep", "clock", "wall", "write1", "write2", "write3", "recv", "send"};
+    "bind", "accept", "sendto", "recvfrom", "wait", "sleep", "clock", "write1", "write2", "write3", "recv", "send"};
 static long counts[CALLS];
 static long now_ms;
 
@@ -166,18 +165,12 @@ int nanosleep(const struct timespec *span, struct timespec *left)
 
 int clock_gettime(clockid_t clock, struct timespec *time)
 {
-    int is_wall = clock == CLOCK_REALTIME;
-    const char *own = getenv(is_wall ? "SYSTEM_WALL" : "SYSTEM_CLOCK");
-    if (fails(is_wall ? WALL : CLOCK)) return -1;
+    const char *own = getenv("SYSTEM_CLOCK");
+    if (fails(CLOCK)) return -1;
     if (!own) return syscall(SYS_clock_gettime, clock, time);
-    if (is_wall) {
-        sscanf(own, "%ld.%ld", &time->tv_sec, &time->tv_nsec);
-        time->tv_sec += counts[WALL] - 1;
-    } else {
-        time->tv_sec = now_ms / 1000;
-        time->tv_nsec = now_ms % 1000 * 1000000;
-        go_on(atol(own));
-    }
+    time->tv_sec = now_ms / 1000;
+    time->tv_nsec = now_ms % 1000 * 1000000;
+    go_on(atol(own));
     return 0;
 }
 

@@ -3,8 +3,8 @@
 
     tests/watching.py PROGRAM [NAME..]
 
-A line for each case that fails, and last how many passed. The system answers as is ordered (tests/system.c): its clock stands still, its
-wall clock tells what is wanted, and writes fail in turn."""
+A line for each case that fails, and last how many passed. The system answers as is ordered (tests/system.c): its clock stands still,
+and writes fail in turn."""
 
 import re
 import sys
@@ -13,7 +13,7 @@ from errno import ENOSPC
 sys.dont_write_bytecode = True
 from daemons import interface, listed, main, peer, prefix, until
 from datagrams import REQUEST, entry, feed, response, table
-from ordered import Ordered, calls, environment
+from ordered import Ordered
 from suite import Failed, same
 
 OWN = "2001:db8::/32"
@@ -203,54 +203,6 @@ def a_start_sends_before_it_logs(case):
     Ordered(case, "start", text, "-R", "start.log", "--turns", "1", clock=0).done()
     names = dict.fromkeys(line.split()[1] for line in case.read("start.calls").splitlines())
     same("what it does first, one after the other", list(names)[:5], ["bind", "write2", "sendto", "write3", "wait"])
-
-
-# Stamps.
-
-def stamped(case, wall, *words, **orders):
-    """What a router of one turn writes to its log by a wall clock, and what it says beside."""
-    case.file("alone.toml", interface(1, case.port()) + prefix(OWN))
-    case.file("alone.log", "")
-    words = ["run", "--stamp", "--turns", "1", "-R", "alone.log", *words, "alone.toml"]
-    done = case.run(*words, **environment(case.folder, "alone", wall=wall, **orders))
-    same("status and table", (done.status, done.out), (0, OWN_TABLE))
-    return case.read("alone.log"), done.err.partition("\n")[2]
-
-
-@listed
-def a_line_has_the_moment_of_the_wall_clock(case):
-    """To the millisecond that has begun, as `date -u` has them."""
-    for wall, stamp in (
-        ("0.000000000", "1970-01-01T00:00:00.000Z"), ("0.001000000", "1970-01-01T00:00:00.001Z"),
-        ("0.999999999", "1970-01-01T00:00:00.999Z"), ("951782399.999000000", "2000-02-28T23:59:59.999Z"),
-        ("951782400.000000000", "2000-02-29T00:00:00.000Z"), ("1709251199.500000000", "2024-02-29T23:59:59.500Z"),
-        ("2147483647.000000000", "2038-01-19T03:14:07.000Z"), ("2147483648.010000000", "2038-01-19T03:14:08.010Z"),
-        ("4102444799.000000000", "2099-12-31T23:59:59.000Z"), ("253402207200.999000000", "9999-12-30T22:00:00.999Z"),
-    ):
-        same(f"log and loss at {wall}", stamped(case, wall), (f"{stamp} add {OWN} metric 1 direct\n", ""))
-
-
-@listed
-def each_line_is_stamped_as_it_ends(case):
-    """Whatever parts it comes in, it is written at once."""
-    log, _ = stamped(case, "951782399.000000000", "--append")
-    same("the log", log, f"\n2000-02-28T23:59:59.000Z start\n2000-02-29T00:00:00.000Z add {OWN} metric 1 direct\n")
-    same("the length of each write", [length for _, _, length, _ in calls(case, "alone", "write3")], list(map(len, log.splitlines(True))))
-
-
-@listed
-def behind_the_last_moment_no_line_is_written(case):
-    same("log and loss", stamped(case, "253402207201.000000000"), ("", LOST_LOG))
-
-
-@listed
-def a_line_without_a_moment_is_not_written(case):
-    same("log and loss", stamped(case, "0.000000000", fail="wall:1:1:22"), ("", LOST_LOG))
-
-
-@listed
-def a_stamped_line_that_cannot_be_written_ends_the_log(case):
-    same("log and loss", stamped(case, "0.000000000", fail=f"write3:1:1:{ENOSPC}"), ("", LOST_LOG))
 
 
 if __name__ == "__main__":

@@ -37,8 +37,8 @@ pub(crate) enum Status {
 /// - 0 where it is done; help or the version, if that was asked for, is written to `out`;
 /// - 1 where the datagram, the configuration, or a line of the script or of the log is refused, as a line on `out` says; of a
 ///   script that `lab` runs, a line on `err` may say what the line should have been, and of a configuration where its fault is;
-/// - 2 at a fault of the command line, or where `--append` has no file to go on in or `--stamp` no log, or a number of an
-///   option has a sign; the text is written to `err`;
+/// - 2 at a fault of the command line, or where `--append` has no file to go on in, or a number of an option has a sign; the
+///   text is written to `err`;
 /// - 3 where something else failed, as a line on `err` says, with why where the system says so: `ripngd: cannot read FILE`,
 ///   `ripngd: cannot write FILE` (with `stdout` for `out`), `ripngd: cannot bind PORT`, `ripngd: link fault after N turns` or
 ///   `ripngd: out of memory`; but nothing is said of an `out` that nobody reads any more.

@@ -96,16 +96,6 @@ append_is_taken : takes ripngd (codes "ripngd" ∷ codes "run" ∷ codes "--appe
 unfolding clap_on_literals
 append_is_taken = refl
 
--- `run --stamp -R log c`
-stamp_is_taken : takes ripngd (codes "ripngd" ∷ codes "run" ∷ codes "--stamp" ∷ codes "-R" ∷ codes "log" ∷ codes "c" ∷ []) ≡ true
-unfolding clap_on_literals
-stamp_is_taken = refl
-
--- `ctl east.sock changes`
-changes_are_taken : takes ripngd (codes "ripngd" ∷ codes "ctl" ∷ codes "east.sock" ∷ codes "changes" ∷ []) ≡ true
-unfolding clap_on_literals
-changes_are_taken = refl
-
 -- `run --turns +3 c`: clap takes a sign, which makes it misused
 plus_is_taken : takes ripngd (codes "ripngd" ∷ codes "run" ∷ codes "--turns" ∷ codes "+3" ∷ codes "c" ∷ []) ≡ true
 unfolding clap_on_literals

@@ -46,7 +46,6 @@ pub record IsOrdered (order : Order) (rows : List Row) : Type 0 where
   pub tag : HasNumber rows (codes "tag") order.tag
   pub log : option_map (λ s. s.now) order.log ≡ first_of (codes "log") rows
   pub append : IsTrue order.append ↔ IsSet rows (codes "append")
-  pub stamp : IsTrue order.stamp ↔ IsSet rows (codes "stamp")
   pub turns : HasNumber rows (codes "turns") order.turns
   pub some : 1 ≤ order.turns
   pub seconds : AreSeconds order.seconds rows
@@ -63,13 +62,9 @@ IsFile (Some name) = name ≢ codes "-"
 abbrev pub GoesOnInNoFile : Order → Type 0
 GoesOnInNoFile order = IsTrue order.append × ¬ (IsFile (option_map (λ s. s.now) order.log))
 
--- a run is to stamp the lines of a log, and there is none
-abbrev pub StampsNoLog : Order → Type 0
-StampsNoLog order = IsTrue order.stamp × (order.log ≡ None)
-
 -- what is ordered of a log makes no sense, or a number has a sign
 abbrev pub IsMisordered : Order → Type 0
-IsMisordered order = GoesOnInNoFile order ⊎ StampsNoLog order ⊎ IsTrue order.signed
+IsMisordered order = GoesOnInNoFile order ⊎ IsTrue order.signed
 
 -- what is asked makes no sense, though clap takes each word of it, or has a number with a sign
 abbrev pub IsMisused : Ask → Type 0

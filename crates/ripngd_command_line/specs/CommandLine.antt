@@ -51,10 +51,6 @@ log_option = record (new_rule (codes "log")) { short = Some 82; value_names = 1 
 abbrev pub append_option : Rule
 append_option = record (new_rule (codes "append")) { long = Some (codes "append"); action = Some SetTrue }
 
--- `--stamp`
-abbrev pub stamp_option : Rule
-stamp_option = record (new_rule (codes "stamp")) { long = Some (codes "stamp"); action = Some SetTrue }
-
 -- `--turns N`, from 1 to 4,294,967,295, and that if it is not given
 abbrev pub turns_option : Rule
 turns_option = record (new_rule (codes "turns")) {
@@ -100,11 +96,11 @@ versioned a = on_top (λ s. record s { has_version = true }) a
 abbrev pub lab_command : App
 lab_command = with_rule (with_rule (with_rule (new_app (codes "lab")) trace_option) explain_option) (positional (codes "SCRIPT"))
 
--- `run [-q] [-d] [-t TAG] [-R FILE] [--append] [--stamp] [--turns N] [--seconds N] [--control PATH] CONFIG`
+-- `run [-q] [-d] [-t TAG] [-R FILE] [--append] [--turns N] [--seconds N] [--control PATH] CONFIG`
 abbrev pub run_command : App
 run_command =
-    with_rule (with_rule (with_rule (with_rule (with_rule (with_rule (with_rule (with_rule (with_rule (with_rule (new_app (codes "run"))
-    quiet_option) debug_option) tag_option) log_option) append_option) stamp_option) turns_option) seconds_option) control_option)
+    with_rule (with_rule (with_rule (with_rule (with_rule (with_rule (with_rule (with_rule (with_rule (new_app (codes "run"))
+    quiet_option) debug_option) tag_option) log_option) append_option) turns_option) seconds_option) control_option)
     (positional (codes "CONFIG"))
 
 -- `ctl PATH COMMAND [WHAT] [VALUE] [PORT]`

@@ -13,7 +13,7 @@ pub enum Ask<'a> {
     Trace(&'a str),
     /// `lab --explain SCRIPT`: the same in English.
     Explain(&'a str),
-    /// `run [-q] [-d] [-t TAG] [-R FILE] [--append] [--stamp] [--turns N] [--seconds N] [--control PATH] CONFIG`: one router that runs.
+    /// `run [-q] [-d] [-t TAG] [-R FILE] [--append] [--turns N] [--seconds N] [--control PATH] CONFIG`: one router that runs.
     Run(Order<'a>),
     /// `ctl PATH COMMAND [WHAT] [VALUE] [PORT]`: a router that runs is asked or told something.
     Ctl(Question<'a>),
@@ -34,8 +34,6 @@ pub struct Order<'a> {
     pub log: Option<&'a str>,
     /// Whether it goes on behind what that file holds, and does not empty it.
     pub append: bool,
-    /// Whether each line of it begins with the moment at which it is written.
-    pub stamp: bool,
     /// How many turns it makes at the most, at least 1.
     pub turns: u32,
     /// After how many seconds of its clock it makes no turn more, at least 1, if it is to end so.

@@ -93,7 +93,6 @@ fn run_asked<'a>(matches: &ArgMatches<'a>) -> Option<Ask<'a>>
         tag: tag_given(matches)?,
         log: text(matches, "log"),
         append: is_set(matches, "append"),
-        stamp: is_set(matches, "stamp"),
         turns: turns_given(matches)?,
         seconds: seconds_given(matches)?,
         control: text(matches, "control"),

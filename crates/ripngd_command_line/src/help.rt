@@ -64,8 +64,6 @@ pub(crate) const CTL: &str = "\
 What the router answers is printed. The commands are
   routes                 its routes, with their gateways and what is left of them
   table                  its forwarding table
-  changes                its forwarding table, and then each change of it as it
-                         comes, until a signal ends this
   counts                 what came, was sent, refused and lost
   neighbors              what came from each of its neighbors, and when last
   cost INTERFACE COST    the cost of an interface is another from now on

@@ -1,20 +1,13 @@
 //! What may be asked in words that clap takes, and is refused all the same: it makes no sense, or has a number with a sign.
 
 ghost use Rattle.std.specs.Prelude.{◌≡◌, ◌↔◌, IsTrue, option_map};
-ghost use Rattle.ripngd_command_line.specs.Asked.{GoesOnInNoFile, IsFile, IsMisordered, IsMisused, StampsNoLog};
+ghost use Rattle.ripngd_command_line.specs.Asked.{GoesOnInNoFile, IsFile, IsMisordered, IsMisused};
 
 use crate::asked::{Ask, Order};
 
 /// What standard error says of a run that is to go on in a log, and has no file for it.
 const APPEND_NEEDS_A_FILE: &str = "\
 error: '--append' goes with '-R FILE', where FILE is not '-'
-
-For more information, try '--help'.
-";
-
-/// What standard error says of a run that is to stamp the lines of a log, and has none.
-const STAMP_NEEDS_A_LOG: &str = "\
-error: '--stamp' goes with '-R FILE'
 
 For more information, try '--help'.
 ";
@@ -43,22 +36,15 @@ fn goes_on_in_no_file(order: Order<'_>) -> bool
     order.append && !is_file(order.log)
 }
 
-/// Whether a run is to stamp the lines of a log that is not there.
-fn stamps_no_log(order: Order<'_>) -> bool
-    ensures { IsTrue result ↔ StampsNoLog order.entry }
-{
-    order.stamp && order.log.is_none()
-}
-
 /// Whether what is ordered of a log makes no sense, or a number has a sign.
 fn is_misordered(order: Order<'_>) -> bool
     ensures { IsTrue result ↔ IsMisordered order.entry }
 {
-    goes_on_in_no_file(order) || stamps_no_log(order) || order.signed
+    goes_on_in_no_file(order) || order.signed
 }
 
-/// Whether what is asked makes no sense: a run that is to go on in a log, and has no file for it, or one that is to stamp the
-/// lines of a log, and has none; or whether a number of its options is written with a sign.
+/// Whether what is asked makes no sense, a run that is to go on in a log, and has no file for it; or whether a number of its
+/// options is written with a sign.
 pub fn is_misused(asked: Ask<'_>) -> bool
     ensures { IsTrue result ↔ IsMisused asked.entry }
 {
@@ -72,7 +58,6 @@ pub fn is_misused(asked: Ask<'_>) -> bool
 pub fn misuse_text(asked: Ask<'_>) -> &'static str {
     match asked {
         Ask::Run(order) if goes_on_in_no_file(order) => APPEND_NEEDS_A_FILE,
-        Ask::Run(order) if stamps_no_log(order) => STAMP_NEEDS_A_LOG,
         _ => NUMBERS_HAVE_NO_SIGN,
     }
 }

@@ -1,7 +1,7 @@
 //! The options and arguments of the subcommands.
 
 ghost use Rattle.std.specs.Prelude.{codes};
-ghost use Rattle.ripngd_command_line.specs.CommandLine.{IsArg, append_option, control_option, debug_option, explain_option, log_option, optional_rule, positional, quiet_option, seconds_option, stamp_option, tag_option, trace_option, turns_option};
+ghost use Rattle.ripngd_command_line.specs.CommandLine.{IsArg, append_option, control_option, debug_option, explain_option, log_option, optional_rule, positional, quiet_option, seconds_option, tag_option, trace_option, turns_option};
 
 use clap::{Arg, ArgAction, value_parser};
 use std::alloc::Global;
@@ -69,16 +69,6 @@ pub(crate) fn append<'a>(alloc: Global) -> Arg<'a>
         .long("append")
         .action(ArgAction::SetTrue)
         .help("Keep what the FILE of -R holds, and write a line `start` behind it")
-}
-
-/// `--stamp`: each line of the log begins with its moment.
-pub(crate) fn stamp<'a>(alloc: Global) -> Arg<'a>
-    ensures { IsArg result stamp_option }
-{
-    Arg::new(alloc, "stamp")
-        .long("stamp")
-        .action(ArgAction::SetTrue)
-        .help("Begin each line of the FILE of -R with its moment, as 2026-03-01T12:00:00.000Z")
 }
 
 /// `--turns N`, from 1 to 4,294,967,295.

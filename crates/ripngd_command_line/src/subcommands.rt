@@ -6,8 +6,7 @@ ghost use Rattle.ripngd_command_line.specs.CommandLine.{IsCommand, ctl_command, 
 
 use crate::help;
 use crate::options::{
-    append, control, debug, explain, log, optional, quiet, required, seconds, stamp, tag, trace,
-    turns,
+    append, control, debug, explain, log, optional, quiet, required, seconds, tag, trace, turns,
 };
 use clap::Command;
 use std::alloc::{AllocError, Global};
@@ -41,7 +40,7 @@ fn lab<'a>(alloc: Global) -> Result<Command<'a>, AllocError>
         .arg(required(alloc, "SCRIPT", "The file that holds it"))
 }
 
-/// `run [-q] [-d] [-t TAG] [-R FILE] [--append] [--stamp] [--turns N] [--seconds N] [--control PATH] CONFIG`.
+/// `run [-q] [-d] [-t TAG] [-R FILE] [--append] [--turns N] [--seconds N] [--control PATH] CONFIG`.
 fn run<'a>(alloc: Global) -> Result<Command<'a>, AllocError>
     ensures { IfOk result (λ c. IsCommand c run_command) }
 {
@@ -53,7 +52,6 @@ fn run<'a>(alloc: Global) -> Result<Command<'a>, AllocError>
         .arg(tag(alloc))?
         .arg(log(alloc))?
         .arg(append(alloc))?
-        .arg(stamp(alloc))?
         .arg(turns(alloc))?
         .arg(seconds(alloc))?
         .arg(control(alloc))?

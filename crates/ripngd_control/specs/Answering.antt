@@ -48,7 +48,6 @@ abbrev pub AnswersCommand : Option Command → Counts → Neighbors → Losses �
 AnswersCommand None counts heard lost a old rest b new = (b ≡ a) × GainsLines old rest new (reply_line replies.NoSuchCommand)
 AnswersCommand (Some commands.Routes) counts heard lost a old rest b new = (b ≡ a) × (rest ≡ rests.Routes None) × (new ≡ old)
 AnswersCommand (Some commands.Table) counts heard lost a old rest b new = (b ≡ a) × (rest ≡ rests.Table None) × (new ≡ old)
-AnswersCommand (Some commands.Changes) counts heard lost a old rest b new = (b ≡ a) × (rest ≡ rests.Changes) × (new ≡ old)
 AnswersCommand (Some commands.Counts) counts heard lost a old rest b new = (b ≡ a) × GainsLines old rest new (counts_answer counts lost)
 AnswersCommand (Some commands.Neighbors) counts heard lost a old rest b new = (b ≡ a) × GainsLines old rest new (neighbors_answer heard)
 AnswersCommand (Some commands.Stop) counts heard lost a old rest b new = (b ≡ a) × GainsLines old rest new (reply_line replies.Done)

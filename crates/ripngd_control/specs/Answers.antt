@@ -69,7 +69,7 @@ pub record ShowsEntries (table : Forwarding) (after : Option Prefix6) (old new :
   pub lines : Appends old new (entry_lines (take 256 (drop begin (listed table))))
 
 -- ---- the last line of an answer
--- the numbers of refusals: those of the router, and two of their own
+-- the numbers of refusals: those of the router, those of its link, and three of their own
 abbrev pub reply_text : Reply → List ℕ
 reply_text replies.Done = codes "ok"
 reply_text (replies.Refused why) = codes "refused " ++ (decimal (reconfigure_number why) ++ (codes " " ++ reconfigure_name why))
@@ -77,7 +77,6 @@ reply_text (replies.LinkRefused number name) = codes "refused " ++ (decimal numb
 reply_text replies.NoSuchInterface = codes "refused 51 NoSuchInterface"
 reply_text replies.NoSuchCommand = codes "refused 52 NoSuchCommand"
 reply_text replies.Ended = codes "refused 53 Ended"
-reply_text replies.CannotFollow = codes "refused 54 CannotFollow"
 
 -- what a change did to an engine, by what is replied
 abbrev pub ObeysChange : Change → Seen → Reply → Seen → Type 0
@@ -86,5 +85,4 @@ ObeysChange c a (replies.Refused why) b = (b.machine.ended ≡ false) × (why �
 ObeysChange c a replies.NoSuchInterface b = (b ≡ a) × ¬ (NamesInterface a.machine.router.config c)
 ObeysChange c a (replies.LinkRefused number name) b = ⊥
 ObeysChange c a replies.NoSuchCommand b = ⊥
-ObeysChange c a replies.CannotFollow b = ⊥
 ObeysChange c a replies.Ended b = (b.machine.ended ≡ true) × Acts (ReconfiguresOnce c) a b

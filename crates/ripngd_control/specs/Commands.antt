@@ -24,7 +24,6 @@ peer_text (Remove iface addr) = codes "unpeer " ++ (decimal iface ++ (codes " " 
 abbrev pub control_text : Command → List ℕ
 control_text commands.Routes = codes "routes"
 control_text commands.Table = codes "table"
-control_text commands.Changes = codes "changes"
 control_text commands.Counts = codes "counts"
 control_text commands.Neighbors = codes "neighbors"
 control_text commands.Stop = codes "stop"

@@ -27,8 +27,6 @@ pub enum Rest {
     Routes(Option<Prefix>),
     /// Lines of the forwarding table, behind a prefix if one is named.
     Table(Option<Prefix>),
-    /// The forwarding table, and then each change of it: somebody follows it from now on.
-    Changes,
     /// Nothing.
     Nothing,
     /// What should be cannot: the writer failed.
@@ -175,7 +173,6 @@ pub fn respond<
     match command {
         Some(Command::Routes) => going_on(Rest::Routes(None)),
         Some(Command::Table) => going_on(Rest::Table(None)),
-        Some(Command::Changes) => going_on(Rest::Changes),
         Some(Command::Counts) => going_on(all_of(write_counts(counts, lost, out))),
         Some(Command::Neighbors) => going_on(all_of(write_heard(heard, out))),
         Some(Command::Stop) => Response {
@@ -223,8 +220,7 @@ fn write_more_entries<S: RouteStore, L: Link, C: TimeSource, R: Rng + Drop, O: W
     }
 }
 
-/// Writes a piece of what is still to be written, 256 lines at the most, and answers what is left then. What somebody is told
-/// who follows the table is not written here.
+/// Writes a piece of what is still to be written, 256 lines at the most, and answers what is left then.
 pub fn write_rest<S: RouteStore, L: Link, C: TimeSource, R: Rng + Drop, O: Write>(
     engine: &Engine<S, L, C, R>,
     rest: Rest,
@@ -235,6 +231,6 @@ pub fn write_rest<S: RouteStore, L: Link, C: TimeSource, R: Rng + Drop, O: Write
     match rest {
         Rest::Routes(after) => write_more_routes(engine, after, out).unwrap_or(Rest::Lost),
         Rest::Table(after) => write_more_entries(engine, after, out).unwrap_or(Rest::Lost),
-        Rest::Changes | Rest::Nothing | Rest::Lost => rest,
+        Rest::Nothing | Rest::Lost => rest,
     }
 }

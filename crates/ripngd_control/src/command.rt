@@ -32,8 +32,6 @@ pub enum Command {
     Routes,
     /// `table`: its forwarding table.
     Table,
-    /// `changes`: its forwarding table, and then each change of it.
-    Changes,
     /// `counts`: what came, was sent, refused and lost.
     Counts,
     /// `neighbors`: what came of each sender.
@@ -85,7 +83,6 @@ impl Display for Command {
         match *self {
             Command::Routes => write!(f, "routes"),
             Command::Table => write!(f, "table"),
-            Command::Changes => write!(f, "changes"),
             Command::Counts => write!(f, "counts"),
             Command::Neighbors => write!(f, "neighbors"),
             Command::Stop => write!(f, "stop"),
@@ -163,7 +160,6 @@ fn unsigned_command_in(text: &str) -> Option<Command> {
     match text {
         "routes" => Some(Command::Routes),
         "table" => Some(Command::Table),
-        "changes" => Some(Command::Changes),
         "counts" => Some(Command::Counts),
         "neighbors" => Some(Command::Neighbors),
         "stop" => Some(Command::Stop),

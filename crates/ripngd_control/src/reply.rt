@@ -7,7 +7,7 @@ use router_core::ReconfigureRefused;
 use std::fmt::{self, Display};
 
 /// How a command ended. Its line is `ok` or `refused NR NAME`, with the number and the name of the router's refusal, or 51
-/// to 54.
+/// to 53.
 #[derive(Clone, Copy, Debug, PartialEq, Eq)]
 pub enum Reply {
     /// It was done.
@@ -22,8 +22,6 @@ pub enum Reply {
     LinkRefused(u8, &'static str),
     /// 53: memory for the forwarding table was refused. The change was made, and the router ends.
     Ended,
-    /// 54: as many follow the forwarding table as may, or memory for the lines of its changes was refused.
-    CannotFollow,
 }
 
 impl Display for Reply {
@@ -41,7 +39,6 @@ impl Display for Reply {
             Reply::NoSuchInterface => write!(f, "refused 51 NoSuchInterface"),
             Reply::NoSuchCommand => write!(f, "refused 52 NoSuchCommand"),
             Reply::Ended => write!(f, "refused 53 Ended"),
-            Reply::CannotFollow => write!(f, "refused 54 CannotFollow"),
         }
     }
 }

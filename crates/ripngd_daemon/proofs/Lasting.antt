@@ -29,7 +29,6 @@ pub heeds_command : (command : Option Command) (counts : Counts) (heard : Neighb
 heeds_command None counts heard lost a old rest b new h = inl h.0
 heeds_command (Some commands.Routes) counts heard lost a old rest b new h = inl h.0
 heeds_command (Some commands.Table) counts heard lost a old rest b new h = inl h.0
-heeds_command (Some commands.Changes) counts heard lost a old rest b new h = inl h.0
 heeds_command (Some commands.Counts) counts heard lost a old rest b new h = inl h.0
 heeds_command (Some commands.Neighbors) counts heard lost a old rest b new h = inl h.0
 heeds_command (Some commands.Stop) counts heard lost a old rest b new h = inl h.0

@@ -1,4 +1,3 @@
-mod Unlogged
 pub mod Failing
 pub mod Turns
 pub mod Lasting

@@ -7,8 +7,7 @@ use Rattle.router_core.specs.Config.{Config as RouterValue}
 use Rattle.ripngd_engine.specs.Link.{Call}
 use Rattle.ripngd_engine.specs.Seen.{Seen, Started, untouched}
 use Rattle.ripngd_daemon.specs.declared.failure.Failure.{Failure}
-use Rattle.ripngd_daemon.proofs.Unlogged.{started_unlogged}
-use Rattle.ripngd_daemon.specs.Controlled.{LastsFor, unlogged}
+use Rattle.ripngd_daemon.specs.Controlled.{LastsFor}
 use Rattle.ripngd_daemon.specs.Ending.{RanInTime, RanTurns, RanUntil}
 use Rattle.ripngd_daemon.specs.declared.limit.Limit.{Limit}
 use Rattle.ripngd_daemon.specs.Ran.{Closed, ShowsBound, ShowsControlled, words_of}
@@ -47,23 +46,23 @@ shows_turns router rng limit first calls known log begun done old new (Err e) un
 -- or that made some of them, and was told changes between them
 pub shows_controlled : (router : RouterValue) (rng : Lcg) (limit : Limit) (first calls : List Call) (known : Option (List Call)) (log : Option (List ℕ))
     (begun done : Seen) (old new : Option (List ℕ)) (r : Result (Unit {0}) Failure) → first ≡ [] → done.outside.calls ≡ Some calls → known ≡ Some calls
-    → Started router (words_of rng) (untouched (Some first) None log) begun → OnOk r (LastsFor limit.seconds limit.turns (unlogged begun) done)
+    → Started router (words_of rng) (untouched (Some first) None log) begun → OnOk r (LastsFor limit.seconds limit.turns begun done)
     → OnOk r (Appends old new (table_text done.machine.fib)) → OnOk r (Closed (ShowsControlled router rng limit old new) known)
-shows_controlled router rng limit first calls known log begun done old new (Ok u) uncalled are is started lasted shown =
-    let fresh = rw uncalled at started in (
-      calls,
-      is,
-      (
-        done.machine.fib,
-        record {
-          begun = unlogged begun;
-          done = done;
-          started = started_unlogged router (words_of rng) (untouched (Some []) None log) begun fresh;
-          lasted = lasted;
-          calls_are = are;
-          table_is = refl;
-        },
-        shown,
-      ),
-    )
+shows_controlled router rng limit first calls known log begun done old new (Ok u) uncalled are is started lasted shown = (
+  calls,
+  is,
+  (
+    done.machine.fib,
+    record {
+      log = log;
+      begun = begun;
+      done = done;
+      started = rw uncalled at started;
+      lasted = lasted;
+      calls_are = are;
+      table_is = refl;
+    },
+    shown,
+  ),
+)
 shows_controlled router rng limit first calls known log begun done old new (Err e) uncalled are is started lasted shown = tt

@@ -39,10 +39,6 @@ abbrev pub DoesAll : Option ℕ → List TurnOrCommand → Seen → Seen → Typ
 DoesAll seconds [] a b = b ≡ a
 DoesAll seconds (d ∷ deeds) a b = (m : Seen) × DoesTurnOrCommand seconds d a m × DoesAll seconds deeds m b
 
--- what is seen of an engine and of what stands around it, but for what stands in its log
-abbrev pub unlogged : Seen → Seen
-unlogged a = record a { outside = record a.outside { text = None } }
-
 -- a router was told a change, or it is as it was
 abbrev pub Heeds : Seen → Seen → Type 0
 Heeds a b = (b ≡ a) ⊎ ((c : Change) × (reply : Reply) × ObeysChange c a reply b)
@@ -57,12 +53,13 @@ pub record LastsFor (seconds : Option ℕ) (turns : ℕ) (a b : Seen) : Type 0 w
   pub within : turns_in deeds ≤ turns
   pub does : DoesAll seconds deeds a b
 
--- a router of this configuration started with these random words, over a link that was never called and a clock and a log that
--- tell nothing, and lasted for its limit at most, with just these calls of its link; this is its forwarding table then
+-- a router of this configuration started with these random words, over a link that was never called and a clock that tells
+-- nothing, and lasted for its limit at most, with just these calls of its link; this is its forwarding table then
 pub record IsControlled (router : RouterValue) (words : Stream) (limit : Limit) (calls : List Call) (table : Forwarding) : Type 0 where
+  pub log : Option (List ℕ)  -- what stood in its log
   pub begun : Seen
   pub done : Seen
-  pub started : Started router words (untouched (Some []) None None) begun
+  pub started : Started router words (untouched (Some []) None log) begun
   pub lasted : LastsFor limit.seconds limit.turns begun done
   pub calls_are : done.outside.calls ≡ Some calls
   pub table_is : table ≡ done.machine.fib

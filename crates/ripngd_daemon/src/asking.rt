@@ -8,7 +8,6 @@ ghost use Rattle.ripngd_daemon.specs.Failing.{MayFail};
 ghost use Rattle.ripngd_daemon.specs.declared.failure.Failure.TheVariants as failures;
 
 use crate::failure::Failure;
-use crate::following::follow;
 use ripngd_command_line::Question;
 use ripngd_control::{Command, Reply, command_in};
 use std::alloc::{AllocError, Global};
@@ -34,7 +33,7 @@ fn words_of(alloc: Global, question: Question<'_>) -> Result<String, AllocError>
 }
 
 /// Sends a command.
-pub(crate) fn send<T: Write>(command: Command, stream: &mut T) -> io::Result<()>
+fn send<T: Write>(command: Command, stream: &mut T) -> io::Result<()>
     ensures { OnOk result (Appends (T.contents stream.old) (T.contents stream.new) (command_line command)) }
 {
     writeln!(stream, "{command}")
@@ -86,7 +85,7 @@ fn told_in(answer: &[u8]) -> Option<(&[u8], bool)>
 }
 
 /// Prints an answer.
-pub(crate) fn print_answer<'a, O: Write>(
+fn print_answer<'a, O: Write>(
     socket: &'a str,
     answer: &[u8],
     out: &mut O,
@@ -127,9 +126,6 @@ fn ask<'a, R: Net + AllocGlobal, O: Write>(
     let Ok(mut stream) = UnixStream::connect(rt, socket) else {
         return Err(Failure::Ask(socket));
     };
-    if command == Command::Changes {
-        return follow(rt.alloc(), socket, command, stream, out);
-    }
     match converse(rt.alloc(), command, &mut stream) {
         Ok(answer) => print_answer(socket, answer.as_slice(), out),
         Err(_) => Err(Failure::Answer(socket)),
@@ -140,8 +136,8 @@ fn ask<'a, R: Net + AllocGlobal, O: Write>(
 /// line `ok`, and answers whether it did what it was asked and told. Words that are no command are refused unasked.
 ///
 /// # Errors
-/// `Ask` with the path, where nobody listens; `Answer` with it, where the answer breaks off, or none comes for 10 seconds, but
-/// for `changes`, whose answer has no end; `Output` or `OutOfMemory`.
+/// `Ask` with the path, where nobody listens; `Answer` with it, where the answer breaks off, or none comes for 10 seconds;
+/// `Output` or `OutOfMemory`.
 pub fn ctl<'a, R: Net + AllocGlobal, O: Write>(
     rt: &R,
     question: Question<'a>,

@@ -3,8 +3,7 @@
 ghost use Rattle.std.specs.Prelude.{◌≡◌, ◌≢◌, [], IfErr, IfOk, OnOk, false, length};
 ghost use Rattle.std.specs.Io.KnownBytes.{Appends};
 ghost use Rattle.ripngd_engine.specs.Seen.{Ran, seen};
-ghost use Rattle.ripngd_following.specs.Following.{kept_lines};
-ghost use Rattle.ripngd_daemon.specs.Controlled.{LastsFor, TurnsAndHeeds, unlogged};
+ghost use Rattle.ripngd_daemon.specs.Controlled.{LastsFor, TurnsAndHeeds};
 ghost use Rattle.ripngd_daemon.specs.Failing.{FailsTurns};
 ghost use Rattle.ripngd_daemon.specs.Ran.{Closed, ShowsControlled, words_of};
 ghost use Rattle.ripngd_daemon.specs.Tabled.{table_text};
@@ -13,12 +12,11 @@ use crate::desk::Desk;
 use crate::failure::Failure;
 use crate::forwarding::write_table;
 use crate::limit::{Limit, is_over};
-use crate::losses::{with_link, with_log};
+use crate::losses::with_link;
 use crate::router::Running;
 use rand_pcg::Pcg32;
 use ripngd_control::{Course, Losses};
 use ripngd_engine::{Engine, EngineFault, Watch};
-use ripngd_following::Journal;
 use ripngd_udp::{Ports, Udp, Uptime};
 use ripngd_watch::{Both, Counts, DebugLines, Neighbors};
 use router_core::RouterConfig;
@@ -44,17 +42,17 @@ impl<W: Write> Counting for DebugLines<W> {
     }
 }
 
-/// Makes a turn. The journal keeps a line for each change that it made.
+/// Makes a turn. The log gets a line for each change that it made.
 fn step<R: Clock + AllocGlobal, W: Write, V: Watch>(
     engine: &mut Running<'_, R>,
-    journal: &mut Journal<W>,
+    log: &mut W,
     watch: &mut V,
 ) -> Result<(), EngineFault>
     requires { engine.old.ended ≡ false }
-    ensures ran { OnOk result (Ran 1 (seen words_of kept_lines engine.old journal.old) (seen words_of kept_lines engine.new journal.new)) }
+    ensures ran { OnOk result (Ran 1 (seen words_of W.contents engine.old log.old) (seen words_of W.contents engine.new log.new)) }
     ensures goes_on { OnOk result (engine.new.ended ≡ false) }
 {
-    engine.turns_watched(1, journal, watch)
+    engine.turns_watched(1, log, watch)
 }
 
 /// Makes a turn, and looks at the clients.
@@ -62,16 +60,16 @@ fn turn<R: Clock + AllocGlobal, W: Write, V: Counting>(
     rt: &R,
     engine: &mut Running<'_, R>,
     desk: &mut Desk,
-    journal: &mut Journal<W>,
+    log: &mut W,
     watch: &mut Both<V, Neighbors>,
 ) -> Result<Course, EngineFault>
     requires { engine.old.ended ≡ false }
-    ensures does { OnOk result (TurnsAndHeeds (unlogged (seen words_of kept_lines engine.old journal.old))
-        (unlogged (seen words_of kept_lines engine.new journal.new))) }
+    ensures does { OnOk result (TurnsAndHeeds (seen words_of W.contents engine.old log.old)
+        (seen words_of W.contents engine.new log.new)) }
     ensures goes_on { IfOk result (λ course. course ≢ Course.Ended → engine.new.ended ≡ false) }
 {
-    step(engine, journal, watch)?;
-    Ok(desk.look(rt, engine, watch.first.counted(), &watch.second, journal))
+    step(engine, log, watch)?;
+    Ok(desk.look(rt, engine, watch.first.counted(), &watch.second, log))
 }
 
 /// Makes turns until the limit, or until it is told to stop.
@@ -83,20 +81,19 @@ fn make_turns<'a, R: Clock + AllocGlobal, W: Write, V: Counting>(
     engine: &mut Running<'_, R>,
     desk: &mut Desk,
     limit: Limit,
-    journal: &mut Journal<W>,
+    log: &mut W,
     watch: &mut Both<V, Neighbors>,
 ) -> Result<(), Failure<'a>>
     requires { engine.old.ended ≡ false }
     ensures lasts { OnOk result (LastsFor limit.seconds limit.turns
-        (unlogged (seen words_of kept_lines engine.old journal.old))
-        (unlogged (seen words_of kept_lines engine.new journal.new))) }
+        (seen words_of W.contents engine.old log.old) (seen words_of W.contents engine.new log.new)) }
     ensures failed { IfErr result (FailsTurns limit.turns) }
 {
     for done in 0..limit.turns {
         if is_over(limit.seconds, engine) {
             return Ok(());
         }
-        match turn(rt, engine, desk, journal, watch) {
+        match turn(rt, engine, desk, log, watch) {
             Ok(Course::GoOn) => {}
             Ok(Course::Stop) => return Ok(()),
             Ok(Course::Ended) | Err(EngineFault::OutOfMemory) => return Err(Failure::OutOfMemory),
@@ -112,18 +109,17 @@ fn show_turns<'a, R: Clock + AllocGlobal, W: Write, V: Counting, O: Write>(
     engine: &mut Running<'_, R>,
     desk: &mut Desk,
     limit: Limit,
-    journal: &mut Journal<W>,
+    log: &mut W,
     watch: &mut Both<V, Neighbors>,
     out: &mut O,
 ) -> Result<(), Failure<'a>>
     requires { engine.old.ended ≡ false }
     ensures lasts { OnOk result (LastsFor limit.seconds limit.turns
-        (unlogged (seen words_of kept_lines engine.old journal.old))
-        (unlogged (seen words_of kept_lines engine.new journal.new))) }
+        (seen words_of W.contents engine.old log.old) (seen words_of W.contents engine.new log.new)) }
     ensures shown { OnOk result (Appends (O.contents out.old) (O.contents out.new) (table_text engine.new.fib)) }
     ensures failed { IfErr result (FailsTurns limit.turns) }
 {
-    make_turns(rt, engine, desk, limit, journal, watch)?;
+    make_turns(rt, engine, desk, limit, log, watch)?;
     write_table(engine.fib(), out).map_err(|_| Failure::Output)
 }
 
@@ -150,18 +146,10 @@ pub(crate) fn run_controlled<'r, 'a, R: Clock + Net + AllocGlobal, W: Write, V: 
     ensures failed { IfErr result (FailsTurns limit.turns) }
 {
     let clock = Uptime::new(rt);
-    let mut journal = Journal::new(rt.alloc(), log);
-    let mut engine: Running<'r, R> = Engine::start(
-        rt.alloc(),
-        router,
-        link,
-        clock,
-        rng,
-        &mut journal,
-    )?;
-    let outcome = show_turns(rt, &mut engine, desk, limit, &mut journal, watch, out);
+    let mut engine: Running<'r, R> = Engine::start(rt.alloc(), router, link, clock, rng, log)?;
+    let outcome = show_turns(rt, &mut engine, desk, limit, log, watch, out);
     *counts = watch.first.counted();
-    let report = with_log(engine.report(), journal.has_failed());
+    let report = engine.report();
     let mut link = engine.into_link();
     link.finish();
     *lost = with_link(

@@ -8,8 +8,6 @@ mod controlled;
 mod desk;
 mod failure;
 mod file_cause;
-mod follower;
-mod following;
 mod forwarding;
 mod limit;
 mod listening;
@@ -21,7 +19,6 @@ mod router;
 mod run_log;
 mod running;
 mod subcommands;
-mod telling;
 mod visit;
 mod warnings;
 

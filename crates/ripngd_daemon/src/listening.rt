@@ -28,7 +28,7 @@ fn open_desk<'a, R: Files + Net + AllocGlobal>(rt: &R, path: &'a str) -> Result<
     ensures { IfErr result (λ f. (why : DoorFault) × (f ≡ failures.Listen path.entry why)) }
 {
     match Door::open(rt, path) {
-        Ok(door) => Ok(Desk::new(rt.alloc(), door)),
+        Ok(door) => Ok(Desk::new(door)),
         Err(why) => Err(Failure::Listen(path, why)),
     }
 }

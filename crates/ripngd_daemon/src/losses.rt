@@ -1,6 +1,6 @@
 //! What a run lost, as a line of standard error.
 
-ghost use Rattle.std.specs.Prelude.{◌≡◌, ◌≢◌, ◌||◌, OnOk};
+ghost use Rattle.std.specs.Prelude.{◌≡◌, ◌≢◌, OnOk};
 ghost use Rattle.std.specs.Io.KnownBytes.{Appends};
 ghost use Rattle.ripngd_engine.specs.Run.{counted};
 ghost use Rattle.ripngd_daemon.specs.Losses.{log_text, losses_line, nothing_lost};
@@ -19,16 +19,6 @@ pub const NOTHING_LOST: Losses = Losses {
     arrivals: 0,
     strangers: 0,
 };
-
-/// What a router lost, where a write of its log may have failed that its engine knows nothing of.
-pub(crate) fn with_log(report: Report, failed: bool) -> Report
-    ensures { result ≡ record report { log_failed = report.log_failed || failed } }
-{
-    Report {
-        log_failed: report.log_failed || failed,
-        ..report
-    }
-}
 
 /// What a router lost, with what its link lost beside: sends that failed after they were taken, arrivals for which it had no
 /// room or no memory, and datagrams of strangers.

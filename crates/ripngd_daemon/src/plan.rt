@@ -22,8 +22,6 @@ pub(crate) struct Plan<'a> {
     pub(crate) log: Option<&'a str>,
     /// Whether what that file holds stays.
     pub(crate) append: bool,
-    /// Whether the lines of its log are stamped.
-    pub(crate) stamp: bool,
     /// The path of the socket at which it is asked and told.
     pub(crate) control: Option<&'a str>,
 }
@@ -42,7 +40,6 @@ pub(crate) fn plan_of<'a>(
     ensures debug { IfOk result (λ plan. plan.debug ≡ order.entry.debug) }
     ensures log { IfOk result (λ plan. plan.log ≡ order.entry.log) }
     ensures append { IfOk result (λ plan. plan.append ≡ order.entry.append) }
-    ensures stamp { IfOk result (λ plan. plan.stamp ≡ order.entry.stamp) }
     ensures control { IfOk result (λ plan. plan.control ≡ order.entry.control) }
     ensures one_each { IfOk result (λ plan. HasOneEach plan.config) }
     ensures refused { IfErr result (RefusesConfig text.now order.entry.tag order.entry.quiet) }
@@ -57,7 +54,6 @@ pub(crate) fn plan_of<'a>(
         debug: order.debug,
         log: order.log,
         append: order.append,
-        stamp: order.stamp,
         control: order.control,
     })
 }

@@ -11,11 +11,10 @@ ghost use Rattle.ripngd_daemon.specs.declared.file_cause.FileCause.{FileCause};
 use crate::failure::{Failure, failed};
 use crate::file_cause::FileCause;
 use ripngd_command_line::Order;
-use ripngd_stamp::Stamped;
 use std::fs::{self, File, OpenOptions, TryLockError};
 use std::io::{self, Print, Write};
 use std::os::unix::fs::MetadataExt;
-use std::rt::{Clock, Files};
+use std::rt::Files;
 
 /// What the lines of a run go to.
 pub(crate) trait Log: Write {
@@ -37,13 +36,6 @@ impl Log for File {
 impl Log for io::Sink {
     fn empty(&mut self) -> io::Result<()> {
         Ok(())
-    }
-}
-
-/// The lines stand in the log whose lines are stamped.
-impl<R: Clock + AllocGlobal, L: Log> Log for Stamped<'_, R, L> {
-    fn empty(&mut self) -> io::Result<()> {
-        self.log.empty()
     }
 }
 

@@ -30,7 +30,6 @@ use ripngd_command_line::Order;
 use ripngd_config::{Config, Peer, Place};
 use ripngd_control::Losses;
 use ripngd_engine::{Engine, EngineFault, Unwatched, Watch};
-use ripngd_stamp::Stamped;
 use ripngd_udp::{Ports, Udp, Uptime};
 use ripngd_watch::DebugLines;
 use router_core::RouterConfig;
@@ -42,7 +41,7 @@ use std::rt::{Clock, Files};
 /// Runs the router of a configuration until it has made its turns or its seconds have passed, and then writes its
 /// forwarding table, a line for each entry. Each change of a route is a line of the log, if a file is named for it, whose old
 /// contents are lost once all ports are bound, but where it is to be gone on in: a line feed and a line `start` are then written
-/// behind them. Where its lines are to be stamped, each begins with the moment at which it is written.
+/// behind them.
 /// A configuration that is refused is written as `refused ..`, before that file is touched, and the answer is then false; `err`
 /// gets the place of its fault, as it does from `check`.
 /// What the router lost is left in `lost`, also where it ended early, and `ports` knows which ports were bound and, after a run, each
@@ -105,44 +104,12 @@ fn run_plan<'a, R: Files<File = File> + Print + Clock + Net + AllocGlobal, O: Wr
         (option_map (λ s. s.now) plan.entry.control)) }
 {
     match plan.log {
-        Some("-") => run_written(rt, plan, Output(rt), ports, out, err, lost),
+        Some("-") => run_logged(rt, plan, &mut Output(rt), ports, out, err, lost),
         Some(file) => {
-            let lines = open_log(rt, file)?;
-            run_written(rt, plan, lines, ports, out, err, lost)
+            let mut lines = open_log(rt, file)?;
+            run_logged(rt, plan, &mut lines, ports, out, err, lost)
         }
         None => run_logged(rt, plan, &mut io::sink(), ports, out, err, lost),
-    }
-}
-
-/// Runs a router with a log whose lines are stamped, if they are to be.
-fn run_written<'a, R: Files + Clock + Net + AllocGlobal, L: Log + Drop, O: Write, E: Write>(
-    rt: &R,
-    plan: Plan<'a>,
-    mut lines: L,
-    ports: &mut Ports,
-    out: &mut O,
-    err: &mut E,
-    lost: &mut Losses,
-) -> Result<(), Failure<'a>>
-    requires { HasOneEach plan.config }
-    ensures bound { OnOk result (ports.new.on_links ≡ Some (links_of plan.entry.config)) }
-    ensures shown { OnOk result (ShowsOrdered plan.entry.control plan.entry.config plan.entry.limit ports.new.calls
-        (O.contents out.old) (O.contents out.new)) }
-    ensures failed { IfErr result (FailsPlanned plan.entry.limit.turns (option_map (λ s. s.now) plan.entry.log)
-        (option_map (λ s. s.now) plan.entry.control)) }
-{
-    if plan.stamp {
-        run_logged(
-            rt,
-            plan,
-            &mut Stamped::new(rt, lines),
-            ports,
-            out,
-            err,
-            lost,
-        )
-    } else {
-        run_logged(rt, plan, &mut lines, ports, out, err, lost)
     }
 }
 
@@ -194,7 +161,6 @@ fn run_logged<'a, R: Files + Clock + Net + AllocGlobal, L: Log, O: Write, E: Wri
         debug,
         log: name,
         append,
-        stamp: _,
         control,
     } = plan;
     let _ = write_echoes(&config, err);

@@ -4,21 +4,37 @@ ghost use Rattle.std.specs.Prelude.{◌≡◌, IfSome};
 ghost use Rattle.ripngd_daemon.specs.Controlled.{IsHeard};
 
 use crate::router::Running;
-use crate::telling::{PIECES, Step, Telling};
-use ripngd_control::{Command, Reply, Rest, read_command, write_rest};
-use ripngd_door::{Heard, line_in};
+use ripngd_control::{Command, Rest, read_command, write_rest};
+use ripngd_door::{Heard, Patience, hear, line_in, tell};
 use std::alloc::Global;
-use std::io::{self, Write};
+use std::io;
 use std::os::unix::net::UnixStream;
 use std::rt::Clock;
+
+/// How many pieces a client is told at the most between two turns.
+const PIECES: usize = 16;
+
+/// What came of a step.
+#[derive(Clone, Copy, Debug, PartialEq, Eq)]
+enum Step {
+    /// There may be more to do at once.
+    Done,
+    /// The client has to send or to take something first.
+    Waits,
+    /// Its answer is told, or it is gone.
+    Over,
+}
 
 /// A client that has connected.
 #[derive(Drop)]
 pub(crate) struct Visit {
-    /// What it is to be told next.
-    pub(crate) telling: Telling,
+    stream: UnixStream,
+    /// How long it has kept others waiting: since it came, or since it took something.
+    patience: Patience,
     /// What it has sent.
     pub(crate) heard: Vec<u8>,
+    /// What it is to be told next.
+    pub(crate) text: Vec<u8>,
     /// What is to be told behind that, once its command is heard.
     pub(crate) rest: Option<Rest>,
 }
@@ -44,8 +60,10 @@ impl Visit {
     /// Of the clock.
     pub(crate) fn new<R: AllocGlobal + Clock>(rt: &R, stream: UnixStream) -> io::Result<Visit> {
         Ok(Visit {
-            telling: Telling::new(rt, stream)?,
+            stream,
+            patience: Patience::new(rt)?,
             heard: Vec::new(rt.alloc()),
+            text: Vec::new(rt.alloc()),
             rest: None,
         })
     }
@@ -55,7 +73,7 @@ impl Visit {
     pub(crate) fn listen(&mut self, alloc: Global) -> Option<Option<Command>>
         ensures { IfSome result (λ read. IfSome read (λ c. IsHeard c self.new.heard.items)) }
     {
-        match self.telling.hear(&mut self.heard) {
+        match hear(&mut self.stream, &mut self.heard) {
             Heard::Part => None,
             Heard::TooLong => Some(None),
             Heard::Line => command_in(alloc, self.heard.as_slice()),
@@ -68,38 +86,40 @@ impl Visit {
 
     /// Makes the next piece of the answer, if the one before it was told.
     fn refill<R: Clock>(&mut self, engine: &Running<'_, R>) -> Step {
-        if !self.telling.text.is_empty() {
+        if !self.text.is_empty() {
             return Step::Done;
         }
         match self.rest {
             None => Step::Waits,
             Some(Rest::Nothing | Rest::Lost) => Step::Over,
             Some(rest) => {
-                self.rest = Some(write_rest(engine, rest, &mut self.telling.text));
+                self.rest = Some(write_rest(engine, rest, &mut self.text));
                 Step::Done
             }
+        }
+    }
+
+    /// Writes once. Who took something may keep others waiting anew.
+    fn tell_once<R: Clock>(&mut self, rt: &R) -> Step {
+        match tell(&mut self.stream, &mut self.text) {
+            None => Step::Over,
+            Some(0) => Step::Waits,
+            Some(_) => match Patience::new(rt) {
+                Ok(patience) => {
+                    self.patience = patience;
+                    Step::Done
+                }
+                Err(_) => Step::Over,
+            },
         }
     }
 
     /// Makes a piece of the answer, and writes once.
     fn step<R: Clock>(&mut self, rt: &R, engine: &Running<'_, R>) -> Step {
         match self.refill(engine) {
-            Step::Done => self.telling.tell_once(rt),
+            Step::Done => self.tell_once(rt),
             step => step,
         }
-    }
-
-    /// Whether it is to follow the forwarding table.
-    pub(crate) fn is_to_follow(&self) -> bool {
-        matches!(self.rest, Some(Rest::Changes))
-    }
-
-    /// Says that it cannot follow the forwarding table.
-    pub(crate) fn refuse_to_follow(&mut self) {
-        self.rest = match writeln!(self.telling.text, "{}", Reply::CannotFollow) {
-            Ok(()) => Some(Rest::Nothing),
-            Err(_) => Some(Rest::Lost),
-        };
     }
 
     /// Tells what may be told now, and answers whether the visit goes on.
@@ -107,7 +127,7 @@ impl Visit {
         for _ in 0..PIECES {
             match self.step(rt, engine) {
                 Step::Done => {}
-                Step::Waits => return !self.telling.is_late(rt),
+                Step::Waits => return !self.patience.is_over(rt),
                 Step::Over => return false,
             }
         }

@@ -1,7 +1,5 @@
 mod WordTexts
 mod Readings
-mod Splitting
-mod OneRun
 mod OneReading
+mod OneRun
 mod Passing
-mod ReadingOn

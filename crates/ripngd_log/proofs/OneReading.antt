@@ -1,6 +1,5 @@
 -- A text is a log in one way at most.
-use Rattle.std.proofs.Common.{◌≡◌, ℕ, ◌<◌, ◌^◌, List, [], ◌∷◌, ◌++◌, All, get_or, drop, codes, decimal, refl, sym, ap, ap₂, ◌∙◌, subst, arith}
-use Rattle.std.specs.Prelude.{map as list_map}
+use Rattle.std.proofs.Common.{◌≡◌, ◌≢◌, ℕ, ◌<◌, ◌^◌, List, [], ◌∷◌, ◌++◌, All, get_or, drop, codes, decimal, refl, sym, ap, ap₂, ◌∙◌, subst, arith, append_assoc}
 use Rattle.std.proofs.lemmas.Fmt.{decimal_injective}
 use Rattle.std.proofs.lemmas.List.Elements.{All-head, All-tail}
 use Rattle.prefix6.specs.Prefix.{Prefix6, IsPrefix}
@@ -10,13 +9,28 @@ use Rattle.fib.specs.declared.change.Hop.{Hop}
 use Rattle.fib.specs.declared.change.Hop.TheVariants.{Direct, Via}
 use Rattle.fib.specs.declared.change.RouteChange.{RouteChange}
 use Rattle.fib.specs.declared.change.RouteChange.TheVariants.{Install, Withdraw}
-use Rattle.ripngd_engine.specs.Log.{hop_text, change_text}
+use Rattle.ripngd_engine.specs.Log.{hop_text, change_text, log_of}
 use Rattle.ripngd_log.specs.Reading.{IsWritableHop, IsWritableChange, IsRunOf, IsFirstBadOfRun}
-use Rattle.ripngd_log.specs.Runs.{HasNoLineFeed, lines_text}
-use Rattle.ripngd_log.proofs.OneRun.{front, same_lines}
-use Rattle.ripngd_log.proofs.Splitting.{has_it, one_split}
-use Rattle.ripngd_stamp.specs.Stamps.{unstamped}
-use Rattle.ripngd_log.proofs.WordTexts.{addr_in_word, decimal_in_word, prefix_in_word}
+use Rattle.ripngd_log.specs.Runs.{HasNoLineFeed}
+use Rattle.ripngd_log.proofs.WordTexts.{addr_in_word, decimal_in_word, prefix_in_word, change_in_line}
+
+abbrev pub Lacks : ℕ → List ℕ → Type 0
+Lacks b xs = All (λ c. c ≢ b) xs
+
+-- a text is split at the first of a byte in one way
+pub one_split : (b : ℕ) (xs ys us vs : List ℕ) → Lacks b xs → Lacks b us → xs ++ (b ∷ ys) ≡ us ++ (b ∷ vs) → (xs ≡ us) × (ys ≡ vs)
+one_split b [] ys [] vs h k e = (refl, cc)
+one_split b [] ys (u ∷ us) vs h k e = let same : u ≡ b = cc in absurd (All-head (λ c. c ≢ b) u us k same)
+one_split b (x ∷ xs) ys [] vs h k e = let same : x ≡ b = cc in absurd (All-head (λ c. c ≢ b) x xs h same)
+one_split b (x ∷ xs) ys (u ∷ us) vs h k e =
+    let head : x ≡ u = cc in
+    let rest : xs ++ (b ∷ ys) ≡ us ++ (b ∷ vs) = cc in
+    let later = one_split b xs ys us vs (All-tail (λ c. c ≢ b) x xs h) (All-tail (λ c. c ≢ b) u us k) rest in
+    (cc (later.0), later.1)
+
+pub has_it : (b : ℕ) (xs ys : List ℕ) → ¬ (Lacks b (xs ++ (b ∷ ys)))
+has_it b [] ys h = All-head (λ c. c ≢ b) b ys h refl
+has_it b (x ∷ xs) ys h = has_it b xs ys (All-tail (λ c. c ≢ b) x (xs ++ (b ∷ ys)) h)
 
 -- from what is written of prefixes and addresses, and that it is read back in one way
 module _ (addr_reads : (a : ℕ) → a < 2 ^ 128 → Reads (written_addr a) a) (prefix_reads : (p : Prefix6) → IsPrefix p → ReadsPrefix (written_prefix p) p)
@@ -47,52 +61,36 @@ module _ (addr_reads : (a : ℕ) → a < 2 ^ 128 → Reads (written_addr a) a) (
   same_change (Withdraw p) (Install q b n) h k e = let first : ◌≡◌ {A = ℕ} 100 97 = ap (λ t. get_or t 0 0) e in absurd (omega (arith, first))
   same_change (Withdraw p) (Withdraw q) h k e = ap Withdraw (same_prefix p q h k (ap (drop 4) e))
 
-  same_changes : (cs ds : List RouteChange) → All IsWritableChange cs → All IsWritableChange ds → list_map change_text cs ≡ list_map change_text ds → cs ≡ ds
-  same_changes [] [] h k e = refl
-  same_changes [] (d ∷ ds) h k e = absurd cc
-  same_changes (c ∷ cs) [] h k e = absurd cc
-  same_changes (c ∷ cs) (d ∷ ds) h k e =
-      let first : change_text c ≡ change_text d = cc in
-      let later : list_map change_text cs ≡ list_map change_text ds = cc in
-      ap₂ ◌∷◌ (same_change c d (All-head IsWritableChange c cs h) (All-head IsWritableChange d ds k) first)
-      (same_changes cs ds (All-tail IsWritableChange c cs h) (All-tail IsWritableChange d ds k) later)
+  -- the first line of a log, and what comes after it
+  front : (c : RouteChange) (cs : List RouteChange) (rest : List ℕ) → log_of (c ∷ cs) ++ rest ≡ change_text c ++ (10 ∷ (log_of cs ++ rest))
+  front c cs rest = simp append_assoc refl
+
+  same_log : (cs ds : List RouteChange) (r s : List ℕ) → All IsWritableChange cs → All IsWritableChange ds → HasNoLineFeed r → HasNoLineFeed s → log_of cs ++ r ≡ log_of ds ++ s → cs ≡ ds
+  same_log [] [] r s h k free other e = refl
+  same_log [] (d ∷ ds) r s h k free other e = absurd (has_it 10 (change_text d) (log_of ds ++ s) (subst HasNoLineFeed (e ∙ front d ds s) free))
+  same_log (c ∷ cs) [] r s h k free other e = absurd (has_it 10 (change_text c) (log_of cs ++ r) (subst HasNoLineFeed (sym e ∙ front c cs r) other))
+  same_log (c ∷ cs) (d ∷ ds) r s h k free other e =
+      let is_c = All-head IsWritableChange c cs h in
+      let is_d = All-head IsWritableChange d ds k in
+      let parts = one_split 10 (change_text c) (log_of cs ++ r) (change_text d) (log_of ds ++ s) (change_in_line c is_c) (change_in_line d is_d) (sym (front c cs r) ∙ e ∙ front d ds s) in
+      ap₂ ◌∷◌ (same_change c d is_c is_d parts.0) (same_log cs ds r s (All-tail IsWritableChange c cs h) (All-tail IsWritableChange d ds k) free other parts.1)
 
   pub one_reading : (text : List ℕ) (cs ds : List RouteChange) → IsRunOf text cs → IsRunOf text ds → cs ≡ ds
-  one_reading text cs ds h k =
-      let p = h.has_read in
-      let q = k.has_read in
-      let same = same_lines p.lines q.lines h.rest k.rest p.are_lines q.are_lines h.unended k.unended (sym p.spelled ∙ q.spelled) in
-      same_changes cs ds p.lawful q.lawful (sym p.said ∙ ap (list_map unstamped) same.0 ∙ q.said)
+  one_reading text cs ds h k = same_log cs ds h.rest k.rest h.lawful k.lawful h.unended k.unended (sym h.spelled ∙ k.spelled)
 
--- behind the lines before a line comes that line
-goes_on : (ls ms : List (List ℕ)) (bad after r : List ℕ) → All HasNoLineFeed ls → All HasNoLineFeed ms → HasNoLineFeed bad → HasNoLineFeed r
-    → lines_text ls ++ (bad ++ (10 ∷ after)) ≡ lines_text ms ++ r → (more : List (List ℕ)) × (ms ≡ ls ++ bad ∷ more)
-goes_on [] [] bad after r h k line free e = absurd (has_it 10 bad after (subst HasNoLineFeed (sym e) free))
-goes_on [] (m ∷ ms) bad after r h k line free e =
-    let parts = one_split 10 bad after m (lines_text ms ++ r) line (All-head HasNoLineFeed m ms k) (e ∙ front m ms r) in
-    (ms, ap (λ l. l ∷ ms) (sym parts.0))
-goes_on (l ∷ ls) [] bad after r h k line free e =
-    absurd (has_it 10 l (lines_text ls ++ (bad ++ (10 ∷ after))) (subst HasNoLineFeed (sym e ∙ front l ls (bad ++ (10 ∷ after))) free))
-goes_on (l ∷ ls) (m ∷ ms) bad after r h k line free e =
-    let parts = one_split 10 l (lines_text ls ++ (bad ++ (10 ∷ after))) m (lines_text ms ++ r) (All-head HasNoLineFeed l ls h) (All-head HasNoLineFeed m ms k)
-    (sym (front l ls (bad ++ (10 ∷ after))) ∙ e ∙ front m ms r) in
-    let later = goes_on ls ms bad after r (All-tail HasNoLineFeed l ls h) (All-tail HasNoLineFeed m ms k) line free parts.1 in
-    (later.0, ap₂ ◌∷◌ (sym parts.0) later.1)
+  no_log : (cs ds : List RouteChange) (bad after r : List ℕ) → All IsWritableChange cs → All IsWritableChange ds → HasNoLineFeed bad → ((d : RouteChange) → IsWritableChange d → change_text d ≢ bad) → HasNoLineFeed r → log_of cs ++ (bad ++ (10 ∷ after)) ≢ log_of ds ++ r
+  no_log [] [] bad after r h k line none free e = has_it 10 bad after (subst HasNoLineFeed (sym e) free)
+  no_log [] (d ∷ ds) bad after r h k line none free e =
+      let is_d = All-head IsWritableChange d ds k in
+      none d is_d (sym (one_split 10 bad after (change_text d) (log_of ds ++ r) line (change_in_line d is_d) (e ∙ front d ds r)).0)
+  no_log (c ∷ cs) [] bad after r h k line none free e = has_it 10 (change_text c) (log_of cs ++ (bad ++ (10 ∷ after))) (subst HasNoLineFeed (sym e ∙ front c cs _) free)
+  no_log (c ∷ cs) (d ∷ ds) bad after r h k line none free e =
+      let is_c = All-head IsWritableChange c cs h in
+      let is_d = All-head IsWritableChange d ds k in
+      let parts = one_split 10 (change_text c) (log_of cs ++ (bad ++ (10 ∷ after))) (change_text d) (log_of ds ++ r) (change_in_line c is_c) (change_in_line d is_d) (sym (front c cs (bad ++ (10 ∷ after))) ∙ e ∙ front d ds r) in
+      no_log cs ds bad after r (All-tail IsWritableChange c cs h) (All-tail IsWritableChange d ds k) line none free parts.1
 
--- it says one of the changes
-says_one : (ls more : List (List ℕ)) (bad : List ℕ) (ds : List RouteChange) → All IsWritableChange ds
-    → list_map unstamped (ls ++ bad ∷ more) ≡ list_map change_text ds → (d : RouteChange) × IsWritableChange d × (change_text d ≡ unstamped bad)
-says_one [] more bad [] k e = absurd cc
-says_one [] more bad (d ∷ ds) k e = let first : change_text d ≡ unstamped bad = cc in (d, All-head IsWritableChange d ds k, first)
-says_one (l ∷ ls) more bad [] k e = absurd cc
-says_one (l ∷ ls) more bad (d ∷ ds) k e =
-    let later : list_map unstamped (ls ++ bad ∷ more) ≡ list_map change_text ds = cc in
-    says_one ls more bad ds (All-tail IsWritableChange d ds k) later
-
-pub no_reading : (text : List ℕ) (line : ℕ) (changes : List RouteChange) → IsFirstBadOfRun text line → ¬ (IsRunOf text changes)
-no_reading text line changes h k =
-    let p = h.has_read in
-    let q = k.has_read in
-    let on = goes_on p.lines q.lines h.bad h.after k.rest p.are_lines q.are_lines h.is_line k.unended (sym p.spelled ∙ q.spelled) in
-    let one = says_one p.lines on.0 h.bad changes q.lawful (ap (list_map unstamped) (sym on.1) ∙ q.said) in
-    h.no_change one.0 one.1 one.2
+  pub no_reading : (text : List ℕ) (line : ℕ) (changes : List RouteChange) → IsFirstBadOfRun text line → ¬ (IsRunOf text changes)
+  no_reading text line changes h k =
+      no_log h.before changes h.bad h.after k.rest h.lawful k.lawful h.is_line h.no_change k.unended
+      (sym (append_assoc (log_of h.before) h.bad (10 ∷ h.after)) ∙ sym h.spelled ∙ k.spelled)

@@ -1,8 +1,8 @@
 -- A text has one last run.
-use Rattle.std.proofs.Common.{◌≡◌, ℕ, List, [], ◌∷◌, ◌++◌, All, refl, sym, ap, ◌∙◌, subst, inl, inr, append_assoc}
+use Rattle.std.proofs.Common.{◌≡◌, ◌≢◌, ℕ, List, [], ◌∷◌, ◌++◌, All, refl, sym, ap, ◌∙◌, subst, inl, inr, append_assoc}
 use Rattle.std.proofs.lemmas.List.Elements.{All-head, All-tail, All-append}
-use Rattle.ripngd_log.specs.Runs.{EndsInStart, HasNoLineFeed, HasPassed, IsLastRun, IsStart, lines_text}
-use Rattle.ripngd_log.proofs.Splitting.{has_it, one_split}
+use Rattle.ripngd_log.specs.Runs.{EndsInStart, HasNoLineFeed, HasPassed, IsLastRun, lines_text, start_text}
+use Rattle.ripngd_log.proofs.OneReading.{one_split, has_it}
 
 pub lines_text-append : (xs ys : List (List ℕ)) → lines_text (xs ++ ys) ≡ lines_text xs ++ lines_text ys
 lines_text-append [] ys = refl
@@ -10,11 +10,11 @@ lines_text-append (x ∷ xs) ys =
     ap (λ t. (x ++ 10 ∷ []) ++ t) (lines_text-append xs ys) ∙ sym (append_assoc (x ++ 10 ∷ []) (lines_text xs) (lines_text ys))
 
 -- the first line of a text, and what comes after it
-pub front : (x : List ℕ) (xs : List (List ℕ)) (rest : List ℕ) → lines_text (x ∷ xs) ++ rest ≡ x ++ (10 ∷ (lines_text xs ++ rest))
+front : (x : List ℕ) (xs : List (List ℕ)) (rest : List ℕ) → lines_text (x ∷ xs) ++ rest ≡ x ++ (10 ∷ (lines_text xs ++ rest))
 front x xs rest = simp append_assoc refl
 
 -- a text is cut into lines in one way
-pub same_lines : (xs ys : List (List ℕ)) (r s : List ℕ) → All HasNoLineFeed xs → All HasNoLineFeed ys → HasNoLineFeed r → HasNoLineFeed s
+same_lines : (xs ys : List (List ℕ)) (r s : List ℕ) → All HasNoLineFeed xs → All HasNoLineFeed ys → HasNoLineFeed r → HasNoLineFeed s
     → lines_text xs ++ r ≡ lines_text ys ++ s → (xs ≡ ys) × (r ≡ s)
 same_lines [] [] r s h k free other e = (refl, e)
 same_lines [] (y ∷ ys) r s h k free other e = absurd (has_it 10 y (lines_text ys ++ s) (subst HasNoLineFeed (e ∙ front y ys s) free))
@@ -28,25 +28,25 @@ same_lines (x ∷ xs) (y ∷ ys) r s h k free other e =
 
 -- none of them is a start
 abbrev NoStart : List (List ℕ) → Type 0
-NoStart lines = All (λ line. ¬ (IsStart line)) lines
+NoStart lines = All (λ line. line ≢ start_text) lines
 
-holds_start : (earlier more : List (List ℕ)) (line : List ℕ) → IsStart line → ¬ (NoStart (earlier ++ line ∷ more))
-holds_start [] more line is h = All-head (λ l. ¬ (IsStart l)) line more h is
-holds_start (x ∷ xs) more line is h = holds_start xs more line is (All-tail (λ l. ¬ (IsStart l)) x (xs ++ line ∷ more) h)
+holds_start : (earlier more : List (List ℕ)) → ¬ (NoStart (earlier ++ start_text ∷ more))
+holds_start [] more h = All-head (λ line. line ≢ start_text) start_text more h refl
+holds_start (x ∷ xs) more h = holds_start xs more (All-tail (λ line. line ≢ start_text) x (xs ++ start_text ∷ more) h)
 
 no_start_in : (y : List ℕ) (ys more lines : List (List ℕ)) → EndsInStart (y ∷ ys) → NoStart lines → ¬ (lines ≡ (y ∷ ys) ++ more)
 no_start_in y ys more lines (inl none) h e = cc none
 no_start_in y ys more lines (inr ends) h e =
-    let whole : lines ≡ ends.0 ++ (ends.1 ∷ more) = e ∙ ap (λ l. l ++ more) ends.3 ∙ append_assoc ends.0 (ends.1 ∷ []) more in
-    holds_start ends.0 more ends.1 ends.2 (subst NoStart whole h)
+    let whole : lines ≡ ends.0 ++ (start_text ∷ more) = e ∙ ap (λ l. l ++ more) ends.1 ∙ append_assoc ends.0 (start_text ∷ []) more in
+    holds_start ends.0 more (subst NoStart whole h)
 
-tail_of : (x : List ℕ) (xs earlier : List (List ℕ)) (line : List ℕ) → IsStart line → x ∷ xs ≡ earlier ++ line ∷ [] → EndsInStart xs
-tail_of x xs [] line is e = let none : xs ≡ [] = cc in inl none
-tail_of x xs (y ∷ ys) line is e = let same : xs ≡ ys ++ line ∷ [] = cc in inr (ys, line, is, same)
+tail_of : (x : List ℕ) (xs earlier : List (List ℕ)) → x ∷ xs ≡ earlier ++ start_text ∷ [] → EndsInStart xs
+tail_of x xs [] e = let none : xs ≡ [] = cc in inl none
+tail_of x xs (y ∷ ys) e = let same : xs ≡ ys ++ start_text ∷ [] = cc in inr (ys, same)
 
 tail_ends : (x : List ℕ) (xs : List (List ℕ)) → EndsInStart (x ∷ xs) → EndsInStart xs
 tail_ends x xs (inl none) = absurd (cc none)
-tail_ends x xs (inr ends) = tail_of x xs ends.0 ends.1 ends.2 ends.3
+tail_ends x xs (inr ends) = tail_of x xs ends.0 ends.1
 
 -- the last start is at one place
 same_start : (xs ys ms ns : List (List ℕ)) → EndsInStart xs → EndsInStart ys → NoStart ms → NoStart ns → xs ++ ms ≡ ys ++ ns → (xs ≡ ys) × (ms ≡ ns)

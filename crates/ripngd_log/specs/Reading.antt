@@ -1,5 +1,5 @@
 -- What a log says, and where it says nothing.
-use Rattle.std.specs.Prelude.{◌≡◌, ◌≢◌, ◌⊎◌, ℕ, ◌+◌, ◌^◌, ◌<◌, List, [], ◌∷◌, ◌++◌, length, codes, flat_map, map as list_map}
+use Rattle.std.specs.Prelude.{◌≡◌, ◌≢◌, ℕ, ◌+◌, ◌^◌, ◌<◌, List, ◌∷◌, ◌++◌, length, codes}
 use Rattle.std.specs.List.{All}
 use Rattle.std.specs.FinMap as map
 use Rattle.prefix6.specs.Prefix.{IsPrefix}
@@ -8,9 +8,8 @@ use Rattle.fib.specs.declared.change.Hop.TheVariants.{Direct, Via}
 use Rattle.fib.specs.declared.change.RouteChange.{RouteChange}
 use Rattle.fib.specs.declared.change.RouteChange.TheVariants.{Install, Withdraw}
 use Rattle.fib.specs.Forwarding.{Forwarding, Replays}
-use Rattle.ripngd_engine.specs.Log.{change_text}
-use Rattle.ripngd_stamp.specs.Stamps.{IsStamp, unstamped}
-use Rattle.ripngd_log.specs.Runs.{HasNoLineFeed, IsLastRun, lines_text}
+use Rattle.ripngd_engine.specs.Log.{change_text, log_of}
+use Rattle.ripngd_log.specs.Runs.{HasNoLineFeed, IsLastRun}
 use Rattle.ripngd_log.specs.declared.fault.LogFault.{LogFault}
 use Rattle.ripngd_log.specs.declared.fault.LogFault.TheVariants.{BadLine, OutOfMemory}
 
@@ -24,18 +23,11 @@ abbrev pub IsWritableChange : RouteChange → Type 0
 IsWritableChange (Install p hop metric) = IsPrefix p × IsWritableHop hop × (metric < 2 ^ 8)
 IsWritableChange (Withdraw p) = IsPrefix p
 
--- a line for each change, which may begin with a stamp, and the rest
-pub record HasRead (text rest : List ℕ) (changes : List RouteChange) : Type 0 where
-  pub lines : List (List ℕ)
-  pub are_lines : All HasNoLineFeed lines
-  pub spelled : text ≡ lines_text lines ++ rest
-  pub lawful : All IsWritableChange changes
-  pub said : list_map unstamped lines ≡ list_map change_text changes
-
 -- a line for each change, and the rest, which is of a line that has no end yet
 pub record IsRunOf (text : List ℕ) (changes : List RouteChange) : Type 0 where
   pub rest : List ℕ
-  pub has_read : HasRead text rest changes
+  pub lawful : All IsWritableChange changes
+  pub spelled : text ≡ log_of changes ++ rest
   pub unended : HasNoLineFeed rest
 
 -- these are the changes of the last run
@@ -53,10 +45,11 @@ pub record IsFirstBadOfRun (text : List ℕ) (line : ℕ) : Type 0 where
   pub before : List RouteChange
   pub bad : List ℕ
   pub after : List ℕ
-  pub has_read : HasRead text (bad ++ (10 ∷ after)) before
+  pub lawful : All IsWritableChange before
+  pub spelled : text ≡ log_of before ++ bad ++ (10 ∷ after)
   pub is_line : HasNoLineFeed bad
   pub numbered : line ≡ length before + 1
-  pub no_change : (c : RouteChange) → IsWritableChange c → change_text c ≢ unstamped bad
+  pub no_change : (c : RouteChange) → IsWritableChange c → change_text c ≢ bad
 
 -- what a refusal says of a run behind so many lines; want of memory says nothing
 abbrev pub RefusesRun : List ℕ → ℕ → LogFault → Type 0
@@ -71,18 +64,6 @@ IsFirstBadLine text line = (run : List ℕ) × (skipped : ℕ) × IsLastRun text
 abbrev pub RefusesLog : List ℕ → LogFault → Type 0
 RefusesLog text (BadLine line) = IsFirstBadLine text line
 RefusesLog text OutOfMemory = Unit {0}
-
--- what may stand before a change in its line: a stamp, or nothing
-abbrev pub IsStampOrNothing : List ℕ → Type 0
-IsStampOrNothing text = (text ≡ []) ⊎ IsStamp text
-
--- a change that can be written, behind a stamp or nothing
-abbrev pub IsWritten : List ℕ × RouteChange → Type 0
-IsWritten written = IsStampOrNothing written.0 × IsWritableChange written.1
-
--- a line for each change, behind what stands before it
-abbrev pub written_log : List (List ℕ × RouteChange) → List ℕ
-written_log written = flat_map (λ w. (w.0 ++ change_text w.1) ++ 10 ∷ []) written
 
 -- the number of a refusal
 abbrev pub log_fault_number : LogFault → ℕ

@@ -1,30 +1,24 @@
 -- The runs of a log: a router that goes on in a log begins with a line `start`, and only what stands behind the last one counts.
--- A stamp at the beginning of a line does not count.
 use Rattle.std.specs.Prelude.{◌≡◌, ◌≢◌, ◌⊎◌, ◌+◌, ℕ, List, [], ◌∷◌, ◌++◌, codes, flat_map, length}
 use Rattle.std.specs.List.{All}
-use Rattle.ripngd_stamp.specs.Stamps.{unstamped}
 
 -- no byte is a line feed (10)
 abbrev pub HasNoLineFeed : List ℕ → Type 0
 HasNoLineFeed text = All (λ b. b ≢ 10) text
 
--- what stands in the line at which a run begins
+-- the line at which a run begins
 abbrev pub start_text : List ℕ
 start_text = codes "start"
-
--- a run begins with this line
-abbrev pub IsStart : List ℕ → Type 0
-IsStart line = unstamped line ≡ start_text
 
 -- each line with its line feed
 abbrev pub lines_text : List (List ℕ) → List ℕ
 lines_text lines = flat_map (λ line. line ++ 10 ∷ []) lines
 
--- there is no line, or a run begins with the last one
+-- there is no line, or the last one is `start`
 abbrev pub EndsInStart : List (List ℕ) → Type 0
-EndsInStart lines = (lines ≡ []) ⊎ ((earlier : List (List ℕ)) × (line : List ℕ) × IsStart line × (lines ≡ earlier ++ line ∷ []))
+EndsInStart lines = (lines ≡ []) ⊎ ((earlier : List (List ℕ)) × (lines ≡ earlier ++ start_text ∷ []))
 
--- so many lines of a text stand before this run of it; behind them there are lines with none of which a run begins, and then the rest
+-- so many lines of a text stand before this run of it; behind them there are lines of which none is `start`, and then the rest
 pub record HasPassed (text run rest : List ℕ) (skipped passed : ℕ) : Type 0 where
   pub before : List (List ℕ)
   pub lines : List (List ℕ)
@@ -33,11 +27,11 @@ pub record HasPassed (text run rest : List ℕ) (skipped passed : ℕ) : Type 0 
   pub are_lines : All HasNoLineFeed before
   pub in_run : All HasNoLineFeed lines
   pub begun : EndsInStart before
-  pub none_later : All (λ line. ¬ (IsStart line)) lines
+  pub none_later : All (λ line. line ≢ start_text) lines
   pub skipped_is : skipped ≡ length before
   pub passed_is : passed ≡ length before + length lines
 
--- the last run of a text, before which there are so many lines: none begins in it
+-- the last run of a text, before which there are so many lines: there is no line `start` in it
 pub record IsLastRun (text run : List ℕ) (skipped : ℕ) : Type 0 where
   pub rest : List ℕ
   pub passed : ℕ

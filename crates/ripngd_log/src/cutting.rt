@@ -1,9 +1,7 @@
 //! Cuts a text into lines, and off the runs before its last one.
 
 ghost use Rattle.std.specs.Prelude.{◌≡◌, ◌≤◌, ◌+◌, ◌∷◌, ◌++◌, ◌↔◌, IsNone, IsTrue, IfSome, length};
-ghost use Rattle.ripngd_log.specs.Runs.{HasNoLineFeed, IsLastRun, IsStart};
-
-use ripngd_stamp::without_stamp;
+ghost use Rattle.ripngd_log.specs.Runs.{HasNoLineFeed, IsLastRun, start_text};
 
 /// The first line, without its line feed, and what comes after it; `None` where there is no line feed.
 pub(crate) fn first_line(text: &[u8]) -> Option<(&[u8], &[u8])>
@@ -15,11 +13,11 @@ pub(crate) fn first_line(text: &[u8]) -> Option<(&[u8], &[u8])>
     Some((&text[..end], &text[end + 1..]))
 }
 
-/// Whether a run begins with this line, which may have a stamp.
+/// Whether a run begins with this line.
 fn is_start(line: &[u8]) -> bool
-    ensures { IsTrue result ↔ IsStart line.now }
+    ensures { IsTrue result ↔ (line.now ≡ start_text) }
 {
-    without_stamp(line) == b"start".as_slice()
+    line == b"start".as_slice()
 }
 
 /// What stands behind the last line `start`, and how many lines stand before that; the whole text, where there is none.

@@ -1,13 +1,13 @@
 //! The law of logs, the contract of a function with nothing to do: what follows from the definitions alone.
 
-ghost use Rattle.std.specs.Prelude.{◌≡◌, ◌++◌, ℕ, List, map};
+ghost use Rattle.std.specs.Prelude.{◌≡◌, ◌++◌, ℕ, List};
 ghost use Rattle.std.specs.List.{All};
 ghost use Rattle.fib.specs.declared.change.RouteChange.{RouteChange};
-ghost use Rattle.ripngd_log.specs.Reading.{IsFirstBadLine, IsLogOf, IsRunOf, IsWritten, written_log};
+ghost use Rattle.ripngd_engine.specs.Log.{log_of};
+ghost use Rattle.ripngd_log.specs.Reading.{IsFirstBadLine, IsLogOf, IsRunOf, IsWritableChange};
 ghost use Rattle.ripngd_log.specs.Runs.{HasNoLineFeed};
 
 use prefix6::written_texts_are_read_back;
-use ripngd_stamp::stamps_are_taken_off;
 
 /// A text tells one list of changes at most, and none where it has a bad line.
 pub fn logs_are_read_one_way()
@@ -17,10 +17,8 @@ pub fn logs_are_read_one_way()
     written_texts_are_read_back();
 }
 
-/// A log in which each line is that of a change, behind a stamp or without one, tells these changes.
+/// A log in which each line is that of a change tells these changes.
 pub fn written_logs_are_read_back()
-    ensures { (written : List (List ℕ × RouteChange)) (rest : List ℕ) → All IsWritten written → HasNoLineFeed rest
-        → IsRunOf (written_log written ++ rest) (map (λ w. w.1) written) }
-{
-    stamps_are_taken_off();
-}
+    ensures { (changes : List RouteChange) (rest : List ℕ) → All IsWritableChange changes → HasNoLineFeed rest
+        → IsRunOf (log_of changes ++ rest) changes }
+{}

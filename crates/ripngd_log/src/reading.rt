@@ -11,7 +11,6 @@ use crate::fault::LogFault;
 use crate::laws::logs_are_read_one_way;
 use crate::line::push_line;
 use fib::{Fib, RouteChange};
-use ripngd_stamp::without_stamp;
 use std::alloc::Global;
 
 /// The changes of the lines of a run that have an end. So many lines stand before it.
@@ -24,8 +23,7 @@ fn read_changes(alloc: Global, text: &[u8], skipped: usize) -> Result<Vec<RouteC
     let mut written = String::new(alloc);
     let mut rest = text;
     while let Some((line, after)) = first_line(rest) {
-        let plain = without_stamp(line);
-        if !push_line(&mut changes, &mut written, plain)? {
+        if !push_line(&mut changes, &mut written, line)? {
             return Err(LogFault::BadLine {
                 line: skipped + changes.len() + 1,
             });
@@ -39,9 +37,9 @@ fn read_changes(alloc: Global, text: &[u8], skipped: usize) -> Result<Vec<RouteC
 /// with no line feed is one that is being written, and does not count. Where there are lines `start`, only what stands behind
 /// the last of them counts, and what stands before it may be anything.
 ///
-/// A line may begin with a stamp, whose form alone is looked at. Behind it, it counts only as a router writes it: digits in
-/// lower case, no zero before another digit, prefixes with zeros past their length, one space between words, a line feed alone
-/// at its end. The changes are made in one merge, at up to k log2(k) comparisons for k lines.
+/// A line counts only as a router writes it: digits in lower case, no zero before another digit, prefixes with zeros past
+/// their length, one space between words, a line feed alone at its end. The changes are made in one merge, at up to
+/// k log2(k) comparisons for k lines.
 ///
 /// # Errors
 /// `BadLine` with the number, from 1, of the first line that counts and is not the line of a change; `OutOfMemory` where memory for

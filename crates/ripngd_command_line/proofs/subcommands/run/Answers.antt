@@ -13,8 +13,7 @@ returns c =
     let s3 = arg_added _ _ _ _ _ c.in_ok-arg-3.ensures c.tag.ensures s2 in
     let s4 = arg_added _ _ _ _ _ c.in_ok-arg-4.ensures c.log.ensures s3 in
     let s5 = arg_added _ _ _ _ _ c.in_ok-arg-5.ensures c.append.ensures s4 in
-    let s6 = arg_added _ _ _ _ _ c.in_ok-arg-6.ensures c.stamp.ensures s5 in
-    let s7 = arg_added _ _ _ _ _ c.in_ok-arg-7.ensures c.turns.ensures s6 in
-    let s8 = arg_added _ _ _ _ _ c.in_ok-arg-8.ensures c.seconds.ensures s7 in
-    let s9 = arg_added _ _ _ _ _ c.in_ok-arg-9.ensures c.control.ensures s8 in
-    arg_added_ok _ _ _ _ c.arg-10.result c.arg-10.ensures c.required.ensures s9
+    let s6 = arg_added _ _ _ _ _ c.in_ok-arg-6.ensures c.turns.ensures s5 in
+    let s7 = arg_added _ _ _ _ _ c.in_ok-arg-7.ensures c.seconds.ensures s6 in
+    let s8 = arg_added _ _ _ _ _ c.in_ok-arg-8.ensures c.control.ensures s7 in
+    arg_added_ok _ _ _ _ c.arg-9.result c.arg-9.ensures c.required.ensures s8

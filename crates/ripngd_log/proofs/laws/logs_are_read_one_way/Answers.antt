@@ -12,5 +12,6 @@ returns-clause-one c text changes other h k =
 
 pub returns-clause-none : goal.returns-clause-none
 returns-clause-none c text line changes h k =
+    let texts = c.written_texts_are_read_back.ensures in
     let same = one_run text k.0 h.0 k.1 h.1 k.2 h.2 in
-    no_reading h.0 h.3.0 changes h.3.1 (subst (λ run. IsRunOf run changes) same k.3)
+    no_reading texts.address texts.prefix texts.one_address texts.one_prefix h.0 h.3.0 changes h.3.1 (subst (λ run. IsRunOf run changes) same k.3)

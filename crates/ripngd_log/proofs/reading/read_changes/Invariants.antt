@@ -1,10 +1,12 @@
-use Rattle.std.proofs.Common.{◌+◌, ◌≤◌, length}
-use Rattle.ripngd_log.specs.Reading.{HasRead}
+use Rattle.std.proofs.Common.{◌≡◌, ◌++◌, ◌+◌, ◌≤◌, length, All}
+use Rattle.ripngd_engine.specs.Log.{log_of}
+use Rattle.ripngd_log.specs.Reading.{IsWritableChange}
 use Rattle.ripngd_log.proofs.reading.read_changes.Given as goal
 
 abbrev pub invariant-loop-line : goal.invariant-loop-line
 invariant-loop-line l = record {
-  has_read : HasRead l.text l.rest l.changes.items;
+  spelled : l.text ≡ log_of l.changes.items ++ l.rest;
+  lawful : All IsWritableChange l.changes.items;
   shorter : length l.changes.items + length l.rest ≤ length l.text;
 }
 
