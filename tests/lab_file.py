@@ -5,12 +5,12 @@ by node and in each browser that is there.
     tests/lab_file.py PROGRAM [NAME..]      all cases, or those that have NAME in theirs
 """
 
-import os
 import pathlib
 import random
 import shutil
 import subprocess
 import sys
+import tempfile
 
 sys.dont_write_bytecode = True
 import browser
@@ -71,20 +71,16 @@ def all_scripts():
     return {**{file.stem: file.read_bytes() for file in files}, **{f"random {seed}": random_script(seed) for seed in range(SCRIPTS)}}
 
 
-class Native:
-    """What the program makes of each script: its trace, and whether a line was refused. It is asked once for all cases."""
-
-    def __init__(self, program):
-        self.program, self.known = program, {}
-
-    def traces(self, folder):
-        for number, (name, script) in enumerate(all_scripts().items()):
-            path = os.path.join(folder, f"{number}.lab")
-            pathlib.Path(path).write_bytes(script)
-            if name not in self.known:
-                ran = subprocess.run([self.program, "lab", "--trace", path], capture_output=True)
-                self.known[name] = (path, script, ran.stdout, ran.returncode)
-            yield (name, path, *self.known[name][1:])
+def traced(program):
+    """What the program makes of each script: its name, its bytes, its trace, and whether a line was refused."""
+    found = []
+    with tempfile.TemporaryDirectory() as folder:
+        path = pathlib.Path(folder, "script.lab")
+        for name, script in all_scripts().items():
+            path.write_bytes(script)
+            ran = subprocess.run([program, "lab", "--trace", path], capture_output=True)
+            found.append((name, script, ran.stdout, ran.returncode))
+    return found
 
 
 def compared(name, given, wanted):
@@ -96,13 +92,15 @@ def compared(name, given, wanted):
 
 
 def by_node(native, folder):
-    traces = list(native.traces(folder))
-    ran = subprocess.run(["node", ROOT / "tests/lab_file.mjs", FILE, *(path for _, path, *_ in traces)], capture_output=True, text=True)
+    paths = [pathlib.Path(folder, f"{number}.lab") for number in range(len(native))]
+    for path, (_, script, _, _) in zip(paths, native):
+        path.write_bytes(script)
+    ran = subprocess.run(["node", ROOT / "tests/lab_file.mjs", FILE, *paths], capture_output=True, text=True)
     same("what node says of it", ran.stderr, "")
-    for (name, path, _, wanted, status), said in zip(traces, ran.stdout.split(), strict=True):
+    for path, said, (name, _, wanted, status) in zip(paths, ran.stdout.split(), native, strict=True):
         compared(name, pathlib.Path(f"{path}.trace").read_bytes(), wanted)
         same(f"whether a line of {name} is refused", int(said), status)
-    kinds_are_there(wanted for *_, wanted, _ in traces)
+    kinds_are_there(wanted for _, _, wanted, _ in native)
 
 
 def kinds_are_there(traces):
@@ -125,22 +123,22 @@ def is_text(script):
 
 
 def by_browser(kind, native, folder):
-    traces = [trace for trace in native.traces(folder) if is_text(trace[2])]
+    traces = [one for one in native if is_text(one[1])]
     page = browser.open_browser(kind)
     try:
         page.open(f"file://{FILE}")
         page.wait('document.getElementById("where").textContent', 120)
         for first in range(0, len(traces), BATCH):
             batch = traces[first:first + BATCH]
-            given = page.traced([script.decode() for _, _, script, _, _ in batch])
-            for (name, _, _, wanted, _), text in zip(batch, given, strict=True):
+            given = page.traced([script.decode() for _, script, _, _ in batch])
+            for (name, _, wanted, _), text in zip(batch, given, strict=True):
                 compared(name, text.encode(), wanted)
     finally:
         page.close()
 
 
 def main(program, *names):
-    native = Native(str(pathlib.Path(program).resolve(strict=True)))
+    native = traced(str(pathlib.Path(program).resolve(strict=True)))
     cases = []
     if shutil.which("node"):
         cases.append(("node traces as the program does", lambda folder: by_node(native, folder)))
