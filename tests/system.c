@@ -11,7 +11,7 @@
  *
  * Watched are bind, accept, option (setsockopt), sendto, recvfrom, wait (of epoll), sleep, write1, write2 and write3 (to standard output,
  * standard error, and any file), recv and send (of a connection); and in SYSTEM_FAIL alone clock and wall, the readings of the two
- * clocks. */
+ * clocks, and list and listed, which make the system's list of sockets to wait at and put one into it. */
 #define _GNU_SOURCE
 #include <errno.h>
 #include <fcntl.h>
@@ -26,9 +26,9 @@
 #include <time.h>
 #include <unistd.h>
 
-enum call { BIND, ACCEPT, OPTION, SENDTO, RECVFROM, WAIT, SLEEP, CLOCK, WALL, WRITE1, WRITE2, WRITE3, RECV, SEND, CALLS };
+enum call { BIND, ACCEPT, OPTION, SENDTO, RECVFROM, WAIT, SLEEP, CLOCK, WALL, WRITE1, WRITE2, WRITE3, RECV, SEND, LIST, LISTED, CALLS };
 static const char *const names[CALLS] = {
-    "bind", "accept", "option", "sendto", "recvfrom", "wait", "sleep", "clock", "wall", "write1", "write2", "write3", "recv", "send"};
+    "bind", "accept", "option", "sendto", "recvfrom", "wait", "sleep", "clock", "wall", "write1", "write2", "write3", "recv", "send", "list", "listed"};
 static long counts[CALLS];
 static long now_ms;
 
@@ -149,6 +149,13 @@ static void pause_for(long ms)
 static void go_on(long ms)
 {
     if (strcmp(getenv("SYSTEM_CLOCK"), "still")) now_ms += ms;
+}
+
+int epoll_create1(int flags) { return fails(LIST) ? -1 : syscall(SYS_epoll_create1, flags); }
+
+int epoll_ctl(int set, int order, int fd, struct epoll_event *event)
+{
+    return fails(LISTED) ? -1 : syscall(SYS_epoll_ctl, set, order, fd, event);
 }
 
 int epoll_wait(int set, struct epoll_event *events, int most, int limit)
