@@ -181,6 +181,23 @@ def what_waited_and_could_not_be_sent_is_counted(case):
 
 
 @listed
+def what_is_for_a_peer_that_has_gone_is_lost(case):
+    """While the clock stands still, 16 datagrams go: the Request of the start, and 15 of the first answer. Two of it and the update wait.
+    The peer goes behind the first turn. What came from it before is heard, but the 17 datagrams of the second answer are for nobody, and so
+    are the two at the end. The update is for the group, of which nobody is there: it is sent to nobody, and not lost."""
+    neighbor, port = case.neighbor(), case.port()
+    text = interface(1, port, peer(2, neighbor.port, port=2_000)) + MANY
+    router = Ordered(case, "left", text, "--control", "left.sock", "-d", "--turns", "2", clock="still")
+    client = router.client().say(b"unpeer 0 fe80::2\n")
+    neighbor.send(port, REQUEST, 2)
+    router.done()
+    same("the answer to unpeer", client.all(), "ok\n")
+    client.close()
+    same("how many came", len(neighbor.rest()), 16)
+    same("what is said", router.said(), "arrivals 2 sends 51 failed 17\nripngd: lost sends 19, lost steps 0\n")
+
+
+@listed
 def the_pace_is_kept_by_the_clock_of_the_system(case):
     """By the stamps of the system at the receiver. Of 33 datagrams in a row 16 stand between two pauses, which lie four of its whole
     milliseconds apart, and so three at least."""

@@ -9,7 +9,7 @@ are exact: it stands still but for what is slept and waited."""
 import re
 import sys
 import time
-from errno import EACCES, EADDRINUSE, EINTR, EIO, ENOMEM
+from errno import EACCES, EADDRINUSE, EINTR, EIO, EMFILE, ENOMEM
 
 sys.dont_write_bytecode = True
 from daemons import interface, listed, main, Neighbor, peer, prefix, until
@@ -209,6 +209,17 @@ def sockets_are_asked_for_in_order_until_one_cannot_be_had(case):
         done = case.run("run", "--turns", "1", "two.toml", **orders)
         same("how it ends", done, (3, "", f"ripngd: cannot bind {ports[first - 1]}{cause}\n"))
         same("what was asked for", [port for _, _, port, _ in calls(case, f"two{number}", "bind")], list(ports[:first]))
+
+
+@listed
+def sockets_that_cannot_be_waited_for_are_given_up(case):
+    """Where the system has no list of them, at the first; where one is not taken into it, at that."""
+    ports = case.port(), case.port(), case.port()
+    case.file("three.toml", "".join(interface(number, port) for number, port in enumerate(ports)))
+    for number, (fail, asked) in enumerate(((f"list:1:1:{EMFILE}", 0), (f"listed:2:1:{ENOMEM}", 2))):
+        done = case.run("run", "--turns", "1", "three.toml", **environment(case.folder, f"three{number}", fail=fail))
+        same("how it ends", done, (3, "", f"ripngd: cannot bind {ports[max(asked, 1) - 1]}\n"))
+        same("what was asked for", [port for _, _, port, _ in calls(case, f"three{number}", "bind")], list(ports[:asked]))
 
 
 @listed

@@ -9,7 +9,8 @@
  *   SYSTEM_FAIL=NAME:FIRST:COUNT:ERROR,..   of the calls of a name so many fail, from the FIRST on, with that number of an error
  *
  * Watched are bind, accept, sendto, recvfrom, wait (of epoll), sleep, write1, write2 and write3 (to standard output, standard error, and any
- * file), recv and send (of a connection); and in SYSTEM_FAIL alone clock, the readings of the clock. */
+ * file), recv and send (of a connection); and in SYSTEM_FAIL alone clock, the readings of the clock, and list and listed, which make the
+ * system's list of sockets to wait at and put one into it. */
 #define _GNU_SOURCE
 #include <errno.h>
 #include <fcntl.h>
@@ -24,9 +25,9 @@
 #include <time.h>
 #include <unistd.h>
 
-enum call { BIND, ACCEPT, SENDTO, RECVFROM, WAIT, SLEEP, CLOCK, WRITE1, WRITE2, WRITE3, RECV, SEND, CALLS };
+enum call { BIND, ACCEPT, SENDTO, RECVFROM, WAIT, SLEEP, CLOCK, WRITE1, WRITE2, WRITE3, RECV, SEND, LIST, LISTED, CALLS };
 static const char *const names[CALLS] = {
-    "bind", "accept", "sendto", "recvfrom", "wait", "sleep", "clock", "write1", "write2", "write3", "recv", "send"};
+    "bind", "accept", "sendto", "recvfrom", "wait", "sleep", "clock", "write1", "write2", "write3", "recv", "send", "list", "listed"};
 static long counts[CALLS];
 static long now_ms;
 
@@ -140,6 +141,13 @@ static void pause_for(long ms)
 static void go_on(long ms)
 {
     if (strcmp(getenv("SYSTEM_CLOCK"), "still")) now_ms += ms;
+}
+
+int epoll_create1(int flags) { return fails(LIST) ? -1 : syscall(SYS_epoll_create1, flags); }
+
+int epoll_ctl(int set, int order, int fd, struct epoll_event *event)
+{
+    return fails(LISTED) ? -1 : syscall(SYS_epoll_ctl, set, order, fd, event);
 }
 
 int epoll_wait(int set, struct epoll_event *events, int most, int limit)

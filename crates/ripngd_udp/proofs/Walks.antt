@@ -1,4 +1,4 @@
--- A step that the walks of `src/transcript.rt` share. Assumes `Logic`.
+-- A step of the walk of `src/transcript.rt`. Assumes `Logic`.
 use Rattle.std.proofs.Common.{List, [], ◌∷◌, refl}
 use seplogic.Ra.Ura.{Ura}
 use mir.Val.{Val, vstruct, vnil}

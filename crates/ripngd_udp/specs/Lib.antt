@@ -1,12 +1,7 @@
 pub mod Peers
 pub mod Udp
-pub mod Standing
-pub mod Sending
 pub mod Queue
 pub mod Inbox
-pub mod Reading
-pub mod Sockets
-pub mod Turns
-pub mod Opening
+pub mod Counting
 pub mod Told
 pub mod Transcript

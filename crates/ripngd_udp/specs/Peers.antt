@@ -5,8 +5,6 @@ use Rattle.ripng_wire.specs.Wire.{first_reason}
 use Rattle.ripngd_config.specs.Twice.{has_same}
 use Rattle.ripngd_config.specs.declared.peer.Peer.{Peer}
 use Rattle.ripngd_config.specs.declared.place.Place.{Place}
-use Rattle.router_core.specs.declared.answer.Destination.{Destination}
-use Rattle.router_core.specs.declared.answer.Destination.TheVariants as to
 use Rattle.ripngd_udp.specs.declared.peer_refused.PeerRefused.{PeerRefused}
 use Rattle.ripngd_udp.specs.declared.peer_refused.PeerRefused.TheVariants.{NoSuchInterface, BadPort, PortTwice, OwnAddress, PeerTwice, PeersFull, NoSuchPeer, OutOfMemory}
 
@@ -28,11 +26,6 @@ links_at (place ∷ places) (peers ∷ lists) = on_link place peers ∷ links_at
 -- one of the peers has the address
 abbrev pub has_peer_address : List Peer → ℕ → Bool
 has_peer_address peers addr = list_any (λ p. p.addr == addr) peers
-
--- the one port that gets what goes to a destination, if there is one
-abbrev pub shared_port : Destination → Place → Option ℕ
-shared_port to.Group place = place.group_port
-shared_port (to.Peer addr port) place = None
 
 -- the port is that for the group
 abbrev pub is_port : Option ℕ → ℕ → Bool

@@ -1,5 +1,5 @@
 -- What proofs know of a link's past, and of the ports of a run.
-use Rattle.std.specs.Prelude.{List, [], Option}
+use Rattle.std.specs.Prelude.{List, Option}
 use Rattle.ripngd_engine.specs.Link.{Call}
 use Rattle.ripngd_udp.specs.Peers.{OnLink}
 
@@ -7,10 +7,6 @@ use Rattle.ripngd_udp.specs.Peers.{OnLink}
 pub record Told : Type 0 where
   pub on_links : List OnLink
   pub calls : List Call
-
--- nothing yet
-abbrev pub nothing_told : Told
-nothing_told = record { on_links = []; calls = [] }
 
 -- who was on the links that were bound last, and the calls of the link that was closed since
 pub record PortsState : Type 0 where

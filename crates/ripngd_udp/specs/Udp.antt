@@ -1,11 +1,9 @@
--- A link of sockets: why it could not be bound, as what a datagram of a peer arrives, and whom a datagram goes to.
-use Rattle.std.specs.Prelude.{ℕ, ◌≡◌, ◌==◌, Bool, true, List, [], Some, length, map, slice_get, Contains, ⊤}
+-- A link of sockets: why it could not be bound, and as what a datagram of a peer arrives.
+use Rattle.std.specs.Prelude.{ℕ, List, [], length, map, Contains, ⊤}
 use Rattle.ripngd_config.specs.declared.peer.Peer.{Peer}
 use Rattle.ripngd_config.specs.declared.place.Place.{Place}
 use Rattle.ripngd_engine.specs.Link.{Call}
 use Rattle.ripngd_engine.specs.declared.link.Received.{Received}
-use Rattle.router_core.specs.declared.answer.Destination.{Destination}
-use Rattle.router_core.specs.declared.answer.Destination.TheVariants as to
 use Rattle.ripngd_udp.specs.Peers.{OnLink, links_at}
 use Rattle.ripngd_udp.specs.declared.udp.UdpError.{UdpError}
 use Rattle.ripngd_udp.specs.declared.udp.UdpError.TheVariants.{Bind, OutOfMemory}
@@ -37,11 +35,6 @@ abbrev pub NamesPortOf : List Place → UdpError → Type 0
 NamesPortOf places (Bind port cause) = Contains (map (λ p. p.local_port) places) port
 NamesPortOf places OutOfMemory = ⊤
 
--- it is that of the first of them
-abbrev pub NamesFirstOf : List Place → UdpError → Type 0
-NamesFirstOf places (Bind port cause) = slice_get (map (λ p. p.local_port) places) 0 ≡ Some port
-NamesFirstOf places OutOfMemory = ⊤
-
 -- the numbers of these faults
 abbrev pub link_number : UdpError → ℕ
 link_number (Bind port cause) = 1
@@ -58,8 +51,3 @@ as_of peer iface len =
       to_group = peer.to_group;
       len = len;
     }
-
--- the group is every peer, and an address is the peer of that address
-abbrev pub is_meant : Peer → Destination → Bool
-is_meant peer to.Group = true
-is_meant peer (to.Peer addr port) = peer.addr == addr

@@ -1,11 +1,10 @@
 //! What neighbors sent to an interface and the router has not taken in yet. A socket holds little, so it is emptied into here
 //! while the router works. Each interface has room of its own: a neighbor who sends without end takes none of another's.
 
-ghost use Rattle.std.specs.Prelude.{◌≡◌, ◌==◌, ◌≤◌, ◌↔◌, [], MatchOption, IfSome, IsTrue, if◌then◌else◌, is_ok, length, min, take};
-ghost use Rattle.ripngd_engine.specs.Run.{counted};
+ghost use Rattle.std.specs.Prelude.{◌≡◌, ◌≤◌, ◌↔◌, [], MatchOption, IfSome, IsTrue, is_ok, length, min, take};
 ghost use Rattle.ripngd_udp.specs.Inbox.{Gives, HasRoom, Keeps, MayWait, bytes_of};
 
-use ripngd_config::Peer;
+use crate::Peer;
 use ripngd_engine::Received;
 use std::alloc::{AllocError, Global};
 use std::collections::VecDeque;
@@ -29,8 +28,6 @@ pub(crate) struct Inbox {
     heard: VecDeque<Heard>,
     /// How many bytes they have together.
     held: usize,
-    /// How many datagrams were lost for want of room or memory.
-    lost: u64,
     alloc: Global,
     ghost summed: { held ≡ bytes_of heard.items },
     ghost room: { MayWait heard.items },
@@ -39,7 +36,6 @@ pub(crate) struct Inbox {
 /// Copies as much as fits to the head of a buffer, and answers how much.
 fn copy_into(buffer: &mut [u8], bytes: &[u8]) -> usize
     ensures len { result ≡ min (length bytes.now) (length buffer.new) }
-    ensures same { length buffer.new ≡ length buffer.old }
     ensures bytes { take result buffer.new ≡ take result bytes.now }
 {
     let len = bytes.len().min(buffer.len());
@@ -49,15 +45,17 @@ fn copy_into(buffer: &mut [u8], bytes: &[u8]) -> usize
 
 impl Inbox {
     /// Where nothing has come in.
-    pub(crate) fn new(alloc: Global) -> Inbox
-        ensures { (result.heard.items ≡ []) × (result.lost ≡ 0) }
-    {
+    pub(crate) fn new(alloc: Global) -> Inbox {
         Inbox {
             heard: VecDeque::new(alloc),
             held: 0,
-            lost: 0,
             alloc,
         }
+    }
+
+    /// Whether nothing waits.
+    pub(crate) fn is_empty(&self) -> bool {
+        self.heard.is_empty()
     }
 
     /// Whether there is room for a datagram of so many bytes.
@@ -67,31 +65,18 @@ impl Inbox {
         self.heard.len() < ROOM && len <= ROOM_BYTES - self.held
     }
 
-    /// How many datagrams were lost for want of room or memory.
-    pub(crate) fn lost(&self) -> u64
-        ensures { result ≡ self.now.lost }
-    {
-        self.lost
-    }
-
     /// Keeps a datagram of a neighbor behind the others, and answers whether there was room and memory for it. Without it
-    /// is lost alone, and counted.
+    /// is lost alone.
     pub(crate) fn keep(&mut self, peer: Peer, bytes: &[u8]) -> bool
         ensures kept { Keeps self.old.heard.items self.new.heard.items peer bytes.now result }
         ensures room { MayWait self.new.heard.items }
-        ensures lost { self.new.lost ≡ counted self.old.lost (if result then 0 else 1) }
     {
-        let kept = self.has_room(bytes.len()) && self.push(peer, bytes).is_ok();
-        if !kept {
-            self.lost = self.lost.saturating_add(1);
-        }
-        kept
+        self.has_room(bytes.len()) && self.push(peer, bytes).is_ok()
     }
 
     fn push(&mut self, peer: Peer, bytes: &[u8]) -> Result<(), AllocError>
         requires { HasRoom self.old.heard.items (length bytes.now) }
-        ensures kept { Keeps self.old.heard.items self.new.heard.items peer bytes.now (is_ok result) }
-        ensures same { self.new.lost ≡ self.old.lost }
+        ensures { Keeps self.old.heard.items self.new.heard.items peer bytes.now (is_ok result) }
     {
         let len = bytes.len();
         let bytes = Vec::from_slice(self.alloc, bytes)?;
@@ -100,20 +85,12 @@ impl Inbox {
         Ok(())
     }
 
-    /// Whether nothing waits.
-    pub(crate) fn is_empty(&self) -> bool
-        ensures { result ≡ (length self.now.heard.items == 0) }
-    {
-        self.heard.is_empty()
-    }
-
     /// Puts the first datagram into a buffer, as much of it as fits, as one that came to an interface.
     pub(crate) fn next(&mut self, iface: usize, buffer: &mut [u8]) -> Option<Received>
         ensures first { MatchOption result ((self.old.heard.items ≡ []) × (self.new.heard.items ≡ []))
             (Gives iface self.old.heard.items self.new.heard.items buffer.new) }
         ensures interface { IfSome result (λ r. r.iface ≡ iface) }
         ensures within { IfSome result (λ r. r.len ≤ length buffer.new) }
-        ensures same { (self.new.lost ≡ self.old.lost) × (length buffer.new ≡ length buffer.old) }
     {
         let Heard { peer, bytes } = self.heard.pop_front()?;
         self.held -= bytes.len();

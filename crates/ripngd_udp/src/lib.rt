@@ -3,17 +3,16 @@
 
 mod bind_cause;
 mod clock;
+mod counts;
 mod endpoint;
 mod inbox;
+mod loopback;
 mod neighborhood;
-mod opening;
 mod outbox;
 mod pace;
 mod peer_refused;
 mod ports;
-mod reading;
 mod sending;
-mod socket;
 mod sockets;
 mod transcript;
 mod udp;
@@ -25,3 +24,6 @@ pub use neighborhood::PEER_LIMIT;
 pub use peer_refused::PeerRefused;
 pub use ports::Ports;
 pub use udp::{Udp, UdpError};
+
+// Where a router stands, and who is around it.
+use ripngd_config::{Peer, Place};

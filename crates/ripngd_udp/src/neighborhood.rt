@@ -1,18 +1,19 @@
 //! Who is on the link of an interface, and where.
 
-ghost use Rattle.std.specs.Prelude.{◌≡◌, ◌==◌, [], ◌∷◌, IfErr, IfOk, None, OnErr, OnOk, Some, length, map, vec_len};
-ghost use Rattle.std.specs.List.{find};
+ghost use Rattle.std.specs.Prelude.{◌≡◌, IfErr, IfOk, OnErr, OnOk, Some, length, map, vec_len};
 ghost use Rattle.std.specs.Result.{result_err};
 ghost use Rattle.ripng_wire.specs.Wire.{first_reason};
 ghost use Rattle.ripngd_config.specs.Twice.{has_same};
-ghost use Rattle.ripngd_udp.specs.Peers.{ChangesLink, RefusesFor, adding_fault, has_peer_address, is_group_port, is_port, links_at, on_link, peer_reasons, removing_fault, removing_reasons_at, shared_port, with_peer, without_peer};
+ghost use Rattle.ripngd_udp.specs.Peers.{adding_fault, has_peer_address, is_group_port, is_port, links_at, on_link, removing_reasons_at, with_peer, without_peer};
 
+use crate::loopback::local_port_of;
 use crate::peer_refused::PeerRefused;
+use crate::{Peer, Place};
 use prefix6::Addr6;
-use ripngd_config::{Peer, Place};
 use router_core::Destination;
 use std::alloc::{AllocError, Global};
 use std::marker::Model;
+use std::net::SocketAddr;
 
 /// How many peers an interface may have for another to be added. A configuration may have more.
 pub const PEER_LIMIT: usize = 256;
@@ -39,35 +40,6 @@ fn has_same(peers: &[Peer], peer: &Peer) -> bool
     peers.iter().any(|other| other.addr == peer.addr || other.local_port == peer.local_port)
 }
 
-/// Whether one of the peers has an address.
-fn has_peer_address(peers: &[Peer], addr: Addr6) -> bool
-    ensures { result ≡ has_peer_address peers.now addr }
-{
-    peers.iter().any(|peer| peer.addr == addr)
-}
-
-/// The peer, if it stands at a port of 127.0.0.1.
-fn if_at(peer: &Peer, port: u16) -> Option<Peer>
-    ensures { result ≡ find (λ p. p.local_port == port) (peer.now ∷ []) }
-{
-    if peer.local_port == port {
-        Some(*peer)
-    } else {
-        None
-    }
-}
-
-/// The first of the peers that stands at a port of 127.0.0.1.
-fn peer_at(peers: &[Peer], port: u16) -> Option<Peer>
-    ensures { result ≡ find (λ p. p.local_port == port) peers.now }
-{
-    let mut found = None;
-    for peer in peers {
-        found = found.or(if_at(peer, port));
-    }
-    found
-}
-
 impl Neighborhood {
     pub(crate) fn new(place: Place, peers: Vec<Peer>) -> Neighborhood
         ensures { result ≡ on_link place peers.items }
@@ -76,16 +48,19 @@ impl Neighborhood {
     }
 
     /// The peers.
-    pub(crate) fn peers(&self) -> &[Peer]
-        ensures { result.now ≡ self.now.peers }
-    {
+    pub(crate) fn peers(&self) -> &[Peer] {
         self.peers.as_slice()
     }
 
-    /// The one port that stands for a destination, if one does.
-    pub(crate) fn shared_port(&self, to: &Destination) -> Option<u16>
-        ensures { result ≡ shared_port to.now self.now.place }
+    /// Whether one of the peers has an address.
+    pub(crate) fn has_peer(&self, addr: Addr6) -> bool
+        ensures { result ≡ has_peer_address self.now.peers addr }
     {
+        self.peers.iter().any(|peer| peer.addr == addr)
+    }
+
+    /// The one port that stands for a destination, if one does.
+    pub(crate) fn shared_port(&self, to: &Destination) -> Option<u16> {
         match to {
             Destination::Group => self.place.group_port,
             Destination::Peer { .. } => None,
@@ -93,7 +68,7 @@ impl Neighborhood {
     }
 
     /// Whether a port is that for the group.
-    pub(crate) fn is_group_port(&self, port: u16) -> bool
+    fn is_group_port(&self, port: u16) -> bool
         ensures { result ≡ is_port self.now.place.group_port port }
     {
         match self.place.group_port {
@@ -102,26 +77,13 @@ impl Neighborhood {
         }
     }
 
-    /// The first peer that stands at a port of 127.0.0.1.
-    pub(crate) fn peer_at(&self, port: u16) -> Option<Peer>
-        ensures { result ≡ find (λ p. p.local_port == port) self.now.peers }
-    {
-        peer_at(self.peers.as_slice(), port)
-    }
-
-    /// The first reason to refuse a further peer.
-    pub(crate) fn check(&self, peer: &Peer) -> Result<(), PeerRefused>
-        ensures { result_err result ≡ first_reason (peer_reasons self.now peer.now) }
-    {
-        if self.place.addr == peer.addr {
-            Err(PeerRefused::OwnAddress)
-        } else if has_same(self.peers.as_slice(), peer) {
-            Err(PeerRefused::PeerTwice)
-        } else if self.peers.len() >= PEER_LIMIT {
-            Err(PeerRefused::PeersFull)
-        } else {
-            Ok(())
-        }
+    /// The first peer that stands where a datagram came from.
+    pub(crate) fn peer_at(&self, from: SocketAddr) -> Option<Peer> {
+        let port = local_port_of(from)?;
+        self.peers
+            .iter()
+            .find(|peer| peer.local_port == port)
+            .copied()
     }
 
     /// A peer more, behind the others.
@@ -133,8 +95,7 @@ impl Neighborhood {
         ensures err { OnErr result (self.new ≡ self.old) }
         ensures why { IfErr result (λ why. why ≡ PeerRefused.OutOfMemory) }
     {
-        self.peers.push(peer)?;
-        Ok(())
+        self.peers.push(peer).map_err(|_| PeerRefused::OutOfMemory)
     }
 
     /// The peers without those of an address.
@@ -146,7 +107,7 @@ impl Neighborhood {
         ensures err { OnErr result (self.new ≡ self.old) }
         ensures why { result_err result ≡ first_reason (removing_reasons_at (Some self.old) addr) }
     {
-        if !has_peer_address(self.peers.as_slice(), addr) {
+        if !self.has_peer(addr) {
             return Err(PeerRefused::NoSuchPeer);
         }
         self.peers.retain(|peer| peer.addr != addr);
@@ -185,7 +146,11 @@ fn is_group_port(links: &[Neighborhood], port: u16) -> bool
 }
 
 /// The first reason to refuse a further peer on an interface.
-fn check_peer(links: &[Neighborhood], iface: usize, peer: &Peer) -> Result<(), PeerRefused>
+pub(crate) fn check_peer(
+    links: &[Neighborhood],
+    iface: usize,
+    peer: &Peer,
+) -> Result<(), PeerRefused>
     ensures { result_err result ≡ adding_fault links.now iface peer.now }
 {
     let Some(link) = links.get(iface) else {
@@ -195,49 +160,13 @@ fn check_peer(links: &[Neighborhood], iface: usize, peer: &Peer) -> Result<(), P
         Err(PeerRefused::BadPort)
     } else if is_group_port(links, peer.local_port) {
         Err(PeerRefused::PortTwice)
+    } else if link.place.addr == peer.addr {
+        Err(PeerRefused::OwnAddress)
+    } else if has_same(link.peers.as_slice(), peer) {
+        Err(PeerRefused::PeerTwice)
+    } else if link.peers.len() >= PEER_LIMIT {
+        Err(PeerRefused::PeersFull)
     } else {
-        link.check(peer)
-    }
-}
-
-/// An interface has a peer more.
-///
-/// # Errors
-/// The first reason to refuse it, or want of memory.
-pub(crate) fn add_peer(
-    links: &mut Vec<Neighborhood>,
-    iface: usize,
-    peer: Peer,
-) -> Result<(), PeerRefused>
-    ensures added { OnOk result (ChangesLink (λ i. with_peer i peer) iface links.old.items links.new.items) }
-    ensures passes { OnOk result (adding_fault links.old.items iface peer ≡ None) }
-    ensures refused { IfErr result (RefusesFor (adding_fault links.old.items iface peer)) }
-    ensures err { OnErr result (links.new.items ≡ links.old.items) }
-    ensures len { vec_len links.new ≡ vec_len links.old }
-{
-    check_peer(links.as_slice(), iface, &peer)?;
-    match links.get_mut(iface) {
-        Some(link) => link.add(peer),
-        None => Err(PeerRefused::NoSuchInterface),
-    }
-}
-
-/// An interface has the peer of an address no longer.
-///
-/// # Errors
-/// The first reason to refuse it.
-pub(crate) fn remove_peer(
-    links: &mut Vec<Neighborhood>,
-    iface: usize,
-    addr: Addr6,
-) -> Result<(), PeerRefused>
-    ensures removed { OnOk result (ChangesLink (λ i. without_peer i addr) iface links.old.items links.new.items) }
-    ensures refused { result_err result ≡ removing_fault links.old.items iface addr }
-    ensures err { OnErr result (links.new.items ≡ links.old.items) }
-    ensures len { vec_len links.new ≡ vec_len links.old }
-{
-    match links.get_mut(iface) {
-        Some(link) => link.remove(addr),
-        None => Err(PeerRefused::NoSuchInterface),
+        Ok(())
     }
 }

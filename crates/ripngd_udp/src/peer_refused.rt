@@ -2,9 +2,6 @@
 
 ghost use Rattle.std.specs.Prelude.{◌≡◌};
 ghost use Rattle.ripngd_udp.specs.Peers.{peer_refused_name, peer_refused_number};
-ghost use Rattle.ripngd_udp.specs.declared.peer_refused.PeerRefused.TheVariants.{OutOfMemory};
-
-use std::alloc::{AllocError, AllocFailed};
 
 /// Why a peer is not added to a link, or not removed from it: the first reason to refuse it, in this order.
 #[derive(Clone, Copy, Debug, PartialEq, Eq)]
@@ -49,21 +46,5 @@ impl PeerRefused {
             PeerRefused::NoSuchPeer => "NoSuchPeer",
             PeerRefused::OutOfMemory => "OutOfMemory",
         }
-    }
-}
-
-impl From<AllocError> for PeerRefused {
-    ghost from_gives = { λ _ refusal. refusal ≡ OutOfMemory };
-
-    fn from(_error: AllocError) -> PeerRefused {
-        PeerRefused::OutOfMemory
-    }
-}
-
-impl<T: Drop> From<AllocFailed<T>> for PeerRefused {
-    ghost from_gives = { λ _ refusal. refusal ≡ OutOfMemory };
-
-    fn from(_error: AllocFailed<T>) -> PeerRefused {
-        PeerRefused::OutOfMemory
     }
 }

@@ -4,9 +4,9 @@ ghost use Rattle.std.specs.Prelude.{◌≡◌, IfErr, IfOk, None, OnErr, OnOk, S
 ghost use Rattle.ripngd_udp.specs.Peers.{links_at};
 ghost use Rattle.ripngd_udp.specs.Udp.{NamesPortOf, new_link};
 
-use crate::transcript::Transcript;
+use crate::transcript::{Entry, Transcript};
 use crate::udp::{Udp, UdpError};
-use ripngd_config::{Peer, Place};
+use crate::{Peer, Place};
 use std::alloc::Global;
 use std::marker::Model;
 use std::net::Net;
@@ -62,7 +62,7 @@ impl Ports {
         ensures err { OnErr result (self.new ≡ self.old) }
     {
         let link = Udp::bind(rt, alloc, places, peers)?;
-        self.bound = Some(Transcript::new().with_links(link.neighborhoods()));
+        self.bound = Some(Transcript::of(&Entry::Bound(link.sockets.neighborhoods.as_slice())));
         self.closed = None;
         Ok(link)
     }
@@ -71,6 +71,6 @@ impl Ports {
     pub fn close<R: Clock>(&mut self, link: Udp<'_, R>)
         ensures { self.new ≡ record self.old { calls = Some link.entry.calls } }
     {
-        self.closed = Some(link.into_transcript());
+        self.closed = Some(link.transcript);
     }
 }

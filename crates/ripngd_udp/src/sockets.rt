@@ -1,23 +1,17 @@
 //! The sockets of all interfaces: when they are read, when they are sent to, and how long they are waited for.
 
-ghost use Rattle.std.specs.Prelude.{◌≡◌, ◌<◌, ◌≤◌, ◌⊎◌, [], ◌∷◌, ℕ, List, true, IfErr, IfOk, IfSome, IsNone, OnErr, OnOk, length, map, take, vec_len};
-ghost use Rattle.std.specs.List.{All, list_all};
-ghost use Rattle.ripngd_engine.specs.Telling.{Gains};
-ghost use Rattle.ripngd_udp.specs.Opening.{OpensEach};
+ghost use Rattle.std.specs.Prelude.{◌≡◌, ◌<◌, ◌≤◌, IfErr, IfOk, IfSome, length, map, vec_len};
+ghost use Rattle.ripngd_udp.specs.Counting.{Grows, SendsLate};
 ghost use Rattle.ripngd_udp.specs.Peers.{links_at};
-ghost use Rattle.ripngd_udp.specs.Sockets.{failed_of, is_quiet, limit_of, lost_of, none_heard, none_waits, strangers_of, until_any_due};
-ghost use Rattle.ripngd_udp.specs.Turns.{TakesOnEach, inboxes, tell_all};
 ghost use Rattle.ripngd_udp.specs.Udp.{NamesPortOf};
 
 use crate::clock::Uptime;
-use crate::endpoint::Endpoint;
+use crate::counts::Counts;
+use crate::endpoint::{Endpoint, endpoints_at};
 use crate::neighborhood::{Neighborhood, neighborhoods_at};
-use crate::opening::{Opening, endpoints_at};
-use crate::reading::Source;
-use crate::sending::Carrier;
 use crate::udp::UdpError;
-use crate::waiting::Waiting;
-use ripngd_config::{Peer, Place};
+use crate::waiting::Polled;
+use crate::{Peer, Place};
 use ripngd_engine::{LinkFault, Received, TimeSource};
 use router_core::Outgoing;
 use std::alloc::Global;
@@ -32,164 +26,98 @@ const WAIT_MS: u64 = 50;
 /// How often a turn looks at most, whatever comes.
 const LOOKS: u32 = 64;
 
-/// How long the end of a run sleeps at most before it looks again, in milliseconds.
-const NAP_MS: u64 = 4;
-
 /// How often the last datagrams wait at most, whatever the clock tells: longer than any may.
 const LAST_WAITS: u32 = 4_096;
 
 /// The sockets of a link, with what came in by them.
 #[derive(Drop)]
-pub(crate) struct Sockets<'a, R: Clock, S, W> {
-    endpoints: Vec<Endpoint<S>>,
+pub(crate) struct Sockets<'a, R: Clock> {
+    endpoints: Vec<Endpoint>,
     /// Who is on the link of each interface.
-    neighborhoods: Vec<Neighborhood>,
-    waiting: W,
+    pub(crate) neighborhoods: Vec<Neighborhood>,
+    pub(crate) counts: Counts,
+    waiting: Polled,
     rt: &'a R,
     clock: Uptime<'a, R>,
     /// The interface that is served next.
     next: usize,
-    ghost same_links: { vec_len neighborhoods ≡ vec_len endpoints },
+    ghost same_links: { vec_len endpoints ≡ vec_len neighborhoods },
 }
 
-impl<'a, R: Clock, S: Carrier + Source + Drop, W: Waiting + Drop> Sockets<'a, R, S, W> {
-    /// These sockets, which are waited for so.
-    pub(crate) fn new(
+impl<'a, R: Clock> Sockets<'a, R> {
+    /// A socket at the local port of each place, with the peers of that place.
+    ///
+    /// # Errors
+    /// `Bind` with the first port at which no socket can be had, and why; or want of memory.
+    pub(crate) fn open(
         rt: &'a R,
-        endpoints: Vec<Endpoint<S>>,
-        neighborhoods: Vec<Neighborhood>,
-        waiting: W,
-    ) -> Sockets<'a, R, S, W>
-        requires { vec_len neighborhoods ≡ vec_len endpoints }
-        ensures { (result.endpoints ≡ endpoints) × (result.neighborhoods ≡ neighborhoods) × (result.waiting ≡ waiting) }
+        alloc: Global,
+        places: &[Place],
+        peers: Vec<Vec<Peer>>,
+    ) -> Result<Sockets<'a, R>, UdpError>
+    where
+        R: Net,
+        requires { length places.now ≡ vec_len peers }
+        ensures count { IfOk result (λ s. vec_len s.neighborhoods ≡ length places.now) }
+        ensures on_links { IfOk result (λ s. s.neighborhoods.items ≡ links_at places.now (map (λ v. v.items) peers.items)) }
+        ensures counts { IfOk result (λ s. s.counts ≡ record { failed_sends = 0; lost_arrivals = 0; strangers = 0 }) }
+        ensures refused { IfErr result (NamesPortOf places.now) }
     {
-        Sockets {
+        let waiting = Polled::new(rt, alloc, places)?;
+        let endpoints = endpoints_at(rt, alloc, &waiting, places)?;
+        let neighborhoods = neighborhoods_at(alloc, places, peers).map_err(
+            |_| UdpError::OutOfMemory,
+        )?;
+        let counts = Counts {
+            failed_sends: 0,
+            lost_arrivals: 0,
+            strangers: 0,
+        };
+        Ok(Sockets {
             endpoints,
             neighborhoods,
+            counts,
             waiting,
             rt,
             clock: Uptime::new(rt),
             next: 0,
-        }
+        })
     }
 
-    /// A socket at the local port of each place, with the peers of that place. They are waited for by what gives them.
-    ///
-    /// # Errors
-    /// `Bind` with the first port at which no socket can be had, and why; or want of memory.
-    pub(crate) fn open<N: Net>(
-        net: &N,
-        rt: &'a R,
-        alloc: Global,
-        waiting: W,
-        places: &[Place],
-        peers: Vec<Vec<Peer>>,
-    ) -> Result<Sockets<'a, R, S, W>, UdpError>
-    where
-        W: Opening<S>,
-        requires { length places.now ≡ vec_len peers }
-        ensures opened { IfOk result (λ s. OpensEach (W.asks waiting) (W.asks s.waiting) places.now s.endpoints.items) }
-        ensures on_links { IfOk result (λ s. s.neighborhoods.items ≡ links_at places.now (map (λ v. v.items) peers.items)) }
-        ensures count { IfOk result (λ s. vec_len s.endpoints ≡ length places.now) }
-        ensures lost { IfOk result (λ s. (failed_of s.endpoints.items ≡ 0) × (lost_of s.endpoints.items ≡ 0)
-            × (strangers_of s.endpoints.items ≡ 0)) }
-        ensures refused { IfErr result (NamesPortOf places.now) }
-    {
-        let mut opening = waiting;
-        let endpoints = endpoints_at(net, alloc, &mut opening, places)?;
-        let neighborhoods = neighborhoods_at(alloc, places, peers).map_err(
-            |_| UdpError::OutOfMemory,
-        )?;
-        Ok(Sockets::new(rt, endpoints, neighborhoods, opening))
-    }
-
-    /// How many there are.
-    pub(crate) fn count(&self) -> usize
-        ensures { result ≡ vec_len self.now.endpoints }
-    {
-        self.endpoints.len()
-    }
-
-    /// Sends of what waits as much as may go now.
-    fn send_due(&mut self)
-        ensures failed { failed_of self.old.endpoints.items ≤ failed_of self.new.endpoints.items }
-        ensures same { vec_len self.new.endpoints ≡ vec_len self.old.endpoints }
+    /// Sends of what waits as much as may go at a moment, or all where none is named.
+    fn send_waiting(&mut self, moment: Option<u64>)
         ensures on_links { self.new.neighborhoods ≡ self.old.neighborhoods }
-        ensures strangers { strangers_of self.new.endpoints.items ≡ strangers_of self.old.endpoints.items }
-        ensures heard { inboxes self.new.endpoints.items ≡ inboxes self.old.endpoints.items }
-        ensures lost { lost_of self.new.endpoints.items ≡ lost_of self.old.endpoints.items }
-        ensures waits { self.new.waiting ≡ self.old.waiting }
+        ensures counts { SendsLate self.old.counts self.new.counts }
     {
-        let now = self.clock.now().ms();
         for iface in 0..self.endpoints.len() {
             if let Some(endpoint) = self.endpoints.get_mut(iface) {
-                endpoint.send_due(&self.neighborhoods[iface], now);
+                let neighborhood = &self.neighborhoods[iface];
+                let failed = endpoint
+                    .outbox
+                    .send_waiting(&endpoint.socket, neighborhood, moment);
+                self.counts.failed_sends = self.counts.failed_sends.saturating_add(failed);
             }
         }
     }
 
-    /// Sends all that waits, at once.
-    fn send_all(&mut self)
-        ensures failed { failed_of self.old.endpoints.items ≤ failed_of self.new.endpoints.items }
-        ensures same { vec_len self.new.endpoints ≡ vec_len self.old.endpoints }
-        ensures on_links { self.new.neighborhoods ≡ self.old.neighborhoods }
-        ensures strangers { strangers_of self.new.endpoints.items ≡ strangers_of self.old.endpoints.items }
-        ensures heard { inboxes self.new.endpoints.items ≡ inboxes self.old.endpoints.items }
-        ensures lost { lost_of self.new.endpoints.items ≡ lost_of self.old.endpoints.items }
-        ensures all { none_waits self.new.endpoints.items ≡ true }
-    {
-        for iface in 0..self.endpoints.len() {
-            if let Some(endpoint) = self.endpoints.get_mut(iface) {
-                endpoint.send_all(&self.neighborhoods[iface]);
-            }
-        }
-    }
-
-    /// Whether nothing waits to be sent.
-    fn has_sent(&self) -> bool
-        ensures { result ≡ none_waits self.now.endpoints.items }
-    {
-        let mut has_sent = true;
-        for endpoint in self.endpoints.iter() {
-            has_sent &= endpoint.has_sent();
-        }
-        has_sent
-    }
-
-    /// Whether nothing that came waits for the router, and no socket is to be read.
-    fn is_quiet(&self) -> bool
-        ensures { result ≡ list_all is_quiet self.now.endpoints.items }
-    {
-        let mut quiet = true;
-        for endpoint in self.endpoints.iter() {
-            quiet &= endpoint.is_quiet();
-        }
-        quiet
-    }
-
-    /// How long it is at a moment until more may be sent on some interface, and at most so long; in milliseconds.
-    fn until_due(&self, now: u64, most: u64) -> u64
-        ensures until { result ≡ until_any_due now self.now.endpoints.items most }
-        ensures most { result ≤ most }
-    {
-        let mut left = most;
-        for endpoint in self.endpoints.iter() {
-            left = endpoint.until_due(now, left);
-        }
-        left
+    /// How long it is at a moment until more may be sent on some interface, if something waits; in milliseconds.
+    fn until_due(&self, now: u64) -> Option<u64> {
+        self.endpoints
+            .iter()
+            .filter_map(|endpoint| endpoint.outbox.until_due(now))
+            .min()
     }
 
     /// How long may be waited at a moment of a turn that ends at another, in milliseconds: not at all where something has come
     /// or a socket is to be read, and else to its end, 50 at most, or until more may be sent.
     fn limit(&self, now: u64, end: u64) -> u64
-        ensures limit { result ≡ limit_of now end self.now.endpoints.items }
-        ensures most { result ≤ 50 }
+        ensures { result ≤ 50 }
     {
-        if self.is_quiet() {
-            self.until_due(now, end.saturating_sub(now).min(WAIT_MS))
-        } else {
-            0
+        if !self.endpoints.iter().all(|endpoint| endpoint.is_quiet()) {
+            return 0;
         }
+        let left = end.saturating_sub(now).min(WAIT_MS);
+        left.min(self.until_due(now).unwrap_or(left))
     }
 
     /// Waits at all sockets at once, for so many milliseconds at most, and puts down which are told of.
@@ -197,22 +125,15 @@ impl<'a, R: Clock, S: Carrier + Source + Drop, W: Waiting + Drop> Sockets<'a, R,
     /// # Errors
     /// Where the system does not tell.
     fn look(&mut self, limit: u64) -> Result<(), LinkFault>
-        requires { (limit ≡ 0) ⊎ (list_all is_quiet self.old.endpoints.items ≡ true) }
-        ensures waits { Gains (W.waits self.old.waiting) (W.waits self.new.waiting) (limit ∷ []) }
-        ensures told { OnOk result (self.new.endpoints.items
-            ≡ tell_all (take (vec_len self.old.endpoints) (W.tells self.new.waiting)) self.old.endpoints.items) }
-        ensures err { OnErr result (self.new.endpoints ≡ self.old.endpoints) }
-        ensures failed { failed_of self.new.endpoints.items ≡ failed_of self.old.endpoints.items }
-        ensures lost { lost_of self.new.endpoints.items ≡ lost_of self.old.endpoints.items }
-        ensures same { vec_len self.new.endpoints ≡ vec_len self.old.endpoints }
+        requires { limit ≤ 50 }
         ensures on_links { self.new.neighborhoods ≡ self.old.neighborhoods }
-        ensures strangers { strangers_of self.new.endpoints.items ≡ strangers_of self.old.endpoints.items }
+        ensures counts { self.new.counts ≡ self.old.counts }
     {
         self.waiting.wait(limit)?;
         for place in 0..self.endpoints.len() {
             if let Some(iface) = self.waiting.told(place) {
                 if let Some(endpoint) = self.endpoints.get_mut(iface) {
-                    endpoint.tell();
+                    endpoint.ready = true;
                 }
             }
         }
@@ -220,39 +141,45 @@ impl<'a, R: Clock, S: Carrier + Source + Drop, W: Waiting + Drop> Sockets<'a, R,
     }
 
     /// Takes in what is there at the sockets that are told of.
+    ///
+    /// # Errors
+    /// Where a socket could not be read.
     fn take_all(&mut self, buffer: &mut [u8]) -> Result<(), LinkFault>
-        ensures failed { failed_of self.new.endpoints.items ≡ failed_of self.old.endpoints.items }
-        ensures lost { lost_of self.old.endpoints.items ≤ lost_of self.new.endpoints.items }
-        ensures same { vec_len self.new.endpoints ≡ vec_len self.old.endpoints }
         ensures on_links { self.new.neighborhoods ≡ self.old.neighborhoods }
-        ensures strangers { strangers_of self.old.endpoints.items ≤ strangers_of self.new.endpoints.items }
-        ensures waits { self.new.waiting ≡ self.old.waiting }
-        ensures taken { TakesOnEach S.reads self.old.neighborhoods.items self.old.endpoints.items self.new.endpoints.items }
+        ensures counts { Grows self.old.counts self.new.counts }
     {
         for iface in 0..self.endpoints.len() {
             if let Some(endpoint) = self.endpoints.get_mut(iface) {
-                endpoint.take_all(&self.neighborhoods[iface], buffer)?;
+                endpoint.take_all(&self.neighborhoods[iface], buffer, &mut self.counts)?;
             }
         }
         Ok(())
     }
 
-    /// Waits as long as it may where nothing has come, and gives the next datagram, if one is there.
-    fn poll(&mut self, limit: u64, buffer: &mut [u8]) -> Result<Option<Received>, LinkFault>
-        requires { (limit ≡ 0) ⊎ (list_all is_quiet self.old.endpoints.items ≡ true) }
-        ensures waits { Gains (W.waits self.old.waiting) (W.waits self.new.waiting) (limit ∷ []) }
-        ensures silent { IfOk result (λ o. IsNone o → none_heard self.new.endpoints.items ≡ true) }
-        ensures interface { IfOk result (λ o. IfSome o (λ r. r.iface < vec_len self.old.endpoints)) }
-        ensures within { IfOk result (λ o. IfSome o (λ r. r.len ≤ length buffer.new)) }
-        ensures failed { failed_of self.new.endpoints.items ≡ failed_of self.old.endpoints.items }
-        ensures lost { lost_of self.old.endpoints.items ≤ lost_of self.new.endpoints.items }
-        ensures same { vec_len self.new.endpoints ≡ vec_len self.old.endpoints }
-        ensures on_links { self.new.neighborhoods ≡ self.old.neighborhoods }
-        ensures strangers { strangers_of self.old.endpoints.items ≤ strangers_of self.new.endpoints.items }
+    /// The first interface from one on at which a datagram waits.
+    fn first_heard(&self, least: usize) -> Option<usize>
+        ensures { IfSome result (λ i. i < vec_len self.now.endpoints) }
     {
-        self.look(limit)?;
-        self.take_all(buffer)?;
-        Ok(self.give(buffer))
+        for iface in least..self.endpoints.len() {
+            if !self.endpoints[iface].inbox.is_empty() {
+                return Some(iface);
+            }
+        }
+        None
+    }
+
+    /// The first datagram of the interface whose turn it is: of those at which one waits the first from the next on, or else of
+    /// all. The one behind it is served next.
+    fn give(&mut self, buffer: &mut [u8]) -> Option<Received>
+        ensures interface { IfSome result (λ r. r.iface < vec_len self.old.neighborhoods) }
+        ensures within { IfSome result (λ r. r.len ≤ length buffer.new) }
+        ensures on_links { self.new.neighborhoods ≡ self.old.neighborhoods }
+        ensures counts { self.new.counts ≡ self.old.counts }
+    {
+        let iface = self.first_heard(self.next).or(self.first_heard(0))?;
+        let received = self.endpoints[iface].inbox.next(iface, buffer);
+        self.next = iface + 1;
+        received
     }
 
     /// The next datagram: one that is there, or else the first that comes in 50 ms. What waits is sent as far as it may go.
@@ -260,21 +187,20 @@ impl<'a, R: Clock, S: Carrier + Source + Drop, W: Waiting + Drop> Sockets<'a, R,
     /// # Errors
     /// Where a socket could not be read, or they could not be waited for.
     pub(crate) fn recv(&mut self, buffer: &mut [u8]) -> Result<Option<Received>, LinkFault>
-        ensures waits { (limits : List ℕ) × Gains (W.waits self.old.waiting) (W.waits self.new.waiting) limits × All (λ l. l ≤ 50) limits }
-        ensures interface { IfOk result (λ o. IfSome o (λ r. r.iface < vec_len self.old.endpoints)) }
+        ensures interface { IfOk result (λ o. IfSome o (λ r. r.iface < vec_len self.old.neighborhoods)) }
         ensures within { IfOk result (λ o. IfSome o (λ r. r.len ≤ length buffer.new)) }
-        ensures failed { failed_of self.old.endpoints.items ≤ failed_of self.new.endpoints.items }
-        ensures lost { lost_of self.old.endpoints.items ≤ lost_of self.new.endpoints.items }
-        ensures same { vec_len self.new.endpoints ≡ vec_len self.old.endpoints }
         ensures on_links { self.new.neighborhoods ≡ self.old.neighborhoods }
-        ensures strangers { strangers_of self.old.endpoints.items ≤ strangers_of self.new.endpoints.items }
+        ensures counts { Grows self.old.counts self.new.counts }
     {
         let end = self.clock.now().ms().saturating_add(WAIT_MS);
         for _ in 0..LOOKS {
-            self.send_due();
+            let moment = self.clock.now().ms();
+            self.send_waiting(Some(moment));
             let now = self.clock.now().ms();
             let limit = self.limit(now, end);
-            let given = self.poll(limit, buffer)?;
+            self.look(limit)?;
+            self.take_all(buffer)?;
+            let given = self.give(buffer);
             if given.is_some() || self.clock.now().ms() >= end {
                 return Ok(given);
             }
@@ -283,41 +209,39 @@ impl<'a, R: Clock, S: Carrier + Source + Drop, W: Waiting + Drop> Sockets<'a, R,
     }
 
     /// Sends a datagram in its turn, on the interface that it names.
+    ///
+    /// # Errors
+    /// Where it could not be sent, and does not wait. It is then lost alone.
     pub(crate) fn send(&mut self, outgoing: &Outgoing) -> Result<(), LinkFault>
-        ensures failed { failed_of self.new.endpoints.items ≡ failed_of self.old.endpoints.items }
-        ensures lost { lost_of self.new.endpoints.items ≡ lost_of self.old.endpoints.items }
-        ensures same { vec_len self.new.endpoints ≡ vec_len self.old.endpoints }
         ensures on_links { self.new.neighborhoods ≡ self.old.neighborhoods }
-        ensures strangers { strangers_of self.new.endpoints.items ≡ strangers_of self.old.endpoints.items }
+        ensures counts { self.new.counts ≡ self.old.counts }
     {
         let now = self.clock.now().ms();
         match self.endpoints.get_mut(outgoing.iface) {
-            Some(endpoint) => endpoint.send(&self.neighborhoods[outgoing.iface], outgoing, now),
+            Some(endpoint) => {
+                let neighborhood = &self.neighborhoods[outgoing.iface];
+                endpoint
+                    .outbox
+                    .send(&endpoint.socket, neighborhood, outgoing, now)
+            }
             None => Err(LinkFault),
         }
     }
 
     /// Sends all that waits, at the pace of the neighbors.
     pub(crate) fn finish(&mut self)
-        ensures failed { failed_of self.old.endpoints.items ≤ failed_of self.new.endpoints.items }
-        ensures lost { lost_of self.new.endpoints.items ≡ lost_of self.old.endpoints.items }
-        ensures same { vec_len self.new.endpoints ≡ vec_len self.old.endpoints }
         ensures on_links { self.new.neighborhoods ≡ self.old.neighborhoods }
-        ensures strangers { strangers_of self.new.endpoints.items ≡ strangers_of self.old.endpoints.items }
-        ensures all { none_waits self.new.endpoints.items ≡ true }
+        ensures counts { SendsLate self.old.counts self.new.counts }
     {
         for _ in 0..LAST_WAITS {
-            self.send_due();
-            if self.has_sent() {
-                return;
-            }
+            let moment = self.clock.now().ms();
+            self.send_waiting(Some(moment));
             let now = self.clock.now().ms();
-            let nap = self.until_due(now, NAP_MS);
+            let Some(nap) = self.until_due(now) else {
+                return;
+            };
             thread::sleep(self.rt, Duration::from_millis(nap));
         }
-        self.send_all();
+        self.send_waiting(None);
     }
 }
-
-mod serving;
-mod telling;

@@ -4,23 +4,20 @@
 ghost use Rattle.std.specs.Prelude.{◌≡◌, ◌≤◌, IfErr, IfOk, None, OnErr, OnOk, length, map, vec_len};
 ghost use Rattle.std.specs.Result.{result_err};
 ghost use Rattle.ripngd_udp.specs.Peers.{ChangesLink, RefusesFor, adding_fault, removing_fault, with_peer, without_peer};
-ghost use Rattle.ripngd_udp.specs.Sockets.{failed_of, lost_of, strangers_of};
-ghost use Rattle.ripngd_udp.specs.Udp.{NamesFirstOf, NamesPortOf, link_number, new_link};
+ghost use Rattle.ripngd_udp.specs.Udp.{NamesPortOf, link_number, new_link};
 
 use crate::bind_cause::BindCause;
-use crate::neighborhood::Neighborhood;
+use crate::neighborhood::check_peer;
 use crate::peer_refused::PeerRefused;
 use crate::sockets::Sockets;
-use crate::transcript::Transcript;
-use crate::waiting::Polled;
-use mio::Events;
+use crate::transcript::{Entry, Transcript};
+use crate::{Peer, Place};
 use prefix6::Addr6;
-use ripngd_config::{Peer, Place};
 use ripngd_engine::{Link, LinkFault, Received};
 use router_core::Outgoing;
 use std::alloc::Global;
 use std::marker::Model;
-use std::net::{Net, UdpSocket};
+use std::net::Net;
 use std::rt::Clock;
 use thiserror::Error;
 
@@ -54,51 +51,22 @@ impl UdpError {
 /// milliseconds later, by `recv` or at last by `finish`.
 #[derive(Drop)]
 pub struct Udp<'a, R: Clock> {
-    sockets: Sockets<'a, R, UdpSocket, Polled>,
-    transcript: Transcript,
-}
-
-/// What is said where the sockets of places could not be waited for: that the first of them could not be bound.
-fn unwatched(places: &[Place]) -> UdpError
-    ensures one { NamesPortOf places.now result }
-    ensures first { NamesFirstOf places.now result }
-{
-    match places.first() {
-        Some(place) => UdpError::Bind {
-            port: place.local_port,
-            cause: BindCause::Other,
-        },
-        None => UdpError::OutOfMemory,
-    }
-}
-
-/// What tells of the sockets of places, as long as it tells of none.
-fn polled_for<N: Net>(net: &N, alloc: Global, places: &[Place]) -> Result<Polled, UdpError>
-    ensures refused { IfErr result (NamesPortOf places.now) }
-    ensures first { IfErr result (NamesFirstOf places.now) }
-{
-    let Ok(events) = Events::with_capacity(alloc, places.len().max(1)) else {
-        return Err(UdpError::OutOfMemory);
-    };
-    match Polled::new(net, events) {
-        Ok(polled) => Ok(polled),
-        Err(_) => Err(unwatched(places)),
-    }
+    pub(crate) sockets: Sockets<'a, R>,
+    pub(crate) transcript: Transcript,
 }
 
 impl<'a, R: Clock> Model for Udp<'a, R> {
     ghost use Rattle.std.specs.Prelude.{vec_len};
     ghost use Rattle.ripngd_udp.specs.Udp.{LinkState};
-    ghost use Rattle.ripngd_udp.specs.Sockets.{failed_of, lost_of, strangers_of};
 
     ghost Value = { LinkState };
 
     ghost view = { λ link. record {
-      interfaces = vec_len link.sockets.endpoints;
+      interfaces = vec_len link.sockets.neighborhoods;
       on_links = link.sockets.neighborhoods.items;
-      failed_sends = failed_of link.sockets.endpoints.items;
-      lost_arrivals = lost_of link.sockets.endpoints.items;
-      strangers = strangers_of link.sockets.endpoints.items;
+      failed_sends = link.sockets.counts.failed_sends;
+      lost_arrivals = link.sockets.counts.lost_arrivals;
+      strangers = link.sockets.counts.strangers;
       calls = link.transcript.told.calls;
     } };
 }
@@ -120,42 +88,12 @@ impl<'a, R: Clock> Udp<'a, R> {
         ensures bound { IfOk result (λ link. link ≡ new_link places.now (map (λ v. v.items) peers.items)) }
         ensures refused { IfErr result (NamesPortOf places.now) }
     {
-        Udp::bind_by(rt, rt, alloc, places, peers)
-    }
-
-    /// The same, with sockets of one system and the clock of another.
-    pub(crate) fn bind_by<N: Net>(
-        net: &N,
-        rt: &'a R,
-        alloc: Global,
-        places: &[Place],
-        peers: Vec<Vec<Peer>>,
-    ) -> Result<Udp<'a, R>, UdpError>
-        requires { length places.now ≡ vec_len peers }
-        ensures bound { IfOk result (λ link. link ≡ new_link places.now (map (λ v. v.items) peers.items)) }
-        ensures refused { IfErr result (NamesPortOf places.now) }
-    {
-        let polled = polled_for(net, alloc, places)?;
-        let sockets = Sockets::open(net, rt, alloc, polled, places, peers)?;
+        let sockets = Sockets::open(rt, alloc, places, peers)?;
+        let transcript = Transcript::of(&Entry::Bound(sockets.neighborhoods.as_slice()));
         Ok(Udp {
             sockets,
-            transcript: Transcript::new(),
+            transcript,
         })
-    }
-
-    /// Who is on the link of each interface.
-    pub(crate) fn neighborhoods(&self) -> &[Neighborhood]
-        ensures { result.now ≡ self.now.on_links }
-    {
-        self.sockets.neighborhoods()
-    }
-
-    /// What was told of it. Its sockets are closed.
-    pub(crate) fn into_transcript(self) -> Transcript
-        ensures { result.told.calls ≡ self.entry.calls }
-    {
-        let Udp { transcript, .. } = self;
-        transcript
     }
 
     /// Sends all that waits to be sent, at the pace of its neighbors. To be called when nothing more is received.
@@ -180,7 +118,12 @@ impl<'a, R: Clock> Udp<'a, R> {
         ensures err { OnErr result (self.new ≡ self.old) }
         ensures same { self.new ≡ record self.old { on_links = self.new.on_links } }
     {
-        self.sockets.add_peer(iface, peer)
+        let sockets = &mut self.sockets;
+        check_peer(sockets.neighborhoods.as_slice(), iface, &peer)?;
+        match sockets.neighborhoods.get_mut(iface) {
+            Some(link) => link.add(peer),
+            None => Err(PeerRefused::NoSuchInterface),
+        }
     }
 
     /// An interface has the peer of an address no longer. What has come from it stays; what still waits to be sent to it alone
@@ -194,14 +137,18 @@ impl<'a, R: Clock> Udp<'a, R> {
         ensures err { OnErr result (self.new ≡ self.old) }
         ensures same { self.new ≡ record self.old { on_links = self.new.on_links } }
     {
-        self.sockets.remove_peer(iface, addr)
+        let sockets = &mut self.sockets;
+        match sockets.neighborhoods.get_mut(iface) {
+            Some(link) => link.remove(addr),
+            None => Err(PeerRefused::NoSuchInterface),
+        }
     }
 
     /// How many datagrams could not be sent when they had waited. `send` has answered Ok for these.
     pub fn failed_sends(&self) -> u64
         ensures { result ≡ self.now.failed_sends }
     {
-        self.sockets.failed_sends()
+        self.sockets.counts.failed_sends
     }
 
     /// How many datagrams of neighbors were lost: 16,384 waited on its interface, or it would have made them longer than 32 MiB
@@ -209,14 +156,14 @@ impl<'a, R: Clock> Udp<'a, R> {
     pub fn lost_arrivals(&self) -> u64
         ensures { result ≡ self.now.lost_arrivals }
     {
-        self.sockets.lost_arrivals()
+        self.sockets.counts.lost_arrivals
     }
 
     /// How many datagrams came to a socket of an interface from anywhere but its peers. They are dropped.
     pub fn strangers(&self) -> u64
         ensures { result ≡ self.now.strangers }
     {
-        self.sockets.strangers()
+        self.sockets.counts.strangers
     }
 }
 
@@ -231,7 +178,7 @@ impl<R: Clock> Link for Udp<'_, R> {
     ghost interface_count = { λ link. link.interfaces };
 
     fn interfaces(&self) -> usize {
-        self.sockets.count()
+        self.sockets.neighborhoods.len()
     }
 
     fn recv(&mut self, buffer: &mut [u8]) -> Result<Option<Received>, LinkFault>
@@ -244,7 +191,7 @@ impl<R: Clock> Link for Udp<'_, R> {
         ensures calls { self.new.calls ≡ self.old.calls ++ recv_call result buffer.new ∷ [] }
     {
         let answer = self.sockets.recv(buffer);
-        self.transcript = self.transcript.with_recv(&answer, buffer);
+        self.transcript = Transcript::of(&Entry::Answered(&self.transcript, &answer, buffer));
         answer
     }
 
@@ -252,7 +199,7 @@ impl<R: Clock> Link for Udp<'_, R> {
         ensures { self.new ≡ record self.old { calls = self.old.calls ++ Handed outgoing.now (is_ok result) ∷ [] } }
     {
         let answer = self.sockets.send(outgoing);
-        self.transcript = self.transcript.with_send(outgoing, answer.is_ok());
+        self.transcript = Transcript::of(&Entry::Taken(&self.transcript, outgoing, answer.is_ok()));
         answer
     }
 }

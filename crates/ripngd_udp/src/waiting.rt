@@ -1,8 +1,12 @@
 //! The wait for datagrams: at all sockets of a link at once, by the system's own list of those that have something to read.
 
-ghost use Rattle.std.specs.Prelude.{◌≡◌, [], ◌∷◌, ℕ, List, Option, slice_get};
-ghost use Rattle.ripngd_engine.specs.Telling.{Gains};
+ghost use Rattle.std.specs.Prelude.{◌≤◌, IfErr};
+ghost use Rattle.ripngd_udp.specs.Udp.{NamesPortOf};
 
+use crate::Place;
+use crate::bind_cause::BindCause;
+use crate::loopback::local;
+use crate::udp::UdpError;
 use mio::unix::SourceFd;
 use mio::{Events, Interest, Poll, Token};
 use ripngd_engine::LinkFault;
@@ -12,28 +16,8 @@ use std::net::{Net, UdpSocket};
 use std::os::fd::AsRawFd;
 use std::time::Duration;
 
-/// What tells which of some sockets have something to read. What it has told of a socket holds until a read of it finds
-/// nothing; before that it need not tell it again.
-pub(crate) trait Waiting {
-    // How long each wait so far could last, in milliseconds, where it tells them.
-    ghost waits: { Self → Option (List ℕ) };
-
-    // The interfaces of the sockets that the last wait told of.
-    ghost tells: { Self → List ℕ };
-
-    /// Waits for so many milliseconds at most, until some socket has something to read.
-    ///
-    /// # Errors
-    /// Where the system does not tell.
-    fn wait(&mut self, limit_ms: u64) -> Result<(), LinkFault>
-        ensures gained { Gains (waits self.old) (waits self.new) (limit_ms ∷ []) };
-
-    /// The interface of the first socket that the last wait told of, of the second, and so on.
-    fn told(&self, place: usize) -> Option<usize>
-        ensures { result ≡ slice_get (tells self.now) place };
-}
-
-/// The system's list of sockets.
+/// The system's list of sockets. What it has told of a socket holds until a read of it finds nothing; before that it need not
+/// tell it again.
 #[derive(Drop)]
 pub(crate) struct Polled {
     poll: Poll,
@@ -41,35 +25,43 @@ pub(crate) struct Polled {
 }
 
 impl Polled {
-    /// A list with no socket, and the buffer for what is told of them.
-    pub(crate) fn new<N: Net>(net: &N, events: Events) -> io::Result<Polled> {
-        Ok(Polled {
-            poll: Poll::new(net)?,
-            events,
-        })
+    /// The list for the sockets of places, which has none so far. Where the system has none to give, the first of them cannot be
+    /// bound.
+    pub(crate) fn new<N: Net>(net: &N, alloc: Global, places: &[Place]) -> Result<Polled, UdpError>
+        ensures { IfErr result (NamesPortOf places.now) }
+    {
+        let Ok(events) = Events::with_capacity(alloc, places.len().max(1)) else {
+            return Err(UdpError::OutOfMemory);
+        };
+        match (Poll::new(net), places.first()) {
+            (Ok(poll), _) => Ok(Polled { poll, events }),
+            (Err(_), Some(place)) => Err(UdpError::Bind {
+                port: place.local_port,
+                cause: BindCause::Other,
+            }),
+            (Err(_), None) => Err(UdpError::OutOfMemory),
+        }
     }
 
-    /// From now on tells of a socket, as of that of an interface.
-    pub(crate) fn watch(&self, socket: &UdpSocket, iface: usize) -> io::Result<()> {
+    /// A socket at a port of 127.0.0.1, whose calls never wait, and of which it tells from now on as of that of an interface.
+    pub(crate) fn open<N: Net>(&self, net: &N, iface: usize, port: u16) -> io::Result<UdpSocket> {
+        let socket = UdpSocket::bind(net, local(port))?;
+        socket.set_nonblocking(true)?;
         let fd = socket.as_raw_fd();
         let mut source = SourceFd(&fd);
         self.poll
             .registry()
-            .register(&mut source, Token(iface), Interest::READABLE)
+            .register(&mut source, Token(iface), Interest::READABLE)?;
+        Ok(socket)
     }
-}
 
-impl Waiting for Polled {
-    ghost use Rattle.std.specs.Prelude.{None, map};
-    ghost use Rattle.mio.specs.Event.{event_token};
-    ghost use Rattle.mio.specs.Events.{items};
-
-    // The system promises nothing.
-    ghost waits = { λ _. None };
-
-    ghost tells = { λ p. map (λ e. (event_token e).0) (items p.events) };
-
-    fn wait(&mut self, limit_ms: u64) -> Result<(), LinkFault> {
+    /// Waits for so many milliseconds at most, until some socket has something to read.
+    ///
+    /// # Errors
+    /// Where the system does not tell.
+    pub(crate) fn wait(&mut self, limit_ms: u64) -> Result<(), LinkFault>
+        requires { limit_ms ≤ 50 }
+    {
         let limit = Duration::from_millis(limit_ms);
         match self.poll.poll(&mut self.events, Some(limit)) {
             Ok(()) => Ok(()),
@@ -77,7 +69,8 @@ impl Waiting for Polled {
         }
     }
 
-    fn told(&self, place: usize) -> Option<usize> {
+    /// The interface of the first socket that the last wait told of, of the second, and so on.
+    pub(crate) fn told(&self, place: usize) -> Option<usize> {
         let event = self.events.iter().nth(place)?;
         Some(event.token().0)
     }
