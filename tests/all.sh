@@ -15,7 +15,7 @@ trap 'rm -rf "$folder"' EXIT
 
 # The longest first.
 suites="links.sh page.sh page_connections.py sending.py neighbors.py control.py followers.py sockets.py watching.py growth.py
-growth_of_calls.py mutated.py cases.py scripts.py page_requests.py"
+growth_of_calls.py mutated.py cases.py scripts.py hints.py page_requests.py"
 
 # `arguments SUITE`: which of the two programs a suite is given.
 arguments() {
