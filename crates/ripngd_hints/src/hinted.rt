@@ -42,8 +42,12 @@ fn write_hint<E: Write>(
     writeln!(err, "ripngd: line {line}: {hint}")
 }
 
-/// What is told of how a script ended, and of which line.
-fn hint_of<'a>(
+/// What is told of how a script ended, and of which line, if the script shows what to write in its place: the text that
+/// [`lab_hinted`] writes. Of a network that is refused, it is the line that has the fault.
+///
+/// # Errors
+/// Where memory is refused.
+pub fn hint_of<'a>(
     alloc: Global,
     script: &'a [u8],
     ending: &Ending,

@@ -9,4 +9,5 @@ mod hints;
 mod listed;
 mod placing;
 
-pub use hinted::lab_hinted;
+pub use hinted::{hint_of, lab_hinted};
+pub use hints::Hint;

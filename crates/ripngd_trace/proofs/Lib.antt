@@ -1,5 +1,6 @@
 pub mod DueUpdates
 pub mod Getting
+pub mod Growing
 pub mod Lines
 pub mod Listing
 pub mod Reading

@@ -5,18 +5,18 @@ use Rattle.std.proofs.KnownBytes.{Appends-trans}
 use Rattle.std.proofs.Math.Arith.{lt_of_le-ne}
 use Rattle.std.proofs.Math.Seq.{take-add}
 use Rattle.std.proofs.lemmas.List.{length-drop, take-append-le, take_rest}
-use Rattle.serde.specs.Event.{Log}
-use Rattle.serde_json.specs.Sent.{IsTextOf}
+use Rattle.json.specs.Json.{Json}
+use Rattle.ripngd_trace.specs.Json.{text_of}
 use Rattle.ripngd_trace.specs.Lines.{WritesLess, WritesRecord}
 use Rattle.ripngd_trace.proofs.Starting.{length_push}
 
-module _ {X E : Type 0} (result : Result X E) (text bytes : List ℕ) (old new : Option (List ℕ)) (log : Log) (spells : IsTextOf log text) (is : bytes ≡ text ++ 10 ∷ []) where
+module _ {X E : Type 0} (result : Result X E) (json : Json) (bytes : List ℕ) (old new : Option (List ℕ)) (is : bytes ≡ text_of json ++ 10 ∷ []) where
   -- a text and a line feed were written
-  pub record_written : {R : Type 0} (r : R) → OnOk result (Appends old new bytes) → OnOk result (WritesRecord r old new)
-  record_written r = by result
+  pub record_written : OnOk result (Appends old new bytes) → OnOk result (WritesRecord json old new)
+  record_written = by result
     where
-      by : (q : Result X E) → OnOk q (Appends old new bytes) → OnOk q (WritesRecord r old new)
-      by (Ok x) h = record { text = text; log = log; spells = spells; appends = subst (Appends old new) is h }
+      by : (q : Result X E) → OnOk q (Appends old new bytes) → OnOk q (WritesRecord json old new)
+      by (Ok x) h = record { appends = subst (Appends old new) is h }
       by (Err e) h = tt
 
   -- less of them was
@@ -27,8 +27,8 @@ module _ {X E : Type 0} (result : Result X E) (text bytes : List ℕ) (old new :
       by (Ok x) h = tt
       by (Err e) h =
           let few = subst (λ (bs : List ℕ). h.0 < length bs) is h.1 in
-          let begins = ap (take h.0) is ∙ take-append-le h.0 text (10 ∷ []) (omega (arith, few, length_push text 10)) in
-          inr (text, log, spells, h.0, subst (Appends old new) begins h.2)
+          let begins = ap (take h.0) is ∙ take-append-le h.0 (text_of json) (10 ∷ []) (omega (arith, few, length_push (text_of json) 10)) in
+          inr (json, h.0, subst (Appends old new) begins h.2)
 
 -- more bytes are written, from a place on
 module _ (bytes : List ℕ) (at count next : ℕ) (before : at < length bytes) (is : next ≡ at + count) where
@@ -44,7 +44,7 @@ module _ (bytes : List ℕ) (at count next : ℕ) (before : at < length bytes) (
       (Appends-trans old mid new (take at bytes) (take count (take (length bytes - at) (drop at bytes))) first rest))
 
 -- of a record with this word
-pub under_word : {X E R : Type 0} (result : Result X E) (word_of : R → List ℕ) (word : List ℕ) (r : R) (old new : Option (List ℕ)) → word_of r ≡ word
-    → OnOk result (WritesRecord r old new) → OnOk result ((x : R) × (word_of x ≡ word) × WritesRecord x old new)
-under_word (Ok x) word_of word r old new is writes = (r, is, writes)
-under_word (Err e) word_of word r old new is writes = tt
+pub under_word : {X E R : Type 0} (result : Result X E) (word_of : R → List ℕ) (json : R → Json) (word : List ℕ) (r : R) (old new : Option (List ℕ)) → word_of r ≡ word
+    → OnOk result (WritesRecord (json r) old new) → OnOk result ((x : R) × (word_of x ≡ word) × WritesRecord (json x) old new)
+under_word (Ok x) word_of json word r old new is writes = (r, is, writes)
+under_word (Err e) word_of json word r old new is writes = tt

@@ -42,7 +42,7 @@ addr_at lab router iface = option_and_then (λ s. option_map (λ i. i.addr) (sli
 -- who sent a datagram, and from where, if it was sent
 abbrev pub sender_of : LabValue → ℕ → Option SenderRecord
 sender_of lab datagram =
-    option_map (λ d. record { router = d.router; iface = d.iface; addr = option_map (λ a. record { 0 = a }) (addr_at lab d.router d.iface) })
+    option_map (λ d. record { router = d.router; iface = d.iface; addr = addr_at lab d.router d.iface })
     (slice_get lab.world.sent datagram)
 
 -- a change of a configuration
@@ -120,7 +120,7 @@ sent_from first sent = enumerate_from first (drop first sent)
 
 -- the record, of this line of the script, says what is told of an event, and nothing else
 pub record RecordTells (line : ℕ) (what : Told) (r : EventRecord) : Type 0 where
-  pub word_is : r.record.now ≡ codes "event"
+  pub word_is : r.word.now ≡ codes "event"
   pub at_line : r.line ≡ line
   pub router_is : r.router ≡ router_of what.event
   pub moment_is : r.now ≡ moment_of what.event

@@ -1,4 +1,6 @@
 pub mod Events
+pub mod Growing
+pub mod Json
 pub mod Lines
 pub mod Offers
 pub mod Reading

@@ -5,6 +5,7 @@ use Rattle.std.specs.List.{AllZip}
 use Rattle.prefix6.specs.Prefix.{Prefix6}
 use Rattle.route_table.specs.Table.{ByPrefix, Table}
 use Rattle.router_core.specs.declared.answer.Answer.{Answer}
+use Rattle.json.specs.Json.{Json}
 use Rattle.ripng_world.specs.Labs.{LabValue}
 use Rattle.ripng_world.specs.Watching.{telling}
 use Rattle.router_core.specs.Received.{Received}
@@ -12,6 +13,7 @@ use Rattle.ripng_world.specs.Lying.{Lies}
 use Rattle.ripng_world.specs.World.{World, Event, Stranger, Happens}
 use Rattle.ripngd_lab.specs.ScriptWatching.{StartsAt}
 use Rattle.ripngd_trace.specs.Events.{RecordTells, TellsLie}
+use Rattle.ripngd_trace.specs.Json.{json_of_event, json_of_lost, json_of_phases, json_of_print, json_of_refused, json_of_start}
 use Rattle.ripngd_trace.specs.Lines.{WritesLess, WritesRecord}
 use Rattle.ripngd_trace.specs.Offers.{TellsOffers}
 use Rattle.ripngd_trace.specs.Records.{route_record, taken_out, timers_in}
@@ -104,10 +106,10 @@ TellsOf (EventLine r) before after =
 TellsOf (LieLine r) before after =
     (lab : LabValue) × (before ≡ Some lab) × (lab' : LabValue) × (after ≡ Some lab') × (lab'.network ≡ lab.network)
     × (router : ℕ) × (x : Received) × (answer : Answer) × Lies lab.world router x answer lab'.world × TellsLie r.line (telling lab.network lab.world (Stranger router x) answer lab'.world) r
-TellsOf (PrintLine r) before after = (after ≡ before) × IsPrintWord r.record.now
-TellsOf (RefusedLine r) before after = (after ≡ before) × (r.record.now ≡ codes "refused")
-TellsOf (LostLine r) before after = (after ≡ before) × (r.record.now ≡ codes "lost")
-TellsOf (PhasesLine r) before after = (after ≡ before) × (r.record.now ≡ codes "phases")
+TellsOf (PrintLine r) before after = (after ≡ before) × IsPrintWord r.word.now
+TellsOf (RefusedLine r) before after = (after ≡ before) × (r.word.now ≡ codes "refused")
+TellsOf (LostLine r) before after = (after ≡ before) × (r.word.now ≡ codes "lost")
+TellsOf (PhasesLine r) before after = (after ≡ before) × (r.word.now ≡ codes "phases")
 
 -- ---- a trace
 
@@ -117,15 +119,19 @@ TellsScript lab shown [] end = end ≡ lab
 TellsScript lab shown (line ∷ lines) end =
     (mid : Option LabValue) × TellsOf line lab mid × AllZip ShowsTable (read_line shown line) (tables_in mid) × TellsScript mid (read_line shown line) lines end
 
+-- the JSON of its record
+abbrev pub json_of : Line → Json
+json_of (StartLine r) = json_of_start r
+json_of (EventLine r) = json_of_event r
+json_of (LieLine r) = json_of_event r
+json_of (PrintLine r) = json_of_print r
+json_of (RefusedLine r) = json_of_refused r
+json_of (LostLine r) = json_of_lost r
+json_of (PhasesLine r) = json_of_phases r
+
 -- its record is written, as one line
 abbrev pub IsWritten : Line → Option (List ℕ) → Option (List ℕ) → Type 0
-IsWritten (StartLine r) = WritesRecord r
-IsWritten (EventLine r) = WritesRecord r
-IsWritten (LieLine r) = WritesRecord r
-IsWritten (PrintLine r) = WritesRecord r
-IsWritten (RefusedLine r) = WritesRecord r
-IsWritten (LostLine r) = WritesRecord r
-IsWritten (PhasesLine r) = WritesRecord r
+IsWritten line = WritesRecord (json_of line)
 
 -- so is that of each of these, in order, and nothing else
 abbrev pub AreWritten : List Line → Option (List ℕ) → Option (List ℕ) → Type 0

@@ -38,7 +38,7 @@ pub record AreTold (lab : LabValue) (records : List RouterRecord) : Type 0 where
 
 -- the start, at this moment, with all routers and all that they sent
 pub record TellsStart (line : ℕ) (lab : LabValue) (now : ℕ) (r : StartRecord) : Type 0 where
-  pub word_is : r.record.now ≡ codes "start"
+  pub word_is : r.word.now ≡ codes "start"
   pub at_line : r.line ≡ line
   pub moment_is : r.now ≡ now
   pub routers : AreTold lab r.routers.items

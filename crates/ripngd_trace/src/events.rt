@@ -7,7 +7,6 @@ ghost use Rattle.ripngd_trace.specs.Events.{SaysArrival, SaysHappened, SaysLieOf
 
 use crate::network::addr_of;
 use crate::records::{Happened, SenderRecord};
-use crate::shown::Shown;
 use ripng_world::{Event, Running};
 use route_table::{Moment, RouteStore};
 use router_core::{Arrival, Change};
@@ -51,7 +50,7 @@ fn sender_of<S: RouteStore>(lab: &Running<S>, datagram: usize) -> Option<SenderR
         Some(sent) => Some(SenderRecord {
             router: sent.router,
             iface: sent.iface,
-            addr: addr_of(lab, sent.router, sent.iface).map(Shown),
+            addr: addr_of(lab, sent.router, sent.iface),
         }),
         None => None,
     }

@@ -22,7 +22,7 @@ use std::io::{self, Write};
 pub fn explain<W: Write>(alloc: Global, script: &[u8], out: &mut W) -> io::Result<bool> {
     let mut explainer = Explainer {
         line: 0,
-        tracer: Tracer::new(alloc, out),
+        tracer: Tracer::new(alloc, script, out),
     };
     watched(alloc, script, &mut explainer)
 }

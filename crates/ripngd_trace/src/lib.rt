@@ -4,13 +4,14 @@
 mod answers;
 mod events;
 mod explaining;
+mod json_text;
 mod laws;
 mod network;
 mod offers;
 mod records;
 mod sentences;
-mod shown;
 mod tables;
+mod to_json;
 mod tracer;
 mod updates;
 mod writing;

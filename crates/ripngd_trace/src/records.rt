@@ -1,16 +1,15 @@
-//! The records of a trace. Each is a line of JSON, whose members have the names of the fields and stand in their order.
+//! The records of a trace. Each is a line of JSON, whose members have the names of the fields and stand in their order; `word` is
+//! there under the name `record`.
 //! Moments and deadlines are in milliseconds, metrics and costs in hops; all numbers count from 0, but for lines.
 
-use crate::shown::{Shown, as_name, as_text, as_texts};
 use prefix6::{Addr6, Prefix};
 use router_core::Reason;
-use serde::Serialize;
 
 /// The routers have started: the network, each router's first state, and what they sent.
-#[derive(Drop, Serialize)]
+#[derive(Drop)]
 pub struct StartRecord {
     pub line: usize,
-    pub record: &'static str,
+    pub word: &'static str,
     /// The moment of the cold start.
     pub now: u64,
     pub routers: Vec<RouterRecord>,
@@ -18,7 +17,7 @@ pub struct StartRecord {
 }
 
 /// A router that has started.
-#[derive(Drop, Serialize)]
+#[derive(Drop)]
 pub struct RouterRecord {
     /// Whether it only listens.
     pub quiet: bool,
@@ -30,9 +29,8 @@ pub struct RouterRecord {
 }
 
 /// An interface of a router.
-#[derive(Clone, Copy, Serialize)]
+#[derive(Clone, Copy)]
 pub struct InterfaceRecord {
-    #[serde(serialize_with = "as_text")]
     pub addr: Addr6,
     pub cost: u8,
     pub mtu: u32,
@@ -41,18 +39,17 @@ pub struct InterfaceRecord {
 }
 
 /// A prefix that a router owns.
-#[derive(Clone, Copy, Serialize)]
+#[derive(Clone, Copy)]
 pub struct OwnedRecord {
-    #[serde(serialize_with = "as_text")]
     pub prefix: Prefix,
     pub tag: u16,
 }
 
 /// An event was done: what a router was given, what it answered, and what it then was.
-#[derive(Drop, Serialize)]
+#[derive(Drop)]
 pub struct EventRecord {
     pub line: usize,
-    pub record: &'static str,
+    pub word: &'static str,
     /// The router that moves.
     pub router: usize,
     /// The moment of the event; a router takes a moment before its last one for that.
@@ -71,13 +68,11 @@ pub struct EventRecord {
     /// The routes that were not there before, or are not as they were.
     pub routes: Vec<RouteRecord>,
     /// The prefixes that had a route and have none.
-    #[serde(serialize_with = "as_texts")]
     pub gone: Vec<Prefix>,
 }
 
 /// What happened, and from where.
-#[derive(Drop, Serialize)]
-#[serde(tag = "kind", rename_all = "lowercase")]
+#[derive(Drop)]
 pub enum Happened {
     /// A datagram of the network came.
     Deliver {
@@ -89,7 +84,6 @@ pub enum Happened {
     /// A datagram of no router came.
     Stranger {
         iface: usize,
-        #[serde(serialize_with = "as_text")]
         source: Addr6,
         port: u16,
         hop_limit: u8,
@@ -101,7 +95,6 @@ pub enum Happened {
     /// A lie came: a Response that the router took for one of its link.
     Liar {
         iface: usize,
-        #[serde(serialize_with = "as_text")]
         source: Addr6,
         /// In hexadecimal digits.
         bytes: String,
@@ -111,7 +104,6 @@ pub enum Happened {
     },
     Restart,
     Shutdown,
-    #[serde(rename = "link_down")]
     LinkDown {
         iface: usize,
     },
@@ -120,35 +112,32 @@ pub enum Happened {
         cost: u8,
     },
     Gain {
-        #[serde(serialize_with = "as_text")]
         prefix: Prefix,
         tag: u16,
     },
-    #[serde(rename = "drop")]
     Disown {
-        #[serde(serialize_with = "as_text")]
         prefix: Prefix,
     },
 }
 
 /// From where a datagram of the network came.
-#[derive(Clone, Copy, Serialize)]
+#[derive(Clone, Copy)]
 pub struct SenderRecord {
     pub router: usize,
     pub iface: usize,
     /// The address of that interface.
-    pub addr: Option<Shown<Addr6>>,
+    pub addr: Option<Addr6>,
 }
 
 /// The fault of an arrival, by the tables of docs/PROTOCOL.md.
-#[derive(Clone, Copy, Serialize)]
+#[derive(Clone, Copy)]
 pub struct FaultRecord {
     pub number: u8,
     pub name: &'static str,
 }
 
 /// Why an entry of a Response was skipped.
-#[derive(Clone, Copy, Serialize)]
+#[derive(Clone, Copy)]
 pub struct NoteRecord {
     pub entry: usize,
     pub number: u8,
@@ -156,25 +145,21 @@ pub struct NoteRecord {
 }
 
 /// An offer, and the row of the table of adoption that it fell under (RFC 2080, section 2.4.2).
-#[derive(Clone, Copy, Serialize)]
+#[derive(Clone, Copy)]
 pub struct OfferRecord {
     /// The entry that offers it.
     pub entry: usize,
-    #[serde(serialize_with = "as_text")]
     pub prefix: Prefix,
     /// With the cost of the interface that it came on.
     pub metric: u8,
     pub tag: u16,
-    #[serde(serialize_with = "as_text")]
     pub next_hop: Addr6,
     /// The row, by its name.
-    #[serde(serialize_with = "as_name")]
     pub why: Reason,
 }
 
 /// Which update was due at a tick (RFC 2080, sections 2.3 and 2.5.1).
-#[derive(Clone, Copy, Serialize)]
-#[serde(rename_all = "lowercase")]
+#[derive(Clone, Copy)]
 pub enum UpdateRecord {
     /// It told all routes.
     Regular,
@@ -185,12 +170,10 @@ pub enum UpdateRecord {
 }
 
 /// A change of the forwarding table.
-#[derive(Clone, Copy, Serialize)]
-#[serde(tag = "change", rename_all = "lowercase")]
+#[derive(Clone, Copy)]
 pub enum ChangeRecord {
     /// The prefix has this entry from now on.
     Add {
-        #[serde(serialize_with = "as_text")]
         prefix: Prefix,
         metric: u8,
         /// None for a prefix of the router's own.
@@ -198,21 +181,19 @@ pub enum ChangeRecord {
     },
     /// The prefix has no entry from now on.
     Del {
-        #[serde(serialize_with = "as_text")]
         prefix: Prefix,
     },
 }
 
 /// Where packets go.
-#[derive(Clone, Copy, Serialize)]
+#[derive(Clone, Copy)]
 pub struct HopRecord {
     pub iface: usize,
-    #[serde(serialize_with = "as_text")]
     pub next_hop: Addr6,
 }
 
 /// A datagram that was sent.
-#[derive(Drop, Serialize)]
+#[derive(Drop)]
 pub struct SentRecord {
     /// Its number among all that were ever sent.
     pub datagram: usize,
@@ -225,15 +206,14 @@ pub struct SentRecord {
 }
 
 /// One asker.
-#[derive(Clone, Copy, Serialize)]
+#[derive(Clone, Copy)]
 pub struct PeerRecord {
-    #[serde(serialize_with = "as_text")]
     pub addr: Addr6,
     pub port: u16,
 }
 
 /// The timers of a router.
-#[derive(Clone, Copy, Serialize)]
+#[derive(Clone, Copy)]
 pub struct Timers {
     /// The moment of its last step.
     pub last: u64,
@@ -246,18 +226,16 @@ pub struct Timers {
 }
 
 /// When a route is due to be lost or deleted.
-#[derive(Clone, Copy, Serialize)]
+#[derive(Clone, Copy)]
 pub struct DueRecord {
     pub until: u64,
     /// The first prefix whose route is due then.
-    #[serde(serialize_with = "as_text")]
     pub prefix: Prefix,
 }
 
 /// A route of a router.
-#[derive(Clone, Copy, Serialize)]
+#[derive(Clone, Copy)]
 pub struct RouteRecord {
-    #[serde(serialize_with = "as_text")]
     pub prefix: Prefix,
     /// 1 to 15, or 16 for unreachable.
     pub metric: u8,
@@ -271,48 +249,56 @@ pub struct RouteRecord {
 }
 
 /// Where a route was learned.
-#[derive(Clone, Copy, Serialize)]
+#[derive(Clone, Copy)]
 pub struct GatewayRecord {
     pub iface: usize,
     /// The router that told it.
-    #[serde(serialize_with = "as_text")]
     pub from: Addr6,
     /// Where packets go.
-    #[serde(serialize_with = "as_text")]
     pub next_hop: Addr6,
 }
 
 /// What a line of `print` or `sent` prints.
-#[derive(Drop, Serialize)]
+#[derive(Drop)]
 pub struct PrintRecord<'a> {
     pub line: usize,
-    pub record: &'static str,
+    pub word: &'static str,
     pub prints: Vec<&'a str>,
 }
 
 /// A line said that a datagram is lost.
-#[derive(Clone, Copy, Serialize)]
+#[derive(Clone, Copy)]
 pub struct LostRecord {
     pub line: usize,
-    pub record: &'static str,
+    pub word: &'static str,
     pub datagram: usize,
 }
 
 /// A line has made so many phases.
-#[derive(Clone, Copy, Serialize)]
+#[derive(Clone, Copy)]
 pub struct PhasesRecord {
     pub line: usize,
-    pub record: &'static str,
+    pub word: &'static str,
     pub phases: usize,
     /// In which of them, numbered from 0, the table of some router last changed, but for how long a route lives on.
     pub last: Option<usize>,
 }
 
 /// A line was refused, or expected what is not so, and ended the script.
-#[derive(Drop, Serialize)]
+#[derive(Drop)]
 pub struct RefusedRecord<'a> {
     pub line: usize,
-    pub record: &'static str,
+    pub word: &'static str,
     /// What stands behind `line L refused ` where the script is run, or behind `line L ` of what is not as expected.
     pub why: &'a str,
+    /// What is told of it beside that, as where the script is run.
+    pub hint: Option<HintRecord>,
+}
+
+/// What a line should have been.
+#[derive(Drop)]
+pub struct HintRecord {
+    /// The line that has the fault.
+    pub line: usize,
+    pub text: String,
 }

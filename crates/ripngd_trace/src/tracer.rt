@@ -41,11 +41,14 @@ pub fn trace<W: Write>(alloc: Global, script: &[u8], out: &mut W) -> io::Result<
     ensures traced { OnOk result ((lab : Option LabValue) × IsTraced (W.contents out.old) lab (W.contents out.new)) }
     ensures traced_until { OnErr result ((lab : Option LabValue) × IsTracedUntil (W.contents out.old) lab (W.contents out.new)) }
 {
-    let mut tracer = Tracer::new(alloc, out);
+    let mut tracer = Tracer::new(alloc, script, out);
     let outcome = watched(alloc, script, &mut tracer);
     let Tracer {
         alloc: _,
+        script: _,
         line: _,
+        sent: _,
+        sent_before: _,
         known: _known,
         timers: _timers,
         out: written,
@@ -59,8 +62,14 @@ pub fn trace<W: Write>(alloc: Global, script: &[u8], out: &mut W) -> io::Result<
 #[derive(Drop)]
 pub struct Tracer<'a, W: Write> {
     pub alloc: Global,
-    /// The number of the script's line.
+    /// The script that is traced.
+    script: &'a [u8],
+    /// The number of its line.
     line: usize,
+    /// How many datagrams were sent, once the routers have started.
+    sent: Option<usize>,
+    /// How many were sent before the line.
+    sent_before: usize,
     /// The table of each router, as a reader of the records knows it.
     known: Vec<Routes>,
     /// The timers of each router, as the last record of it has them.
@@ -95,7 +104,7 @@ fn know(known: &mut [Timers], router: usize, timers: Timers)
 
 impl<'a, W: Write> Tracer<'a, W> {
     /// It is at no line yet, and knows no table.
-    pub fn new(alloc: Global, out: &'a mut W) -> Tracer<'a, W>
+    pub fn new(alloc: Global, script: &'a [u8], out: &'a mut W) -> Tracer<'a, W>
         ensures known { result.known.items ≡ [] }
         ensures timers { result.timers.items ≡ [] }
         ensures out { result.out.now ≡ out.old }
@@ -103,7 +112,10 @@ impl<'a, W: Write> Tracer<'a, W> {
     {
         Tracer {
             alloc,
+            script,
             line: 0,
+            sent: None,
+            sent_before: 0,
             known: Vec::new(alloc),
             timers: Vec::new(alloc),
             out,
@@ -167,9 +179,10 @@ impl<'a, W: Write> Tracer<'a, W> {
         ensures line { self.new.line ≡ self.old.line }
         ensures out { self.new.out ≡ self.old.out }
     {
+        self.sent = Some(lab.sent().len());
         Ok(StartRecord {
             line: self.line,
-            record: "start",
+            word: "start",
             now: now.ms(),
             routers: self.router_records(lab)?,
             sent: sent_since(self.alloc, lab, 0)?,
@@ -223,13 +236,14 @@ impl<'a, W: Write> Tracer<'a, W> {
         ensures line { self.new.line ≡ self.old.line }
         ensures out { self.new.out ≡ self.old.out }
     {
+        self.sent = Some(lab.sent().len());
         let router = router_of(event);
         let offers = offers_of(self.alloc, lab, self.known.as_slice(), event, answer)?;
         let update = update_of(lab, self.timers.as_slice(), event);
         let news = self.news_at(lab, router)?;
         Ok(EventRecord {
             line: self.line,
-            record: "event",
+            word: "event",
             router,
             now: moment_of(event).ms(),
             event: happened(self.alloc, lab, event)?,
@@ -304,6 +318,7 @@ impl<'a, W: Write> Watch for Tracer<'a, W> {
 
     fn at_line(&mut self, number: usize) {
         self.line = number;
+        self.sent_before = self.sent.unwrap_or(0);
     }
 
     fn started(&mut self, lab: &Running<Routes>, now: Moment) -> io::Result<()> {
@@ -348,12 +363,13 @@ impl<'a, W: Write> Watch for Tracer<'a, W> {
     }
 
     fn refused(&mut self, why: &Refusal) -> io::Result<()> {
+        let hint = self.hint_of(why)?;
         let why = format!(in self.alloc; "{why}")?;
-        self.write_refused(&why)
+        self.write_refused(&why, hint)
     }
 
     fn unmet(&mut self, unmet: &Unmet) -> io::Result<()> {
         let why = format!(in self.alloc; "{unmet}")?;
-        self.write_refused(&why)
+        self.write_refused(&why, None)
     }
 }

@@ -1,10 +1,12 @@
 //! Records written as lines.
 
-ghost use Rattle.std.specs.Prelude.{◌<◌, ℕ, OnErr, OnOk, length, take};
+ghost use Rattle.std.specs.Prelude.{◌≡◌, ◌<◌, ℕ, IfOk, OnErr, OnOk, length, take};
 ghost use Rattle.std.specs.Io.KnownBytes.{Appends};
+ghost use Rattle.ripngd_trace.specs.Json.{text_of};
 ghost use Rattle.ripngd_trace.specs.Lines.{WritesLess, WritesRecord};
 
-use serde::Serialize;
+use crate::json_text::JsonText;
+use crate::to_json::ToJson;
 use std::alloc::{AllocError, Global};
 use std::io::{self, ErrorKind, Write};
 
@@ -12,15 +14,22 @@ use std::io::{self, ErrorKind, Write};
 ///
 /// # Errors
 /// Want of memory, before anything is written; else the fault of `out`, behind a beginning of the line.
-pub fn write_record<T: Serialize, W: Write>(alloc: Global, value: &T, out: &mut W) -> io::Result<()>
-    ensures whole { OnOk result (WritesRecord value.now (W.contents out.old) (W.contents out.new)) }
+pub fn write_record<T: ToJson, W: Write>(alloc: Global, value: &T, out: &mut W) -> io::Result<()>
+    ensures whole { OnOk result (WritesRecord (T.json value.now) (W.contents out.old) (W.contents out.new)) }
     ensures broken { OnErr result (WritesLess (W.contents out.old) (W.contents out.new)) }
 {
-    let Ok(mut text) = serde_json::to_vec(alloc, value) else {
-        return Err(io::Error::from(AllocError));
-    };
+    let mut text = text_of(alloc, value)?;
     text.push(b'\n')?;
     write_bytes(&text, out)
+}
+
+/// The text of a value, as JSON.
+fn text_of<T: ToJson>(alloc: Global, value: &T) -> Result<Vec<u8>, AllocError>
+    ensures { IfOk result (λ bytes. bytes.items ≡ text_of (T.json value.now)) }
+{
+    let mut text = JsonText::new(alloc);
+    value.write_json(&mut text);
+    text.into_bytes()
 }
 
 /// Writes bytes, as `write_all` does; but where that fails, it is known what was written.

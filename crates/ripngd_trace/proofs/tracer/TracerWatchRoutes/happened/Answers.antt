@@ -1,4 +1,5 @@
 use Rattle.std.proofs.Common.{ℕ, List, OnErr, OnOk, Option, ap, subst}
+use Rattle.ripngd_trace.specs.Json.{json_of_event}
 use Rattle.ripngd_trace.specs.Lines.{WritesLess, WritesRecord}
 use Rattle.ripngd_trace.proofs.Reading.{on_err, on_ok}
 use Rattle.ripngd_trace.proofs.tracer.TracerWatchRoutes.happened.Goals as goal
@@ -6,7 +7,7 @@ use Rattle.ripngd_trace.proofs.tracer.TracerWatchRoutes.happened.Goals as goal
 pub returns-clause-takes : goal.returns-clause-takes
 returns-clause-takes g c =
     on_ok c.write_record.result
-    (subst (λ (o : Option (List ℕ)). OnOk c.write_record.result (WritesRecord c.in_ok-record.record o (g.W.Write.contents c.write_record.new.out))) (ap (λ r. g.W.Write.contents r.now) c.in_ok-record.ensures.out)
+    (subst (λ (o : Option (List ℕ)). OnOk c.write_record.result (WritesRecord (json_of_event c.in_ok-record.record) o (g.W.Write.contents c.write_record.new.out))) (ap (λ r. g.W.Write.contents r.now) c.in_ok-record.ensures.out)
     c.write_record.ensures.whole)
     (λ writes. (
       record {

@@ -1,0 +1,93 @@
+//! A text of JSON (RFC 8259) that grows, token by token.
+
+ghost use Rattle.std.specs.Prelude.{◌≡◌, [], ◌∷◌, ◌++◌, false, IfOk, IfSome, decimal};
+ghost use Rattle.json.specs.Print.{IsPrintable, print};
+ghost use Rattle.json.specs.Reads.{token_of};
+ghost use Rattle.json.specs.Token.{key, number, string};
+ghost use Rattle.json.specs.Tree.{json_tokens};
+ghost use Rattle.ripngd_trace.specs.Growing.{Grows};
+
+use crate::to_json::ToJson;
+use json::{Token, Writer};
+use std::alloc::{AllocError, Global};
+use std::fmt::Display;
+
+/// A text that grows, until memory is refused for it. Whoever writes it asks only at its end whether that was so.
+#[derive(Drop)]
+pub struct JsonText {
+    alloc: Global,
+    writer: Writer,
+    /// Whether memory was refused.
+    refused: bool,
+}
+
+impl JsonText {
+    /// Nothing is written yet.
+    pub fn new(alloc: Global) -> JsonText
+        ensures before { result.writer.before ≡ [] }
+        ensures nothing { result.writer.tokens ≡ [] }
+    {
+        JsonText {
+            alloc,
+            writer: Writer::new(Vec::new(alloc)),
+            refused: false,
+        }
+    }
+
+    /// The whole text.
+    ///
+    /// # Errors
+    /// Where memory was refused.
+    pub fn into_bytes(self) -> Result<Vec<u8>, AllocError>
+        ensures { IfOk result (λ bytes. (self.refused ≡ false) × (bytes.items ≡ self.writer.before ++ print self.writer.tokens)) }
+    {
+        let JsonText {
+            alloc: _,
+            writer,
+            refused,
+        } = self;
+        if refused {
+            return Err(AllocError);
+        }
+        Ok(writer.into_inner())
+    }
+
+    /// Writes a token, with the comma that it wants before it.
+    pub fn token(&mut self, token: Token<'_>)
+        requires { IsPrintable (token_of token) }
+        ensures { Grows self.old self.new (token_of token.entry ∷ []) }
+    {
+        match self.writer.token(token) {
+            Ok(()) => {}
+            Err(_) => self.refused = true,
+        }
+    }
+
+    /// Writes a number.
+    pub fn number(&mut self, n: u64)
+        ensures { Grows self.old self.new (number (decimal n) ∷ []) }
+    {
+        match self.writer.u64(n) {
+            Ok(()) => {}
+            Err(_) => self.refused = true,
+        }
+    }
+
+    /// Writes a string: what a value prints.
+    pub fn printed<T: Display>(&mut self, value: &T)
+        ensures { IfSome (T.output value.now) (λ text. Grows self.old self.new (string text ∷ [])) }
+    {
+        match format!(in self.alloc; "{value}") {
+            Ok(text) => self.token(Token::String(text.as_str())),
+            Err(_) => self.refused = true,
+        }
+    }
+
+    /// Writes a member of an object.
+    pub fn member<T: ToJson>(&mut self, name: &str, value: &T)
+        ensures { Grows self.old self.new (key name.now ∷ json_tokens (T.json value.now)) }
+    {
+        self.token(Token::Key(name));
+        value.write_json(self);
+    }
+}
