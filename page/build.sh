@@ -67,7 +67,7 @@ check_module() {
     local status=0
     if [ "$(noted kit)" != "$(kit)" ] || [ "$(noted wasm-opt)" != "$(wasm_opt)" ]; then
         echo "skipped: another kit or another wasm-opt than those of $file is here, so its module is not made again"
-    elif [ ! -d crates/lab_page/out ]; then
+    elif [ ! -d crates/ripngd_trace/out/rlib ]; then
         echo "skipped: the libraries are not here, so the module of $file is not made again"
     else
         page/wasm.sh . "$room/again.wasm" > "$room/said" 2>&1 || status=$?

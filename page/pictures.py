@@ -17,11 +17,11 @@ FILE = os.path.realpath(os.path.join(ROOT, "docs/lab.html"))
 
 
 def main():
-    page = browser.open_browser("chromium", 600, 760)
+    page = browser.open_browser("chromium", 600, 1040)
     try:
         for name, (step, router) in PICTURES.items():
             page.open(f"file://{FILE}#{name}&step={step}&router={router}&prefix=2001:db8::/32")
-            page.wait(f'document.getElementById("where").textContent.startsWith("step {step} ") && document.querySelector("#walk")', 60)
+            page.wait(f'document.getElementById("where").textContent.startsWith("step {step} ") && document.querySelector("#walk") !== null', 60)
             page.picture(os.path.join(ROOT, f"docs/pictures/{name}.png"))
     finally:
         page.close()

@@ -29,7 +29,7 @@ name=lab_page
 # The code of the library, over proved ones: a toolchain whose clang keeps what it is given.
 proved_code() {
     local libraries
-    mapfile -t libraries < <(printf -- '-L\ndependency=%s\n' "$from"/crates/*/out/statements)
+    mapfile -t libraries < <(printf -- '-L\ndependency=%s\n' "$from"/crates/*/out/rlib)
     mkdir "$room/toolchain"
     cp -as "$kit/toolchain/." "$room/toolchain/"
     rm "$room/toolchain/bin/clang"
@@ -46,7 +46,7 @@ proved_code() {
 uses() {
     local library
     for library in $(sed -n "s/^$name staticlib://p" "$root/crates.txt"); do
-        printf -- '--extern\n%s=%s\n' "$library" "$from/crates/$library/out/statements/$library.rlib"
+        printf -- '--extern\n%s=%s\n' "$library" "$from/crates/$library/out/rlib/$library.rlib"
     done
 }
 
@@ -69,6 +69,7 @@ MAIN
 }
 
 # The layout and the triple are those that the kit writes for WebAssembly. What is for x86-64 alone goes, and so does a program's `main`.
+# In a program, the function that a library exports has a name of the kit's own.
 retarget() {
     local layout='e-m:e-p:64:64-p10:8:8-p20:8:8-i64:64-i128:128-n32:64-S128-ni:1:10:20'
     sed -e "s|^target datalayout = .*|target datalayout = \"$layout\"|" \
@@ -76,7 +77,7 @@ retarget() {
         -e '/^attributes /{s/ sanitize_address//; s/ "frame-pointer"="[a-z]*"//; s/ "probe-stack"="inline-asm"//; s/ "stack-probe-size"="[0-9]*"//
             s/ "target-cpu"="[^"]*"//; s/{ }/{ nounwind }/}' \
         -e '/^define i32 @main() /,/^}/d' \
-        -e "s/@\"$name::\(${name}_[a-z_]*\)\"/@\1/" \
+        -e "$renamed" \
         -e "s/^define \(internal \)\?\(.*\)@\(${name}_[a-z_]*\)(\(.*\)) #0 {/define \2@\3(\4) #0 \"wasm-export-name\"=\"\3\" {/"
 }
 
@@ -102,11 +103,11 @@ compile() {
 
 if [ "$from" = --try ]; then
     unproved_code || exit
-    level=-O1
+    level=-O1 renamed="s/@\"$name::\(${name}_[a-z_]*\)\"/@\1/"
 else
     from=$(realpath "$from")
     proved_code
-    level=-O3
+    level=-O3 renamed=
 fi
 if [ ! -s "$room/module.bc" ]; then
     cat "$room/said" >&2

@@ -25,7 +25,8 @@ function setDraft(text, name = editor.name) {
 
 // A script that is no example any more has a name of its own. The draft outlives the page, if the browser keeps it.
 function showDraft({ text, name }) {
-  const area = byId('script'), before = area.value, example = SCRIPTS.get(name)?.text === text, lines = text.split('\n');
+  const area = byId('script'), before = area.value, lines = text.split('\n');
+  const example = SCRIPTS.get(name)?.text === text;
   Object.assign(editor, { text, name: !example && SCRIPTS.has(name) ? freeName(`own-${name}`, text) : name });
   if (before !== text) {
     const at = [...text].findIndex((sign, index) => sign !== before[index]);
@@ -47,7 +48,8 @@ function showDraft({ text, name }) {
 function showScripts() {
   const ofKind = kind => [...SCRIPTS].filter(([, script]) => script.kind === kind).map(([name]) => name);
   const kinds = [...new Set([...SCRIPTS.values()].map(({ kind }) => kind))], names = draftNames();
-  const groups = [['your own', names], ...kinds.map(kind => [kind, ofKind(kind)])].filter(([, listed]) => listed.length > 0);
+  const all = [['your own', names], ...kinds.map(kind => [kind, ofKind(kind)])];
+  const groups = all.filter(([, listed]) => listed.length > 0);
   if (editor.listed !== names.join()) {
     fill('examples', html`<option value="" disabled>own script</option>${groups.map(([kind, listed]) =>
       html`<optgroup label="${kind}">${listed.map(name => html`<option>${name}</option>`)}</optgroup>`)}`);
@@ -61,7 +63,9 @@ const scriptNamed = name => SCRIPTS.get(name)?.text ?? draftNamed(name)?.text;
 // A name for a script, which no other draft has.
 function freeName(name, text) {
   let free = name;
-  for (let number = 2; (draftNamed(free)?.text ?? text) !== text; number++) free = name.replace(/(\.lab)?$/, `-${number}$1`);
+  for (let number = 2; (draftNamed(free)?.text ?? text) !== text; number++) {
+    free = name.replace(/(\.lab)?$/, `-${number}$1`);
+  }
   return free;
 }
 
@@ -98,15 +102,17 @@ function openScript(text, name) {
 }
 
 // ---- Running it ----
+const AGAIN = html`<button data-act="again">again</button>`;
+
 // Runs a script and hands its trace on, unless a later one is run meanwhile. What keeps it from running is said.
 async function runScript(script, then) {
   clearTimeout(editor.timer);
-  const run = traced(script), again = html`<button data-act="again">again</button>`;
-  const notice = setTimeout(() => say('running .. ', false, html`<button data-act="stop" title="Escape">stop</button>`), PAUSE);
+  const run = traced(script), stop = html`<button data-act="stop" title="Escape">stop</button>`;
+  const notice = setTimeout(() => say('running .. ', false, stop), PAUSE);
   try {
     await then(await run);
   } catch (error) {
-    if (error !== CALLED_OFF) say(`not run: ${error.message} `, true, again);
+    if (error !== CALLED_OFF) say(`not run: ${error.message} `, true, AGAIN);
   } finally {
     clearTimeout(notice);
   }
@@ -114,7 +120,7 @@ async function runScript(script, then) {
 
 function stopRun() {
   callOff();
-  say('The run was stopped. ', true, html`<button data-act="again">again</button>`);
+  say('The run was stopped. ', true, AGAIN);
 }
 
 function runDraft(stepOf) {

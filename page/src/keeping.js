@@ -1,5 +1,5 @@
-// What the browser keeps: drafts, and the address below which the page stands on the web. A browser gives all files of a disk one
-// store, so the names of drafts begin with a sum of this file: of its sources, and of the script that it was given.
+// What the browser keeps: drafts, and the address below which the page stands on the web. A browser gives all files of
+// a disk one store, so the names of drafts begin with a sum of this file: of its sources, and of a script of its own.
 
 const PLACE = 'ripngd address', MOST_DRAFTS = 40;
 const sumOf = text => [...text].reduce((sum, sign) => Math.imul(sum ^ sign.codePointAt(0), 16777619), 2166136261) >>> 0;
@@ -15,7 +15,8 @@ function kept(access) {
   }
 }
 
-const draftNames = () => (kept(() => Object.keys(localStorage)) ?? []).filter(key => key.startsWith(KEPT)).map(key => key.slice(KEPT.length)).sort();
+const draftKeys = () => (kept(() => Object.keys(localStorage)) ?? []).filter(key => key.startsWith(KEPT));
+const draftNames = () => draftKeys().map(key => key.slice(KEPT.length)).sort();
 const draftNamed = name => kept(() => JSON.parse(localStorage.getItem(KEPT + name)));
 // The drafts, the latest first.
 const drafts = () => draftNames().map(name => ({ name, ...draftNamed(name) })).sort((a, b) => b.at - a.at);

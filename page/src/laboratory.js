@@ -1,5 +1,5 @@
-// The laboratory beside the page: a worker that runs scripts, so that a long one does not hold up the page and can be called off.
-// Both the worker's text and the module stand in the page.
+// The laboratory beside the page: a worker that runs scripts, so that a long one does not hold up the page and can be
+// called off. Both the worker's text and the module stand in the page.
 
 const laboratory = { worker: null, fail: null };
 const CALLED_OFF = new Error('the run was called off');

@@ -191,10 +191,10 @@ function listen() {
 }
 
 // ---- The page comes up ----
-// `#NAME` opens the example or lesson of that name. `step=12&router=1&prefix=2001:db8::/32` shows that step, and why that router's metric
-// is what it is; `script=` has a script itself.
+// `#NAME` opens the example or lesson of that name. `step=12&router=1&prefix=2001:db8::/32` shows that step, and why that
+// router's metric is what it is; `script=` has a script itself.
 async function followAddress() {
-  const asked = new URLSearchParams(location.hash.slice(1)), [[first = ''] = []] = [...asked], script = asked.get('script');
+  const asked = new URLSearchParams(location.hash.slice(1)), [first = ''] = asked.keys(), script = asked.get('script');
   const text = `route ${asked.get('router')} ${asked.get('prefix')}`, step = asked.get('step') ?? '';
   const example = [first, `${first}.lab`].find(name => SCRIPTS.has(name));
   try {

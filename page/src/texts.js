@@ -47,7 +47,8 @@ export const LINES = [
   ['lose N', 'datagram N is lost: it comes to nobody from now on'],
   ['round NOW', 'every router ticks, then all that was sent comes'],
   ['rounds K NOW GAP', 'K rounds, at NOW and each GAP later'],
-  ['phases K SEED', 'K minutes, in each of which every regular update comes; the rest is chance. Says which last changed a table'],
+  ['phases K SEED',
+    'K minutes, in each of which every regular update comes; the rest is chance. Says which last changed a table'],
   ['cut LINK', 'nothing crosses the link in tell, hear and rounds'],
   ['mend LINK', 'all crosses it again'],
   ['silent R', 'router R takes no part in them'],
@@ -88,7 +89,8 @@ export function describe({ record, why, routers, router, event, sent, changes, p
   if (record === 'refused' && why.startsWith('expected')) return why;
   if (record === 'refused') return `refused ${why}${reasonOf(why.split(' ').findLast(word => REASONS.has(word)))}`;
   if (record === 'lost') return `datagram ${datagram} is lost`;
-  if (record === 'phases') return `${plural(phases, 'phase')}, ${last === null ? 'no table changed' : `last change in ${last}`}`;
+  const ended = last === null ? 'no table changed' : `last change in ${last}`;
+  if (record === 'phases') return `${plural(phases, 'phase')}, ${ended}`;
   if (record !== 'event') return `${record}: ${plural(prints.length, 'line')}`;
   const becomes = ({ change, metric }) => change === 'add' ? `at ${metric}` : 'withdrawn';
   const one = changes.map(change => `, ${change.prefix} ${becomes(change)}`);

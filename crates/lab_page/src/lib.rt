@@ -1,7 +1,7 @@
 //! The laboratory as a static library, for a page in a browser: a script goes in, its trace comes out.
 #![tactic(auto)]
 
-ghost use Rattle.std.specs.Prelude.{◌≡◌, ◌⊎◌, ◌≤◌, ◌×◌, [], Option, Some, length, take};
+ghost use Rattle.std.specs.Prelude.{◌≡◌, ◌⊎◌, ◌≤◌, [], Ok, Option, Some, false, length, take, true};
 ghost use Rattle.ripng_world.specs.Labs.{LabValue};
 ghost use Rattle.ripngd_trace.specs.Reading.{IsTraced};
 
@@ -24,8 +24,8 @@ enum Status {
 
 /// Copies a trace to the front of `out`, and says how long it is.
 fn hand_over(ended: io::Result<bool>, lines: &[u8], out: &mut [u8], written: &mut usize) -> Status
-    ensures done { result ≡ Status.Done → ended ≡ Result.Ok true }
-    ensures refused { result ≡ Status.Refused → ended ≡ Result.Ok false }
+    ensures done { result ≡ Status.Done → ended ≡ Ok true }
+    ensures refused { result ≡ Status.Refused → ended ≡ Ok false }
     ensures whole { result ≡ Status.Done ⊎ result ≡ Status.Refused → take written.new out.new ≡ lines.now }
     ensures fits { result ≡ Status.Done ⊎ result ≡ Status.Refused → written.new ≤ length out.new }
 {
@@ -33,10 +33,10 @@ fn hand_over(ended: io::Result<bool>, lines: &[u8], out: &mut [u8], written: &mu
         return Status::OutOfMemory;
     };
     *written = lines.len();
-    let Some(front) = out.get_mut(..lines.len()) else {
+    if lines.len() > out.len() {
         return Status::NoRoom;
-    };
-    front.copy_from_slice(lines);
+    }
+    out[..lines.len()].copy_from_slice(lines);
     if done { Status::Done } else { Status::Refused }
 }
 
