@@ -4,7 +4,7 @@ use Rattle.std.proofs.lemmas.List.{length-map}
 use Rattle.router_core.specs.Config.{Config as RouterConfig}
 use Rattle.ripngd_config.specs.Configuration.{HasOneEach, IsMadeOf}
 use Rattle.ripngd_config.specs.declared.configuration.Config.{Config}
-use Rattle.ripngd_config.specs.declared.place.Place.{Place}
+use Rattle.ripngd_engine.specs.declared.peer.Place.{Place}
 use Rattle.ripngd_config.specs.declared.tables.Document.{Document}
 
 pub one_each : (tag : ℕ) (quiet : Bool) (d : Document) (c : Config) → IsMadeOf tag quiet d c → HasOneEach c

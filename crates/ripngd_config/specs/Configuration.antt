@@ -17,7 +17,7 @@ use Rattle.ripngd_config.specs.Twice.{AreAllPeersDistinct, AreGroupPortsApart, A
 use Rattle.ripngd_config.specs.declared.configuration.Config.{Config}
 use Rattle.ripngd_config.specs.declared.fault.ConfigFault.{ConfigFault}
 use Rattle.ripngd_config.specs.declared.fault.ConfigFault.TheVariants.{BadToml, Router}
-use Rattle.ripngd_config.specs.declared.place.Place.{Place}
+use Rattle.ripngd_engine.specs.declared.peer.Place.{Place}
 use Rattle.ripngd_config.specs.declared.tables.Document.{Document}
 use Rattle.ripngd_config.specs.declared.tables.PrefixTable.{PrefixTable}
 

@@ -4,7 +4,8 @@ use Rattle.std.specs.List.{AllPairs, list_any}
 use Rattle.ripngd_config.specs.Paths.{member_text}
 use Rattle.ripngd_config.specs.declared.fault.PathFault.{PathFault}
 use Rattle.ripngd_config.specs.declared.fault.PathFault.TheVariants.{PeerTwice, PortTwice}
-use Rattle.ripngd_config.specs.declared.peer.Peer.{Peer}
+use Rattle.ripngd_engine.specs.Peers.{has_same}
+use Rattle.ripngd_engine.specs.declared.peer.Peer.{Peer}
 use Rattle.ripngd_config.specs.declared.tables.InterfaceTable.{InterfaceTable}
 
 -- one of the earlier interfaces stands at the local port of this one
@@ -40,10 +41,6 @@ pub record AreApart (p q : Peer) : Type 0 where
 -- any two peers are apart
 abbrev pub ArePeersDistinct : List Peer → Type 0
 ArePeersDistinct = AllPairs AreApart
-
--- one of the earlier peers has the address or the local port of this one
-abbrev pub has_same : List Peer → Peer → Bool
-has_same earlier peer = list_any (λ q. q.addr == peer.addr || q.local_port == peer.local_port) earlier
 
 -- the peers of each interface are
 abbrev pub AreAllPeersDistinct : List InterfaceTable → Type 0

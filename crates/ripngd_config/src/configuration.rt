@@ -7,13 +7,12 @@ ghost use Rattle.router_core.specs.Config.{IsConfig};
 use crate::document::document_of;
 use crate::fault::ConfigFault;
 use crate::naming::subject_of;
-use crate::peer::Peer;
-use crate::place::Place;
 use crate::tables::{Document, InterfaceTable};
 use crate::twice::{check_all_peers, check_group_ports, check_ports};
 use prefix6::Prefix;
 use rand_core::SeedableRng;
 use rand_pcg::Pcg32;
+use ripngd_engine::{Peer, Place};
 use router_core::{Interface, RouterConfig};
 use std::alloc::{AllocError, Global};
 

@@ -10,7 +10,7 @@ ghost use Rattle.ripngd_config.specs.Values.{IsReadAt, IsSomeNumber};
 
 use crate::fault::ConfigFault;
 use crate::from_section::{FromSection, tables_at};
-use crate::peer::Peer;
+use ripngd_engine::Peer;
 use crate::values::Section;
 use prefix6::Prefix;
 use router_core::Interface;

@@ -4,10 +4,11 @@ ghost use Rattle.std.specs.Prelude.{◌≡◌, ◌==◌, ◌++◌, IfErr, OnOk, 
 ghost use Rattle.std.specs.List.{list_any};
 ghost use Rattle.ripngd_config.specs.Faults.{RefusesAt};
 ghost use Rattle.ripngd_config.specs.Paths.{path_text};
-ghost use Rattle.ripngd_config.specs.Twice.{AreAllPeersDistinct, AreGroupPortsApart, ArePeersDistinct, ArePortsDistinct, IsFirstGroupPortTaken, IsFirstOfPeersTwice, IsFirstPeerTwice, IsFirstPortTwice, has_group_port, has_port, has_same, is_taken, stands_at};
+ghost use Rattle.ripngd_engine.specs.Peers.{has_same};
+ghost use Rattle.ripngd_config.specs.Twice.{AreAllPeersDistinct, AreGroupPortsApart, ArePeersDistinct, ArePortsDistinct, IsFirstGroupPortTaken, IsFirstOfPeersTwice, IsFirstPeerTwice, IsFirstPortTwice, has_group_port, has_port, is_taken, stands_at};
 
 use crate::fault::{ConfigFault, PathFault};
-use crate::peer::Peer;
+use ripngd_engine::Peer;
 use crate::table_path::TablePath;
 use crate::tables::InterfaceTable;
 use std::alloc::Global;
