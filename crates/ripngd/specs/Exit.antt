@@ -8,37 +8,36 @@ use Rattle.clap.specs.declared.error.kind.ErrorKind.TheVariants.{DisplayHelp, Di
 use Rattle.ripngd_command_line.specs.declared.asked.Ask.{Ask}
 use Rattle.ripngd_command_line.specs.declared.asked.Ask.TheVariants as asks
 use Rattle.ripngd_daemon.specs.declared.failure.Failure.{Failure}
+use Rattle.ripngd_daemon.specs.declared.history.History.{History}
 use Rattle.ripngd_daemon.specs.declared.failure.Failure.TheVariants as failures
 use Rattle.ripngd_command_line.specs.Asked.{Asks, IsMisused}
 use Rattle.ripngd_daemon.specs.Asking.{IsAnswerWritten}
 use Rattle.ripngd_daemon.specs.Checked.{IsChecked}
 use Rattle.ripngd_command_line.specs.CommandLine.{ripngd}
 use Rattle.ripngd_daemon.specs.Failing.{MayFail}
-use Rattle.ripngd_daemon.specs.Ran.{IsRan}
+use Rattle.ripngd_daemon.specs.Run.{IsRan}
 use Rattle.ripngd_daemon.specs.Tabled.{IsTabled}
 use Rattle.ripngd_show.specs.Shown.{IsShown}
-use Rattle.ripngd_udp.specs.Told.{PortsState}
 
--- the bytes of a writer grew by the answer to what is asked, of a text that the file which is asked about may hold, and of a run by
--- what the calls of its link make, over ports of which this is known. What `lab` prints, and that a trace is that of its script, is
--- not said here
-abbrev pub AnswersAsk : (List ℕ → List ℕ → Type 0) → PortsState → Ask → Bool → Option (List ℕ) → Option (List ℕ) → Type 0
-AnswersAsk holds ports (asks.Show hex) accepted old new = (text : List ℕ) × IsShown hex.now accepted text × Appends old new text
-AnswersAsk holds ports (asks.Check file) accepted old new =
+-- the bytes of a writer grew by the answer to what is asked, of a text that the file which is asked about may hold, and of a run of
+-- which this is known. What `lab` prints, and that a trace is that of its script, is not said here
+abbrev pub AnswersAsk : (List ℕ → List ℕ → Type 0) → History → Ask → Bool → Option (List ℕ) → Option (List ℕ) → Type 0
+AnswersAsk holds history (asks.Show hex) accepted old new = (text : List ℕ) × IsShown hex.now accepted text × Appends old new text
+AnswersAsk holds history (asks.Check file) accepted old new =
     (config : List ℕ) × holds file.now config × IsChecked config accepted old new
-AnswersAsk holds ports (asks.Lab file) accepted old new = (script : List ℕ) × holds file.now script
-AnswersAsk holds ports (asks.Trace file) accepted old new = (script : List ℕ) × holds file.now script
-AnswersAsk holds ports (asks.Explain file) accepted old new = (script : List ℕ) × holds file.now script
-AnswersAsk holds ports (asks.Run order) accepted old new =
-    (config : List ℕ) × holds order.config.now config × IsRan order config ports accepted old new
-AnswersAsk holds ports (asks.Ctl question) accepted old new = (answer : List ℕ) × IsAnswerWritten answer accepted old new
-AnswersAsk holds ports (asks.Table file) accepted old new = (log : List ℕ) × holds file.now log
+AnswersAsk holds history (asks.Lab file) accepted old new = (script : List ℕ) × holds file.now script
+AnswersAsk holds history (asks.Trace file) accepted old new = (script : List ℕ) × holds file.now script
+AnswersAsk holds history (asks.Explain file) accepted old new = (script : List ℕ) × holds file.now script
+AnswersAsk holds history (asks.Run order) accepted old new =
+    (config : List ℕ) × holds order.config.now config × IsRan order config history accepted old new
+AnswersAsk holds history (asks.Ctl question) accepted old new = (answer : List ℕ) × IsAnswerWritten answer accepted old new
+AnswersAsk holds history (asks.Table file) accepted old new = (log : List ℕ) × holds file.now log
     × (text : List ℕ) × IsTabled log accepted text × Appends old new text
 
--- the bytes of a writer grew by the answer to what the words ask, over some ports
+-- the bytes of a writer grew by the answer to what the words ask
 abbrev pub AnswersWords : (List ℕ → List ℕ → Type 0) → List Text → Bool → Option (List ℕ) → Option (List ℕ) → Type 0
 AnswersWords holds words accepted old new =
-    (ask : Ask) × Asks words ask × (ports : PortsState) × AnswersAsk holds ports ask accepted old new
+    (ask : Ask) × Asks words ask × (history : History) × AnswersAsk holds history ask accepted old new
 
 -- a file may hold anything: of those of the system nothing is known
 abbrev pub holds_any : List ℕ → List ℕ → Type 0

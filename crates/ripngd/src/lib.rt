@@ -7,9 +7,11 @@ mod subcommands;
 
 pub use laboratory::{explain, lab, trace};
 pub use ripngd_command_line::{Ask, Order, Question, VERSION, ask};
-pub use ripngd_config::{Config, ConfigFault, Peer, read_config};
+pub use ripngd_config::{Config, ConfigFault, read_config};
 pub use ripngd_daemon::{check, table};
-pub use ripngd_engine::{Engine, EngineFault, Link, LinkFault, Received, Report, TimeSource};
+pub use ripngd_engine::{
+    Engine, EngineFault, Link, LinkFault, Peer, Place, Received, Report, TimeSource,
+};
 pub use ripngd_show::{PrintFault, show};
 pub use ripngd_udp::{Udp, UdpError, Uptime};
 pub use status::program;

@@ -10,10 +10,9 @@ use crate::subcommands::{explain_file, lab_file, show_digits, trace_file};
 use clap::error::ErrorKind;
 use ripngd_command_line::{Ask, ask, is_misused, misuse_text};
 use ripngd_daemon::{
-    Failure, FileSource, Losses, NOTHING_LOST, SystemFiles, check_file, ctl, run, table_file,
-    write_failure, write_losses,
+    Failure, FileSource, History, SystemFiles, check_file, ctl, run, table_file, write_failure,
+    write_losses,
 };
-use ripngd_udp::Ports;
 use std::fs::File;
 use std::io::{self, Write};
 use std::net::Net;
@@ -60,12 +59,12 @@ pub fn program<R: AllocGlobal + Files<File = File> + Print + Clock + Net, O: Wri
     ensures usage { result ≡ 2 → HaveFault (map (λ w. w.now) words.now) }
     ensures in_range { result ≤ 3 }
 {
-    let mut lost = NOTHING_LOST;
-    let status = match outcome(rt, &SystemFiles(rt), words, out, err, &mut lost) {
+    let mut history = History::new();
+    let status = match outcome(rt, &SystemFiles(rt), words, &mut history, out, err) {
         Ok(status) => status,
         Err(failure) => report(failure, out, err),
     };
-    let _ = write_losses(lost, err);
+    let _ = write_losses(history.lost(), err);
     let _ = err.flush();
     status as u8
 }
@@ -81,9 +80,9 @@ fn outcome<
     rt: &R,
     files: &F,
     words: &'a [&'a str],
+    history: &mut History,
     out: &mut O,
     err: &mut E,
-    lost: &mut Losses,
 ) -> Result<Status, Failure<'a>>
     ensures done { result ≡ Ok Status.Done
         → AnswersWords (F.holds files.now) (map (λ w. w.now) words.now) true (O.contents out.old) (O.contents out.new)
@@ -93,10 +92,9 @@ fn outcome<
     ensures usage { result ≡ Ok Status.Usage → HaveFault (map (λ w. w.now) words.now) }
     ensures failed { IfErr result (FailsWords (map (λ w. w.now) words.entry.now)) }
 {
-    let mut ports = Ports::new();
     match ask(rt.alloc(), words) {
         Ok(asked) if is_misused(asked) => Ok(explain_misuse(asked, err)),
-        Ok(asked) => answer(rt, files, asked, &mut ports, out, err, lost),
+        Ok(asked) => answer(rt, files, asked, history, out, err),
         Err(error) => explain(&error, out, err),
     }
 }
@@ -120,12 +118,11 @@ fn accepts<
     rt: &R,
     files: &F,
     asked: Ask<'a>,
-    ports: &mut Ports,
+    history: &mut History,
     out: &mut O,
     err: &mut E,
-    lost: &mut Losses,
 ) -> Result<bool, Failure<'a>>
-    ensures answered { IfOk result (λ accepted. AnswersAsk (F.holds files.now) ports.new asked.entry accepted
+    ensures answered { IfOk result (λ accepted. AnswersAsk (F.holds files.now) history.new asked.entry accepted
         (O.contents out.old) (O.contents out.new)) }
     ensures failed { IfErr result (MayFail asked.entry) }
 {
@@ -135,7 +132,7 @@ fn accepts<
         Ask::Lab(file) => lab_file(rt.alloc(), files, file, out, err),
         Ask::Trace(file) => trace_file(rt.alloc(), files, file, out),
         Ask::Explain(file) => explain_file(rt.alloc(), files, file, out),
-        Ask::Run(order) => run(rt, files, order, ports, out, err, lost),
+        Ask::Run(order) => run(rt, files, order, history, out, err),
         Ask::Ctl(question) => ctl(rt, question, out),
         Ask::Table(file) => table_file(rt.alloc(), files, file, out),
     }
@@ -152,19 +149,18 @@ fn answer<
     rt: &R,
     files: &F,
     asked: Ask<'a>,
-    ports: &mut Ports,
+    history: &mut History,
     out: &mut O,
     err: &mut E,
-    lost: &mut Losses,
 ) -> Result<Status, Failure<'a>>
     ensures done { result ≡ Ok Status.Done
-        → AnswersAsk (F.holds files.now) ports.new asked.entry true (O.contents out.old) (O.contents out.new) }
+        → AnswersAsk (F.holds files.now) history.new asked.entry true (O.contents out.old) (O.contents out.new) }
     ensures refused { result ≡ Ok Status.Refused
-        → AnswersAsk (F.holds files.now) ports.new asked.entry false (O.contents out.old) (O.contents out.new) }
+        → AnswersAsk (F.holds files.now) history.new asked.entry false (O.contents out.old) (O.contents out.new) }
     ensures no_usage { result ≢ Ok Status.Usage }
     ensures failed { IfErr result (MayFail asked.entry) }
 {
-    let accepted = accepts(rt, files, asked, ports, out, err, lost)?;
+    let accepted = accepts(rt, files, asked, history, out, err)?;
     if out.flush().is_err() {
         return Err(Failure::Output);
     }

@@ -1,3 +1,2 @@
 pub mod Failing
-pub mod Turns
-pub mod Lasting
+pub mod Runs

@@ -53,18 +53,3 @@ MayFail ask (failures.Ask path) = asks_at ask ≡ Some path.now
 MayFail ask (failures.Answer path) = asks_at ask ≡ Some path.now
 MayFail ask (failures.Link done) = done < turns_of ask
 MayFail ask failures.OutOfMemory = ⊤
-
--- what may fail a run of so many turns, whatever else is ordered
-abbrev pub FailsTurns : ℕ → Failure → Type 0
-FailsTurns turns failure = (order : Order) → order.turns ≡ turns → MayFail (asks.Run order) failure
-
--- what may fail a run of so many turns with this log, whatever else is ordered
-abbrev pub FailsLogged : ℕ → Option (List ℕ) → Failure → Type 0
-FailsLogged turns log failure =
-    (order : Order) → order.turns ≡ turns → option_map (λ s. s.now) order.log ≡ log → MayFail (asks.Run order) failure
-
--- what may fail a run of so many turns with this log and this path, whatever else is ordered
-abbrev pub FailsPlanned : ℕ → Option (List ℕ) → Option (List ℕ) → Failure → Type 0
-FailsPlanned turns log control failure =
-    (order : Order) → order.turns ≡ turns → option_map (λ s. s.now) order.log ≡ log
-    → option_map (λ s. s.now) order.control ≡ control → MayFail (asks.Run order) failure

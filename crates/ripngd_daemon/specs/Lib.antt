@@ -4,8 +4,6 @@ pub mod Said
 pub mod Losses
 pub mod Checked
 pub mod Tabled
-pub mod Beginning
-pub mod Ending
-pub mod Controlled
-pub mod Ran
+pub mod Written
+pub mod Run
 pub mod Asking

@@ -4,8 +4,8 @@ use Rattle.ripngd_daemon.specs.declared.failure.Failure.{Failure}
 use Rattle.ripngd_daemon.specs.declared.failure.Failure.TheVariants as failures
 use Rattle.ripngd_daemon.specs.declared.file_cause.FileCause.{FileCause}
 use Rattle.ripngd_daemon.specs.declared.file_cause.FileCause.TheVariants as files
-use Rattle.ripngd_door.specs.declared.door.DoorFault.{DoorFault}
-use Rattle.ripngd_door.specs.declared.door.DoorFault.TheVariants as doors
+use Rattle.ripngd_control.specs.declared.door.DoorFault.{DoorFault}
+use Rattle.ripngd_control.specs.declared.door.DoorFault.TheVariants as doors
 use Rattle.ripngd_show.specs.Shown.{newline}
 use Rattle.ripngd_udp.specs.declared.bind_cause.BindCause.{BindCause}
 use Rattle.ripngd_udp.specs.declared.bind_cause.BindCause.TheVariants as causes

@@ -8,7 +8,7 @@ ghost use Rattle.ripngd_daemon.specs.Said.{cause_text, failure_line, failure_tex
 ghost use Rattle.ripngd_daemon.specs.declared.failure.Failure.TheVariants as failures;
 
 use crate::file_cause::FileCause;
-use ripngd_door::DoorFault;
+use ripngd_control::DoorFault;
 use ripngd_engine::EngineFault;
 use ripngd_show::PrintFault;
 use ripngd_udp::{BindCause, UdpError};

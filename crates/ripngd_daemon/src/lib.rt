@@ -1,34 +1,29 @@
 //! One router and its files, as the program's command line orders: `run`, `ctl`, `check` and `table`, what they print, and
 //! what fails outside the program.
+//!
+//! What a run has done stands in `specs/Run`, and what may fail of what is asked in `specs/Failing`.
 #![tactic(auto)]
 
-mod asking;
-mod checking;
-mod controlled;
-mod desk;
+mod check;
+mod ctl;
 mod failure;
 mod file_cause;
-mod forwarding;
-mod limit;
-mod listening;
+mod files;
+mod history;
 mod losses;
 mod peering;
-mod plan;
-mod reading;
-mod router;
+mod run;
 mod run_log;
-mod running;
-mod subcommands;
-mod visit;
-mod warnings;
+mod table;
+mod turns;
+mod written;
 
-pub use asking::ctl;
-pub use checking::check;
+pub use check::{check, check_file};
+pub use ctl::ctl;
 pub use failure::{Failure, write_failure};
 pub use file_cause::FileCause;
-pub use forwarding::table;
-pub use losses::{NOTHING_LOST, write_losses};
-pub use reading::{FileSource, SystemFiles};
-pub use ripngd_control::Losses;
-pub use running::run;
-pub use subcommands::{check_file, table_file};
+pub use files::{FileSource, SystemFiles};
+pub use history::History;
+pub use losses::write_losses;
+pub use run::run;
+pub use table::{table, table_file};

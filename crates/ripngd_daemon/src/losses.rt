@@ -7,10 +7,12 @@ ghost use Rattle.ripngd_daemon.specs.Losses.{log_text, losses_line, nothing_lost
 
 use ripngd_control::Losses;
 use ripngd_engine::Report;
+use ripngd_udp::Udp;
 use std::io::{self, Write};
+use std::rt::Clock;
 
 /// What a run lost that lost nothing.
-pub const NOTHING_LOST: Losses = Losses {
+pub(crate) const NOTHING_LOST: Losses = Losses {
     report: Report {
         lost_sends: 0,
         lost_memory: 0,
@@ -22,24 +24,25 @@ pub const NOTHING_LOST: Losses = Losses {
 
 /// What a router lost, with what its link lost beside: sends that failed after they were taken, arrivals for which it had no
 /// room or no memory, and datagrams of strangers.
-pub(crate) fn with_link(report: Report, failed_sends: u64, arrivals: u64, strangers: u64) -> Losses
+pub(crate) fn losses_of<R: Clock>(report: Report, link: &Udp<'_, R>) -> Losses
     ensures { result ≡ record {
       report = record report {
-        lost_sends = counted report.lost_sends failed_sends;
-        lost_memory = counted report.lost_memory arrivals;
+        lost_sends = counted report.lost_sends link.now.failed_sends;
+        lost_memory = counted report.lost_memory link.now.lost_arrivals;
       };
-      arrivals = arrivals;
-      strangers = strangers;
+      arrivals = link.now.lost_arrivals;
+      strangers = link.now.strangers;
     } }
 {
+    let arrivals = link.lost_arrivals();
     Losses {
         report: Report {
-            lost_sends: report.lost_sends.saturating_add(failed_sends),
+            lost_sends: report.lost_sends.saturating_add(link.failed_sends()),
             lost_memory: report.lost_memory.saturating_add(arrivals),
             ..report
         },
         arrivals,
-        strangers,
+        strangers: link.strangers(),
     }
 }
 

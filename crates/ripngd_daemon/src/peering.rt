@@ -3,9 +3,8 @@
 ghost use Rattle.std.specs.Prelude.{◌≡◌};
 
 use prefix6::Addr6;
-use ripngd_config::Peer;
 use ripngd_control::{PeerChange, Peering, Reply};
-use ripngd_engine::LinkChange;
+use ripngd_engine::{LinkChange, Peer};
 use ripngd_udp::{PeerRefused, Udp};
 use router_core::{MAX_HOP_LIMIT, RIPNG_PORT};
 use std::rt::Clock;

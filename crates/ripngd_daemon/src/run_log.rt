@@ -1,63 +1,37 @@
-//! The file that gets the lines of a run. It is written at its end, whoever else shortens it, and locked while it is open.
+//! The log of a run: a file, standard output, or nothing. A file is written at its end, whoever else shortens it, and locked
+//! while it is open.
 
-ghost use Rattle.std.specs.Io.KnownBytes.{Appends};
-ghost use Rattle.std.specs.Prelude.{◌≡◌, ◌≢◌, ◌⊎◌, IfErr, IfOk, None, OnOk, Some, option_map, true};
+ghost use Rattle.std.specs.Prelude.{◌≡◌, ◌≢◌, ◌⊎◌, ◌++◌, [], IfErr, IfOk, OnOk, Some, option_map};
+ghost use Rattle.std.specs.Io.{WritesAtMost};
 ghost use Rattle.ripngd_command_line.specs.declared.asked.Ask.TheVariants as asks;
-ghost use Rattle.ripngd_daemon.specs.Beginning.{start_lines};
 ghost use Rattle.ripngd_daemon.specs.Failing.{MayFail};
+ghost use Rattle.ripngd_daemon.specs.Written.{begins_with};
 ghost use Rattle.ripngd_daemon.specs.declared.failure.Failure.TheVariants as failures;
 ghost use Rattle.ripngd_daemon.specs.declared.file_cause.FileCause.{FileCause};
 
 use crate::failure::{Failure, failed};
 use crate::file_cause::FileCause;
+use crate::written::{Entry, Written};
 use ripngd_command_line::Order;
 use std::fs::{self, File, OpenOptions, TryLockError};
 use std::io::{self, Print, Write};
 use std::os::unix::fs::MetadataExt;
 use std::rt::Files;
 
-/// What the lines of a run go to.
-pub(crate) trait Log: Write {
-    /// Takes away what it holds.
-    fn empty(&mut self) -> io::Result<()>;
-}
-
-impl Log for File {
-    /// Devices and pipes hold nothing that could be taken away.
-    fn empty(&mut self) -> io::Result<()> {
-        if self.metadata()?.is_file() {
-            self.set_len(0)
-        } else {
-            Ok(())
-        }
-    }
-}
-
-impl Log for io::Sink {
-    fn empty(&mut self) -> io::Result<()> {
-        Ok(())
-    }
-}
-
-/// Standard output, without a buffer.
+/// Where the lines of a log go.
 #[derive(Drop)]
-pub(crate) struct Output<'r, R>(pub(crate) &'r R);
-
-impl<R: Print> Write for Output<'_, R> {
-    fn write(&mut self, buf: &[u8]) -> io::Result<usize> {
-        self.0.write_some(buf)
-    }
-
-    fn flush(&mut self) -> io::Result<()> {
-        Ok(())
-    }
+enum Target<'r, R> {
+    Nowhere,
+    /// To standard output, without a buffer.
+    Output(&'r R),
+    File(File),
 }
 
-/// It holds nothing.
-impl<R: Print> Log for Output<'_, R> {
-    fn empty(&mut self) -> io::Result<()> {
-        Ok(())
-    }
+/// The log of a run, which gets a line for each change of a route.
+#[derive(Drop)]
+pub(crate) struct RunLog<'r, R> {
+    target: Target<'r, R>,
+    pub(crate) written: Written,
 }
 
 /// Whether two names are those of one regular file.
@@ -110,10 +84,7 @@ fn cannot_write<'a>(file: &'a str, error: &io::Error) -> Failure<'a>
 ///
 /// # Errors
 /// `Log` with its name, where it cannot be opened, or another program holds its lock; `OutOfMemory`.
-pub(crate) fn open_log<'a, R: Files<File = File>>(
-    rt: &R,
-    file: &'a str,
-) -> Result<File, Failure<'a>>
+fn open_file<'a, R: Files<File = File>>(rt: &R, file: &'a str) -> Result<File, Failure<'a>>
     ensures { IfErr result (λ f. (f ≡ failures.OutOfMemory) ⊎ ((cause : FileCause) × (f ≡ failures.Log file.entry cause))) }
 {
     let lines = OpenOptions::new()
@@ -128,26 +99,92 @@ pub(crate) fn open_log<'a, R: Files<File = File>>(
     }
 }
 
-/// Empties a log, which has a name if it is a file; or keeps what it holds, and writes behind it that a run begins. A line
-/// feed stands before that, since the last line may have been cut off.
-///
-/// # Errors
-/// `Log` with that name, where it cannot be emptied or written; `OutOfMemory`.
-pub(crate) fn begin_log<'a, L: Log>(
-    name: Option<&'a str>,
-    append: bool,
-    log: &mut L,
-) -> Result<(), Failure<'a>>
-    ensures kept { name.entry ≢ None → append ≡ true → OnOk result (Appends (L.contents log.old) (L.contents log.new) start_lines) }
-    ensures failed { IfErr result (λ f. (f ≡ failures.OutOfMemory)
-        ⊎ ((cause : FileCause) × (option_map (λ file. failures.Log file cause) name.entry ≡ Some f))) }
+/// Opens where the lines are ordered to go.
+fn open_target<'r, 'a, R: Files<File = File>>(
+    rt: &'r R,
+    order: Order<'a>,
+) -> Result<Target<'r, R>, Failure<'a>>
+    ensures { IfErr result (MayFail (asks.Run order.entry)) }
 {
-    let begun = match append {
-        true => log.write_all(b"\nstart\n"),
-        false => log.empty(),
-    };
-    match (begun, name) {
-        (Err(error), Some(file)) => Err(cannot_write(file, &error)),
-        _ => Ok(()),
+    match order.log {
+        None => Ok(Target::Nowhere),
+        Some("-") => Ok(Target::Output(rt)),
+        Some(file) => Ok(Target::File(open_file(rt, file)?)),
+    }
+}
+
+impl<R: Print> Target<'_, R> {
+    /// Takes as much as it can at once.
+    fn take(&mut self, bytes: &[u8]) -> io::Result<usize>
+        ensures { WritesAtMost result bytes.now }
+    {
+        match self {
+            Target::Nowhere => Ok(bytes.len()),
+            Target::Output(rt) => rt.write_some(bytes),
+            Target::File(file) => file.write(bytes),
+        }
+    }
+}
+
+impl<R> Target<'_, R> {
+    /// Takes away what a file holds. Devices and pipes hold nothing that could be taken away.
+    fn empty(&mut self) -> io::Result<()> {
+        match self {
+            Target::File(file) if file.metadata()?.is_file() => file.set_len(0),
+            _ => Ok(()),
+        }
+    }
+}
+
+impl<R: Print> Write for RunLog<'_, R> {
+    ghost contents = { λ log. Some log.written.bytes };
+
+    fn write(&mut self, buf: &[u8]) -> io::Result<usize> {
+        let taken = self.target.take(buf)?;
+        self.written = Written::of(&Entry::Took(&self.written, &buf[..taken]));
+        Ok(taken)
+    }
+
+    fn flush(&mut self) -> io::Result<()> {
+        Ok(())
+    }
+}
+
+impl<'r, R: Files<File = File> + Print> RunLog<'r, R> {
+    /// Opens the log that is ordered, and leaves what it holds.
+    ///
+    /// # Errors
+    /// `Log` with its name, where it cannot be opened, or another program holds its lock; `OutOfMemory`.
+    pub(crate) fn open<'a>(rt: &'r R, order: Order<'a>) -> Result<RunLog<'r, R>, Failure<'a>>
+        ensures untouched { IfOk result (λ log. log.written.bytes ≡ []) }
+        ensures failed { IfErr result (MayFail (asks.Run order.entry)) }
+    {
+        let target = open_target(rt, order)?;
+        Ok(RunLog {
+            target,
+            written: Written::of(&Entry::Begun),
+        })
+    }
+
+    /// Takes away what it holds; or leaves that, and writes behind it that a run begins. A line feed stands before that, since
+    /// the last line may have been cut off.
+    ///
+    /// # Errors
+    /// `Log` with its name, where it cannot be emptied or written; `OutOfMemory`.
+    pub(crate) fn begin<'a>(&mut self, order: Order<'a>) -> Result<(), Failure<'a>>
+        ensures begun { OnOk result (self.new.written.bytes ≡ self.old.written.bytes ++ begins_with order.entry.log order.entry.append) }
+        ensures failed { IfErr result (MayFail (asks.Run order.entry)) }
+    {
+        let Some(file) = order.log else {
+            return Ok(());
+        };
+        let begun = match order.append {
+            true => self.write_all(b"\nstart\n"),
+            false => self.target.empty(),
+        };
+        match begun {
+            Ok(()) => Ok(()),
+            Err(error) => Err(cannot_write(file, &error)),
+        }
     }
 }

@@ -1,0 +1,120 @@
+-- What a run has done.
+use Rattle.std.specs.Prelude.{◌≡◌, ◌≢◌, ◌≤◌, ◌+◌, ◌*◌, ◌⊎◌, ℕ, Bool, true, false, List, [], ◌∷◌, ◌++◌, Option, None, Some, map, ⊥}
+use Rattle.std.specs.Io.KnownBytes.{Appends}
+use Rattle.rand_core.specs.Steps.{steps_u32, stream_of}
+use Rattle.rand_core.specs.Stream.{Stream}
+use Rattle.rand_pcg.specs.Lcg.{Lcg}
+use Rattle.rand_pcg.specs.Pcg.{pcg32}
+use Rattle.fib.specs.Forwarding.{Forwarding}
+use Rattle.router_core.specs.Config.{Config as RouterValue}
+use Rattle.ripngd_command_line.specs.declared.asked.Order.{Order}
+use Rattle.ripngd_config.specs.Configuration.{IsConfigured, RefusesConfig}
+use Rattle.ripngd_config.specs.declared.configuration.Config.{Config}
+use Rattle.ripngd_config.specs.declared.fault.ConfigFault.{ConfigFault}
+use Rattle.ripngd_config.specs.declared.fault.ConfigFault.TheVariants as config_faults
+use Rattle.ripngd_control.specs.Clients.{ClientsState, Heeds, ObeysLine}
+use Rattle.ripngd_control.specs.Commands.{control_text}
+use Rattle.ripngd_control.specs.declared.command.Command.TheVariants.{Stop}
+use Rattle.ripngd_engine.specs.Link.{Call}
+use Rattle.ripngd_engine.specs.Seen.{Ran, Seen, Started, untouched}
+use Rattle.ripngd_udp.specs.Peers.{OnLink, links_at}
+use Rattle.ripngd_daemon.specs.Tabled.{table_text}
+use Rattle.ripngd_daemon.specs.Written.{begins_with}
+use Rattle.ripngd_daemon.specs.declared.history.History.{History}
+
+-- the words that a random source has left
+abbrev pub words_of : Lcg → Stream
+words_of = stream_of (steps_u32 pcg32)
+
+-- the lines of clients that a router was told, if anybody could come
+abbrev pub lines_of : Option ClientsState → List (List ℕ)
+lines_of None = []
+lines_of (Some clients) = clients.lines
+
+-- who is on the links of a configuration
+abbrev pub links_of : Config → List OnLink
+links_of config = links_at config.places.items (map (λ v. v.items) config.peers.items)
+
+-- ---- turns, and what clients tell between them
+-- the seconds, if there are any, have passed at a moment, which is in milliseconds
+abbrev pub IsOver : Option ℕ → ℕ → Type 0
+IsOver None moment = ⊥
+IsOver (Some seconds) moment = seconds * 1000 ≤ moment
+
+-- a turn is made, and the seconds had not passed at the step before it
+abbrev pub RanInTime : Option ℕ → Seen → Seen → Type 0
+RanInTime seconds a b = (¬ (IsOver seconds a.machine.router.last)) × Ran 1 a b
+
+-- a router made a turn, and was then told what a client's line asks, or nothing
+abbrev pub TurnsAndHeeds : List (List ℕ) → Seen → List (List ℕ) → Seen → Type 0
+TurnsAndHeeds before a after b = (m : Seen) × Ran 1 a m × Heeds before m after b
+
+-- what a router did, the last behind all before it: it made a turn, or was told the line of a client
+pub data Deeds : Type 0 where
+  Begun : Deeds
+  Turned : Deeds → Deeds
+  Told : Deeds → List ℕ → Deeds
+
+-- how many of them are turns
+abbrev pub turns_in : Deeds → ℕ
+turns_in Begun = 0
+turns_in (Turned before) = turns_in before + 1
+turns_in (Told before line) = turns_in before
+
+-- the lines among them, in their order
+abbrev pub lines_in : Deeds → List (List ℕ)
+lines_in Begun = []
+lines_in (Turned before) = lines_in before
+lines_in (Told before line) = lines_in before ++ line ∷ []
+
+-- they were done: each turn in time, each line obeyed
+abbrev pub AreDone : Option ℕ → Deeds → Seen → Seen → Type 0
+AreDone seconds Begun a b = b ≡ a
+AreDone seconds (Turned before) a b = (m : Seen) × AreDone seconds before a m × RanInTime seconds m b
+AreDone seconds (Told before line) a b = (m : Seen) × AreDone seconds before a m × ObeysLine line m b
+
+-- so many turns were made, and just these lines of clients obeyed between them
+pub record HasDone (seconds : Option ℕ) (count : ℕ) (lines : List (List ℕ)) (a b : Seen) : Type 0 where
+  pub deeds : Deeds
+  pub turns : turns_in deeds ≡ count
+  pub told : lines_in deeds ≡ lines
+  pub are_done : AreDone seconds deeds a b
+
+-- the last of these lines is `stop`
+abbrev pub IsToldToStop : List (List ℕ) → Type 0
+IsToldToStop lines = (before : List (List ℕ)) × (lines ≡ before ++ control_text Stop ∷ [])
+
+-- a router has made all its turns, or fewer, and then its seconds had passed, or a client had told it to stop
+pub record Lasts (most : ℕ) (seconds : Option ℕ) (lines : List (List ℕ)) (a b : Seen) : Type 0 where
+  pub count : ℕ
+  pub within : count ≤ most
+  pub has_done : HasDone seconds count lines a b
+  pub ends : (count ≡ most) ⊎ (IsOver seconds b.machine.router.last ⊎ IsToldToStop lines)
+
+-- ---- a whole run
+-- a router of this configuration started with these random words, over a link that was never called, a clock that tells nothing
+-- and a log that begins as ordered, and has done as ordered what its clients' lines say. What is known of it are just the calls
+-- of its link and just the bytes of its log; this is its forwarding table then
+pub record HasRun (order : Order) (router : RouterValue) (rng : Lcg) (history : History) (table : Forwarding) : Type 0 where
+  pub calls : List Call
+  pub begun : Seen
+  pub done : Seen
+  pub started : Started router (words_of rng) (untouched (Some []) None (Some (begins_with order.log order.append))) begun
+  pub lasts : Lasts order.turns order.seconds (lines_of history.clients) begun done
+  pub calls_are : (done.outside.calls ≡ Some calls) × (history.ports.calls ≡ Some calls)
+  pub log_is : done.outside.text ≡ Some history.log.bytes
+  pub table_is : table ≡ done.machine.fib
+
+-- the writer gained the forwarding table of such a router
+abbrev pub ShowsRun : Order → RouterValue → Lcg → History → Option (List ℕ) → Option (List ℕ) → Type 0
+ShowsRun order router rng history old new =
+    (table : Forwarding) × HasRun order router rng history table × Appends old new (table_text table)
+
+-- a run of a configuration's text as it is ordered: its ports were bound, its router ran, told nothing where no path is ordered
+-- for clients, and its forwarding table was written; or the text is refused
+abbrev pub IsRan : Order → List ℕ → History → Bool → Option (List ℕ) → Option (List ℕ) → Type 0
+IsRan order text history true old new =
+    (config : Config) × IsConfigured text order.tag order.quiet config × (history.ports.on_links ≡ Some (links_of config))
+    × (order.control ≡ None → lines_of history.clients ≡ []) × ShowsRun order config.router config.rng history old new
+IsRan order text history false old new =
+    (fault : ConfigFault) × (fault ≢ config_faults.OutOfMemory) × RefusesConfig text order.tag order.quiet fault

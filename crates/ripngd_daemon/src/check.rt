@@ -1,0 +1,127 @@
+//! `check`: whether a text is a configuration that a router can run on.
+
+ghost use Rattle.std.specs.Prelude.{◌≡◌, ◌≢◌, IfErr, IfOk, List, OnOk, false, ℕ};
+ghost use Rattle.std.specs.Io.KnownBytes.{Appends};
+ghost use Rattle.ripngd_command_line.specs.declared.asked.Ask.TheVariants as asks;
+ghost use Rattle.ripngd_daemon.specs.Failing.{MayFail};
+ghost use Rattle.ripngd_daemon.specs.Checked.{IsChecked, counts_line, peers_counted};
+
+use crate::failure::Failure;
+use crate::files::FileSource;
+use ripngd_config::{Config, ConfigFault, Subject, read_config};
+use ripngd_engine::Peer;
+use ripngd_show::PrintFault;
+use std::alloc::Global;
+use std::io::{self, Write};
+
+/// Writes what a configuration has, as `ok interfaces A prefixes B peers C`, or why it is refused, as `refused ..`, and
+/// answers whether it is accepted. It is read as for a router that is not quiet, with the default tag 0.
+///
+/// # Errors
+/// `OutOfMemory` before anything is written; `Write` where `out` failed.
+pub fn check<W: Write>(alloc: Global, text: &[u8], out: &mut W) -> Result<bool, PrintFault>
+    ensures checked { IfOk result (λ accepted. IsChecked text.now accepted (W.contents out.old) (W.contents out.new)) }
+    ensures out_of_memory { result ≡ Err PrintFault.OutOfMemory → out.new ≡ out.old }
+{
+    check_named(alloc, "", text, out, &mut io::sink())
+}
+
+/// `check CONFIG`: whether the file is a configuration. Where in it a fault stands that has no path is told on `err`.
+///
+/// # Errors
+/// `Read` with the file, `Output` or `OutOfMemory`.
+pub fn check_file<'a, F: FileSource, O: Write, E: Write>(
+    alloc: Global,
+    files: &F,
+    file: &'a str,
+    out: &mut O,
+    err: &mut E,
+) -> Result<bool, Failure<'a>>
+    ensures checked { IfOk result (λ accepted. (config : List ℕ) × F.holds files.now file.entry.now config
+        × IsChecked config accepted (O.contents out.old) (O.contents out.new)) }
+    ensures failed { IfErr result (MayFail (asks.Check file.entry)) }
+{
+    Ok(check_named(alloc, file, files.read(file)?.as_slice(), out, err)?)
+}
+
+/// Does the same of the text of a file, and tells `err` where in it a fault stands that has no path. A failure of `err`
+/// changes nothing else.
+///
+/// # Errors
+/// Those of [`check`].
+fn check_named<W: Write, E: Write>(
+    alloc: Global,
+    file: &str,
+    text: &[u8],
+    out: &mut W,
+    err: &mut E,
+) -> Result<bool, PrintFault>
+    ensures checked { IfOk result (λ accepted. IsChecked text.now accepted (W.contents out.old) (W.contents out.new)) }
+    ensures out_of_memory { result ≡ Err PrintFault.OutOfMemory → out.new ≡ out.old }
+{
+    match read_config(alloc, text, 0, false) {
+        Ok(config) => match write_counts(&config, out) {
+            Ok(()) => Ok(true),
+            Err(_) => Err(PrintFault::Write),
+        },
+        Err(fault) => write_refusal(file, &fault, out, err),
+    }
+}
+
+/// How many peers there are on all interfaces together, or the greatest `usize`.
+fn count_peers(peers: &[Vec<Peer>]) -> usize
+    ensures { result ≡ peers_counted peers.now }
+{
+    let mut count = 0_usize;
+    for of_interface in peers {
+        count = count.saturating_add(of_interface.len());
+    }
+    count
+}
+
+fn write_counts<W: Write>(config: &Config, out: &mut W) -> io::Result<()>
+    ensures { OnOk result (Appends (W.contents out.old) (W.contents out.new) (counts_line config.now)) }
+{
+    let interfaces = config.router.interfaces().len();
+    let prefixes = config.router.prefixes().len();
+    let peers = count_peers(config.peers.as_slice());
+    writeln!(
+        out,
+        "ok interfaces {interfaces} prefixes {prefixes} peers {peers}"
+    )
+}
+
+/// Writes why the configuration of a file is refused, and answers that it is not accepted. Where the fault stands, `err` is
+/// told; its failure changes nothing else.
+///
+/// # Errors
+/// `OutOfMemory` where that is the fault, and then nothing is written; `Write` where `out` failed.
+pub(crate) fn write_refusal<W: Write, E: Write>(
+    file: &str,
+    fault: &ConfigFault,
+    out: &mut W,
+    err: &mut E,
+) -> Result<bool, PrintFault>
+    ensures refused { IfOk result (λ accepted. (accepted ≡ false) × (fault.now ≢ ConfigFault.OutOfMemory)) }
+    ensures out_of_memory { result ≡ Err PrintFault.OutOfMemory → out.new ≡ out.old }
+{
+    match fault {
+        ConfigFault::OutOfMemory => Err(PrintFault::OutOfMemory),
+        _ => {
+            let _ = write_place(file, fault, err);
+            writeln!(out, "refused {fault}").map_err(|_| PrintFault::Write)?;
+            Ok(false)
+        }
+    }
+}
+
+/// Writes where a fault stands in a file, as `ripngd: FILE: at line 1, column 5`, if it has a place there or is of one
+/// interface or prefix.
+fn write_place<W: Write>(file: &str, fault: &ConfigFault, err: &mut W) -> io::Result<()> {
+    match fault {
+        ConfigFault::BadToml(place) => writeln!(err, "ripngd: {file}: at {place}"),
+        ConfigFault::Router(_, Subject::Whole) => Ok(()),
+        ConfigFault::Router(_, subject) => writeln!(err, "ripngd: {file}: at {subject}"),
+        _ => Ok(()),
+    }
+}

@@ -1,0 +1,85 @@
+//! `table`: the forwarding table that a log makes, a line for each entry.
+
+ghost use Rattle.std.specs.Prelude.{◌≡◌, IfErr, IfOk, List, OnOk, ℕ};
+ghost use Rattle.std.specs.Io.KnownBytes.{Appends};
+ghost use Rattle.ripngd_command_line.specs.declared.asked.Ask.TheVariants as asks;
+ghost use Rattle.ripngd_daemon.specs.Failing.{MayFail};
+ghost use Rattle.ripngd_daemon.specs.Tabled.{IsTabled, bad_line_text, table_text};
+
+use crate::failure::Failure;
+use crate::files::FileSource;
+use fib::Fib;
+use ripngd_engine::RouteLine;
+use ripngd_log::{LogFault, read_log};
+use ripngd_show::PrintFault;
+use std::alloc::Global;
+use std::io::{self, Write};
+
+/// Writes the forwarding table that the lines of a log make, as [`write_table`] does, and answers whether all of them are
+/// lines of changes; the first that is not gives the line `line L refused 1 BadLine` in place of a table. What stands
+/// after the last line feed does not count.
+///
+/// # Errors
+/// `OutOfMemory` before anything is written; `Write` where `out` failed.
+pub fn table<W: Write>(alloc: Global, log: &[u8], out: &mut W) -> Result<bool, PrintFault>
+    ensures tabled { IfOk result (λ accepted. (text : List ℕ) × IsTabled log.now accepted text
+        × Appends (W.contents out.old) (W.contents out.new) text) }
+    ensures out_of_memory { result ≡ Err PrintFault.OutOfMemory → out.new ≡ out.old }
+{
+    match read_log(alloc, log) {
+        Ok(fib) => match write_table(&fib, out) {
+            Ok(()) => Ok(true),
+            Err(_) => Err(PrintFault::Write),
+        },
+        Err(LogFault::BadLine { line }) => match write_bad_line(line, out) {
+            Ok(()) => Ok(false),
+            Err(_) => Err(PrintFault::Write),
+        },
+        Err(LogFault::OutOfMemory) => Err(PrintFault::OutOfMemory),
+    }
+}
+
+/// `table LOG`: whether every line of the file is that of a change.
+///
+/// # Errors
+/// `Read` with the file, `Output` or `OutOfMemory`.
+pub fn table_file<'a, F: FileSource, O: Write>(
+    alloc: Global,
+    files: &F,
+    file: &'a str,
+    out: &mut O,
+) -> Result<bool, Failure<'a>>
+    ensures tabled { IfOk result (λ accepted. (log : List ℕ) × F.holds files.now file.entry.now log
+        × (text : List ℕ) × IsTabled log accepted text × Appends (O.contents out.old) (O.contents out.new) text) }
+    ensures failed { IfErr result (MayFail (asks.Table file.entry)) }
+{
+    Ok(table(alloc, files.read(file)?.as_slice(), out)?)
+}
+
+/// Writes a forwarding table: a line `PREFIX metric M direct` or `PREFIX metric M via ADDR iface I` for each entry, in the
+/// order of address, then length.
+pub(crate) fn write_table<W: Write>(fib: &Fib, out: &mut W) -> io::Result<()>
+    ensures { OnOk result (Appends (W.contents out.old) (W.contents out.new) (table_text fib.now)) }
+{
+    let entries = fib.entries();
+    for entry in entries {
+        let (prefix, hop, metric) = *entry;
+        let line = RouteLine {
+            prefix,
+            hop,
+            metric,
+        };
+        writeln!(out, "{line}")?;
+    }
+    Ok(())
+}
+
+/// Writes that a line of a log is refused.
+fn write_bad_line<W: Write>(line: usize, out: &mut W) -> io::Result<()>
+    ensures { OnOk result (Appends (W.contents out.old) (W.contents out.new) (bad_line_text line)) }
+{
+    let fault = LogFault::BadLine { line };
+    let number = fault.number();
+    let name = fault.name();
+    writeln!(out, "line {line} refused {number} {name}")
+}
