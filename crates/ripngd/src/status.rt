@@ -93,14 +93,14 @@ fn outcome<
     ensures failed { IfErr result (FailsWords (map (λ w. w.now) words.entry.now)) }
 {
     match ask(rt.alloc(), words) {
-        Ok(asked) if is_misused(asked) => Ok(explain_misuse(asked, err)),
+        Ok(asked) if is_misused(asked) => Ok(write_misuse(asked, err)),
         Ok(asked) => answer(rt, files, asked, history, out, err),
-        Err(error) => explain(&error, out, err),
+        Err(error) => write_clap_text(&error, out, err),
     }
 }
 
 /// Writes to `err` why what is asked makes no sense.
-fn explain_misuse<E: Write>(asked: Ask<'_>, err: &mut E) -> Status
+fn write_misuse<E: Write>(asked: Ask<'_>, err: &mut E) -> Status
     ensures { result ≡ Status.Usage }
 {
     let _ = err.write_all(misuse_text(asked).as_bytes());
@@ -172,7 +172,7 @@ fn answer<
 }
 
 /// Writes why the command line asks for nothing: help or the version to `out`, a fault to `err`.
-fn explain<'a, O: Write, E: Write>(
+fn write_clap_text<'a, O: Write, E: Write>(
     error: &clap::Error,
     out: &mut O,
     err: &mut E,

@@ -17,7 +17,7 @@ const ROOM_BYTES: usize = 32 << 20;
 
 /// A datagram of a neighbor.
 #[derive(Drop)]
-pub(crate) struct Heard {
+pub(crate) struct Datagram {
     pub(crate) peer: Peer,
     pub(crate) bytes: Vec<u8>,
 }
@@ -25,12 +25,12 @@ pub(crate) struct Heard {
 /// Datagrams that came to an interface, in order.
 #[derive(Drop)]
 pub(crate) struct Inbox {
-    heard: VecDeque<Heard>,
+    waiting: VecDeque<Datagram>,
     /// How many bytes they have together.
     held: usize,
     alloc: Global,
-    ghost summed: { held ≡ bytes_of heard.items },
-    ghost room: { MayWait heard.items },
+    ghost summed: { held ≡ bytes_of waiting.items },
+    ghost room: { MayWait waiting.items },
 }
 
 /// Copies as much as fits to the head of a buffer, and answers how much.
@@ -47,7 +47,7 @@ impl Inbox {
     /// Where nothing has come in.
     pub(crate) fn new(alloc: Global) -> Inbox {
         Inbox {
-            heard: VecDeque::new(alloc),
+            waiting: VecDeque::new(alloc),
             held: 0,
             alloc,
         }
@@ -55,44 +55,44 @@ impl Inbox {
 
     /// Whether nothing waits.
     pub(crate) fn is_empty(&self) -> bool {
-        self.heard.is_empty()
+        self.waiting.is_empty()
     }
 
     /// Whether there is room for a datagram of so many bytes.
     fn has_room(&self, len: usize) -> bool
-        ensures { IsTrue result ↔ HasRoom self.now.heard.items len }
+        ensures { IsTrue result ↔ HasRoom self.now.waiting.items len }
     {
-        self.heard.len() < ROOM && len <= ROOM_BYTES - self.held
+        self.waiting.len() < ROOM && len <= ROOM_BYTES - self.held
     }
 
     /// Keeps a datagram of a neighbor behind the others, and answers whether there was room and memory for it. Without it
     /// is lost alone.
     pub(crate) fn keep(&mut self, peer: Peer, bytes: &[u8]) -> bool
-        ensures kept { Keeps self.old.heard.items self.new.heard.items peer bytes.now result }
-        ensures room { MayWait self.new.heard.items }
+        ensures kept { Keeps self.old.waiting.items self.new.waiting.items peer bytes.now result }
+        ensures room { MayWait self.new.waiting.items }
     {
         self.has_room(bytes.len()) && self.push(peer, bytes).is_ok()
     }
 
     fn push(&mut self, peer: Peer, bytes: &[u8]) -> Result<(), AllocError>
-        requires { HasRoom self.old.heard.items (length bytes.now) }
-        ensures { Keeps self.old.heard.items self.new.heard.items peer bytes.now (is_ok result) }
+        requires { HasRoom self.old.waiting.items (length bytes.now) }
+        ensures { Keeps self.old.waiting.items self.new.waiting.items peer bytes.now (is_ok result) }
     {
         let len = bytes.len();
         let bytes = Vec::from_slice(self.alloc, bytes)?;
-        self.heard.push_back(Heard { peer, bytes })?;
+        self.waiting.push_back(Datagram { peer, bytes })?;
         self.held += len;
         Ok(())
     }
 
     /// Puts the first datagram into a buffer, as much of it as fits, as one that came to an interface.
     pub(crate) fn next(&mut self, iface: usize, buffer: &mut [u8]) -> Option<Received>
-        ensures first { MatchOption result ((self.old.heard.items ≡ []) × (self.new.heard.items ≡ []))
-            (Gives iface self.old.heard.items self.new.heard.items buffer.new) }
+        ensures first { MatchOption result ((self.old.waiting.items ≡ []) × (self.new.waiting.items ≡ []))
+            (Gives iface self.old.waiting.items self.new.waiting.items buffer.new) }
         ensures interface { IfSome result (λ r. r.iface ≡ iface) }
         ensures within { IfSome result (λ r. r.len ≤ length buffer.new) }
     {
-        let Heard { peer, bytes } = self.heard.pop_front()?;
+        let Datagram { peer, bytes } = self.waiting.pop_front()?;
         self.held -= bytes.len();
         let len = copy_into(buffer, bytes.as_slice());
         Some(Received {
