@@ -1,0 +1,51 @@
+use Rattle.std.proofs.Common.{◌+◌, arith, inl, inr, refl}
+use Rattle.ripngd_daemon.proofs.Runs.{has_done_nothing, turns_more}
+use Rattle.ripngd_daemon.proofs.turns.make_turns.Goals as goal
+
+pub loop-done-init : goal.loop-done-init
+loop-done-init g c = record {
+  going = c.requires.going;
+  alone = λ is. is;
+  has_done = has_done_nothing c.args.order.seconds _ _ c.requires.untold;
+}
+
+pub loop-done-preserved : goal.loop-done-preserved
+loop-done-preserved g c = record {
+  going = (rw c.in-Ok-GoOn.field-0-is at c.in-Ok-GoOn.ensures.goes_on) (λ e. cc e);
+  alone = λ is. c.turn.ensures.alone (c.loop-done.invariant.alone is);
+  has_done =
+      turns_more c.args.order.seconds c.loop-done.done _ _ _ _ _ c.loop-done.invariant.has_done
+      (c.is_over.ensures.in_time c.if-is_over.false) c.in-Ok-GoOn.ensures.does;
+}
+
+pub returns-in-Ok-Stop-clause-lasts : goal.returns-in-Ok-Stop-clause-lasts
+returns-in-Ok-Stop-clause-lasts g c =
+    let test = c.loop-done-test.true in
+    record {
+      count = c.loop-done.done + 1;
+      within = omega arith;
+      has_done =
+          turns_more c.args.order.seconds c.loop-done.done _ _ _ _ _ c.loop-done.invariant.has_done
+          (c.is_over.ensures.in_time c.if-is_over.false) c.in-Ok-Stop.ensures.does;
+      ends = inr (inr (c.in-Ok-Stop.ensures.stops c.in-Ok-Stop.field-0-is));
+    }
+
+pub returns-then-is_over-clause-lasts : goal.returns-then-is_over-clause-lasts
+returns-then-is_over-clause-lasts g c =
+    let test = c.loop-done-test.true in
+    record {
+      count = c.loop-done.done;
+      within = omega arith;
+      has_done = c.loop-done.invariant.has_done;
+      ends = inr (inl (c.is_over.ensures.over c.if-is_over.true));
+    }
+
+pub returns-clause-lasts : goal.returns-clause-lasts
+returns-clause-lasts g c =
+    let test = c.loop-done-test.false in
+    record {
+      count = c.loop-done.done;
+      within = omega arith;
+      has_done = c.loop-done.invariant.has_done;
+      ends = inl (omega arith);
+    }
