@@ -25,7 +25,7 @@ def paragraphs(page):
             continue
         if fenced or (line.startswith("    ") and not block and after_blank):
             continue
-        begins = line.lstrip()
+        begins = line.lstrip(" >")
         if not begins or begins[0] in "#|" or re.match(r"([-*]|\d+\.) ", begins):
             if block:
                 yield " ".join(block), False
@@ -42,7 +42,7 @@ def manual(page):
     page = re.sub(r"\.Bd.*?\.Ed|\.Bl -column.*?\.El", "", page, flags=re.DOTALL)
     page = re.sub(r"^\.(Sh|Ss|Dd|Dt|Os|Rs|Re|%.) ?.*$", "\n", page, flags=re.MULTILINE)
     page = re.sub(r"^\.(Pp|Bl|El|It)\b.*$", "\n", page, flags=re.MULTILINE)
-    return re.sub(r"^\.[A-Z][a-z] (.*)$", lambda line: re.sub(r"\S+ ?(?=\S)", "", line[1], count=0) or "", page, flags=re.MULTILINE)
+    return re.sub(r"^\.[A-Z][a-z] ?", "", page, flags=re.MULTILINE)
 
 
 def sentences(text, cell):
