@@ -248,10 +248,10 @@ const CASES = {
       names: namesOf(script), chosen: null };
     same('the wire', drawingOf(state).parts.map(({ text }) => text.includes('class="wire cut"')), drawingOf(state).parts.map((_, part) => part === 1));
   },
-  // The card has each line of docs/FORMATS.md, by its first word, and no other.
+  // The card has each line of docs/SCRIPTS.md, by its first word, and no other.
   'the card of lines': () => {
-    const formats = readFileSync(fileURLToPath(new URL('../docs/FORMATS.md', import.meta.url)), 'utf8').split('\n');
-    const rows = formats.slice(formats.indexOf('| Line | Meaning |') + 2).join('\n').split('\n\n')[0].split('\n');
+    const page = readFileSync(fileURLToPath(new URL('../docs/SCRIPTS.md', import.meta.url)), 'utf8').split('\n');
+    const rows = page.slice(page.indexOf('| Line | Meaning |') + 2).join('\n').split('\n\n')[0].split('\n');
     const words = rows.flatMap(row => [...row.split(' | ')[0].matchAll(/`(\w+)/g)].map(([, word]) => word));
     const mine = LINES.map(([form]) => form.split(' ')[0]);
     same('them', [...new Set(words)].filter(word => !['all', 'PREFIX', 'but'].includes(word)).sort(), mine.toSorted());
