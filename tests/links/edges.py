@@ -188,7 +188,8 @@ def links_come_and_go(net, program):
     o.ip("link", "del", "to-b")
     until(TRIGGERED, "nothing is reached", lambda: ours.table() == {"2001:db8:2::/48": 1} and not ours.kernel())
     net.cable(b, o)
-    settle(routers, least(cables, owned))
+    # As above: BIRD may come up on the new link only behind the question.
+    settle(routers, least(cables, owned), 150)
     address = o.ip("-6", "-o", "address", "show", "dev", "to-b", "scope", "link").split()[3].split("/")[0]
     same("whether it has the new address", f'"{address}"' in (ours.run / "router.toml").read_text(), True)
     routers["c"] = Bird(c, {"to-o": 1}, ["2001:db8:3::/48"])
