@@ -1,1 +1,5 @@
-mod Shown
+mod Walks
+mod Counted
+mod Places
+mod Following
+mod Heeding

@@ -1,83 +1,63 @@
--- What a router answers to commands (the format is this project's choice).
-use Rattle.std.specs.Prelude.{ℕ, ◌≡◌, ◌-◌, Bool, true, false, List, [], ◌∷◌, ◌++◌, Contains, Option, None, codes, decimal, drop, flat_map, take}
-use Rattle.std.specs.List.{All}
-use Rattle.std.specs.FinMap as map_of
+-- What a router does for a command and answers to it (the format is this project's choice).
+use Rattle.std.specs.Prelude.{ℕ, ◌≡◌, ◌≢◌, ◌≤◌, ◌-◌, false, true, List, [], ◌∷◌, ◌++◌, Option, None, Some, drop, length, option_map, slice_get, take}
 use Rattle.std.specs.Io.KnownBytes.{Appends}
 use Rattle.prefix6.specs.Prefix.{Prefix6}
-use Rattle.prefix6.specs.Written.{written_addr, written_prefix}
-use Rattle.fib.specs.Entries.{listed}
+use Rattle.fib.specs.Entries.{AreAllPast, AreUpTo, listed}
 use Rattle.fib.specs.Forwarding.{Forwarding}
 use Rattle.fib.specs.declared.change.Hop.{Hop}
 use Rattle.route_table.specs.Route.{RouteValue}
-use Rattle.route_table.specs.Table.{Table}
-use Rattle.route_table.specs.declared.route.Clock.{Clock}
-use Rattle.route_table.specs.declared.route.Clock.TheVariants.{Fixed, Live, Dying}
-use Rattle.route_table.specs.declared.route.Origin.{Origin}
-use Rattle.route_table.specs.declared.route.Origin.TheVariants.{Own, Learned}
-use Rattle.router_core.specs.Reconfiguring.{NamesInterface, reconfigure_name, reconfigure_number}
+use Rattle.route_table.specs.Table.{Table, first_past}
+use Rattle.router_core.specs.Machine.{State}
+use Rattle.router_core.specs.Reconfiguring.{NamesInterface}
 use Rattle.router_core.specs.declared.reconfiguring.Change.{Change}
 use Rattle.ripngd_engine.specs.Changing.{ReconfiguresNothing, ReconfiguresOnce, why_refused}
-use Rattle.ripngd_engine.specs.Log.{route_text}
 use Rattle.ripngd_engine.specs.Seen.{Acts, Seen}
+use Rattle.ripngd_control.specs.Printed.{counts_text, entry_lines, losses_text, neighbors_text, reply_line, status_lines}
+use Rattle.ripngd_control.specs.declared.answering.Rest.{Rest}
+use Rattle.ripngd_control.specs.declared.answering.Rest.TheVariants as rests
+use Rattle.ripngd_control.specs.declared.command.Command.{Command}
+use Rattle.ripngd_control.specs.declared.command.Command.TheVariants as commands
+use Rattle.ripngd_control.specs.declared.counts.Counts.{Counts}
+use Rattle.ripngd_control.specs.declared.counts.Losses.{Losses}
+use Rattle.ripngd_control.specs.declared.neighbors.Neighbors.{Neighbors}
 use Rattle.ripngd_control.specs.declared.reply.Reply.{Reply}
 use Rattle.ripngd_control.specs.declared.reply.Reply.TheVariants as replies
 
--- ---- a route
--- `own`, or `via ADDR iface I from ADDR`
-abbrev pub origin_text : Origin → List ℕ
-origin_text Own = codes "own"
-origin_text (Learned iface from next_hop) =
-    codes "via " ++ (written_addr next_hop ++ (codes " iface " ++ (decimal iface ++ (codes " from " ++ written_addr from))))
-
--- `fixed`, or the milliseconds that are left at a moment: `live MS` or `dying MS`
-abbrev pub clock_text : Clock → ℕ → List ℕ
-clock_text Fixed now = codes "fixed"
-clock_text (Live until) now = codes "live " ++ decimal (until - now)
-clock_text (Dying until) now = codes "dying " ++ decimal (until - now)
-
--- ` marked`, if it is
-abbrev pub mark_text : Bool → List ℕ
-mark_text true = codes " marked"
-mark_text false = []
-
--- `PREFIX metric M tag T ORIGIN CLOCK`, and whether it is marked
-abbrev pub status_text : Prefix6 → RouteValue → ℕ → List ℕ
-status_text p r now =
-    written_prefix p ++ (codes " metric " ++ (decimal r.metric ++ (codes " tag " ++ (decimal r.tag ++ (codes " "
-    ++ (origin_text r.origin ++ (codes " " ++ (clock_text r.clock now ++ mark_text r.changed))))))))
-
 -- ---- lines of routes, and of a forwarding table
--- a line for each of these routes
-abbrev pub status_lines : ℕ → List (Prefix6 × RouteValue) → List ℕ
-status_lines now es = flat_map (λ e. status_text e.0 e.1 now ++ 10 ∷ []) es
+-- these routes of a table follow one another behind a prefix, none between them left out, up to this prefix
+abbrev pub Follow : Table → Option Prefix6 → List (Prefix6 × RouteValue) → Option Prefix6 → Type 0
+Follow table after [] end = end ≡ after
+Follow table after (e ∷ es) end = (first_past after table ≡ Some e) × Follow table (Some e.0) es end
 
--- the writer gained a line for each of some routes that a table holds
-pub record ShowsHeld (table : Table) (now : ℕ) (old new : Option (List ℕ)) : Type 0 where
+-- the writer gained a line for each of the next routes of a table, 256 at the most, up to the prefix behind which there may be more;
+-- or there is none behind them
+pub record ShowsRoutes (table : Table) (now : ℕ) (after more : Option Prefix6) (old new : Option (List ℕ)) : Type 0 where
   pub shown : List (Prefix6 × RouteValue)
-  pub held : All (λ e. Contains (map_of.entries table) e) shown
+  pub end : Option Prefix6
+  pub follow : Follow table after shown end
+  pub within : length shown ≤ 256
+  pub goes_on : more ≢ None → more ≡ end
+  pub ends : more ≡ None → first_past end table ≡ None
   pub lines : Appends old new (status_lines now shown)
 
--- a line for each of these entries of a forwarding table
-abbrev pub entry_lines : List (Prefix6 × Hop × ℕ) → List ℕ
-entry_lines es = flat_map (λ e. route_text e.0 e.1 e.2 ++ 10 ∷ []) es
+-- the entries from this place on are those behind a prefix, or all of them
+abbrev pub IsPast : List (Prefix6 × Hop × ℕ) → Option Prefix6 → ℕ → Type 0
+IsPast es None begin = begin ≡ 0
+IsPast es (Some p) begin = AreUpTo (take begin es) p × AreAllPast es p begin
 
--- the writer gained a line for each of the next entries of a table, 256 at the most, with none between them left out: from the
--- first on, where they are behind no prefix
-pub record ShowsEntries (table : Forwarding) (after : Option Prefix6) (old new : Option (List ℕ)) : Type 0 where
+-- the prefix of the last of these entries
+abbrev pub last_prefix : List (Prefix6 × Hop × ℕ) → Option Prefix6
+last_prefix es = option_map (λ e. e.0) (slice_get es (length es - 1))
+
+-- the writer gained a line for each of the next entries of a table, 256 at the most, with none between them left out, up to the
+-- prefix behind which there may be more; or there was none
+pub record ShowsEntries (table : Forwarding) (after more : Option Prefix6) (old new : Option (List ℕ)) : Type 0 where
   pub begin : ℕ
-  pub first : after ≡ None → begin ≡ 0
+  pub past : IsPast (listed table) after begin
+  pub more_is : more ≡ last_prefix (take 256 (drop begin (listed table)))
   pub lines : Appends old new (entry_lines (take 256 (drop begin (listed table))))
 
--- ---- the last line of an answer
--- the numbers of refusals: those of the router, those of its link, and three of their own
-abbrev pub reply_text : Reply → List ℕ
-reply_text replies.Done = codes "ok"
-reply_text (replies.Refused why) = codes "refused " ++ (decimal (reconfigure_number why) ++ (codes " " ++ reconfigure_name why))
-reply_text (replies.LinkRefused number name) = codes "refused " ++ (decimal number ++ (codes " " ++ name.now))
-reply_text replies.NoSuchInterface = codes "refused 51 NoSuchInterface"
-reply_text replies.NoSuchCommand = codes "refused 52 NoSuchCommand"
-reply_text replies.Ended = codes "refused 53 Ended"
-
+-- ---- what is done for a command, and answered at once
 -- what a change did to an engine, by what is replied
 abbrev pub ObeysChange : Change → Seen → Reply → Seen → Type 0
 ObeysChange c a replies.Done b = (b.machine.ended ≡ false) × Acts (ReconfiguresOnce c) a b
@@ -86,3 +66,34 @@ ObeysChange c a replies.NoSuchInterface b = (b ≡ a) × ¬ (NamesInterface a.ma
 ObeysChange c a (replies.LinkRefused number name) b = ⊥
 ObeysChange c a replies.NoSuchCommand b = ⊥
 ObeysChange c a replies.Ended b = (b.machine.ended ≡ true) × Acts (ReconfiguresOnce c) a b
+
+-- the writer gained this and nothing is left to write, but where the writer failed
+abbrev pub GainsLines : Option (List ℕ) → Rest → Option (List ℕ) → List ℕ → Type 0
+GainsLines old rest new text = rest ≢ rests.Lost → (rest ≡ rests.Nothing) × Appends old new text
+
+-- what was done and said for a command, or for a line that is of none: only a change changes the router
+abbrev pub AnswersCommand : Option Command → Counts → Neighbors → Losses → Seen → Option (List ℕ) → Rest → Seen → Option (List ℕ) → Type 0
+AnswersCommand None counts heard lost a old rest b new = (b ≡ a) × GainsLines old rest new (reply_line replies.NoSuchCommand)
+AnswersCommand (Some commands.Routes) counts heard lost a old rest b new = (b ≡ a) × (rest ≡ rests.Routes None) × (new ≡ old)
+AnswersCommand (Some commands.Table) counts heard lost a old rest b new = (b ≡ a) × (rest ≡ rests.Table None) × (new ≡ old)
+AnswersCommand (Some commands.Counts) counts heard lost a old rest b new =
+    (b ≡ a) × GainsLines old rest new (counts_text counts ++ (10 ∷ (losses_text lost ++ (10 ∷ reply_line replies.Done))))
+AnswersCommand (Some commands.Neighbors) counts heard lost a old rest b new = (b ≡ a) × GainsLines old rest new (neighbors_text heard ++ reply_line replies.Done)
+AnswersCommand (Some commands.Stop) counts heard lost a old rest b new = (b ≡ a) × GainsLines old rest new (reply_line replies.Done)
+AnswersCommand (Some (commands.Reconfigure c)) counts heard lost a old rest b new =
+    (reply : Reply) × ObeysChange c a reply b × GainsLines old rest new (reply_line reply)
+AnswersCommand (Some (commands.Link c)) counts heard lost a old rest b new = (b ≡ a) × (reply : Reply) × GainsLines old rest new (reply_line reply)
+
+-- ---- what is answered in pieces
+-- there may be more behind a prefix, and nothing is said of it yet; or all was written, and that it was
+abbrev pub GoesOnOrEnds : (Option Prefix6 → Rest) → Option Prefix6 → Rest → Option (List ℕ) → Option (List ℕ) → Type 0
+GoesOnOrEnds Kind (Some p) left mid new = (left ≡ Kind (Some p)) × (new ≡ mid)
+GoesOnOrEnds Kind None left mid new = (left ≡ rests.Nothing) × Appends mid new (reply_line replies.Done)
+
+-- the writer gained what was next of the rest of an answer, but where it failed
+abbrev pub Continues : State → Forwarding → Rest → Option (List ℕ) → Rest → Option (List ℕ) → Type 0
+Continues s table (rests.Routes after) old left new = left ≢ rests.Lost → (more : Option Prefix6) × (mid : Option (List ℕ))
+    × ShowsRoutes s.table s.last after more old mid × GoesOnOrEnds rests.Routes more left mid new
+Continues s table (rests.Table after) old left new = left ≢ rests.Lost → (more : Option Prefix6) × (mid : Option (List ℕ))
+    × ShowsEntries table after more old mid × GoesOnOrEnds rests.Table more left mid new
+Continues s table rest old left new = (left ≡ rest) × (new ≡ old)

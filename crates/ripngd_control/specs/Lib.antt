@@ -1,4 +1,5 @@
 pub mod Commands
+pub mod Printed
+pub mod Watching
 pub mod Answers
-pub mod Losses
-pub mod Answering
+pub mod Clients

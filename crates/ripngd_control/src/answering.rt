@@ -1,28 +1,28 @@
 //! What a router that runs answers to one command, between two of its turns: at once, or in pieces.
 
-ghost use Rattle.std.specs.Prelude.{◌≡◌, ◌≢◌, ◌↔◌, IfOk, IsOk, OnOk, Some, false};
-ghost use Rattle.std.specs.Io.KnownBytes.{Appends};
+ghost use Rattle.std.specs.Prelude.{◌≡◌, ◌≢◌, ◌↔◌, IsOk, IsTrue, Some, false};
+ghost use Rattle.router_core.specs.Reconfiguring.{NamesInterface};
 ghost use Rattle.ripngd_engine.specs.Seen.{seen};
+ghost use Rattle.ripngd_control.specs.Answers.{AnswersCommand, Continues, GainsLines, ObeysChange};
+ghost use Rattle.ripngd_control.specs.Printed.{reply_line};
 ghost use Rattle.ripngd_control.specs.declared.command.PeerChange.{PeerChange};
-ghost use Rattle.ripngd_control.specs.Answering.{AnswersCommand, Continues, RunsOn, Obeyed, GainsLines, WritesEntries, WritesRoutes, counts_answer, neighbors_answer, reply_line};
 
-use crate::command::{Command, PeerChange};
-use crate::lines::{write_routes, write_table};
-use crate::losses::{Losses, Totals};
-use crate::obeying::obey;
-use crate::peering::Peering;
-use crate::reply::Reply;
+use crate::command::Command;
+use crate::counts::Losses;
+use crate::monitor::Monitor;
+use crate::pieces::{write_routes, write_table};
+use crate::reply::{Peering, Reply};
+use fib::Fib;
 use prefix6::Prefix;
 use rand_core::Rng;
-use ripngd_engine::{Engine, Link, LinkChange, TimeSource};
-use ripngd_watch::{Counts, Neighbors, write_neighbors};
+use ripngd_engine::{ChangeFault, Engine, Link, LinkChange, TimeSource};
 use route_table::RouteStore;
-use router_core::Change;
+use router_core::{Change, Router, RouterConfig};
 use std::io::{self, Write};
 
 /// What is still to be written of an answer.
 #[derive(Clone, Copy, Debug, PartialEq, Eq)]
-pub enum Rest {
+pub(crate) enum Rest {
     /// Lines of routes, behind a prefix if one is named.
     Routes(Option<Prefix>),
     /// Lines of the forwarding table, behind a prefix if one is named.
@@ -44,37 +44,6 @@ pub enum Course {
     Ended,
 }
 
-/// What a command leads to.
-#[derive(Clone, Copy, Debug, PartialEq, Eq)]
-pub struct Response {
-    /// What is still to be written.
-    pub rest: Rest,
-    /// Whether the router goes on.
-    pub course: Course,
-}
-
-/// Writes the last line of an answer.
-fn write_reply<W: Write>(reply: Reply, out: &mut W) -> io::Result<()>
-    ensures { OnOk result (Appends (W.contents out.old) (W.contents out.new) (reply_line reply)) }
-{
-    writeln!(out, "{reply}")
-}
-
-/// Writes what was counted and what was lost, and that this is all.
-fn write_counts<W: Write>(counts: Counts, lost: Losses, out: &mut W) -> io::Result<()>
-    ensures { OnOk result (Appends (W.contents out.old) (W.contents out.new) (counts_answer counts lost)) }
-{
-    writeln!(out, "{}\nok", Totals { counts, lost })
-}
-
-/// Writes what came of each sender, and that this is all.
-fn write_heard<W: Write>(heard: &Neighbors, out: &mut W) -> io::Result<()>
-    ensures { OnOk result (Appends (W.contents out.old) (W.contents out.new) (neighbors_answer heard.now)) }
-{
-    write_neighbors(heard, out)?;
-    write_reply(Reply::Done, out)
-}
-
 /// What is left of an answer that was to be written to its end.
 fn all_of(written: io::Result<()>) -> Rest
     ensures { result ≢ Rest.Lost → (result ≡ Rest.Nothing) × IsOk written }
@@ -85,152 +54,118 @@ fn all_of(written: io::Result<()>) -> Rest
     }
 }
 
-/// Whether a router goes on behind a change with this reply.
-fn course_after(reply: Reply) -> Course
-    ensures { RunsOn reply result }
+/// Writes the last line of an answer.
+fn write_reply<W: Write>(reply: Reply, out: &mut W) -> Rest
+    ensures { GainsLines (W.contents out.old) result (W.contents out.new) (reply_line reply) }
 {
-    match reply {
-        Reply::Ended => Course::Ended,
-        _ => Course::GoOn,
+    all_of(writeln!(out, "{reply}"))
+}
+
+/// Whether a change of cost names an interface.
+fn names_interface(config: &RouterConfig, change: &Change) -> bool
+    ensures { IsTrue result ↔ NamesInterface config.now change.now }
+{
+    match *change {
+        Change::Cost { iface, .. } => iface < config.interfaces().len(),
+        Change::Own { .. } | Change::Disown { .. } => true,
     }
 }
 
-/// Changes the configuration, and writes how that ended.
-fn respond_to_change<S: RouteStore, L: Link, C: TimeSource, R: Rng + Drop, W: Write, O: Write>(
+/// Changes the configuration of an engine's router, and answers how that ended, and whether the router goes on.
+fn obey<S: RouteStore, L: Link, C: TimeSource, R: Rng + Drop, W: Write>(
     engine: &mut Engine<S, L, C, R>,
     change: Change,
     log: &mut W,
-    out: &mut O,
-) -> Response
+) -> (Reply, Course)
     requires { engine.old.ended ≡ false }
-    ensures answers { Obeyed change (seen R.stream W.contents engine.old log.old) (O.contents out.old) result.rest
-        (seen R.stream W.contents engine.new log.new) (O.contents out.new) }
-    ensures goes_on { result.course ≢ Course.Ended → engine.new.ended ≡ false }
-    ensures no_stop { result.course ≢ Course.Stop }
+    ensures obeys { ObeysChange change (seen R.stream W.contents engine.old log.old) result.0
+        (seen R.stream W.contents engine.new log.new) }
+    ensures goes_on { result.1 ≢ Course.Ended → engine.new.ended ≡ false }
+    ensures no_stop { result.1 ≢ Course.Stop }
 {
-    let reply = obey(engine, change, log);
-    Response {
-        rest: all_of(write_reply(reply, out)),
-        course: course_after(reply),
+    if !names_interface(engine.router().config(), &change) {
+        return (Reply::NoSuchInterface, Course::GoOn);
+    }
+    match engine.reconfigure(change, log) {
+        Ok(()) => (Reply::Done, Course::GoOn),
+        Err(ChangeFault::Refused(why)) => (Reply::Refused(why), Course::GoOn),
+        Err(ChangeFault::Ended) => (Reply::Ended, Course::Ended),
     }
 }
 
-/// Changes the peers of the link, and writes how that ended.
-fn respond_to_peering<
-    S: RouteStore,
-    L: Link,
-    C: TimeSource,
-    R: Rng + Drop,
-    P: LinkChange<L> + Peering,
-    O: Write,
->(engine: &mut Engine<S, L, C, R>, change: PeerChange, peering: &mut P, out: &mut O) -> Rest
-    ensures same { engine.new ≡ engine.old }
-    ensures says { GainsLines (O.contents out.old) result (O.contents out.new) (reply_line (P.Peering.ended peering.new)) }
-{
-    peering.order(change);
-    engine.change_link(peering);
-    all_of(write_reply(peering.reply(), out))
-}
-
-/// A response behind which the router goes on.
-fn going_on(rest: Rest) -> Response
-    ensures { result ≡ record { rest = rest; course = Course.GoOn } }
-{
-    Response {
-        rest,
-        course: Course::GoOn,
-    }
-}
-
-/// Does what a command tells, or begins to answer what it asks. With it come the counts of what was sent and heard, what came of
-/// each sender, what was lost, and who changes the peers of the link.
-pub fn respond<
+/// Does what a command tells, or begins to answer what it asks: what is still to be written, and whether the router goes on. With the
+/// command come the monitor of the run, what was lost, and who changes the peers of the link.
+pub(crate) fn respond<
     S: RouteStore,
     L: Link,
     C: TimeSource,
     R: Rng + Drop,
     P: LinkChange<L> + Peering,
     W: Write,
+    E,
     O: Write,
 >(
     engine: &mut Engine<S, L, C, R>,
     command: Option<Command>,
-    counts: Counts,
-    heard: &Neighbors,
+    monitor: &Monitor<E>,
     lost: Losses,
     peering: &mut P,
     log: &mut W,
     out: &mut O,
-) -> Response
+) -> (Rest, Course)
     requires { engine.old.ended ≡ false }
-    ensures answers { AnswersCommand command counts heard.now lost (seen R.stream W.contents engine.old log.old) (O.contents out.old) result.rest
-        (seen R.stream W.contents engine.new log.new) (O.contents out.new) }
-    ensures goes_on { result.course ≢ Course.Ended → engine.new.ended ≡ false }
-    ensures stops { (result.course ≡ Course.Stop) ↔ (command ≡ Some Command.Stop) }
+    ensures answers { AnswersCommand command monitor.now.counts monitor.now.neighbors lost (seen R.stream W.contents engine.old log.old)
+        (O.contents out.old) result.0 (seen R.stream W.contents engine.new log.new) (O.contents out.new) }
+    ensures goes_on { result.1 ≢ Course.Ended → engine.new.ended ≡ false }
+    ensures stops { (result.1 ≡ Course.Stop) ↔ (command ≡ Some Command.Stop) }
     ensures links { (c : PeerChange) → command ≡ Some (Command.Link c)
-        → GainsLines (O.contents out.old) result.rest (O.contents out.new) (reply_line (P.Peering.ended peering.new)) }
+        → GainsLines (O.contents out.old) result.0 (O.contents out.new) (reply_line (P.Peering.ended peering.new)) }
 {
     match command {
-        Some(Command::Routes) => going_on(Rest::Routes(None)),
-        Some(Command::Table) => going_on(Rest::Table(None)),
-        Some(Command::Counts) => going_on(all_of(write_counts(counts, lost, out))),
-        Some(Command::Neighbors) => going_on(all_of(write_heard(heard, out))),
-        Some(Command::Stop) => Response {
-            rest: all_of(write_reply(Reply::Done, out)),
-            course: Course::Stop,
-        },
-        Some(Command::Reconfigure(change)) => respond_to_change(engine, change, log, out),
-        Some(Command::Link(change)) => going_on(respond_to_peering(engine, change, peering, out)),
-        None => going_on(all_of(write_reply(Reply::NoSuchCommand, out))),
-    }
-}
-
-/// Writes more routes, and the last line behind the last of them.
-fn write_more_routes<S: RouteStore, L: Link, C: TimeSource, R: Rng + Drop, O: Write>(
-    engine: &Engine<S, L, C, R>,
-    after: Option<Prefix>,
-    out: &mut O,
-) -> io::Result<Rest>
-    ensures { IfOk result (λ rest. WritesRoutes engine.now.router (O.contents out.old) rest (O.contents out.new)) }
-{
-    let router = engine.router();
-    match write_routes(router.routes(), router.last(), after, out)? {
-        Some(last) => Ok(Rest::Routes(Some(last))),
-        None => {
-            write_reply(Reply::Done, out)?;
-            Ok(Rest::Nothing)
+        Some(Command::Routes) => (Rest::Routes(None), Course::GoOn),
+        Some(Command::Table) => (Rest::Table(None), Course::GoOn),
+        Some(Command::Counts) => {
+            let counts = monitor.counts();
+            (all_of(writeln!(out, "{counts}\n{lost}\nok")), Course::GoOn)
         }
-    }
-}
-
-/// Writes more of the forwarding table, and the last line behind its last.
-fn write_more_entries<S: RouteStore, L: Link, C: TimeSource, R: Rng + Drop, O: Write>(
-    engine: &Engine<S, L, C, R>,
-    after: Option<Prefix>,
-    out: &mut O,
-) -> io::Result<Rest>
-    ensures { IfOk result (λ rest. WritesEntries engine.now.fib after (O.contents out.old) rest (O.contents out.new)) }
-{
-    match write_table(engine.fib(), after, out)? {
-        Some(last) => Ok(Rest::Table(Some(last))),
-        None => {
-            write_reply(Reply::Done, out)?;
-            Ok(Rest::Nothing)
+        Some(Command::Neighbors) => {
+            let neighbors = monitor.neighbors();
+            (all_of(writeln!(out, "{neighbors}ok")), Course::GoOn)
         }
+        Some(Command::Stop) => (write_reply(Reply::Done, out), Course::Stop),
+        Some(Command::Reconfigure(change)) => {
+            let (reply, course) = obey(engine, change, log);
+            (write_reply(reply, out), course)
+        }
+        Some(Command::Link(change)) => {
+            peering.order(change);
+            engine.change_link(peering);
+            (write_reply(peering.reply(), out), Course::GoOn)
+        }
+        None => (write_reply(Reply::NoSuchCommand, out), Course::GoOn),
     }
 }
 
 /// Writes a piece of what is still to be written, 256 lines at the most, and answers what is left then.
-pub fn write_rest<S: RouteStore, L: Link, C: TimeSource, R: Rng + Drop, O: Write>(
-    engine: &Engine<S, L, C, R>,
+pub(crate) fn write_rest<S: RouteStore, O: Write>(
+    router: &Router<S>,
+    fib: &Fib,
     rest: Rest,
     out: &mut O,
 ) -> Rest
-    ensures { Continues engine.now.router engine.now.fib rest (O.contents out.old) result (O.contents out.new) }
+    ensures { Continues router.now fib.now rest (O.contents out.old) result (O.contents out.new) }
 {
     match rest {
-        Rest::Routes(after) => write_more_routes(engine, after, out).unwrap_or(Rest::Lost),
-        Rest::Table(after) => write_more_entries(engine, after, out).unwrap_or(Rest::Lost),
+        Rest::Routes(after) => match write_routes(router.routes(), router.last(), after, out) {
+            Ok(Some(last)) => Rest::Routes(Some(last)),
+            Ok(None) => write_reply(Reply::Done, out),
+            Err(_) => Rest::Lost,
+        },
+        Rest::Table(after) => match write_table(fib, after, out) {
+            Ok(Some(last)) => Rest::Table(Some(last)),
+            Ok(None) => write_reply(Reply::Done, out),
+            Err(_) => Rest::Lost,
+        },
         Rest::Nothing | Rest::Lost => rest,
     }
 }

@@ -1,9 +1,9 @@
 //! Commands, and the lines that they are sent as.
 
 ghost use Rattle.std.specs.Prelude.{◌≡◌, IfOk, IfSome, IsTrue, None, Some};
-ghost use Rattle.ripngd_control.specs.Commands.{reconfigure_text, peer_text, control_text, has_sign};
+ghost use Rattle.ripngd_control.specs.Commands.{control_text, has_sign};
 
-use prefix6::{Addr6, Prefix, parse_addr, parse_prefix};
+use prefix6::{Addr6, parse_addr, parse_prefix};
 use router_core::Change;
 use std::alloc::{AllocError, Global};
 use std::fmt::{self, Display};
@@ -44,37 +44,6 @@ pub enum Command {
     Link(PeerChange),
 }
 
-/// A change, as it is told.
-#[derive(Clone, Copy)]
-struct ChangeText(Change);
-
-impl Display for ChangeText {
-    ghost output = { λ c. Some (reconfigure_text c.0) };
-
-    fn fmt<W: fmt::Write>(&self, f: &mut fmt::Formatter<W>) -> fmt::Result {
-        match self.0 {
-            Change::Cost { iface, cost } => write!(f, "cost {iface} {cost}"),
-            Change::Own { prefix, tag } => write!(f, "gain {prefix} {tag}"),
-            Change::Disown { prefix } => write!(f, "drop {prefix}"),
-        }
-    }
-}
-
-/// A change of peers, as it is told.
-#[derive(Clone, Copy)]
-struct PeerText(PeerChange);
-
-impl Display for PeerText {
-    ghost output = { λ c. Some (peer_text c.0) };
-
-    fn fmt<W: fmt::Write>(&self, f: &mut fmt::Formatter<W>) -> fmt::Result {
-        match self.0 {
-            PeerChange::Add { iface, addr, port } => write!(f, "peer {iface} {addr} {port}"),
-            PeerChange::Remove { iface, addr } => write!(f, "unpeer {iface} {addr}"),
-        }
-    }
-}
-
 /// Its line, without the line feed.
 impl Display for Command {
     ghost output = { λ c. Some (control_text c) };
@@ -86,53 +55,16 @@ impl Display for Command {
             Command::Counts => write!(f, "counts"),
             Command::Neighbors => write!(f, "neighbors"),
             Command::Stop => write!(f, "stop"),
-            Command::Reconfigure(change) => write!(f, "{}", ChangeText(change)),
-            Command::Link(change) => write!(f, "{}", PeerText(change)),
+            Command::Reconfigure(Change::Cost { iface, cost }) => write!(f, "cost {iface} {cost}"),
+            Command::Reconfigure(Change::Own { prefix, tag }) => write!(f, "gain {prefix} {tag}"),
+            Command::Reconfigure(Change::Disown { prefix }) => write!(f, "drop {prefix}"),
+            Command::Link(PeerChange::Add { iface, addr, port }) => {
+                write!(f, "peer {iface} {addr} {port}")
+            }
+            Command::Link(PeerChange::Remove { iface, addr }) => {
+                write!(f, "unpeer {iface} {addr}")
+            }
         }
-    }
-}
-
-/// The change of peers of a first word, by the words behind it.
-fn peer_change_in(word: &str, text: &str) -> Option<PeerChange> {
-    let (first, rest) = text.split_once(' ')?;
-    let iface = first.parse().ok()?;
-    match word {
-        "peer" => {
-            let (second, third) = rest.split_once(' ')?;
-            Some(PeerChange::Add {
-                iface,
-                addr: parse_addr(second).ok()?,
-                port: third.parse().ok()?,
-            })
-        }
-        "unpeer" => Some(PeerChange::Remove {
-            iface,
-            addr: parse_addr(rest).ok()?,
-        }),
-        _ => None,
-    }
-}
-
-fn prefix_in(word: &str) -> Option<Prefix> {
-    parse_prefix(word).ok()
-}
-
-/// The change of a first word, by the words behind it.
-fn change_in(word: &str, text: &str) -> Option<Change> {
-    let (first, second) = text.split_once(' ').unwrap_or((text, ""));
-    match word {
-        "cost" => Some(Change::Cost {
-            iface: first.parse().ok()?,
-            cost: second.parse().ok()?,
-        }),
-        "gain" => Some(Change::Own {
-            prefix: prefix_in(first)?,
-            tag: second.parse().ok()?,
-        }),
-        "drop" => Some(Change::Disown {
-            prefix: prefix_in(text)?,
-        }),
-        _ => None,
     }
 }
 
@@ -157,24 +89,34 @@ pub fn command_in(text: &str) -> Option<Command>
 
 /// The same of a text in which no sign stands.
 fn unsigned_command_in(text: &str) -> Option<Command> {
-    match text {
-        "routes" => Some(Command::Routes),
-        "table" => Some(Command::Table),
-        "counts" => Some(Command::Counts),
-        "neighbors" => Some(Command::Neighbors),
-        "stop" => Some(Command::Stop),
-        _ => {
-            let (word, rest) = text.split_once(' ')?;
-            longer_command_in(word, rest)
-        }
-    }
-}
-
-/// The command of a first word that has others behind it.
-fn longer_command_in(word: &str, rest: &str) -> Option<Command> {
-    match word {
-        "peer" | "unpeer" => Some(Command::Link(peer_change_in(word, rest)?)),
-        _ => Some(Command::Reconfigure(change_in(word, rest)?)),
+    let mut words = text.splitn(4, ' ');
+    match (words.next()?, words.next(), words.next(), words.next()) {
+        ("routes", None, None, None) => Some(Command::Routes),
+        ("table", None, None, None) => Some(Command::Table),
+        ("counts", None, None, None) => Some(Command::Counts),
+        ("neighbors", None, None, None) => Some(Command::Neighbors),
+        ("stop", None, None, None) => Some(Command::Stop),
+        ("cost", Some(iface), Some(cost), None) => Some(Command::Reconfigure(Change::Cost {
+            iface: iface.parse().ok()?,
+            cost: cost.parse().ok()?,
+        })),
+        ("gain", Some(prefix), Some(tag), None) => Some(Command::Reconfigure(Change::Own {
+            prefix: parse_prefix(prefix).ok()?,
+            tag: tag.parse().ok()?,
+        })),
+        ("drop", Some(prefix), None, None) => Some(Command::Reconfigure(Change::Disown {
+            prefix: parse_prefix(prefix).ok()?,
+        })),
+        ("peer", Some(iface), Some(addr), Some(port)) => Some(Command::Link(PeerChange::Add {
+            iface: iface.parse().ok()?,
+            addr: parse_addr(addr).ok()?,
+            port: port.parse().ok()?,
+        })),
+        ("unpeer", Some(iface), Some(addr), None) => Some(Command::Link(PeerChange::Remove {
+            iface: iface.parse().ok()?,
+            addr: parse_addr(addr).ok()?,
+        })),
+        _ => None,
     }
 }
 

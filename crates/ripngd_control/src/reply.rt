@@ -1,13 +1,15 @@
-//! The last line of an answer.
+//! How a command ended, and who changes the peers of a link.
 
-ghost use Rattle.std.specs.Prelude.{Some};
-ghost use Rattle.ripngd_control.specs.Answers.{reply_text};
+ghost use Rattle.std.specs.Prelude.{◌≡◌, Some};
+ghost use Rattle.ripngd_control.specs.Printed.{reply_text};
+ghost use Rattle.ripngd_control.specs.declared.reply.Reply.{Reply};
 
+use crate::command::PeerChange;
 use router_core::ReconfigureRefused;
 use std::fmt::{self, Display};
 
-/// How a command ended. Its line is `ok` or `refused NR NAME`, with the number and the name of the router's refusal, or 51
-/// to 53.
+/// The last line of an answer: how a command ended. It is `ok` or `refused NR NAME`, with the number and the name of the router's
+/// refusal, or 51 to 53.
 #[derive(Clone, Copy, Debug, PartialEq, Eq)]
 pub enum Reply {
     /// It was done.
@@ -30,15 +32,25 @@ impl Display for Reply {
     fn fmt<W: fmt::Write>(&self, f: &mut fmt::Formatter<W>) -> fmt::Result {
         match *self {
             Reply::Done => write!(f, "ok"),
-            Reply::Refused(why) => {
-                let number = why.number();
-                let name = why.name();
-                write!(f, "refused {number} {name}")
-            }
+            Reply::Refused(why) => write!(f, "refused {} {}", why.number(), why.name()),
             Reply::LinkRefused(number, name) => write!(f, "refused {number} {name}"),
             Reply::NoSuchInterface => write!(f, "refused 51 NoSuchInterface"),
             Reply::NoSuchCommand => write!(f, "refused 52 NoSuchCommand"),
             Reply::Ended => write!(f, "refused 53 Ended"),
         }
     }
+}
+
+/// Who knows how the peers of a link are changed: it is told which change, makes it when it is lent the link, and then says how
+/// that ended.
+pub trait Peering {
+    // How the last change ended.
+    ghost ended: { Self → Reply };
+
+    /// Takes a change that it is to make.
+    fn order(&mut self, change: PeerChange);
+
+    /// How the last change ended.
+    fn reply(&self) -> Reply
+        ensures { result ≡ ended self.now };
 }

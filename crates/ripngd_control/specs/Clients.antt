@@ -1,0 +1,64 @@
+-- The clients of a router that runs: who may connect, what is received of one and sent to it, and what they make of the router.
+use Rattle.std.specs.Prelude.{◌≡◌, ◌≢◌, ◌≤◌, ◌/◌, ◌%◌, ◌⊎◌, ℕ, List, [], ◌∷◌, ◌++◌, Option, None, Some, length, take, drop}
+use Rattle.std.specs.List.{All}
+use Rattle.std.specs.Io.KnownBytes.{Appends, Consumes}
+use Rattle.router_core.specs.declared.reconfiguring.Change.{Change}
+use Rattle.ripngd_engine.specs.Seen.{Seen}
+use Rattle.ripngd_control.specs.Answers.{ObeysChange}
+use Rattle.ripngd_control.specs.Commands.{control_text}
+use Rattle.ripngd_control.specs.declared.command.Command.{Command}
+use Rattle.ripngd_control.specs.declared.command.Command.TheVariants.{Reconfigure}
+use Rattle.ripngd_control.specs.declared.reply.Reply.{Reply}
+use Rattle.ripngd_control.specs.declared.transcript.Entry.{Entry}
+use Rattle.ripngd_control.specs.declared.transcript.Entry.TheVariants as entries
+
+-- whoever may write a socket's file may connect. Of its mode: neither its group nor others may
+pub record IsPrivate (mode : ℕ) : Type 0 where
+  pub group : (mode / 16) % 2 ≡ 0
+  pub others : (mode / 2) % 2 ≡ 0
+
+-- ---- one client
+-- no byte is a line feed
+abbrev pub HasNoFeed : List ℕ → Type 0
+HasNoFeed bytes = All (λ b. b ≢ 10) bytes
+
+-- these bytes begin with this line and a line feed, and the line has none
+pub record BeginsWith (line bytes : List ℕ) : Type 0 where
+  pub rest : List ℕ
+  pub spelled : bytes ≡ line ++ (10 ∷ rest)
+  pub in_line : HasNoFeed line
+
+-- what was received grew by just what a stream gave, if that is known
+pub record GrowsByReceived (before : Option (List ℕ)) (old : List ℕ) (after : Option (List ℕ)) (new : List ℕ) : Type 0 where
+  pub more : List ℕ
+  pub given : Consumes before after more
+  pub grown : new ≡ old ++ more
+
+-- a stream took so many bytes, the first of these, and the others are left
+pub record ShrinksBySent (before : Option (List ℕ)) (old : List ℕ) (count : ℕ) (after : Option (List ℕ)) (new : List ℕ) : Type 0 where
+  pub within : count ≤ length old
+  pub taken : Appends before after (take count old)
+  pub left : new ≡ drop count old
+
+-- ---- all clients
+-- what contracts see of them: the lines that were taken in and named a command, in order
+pub record ClientsState : Type 0 where
+  pub lines : List (List ℕ)
+
+-- none, or a line behind those that were taken in
+abbrev pub taken_by : Entry → List (List ℕ)
+taken_by entries.Nothing = []
+taken_by (entries.Behind before line) = before.now.taken ++ line.now ∷ []
+
+-- the line at the head of what was received was taken in, if it is that of a command
+abbrev pub TakesIn : Option Command → List ℕ → List (List ℕ) → List (List ℕ) → Type 0
+TakesIn None bytes old new = new ≡ old
+TakesIn (Some c) bytes old new = BeginsWith (control_text c) bytes × (new ≡ old ++ control_text c ∷ [])
+
+-- a router is told what the line of a client asks: a change, or nothing of it changes
+abbrev pub ObeysLine : List ℕ → Seen → Seen → Type 0
+ObeysLine line a b = (b ≡ a) ⊎ ((c : Change) × (reply : Reply) × (line ≡ control_text (Reconfigure c)) × ObeysChange c a reply b)
+
+-- no line was taken in and the router is as it was, or one was, and was obeyed
+abbrev pub Heeds : List (List ℕ) → Seen → List (List ℕ) → Seen → Type 0
+Heeds old a new b = ((new ≡ old) × (b ≡ a)) ⊎ ((line : List ℕ) × (new ≡ old ++ line ∷ []) × ObeysLine line a b)

@@ -1,0 +1,155 @@
+-- What is printed of what is refused, counted, lost and answered (the format is this project's choice).
+use Rattle.std.specs.Prelude.{ℕ, ◌-◌, ◌==◌, List, [], ◌∷◌, ◌++◌, Option, None, Some, codes, decimal, flat_map, if◌then◌else◌, slice_index_or}
+use Rattle.prefix6.specs.Prefix.{Prefix6}
+use Rattle.prefix6.specs.Written.{written_addr, written_prefix}
+use Rattle.ripng_wire.specs.declared.error.WireError.TheVariants.{Short, TooLong, Ragged, BadCommand, BadVersion, NotZero}
+use Rattle.fib.specs.declared.change.Hop.{Hop}
+use Rattle.route_table.specs.Route.{RouteValue}
+use Rattle.route_table.specs.declared.route.Clock.{Clock}
+use Rattle.route_table.specs.declared.route.Clock.TheVariants.{Fixed, Live, Dying}
+use Rattle.route_table.specs.declared.route.Origin.{Origin}
+use Rattle.route_table.specs.declared.route.Origin.TheVariants.{Own, Learned}
+use Rattle.router_core.specs.Faults.{fault_name, fault_number}
+use Rattle.router_core.specs.Offers.{note_name, note_number}
+use Rattle.router_core.specs.Reconfiguring.{reconfigure_name, reconfigure_number}
+use Rattle.router_core.specs.declared.answer.Note.{Note}
+use Rattle.router_core.specs.declared.answer.NoteKind.TheVariants.{BadLength, BadPrefix, BadMetric, TableFull, NoMemory}
+use Rattle.router_core.specs.declared.arrival.Fault.{Fault}
+use Rattle.router_core.specs.declared.arrival.Fault.TheVariants.{Wire, NotRipngPort, NotLinkLocal, OwnAddress, HopLimit, EmptyRequest, BadSource}
+use Rattle.ripngd_engine.specs.Log.{route_text}
+use Rattle.ripngd_engine.specs.Watch.{LinkReport, Heard, Sent}
+use Rattle.ripngd_engine.specs.declared.watch.Arrived.{Arrived}
+use Rattle.ripngd_control.specs.declared.counts.Counts.{Counts}
+use Rattle.ripngd_control.specs.declared.counts.Losses.{Losses}
+use Rattle.ripngd_control.specs.declared.neighbors.Neighbor.{Neighbor}
+use Rattle.ripngd_control.specs.declared.neighbors.Neighbors.{Neighbors}
+use Rattle.ripngd_control.specs.declared.neighbors.Tally.{Tally}
+use Rattle.ripngd_control.specs.declared.refusals.Refusal.{Refusal}
+use Rattle.ripngd_control.specs.declared.refusals.Refusal.TheVariants.{Arrival, Entry}
+use Rattle.ripngd_control.specs.declared.refusals.Refusals.{Refusals}
+use Rattle.ripngd_control.specs.declared.reply.Reply.{Reply}
+use Rattle.ripngd_control.specs.declared.reply.Reply.TheVariants as replies
+
+-- ---- line by line
+-- `MOMENT iface I from ADDR port P`
+abbrev pub arrival_text : Arrived → List ℕ
+arrival_text a =
+    decimal a.moment ++ (codes " iface " ++ (decimal a.iface ++ (codes " from " ++ (written_addr a.source ++ (codes " port " ++ decimal a.source_port)))))
+
+-- `refused NR NAME` or `noted NR NAME`
+abbrev pub refusal_text : Refusal → List ℕ
+refusal_text (Arrival fault) = codes "refused " ++ (decimal (fault_number fault) ++ (codes " " ++ fault_name fault))
+refusal_text (Entry kind) = codes "noted " ++ (decimal (note_number kind) ++ (codes " " ++ note_name kind))
+
+-- a line `ORIGIN refused NR NAME` for the fault, if there is one
+abbrev pub refusal_lines : Arrived → Option Fault → List ℕ
+refusal_lines a None = []
+refusal_lines a (Some fault) = (arrival_text a ++ (codes " " ++ refusal_text (Arrival fault))) ++ 10 ∷ []
+
+-- a line `ORIGIN entry E noted NR NAME` for each note
+abbrev pub note_lines : Arrived → List Note → List ℕ
+note_lines a notes =
+    flat_map (λ n. (arrival_text a ++ (codes " entry " ++ (decimal n.entry ++ (codes " " ++ refusal_text (Entry n.kind))))) ++ 10 ∷ []) notes
+
+-- the lines of what is told
+abbrev pub lines_of : LinkReport → List ℕ
+lines_of (Heard a bytes fault notes) = refusal_lines a fault ++ note_lines a notes
+lines_of (Sent s went) = []
+
+-- ---- counts
+-- the number of a refusal
+abbrev pub refusal_number : Refusal → ℕ
+refusal_number (Arrival fault) = fault_number fault
+refusal_number (Entry kind) = note_number kind
+
+-- each refusal, in the order of the numbers
+abbrev pub every_refusal : List Refusal
+every_refusal =
+    Arrival (Wire Short) ∷ Arrival (Wire TooLong) ∷ Arrival (Wire Ragged) ∷ Arrival (Wire BadCommand) ∷ Arrival (Wire BadVersion)
+    ∷ Arrival (Wire NotZero) ∷ Arrival NotRipngPort ∷ Arrival NotLinkLocal ∷ Arrival OwnAddress ∷ Arrival HopLimit
+    ∷ Arrival EmptyRequest ∷ Arrival BadSource ∷ Entry BadLength ∷ Entry BadPrefix ∷ Entry BadMetric ∷ Entry TableFull ∷ Entry NoMemory ∷ []
+
+-- a line `refused NR NAME N` or `noted NR NAME N`, where there was any, behind what is not ended
+abbrev pub count_line : Refusal → ℕ → List ℕ
+count_line refusal count = if count == 0 then [] else 10 ∷ refusal_text refusal ++ (codes " " ++ decimal count)
+
+-- a line for each of these that was counted, by their numbers
+abbrev pub count_lines : List ℕ → List Refusal → List ℕ
+count_lines counts refusals = flat_map (λ r. count_line r (slice_index_or counts (refusal_number r) 0)) refusals
+
+-- the same for all of them
+abbrev pub refusals_text : Refusals → List ℕ
+refusals_text r = count_lines r.by_number every_refusal
+
+-- `arrivals A sends S failed F`, and behind it the lines of what was refused
+abbrev pub counts_text : Counts → List ℕ
+counts_text c =
+    codes "arrivals " ++ (decimal c.arrivals ++ (codes " sends " ++ (decimal c.sends ++ (codes " failed "
+    ++ (decimal c.failed_sends ++ refusals_text c.refusals)))))
+
+-- ` last MS`, if there was one
+abbrev pub last_text : Option ℕ → List ℕ
+last_text None = []
+last_text (Some moment) = codes " last " ++ decimal moment
+
+-- ` arrivals A responses R entries E`, ` last MS` if there was a Response, and behind it the lines of what was refused
+abbrev pub tally_text : Tally → List ℕ
+tally_text t =
+    codes " arrivals " ++ (decimal t.arrivals ++ (codes " responses " ++ (decimal t.responses ++ (codes " entries "
+    ++ (decimal t.entries ++ (last_text t.last ++ refusals_text t.refusals))))))
+
+-- `iface I from ADDR`, and what came of it, a line for each row
+abbrev pub row_lines : List Neighbor → List ℕ
+row_lines rows = flat_map (λ n.
+    (codes "iface " ++ (decimal n.iface ++ (codes " from " ++ (written_addr n.source ++ tally_text n.tally)))) ++ 10 ∷ []) rows
+
+-- the lines of each row, and `others`, with what came of them, if anything did
+abbrev pub neighbors_text : Neighbors → List ℕ
+neighbors_text n = row_lines n.rows.items ++ (if n.others.arrivals == 0 then [] else (codes "others" ++ tally_text n.others) ++ 10 ∷ [])
+
+-- ---- losses
+-- `lost sends N steps M arrivals K`, and `strangers S` and whether the log failed on lines of their own
+abbrev pub losses_text : Losses → List ℕ
+losses_text l =
+    codes "lost sends " ++ (decimal l.report.lost_sends ++ (codes " steps " ++ (decimal l.report.lost_memory
+    ++ (codes " arrivals " ++ (decimal l.arrivals ++ (codes "\nstrangers " ++ (decimal l.strangers ++ (if l.report.log_failed then codes "\nlog failed" else []))))))))
+
+-- ---- answers
+-- `own`, or `via ADDR iface I from ADDR`
+abbrev pub origin_text : Origin → List ℕ
+origin_text Own = codes "own"
+origin_text (Learned iface from next_hop) =
+    codes "via " ++ (written_addr next_hop ++ (codes " iface " ++ (decimal iface ++ (codes " from " ++ written_addr from))))
+
+-- `fixed`, or the milliseconds that are left at a moment: `live MS` or `dying MS`
+abbrev pub clock_text : Clock → ℕ → List ℕ
+clock_text Fixed now = codes "fixed"
+clock_text (Live until) now = codes "live " ++ decimal (until - now)
+clock_text (Dying until) now = codes "dying " ++ decimal (until - now)
+
+-- `PREFIX metric M tag T ORIGIN CLOCK`, and whether it is marked
+abbrev pub status_text : Prefix6 → RouteValue → ℕ → List ℕ
+status_text p r now =
+    written_prefix p ++ (codes " metric " ++ (decimal r.metric ++ (codes " tag " ++ (decimal r.tag ++ (codes " "
+    ++ (origin_text r.origin ++ (codes " " ++ (clock_text r.clock now ++ (if r.changed then codes " marked" else [])))))))))
+
+-- a line for each of these routes
+abbrev pub status_lines : ℕ → List (Prefix6 × RouteValue) → List ℕ
+status_lines now es = flat_map (λ e. status_text e.0 e.1 now ++ 10 ∷ []) es
+
+-- a line for each of these entries of a forwarding table
+abbrev pub entry_lines : List (Prefix6 × Hop × ℕ) → List ℕ
+entry_lines es = flat_map (λ e. route_text e.0 e.1 e.2 ++ 10 ∷ []) es
+
+-- the numbers of refusals: those of the router, those of its link, and three of their own
+abbrev pub reply_text : Reply → List ℕ
+reply_text replies.Done = codes "ok"
+reply_text (replies.Refused why) = codes "refused " ++ (decimal (reconfigure_number why) ++ (codes " " ++ reconfigure_name why))
+reply_text (replies.LinkRefused number name) = codes "refused " ++ (decimal number ++ (codes " " ++ name.now))
+reply_text replies.NoSuchInterface = codes "refused 51 NoSuchInterface"
+reply_text replies.NoSuchCommand = codes "refused 52 NoSuchCommand"
+reply_text replies.Ended = codes "refused 53 Ended"
+
+-- the same with its line feed
+abbrev pub reply_line : Reply → List ℕ
+reply_line reply = reply_text reply ++ 10 ∷ []

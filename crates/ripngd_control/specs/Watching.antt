@@ -1,0 +1,130 @@
+-- What the watcher of a run makes of what it is told: what is counted, in all and of each sender, and what is said.
+use Rattle.std.specs.Prelude.{ℕ, ◌≡◌, ◌<◌, ◌+◌, ◌-◌, ◌/◌, ◌==◌, ◌&&◌, ◌⊎◌, Bool, true, false, List, [], ◌∷◌, ◌++◌, Option, None, Some, if◌then◌else◌, length, nat_lt, replicate, slice_get, slice_index_or, slice_set, vec_capacity}
+use Rattle.std.specs.Io.KnownBytes.{Appends}
+use Rattle.std.specs.List.{count_by, position_or_len}
+use Rattle.ripng_wire.specs.Wire.{is_response}
+use Rattle.router_core.specs.Faults.{fault_number}
+use Rattle.router_core.specs.Offers.{note_number}
+use Rattle.router_core.specs.declared.answer.Note.{Note}
+use Rattle.router_core.specs.declared.arrival.Fault.{Fault}
+use Rattle.ripngd_engine.specs.Run.{counted}
+use Rattle.ripngd_engine.specs.Watch.{LinkReport, Heard, Sent}
+use Rattle.ripngd_engine.specs.declared.watch.Arrived.{Arrived}
+use Rattle.ripngd_control.specs.Printed.{lines_of}
+use Rattle.ripngd_control.specs.declared.counts.Counts.{Counts}
+use Rattle.ripngd_control.specs.declared.monitor.Monitor.{Monitor}
+use Rattle.ripngd_control.specs.declared.neighbors.Neighbor.{Neighbor}
+use Rattle.ripngd_control.specs.declared.neighbors.Neighbors.{Neighbors}
+use Rattle.ripngd_control.specs.declared.refusals.Refusals.{Refusals}
+use Rattle.ripngd_control.specs.declared.neighbors.Tally.{Tally}
+
+-- ---- what is counted of a report
+-- f of an arrival's fault and notes, and none of what was sent
+abbrev pub heard_in : (Option Fault → List Note → ℕ) → LinkReport → ℕ
+heard_in f (Heard a bytes fault notes) = f fault notes
+heard_in f (Sent s went) = 0
+
+-- f of whether the link took what was sent, and none of an arrival
+abbrev pub sent_in : (Bool → ℕ) → LinkReport → ℕ
+sent_in f (Heard a bytes fault notes) = 0
+sent_in f (Sent s went) = f went
+
+-- how many there are in all of them
+abbrev pub total : (LinkReport → ℕ) → List LinkReport → ℕ
+total f [] = 0
+total f (t ∷ ts) = f t + total f ts
+
+-- whether this is the fault of that number, as a count
+abbrev pub is_fault : ℕ → Option Fault → ℕ
+is_fault number None = 0
+is_fault number (Some fault) = if fault_number fault == number then 1 else 0
+
+-- the notes of that number among these
+abbrev pub notes_of : ℕ → List Note → ℕ
+notes_of number notes = count_by (λ n. note_number n.kind == number) notes
+
+-- ---- in all
+-- nothing was refused
+abbrev pub no_refusals : Refusals
+no_refusals = record { by_number = replicate 25 0 }
+
+-- nothing was counted
+abbrev pub no_counts : Counts
+no_counts = record { arrivals = 0; sends = 0; failed_sends = 0; refusals = no_refusals }
+
+-- each count is that of before with how many there are of its number, up to the greatest u64
+pub record Refused (more : ℕ → ℕ) (r s : Refusals) : Type 0 where
+  pub by_number_are : (number : ℕ) → number < 25 → slice_index_or s.by_number number 0 ≡ counted (slice_index_or r.by_number number 0) (more number)
+
+-- each count is that of before with how many there are in these, up to the greatest u64
+pub record Counted (c : Counts) (ts : List LinkReport) (d : Counts) : Type 0 where
+  pub arrivals : d.arrivals ≡ counted c.arrivals (total (heard_in (λ fault notes. 1)) ts)
+  pub sends : d.sends ≡ counted c.sends (total (sent_in (λ went. 1)) ts)
+  pub failed_sends : d.failed_sends ≡ counted c.failed_sends (total (sent_in (λ went. if went then 0 else 1)) ts)
+  pub refusals : Refused (λ number. total (heard_in (λ fault notes. is_fault number fault + notes_of number notes)) ts) c.refusals d.refusals
+
+-- ---- of one sender
+-- whether an arrival is a Response without a fault
+abbrev pub is_sound_response : List ℕ → Option Fault → Bool
+is_sound_response bytes None = is_response bytes
+is_sound_response bytes (Some fault) = false
+
+-- the entries of a datagram: 20 bytes each, behind the first 4
+abbrev pub rte_count : List ℕ → ℕ
+rte_count bytes = (length bytes - 4) / 20
+
+-- nothing came
+abbrev pub no_tally : Tally
+no_tally = record { arrivals = 0; responses = 0; entries = 0; last = None; refusals = no_refusals }
+
+-- an arrival was counted, up to the greatest u64 each: what it is, its entries and its moment if it is a Response without a
+-- fault, its fault, and the notes on its entries
+pub record Tallied (c : Tally) (a : Arrived) (bytes : List ℕ) (fault : Option Fault) (notes : List Note) (d : Tally) : Type 0 where
+  pub arrivals : d.arrivals ≡ counted c.arrivals 1
+  pub responses : d.responses ≡ counted c.responses (if is_sound_response bytes fault then 1 else 0)
+  pub entries : d.entries ≡ counted c.entries (if is_sound_response bytes fault then rte_count bytes else 0)
+  pub last : d.last ≡ (if is_sound_response bytes fault then Some a.moment else c.last)
+  pub refusals : Refused (λ number. is_fault number fault + notes_of number notes) c.refusals d.refusals
+
+-- ---- of all senders
+-- nobody was heard, and there is room for 64 rows, or for none
+pub record KnowsNobody (n : Neighbors) : Type 0 where
+  pub rows : n.rows.items ≡ []
+  pub room : (vec_capacity n.rows ≡ 64) ⊎ (vec_capacity n.rows ≡ 0)
+  pub others : n.others ≡ no_tally
+
+-- whether a row is that of an arrival's sender: of its interface and its address
+abbrev pub is_of : Arrived → Neighbor → Bool
+is_of a r = (r.iface == a.iface) && (r.source == a.source)
+
+-- where the row of an arrival's sender is, or how many rows there are where it has none
+abbrev pub place_of : Arrived → List Neighbor → ℕ
+place_of a rows = position_or_len (is_of a) rows
+
+-- the rows, with an empty one for an arrival's sender behind them where it has none and there is room for one
+abbrev pub with_row : Arrived → ℕ → List Neighbor → List Neighbor
+with_row a room rows = if (place_of a rows == length rows) && nat_lt (length rows) room
+    then rows ++ record { iface = a.iface; source = a.source; tally = no_tally } ∷ [] else rows
+
+-- an arrival was counted in the row at a place, or with all others where there is none
+abbrev pub CountsAt : (Tally → Tally → Type 0) → Option Neighbor → ℕ → List Neighbor → Neighbors → Neighbors → Type 0
+CountsAt Counts (Some row) place rows v w = (tally : Tally) × Counts row.tally tally
+    × (w.rows.items ≡ slice_set rows place (record row { tally = tally })) × (w.others ≡ v.others)
+CountsAt Counts None place rows v w = Counts v.others w.others × (w.rows.items ≡ rows)
+
+-- an arrival was counted for its sender, which has a row by then if there was room for one; the room stays
+abbrev pub CountsOf : (Tally → Tally → Type 0) → Arrived → List Neighbor → Neighbors → Neighbors → Type 0
+CountsOf Counts a rows v w =
+    (vec_capacity w.rows ≡ vec_capacity v.rows) × CountsAt Counts (slice_get rows (place_of a rows)) (place_of a rows) rows v w
+
+-- what a telling makes of the rows: what is sent is nobody's
+abbrev pub CountsReport : Neighbors → LinkReport → Neighbors → Type 0
+CountsReport v (Heard a bytes fault notes) w = CountsOf (λ c d. Tallied c a bytes fault notes d) a (with_row a (vec_capacity v.rows) v.rows.items) v w
+CountsReport v (Sent s went) w = w ≡ v
+
+-- ---- what a telling makes of a monitor: it is counted, and its lines are written, but none once it is muted
+pub record Monitors {W : Type 0} (text : W → Option (List ℕ)) (v : Monitor W) (t : LinkReport) (w : Monitor W) : Type 0 where
+  pub counts : Counted v.counts (t ∷ []) w.counts
+  pub neighbors : CountsReport v.neighbors t w.neighbors
+  pub stays_muted : v.is_muted ≡ true → (w.is_muted ≡ true) × (w.out ≡ v.out)
+  pub gains : w.is_muted ≡ false → Appends (text v.out) (text w.out) (lines_of t)

@@ -1,0 +1,110 @@
+//! Counts of all that a watcher is told, and of what was lost beside it.
+
+ghost use Rattle.std.specs.Prelude.{◌≡◌, ◌∷◌, [], ℕ, List, Some, codes, if◌then◌else◌};
+ghost use Rattle.router_core.specs.declared.answer.Outgoing.{Outgoing};
+ghost use Rattle.ripngd_engine.specs.Watch.{Heard, LinkReport, Sent, WasTold};
+ghost use Rattle.ripngd_engine.specs.declared.watch.Arrived.{Arrived};
+ghost use Rattle.ripngd_control.specs.Printed.{counts_text, losses_text};
+ghost use Rattle.ripngd_control.specs.Watching.{Counted, no_counts};
+ghost use Rattle.ripngd_control.specs.declared.counts.Counts.{Counts};
+
+use crate::refusals::Refusals;
+use ripngd_engine::Report;
+use router_core::{Fault, Note};
+use std::fmt::{self, Display};
+
+/// How many there were, each up to the greatest `u64`.
+#[derive(Clone, Copy, Debug, PartialEq, Eq)]
+pub struct Counts {
+    /// Arrivals that the router answered, refused ones too.
+    pub arrivals: u64,
+    /// Datagrams that were handed to the link.
+    pub sends: u64,
+    /// Those of them that it did not take.
+    pub failed_sends: u64,
+    /// What was refused of the arrivals.
+    pub refusals: Refusals,
+}
+
+impl Counts {
+    /// Counts of nothing.
+    pub const fn new() -> Counts
+        ensures { result ≡ no_counts }
+    {
+        Counts {
+            arrivals: 0,
+            sends: 0,
+            failed_sends: 0,
+            refusals: Refusals::new(),
+        }
+    }
+
+    /// Counts an arrival, with its fault or its notes.
+    pub(crate) fn count_arrival(&mut self, fault: Option<Fault>, notes: &[Note])
+        ensures { (a : Arrived) (bytes : List ℕ) → Counted self.old (Heard a bytes fault notes.now ∷ []) self.new }
+    {
+        self.arrivals = self.arrivals.saturating_add(1);
+        self.refusals.count(fault, notes);
+    }
+
+    /// Counts a datagram, and whether the link took it.
+    pub(crate) fn count_send(&mut self, went: bool)
+        ensures { (s : Outgoing) → Counted self.old (Sent s went ∷ []) self.new }
+    {
+        self.sends = self.sends.saturating_add(1);
+        if !went {
+            self.failed_sends = self.failed_sends.saturating_add(1);
+        }
+    }
+}
+
+/// Counts that were told one thing after another are the counts over all of them: a law, which follows from the definitions alone.
+pub fn counts_are_of_all_told()
+    ensures { (c d : Counts) (ts : List LinkReport) → WasTold (λ v t w. Counted v (t ∷ []) w) c ts d → Counted c ts d }
+{}
+
+/// `arrivals A sends S failed F`, and behind it, on lines of their own, what was refused. The last line is not ended.
+impl Display for Counts {
+    ghost output = { λ counts. Some (counts_text counts) };
+
+    fn fmt<W: fmt::Write>(&self, f: &mut fmt::Formatter<W>) -> fmt::Result {
+        write!(
+            f,
+            "arrivals {} sends {} failed {}{}",
+            self.arrivals, self.sends, self.failed_sends, self.refusals
+        )
+    }
+}
+
+/// What a router and its link have lost. The counts stay at the greatest `u64`.
+#[derive(Clone, Copy, Debug, PartialEq, Eq)]
+pub struct Losses {
+    /// What the router lost; its sends and steps count what its link lost, too.
+    pub report: Report,
+    /// The arrivals among the steps for which the link had no room or no memory.
+    pub arrivals: u64,
+    /// The datagrams that came from ports of no peer.
+    pub strangers: u64,
+}
+
+fn failed_log_text(failed: bool) -> &'static str
+    ensures { result.now ≡ (if failed then codes "\nlog failed" else []) }
+{
+    if failed { "\nlog failed" } else { "" }
+}
+
+/// `lost sends N steps M arrivals K`, `strangers S` on a line of its own, and `log failed` on another where a write of the log
+/// failed. The last line is not ended.
+impl Display for Losses {
+    ghost output = { λ l. Some (losses_text l) };
+
+    fn fmt<W: fmt::Write>(&self, f: &mut fmt::Formatter<W>) -> fmt::Result {
+        let report = self.report;
+        let log = failed_log_text(report.log_failed);
+        write!(
+            f,
+            "lost sends {} steps {} arrivals {}\nstrangers {}{log}",
+            report.lost_sends, report.lost_memory, self.arrivals, self.strangers
+        )
+    }
+}

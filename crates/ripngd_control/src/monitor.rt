@@ -1,0 +1,124 @@
+//! The watcher of a run: it counts what it is told, and writes a line for each refused arrival and each skipped entry.
+
+ghost use Rattle.std.specs.Prelude.{◌≡◌, ◌++◌, OnOk, Some};
+ghost use Rattle.std.specs.Io.KnownBytes.{Appends};
+ghost use Rattle.ripngd_control.specs.Printed.{arrival_text, note_lines, refusal_lines};
+ghost use Rattle.ripngd_control.specs.Watching.{KnowsNobody, Monitors, no_counts};
+
+use crate::counts::Counts;
+use crate::neighbors::Neighbors;
+use crate::refusals::Refusal;
+use ripngd_engine::{Arrived, Watch};
+use router_core::{Fault, Note, Outgoing};
+use std::alloc::Global;
+use std::fmt::{self, Display};
+use std::io::{self, Write};
+
+/// Where an arrival came from, and when, written `MOMENT iface I from ADDR port P`.
+#[derive(Clone, Copy)]
+struct Origin(Arrived);
+
+impl Display for Origin {
+    ghost output = { λ o. Some (arrival_text o.0) };
+
+    fn fmt<W: fmt::Write>(&self, f: &mut fmt::Formatter<W>) -> fmt::Result {
+        let a = self.0;
+        let ms = a.moment.ms();
+        write!(
+            f,
+            "{ms} iface {} from {} port {}",
+            a.iface, a.source, a.source_port
+        )
+    }
+}
+
+/// Writes `ORIGIN entry E noted NR NAME` for each note.
+fn write_notes<W: Write>(origin: Origin, notes: &[Note], out: &mut W) -> io::Result<()>
+    ensures { OnOk result (Appends (W.contents out.old) (W.contents out.new) (note_lines origin.0 notes.now)) }
+{
+    for note in notes {
+        let refusal = Refusal::Entry(note.kind);
+        writeln!(out, "{origin} entry {} {refusal}", note.entry)?;
+    }
+    Ok(())
+}
+
+/// Writes `ORIGIN refused NR NAME` for the fault of an arrival, if there is one, and the lines of its notes.
+fn write_lines<W: Write>(
+    arrived: Arrived,
+    fault: Option<Fault>,
+    notes: &[Note],
+    out: &mut W,
+) -> io::Result<()>
+    ensures { OnOk result (Appends (W.contents out.old) (W.contents out.new) (refusal_lines arrived fault ++ note_lines arrived notes.now)) }
+{
+    let origin = Origin(arrived);
+    if let Some(fault) = fault {
+        let refusal = Refusal::Arrival(fault);
+        writeln!(out, "{origin} {refusal}")?;
+    }
+    write_notes(origin, notes, out)
+}
+
+/// What becomes of arrivals and sends: counted, in all and by neighbor, and said line by line where that is wanted. A write that
+/// fails ends the lines, perhaps within one, and changes nothing else.
+#[derive(Drop)]
+pub struct Monitor<W> {
+    counts: Counts,
+    neighbors: Neighbors,
+    out: W,
+    is_muted: bool,
+}
+
+impl<W> Monitor<W> {
+    /// One that was told nothing yet; where `is_muted`, no line is ever written to `out`.
+    pub fn new(alloc: Global, out: W, is_muted: bool) -> Monitor<W>
+        ensures counts { result.counts ≡ no_counts }
+        ensures neighbors { KnowsNobody result.neighbors }
+        ensures lines { (result.out ≡ out) × (result.is_muted ≡ is_muted) }
+    {
+        Monitor {
+            counts: Counts::new(),
+            neighbors: Neighbors::new(alloc),
+            out,
+            is_muted,
+        }
+    }
+
+    /// The counts of all that it was told.
+    pub fn counts(&self) -> Counts
+        ensures { result ≡ self.now.counts }
+    {
+        self.counts
+    }
+
+    /// What came of each sender.
+    pub fn neighbors(&self) -> &Neighbors
+        ensures { result.now ≡ self.now.neighbors }
+    {
+        &self.neighbors
+    }
+
+    /// Where its lines go, for what is written behind them.
+    pub fn out(&mut self) -> &mut W
+        ensures { result.now ≡ self.old.out }
+    {
+        &mut self.out
+    }
+}
+
+impl<W: Write> Watch for Monitor<W> {
+    ghost takes = { Monitors W.contents };
+
+    fn heard(&mut self, arrived: Arrived, bytes: &[u8], fault: Option<Fault>, notes: &[Note]) {
+        self.counts.count_arrival(fault, notes);
+        self.neighbors.count(&arrived, bytes, fault, notes);
+        if !self.is_muted {
+            self.is_muted = write_lines(arrived, fault, notes, &mut self.out).is_err();
+        }
+    }
+
+    fn sent(&mut self, _outgoing: &Outgoing, went: bool) {
+        self.counts.count_send(went);
+    }
+}

@@ -1,0 +1,219 @@
+//! What came of each sender that was heard, by interface and address.
+
+ghost use Rattle.std.specs.Prelude.{◌≡◌, ◌≤◌, Some, length, vec_capacity};
+ghost use Rattle.std.specs.Fmt.{WritesOnOk};
+ghost use Rattle.ripngd_control.specs.Printed.{neighbors_text, row_lines, tally_text};
+ghost use Rattle.ripngd_control.specs.Watching.{CountsOf, KnowsNobody, Tallied, is_of, is_sound_response, no_tally, place_of, with_row};
+
+use crate::refusals::Refusals;
+use prefix6::Addr6;
+use ripng_wire::Command;
+use ripngd_engine::Arrived;
+use router_core::{Fault, Note};
+use std::alloc::Global;
+use std::fmt::{self, Display};
+
+/// What came of one sender, or of several together. Each count stays at the greatest `u64`.
+#[derive(Clone, Copy, Debug, PartialEq, Eq)]
+pub struct Tally {
+    /// Arrivals that the router answered, refused ones too.
+    pub arrivals: u64,
+    /// Responses among them without a fault.
+    pub responses: u64,
+    /// The entries of these.
+    pub entries: u64,
+    /// When the last of them came, in milliseconds of the router's clock.
+    pub last: Option<u64>,
+    /// What was refused of the arrivals.
+    pub refusals: Refusals,
+}
+
+/// Whether an arrival is a Response without a fault.
+fn is_sound_response(bytes: &[u8], fault: Option<Fault>) -> bool
+    ensures { result ≡ is_sound_response bytes.now fault }
+{
+    match (fault, bytes) {
+        (None, [command, ..]) => *command == Command::Response as u8,
+        _ => false,
+    }
+}
+
+impl Tally {
+    /// Nothing came.
+    pub const fn new() -> Tally
+        ensures { result ≡ no_tally }
+    {
+        Tally {
+            arrivals: 0,
+            responses: 0,
+            entries: 0,
+            last: None,
+            refusals: Refusals::new(),
+        }
+    }
+
+    /// Counts an arrival, with its fault or its notes. An entry has 20 bytes, behind the first 4.
+    fn count(&mut self, arrived: &Arrived, bytes: &[u8], fault: Option<Fault>, notes: &[Note])
+        ensures { Tallied self.old arrived.now bytes.now fault notes.now self.new }
+    {
+        self.arrivals = self.arrivals.saturating_add(1);
+        if is_sound_response(bytes, fault) {
+            let entries = bytes.len().saturating_sub(4) / 20;
+            self.responses = self.responses.saturating_add(1);
+            self.entries = self.entries.saturating_add(entries as u64);
+            self.last = Some(arrived.moment.ms());
+        }
+        self.refusals.count(fault, notes);
+    }
+}
+
+/// ` arrivals A responses R entries E`, ` last MS` if there was a Response, and behind it, on lines of their own, what was refused.
+/// The last line is not ended.
+impl Display for Tally {
+    ghost output = { λ t. Some (tally_text t) };
+
+    fn fmt<W: fmt::Write>(&self, f: &mut fmt::Formatter<W>) -> fmt::Result {
+        write!(
+            f,
+            " arrivals {} responses {} entries {}",
+            self.arrivals, self.responses, self.entries
+        )?;
+        if let Some(ms) = self.last {
+            write!(f, " last {ms}")?;
+        }
+        write!(f, "{}", self.refusals)
+    }
+}
+
+/// A sender, and what came of it.
+#[derive(Clone, Copy, Debug, PartialEq, Eq)]
+pub struct Neighbor {
+    /// The number of the interface.
+    pub iface: usize,
+    /// Its address.
+    pub source: Addr6,
+    /// What came of it.
+    pub tally: Tally,
+}
+
+impl Neighbor {
+    /// Whether it is the sender of an arrival.
+    fn is_of(&self, arrived: &Arrived) -> bool
+        ensures { result ≡ is_of arrived.now self.now }
+    {
+        self.iface == arrived.iface && self.source == arrived.source
+    }
+}
+
+/// The place of the row of an arrival's sender, or how many rows there are where it has none.
+fn place_of(rows: &[Neighbor], arrived: &Arrived) -> usize
+    ensures value { result ≡ place_of arrived.now rows.now }
+    ensures within { result ≤ length rows.now }
+{
+    let mut place = 0;
+    while place < rows.len() {
+        if rows[place].is_of(arrived) {
+            return place;
+        }
+        place += 1;
+    }
+    place
+}
+
+/// What came of each sender: of the first 64 in rows of their own, in the order in which they came first, and of all others
+/// together.
+#[derive(Drop)]
+pub struct Neighbors {
+    rows: Vec<Neighbor>,
+    others: Tally,
+}
+
+impl Neighbors {
+    /// Nobody was heard yet. Where there is no memory for rows, all senders are counted together.
+    pub(crate) fn new(alloc: Global) -> Neighbors
+        ensures { KnowsNobody result }
+    {
+        Neighbors {
+            rows: Vec::with_capacity(alloc, 64).unwrap_or(Vec::new(alloc)),
+            others: Tally::new(),
+        }
+    }
+
+    /// The senders that have a row, in the order in which they came first.
+    pub fn rows(&self) -> &[Neighbor]
+        ensures { result.now ≡ self.now.rows.items }
+    {
+        self.rows.as_slice()
+    }
+
+    /// What came of all others.
+    pub fn others(&self) -> Tally
+        ensures { result ≡ self.now.others }
+    {
+        self.others
+    }
+
+    /// The place of the row of an arrival's sender, or how many rows there are where it has none. Who comes first gets one, as
+    /// long as there is room.
+    fn seat(&mut self, arrived: &Arrived) -> usize
+        ensures place { result ≡ place_of arrived.now self.new.rows.items }
+        ensures rows { self.new.rows.items ≡ with_row arrived.now (vec_capacity self.old.rows) self.old.rows.items }
+        ensures room { vec_capacity self.new.rows ≡ vec_capacity self.old.rows }
+        ensures others { self.new.others ≡ self.old.others }
+    {
+        let place = place_of(self.rows.as_slice(), arrived);
+        if place == self.rows.len() && place < self.rows.capacity() {
+            self.rows.push_reserved(Neighbor {
+                iface: arrived.iface,
+                source: arrived.source,
+                tally: Tally::new(),
+            });
+        }
+        place
+    }
+
+    /// Counts an arrival for its sender.
+    pub(crate) fn count(
+        &mut self,
+        arrived: &Arrived,
+        bytes: &[u8],
+        fault: Option<Fault>,
+        notes: &[Note],
+    )
+        ensures { CountsOf (λ c d. Tallied c arrived.now bytes.now fault notes.now d) arrived.now
+            (with_row arrived.now (vec_capacity self.old.rows) self.old.rows.items) self.old self.new }
+    {
+        let place = self.seat(arrived);
+        match self.rows.get(place).copied() {
+            None => self.others.count(arrived, bytes, fault, notes),
+            Some(row) => {
+                let mut tally = row.tally;
+                tally.count(arrived, bytes, fault, notes);
+                self.rows[place] = Neighbor { tally, ..row };
+            }
+        }
+    }
+}
+
+/// The lines of each row, and those of all others together where there are any.
+impl Display for Neighbors {
+    ghost output = { λ n. Some (neighbors_text n) };
+
+    fn fmt<W: fmt::Write>(&self, f: &mut fmt::Formatter<W>) -> fmt::Result {
+        write_rows(f, self.rows.as_slice())?;
+        if self.others.arrivals == 0 {
+            return Ok(());
+        }
+        writeln!(f, "others{}", self.others)
+    }
+}
+
+/// `iface I from ADDR`, and what came of it, a line for each row.
+fn write_rows<W: fmt::Write>(f: &mut fmt::Formatter<W>, rows: &[Neighbor]) -> fmt::Result
+    ensures { WritesOnOk W.write_str_gives f.old result (row_lines rows.now) f.new }
+{
+    for row in rows {
+        writeln!(f, "iface {} from {}{}", row.iface, row.source, row.tally)?;
+    }
+    Ok(())
+}

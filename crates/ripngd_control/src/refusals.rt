@@ -1,0 +1,140 @@
+//! What is refused, arrivals for a fault and entries of Responses for a note, and counts of that.
+
+ghost use Rattle.std.specs.Prelude.{◌≡◌, ◌+◌, ◌<◌, ◌==◌, Some, if◌then◌else◌};
+ghost use Rattle.std.specs.Fmt.{WritesOnOk};
+ghost use Rattle.ripngd_control.specs.Printed.{count_line, count_lines, refusal_number, refusal_text, refusals_text};
+ghost use Rattle.ripngd_control.specs.Watching.{Refused, is_fault, no_refusals, notes_of};
+
+use ripng_wire::WireError;
+use router_core::{Fault, Note, NoteKind};
+use std::fmt::{self, Display};
+
+/// Why an arrival was refused, or an entry of a Response skipped.
+#[derive(Clone, Copy)]
+pub(crate) enum Refusal {
+    Arrival(Fault),
+    Entry(NoteKind),
+}
+
+/// All of them, in the order of their numbers.
+const REFUSALS: [Refusal; 17] = [
+    Refusal::Arrival(Fault::Wire(WireError::Short)),
+    Refusal::Arrival(Fault::Wire(WireError::TooLong)),
+    Refusal::Arrival(Fault::Wire(WireError::Ragged)),
+    Refusal::Arrival(Fault::Wire(WireError::BadCommand)),
+    Refusal::Arrival(Fault::Wire(WireError::BadVersion)),
+    Refusal::Arrival(Fault::Wire(WireError::NotZero)),
+    Refusal::Arrival(Fault::NotRipngPort),
+    Refusal::Arrival(Fault::NotLinkLocal),
+    Refusal::Arrival(Fault::OwnAddress),
+    Refusal::Arrival(Fault::HopLimit),
+    Refusal::Arrival(Fault::EmptyRequest),
+    Refusal::Arrival(Fault::BadSource),
+    Refusal::Entry(NoteKind::BadLength),
+    Refusal::Entry(NoteKind::BadPrefix),
+    Refusal::Entry(NoteKind::BadMetric),
+    Refusal::Entry(NoteKind::TableFull),
+    Refusal::Entry(NoteKind::NoMemory),
+];
+
+impl Refusal {
+    /// The number of the fault, 1 to 12, or of the note, 20 to 24.
+    fn number(self) -> usize
+        ensures number { result ≡ refusal_number self }
+        ensures within { result < 25 }
+    {
+        match self {
+            Refusal::Arrival(fault) => fault.number() as usize,
+            Refusal::Entry(kind) => kind.number() as usize,
+        }
+    }
+}
+
+/// `refused NR NAME` or `noted NR NAME`.
+impl Display for Refusal {
+    ghost output = { λ r. Some (refusal_text r) };
+
+    fn fmt<W: fmt::Write>(&self, f: &mut fmt::Formatter<W>) -> fmt::Result {
+        match *self {
+            Refusal::Arrival(fault) => write!(f, "refused {} {}", fault.number(), fault.name()),
+            Refusal::Entry(kind) => write!(f, "noted {} {}", kind.number(), kind.name()),
+        }
+    }
+}
+
+/// How many arrivals were refused and how many entries skipped, by the number of the fault, 1 to 12, or of the note, 20 to 24. Each
+/// count stays at the greatest `u64`.
+#[derive(Clone, Copy, Debug, PartialEq, Eq)]
+pub struct Refusals {
+    pub by_number: [u64; 25],
+}
+
+impl Refusals {
+    /// Nothing was refused.
+    pub const fn new() -> Refusals
+        ensures { result ≡ no_refusals }
+    {
+        Refusals { by_number: [0; 25] }
+    }
+
+    /// Counts one more.
+    fn raise(&mut self, refusal: Refusal)
+        ensures { Refused (λ number. if refusal_number refusal == number then 1 else 0) self.old self.new }
+    {
+        let number = refusal.number();
+        self.by_number[number] = self.by_number[number].saturating_add(1);
+    }
+
+    /// Counts an entry for each note.
+    fn count_notes(&mut self, notes: &[Note])
+        ensures { Refused (λ number. notes_of number notes.now) self.old self.new }
+    {
+        for note in notes {
+            self.raise(Refusal::Entry(note.kind));
+        }
+    }
+
+    /// Counts what was refused of an arrival: all of it for a fault, or the entries that have notes.
+    pub(crate) fn count(&mut self, fault: Option<Fault>, notes: &[Note])
+        ensures { Refused (λ number. is_fault number fault + notes_of number notes.now) self.old self.new }
+    {
+        self.count_notes(notes);
+        if let Some(fault) = fault {
+            self.raise(Refusal::Arrival(fault));
+        }
+    }
+}
+
+/// `refused NR NAME N` for each fault and `noted NR NAME N` for each kind of note that was counted, on lines of their own behind what
+/// is not ended. The last line is not ended.
+impl Display for Refusals {
+    ghost output = { λ r. Some (refusals_text r) };
+
+    fn fmt<W: fmt::Write>(&self, f: &mut fmt::Formatter<W>) -> fmt::Result {
+        write_lines(f, &REFUSALS, &self.by_number)
+    }
+}
+
+/// A line for each of these refusals that was counted.
+fn write_lines<W: fmt::Write>(
+    f: &mut fmt::Formatter<W>,
+    refusals: &[Refusal],
+    counts: &[u64; 25],
+) -> fmt::Result
+    ensures { WritesOnOk W.write_str_gives f.old result (count_lines counts.now refusals.now) f.new }
+{
+    for refusal in refusals {
+        write_line(f, *refusal, counts[refusal.number()])?;
+    }
+    Ok(())
+}
+
+/// A line for what was counted, where there was any.
+fn write_line<W: fmt::Write>(f: &mut fmt::Formatter<W>, refusal: Refusal, count: u64) -> fmt::Result
+    ensures { WritesOnOk W.write_str_gives f.old result (count_line refusal count) f.new }
+{
+    if count == 0 {
+        return Ok(());
+    }
+    write!(f, "\n{refusal} {count}")
+}

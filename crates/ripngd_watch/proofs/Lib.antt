@@ -1,3 +1,0 @@
-mod Counted
-pub mod Written
-mod Places
