@@ -158,6 +158,11 @@ def a_log_that_has_failed_is_counted_and_the_router_goes_on(case):
     answers(router, "gain ::/0 7")
     answers(router, "table", f"::/0 metric 1 direct\n{OWN_TABLE}")
     same("whether it is counted", router.ctl("counts").out.endswith("\nlog failed\n"), True)
+    port = case.port()
+    answers(router, f"peer 0 fe80::f {port}")
+    refuses(router, f"peer 0 fe80::f {port}", "64 PeerTwice")
+    answers(router, "unpeer 0 fe80::f")
+    refuses(router, "unpeer 0 fe80::f", "66 NoSuchPeer")
 
 
 @listed
@@ -273,8 +278,8 @@ def a_line_has_1024_bytes_at_most(case):
 
 @listed
 def a_client_that_goes_away_is_let_go(case):
-    """Before it has said anything, within a line, and behind one."""
-    router = alone(case)
+    """Before it has said anything, within a line, and behind one: at once, since the clock stands still."""
+    router = alone(case, **environment(case.folder, "alone", clock="still"))
     for said in (b"", b"tab", b"routes\n"):
         router.client().say(said).close()
         answers(router, "table", OWN_TABLE)

@@ -1,5 +1,6 @@
 -- Pieces of what is shown: routes that follow one another, and the entries behind a prefix.
 use Rattle.std.proofs.Common.{◌≡◌, ◌≢◌, ◌<◌, ◌≤◌, ◌+◌, ◌-◌, ◌∙◌, ℕ, zero, suc, Bool, true, false, List, [], ◌∷◌, ◌++◌, map as each, take, drop, length, length-drop, min, get_or, Option, Some, None, refl, sym, ap, subst, arith, append-nil, inl, inr}
+use Rattle.std.specs.Prelude.{codes, decimal, flat_map}
 use Rattle.std.specs.List.Sorted.{IsPartitionedBy, IsPartitionPoint}
 use Rattle.std.specs.Ordering.{is_le}
 use Rattle.std.specs.declared.cmp.Ordering.{Ordering}
@@ -9,18 +10,20 @@ use Rattle.std.specs.Io.KnownBytes.{Appends}
 use Rattle.std.proofs.KnownBytes.{Appends-nil, Appends-trans}
 use Rattle.std.proofs.lemmas.Bool.{cases_lt}
 use Rattle.std.proofs.lemmas.Grind.{flat_map-append}
-use Rattle.std.proofs.lemmas.List.{get_or-take, length-map, length-take, take_min}
+use Rattle.std.proofs.lemmas.List.{get_or-take, length-map, length-take, take_min, take_more}
 use Rattle.std.proofs.Math.ListN.{get_or-map}
 use Rattle.prefix6.specs.Prefix.{Prefix6, prefix_cmp}
 use Rattle.prefix6.specs.Places.{prefix_at}
+use Rattle.prefix6.specs.Written.{written_addr}
 use Rattle.prefix6.proofs.PrefixLaws.{prefixes_total, exact_prefixes}
 use Rattle.prefix6.proofs.SortedEntries.{sorted_at}
 use Rattle.fib.specs.Entries.{Entry, at_prefix, fib_entry, listed, AreInOrder, AreAllPast, AreUpTo}
 use Rattle.fib.specs.Forwarding.{Forward, Forwarding}
 use Rattle.route_table.specs.Route.{RouteValue}
 use Rattle.route_table.specs.Table.{Table, first_past}
-use Rattle.ripngd_control.specs.Answers.{Follow, ShowsRoutes}
-use Rattle.ripngd_control.specs.Printed.{status_lines, status_text}
+use Rattle.ripngd_control.specs.Answers.{Follow, IsPast, ShowsRoutes}
+use Rattle.ripngd_control.specs.Printed.{row_lines, status_lines, status_text, tally_text}
+use Rattle.ripngd_control.specs.declared.neighbors.Neighbor.{Neighbor}
 
 -- ---- routes
 -- so many routes were shown, one behind the other, up to this prefix
@@ -54,6 +57,18 @@ Shown-more table now after end count old mid new p r h next line = record {
   lines = rw (flat_map-append (λ e. status_text e.0 e.1 now ++ 10 ∷ []) h.shown ((p, r) ∷ []), append-nil (status_text p r now ++ 10 ∷ []))
       (Appends-trans old mid new (status_lines now h.shown) _ h.lines line);
 }
+
+-- the lines of one more
+pub flat_map-take : {X : Type 0} (f : X → List ℕ) (xs : List X) (i : ℕ) (x : X) → i < length xs → x ≡ get_or xs i x
+    → flat_map f (take (i + 1) xs) ≡ flat_map f (take i xs) ++ f x
+flat_map-take {X} f xs i x lt is =
+    ap (flat_map f) (take_more xs i x lt ∙ ap (λ (y : X). take i xs ++ y ∷ []) (sym is)) ∙ flat_map-append f (take i xs) (x ∷ [])
+    ∙ ap (λ (t : List ℕ). flat_map f (take i xs) ++ t) (append-nil (f x))
+
+pub row_lines_more : (rows : List Neighbor) (i : ℕ) (r : Neighbor) → i < length rows → r ≡ get_or rows i r
+    → row_lines (take (i + 1) rows) ≡ row_lines (take i rows) ++ (codes "iface " ++ (decimal r.iface ++ (codes " from " ++ (written_addr r.source ++ (tally_text r.tally ++ 10 ∷ [])))))
+row_lines_more rows i r lt is =
+    flat_map-take (λ n. codes "iface " ++ (decimal n.iface ++ (codes " from " ++ (written_addr n.source ++ (tally_text n.tally ++ 10 ∷ []))))) rows i r lt is
 
 -- behind some routes there is a last prefix
 pub Follow-end : (table : Table) (after : Option Prefix6) (es : List (Prefix6 × RouteValue)) (end : Option Prefix6)
@@ -103,35 +118,35 @@ up_to_too : (x y p : Prefix6) → prefix_cmp x y ≡ Less → is_le (prefix_cmp 
 up_to_too x y p less up = by (prefix_cmp y p) refl up
   where
     by : (r : Ordering) → prefix_cmp y p ≡ r → is_le r ≡ true → is_le (prefix_cmp x p) ≡ true
-    by Less is yes = ap is_le (prefixes_total.trans x y p less is)
-    by Equal is yes = ap is_le (subst (λ z. prefix_cmp x z ≡ Less) (exact_prefixes y p is) less)
-    by Greater is yes = absurd (cc)
+    by Less is passes = ap is_le (prefixes_total.trans x y p less is)
+    by Equal is passes = ap is_le (subst (λ z. prefix_cmp x z ≡ Less) (exact_prefixes y p is) less)
+    by Greater is passes = absurd (cc)
 
 pub parted : (es : List Entry) (p : Prefix6) → AreInOrder es → IsPartitionedBy (λ e. is_le (prefix_cmp e.0 p)) es
-parted es p h i j d le lt yes = elim (cases_lt i j) [
+parted es p h i j d le lt passes = elim (cases_lt i j) [
   | inl less ↦
       let before : prefix_cmp (get_or es i d).0 (get_or es j d).0 ≡ Less =
       subst (λ q. prefix_cmp q (get_or es j d).0 ≡ Less) (same_there es i d)
       (subst (λ q. prefix_cmp (prefix_at (each at_prefix es) i (at_prefix d)) q ≡ Less) (same_there es j d)
       (sorted_at (each at_prefix es) i j (at_prefix d) h.rising less (omega (arith, length-map es at_prefix)))) in
-      up_to_too _ _ p before yes
-  | inr ge ↦ let same : j ≡ i = omega arith in subst (λ k. is_le (prefix_cmp (get_or es k d).0 p) ≡ true) same yes
+      up_to_too _ _ p before passes
+  | inr ge ↦ let same : j ≡ i = omega arith in subst (λ k. is_le (prefix_cmp (get_or es k d).0 p) ≡ true) same passes
 ]
 
 not_greater : (r : Ordering) → is_le r ≡ true → r ≢ Greater
-not_greater Less yes = λ e. absurd (cc)
-not_greater Equal yes = λ e. absurd (cc)
-not_greater Greater yes = absurd (cc)
+not_greater Less passes = λ e. absurd (cc)
+not_greater Equal passes = λ e. absurd (cc)
+not_greater Greater passes = absurd (cc)
 
 greater : (r : Ordering) → is_le r ≡ false → r ≡ Greater
-greater Less no = absurd (cc)
-greater Equal no = absurd (cc)
-greater Greater no = refl
+greater Less fails = absurd (cc)
+greater Equal fails = absurd (cc)
+greater Greater fails = refl
 
 -- the entries from a place on, where a search by bisection has found it
-pub past_point : (es : List Entry) (p : Prefix6) (i : ℕ) → i ≤ length es
-    → IsPartitionPoint (λ e. is_le (prefix_cmp e.0 p) ≡ true) (λ e. is_le (prefix_cmp e.0 p) ≡ false) es i → AreUpTo (take i es) p × AreAllPast es p i
-past_point es p i within point = (
+pub past_point : (es : List Entry) (after : Option Prefix6) (p : Prefix6) (i : ℕ) → after ≡ Some p → i ≤ length es
+    → IsPartitionPoint (λ e. is_le (prefix_cmp e.0 p) ≡ true) (λ e. is_le (prefix_cmp e.0 p) ≡ false) es i → IsPast es after i
+past_point es after p i is within point = subst (λ q. IsPast es q i) (sym is) (
   record {
     up_to = λ j d lt.
         let inside : j < i = omega (arith, lt, length-take i es) in

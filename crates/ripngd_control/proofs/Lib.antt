@@ -2,4 +2,5 @@ mod Walks
 mod Counted
 mod Places
 mod Following
+mod Answered
 mod Heeding

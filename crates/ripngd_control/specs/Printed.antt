@@ -100,12 +100,11 @@ tally_text t =
 
 -- `iface I from ADDR`, and what came of it, a line for each row
 abbrev pub row_lines : List Neighbor → List ℕ
-row_lines rows = flat_map (λ n.
-    (codes "iface " ++ (decimal n.iface ++ (codes " from " ++ (written_addr n.source ++ tally_text n.tally)))) ++ 10 ∷ []) rows
+row_lines rows = flat_map (λ n. codes "iface " ++ (decimal n.iface ++ (codes " from " ++ (written_addr n.source ++ (tally_text n.tally ++ 10 ∷ []))))) rows
 
 -- the lines of each row, and `others`, with what came of them, if anything did
 abbrev pub neighbors_text : Neighbors → List ℕ
-neighbors_text n = row_lines n.rows.items ++ (if n.others.arrivals == 0 then [] else (codes "others" ++ tally_text n.others) ++ 10 ∷ [])
+neighbors_text n = row_lines n.rows.items ++ (if n.others.arrivals == 0 then [] else codes "others" ++ (tally_text n.others ++ 10 ∷ []))
 
 -- ---- losses
 -- `lost sends N steps M arrivals K`, and `strangers S` and whether the log failed on lines of their own

@@ -2,7 +2,8 @@
 
 ghost use Rattle.std.specs.Prelude.{◌≡◌, ◌≤◌, Some, length, vec_capacity};
 ghost use Rattle.std.specs.Fmt.{WritesOnOk};
-ghost use Rattle.ripngd_control.specs.Printed.{neighbors_text, row_lines, tally_text};
+ghost use Rattle.ripngd_engine.specs.Run.{counted};
+ghost use Rattle.ripngd_control.specs.Printed.{last_text, neighbors_text, row_lines, tally_text};
 ghost use Rattle.ripngd_control.specs.Watching.{CountsOf, KnowsNobody, Tallied, is_of, is_sound_response, no_tally, place_of, with_row};
 
 use crate::refusals::Refusals;
@@ -52,6 +53,19 @@ impl Tally {
         }
     }
 
+    /// Counts a Response without a fault.
+    fn count_response(&mut self, moment: u64, entries: u64)
+        ensures { self.new ≡ record self.old {
+          responses = counted self.old.responses 1;
+          entries = counted self.old.entries entries;
+          last = Some moment;
+        } }
+    {
+        self.responses = self.responses.saturating_add(1);
+        self.entries = self.entries.saturating_add(entries);
+        self.last = Some(moment);
+    }
+
     /// Counts an arrival, with its fault or its notes. An entry has 20 bytes, behind the first 4.
     fn count(&mut self, arrived: &Arrived, bytes: &[u8], fault: Option<Fault>, notes: &[Note])
         ensures { Tallied self.old arrived.now bytes.now fault notes.now self.new }
@@ -59,11 +73,24 @@ impl Tally {
         self.arrivals = self.arrivals.saturating_add(1);
         if is_sound_response(bytes, fault) {
             let entries = bytes.len().saturating_sub(4) / 20;
-            self.responses = self.responses.saturating_add(1);
-            self.entries = self.entries.saturating_add(entries as u64);
-            self.last = Some(arrived.moment.ms());
+            self.count_response(arrived.moment.ms(), entries as u64);
         }
         self.refusals.count(fault, notes);
+    }
+}
+
+/// When the last Response came, written ` last MS`, or nothing.
+#[derive(Clone, Copy)]
+struct LastText(Option<u64>);
+
+impl Display for LastText {
+    ghost output = { λ l. Some (last_text l.0) };
+
+    fn fmt<W: fmt::Write>(&self, f: &mut fmt::Formatter<W>) -> fmt::Result {
+        match self.0 {
+            None => Ok(()),
+            Some(ms) => write!(f, " last {ms}"),
+        }
     }
 }
 
@@ -73,15 +100,12 @@ impl Display for Tally {
     ghost output = { λ t. Some (tally_text t) };
 
     fn fmt<W: fmt::Write>(&self, f: &mut fmt::Formatter<W>) -> fmt::Result {
+        let last = LastText(self.last);
         write!(
             f,
-            " arrivals {} responses {} entries {}",
-            self.arrivals, self.responses, self.entries
-        )?;
-        if let Some(ms) = self.last {
-            write!(f, " last {ms}")?;
-        }
-        write!(f, "{}", self.refusals)
+            " arrivals {} responses {} entries {}{last}{}",
+            self.arrivals, self.responses, self.entries, self.refusals
+        )
     }
 }
 

@@ -4,17 +4,26 @@ ghost use Rattle.std.specs.Prelude.{◌≡◌, ◌≤◌, [], IfOk, OnOk, Some, 
 ghost use Rattle.std.specs.Io.KnownBytes.{Appends};
 ghost use Rattle.fib.specs.Entries.{AreInOrder};
 ghost use Rattle.ripngd_control.specs.Answers.{IsPast, ShowsEntries, ShowsRoutes};
-ghost use Rattle.ripngd_control.specs.Printed.{clock_text, entry_lines, origin_text};
+ghost use Rattle.ripngd_control.specs.Printed.{clock_text, entry_lines, origin_text, status_text};
 
 use fib::{Fib, Hop};
 use prefix6::Prefix;
 use ripngd_engine::RouteLine;
-use route_table::{Clock, Moment, Origin, RouteStore};
+use route_table::{Clock, Moment, Origin, Route, RouteStore};
 use std::fmt::{self, Display};
 use std::io::{self, Write};
 
 /// How many lines a piece has at most.
 const PIECE: usize = 256;
+
+/// A route to a prefix at a moment, written `PREFIX metric M tag T ORIGIN CLOCK`, and ` marked` behind it where the next
+/// triggered update tells it.
+#[derive(Clone, Copy)]
+struct RouteStatus {
+    prefix: Prefix,
+    route: Route,
+    moment: Moment,
+}
 
 /// `own`, or `via ADDR iface I from ADDR`.
 #[derive(Clone, Copy)]
@@ -59,9 +68,25 @@ fn mark_text(marked: bool) -> &'static str
     if marked { " marked" } else { "" }
 }
 
+impl Display for RouteStatus {
+    ghost output = { λ s. Some (status_text s.prefix s.route s.moment) };
+
+    fn fmt<W: fmt::Write>(&self, f: &mut fmt::Formatter<W>) -> fmt::Result {
+        let prefix = self.prefix;
+        let metric = self.route.metric();
+        let tag = self.route.tag();
+        let origin = OriginText(self.route.origin());
+        let clock = ClockText(self.route.clock(), self.moment);
+        let mark = mark_text(self.route.is_changed());
+        write!(
+            f,
+            "{prefix} metric {metric} tag {tag} {origin} {clock}{mark}"
+        )
+    }
+}
+
 /// Writes the next routes of a table, behind a prefix if one is named, as they are at a moment, and answers the last prefix,
-/// if there may be others behind it. A route is written `PREFIX metric M tag T ORIGIN CLOCK`, and ` marked` behind it where the next
-/// triggered update tells it.
+/// if there may be others behind it.
 ///
 /// # Errors
 /// Of the writer.
@@ -78,15 +103,12 @@ pub(crate) fn write_routes<S: RouteStore, W: Write>(
         let Some((prefix, route)) = routes.walk(last) else {
             return Ok(None);
         };
-        writeln!(
-            out,
-            "{prefix} metric {} tag {} {} {}{}",
-            route.metric(),
-            route.tag(),
-            OriginText(route.origin()),
-            ClockText(route.clock(), moment),
-            mark_text(route.is_changed())
-        )?;
+        let status = RouteStatus {
+            prefix,
+            route,
+            moment,
+        };
+        writeln!(out, "{status}")?;
         last = Some(prefix);
     }
     Ok(last)
@@ -137,5 +159,8 @@ pub(crate) fn write_table<W: Write>(
     let end = begin + (entries.len() - begin).min(PIECE);
     let piece = &entries[begin..end];
     write_entries(piece, out)?;
-    Ok(piece.last().map(|entry| entry.0))
+    match piece.last() {
+        Some(entry) => Ok(Some(entry.0)),
+        None => Ok(None),
+    }
 }

@@ -1,6 +1,6 @@
 //! One client of a router that runs: what it sends is received, and its answer is sent, in steps that wait for nothing.
 
-ghost use Rattle.std.specs.Prelude.{◌≡◌, ◌≢◌, ◌≤◌, ◌/◌, ◌↔◌, IfSome, IsNone, IsTrue, None, false, vec_len};
+ghost use Rattle.std.specs.Prelude.{◌≡◌, ◌≢◌, ◌≤◌, ◌/◌, ◌↔◌, ◌∷◌, ◌++◌, IfSome, IsTrue, None, false, vec_len};
 ghost use Rattle.std.specs.Duration.{as_nanos};
 ghost use Rattle.ripngd_control.specs.Clients.{BeginsWith, GrowsByReceived, HasNoFeed, ShrinksBySent};
 
@@ -19,13 +19,21 @@ pub(crate) const LINE_LIMIT: usize = 1_024;
 /// How many pieces a client is sent at the most between two turns.
 const PIECES: usize = 16;
 
-/// The line at the head of some bytes, without its line feed, once it is whole.
-pub(crate) fn line_in(bytes: &[u8]) -> Option<&[u8]>
-    ensures line { IfSome result (λ line. BeginsWith line.now bytes.now) }
-    ensures none { IsNone result → HasNoFeed bytes.now }
+/// The first line, without its line feed, and what comes after it.
+fn cut(bytes: &[u8]) -> Option<(&[u8], &[u8])>
+    ensures spelled { IfSome result (λ parts. bytes.now ≡ parts.0.now ++ (10 ∷ parts.1.now)) }
+    ensures line { IfSome result (λ parts. HasNoFeed parts.0.now) }
 {
     let end = bytes.iter().position(|byte| *byte == b'\n')?;
-    Some(&bytes[..end])
+    Some((&bytes[..end], &bytes[end + 1..]))
+}
+
+/// The line at the head of some bytes, without its line feed, once it is whole.
+pub(crate) fn line_in(bytes: &[u8]) -> Option<&[u8]>
+    ensures { IfSome result (λ line. BeginsWith line.now bytes.now) }
+{
+    let (line, _) = cut(bytes)?;
+    Some(line)
 }
 
 /// Whether an error of a socket says no more than that it would have to wait.

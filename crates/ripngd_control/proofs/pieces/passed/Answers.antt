@@ -10,4 +10,4 @@ returns-in-Some-clause-past c =
     let p = c.in-Some.prefix in
     let point = IsPartitionPoint-from_clause (λ e. is_le (prefix_cmp e.0 p)) _ _ c.partition_point.ensures.partitioned (parted c.args.entries.now p c.requires)
     (λ a r q k. search rules) in
-    past_point c.args.entries.now p c.partition_point.result c.partition_point.ensures.bound point
+    past_point c.args.entries.now c.args.after p c.partition_point.result (search rules) c.partition_point.ensures.bound point

@@ -1,0 +1,44 @@
+-- What follows from how a write or a test ended.
+use Rattle.std.proofs.Common.{◌≡◌, ◌++◌, ℕ, Bool, true, false, List, [], ◌∷◌, Option, Some, Result, Ok, Err, refl, subst, sym}
+use Rattle.std.specs.Prelude.{◌==◌, IsOk, OnOk, codes, is_err, not}
+use Rattle.ripngd_engine.specs.Seen.{Seen}
+use Rattle.ripngd_control.specs.Answers.{AnswersCommand, GainsLines}
+use Rattle.ripngd_control.specs.Printed.{counts_text, losses_text, neighbors_text, reply_line, row_lines, tally_text}
+use Rattle.ripngd_control.specs.declared.answering.Rest.{Rest}
+use Rattle.ripngd_control.specs.declared.command.Command.{Command}
+use Rattle.ripngd_control.specs.declared.command.Command.TheVariants as commands
+use Rattle.ripngd_control.specs.declared.counts.Counts.{Counts}
+use Rattle.ripngd_control.specs.declared.counts.Losses.{Losses}
+use Rattle.ripngd_control.specs.declared.neighbors.Neighbor.{Neighbor}
+use Rattle.ripngd_control.specs.declared.neighbors.Neighbors.{Neighbors}
+use Rattle.ripngd_control.specs.declared.reply.Reply.TheVariants as replies
+
+pub was_ok : {X E P : Type 0} (r : Result X E) → IsOk r → OnOk r P → P
+was_ok (Ok x) well h = h
+was_ok (Err e) well h = absurd (cc)
+
+pub was_no_err : {X E P : Type 0} (r : Result X E) → is_err r ≡ false → OnOk r P → P
+was_no_err (Ok x) well h = h
+was_no_err (Err e) well h = absurd (cc)
+
+pub not_muted : {P : Type 0} (b : Bool) → not b ≡ true → b ≡ true → P
+not_muted true h is = absurd (cc)
+not_muted false h is = absurd (cc)
+
+pub muted : {P : Type 0} (b : Bool) → not b ≡ false → b ≡ false → P
+muted true h is = absurd (cc)
+muted false h is = absurd (cc)
+
+-- the lines of others stand behind those of the rows
+pub others_said : (n : Neighbors) (rows : List Neighbor) → rows ≡ n.rows.items → (n.others.arrivals == 0) ≡ false
+    → row_lines rows ++ (codes "others" ++ (tally_text n.others ++ 10 ∷ [])) ≡ neighbors_text n
+others_said n rows is some = rw (is, some) refl
+
+module _ (command : Option Command) (counts : Counts) (heard : Neighbors) (lost : Losses) (a : Seen) (old : Option (List ℕ)) (rest : Rest) (new : Option (List ℕ)) where
+  pub answers_counts : command ≡ Some commands.Counts → GainsLines old rest new (counts_text counts ++ (10 ∷ (losses_text lost ++ (10 ∷ reply_line replies.Done))))
+      → AnswersCommand command counts heard lost a old rest a new
+  answers_counts is said = subst (λ c. AnswersCommand c counts heard lost a old rest a new) (sym is) (refl, said)
+
+  pub answers_neighbors : command ≡ Some commands.Neighbors → GainsLines old rest new (neighbors_text heard ++ reply_line replies.Done)
+      → AnswersCommand command counts heard lost a old rest a new
+  answers_neighbors is said = subst (λ c. AnswersCommand c counts heard lost a old rest a new) (sym is) (refl, said)

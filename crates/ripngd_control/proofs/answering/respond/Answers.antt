@@ -1,0 +1,14 @@
+use Rattle.std.proofs.Common.{rules}
+use Rattle.ripngd_control.proofs.Answered.{answers_counts, answers_neighbors, was_ok}
+use Rattle.ripngd_control.proofs.answering.respond.Goals as goal
+
+pub returns-in-Some-Counts-clause-answers : goal.returns-in-Some-Counts-clause-answers
+returns-in-Some-Counts-clause-answers g c =
+    let text = rw c.counts-counts.ensures at c.writeln.ensures.bytes in
+    answers_counts _ _ _ _ _ _ _ _ (search rules) (λ well. let done = c.all_of.ensures well in (done.0, was_ok c.writeln.result done.1 text))
+
+pub returns-in-Some-Neighbors-clause-answers : goal.returns-in-Some-Neighbors-clause-answers
+returns-in-Some-Neighbors-clause-answers g c =
+    let text = rw c.neighbors-neighbors.ensures at c.writeln-in-Some-Neighbors.ensures.bytes in
+    answers_neighbors _ _ _ _ _ _ _ _ (search rules)
+    (λ well. let done = c.all_of-in-Some-Neighbors.ensures well in (done.0, was_ok c.writeln-in-Some-Neighbors.result done.1 text))
