@@ -3,7 +3,7 @@ use Rattle.std.specs.Prelude.{true, [], None, Some, codes}
 use Rattle.toml.specs.Data.{Members}
 use Rattle.ripngd_config.specs.Keys.{HasOnly, document_keys, interface_keys, peer_keys, prefix_keys}
 use Rattle.ripngd_config.specs.Values.{AreSections, IsAddress, IsReadAt, IsNumber, IsPrefixValue, IsSomeNumber, IsTruth}
-use Rattle.ripngd_config.specs.declared.peer.Peer.{Peer}
+use Rattle.ripngd_engine.specs.declared.peer.Peer.{Peer}
 use Rattle.ripngd_config.specs.declared.tables.Document.{Document}
 use Rattle.ripngd_config.specs.declared.tables.InterfaceTable.{InterfaceTable}
 use Rattle.ripngd_config.specs.declared.tables.PrefixTable.{PrefixTable}
