@@ -7,7 +7,7 @@ use Rattle.ripngd_config.specs.Configuration.{IsConfigured, RefusesConfig}
 use Rattle.ripngd_config.specs.declared.configuration.Config.{Config}
 use Rattle.ripngd_config.specs.declared.fault.ConfigFault.{ConfigFault}
 use Rattle.ripngd_config.specs.declared.fault.ConfigFault.TheVariants.{OutOfMemory}
-use Rattle.ripngd_config.specs.declared.peer.Peer.{Peer}
+use Rattle.ripngd_engine.specs.declared.peer.Peer.{Peer}
 use Rattle.ripngd_show.specs.Shown.{newline}
 
 -- the peers of all interfaces together, up to the greatest u64

@@ -1,4 +1,5 @@
 pub mod Telling
+pub mod Peers
 pub mod Link
 pub mod Watch
 pub mod Log
@@ -7,5 +8,4 @@ pub mod Outlet
 pub mod Seen
 pub mod Changing
 pub mod Running
-pub mod Memory
 pub mod Report

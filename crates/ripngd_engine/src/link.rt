@@ -32,8 +32,8 @@ pub struct LinkFault;
 
 /// Interfaces, numbered from 0, that give and take datagrams.
 pub trait Link: Drop {
-    // The calls of `recv` and `send` so far, failed or not, where the link tells them. A link that never tells, as one
-    // over sockets, says `λ _. None`; one that stops telling promises nothing from then on.
+    // The calls of `recv` and `send` so far, failed or not, where the link tells them. A link that never tells says
+    // `λ _. None`; one that stops telling promises nothing from then on.
     ghost calls: { Self → Option (List Call) };
 
     // How many interfaces it has. No call changes it.

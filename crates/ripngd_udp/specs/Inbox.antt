@@ -1,7 +1,7 @@
 -- How datagrams that came to an interface wait for the router, and are given to it.
 use Rattle.std.specs.Prelude.{ℕ, ◌≡◌, ◌+◌, ◌<◌, ◌≤◌, ◌++◌, Bool, MatchBool, List, [], ◌∷◌, length, min, take, vec_len}
 use Rattle.std.specs.List.{sum_by}
-use Rattle.ripngd_config.specs.declared.peer.Peer.{Peer}
+use Rattle.ripngd_engine.specs.declared.peer.Peer.{Peer}
 use Rattle.ripngd_engine.specs.declared.link.Received.{Received}
 use Rattle.ripngd_udp.specs.declared.inbox.Heard.{Heard}
 use Rattle.ripngd_udp.specs.Udp.{as_of}

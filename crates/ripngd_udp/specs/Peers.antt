@@ -2,9 +2,9 @@
 use Rattle.std.specs.Prelude.{◌≡◌, ◌==◌, not, nat_le, ℕ, Bool, true, List, [], ◌∷◌, ◌++◌, false, length, Option, None, Some, codes, slice_get, slice_set}
 use Rattle.std.specs.List.{filter, list_any}
 use Rattle.ripng_wire.specs.Wire.{first_reason}
-use Rattle.ripngd_config.specs.Twice.{has_same}
-use Rattle.ripngd_config.specs.declared.peer.Peer.{Peer}
-use Rattle.ripngd_config.specs.declared.place.Place.{Place}
+use Rattle.ripngd_engine.specs.Peers.{has_same}
+use Rattle.ripngd_engine.specs.declared.peer.Peer.{Peer}
+use Rattle.ripngd_engine.specs.declared.peer.Place.{Place}
 use Rattle.ripngd_udp.specs.declared.peer_refused.PeerRefused.{PeerRefused}
 use Rattle.ripngd_udp.specs.declared.peer_refused.PeerRefused.TheVariants.{NoSuchInterface, BadPort, PortTwice, OwnAddress, PeerTwice, PeersFull, NoSuchPeer, OutOfMemory}
 

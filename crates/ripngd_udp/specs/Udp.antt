@@ -1,7 +1,7 @@
 -- A link of sockets: why it could not be bound, and as what a datagram of a peer arrives.
 use Rattle.std.specs.Prelude.{ℕ, List, [], length, map, Contains, ⊤}
-use Rattle.ripngd_config.specs.declared.peer.Peer.{Peer}
-use Rattle.ripngd_config.specs.declared.place.Place.{Place}
+use Rattle.ripngd_engine.specs.declared.peer.Peer.{Peer}
+use Rattle.ripngd_engine.specs.declared.peer.Place.{Place}
 use Rattle.ripngd_engine.specs.Link.{Call}
 use Rattle.ripngd_engine.specs.declared.link.Received.{Received}
 use Rattle.ripngd_udp.specs.Peers.{OnLink, links_at}

@@ -26,4 +26,4 @@ pub use ports::Ports;
 pub use udp::{Udp, UdpError};
 
 // Where a router stands, and who is around it.
-use ripngd_config::{Peer, Place};
+use ripngd_engine::{Peer, Place};

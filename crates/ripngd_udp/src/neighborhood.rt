@@ -3,7 +3,7 @@
 ghost use Rattle.std.specs.Prelude.{◌≡◌, IfErr, IfOk, OnErr, OnOk, Some, length, map, vec_len};
 ghost use Rattle.std.specs.Result.{result_err};
 ghost use Rattle.ripng_wire.specs.Wire.{first_reason};
-ghost use Rattle.ripngd_config.specs.Twice.{has_same};
+ghost use Rattle.ripngd_engine.specs.Peers.{has_same};
 ghost use Rattle.ripngd_udp.specs.Peers.{adding_fault, has_peer_address, is_group_port, is_port, links_at, on_link, removing_reasons_at, with_peer, without_peer};
 
 use crate::loopback::local_port_of;

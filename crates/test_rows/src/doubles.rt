@@ -2,9 +2,12 @@
 //! to them, in order.
 
 ghost use Rattle.std.specs.Prelude.{None, ⊤};
+ghost use Rattle.rand_core.specs.Steps.{steps_u32, stream_of};
 
 use crate::row::{Row, moment};
 use crate::writing::write_send;
+use rand_core::utils::NextWord;
+use rand_core::{Rng, utils};
 use ripngd_engine::{Arrived, Link, LinkFault, Received, TimeSource, Watch};
 use route_table::Moment;
 use router_core::{Arrival, Fault, Note, Outgoing};
@@ -209,5 +212,33 @@ impl<'a> Write for Doubles<'a> {
 
     fn flush(&mut self) -> io::Result<()> {
         Ok(())
+    }
+}
+
+/// A source that gives the word 0 over and over.
+#[derive(Clone, Copy)]
+pub struct Zeros;
+
+impl NextWord<u32> for Zeros {
+    ghost step = { λ s. (0, s) };
+
+    fn next_word(&mut self) -> u32 {
+        0
+    }
+}
+
+impl Rng for Zeros {
+    ghost stream = { stream_of (steps_u32 (λ s. (0, s))) };
+
+    fn next_u32(&mut self) -> u32 {
+        self.next_word()
+    }
+
+    fn next_u64(&mut self) -> u64 {
+        utils::next_u64_via_u32(self)
+    }
+
+    fn fill_bytes(&mut self, dst: &mut [u8]) {
+        utils::fill_bytes_via_u32(self, dst)
     }
 }

@@ -1,13 +1,12 @@
 //! An engine over the doubles of a script.
 
 use crate::calls::event_of;
-use crate::doubles::Doubles;
+use crate::doubles::{Doubles, Zeros};
 use crate::forwarding::entries_of;
 use crate::routers::config_of;
 use crate::row::{Done, Row};
 use crate::writing::write_router;
 use ripng_world::Event;
-use ripngd_engine::memory::SameWord;
 use ripngd_engine::{Engine, EngineFault};
 use route_table::RouteStore;
 use router_core::Change;
@@ -17,7 +16,7 @@ use std::alloc::AllocError;
 #[derive(Drop)]
 pub struct Rig<'a, S: RouteStore> {
     doubles: Doubles<'a>,
-    engine: Engine<S, Doubles<'a>, Doubles<'a>, SameWord>,
+    engine: Engine<S, Doubles<'a>, Doubles<'a>, Zeros>,
 }
 
 /// Adds to the script of doubles.
@@ -52,7 +51,7 @@ fn start_once<'a, S: RouteStore>(
         return Err(AllocError);
     }
     let mut log = doubles;
-    match Engine::start(row.alloc, config, doubles, doubles, SameWord(0), &mut log) {
+    match Engine::start(row.alloc, config, doubles, doubles, Zeros, &mut log) {
         Ok(engine) => Ok(Ok(Rig { doubles, engine })),
         Err(fault) => Ok(Err(fault)),
     }
