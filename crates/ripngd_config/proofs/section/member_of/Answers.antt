@@ -7,8 +7,8 @@ use Rattle.ripngd_config.proofs.Arrays.{table_has}
 use Rattle.ripngd_config.proofs.Refusals.{key_refuses}
 use Rattle.ripngd_config.proofs.section.member_of.Goals as goal
 
-pub returns-in-Some-clause-fault : goal.returns-in-Some-clause-fault
-returns-in-Some-clause-fault g c =
+pub returns-clause-fault : goal.returns-clause-fault
+returns-clause-fault g c =
     let Has = TableHas g.T.FromSection.keys in
     let ms = table_view c.in-Some.table.now in
     let is : as_table (view c.args.item.now) ≡ Some ms = sym c.as_table.ensures ∙ ap (option_map (λ m. table_view m.now)) c.in-Some.is in

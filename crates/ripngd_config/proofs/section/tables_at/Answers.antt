@@ -13,12 +13,12 @@ use Rattle.ripngd_config.proofs.section.tables_at.Goals as goal
 
 pub returns-in_err-member_of-clause-fault : goal.returns-in_err-member_of-clause-fault
 returns-in_err-member_of-clause-fault g c =
-    let vs = c.as_slice.result.now in
+    let vs = c.as_slice-items.result.now in
     let v = c.index-items-index.result in
     let ms = table_view c.args.section.table.now in
     let got : get_member c.args.key.now ms ≡ Some (view c.in-Some.value.now) = sym c.get.ensures ∙ ap (option_map (λ v. view v.now)) c.in-Some.is in
     let is : as_array (view c.in-Some.value.now) ≡ Some (items_view vs) =
-    sym c.as_array.ensures ∙ ap (option_map (λ v. array_view v.now)) c.in-Some-as_array.is ∙ ap (λ ws. Some (items_view ws)) (sym c.as_slice.ensures.value) in
+    sym c.as_array.ensures ∙ ap (option_map (λ v. array_view v.now)) c.in-Some-as_array.is ∙ ap (λ ws. Some (items_view ws)) (sym c.as_slice-items.ensures.value) in
     let p = err_from_is_err_and c.from_residual-in_err-member_of.result c.from_residual-in_err-member_of.ensures.1 in
     rw (p.1, p.2) (key_refuses (ItemHas (TableHas g.T.FromSection.keys) (view v)) (KeyHas c.args.key.now _ (sections g.T.FromSection.keys) ms)
     (λ f h. member_has g.T.FromSection.keys c.args.key.now ms (view c.in-Some.value.now) vs c.loop-index.index v f got is c.loop-index-test.true c.index-items-index.is h) _ c.in_err-member_of.ensures.fault)
@@ -27,7 +27,7 @@ pub loop-index-preserved : goal.loop-index-preserved
 loop-index-preserved g c =
     let R = g.T.FromSection.is_read in
     let i = c.loop-index.index in
-    let vs = c.as_slice.result.now in
+    let vs = c.as_slice-items.result.now in
     let v = c.index-items-index.result in
     let x = c.in_ok-member_of.field-0 in
     let front : take (i + 1) vs ≡ take i vs ++ v ∷ [] = take_more vs i v c.loop-index-test.true ∙ ap (λ (w : Value). take i vs ++ w ∷ []) (sym c.index-items-index.is) in
@@ -41,10 +41,10 @@ loop-index-preserved g c =
 pub returns-clause-read : goal.returns-clause-read
 returns-clause-read g c =
     let R = g.T.FromSection.is_read in
-    let vs = c.as_slice.result.now in
+    let vs = c.as_slice-items.result.now in
     let ms = table_view c.args.section.table.now in
     let got : get_member c.args.key.now ms ≡ Some (view c.in-Some.value.now) = sym c.get.ensures ∙ ap (option_map (λ v. view v.now)) c.in-Some.is in
     let is : as_array (view c.in-Some.value.now) ≡ Some (items_view vs) =
-    sym c.as_array.ensures ∙ ap (option_map (λ v. array_view v.now)) c.in-Some-as_array.is ∙ ap (λ ws. Some (items_view ws)) (sym c.as_slice.ensures.value) in
+    sym c.as_array.ensures ∙ ap (option_map (λ v. array_view v.now)) c.in-Some-as_array.is ∙ ap (λ ws. Some (items_view ws)) (sym c.as_slice-items.ensures.value) in
     let read = subst (λ (ws : List Value). AreTables R (items_view ws) c.loop-index.tables.items) (take_all c.loop-index.index vs c.loop-index-test.false) c.loop-index.invariant.read in
     sections_read R c.args.key.now ms (view c.in-Some.value.now) (items_view vs) c.loop-index.tables.items got is read

@@ -3,4 +3,4 @@ use Rattle.ripngd_config.specs.Twice.{AreAllPeersDistinct}
 use Rattle.ripngd_config.proofs.twice.check_peers.Given as goal
 
 abbrev pub invariant-loop-index : goal.invariant-loop-index
-invariant-loop-index l = AreAllPeersDistinct (take l.index l.interfaces)
+invariant-loop-index l = AreAllPeersDistinct (take l.index-counter l.interfaces)

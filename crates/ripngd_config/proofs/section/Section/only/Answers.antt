@@ -2,10 +2,16 @@ use Rattle.std.proofs.Common.{◌≡◌, ◌∙◌, List, Bor, ap, length, map, 
 use Rattle.std.specs.Prelude.{String, string_bytes}
 use Rattle.std.specs.declared.alloc.Global.{Global}
 use Rattle.std.proofs.lemmas.Iterator.Consumers.{YieldsList-at, YieldsList-end, YieldsList-from_rest, YieldsList-turn}
-use Rattle.std.proofs.lemmas.List.Elements.{All-map}
+use Rattle.std.proofs.lemmas.List.Elements.{All-map, All-push}
 use Rattle.ripngd_config.specs.Keys.{is_listed}
 use Rattle.ripngd_config.proofs.KeyLists.{any_listed, only_from, other_at}
 use Rattle.ripngd_config.proofs.section.Section.only.Goals as goal
+
+pub loop-key-preserved : goal.loop-key-preserved
+loop-key-preserved c =
+    let listed : is_listed (map (λ k. k.now) c.args.known.now) (string_bytes c.in-Some.key.now) ≡ true =
+    ap (is_listed (map (λ k. k.now) c.args.known.now)) (sym c.as_str.ensures.value) ∙ sym (any_listed c.args.known.now c.as_str.result.now) ∙ sym c.contains.ensures.value ∙ c.if-not-contains.false in
+    (tt, tt, All-push (λ (k : Bor (String Global)). is_listed (map (λ k. k.now) c.args.known.now) (string_bytes k.now) ≡ true) c.loop-key.yielded c.in-Some.key c.loop-key.invariant.2 listed)
 
 pub returns-then-not-contains-clause-fault : goal.returns-then-not-contains-clause-fault
 returns-then-not-contains-clause-fault c =
