@@ -1,7 +1,8 @@
 //! Ports and peers that stand twice.
 
-ghost use Rattle.std.specs.Prelude.{◌≡◌, IfErr, MatchOption, OnOk};
-ghost use Rattle.ripngd_config.specs.Twice.{AreAllPeersDistinct, AreGroupPortsApart, ArePeersDistinct, ArePortsDistinct, IsPeerTwice, RefusesTwice, has_group_port, has_port, stands_at};
+ghost use Rattle.std.specs.Prelude.{◌≡◌, ◌==◌, IfErr, MatchOption, OnOk, Some};
+ghost use Rattle.std.specs.List.{list_any};
+ghost use Rattle.ripngd_config.specs.Twice.{AreAllPeersDistinct, AreGroupPortsApart, ArePeersDistinct, ArePortsDistinct, IsPeerTwice, RefusesTwice, has_group_port, has_port, is_taken, stands_at};
 ghost use Rattle.ripngd_engine.specs.Peers.{has_same};
 
 use crate::fault::{ConfigFault, Read};
@@ -32,11 +33,29 @@ pub(crate) fn check_ports(alloc: Global, interfaces: &[InterfaceTable]) -> Read<
     Ok(())
 }
 
+/// Whether one of the peers stands at a port.
+fn has_peer_at(peers: &[Peer], port: u16) -> bool
+    ensures { result ≡ list_any (λ p. p.local_port == port) peers.now }
+{
+    peers.iter().any(|peer| peer.local_port == port)
+}
+
 /// Whether an interface or one of its peers stands at a port.
 fn stands_at(table: &InterfaceTable, port: u16) -> bool
     ensures { result ≡ stands_at port table.now }
 {
-    table.local_port == port || table.peers.iter().any(|peer| peer.local_port == port)
+    table.local_port == port || has_peer_at(&table.peers, port)
+}
+
+/// Whether an interface or a peer stands at a port.
+fn is_taken(interfaces: &[InterfaceTable], port: u16) -> bool
+    ensures { result ≡ is_taken interfaces.now (Some port) }
+{
+    let mut found = false;
+    for table in interfaces {
+        found |= stands_at(table, port);
+    }
+    found
 }
 
 /// Whether an interface or a peer stands at the group port of this one.
@@ -44,7 +63,7 @@ fn has_group_port(interfaces: &[InterfaceTable], table: &InterfaceTable) -> bool
     ensures { result ≡ has_group_port interfaces.now table.now }
 {
     match table.group_port {
-        Some(port) => interfaces.iter().any(|other| stands_at(other, port)),
+        Some(port) => is_taken(interfaces, port),
         None => false,
     }
 }
