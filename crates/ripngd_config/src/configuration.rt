@@ -1,7 +1,7 @@
 //! A configuration, read and checked: all that a router runs on.
 
 ghost use Rattle.std.specs.Prelude.{◌≡◌, IfErr, IfOk, map};
-ghost use Rattle.ripngd_config.specs.Configuration.{HasOneEach, IsConfigured, RefusesConfig, RefusesRouter, RefusesText, Says, configured_interfaces, owned_by, places_of, router_config_of};
+ghost use Rattle.ripngd_config.specs.Configuration.{HasOneEach, IsConfigured, RefusesConfig, RefusesRouter, RefusesText, Says, owned_by, places_of, router_config_of};
 ghost use Rattle.router_core.specs.Config.{IsConfig};
 
 use crate::fault::{ConfigFault, Read};
@@ -89,7 +89,7 @@ fn router_of(alloc: Global, document: &Document, tag: u16, quiet: bool) -> Read<
     ensures lawful { IfOk result IsConfig }
     ensures refused { IfErr result (RefusesRouter (router_config_of tag quiet document.now)) }
 {
-    let interfaces = interfaces_of(alloc, document)?;
+    let interfaces = interfaces_of(alloc, &document.interfaces)?;
     let owned = owned_by(alloc, document, tag)?;
     match RouterConfig::check(interfaces, owned, quiet) {
         Ok(router) => Ok(router),
@@ -97,14 +97,10 @@ fn router_of(alloc: Global, document: &Document, tag: u16, quiet: bool) -> Read<
     }
 }
 
-fn interfaces_of(alloc: Global, document: &Document) -> Result<Vec<Interface>, AllocError>
-    ensures { IfOk result (λ v. v.items ≡ configured_interfaces document.now) }
+fn interfaces_of(alloc: Global, tables: &[InterfaceTable]) -> Result<Vec<Interface>, AllocError>
+    ensures { IfOk result (λ v. v.items ≡ map (λ t. t.interface) tables.now) }
 {
-    document
-        .interfaces
-        .iter()
-        .map(|table| table.interface)
-        .collect(alloc)
+    tables.iter().map(|table| table.interface).collect(alloc)
 }
 
 /// The prefixes that the router owns, with their tags.
@@ -132,11 +128,8 @@ fn places_of(alloc: Global, document: &Document) -> Result<Vec<Place>, AllocErro
         .collect(alloc)
 }
 
-fn peers_of(alloc: Global, interfaces: Vec<InterfaceTable>) -> Result<Vec<Vec<Peer>>, AllocError>
-    ensures { IfOk result (λ v. v.items ≡ map (λ t. t.peers) interfaces.items) }
+fn peers_of(alloc: Global, tables: Vec<InterfaceTable>) -> Result<Vec<Vec<Peer>>, AllocError>
+    ensures { IfOk result (λ v. v.items ≡ map (λ t. t.peers) tables.items) }
 {
-    interfaces
-        .into_iter()
-        .map(|table| table.peers)
-        .collect(alloc)
+    tables.into_iter().map(|table| table.peers).collect(alloc)
 }

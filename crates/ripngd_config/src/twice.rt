@@ -2,7 +2,7 @@
 
 ghost use Rattle.std.specs.Prelude.{◌≡◌, ◌==◌, IfErr, MatchOption, OnOk, Some};
 ghost use Rattle.std.specs.List.{list_any};
-ghost use Rattle.ripngd_config.specs.Twice.{AreAllPeersDistinct, AreGroupPortsApart, ArePeersDistinct, ArePortsDistinct, IsPeerTwice, RefusesTwice, has_group_port, has_port, is_taken, stands_at};
+ghost use Rattle.ripngd_config.specs.Twice.{AreAllPeersDistinct, AreGroupPortsApart, ArePeersDistinct, ArePortsDistinct, IsPeerTwice, RefusesTwice, has_group_port, has_port, is_taken};
 ghost use Rattle.ripngd_engine.specs.Peers.{has_same};
 
 use crate::fault::{ConfigFault, Read};
@@ -14,9 +14,7 @@ use std::alloc::Global;
 fn has_port(earlier: &[InterfaceTable], table: &InterfaceTable) -> bool
     ensures { result ≡ has_port earlier.now table.now }
 {
-    earlier
-        .iter()
-        .any(|other| other.local_port == table.local_port)
+    earlier.iter().any(|t| t.local_port == table.local_port)
 }
 
 /// Refuses the first interface whose local port is that of an earlier one.
@@ -40,20 +38,13 @@ fn has_peer_at(peers: &[Peer], port: u16) -> bool
     peers.iter().any(|peer| peer.local_port == port)
 }
 
-/// Whether an interface or one of its peers stands at a port.
-fn stands_at(table: &InterfaceTable, port: u16) -> bool
-    ensures { result ≡ stands_at port table.now }
-{
-    table.local_port == port || has_peer_at(&table.peers, port)
-}
-
 /// Whether an interface or a peer stands at a port.
 fn is_taken(interfaces: &[InterfaceTable], port: u16) -> bool
     ensures { result ≡ is_taken interfaces.now (Some port) }
 {
     let mut found = false;
     for table in interfaces {
-        found |= stands_at(table, port);
+        found |= table.local_port == port || has_peer_at(&table.peers, port);
     }
     found
 }
