@@ -1,10 +1,7 @@
 pub mod KeyLists
 pub mod Arrays
+pub mod Refusals
 pub mod Texts
 pub mod Pairs
 pub mod Clashes
 pub mod OneEach
-pub mod Firsts
-pub mod Places
-pub mod TablesRefused
-pub mod Behind

@@ -1,5 +1,5 @@
 -- What a configuration's text makes a router run on, and why a text is refused.
-use Rattle.std.specs.Prelude.{◌≡◌, ◌⊎◌, ℕ, Bool, List, [], length, map, Some, None, unwrap_or}
+use Rattle.std.specs.Prelude.{◌≡◌, ◌⊎◌, ℕ, Bool, List, length, map, Some, None, unwrap_or, ⊤}
 use Rattle.std.specs.Str.{IsUtf8}
 use Rattle.toml.specs.Data.{Members}
 use Rattle.toml.specs.Parse.{parse_document}
@@ -8,15 +8,13 @@ use Rattle.rand_pcg.specs.Pcg.{pcg32_of_seed}
 use Rattle.prefix6.specs.Prefix.{Prefix6}
 use Rattle.router_core.specs.Config.{Config as RouterConfig, IsConfig, config, config_fault}
 use Rattle.router_core.specs.declared.config.Interface.{Interface}
-use Rattle.ripngd_config.specs.Faults.{RefusesAt}
-use Rattle.ripngd_config.specs.First.{TableFirst}
+use Rattle.ripngd_config.specs.Faults.{RefusesKey, TableHas}
 use Rattle.ripngd_config.specs.Keys.{document_keys}
-use Rattle.ripngd_config.specs.Naming.{IsPlaceIn, IsSubject}
 use Rattle.ripngd_config.specs.Tables.{IsDocument}
-use Rattle.ripngd_config.specs.Twice.{AreAllPeersDistinct, AreGroupPortsApart, ArePortsDistinct, IsFirstTwice}
+use Rattle.ripngd_config.specs.Twice.{AreAllPeersDistinct, AreGroupPortsApart, ArePortsDistinct, RefusesTwice}
 use Rattle.ripngd_config.specs.declared.configuration.Config.{Config}
 use Rattle.ripngd_config.specs.declared.fault.ConfigFault.{ConfigFault}
-use Rattle.ripngd_config.specs.declared.fault.ConfigFault.TheVariants.{BadToml, Router}
+use Rattle.ripngd_config.specs.declared.fault.ConfigFault.TheVariants.{BadToml, OutOfMemory, Router}
 use Rattle.ripngd_engine.specs.declared.peer.Place.{Place}
 use Rattle.ripngd_config.specs.declared.tables.Document.{Document}
 use Rattle.ripngd_config.specs.declared.tables.PrefixTable.{PrefixTable}
@@ -68,21 +66,19 @@ pub record HasOneEach (c : Config) : Type 0 where
   pub places : length c.places.items ≡ length c.router.interfaces
   pub peers : length c.peers.items ≡ length c.router.interfaces
 
--- why a text is refused that is no document of such tables: it is no TOML, as is found at a place of it, or the first fault of
--- the tables
+-- memory ran out, or the text is no TOML, or the tables of the text have the fault
 abbrev pub RefusesText : List ℕ → ConfigFault → Type 0
-RefusesText text (BadToml place) = (IsUtf8 text → parse_document text ≡ None) × IsPlaceIn text place
-RefusesText text fault =
-    RefusesAt (λ f place. (ms : Members) × (parse_document text ≡ Some ms) × TableFirst document_keys [] ms f place) fault
+RefusesText text (BadToml place) = IsUtf8 text → parse_document text ≡ None
+RefusesText text fault = RefusesKey (λ f. (ms : Members) × (parse_document text ≡ Some ms) × TableHas document_keys ms f) fault
 
--- which test the tables fail first, and what the router's own check refuses then
-abbrev pub RefusesTables : ℕ → Bool → Document → ConfigFault → Type 0
-RefusesTables tag quiet d (Router refused subject) =
-    (config_fault (router_config_of tag quiet d) ≡ Some refused) × IsSubject refused (configured_interfaces d) (owned_by tag d) subject
-RefusesTables tag quiet d fault =
-    RefusesAt (λ f place. (config_fault (router_config_of tag quiet d) ≡ None) × IsFirstTwice d.interfaces.items f place) fault
+-- memory ran out, or the router's own check refuses the configuration
+abbrev pub RefusesRouter : RouterConfig → ConfigFault → Type 0
+RefusesRouter config (Router refused named) = config_fault config ≡ Some refused
+RefusesRouter config OutOfMemory = ⊤
+RefusesRouter config _ = ⊥
 
--- why a text is refused
+-- why a text is refused: for itself, or for what its tables say
 abbrev pub RefusesConfig : List ℕ → ℕ → Bool → ConfigFault → Type 0
 RefusesConfig text tag quiet fault =
-    RefusesText text fault ⊎ ((d : Document) × Says text d × RefusesTables tag quiet d fault)
+    RefusesText text fault
+    ⊎ ((d : Document) × Says text d × (RefusesRouter (router_config_of tag quiet d) fault ⊎ RefusesTwice d.interfaces.items fault))

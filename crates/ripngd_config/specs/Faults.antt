@@ -1,7 +1,8 @@
--- Why a configuration is refused: the number and the name of each refusal, and those that stand at a path.
-use Rattle.std.specs.Prelude.{ℕ, List, codes, string_bytes, ⊤}
-use Rattle.ripngd_config.specs.declared.fault.PathFault.{PathFault}
-use Rattle.ripngd_config.specs.declared.fault.PathFault.TheVariants as at
+-- Why a configuration is refused: the number and the name of each refusal, and which of its faults tables have.
+use Rattle.std.specs.Prelude.{◌≡◌, ◌⊎◌, ◌<◌, ℕ, ℤ, pos, negsuc, Bool, true, false, List, MatchOption, IsSomeAnd, None, codes, ⊤}
+use Rattle.toml.specs.Data.{Data, Items, Members, as_array, as_bool, as_integer, as_str, as_table, get_member, item, member, no_items, no_members}
+use Rattle.prefix6.specs.Text.{Reads, ReadsPrefix}
+use Rattle.ripngd_config.specs.Keys.{Keys, Kind, address, is_listed, key, names_of, no_keys, number, prefix, sections, truth}
 use Rattle.ripngd_config.specs.declared.fault.ConfigFault.{ConfigFault}
 use Rattle.ripngd_config.specs.declared.fault.ConfigFault.TheVariants.{BadToml, MissingKey, WrongType, BadValue, UnknownKey, Router, PortTwice, PeerTwice, OutOfMemory}
 
@@ -12,7 +13,7 @@ config_fault_number (MissingKey path) = 2
 config_fault_number (WrongType path) = 3
 config_fault_number (BadValue path) = 4
 config_fault_number (UnknownKey path) = 5
-config_fault_number (Router refused subject) = 6
+config_fault_number (Router refused named) = 6
 config_fault_number (PortTwice path) = 7
 config_fault_number (PeerTwice path) = 8
 config_fault_number OutOfMemory = 9
@@ -24,19 +25,98 @@ config_fault_name (MissingKey path) = codes "MissingKey"
 config_fault_name (WrongType path) = codes "WrongType"
 config_fault_name (BadValue path) = codes "BadValue"
 config_fault_name (UnknownKey path) = codes "UnknownKey"
-config_fault_name (Router refused subject) = codes "Router"
+config_fault_name (Router refused named) = codes "Router"
 config_fault_name (PortTwice path) = codes "PortTwice"
 config_fault_name (PeerTwice path) = codes "PeerTwice"
 config_fault_name OutOfMemory = codes "OutOfMemory"
 
--- memory ran out, or the text is refused for a fault at a path of which P holds
-abbrev pub RefusesAt : (PathFault → List ℕ → Type 0) → ConfigFault → Type 0
-RefusesAt P (MissingKey path) = P at.MissingKey (string_bytes path)
-RefusesAt P (WrongType path) = P at.WrongType (string_bytes path)
-RefusesAt P (BadValue path) = P at.BadValue (string_bytes path)
-RefusesAt P (UnknownKey path) = P at.UnknownKey (string_bytes path)
-RefusesAt P (PortTwice path) = P at.PortTwice (string_bytes path)
-RefusesAt P (PeerTwice path) = P at.PeerTwice (string_bytes path)
-RefusesAt P OutOfMemory = ⊤
-RefusesAt P (BadToml place) = ⊥
-RefusesAt P (Router refused subject) = ⊥
+-- ---- what is wrong with a value
+
+-- an integer below the least or above the greatest
+abbrev pub IsOutside : ℕ → ℕ → ℤ → Type 0
+IsOutside low high (pos n) = (n < low) ⊎ (high < n)
+IsOutside low high (negsuc n) = ⊤
+
+-- a value that is no integer, or an integer that is not from low to high
+abbrev pub NumberHas : ℕ → ℕ → Data → ConfigFault → Type 0
+NumberHas low high d (WrongType path) = as_integer d ≡ None
+NumberHas low high d (BadValue path) = IsSomeAnd (as_integer d) (IsOutside low high)
+NumberHas low high d _ = ⊥
+
+-- a value that is no text, or a text that names nothing
+abbrev pub TextHas : {X : Type 0} → (List ℕ → X → Type 0) → Data → ConfigFault → Type 0
+TextHas Names d (WrongType path) = as_str d ≡ None
+TextHas {X = X} Names d (BadValue path) = IsSomeAnd (as_str d) (λ text. (x : X) → ¬ (Names text x))
+TextHas Names d _ = ⊥
+
+-- a value that is no truth value
+abbrev pub TruthHas : Data → ConfigFault → Type 0
+TruthHas d (WrongType path) = as_bool d ≡ None
+TruthHas d _ = ⊥
+
+-- ---- what is wrong with a table
+
+-- it is for the type of a value
+abbrev pub IsWrongType : ConfigFault → Type 0
+IsWrongType (WrongType path) = ⊤
+IsWrongType _ = ⊥
+
+-- a key that is absent, and required
+abbrev pub AbsentHas : Bool → ConfigFault → Type 0
+AbsentHas required (MissingKey path) = required ≡ true
+AbsentHas required _ = ⊥
+
+-- a key that is not among the names
+abbrev pub HasOther : List (List ℕ) → Members → Type 0
+HasOther names no_members = ⊥
+HasOther names (member name d ms) = (is_listed names name ≡ false) ⊎ HasOther names ms
+
+-- a table with such a key
+abbrev pub UnknownFault : List (List ℕ) → Members → ConfigFault → Type 0
+UnknownFault names ms (UnknownKey path) = HasOther names ms
+UnknownFault names ms _ = ⊥
+
+-- a member of an array of tables: it is no table, or has the fault of one
+abbrev pub ItemHas : (Members → ConfigFault → Type 0) → Data → ConfigFault → Type 0
+ItemHas Has d f = MatchOption (as_table d) (IsWrongType f) (λ ms. Has ms f)
+
+-- one of them
+abbrev pub ItemsHave : (Members → ConfigFault → Type 0) → Items → ConfigFault → Type 0
+ItemsHave Has no_items f = ⊥
+ItemsHave Has (item d ds) f = ItemHas Has d f ⊎ ItemsHave Has ds f
+
+-- a value that is no array, or has such a member
+abbrev pub ArrayHas : (Members → ConfigFault → Type 0) → Data → ConfigFault → Type 0
+ArrayHas Has d f = MatchOption (as_array d) (IsWrongType f) (λ ds. ItemsHave Has ds f)
+
+abbrev mutual
+  -- a value of a kind
+  pub KindHas : Kind → Data → ConfigFault → Type 0
+  KindHas (number low high) d f = NumberHas low high d f
+  KindHas address d f = TextHas Reads d f
+  KindHas prefix d f = TextHas ReadsPrefix d f
+  KindHas truth d f = TruthHas d f
+  KindHas (sections keys) d f = ArrayHas (λ ms g. KeysHave (names_of keys) keys ms g) d f
+
+  -- a table, one of whose keys has the fault, or which has a key that is not among the names
+  pub KeysHave : List (List ℕ) → Keys → Members → ConfigFault → Type 0
+  KeysHave names no_keys ms f = UnknownFault names ms f
+  KeysHave names (key name required kind keys) ms f =
+      MatchOption (get_member name ms) (AbsentHas required f) (λ d. KindHas kind d f) ⊎ KeysHave names keys ms f
+
+-- one key of a table
+abbrev pub KeyHas : List ℕ → Bool → Kind → Members → ConfigFault → Type 0
+KeyHas name required kind ms f = MatchOption (get_member name ms) (AbsentHas required f) (λ d. KindHas kind d f)
+
+-- a table that has these keys
+abbrev pub TableHas : Keys → Members → ConfigFault → Type 0
+TableHas keys ms f = KeysHave (names_of keys) keys ms f
+
+-- memory ran out, or the refusal is of a key, and its fault is there
+abbrev pub RefusesKey : (ConfigFault → Type 0) → ConfigFault → Type 0
+RefusesKey Has (BadToml place) = ⊥
+RefusesKey Has (Router refused named) = ⊥
+RefusesKey Has (PortTwice path) = ⊥
+RefusesKey Has (PeerTwice path) = ⊥
+RefusesKey Has OutOfMemory = ⊤
+RefusesKey Has fault = Has fault

@@ -1,12 +1,8 @@
--- The keys of a configuration's tables, and what may be wrong with a table.
-use Rattle.std.specs.Prelude.{◌≡◌, ◌⊎◌, ◌<◌, ℕ, ℤ, pos, negsuc, Bool, true, false, List, [], ◌∷◌, None, IsSomeAnd, codes, ⊤}
+-- The schema of a configuration: the keys of its tables, each with what it holds.
+use Rattle.std.specs.Prelude.{◌≡◌, ℕ, Bool, true, false, List, [], ◌∷◌, codes, ⊤}
 use Rattle.std.specs.List.{list_any}
 use Rattle.std.specs.Str.{bytes_eq}
-use Rattle.toml.specs.Data.{Data, Members, as_bool, as_integer, as_str, member, no_members}
-use Rattle.prefix6.specs.Prefix.{Prefix6}
-use Rattle.prefix6.specs.Text.{Reads, ReadsPrefix}
-use Rattle.ripngd_config.specs.declared.fault.PathFault.{PathFault}
-use Rattle.ripngd_config.specs.declared.fault.PathFault.TheVariants.{BadValue, MissingKey, WrongType}
+use Rattle.toml.specs.Data.{Members, member, no_members}
 
 -- what a key holds (a number with its least and its greatest), and the keys of a table: name, whether it is required, kind
 mutual
@@ -68,37 +64,3 @@ HasOnlyOf names (member name d ms) = (is_listed names name ≡ true) × HasOnlyO
 -- no key but these
 abbrev pub HasOnly : Keys → Members → Type 0
 HasOnly keys ms = HasOnlyOf (names_of keys) ms
-
--- ---- what is wrong with the value at a key
-
--- an integer below the least or above the greatest
-abbrev pub IsOutside : ℕ → ℕ → ℤ → Type 0
-IsOutside low high (pos n) = (n < low) ⊎ (high < n)
-IsOutside low high (negsuc n) = ⊤
-
--- what may be wrong with a number from low to high
-abbrev pub NumberFault : PathFault → ℕ → ℕ → Data → Type 0
-NumberFault WrongType low high d = as_integer d ≡ None
-NumberFault BadValue low high d = IsSomeAnd (as_integer d) (IsOutside low high)
-NumberFault _ low high d = ⊥
-
--- a value that is no text, or a text of no address
-abbrev pub AddressFault : PathFault → Data → Type 0
-AddressFault WrongType d = as_str d ≡ None
-AddressFault BadValue d = IsSomeAnd (as_str d) (λ text. (a : ℕ) → ¬ (Reads text a))
-AddressFault _ d = ⊥
-
--- a value that is no text, or a text of no prefix
-abbrev pub PrefixFault : PathFault → Data → Type 0
-PrefixFault WrongType d = as_str d ≡ None
-PrefixFault BadValue d = IsSomeAnd (as_str d) (λ text. (p : Prefix6) → ¬ (ReadsPrefix text p))
-PrefixFault _ d = ⊥
-
--- what may be wrong with a truth value
-abbrev pub TruthFault : PathFault → Data → Type 0
-TruthFault WrongType d = as_bool d ≡ None
-TruthFault _ d = ⊥
-
--- what is wrong where a key is absent
-abbrev pub AbsentFault : PathFault → Bool → Type 0
-AbsentFault f required = (f ≡ MissingKey) × (required ≡ true)

@@ -1,11 +1,10 @@
 -- Ports and peers that stand twice.
-use Rattle.std.specs.Prelude.{◌≡◌, ◌≢◌, ◌==◌, ◌||◌, ◌⊎◌, ◌++◌, ℕ, Bool, true, false, List, Option, All, None, Some, codes, slice_get, take}
+use Rattle.std.specs.Prelude.{◌≡◌, ◌≢◌, ◌==◌, ◌||◌, ◌⊎◌, ℕ, Bool, true, false, List, Option, All, None, Some, slice_get, take, ⊤}
 use Rattle.std.specs.List.{AllPairs, list_any}
-use Rattle.ripngd_config.specs.Paths.{member_text}
-use Rattle.ripngd_config.specs.declared.fault.PathFault.{PathFault}
-use Rattle.ripngd_config.specs.declared.fault.PathFault.TheVariants.{PeerTwice, PortTwice}
 use Rattle.ripngd_engine.specs.Peers.{has_same}
 use Rattle.ripngd_engine.specs.declared.peer.Peer.{Peer}
+use Rattle.ripngd_config.specs.declared.fault.ConfigFault.{ConfigFault}
+use Rattle.ripngd_config.specs.declared.fault.ConfigFault.TheVariants.{OutOfMemory, PeerTwice, PortTwice}
 use Rattle.ripngd_config.specs.declared.tables.InterfaceTable.{InterfaceTable}
 
 -- one of the earlier interfaces stands at the local port of this one
@@ -46,49 +45,30 @@ ArePeersDistinct = AllPairs AreApart
 abbrev pub AreAllPeersDistinct : List InterfaceTable → Type 0
 AreAllPeersDistinct interfaces = All (λ t. ArePeersDistinct t.peers.items) interfaces
 
--- ---- which of those that stand twice is named: the first, by its path
+-- ---- which of them stands twice
 
--- the first interface whose local port is that of an earlier one
-pub record IsFirstPortTwice (interfaces : List InterfaceTable) (f : PathFault) (named : List ℕ) : Type 0 where
-  pub index : ℕ
+-- the interface of that number: its local port is that of an earlier one, or its group port is somebody's
+pub record IsPortTwice (interfaces : List InterfaceTable) (index : ℕ) : Type 0 where
   pub interface : InterfaceTable
   pub there : slice_get interfaces index ≡ Some interface
-  pub before : ArePortsDistinct (take index interfaces)
-  pub twice : has_port (take index interfaces) interface ≡ true
-  pub fault : f ≡ PortTwice
-  pub place : named ≡ member_text (codes "interface") index ++ codes ".local_port"
+  pub twice : (has_port (take index interfaces) interface ≡ true) ⊎ (has_group_port interfaces interface ≡ true)
 
--- the first interface at whose group port somebody stands
-pub record IsFirstGroupPortTaken (interfaces : List InterfaceTable) (f : PathFault) (named : List ℕ) : Type 0 where
-  pub index : ℕ
-  pub interface : InterfaceTable
-  pub there : slice_get interfaces index ≡ Some interface
-  pub before : All (λ t. has_group_port interfaces t ≡ false) (take index interfaces)
-  pub taken : has_group_port interfaces interface ≡ true
-  pub fault : f ≡ PortTwice
-  pub place : named ≡ member_text (codes "interface") index ++ codes ".group_port"
-
--- the first of the peers that has the address or the local port of an earlier one, where the array of peers stands there
-pub record IsFirstPeerTwice (peers : List Peer) (here : List ℕ) (f : PathFault) (named : List ℕ) : Type 0 where
-  pub index : ℕ
+-- the peer of that number: it has the address or the local port of an earlier one
+pub record IsPeerTwice (peers : List Peer) (index : ℕ) : Type 0 where
   pub peer : Peer
   pub there : slice_get peers index ≡ Some peer
-  pub before : ArePeersDistinct (take index peers)
   pub twice : has_same (take index peers) peer ≡ true
-  pub fault : f ≡ PeerTwice
-  pub place : named ≡ member_text here index
 
--- such a peer of the first interface that has one
-pub record IsFirstOfPeersTwice (interfaces : List InterfaceTable) (f : PathFault) (named : List ℕ) : Type 0 where
-  pub index : ℕ
+-- such a peer of the interface of that number
+pub record HasPeerTwice (interfaces : List InterfaceTable) (index : ℕ) : Type 0 where
   pub interface : InterfaceTable
   pub there : slice_get interfaces index ≡ Some interface
-  pub before : AreAllPeersDistinct (take index interfaces)
-  pub twice : IsFirstPeerTwice interface.peers.items (member_text (codes "interface") index ++ codes ".peer") f named
+  pub peer : ℕ
+  pub twice : IsPeerTwice interface.peers.items peer
 
--- local ports, then group ports, then peers: the first that stands twice
-abbrev pub IsFirstTwice : List InterfaceTable → PathFault → List ℕ → Type 0
-IsFirstTwice interfaces f place =
-    IsFirstPortTwice interfaces f place
-    ⊎ (ArePortsDistinct interfaces × IsFirstGroupPortTaken interfaces f place)
-    ⊎ (ArePortsDistinct interfaces × AreGroupPortsApart interfaces × IsFirstOfPeersTwice interfaces f place)
+-- memory ran out, or the refusal is of a port or a peer that stands twice
+abbrev pub RefusesTwice : List InterfaceTable → ConfigFault → Type 0
+RefusesTwice interfaces (PortTwice path) = (index : ℕ) × IsPortTwice interfaces index
+RefusesTwice interfaces (PeerTwice path) = (index : ℕ) × HasPeerTwice interfaces index
+RefusesTwice interfaces OutOfMemory = ⊤
+RefusesTwice interfaces _ = ⊥

@@ -1,6 +1,6 @@
 -- What the values of a configuration are read as.
 use Rattle.std.specs.Prelude.{◌≡◌, ◌≤◌, ℕ, pos, Bool, List, [], ◌∷◌, Option, MatchOption, IsSomeAnd, Some}
-use Rattle.toml.specs.Data.{Data, Items, Members, array, boolean, get_member, integer, item, no_items, string, table}
+use Rattle.toml.specs.Data.{Data, Items, Members, as_array, as_str, as_table, boolean, get_member, integer, item, no_items}
 use Rattle.prefix6.specs.Prefix.{Prefix6}
 use Rattle.prefix6.specs.Text.{Reads, ReadsPrefix}
 
@@ -14,11 +14,11 @@ IsSomeNumber low high d o = IsSomeAnd o (IsNumber low high d)
 
 -- a text that is read as the address
 abbrev pub IsAddress : Data → ℕ → Type 0
-IsAddress d a = (text : List ℕ) × (d ≡ string text) × Reads text a
+IsAddress d a = IsSomeAnd (as_str d) (λ text. Reads text a)
 
 -- a text that is read as the prefix
 abbrev pub IsPrefixValue : Data → Prefix6 → Type 0
-IsPrefixValue d p = (text : List ℕ) × (d ≡ string text) × ReadsPrefix text p
+IsPrefixValue d p = IsSomeAnd (as_str d) (λ text. ReadsPrefix text p)
 
 -- a truth value
 abbrev pub IsTruth : Data → Bool → Type 0
@@ -30,8 +30,7 @@ IsReadAt ReadsAs key default ms x = MatchOption (get_member key ms) (default ≡
 
 -- a table that is read as x
 abbrev pub IsItem : {X : Type 0} → (Members → X → Type 0) → Data → X → Type 0
-IsItem R (table ms) x = R ms x
-IsItem R _ x = ⊥
+IsItem R d x = IsSomeAnd (as_table d) (λ ms. R ms x)
 
 -- tables that are read as these values, one by one
 abbrev pub AreTables : {X : Type 0} → (Members → X → Type 0) → Items → List X → Type 0
@@ -41,5 +40,4 @@ AreTables R (item d rest) (x ∷ xs) = IsItem R d x × AreTables R rest xs
 
 -- an array of such tables
 abbrev pub AreSections : {X : Type 0} → (Members → X → Type 0) → Data → List X → Type 0
-AreSections R (array items) xs = AreTables R items xs
-AreSections R _ xs = ⊥
+AreSections R d xs = IsSomeAnd (as_array d) (λ items. AreTables R items xs)

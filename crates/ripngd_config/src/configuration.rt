@@ -1,14 +1,14 @@
 //! A configuration, read and checked: all that a router runs on.
 
 ghost use Rattle.std.specs.Prelude.{◌≡◌, IfErr, IfOk, map};
-ghost use Rattle.ripngd_config.specs.Configuration.{HasOneEach, IsConfigured, IsMadeOf, RefusesConfig, RefusesTables, configured_interfaces, owned_by, places_of, router_config_of};
+ghost use Rattle.ripngd_config.specs.Configuration.{HasOneEach, IsConfigured, RefusesConfig, RefusesRouter, RefusesText, Says, owned_by, places_of, router_config_of};
 ghost use Rattle.router_core.specs.Config.{IsConfig};
 
-use crate::document::document_of;
-use crate::fault::ConfigFault;
-use crate::naming::subject_of;
+use crate::fault::{ConfigFault, Read};
+use crate::naming::{place_behind, refused_part};
+use crate::section::{FromSection, Section};
 use crate::tables::{Document, InterfaceTable};
-use crate::twice::{check_all_peers, check_group_ports, check_ports};
+use crate::twice::{check_group_ports, check_peers, check_ports};
 use prefix6::Prefix;
 use rand_core::SeedableRng;
 use rand_pcg::Pcg32;
@@ -32,9 +32,9 @@ pub struct Config {
 /// Reads a configuration. An owned prefix whose table gives no tag gets `default_tag`; a quiet router only listens.
 ///
 /// # Errors
-/// The first fault of the text. A table's keys are read in the order that docs/FORMATS.md has, an array's members in
-/// their order, each to its end; a table's other keys come after its own. Then come the router's tests, then the local
-/// ports, then the group ports, then the peers.
+/// A fault of the text, by its path: the first one. A table's keys are read in the order that docs/FORMATS.md has, an
+/// array's members in their order, each to its end; a table's other keys come after its own. Then come the router's tests,
+/// then the local ports, then the group ports, then the peers.
 pub fn read_config(
     alloc: Global,
     text: &[u8],
@@ -46,24 +46,11 @@ pub fn read_config(
     ensures refused { IfErr result (RefusesConfig text.now default_tag quiet) }
 {
     let document = document_of(alloc, text)?;
-    configure(alloc, document, default_tag, quiet)
-}
-
-/// Checks what the tables say, and makes of it what a router runs on.
-fn configure(
-    alloc: Global,
-    document: Document,
-    tag: u16,
-    quiet: bool,
-) -> Result<Config, ConfigFault>
-    ensures made { IfOk result (IsMadeOf tag quiet document) }
-    ensures refused { IfErr result (RefusesTables tag quiet document) }
-{
-    let places = places_of(alloc, &document)?;
-    let router = router_of(alloc, &document, tag, quiet)?;
+    let router = router_of(alloc, &document, default_tag, quiet)?;
     check_ports(alloc, &document.interfaces)?;
     check_group_ports(alloc, &document.interfaces)?;
-    check_all_peers(alloc, &document.interfaces)?;
+    check_peers(alloc, &document.interfaces)?;
+    let places = places_of(alloc, &document)?;
     let rng = Pcg32::seed_from_u64(document.seed);
     let peers = peers_of(alloc, document.interfaces)?;
     Ok(Config {
@@ -74,38 +61,46 @@ fn configure(
     })
 }
 
+/// The tables of a text, which has to be TOML in UTF-8.
+fn document_of(alloc: Global, text: &[u8]) -> Read<Document>
+    ensures read { IfOk result (Says text.now) }
+    ensures refused { IfErr result (RefusesText text.now) }
+{
+    let table = match toml::table_from_slice(alloc, text) {
+        Ok(table) => table,
+        Err(error) => match error.span() {
+            Some(span) => {
+                let place = place_behind(alloc, &text[..span.start])?;
+                return Err(ConfigFault::BadToml(place));
+            }
+            None => return Err(ConfigFault::OutOfMemory),
+        },
+    };
+    Document::from_section(Section {
+        alloc,
+        table: &table,
+        path: "",
+    })
+}
+
 /// What the router is configured as, by its own check.
-fn router_of(
-    alloc: Global,
-    document: &Document,
-    tag: u16,
-    quiet: bool,
-) -> Result<RouterConfig, ConfigFault>
+fn router_of(alloc: Global, document: &Document, tag: u16, quiet: bool) -> Read<RouterConfig>
     ensures kept { IfOk result (λ c. c ≡ router_config_of tag quiet document.now) }
     ensures lawful { IfOk result IsConfig }
-    ensures refused { IfErr result (RefusesTables tag quiet document.now) }
+    ensures refused { IfErr result (RefusesRouter (router_config_of tag quiet document.now)) }
 {
-    let interfaces = interfaces_of(alloc, document)?;
+    let interfaces = interfaces_of(alloc, &document.interfaces)?;
     let owned = owned_by(alloc, document, tag)?;
     match RouterConfig::check(interfaces, owned, quiet) {
         Ok(router) => Ok(router),
-        Err(refused) => {
-            let interfaces = interfaces_of(alloc, document)?;
-            let owned = owned_by(alloc, document, tag)?;
-            let subject = subject_of(&interfaces, &owned, refused);
-            Err(ConfigFault::Router(refused, subject))
-        }
+        Err(why) => Err(ConfigFault::Router(why, refused_part(alloc, document, why)?)),
     }
 }
 
-fn interfaces_of(alloc: Global, document: &Document) -> Result<Vec<Interface>, AllocError>
-    ensures { IfOk result (λ v. v.items ≡ configured_interfaces document.now) }
+fn interfaces_of(alloc: Global, tables: &[InterfaceTable]) -> Result<Vec<Interface>, AllocError>
+    ensures { IfOk result (λ v. v.items ≡ map (λ t. t.interface) tables.now) }
 {
-    document
-        .interfaces
-        .iter()
-        .map(|table| table.interface)
-        .collect(alloc)
+    tables.iter().map(|table| table.interface).collect(alloc)
 }
 
 /// The prefixes that the router owns, with their tags.
@@ -133,11 +128,8 @@ fn places_of(alloc: Global, document: &Document) -> Result<Vec<Place>, AllocErro
         .collect(alloc)
 }
 
-fn peers_of(alloc: Global, interfaces: Vec<InterfaceTable>) -> Result<Vec<Vec<Peer>>, AllocError>
-    ensures { IfOk result (λ v. v.items ≡ map (λ t. t.peers) interfaces.items) }
+fn peers_of(alloc: Global, tables: Vec<InterfaceTable>) -> Result<Vec<Vec<Peer>>, AllocError>
+    ensures { IfOk result (λ v. v.items ≡ map (λ t. t.peers) tables.items) }
 {
-    interfaces
-        .into_iter()
-        .map(|table| table.peers)
-        .collect(alloc)
+    tables.into_iter().map(|table| table.peers).collect(alloc)
 }

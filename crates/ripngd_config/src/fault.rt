@@ -1,24 +1,21 @@
 //! Why a configuration is refused.
 
-ghost use Rattle.std.specs.Prelude.{◌≡◌, ◌++◌, IsOkAnd};
-ghost use Rattle.std.specs.String.{string_bytes};
+ghost use Rattle.std.specs.Prelude.{◌≡◌};
 ghost use Rattle.ripngd_config.specs.declared.fault.ConfigFault.TheVariants.{OutOfMemory};
 
-use crate::naming::{Subject, TextPlace};
-use crate::table_path::TablePath;
 use router_core::ConfigRefused;
-use std::alloc::{AllocError, AllocFailed, Global};
+use std::alloc::AllocError;
 use thiserror::Error;
 
 /// Why a configuration is refused. Where the fault is one of a key or a table, its path says which, as in
 /// `interface[0].peer[1].port`. Each refusal has a number, which never changes, and a name; its text is what the program
-/// prints after `refused`. A text that is no TOML has a place, and a refusal of the router a subject, which are no part of
-/// that text.
+/// prints after `refused`. Where a text is no TOML, as `line 1, column 5`, and which interface or prefix the router
+/// refuses, as `interface 0, fe80::1`, are no part of that text.
 #[derive(Debug, Drop, Error)]
 pub enum ConfigFault {
     /// 1: the text is not TOML, or not UTF-8, as was found at this place.
     #[error("1 BadToml")]
-    BadToml(TextPlace),
+    BadToml(String),
     /// 2: a required key is not there.
     #[error("2 MissingKey {0}")]
     MissingKey(String),
@@ -31,10 +28,10 @@ pub enum ConfigFault {
     /// 5: a table has a key that is not one of its own.
     #[error("5 UnknownKey {0}")]
     UnknownKey(String),
-    /// 6: the router's own check refuses its interfaces and prefixes, for what this is of.
+    /// 6: the router's own check refuses this interface or prefix, or the configuration as a whole.
     #[error("6 Router {} {}", .0.number(), .0.name())]
-    Router(ConfigRefused, Subject),
-    /// 7: the local port of an interface is that of an earlier one.
+    Router(ConfigRefused, Option<String>),
+    /// 7: an interface's local port is that of an earlier one, or an interface or a peer stands at its group port.
     #[error("7 PortTwice {0}")]
     PortTwice(String),
     /// 8: a peer has the address or the local port of an earlier peer of its interface.
@@ -45,20 +42,11 @@ pub enum ConfigFault {
     OutOfMemory,
 }
 
-/// A fault that stands at a path.
-#[derive(Clone, Copy, Debug, PartialEq, Eq)]
-pub(crate) enum PathFault {
-    MissingKey,
-    WrongType,
-    BadValue,
-    UnknownKey,
-    PortTwice,
-    PeerTwice,
-}
+/// What was read, or why it is refused.
+pub(crate) type Read<T> = Result<T, ConfigFault>;
 
 impl ConfigFault {
-    ghost use Rattle.ripngd_config.specs.Faults.{RefusesAt, config_fault_name, config_fault_number};
-    ghost use Rattle.ripngd_config.specs.Paths.{member_text, path_text};
+    ghost use Rattle.ripngd_config.specs.Faults.{config_fault_name, config_fault_number};
 
     /// The number of the refusal, 1 to 9.
     pub fn number(&self) -> u8
@@ -93,58 +81,12 @@ impl ConfigFault {
             ConfigFault::OutOfMemory => "OutOfMemory",
         }
     }
-
-    /// The fault of the value at a key of a table.
-    pub(crate) fn at(alloc: Global, fault: PathFault, table: TablePath, key: &str) -> ConfigFault
-        ensures { RefusesAt (λ f place. (f ≡ fault) × (place ≡ path_text table ++ key.now)) result }
-    {
-        ConfigFault::of(fault, format!(in alloc; "{table}{key}"))
-    }
-
-    /// The fault of a member of the array at a key of a table.
-    pub(crate) fn at_member(
-        alloc: Global,
-        fault: PathFault,
-        table: TablePath,
-        key: &str,
-        index: usize,
-    ) -> ConfigFault
-        ensures { RefusesAt (λ f place. (f ≡ fault)
-            × (place ≡ member_text (path_text table ++ key.now) index)) result }
-    {
-        ConfigFault::of(fault, format!(in alloc; "{table}{key}[{index}]"))
-    }
-
-    /// The fault at a path, where there was memory for the path.
-    fn of(fault: PathFault, path: Result<String, AllocError>) -> ConfigFault
-        ensures { RefusesAt (λ f place. (f ≡ fault) × IsOkAnd path (λ s. string_bytes s ≡ place)) result }
-    {
-        let Ok(path) = path else {
-            return ConfigFault::OutOfMemory;
-        };
-        match fault {
-            PathFault::MissingKey => ConfigFault::MissingKey(path),
-            PathFault::WrongType => ConfigFault::WrongType(path),
-            PathFault::BadValue => ConfigFault::BadValue(path),
-            PathFault::UnknownKey => ConfigFault::UnknownKey(path),
-            PathFault::PortTwice => ConfigFault::PortTwice(path),
-            PathFault::PeerTwice => ConfigFault::PeerTwice(path),
-        }
-    }
 }
 
 impl From<AllocError> for ConfigFault {
     ghost from_gives = { λ _ fault. fault ≡ OutOfMemory };
 
     fn from(_error: AllocError) -> ConfigFault {
-        ConfigFault::OutOfMemory
-    }
-}
-
-impl<T: Drop> From<AllocFailed<T>> for ConfigFault {
-    ghost from_gives = { λ _ fault. fault ≡ OutOfMemory };
-
-    fn from(_error: AllocFailed<T>) -> ConfigFault {
         ConfigFault::OutOfMemory
     }
 }

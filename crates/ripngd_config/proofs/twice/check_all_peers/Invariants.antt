@@ -1,6 +1,0 @@
-use Rattle.std.proofs.Common.{take}
-use Rattle.ripngd_config.specs.Twice.{AreAllPeersDistinct}
-use Rattle.ripngd_config.proofs.twice.check_all_peers.Given as goal
-
-abbrev pub invariant-loop-index : goal.invariant-loop-index
-invariant-loop-index l = AreAllPeersDistinct (take l.index l.interfaces)

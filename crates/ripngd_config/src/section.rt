@@ -1,0 +1,176 @@
+//! Tables of TOML, read key by key. A value that is missed or that its key may not hold ends the reading: the refusal is a
+//! fault of the table, and has the key's path.
+
+ghost use Rattle.std.specs.Prelude.{◌≡◌, [], true, false, IfErr, IfOk, OnOk, None, Some, is_none, map, option_map};
+ghost use Rattle.toml.specs.Data.{Members, get_member};
+ghost use Rattle.toml.specs.View.{table_view, view};
+ghost use Rattle.ripngd_config.specs.Faults.{ItemHas, KeyHas, RefusesKey, TableHas, UnknownFault};
+ghost use Rattle.ripngd_config.specs.Keys.{HasOnlyOf, Keys, address, number, prefix, sections, truth};
+ghost use Rattle.ripngd_config.specs.Values.{AreSections, IsAddress, IsItem, IsNumber, IsPrefixValue, IsReadAt, IsSomeNumber, IsTruth};
+
+use crate::fault::{ConfigFault, Read};
+use prefix6::{Addr6, Prefix, parse_addr, parse_prefix};
+use std::alloc::{AllocError, Global};
+use toml::{Table, Value};
+
+/// A table, and what stands before each of its keys in a path: `interface[0].peer[1].`, and nothing at the top.
+#[derive(Clone, Copy)]
+pub(crate) struct Section<'a> {
+    pub alloc: Global,
+    pub table: &'a Table,
+    pub path: &'a str,
+}
+
+impl<'a> Section<'a> {
+    /// The value at a key.
+    fn get(&self, key: &str) -> Option<&'a Value>
+        ensures { option_map (λ v. view v.now) result ≡ get_member key.now (table_view self.now.table.now) }
+    {
+        self.table.get(key)
+    }
+
+    fn path_of(&self, key: &str) -> Result<String, AllocError> {
+        let path = self.path;
+        format!(in self.alloc; "{path}{key}")
+    }
+
+    /// The number at a key, from `low` to `high`; with no default the key is required.
+    pub fn number(&self, key: &str, low: u64, high: u64, default: Option<u64>) -> Read<u64>
+        ensures read { IfOk result (IsReadAt (IsNumber low high) key.now default (table_view self.now.table.now)) }
+        ensures fault { IfErr result (RefusesKey (KeyHas key.now (is_none default) (number low high) (table_view self.now.table.now))) }
+    {
+        let Some(value) = self.get(key) else {
+            return default.ok_or(ConfigFault::MissingKey(self.path_of(key)?));
+        };
+        let Some(number) = value.as_integer() else {
+            return Err(ConfigFault::WrongType(self.path_of(key)?));
+        };
+        match u64::try_from(number) {
+            Ok(number) if low <= number && number <= high => Ok(number),
+            _ => Err(ConfigFault::BadValue(self.path_of(key)?)),
+        }
+    }
+
+    /// The number at a key that may be left out, from `low` to 65,535.
+    pub fn optional_number(&self, key: &str, low: u64) -> Read<Option<u16>>
+        ensures read { IfOk result (IsReadAt (IsSomeNumber low 65535) key.now (Some None) (table_view self.now.table.now)) }
+        ensures fault { IfErr result (RefusesKey (KeyHas key.now false (number low 65535) (table_view self.now.table.now))) }
+    {
+        match self.get(key) {
+            Some(_) => Ok(Some(self.number(key, low, 65_535, None)? as u16)),
+            None => Ok(None),
+        }
+    }
+
+    /// The address at a key, which is required.
+    pub fn address(&self, key: &str) -> Read<Addr6>
+        ensures read { IfOk result (IsReadAt IsAddress key.now None (table_view self.now.table.now)) }
+        ensures fault { IfErr result (RefusesKey (KeyHas key.now true address (table_view self.now.table.now))) }
+    {
+        let Some(value) = self.get(key) else {
+            return Err(ConfigFault::MissingKey(self.path_of(key)?));
+        };
+        let Some(text) = value.as_str() else {
+            return Err(ConfigFault::WrongType(self.path_of(key)?));
+        };
+        match parse_addr(text) {
+            Ok(addr) => Ok(addr),
+            Err(_) => Err(ConfigFault::BadValue(self.path_of(key)?)),
+        }
+    }
+
+    /// The prefix at a key, which is required.
+    pub fn prefix(&self, key: &str) -> Read<Prefix>
+        ensures read { IfOk result (IsReadAt IsPrefixValue key.now None (table_view self.now.table.now)) }
+        ensures fault { IfErr result (RefusesKey (KeyHas key.now true prefix (table_view self.now.table.now))) }
+    {
+        let Some(value) = self.get(key) else {
+            return Err(ConfigFault::MissingKey(self.path_of(key)?));
+        };
+        let Some(text) = value.as_str() else {
+            return Err(ConfigFault::WrongType(self.path_of(key)?));
+        };
+        match parse_prefix(text) {
+            Ok(prefix) => Ok(prefix),
+            Err(_) => Err(ConfigFault::BadValue(self.path_of(key)?)),
+        }
+    }
+
+    /// The truth value at a key, or the default.
+    pub fn truth(&self, key: &str, default: bool) -> Read<bool>
+        ensures read { IfOk result (IsReadAt IsTruth key.now (Some default) (table_view self.now.table.now)) }
+        ensures fault { IfErr result (RefusesKey (KeyHas key.now false truth (table_view self.now.table.now))) }
+    {
+        let Some(value) = self.get(key) else {
+            return Ok(default);
+        };
+        match value.as_bool() {
+            Some(truth) => Ok(truth),
+            None => Err(ConfigFault::WrongType(self.path_of(key)?)),
+        }
+    }
+
+    /// Refuses the first key, in the order of bytes, that is not among the known ones.
+    pub fn only(&self, known: &[&str]) -> Read<()>
+        ensures only { OnOk result (HasOnlyOf (map (λ k. k.now) known.now) (table_view self.now.table.now)) }
+        ensures fault { IfErr result (RefusesKey (UnknownFault (map (λ k. k.now) known.now) (table_view self.now.table.now))) }
+    {
+        for key in self.table.keys() {
+            if !known.contains(&key.as_str()) {
+                return Err(ConfigFault::UnknownKey(self.path_of(key.as_str())?));
+            }
+        }
+        Ok(())
+    }
+}
+
+/// What a whole table says.
+pub(crate) trait FromSection: Sized {
+    // The keys of such a table.
+    ghost keys: { Keys };
+
+    // The table is read as the value.
+    ghost is_read: { Members → Self → Type 0 };
+
+    /// Reads each key of the table in order, and refuses any other.
+    fn from_section(section: Section<'_>) -> Read<Self>
+        ensures read { IfOk result (is_read (table_view section.entry.table.now)) }
+        ensures fault { IfErr result (RefusesKey (TableHas keys (table_view section.entry.table.now))) };
+}
+
+/// What a member of the array at a key says, which has to be a table.
+fn member_of<T: FromSection>(section: Section<'_>, key: &str, index: usize, item: &Value) -> Read<T>
+    ensures read { IfOk result (IsItem T.is_read (view item.now)) }
+    ensures fault { IfErr result (RefusesKey (ItemHas (TableHas T.keys) (view item.now))) }
+{
+    let path = section.path;
+    let place = format!(in section.alloc; "{path}{key}[{index}]")?;
+    let Some(table) = item.as_table() else {
+        return Err(ConfigFault::WrongType(place));
+    };
+    let path = format!(in section.alloc; "{place}.")?;
+    T::from_section(Section {
+        table,
+        path: path.as_str(),
+        ..section
+    })
+}
+
+/// What the tables of the array at a key say, in order; none where there is no such key.
+pub(crate) fn tables_at<T: FromSection + Drop>(section: Section<'_>, key: &str) -> Read<Vec<T>>
+    ensures read { IfOk result (λ v. IsReadAt (AreSections T.is_read) key.now (Some []) (table_view section.entry.table.now) v.items) }
+    ensures fault { IfErr result (RefusesKey (KeyHas key.now false (sections T.keys) (table_view section.entry.table.now))) }
+{
+    let Some(value) = section.get(key) else {
+        return Ok(Vec::new(section.alloc));
+    };
+    let Some(array) = value.as_array() else {
+        return Err(ConfigFault::WrongType(section.path_of(key)?));
+    };
+    let items = array.as_slice();
+    let mut tables = Vec::with_capacity(section.alloc, items.len())?;
+    for (index, item) in items.iter().enumerate() {
+        tables.push_reserved(member_of(section, key, index, item)?);
+    }
+    Ok(tables)
+}
