@@ -8,7 +8,7 @@ ghost use Rattle.ripngd_daemon.specs.declared.failure.Failure.TheVariants as fai
 
 use crate::subcommands::{explain_file, lab_file, show_digits, trace_file};
 use clap::error::ErrorKind;
-use ripngd_command_line::{Ask, ask, is_misused, misuse_text};
+use ripngd_command_line::{Ask, ask, misuse_of};
 use ripngd_daemon::{
     Failure, FileSource, History, SystemFiles, check_file, ctl, run, table_file, write_failure,
     write_losses,
@@ -93,17 +93,19 @@ fn outcome<
     ensures failed { IfErr result (FailsWords (map (λ w. w.now) words.entry.now)) }
 {
     match ask(rt.alloc(), words) {
-        Ok(asked) if is_misused(asked) => Ok(write_misuse(asked, err)),
-        Ok(asked) => answer(rt, files, asked, history, out, err),
-        Err(error) => write_clap_text(&error, out, err),
+        Ok(asked) => match misuse_of(asked) {
+            Some(why) => Ok(explain_misuse(why, err)),
+            None => answer(rt, files, asked, &mut ports, out, err, lost),
+        },
+        Err(error) => explain(&error, out, err),
     }
 }
 
 /// Writes to `err` why what is asked makes no sense.
-fn write_misuse<E: Write>(asked: Ask<'_>, err: &mut E) -> Status
+fn explain_misuse<E: Write>(why: &str, err: &mut E) -> Status
     ensures { result ≡ Status.Usage }
 {
-    let _ = err.write_all(misuse_text(asked).as_bytes());
+    let _ = err.write_all(why.as_bytes());
     Status::Usage
 }
 

@@ -1,18 +1,15 @@
 -- What each step in the making of a command leaves it as.
-use Rattle.std.proofs.Common.{◌≡◌, ◌∙◌, ◌||◌, ap, ap₂, true, refl, Result, Option, Some, List, ℕ}
-use Rattle.std.specs.Borrow.{Bor}
+use Rattle.std.proofs.Common.{◌≡◌, ◌∙◌, ◌||◌, ap, ap₂, true, refl, Result}
 use Rattle.std.specs.Prelude.{IfOk}
 use Rattle.std.proofs.lemmas.Result.{IfOk-weaker}
 use Rattle.clap.specs.declared.builder.command.Command.{Command}
-use Rattle.clap.specs.declared.builder.command.Command.TheViews.{out-Command}
-use Rattle.clap.specs.declared.builder.command.Command.TheOpen.{Command-F}
 use Rattle.clap.specs.Walk.{Rule}
-use Rattle.clap.specs.Simple.{App, app_of_fields, is_simple, with_rule, with_subcommand}
+use Rattle.clap.specs.Simple.{App, is_simple, with_rule, with_subcommand}
 use Rattle.clap.specs.Built.{AddsArg, AddsSubcommand}
 use Rattle.clap.specs.declared.builder.arg.Arg.{Arg}
 use Rattle.clap.specs.Faults.{is_simple_and_free}
 use Rattle.clap.proofs.OnLiterals.{clap_on_literals}
-use Rattle.ripngd_command_line.specs.CommandLine.{IsArg, IsCommand, ripngd, subcommand_required, versioned}
+use Rattle.ripngd_command_line.specs.CommandLine.{IsArg, IsCommand, ripngd}
 
 -- an argument is added
 pub arg_added : (old : Command) (a : Arg) (new : Command) (app : App) (r : Rule) → AddsArg old a new → IsArg a r → IsCommand old app → IsCommand new (with_rule app r)
@@ -35,34 +32,6 @@ subcommand_added old sub new app inner h is_sub is = record {
 -- a subcommand is added, where there is memory for it
 pub subcommand_added_ok : {E : Type 0} (old sub : Command) (app inner : App) (new : Result Command E) → IfOk new (AddsSubcommand old sub) → IsCommand sub inner → IsCommand old app → IfOk new (λ c. IsCommand c (with_subcommand app inner.top))
 subcommand_added_ok old sub app inner new h is_sub is = IfOk-weaker new _ _ (λ c added. subcommand_added old sub c app inner added is_sub is) h
-
--- the line that says what a command is for changes nothing that it takes
-pub about_set : (old new : Command) (text : Option (Bor (List ℕ))) (app : App) → out-Command new ≡ record (out-Command old) { about = text } → IsCommand old app → IsCommand new app
-about_set old new text app e is = record {
-  app_is = ap app_of_fields e ∙ is.app_is;
-  local = ap (λ (f : Command-F Command). f.has_globals) e ∙ is.local;
-}
-
--- nor do the sentences at the end of its help
-pub after_help_set : (old new : Command) (text : Option (Bor (List ℕ))) (app : App) → out-Command new ≡ record (out-Command old) { after_help = text } → IsCommand old app → IsCommand new app
-after_help_set old new text app e is = record {
-  app_is = ap app_of_fields e ∙ is.app_is;
-  local = ap (λ (f : Command-F Command). f.has_globals) e ∙ is.local;
-}
-
--- a command that is given a version tells it
-pub version_set : (old new : Command) (text : Bor (List ℕ)) (app : App) → out-Command new ≡ record (out-Command old) { version = Some text } → IsCommand old app → IsCommand new (versioned app)
-version_set old new text app e is = record {
-  app_is = ap app_of_fields e ∙ ap versioned is.app_is;
-  local = ap (λ (f : Command-F Command). f.has_globals) e ∙ is.local;
-}
-
--- a subcommand is required from here on
-pub required_set : (old new : Command) (app : App) → out-Command new ≡ record (out-Command old) { subcommand_required = true } → IsCommand old app → IsCommand new (subcommand_required app)
-required_set old new app e is = record {
-  app_is = ap app_of_fields e ∙ ap subcommand_required is.app_is;
-  local = ap (λ (f : Command-F Command). f.has_globals) e ∙ is.local;
-}
 
 -- the command of ripngd is one whose parse clap tells in full
 pub ripngd_is_simple : is_simple ripngd ≡ true

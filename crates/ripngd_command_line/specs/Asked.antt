@@ -62,13 +62,9 @@ IsFile (Some name) = name ≢ codes "-"
 abbrev pub GoesOnInNoFile : Order → Type 0
 GoesOnInNoFile order = IsTrue order.append × ¬ (IsFile (option_map (λ s. s.now) order.log))
 
--- what is ordered of a log makes no sense, or a number has a sign
-abbrev pub IsMisordered : Order → Type 0
-IsMisordered order = GoesOnInNoFile order ⊎ IsTrue order.signed
-
 -- what is asked makes no sense, though clap takes each word of it, or has a number with a sign
 abbrev pub IsMisused : Ask → Type 0
-IsMisused (asks.Run order) = IsMisordered order
+IsMisused (asks.Run order) = GoesOnInNoFile order ⊎ IsTrue order.signed
 IsMisused _ = ⊥
 
 -- the rows of `ctl` ask this

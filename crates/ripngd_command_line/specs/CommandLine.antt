@@ -1,12 +1,12 @@
 -- The command line of ripngd: its subcommands, with their options and arguments.
-use Rattle.std.specs.Prelude.{◌≡◌, false, [], ◌∷◌, Some, codes, pos, true}
+use Rattle.std.specs.Prelude.{◌≡◌, ℕ, false, [], ◌∷◌, List, Some, codes, pos, true}
 use Rattle.clap.specs.Walk.{Rule, Text, rule_of}
 use Rattle.clap.specs.declared.builder.arg.Arg.{Arg}
 use Rattle.clap.specs.declared.builder.command.Command.{Command}
 use Rattle.clap.specs.declared.builder.command.Command.TheViews.{out-Command}
-use Rattle.clap.specs.declared.builder.action.ArgAction.TheVariants.{SetTrue}
+use Rattle.clap.specs.declared.builder.action.ArgAction.TheVariants.{Set, SetTrue}
 use Rattle.clap.specs.declared.builder.value_parser.ValueParser.TheVariants as parsers
-use Rattle.clap.specs.Simple.{App, app_of, new_app, new_rule, on_top, with_rule, with_subcommand}
+use Rattle.clap.specs.Simple.{App, app_of, new_rule, new_shape}
 
 -- the argument is one of this rule, at its own command alone
 pub record IsArg (arg : Arg) (rule : Rule) : Type 0 where
@@ -18,105 +18,85 @@ pub record IsCommand (command : Command) (app : App) : Type 0 where
   pub app_is : app_of command ≡ app
   pub local : (out-Command command).has_globals ≡ false
 
--- an argument that has to be given, by its place
-abbrev pub positional : Text → Rule
-positional id = record (new_rule id) { required = true }
+-- an option of this name, which is written by a letter
+abbrev pub by_letter : Text → ℕ → Rule
+by_letter name letter = record (new_rule name) { short = Some letter }
+
+-- an option which is written `--name`
+abbrev pub by_name : Text → Rule
+by_name name = record (new_rule name) { long = Some name }
+
+-- the option is a flag
+abbrev pub flag : Rule → Rule
+flag option = record option { action = Some SetTrue }
+
+-- the option has one value
+abbrev pub valued : Rule → Rule
+valued option = record option { action = Some Set; value_names = 1 }
+
+-- the option has one value, a number in this range
+abbrev pub number : ℕ → ℕ → Rule → Rule
+number least most option = record (valued option) { parser = Some (parsers.Signed (pos least) (pos most)) }
+
+-- the option has this value if it is not given
+abbrev pub defaulting : Text → Rule → Rule
+defaulting text option = record option { defaults = text ∷ [] }
 
 -- an argument that may be given, by its place
-abbrev pub optional_rule : Text → Rule
-optional_rule id = new_rule id
+abbrev pub optional : Text → Rule
+optional name = valued (new_rule name)
 
--- `-q`
-abbrev pub quiet_option : Rule
-quiet_option = record (new_rule (codes "quiet")) { short = Some 113; action = Some SetTrue }
+-- an argument that has to be given, by its place
+abbrev pub required : Text → Rule
+required name = record (optional name) { required = true }
 
--- `-d`
-abbrev pub debug_option : Rule
-debug_option = record (new_rule (codes "debug")) { short = Some 100; action = Some SetTrue }
+-- a subcommand with these options and arguments
+abbrev pub subcommand : Text → List Rule → App
+subcommand name rules = record { top = record (new_shape name) { rules = rules }; subs = [] }
 
--- `-t TAG`, from 0 to 65,535; 0 if it is not given
-abbrev pub tag_option : Rule
-tag_option = record (new_rule (codes "tag")) {
-  short = Some 116;
-  value_names = 1;
-  parser = Some (parsers.Signed (pos 0) (pos 65535));
-  defaults = codes "0" ∷ [];
-}
+-- `show HEX`
+abbrev pub show_command : App
+show_command = subcommand (codes "show") (required (codes "HEX") ∷ [])
 
--- `-R FILE`
-abbrev pub log_option : Rule
-log_option = record (new_rule (codes "log")) { short = Some 82; value_names = 1 }
-
--- `--append`
-abbrev pub append_option : Rule
-append_option = record (new_rule (codes "append")) { long = Some (codes "append"); action = Some SetTrue }
-
--- `--turns N`, from 1 to 4,294,967,295, and that if it is not given
-abbrev pub turns_option : Rule
-turns_option = record (new_rule (codes "turns")) {
-  long = Some (codes "turns");
-  value_names = 1;
-  parser = Some (parsers.Signed (pos 1) (pos 4294967295));
-  defaults = codes "4294967295" ∷ [];
-}
-
--- `--seconds N`, from 1 to 4,294,967,295
-abbrev pub seconds_option : Rule
-seconds_option = record (new_rule (codes "seconds")) {
-  long = Some (codes "seconds");
-  value_names = 1;
-  parser = Some (parsers.Signed (pos 1) (pos 4294967295));
-}
-
--- `--control PATH`
-abbrev pub control_option : Rule
-control_option = record (new_rule (codes "control")) { long = Some (codes "control"); value_names = 1 }
-
--- `--trace`
-abbrev pub trace_option : Rule
-trace_option = record (new_rule (codes "trace")) { long = Some (codes "trace"); action = Some SetTrue }
-
--- `--explain`
-abbrev pub explain_option : Rule
-explain_option = record (new_rule (codes "explain")) { long = Some (codes "explain"); action = Some SetTrue }
-
--- a subcommand with one argument
-abbrev pub one_argument : Text → Text → App
-one_argument name id = with_rule (new_app name) (positional id)
-
--- a command that is given only with a subcommand
-abbrev pub subcommand_required : App → App
-subcommand_required a = on_top (λ s. record s { subcommand_required = true }) a
-
--- a command that tells its version
-abbrev pub versioned : App → App
-versioned a = on_top (λ s. record s { has_version = true }) a
+-- `check CONFIG`
+abbrev pub check_command : App
+check_command = subcommand (codes "check") (required (codes "CONFIG") ∷ [])
 
 -- `lab [--trace] [--explain] SCRIPT`
 abbrev pub lab_command : App
-lab_command = with_rule (with_rule (with_rule (new_app (codes "lab")) trace_option) explain_option) (positional (codes "SCRIPT"))
+lab_command = subcommand (codes "lab") (flag (by_name (codes "trace")) ∷ flag (by_name (codes "explain")) ∷ required (codes "SCRIPT") ∷ [])
 
 -- `run [-q] [-d] [-t TAG] [-R FILE] [--append] [--turns N] [--seconds N] [--control PATH] CONFIG`
 abbrev pub run_command : App
-run_command =
-    with_rule (with_rule (with_rule (with_rule (with_rule (with_rule (with_rule (with_rule (with_rule (new_app (codes "run"))
-    quiet_option) debug_option) tag_option) log_option) append_option) turns_option) seconds_option) control_option)
-    (positional (codes "CONFIG"))
+run_command = subcommand (codes "run") (
+    flag (by_letter (codes "quiet") 113)
+    ∷ flag (by_letter (codes "debug") 100)
+    ∷ defaulting (codes "0") (number 0 65535 (by_letter (codes "tag") 116))
+    ∷ valued (by_letter (codes "log") 82)
+    ∷ flag (by_name (codes "append"))
+    ∷ defaulting (codes "4294967295") (number 1 4294967295 (by_name (codes "turns")))
+    ∷ number 1 4294967295 (by_name (codes "seconds"))
+    ∷ valued (by_name (codes "control"))
+    ∷ required (codes "CONFIG")
+    ∷ [])
 
 -- `ctl PATH COMMAND [WHAT] [VALUE] [PORT]`
 abbrev pub ctl_command : App
-ctl_command =
-    with_rule (with_rule (with_rule (with_rule (with_rule (new_app (codes "ctl"))
-    (positional (codes "PATH"))) (positional (codes "COMMAND"))) (optional_rule (codes "WHAT"))) (optional_rule (codes "VALUE")))
-    (optional_rule (codes "PORT"))
+ctl_command = subcommand (codes "ctl") (
+    required (codes "PATH")
+    ∷ required (codes "COMMAND")
+    ∷ optional (codes "WHAT")
+    ∷ optional (codes "VALUE")
+    ∷ optional (codes "PORT")
+    ∷ [])
 
--- `ripngd`, which tells its version, with `show HEX`, `check CONFIG`, `lab`, `run`, `table LOG` or `ctl`
+-- `table LOG`
+abbrev pub table_command : App
+table_command = subcommand (codes "table") (required (codes "LOG") ∷ [])
+
+-- `ripngd`, which tells its version, and is given only with one of these subcommands
 abbrev pub ripngd : App
-ripngd = with_subcommand (with_subcommand (with_subcommand (with_subcommand (with_subcommand (with_subcommand
-    (subcommand_required (versioned (new_app (codes "ripngd"))))
-    (one_argument (codes "show") (codes "HEX")).top)
-    (one_argument (codes "check") (codes "CONFIG")).top)
-    lab_command.top)
-    run_command.top)
-    (one_argument (codes "table") (codes "LOG")).top)
-    ctl_command.top
+ripngd = record {
+  top = record (new_shape (codes "ripngd")) { has_version = true; subcommand_required = true; is_leaf = false };
+  subs = show_command.top ∷ check_command.top ∷ lab_command.top ∷ run_command.top ∷ table_command.top ∷ ctl_command.top ∷ [];
+}

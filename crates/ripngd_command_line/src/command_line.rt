@@ -1,13 +1,8 @@
 //! What the words of a command line ask.
 
 ghost use Rattle.std.specs.Prelude.{◌≡◌, ◌≤◌, ◌↔◌, IfErr, IfOk, IfSome, IsTrue, List, Some, codes, map, option_map, true};
-ghost use Rattle.clap.specs.Faults.{fault_of};
-ghost use Rattle.clap.specs.Kinds.{FailsBy};
-ghost use Rattle.clap.specs.Simple.{subcommand_of};
-ghost use Rattle.clap.specs.Takes.{takes};
-ghost use Rattle.clap.specs.Walk.{Row, Text, first_of, rows_of};
-ghost use Rattle.clap.specs.Words.{found_of, kind_of, subcommand_rows_of};
-ghost use Rattle.ripngd_command_line.specs.Asked.{AreSeconds, Asks, HasNumber, HasSign, HasSignedOrder, IsAsked, IsSet, IsSigned};
+ghost use Rattle.clap.specs.Words.{FailsBy, Row, Text, fault_of, first_of, found_of, kind_of, rows_of, subcommand_rows_of, takes};
+ghost use Rattle.ripngd_command_line.specs.Asked.{AreSeconds, Asks, HasNumber, HasSign, HasSignedOrder, IsAsked, IsSet};
 ghost use Rattle.ripngd_command_line.specs.CommandLine.{ripngd};
 
 use crate::asked::{Ask, Order, Question};
@@ -29,20 +24,9 @@ pub fn ask<'a>(alloc: Global, words: &'a [&'a str]) -> Result<Ask<'a>, Error>
     // An answer comes only where the command finds no fault; an error has the kind of the fault, or is want of memory.
     ensures kinds { FailsBy (fault_of ripngd (map (λ w. w.now) words.entry.now)) result }
 {
-    let matches = matches_of(alloc, words)?;
+    let matches = command(alloc)?.try_get_matches_from(words)?;
     // A parse leaves no required argument without a value, so something is always asked.
     subcommand_asked(&matches).ok_or(Error::from(AllocError))
-}
-
-/// What the command makes of the words.
-fn matches_of<'a>(alloc: Global, words: &'a [&'a str]) -> Result<ArgMatches<'a>, Error>
-    ensures met { IfOk result (λ m. subcommand_rows_of m
-        ≡ subcommand_of ripngd (map (λ w. w.now) words.entry.now)) }
-    ensures taken { IfErr result (λ e. takes ripngd (map (λ w. w.now) words.entry.now) ≡ true
-        → kind_of e ≡ ErrorKind.OutOfMemory) }
-    ensures kinds { FailsBy (fault_of ripngd (map (λ w. w.now) words.entry.now)) result }
-{
-    command(alloc)?.try_get_matches_from(words)
 }
 
 /// The subcommand that was met, with its arguments.
@@ -64,7 +48,13 @@ fn asked_of<'a>(name: &'a str, matches: &ArgMatches<'a>) -> Option<Ask<'a>>
         "lab" => lab_asked(matches),
         "run" => run_asked(matches),
         "table" => Some(Ask::Table(text(matches, "LOG")?)),
-        "ctl" => ctl_asked(matches),
+        "ctl" => Some(Ask::Ctl(Question {
+            socket: text(matches, "PATH")?,
+            command: text(matches, "COMMAND")?,
+            what: text(matches, "WHAT"),
+            value: text(matches, "VALUE"),
+            port: text(matches, "PORT"),
+        })),
         _ => None,
     }
 }
@@ -90,27 +80,14 @@ fn run_asked<'a>(matches: &ArgMatches<'a>) -> Option<Ask<'a>>
     Some(Ask::Run(Order {
         quiet: is_set(matches, "quiet"),
         debug: is_set(matches, "debug"),
-        tag: tag_given(matches)?,
+        tag: u16::try_from(number(matches, "tag", 0)?).ok()?,
         log: text(matches, "log"),
         append: is_set(matches, "append"),
-        turns: turns_given(matches)?,
-        seconds: seconds_given(matches)?,
+        turns: number(matches, "turns", 1)?,
+        seconds: seconds(matches)?,
         control: text(matches, "control"),
         config: text(matches, "CONFIG")?,
         signed: has_signed_order(matches),
-    }))
-}
-
-/// A question to a router that runs, in its words.
-fn ctl_asked<'a>(matches: &ArgMatches<'a>) -> Option<Ask<'a>>
-    ensures { IfSome result (λ a. IsAsked a (codes "ctl") (rows_of (found_of matches.now))) }
-{
-    Some(Ask::Ctl(Question {
-        socket: text(matches, "PATH")?,
-        command: text(matches, "COMMAND")?,
-        what: text(matches, "WHAT"),
-        value: text(matches, "VALUE"),
-        port: text(matches, "PORT"),
     }))
 }
 
@@ -128,19 +105,31 @@ fn is_set(matches: &ArgMatches<'_>, id: &str) -> bool
     matches.get_one::<bool>(id).unwrap_or(false)
 }
 
-/// Whether a number is written with a sign.
-fn is_signed(number: &str) -> bool
-    ensures { IsTrue result ↔ IsSigned (Some number.now) }
+/// The number of an option, which is at least that.
+fn number(matches: &ArgMatches<'_>, id: &str, least: u32) -> Option<u32>
+    ensures number { IfSome result (HasNumber (rows_of (found_of matches.now)) id.now) }
+    ensures least { IfSome result (λ n. least ≤ n) }
 {
-    matches!(number.as_bytes().first().copied(), Some(b'+' | b'-'))
+    let number = matches.get_one::<u32>(id)?;
+    if number < least { None } else { Some(number) }
 }
 
-/// Whether an argument has a number that is written with a sign.
+/// The seconds that were given, or that none were.
+fn seconds(matches: &ArgMatches<'_>) -> Option<Option<u32>>
+    ensures { IfSome result (λ seconds. AreSeconds seconds (rows_of (found_of matches.now))) }
+{
+    match text(matches, "seconds") {
+        Some(_) => Some(Some(number(matches, "seconds", 1)?)),
+        None => Some(None),
+    }
+}
+
+/// Whether an option has a number that is written with a sign.
 fn has_sign(matches: &ArgMatches<'_>, id: &str) -> bool
     ensures { IsTrue result ↔ HasSign (rows_of (found_of matches.now)) id.now }
 {
     match text(matches, id) {
-        Some(number) => is_signed(number),
+        Some(number) => matches!(number.as_bytes().first().copied(), Some(b'+' | b'-')),
         None => false,
     }
 }
@@ -150,33 +139,4 @@ fn has_signed_order(matches: &ArgMatches<'_>) -> bool
     ensures { IsTrue result ↔ HasSignedOrder (rows_of (found_of matches.now)) }
 {
     has_sign(matches, "tag") || has_sign(matches, "turns") || has_sign(matches, "seconds")
-}
-
-fn tag_given(matches: &ArgMatches<'_>) -> Option<u16>
-    ensures { IfSome result (HasNumber (rows_of (found_of matches.now)) (codes "tag")) }
-{
-    matches.get_one::<u16>("tag")
-}
-
-fn turns_given(matches: &ArgMatches<'_>) -> Option<u32>
-    ensures number { IfSome result (HasNumber (rows_of (found_of matches.now)) (codes "turns")) }
-    ensures some { IfSome result (λ n. 1 ≤ n) }
-{
-    let turns = matches.get_one::<u32>("turns")?;
-    if turns == 0 { None } else { Some(turns) }
-}
-
-/// The seconds that were given, or that none were.
-fn seconds_given(matches: &ArgMatches<'_>) -> Option<Option<u32>>
-    ensures { IfSome result (λ seconds. AreSeconds seconds (rows_of (found_of matches.now))) }
-{
-    if text(matches, "seconds").is_none() {
-        return Some(None);
-    }
-    let seconds = matches.get_one::<u32>("seconds")?;
-    if seconds == 0 {
-        None
-    } else {
-        Some(Some(seconds))
-    }
 }

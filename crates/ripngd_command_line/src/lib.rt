@@ -5,10 +5,9 @@ mod asked;
 mod command_line;
 mod help;
 mod misuse;
-mod options;
 mod subcommands;
 
 pub use asked::{Ask, Order, Question};
 pub use command_line::ask;
 pub use help::VERSION;
-pub use misuse::{is_misused, misuse_text};
+pub use misuse::misuse_of;

@@ -1,31 +1,31 @@
-//! The command that the program's words are given to, and its subcommands.
+//! The command that the program's words are given to: its subcommands, with their options and arguments.
 
-ghost use Rattle.std.specs.Prelude.{IfOk, codes};
-ghost use Rattle.clap.specs.Simple.{App, with_subcommand};
-ghost use Rattle.ripngd_command_line.specs.CommandLine.{IsCommand, ctl_command, lab_command, one_argument, ripngd, run_command};
+ghost use Rattle.std.specs.Prelude.{◌≡◌, IfOk, Some, pos};
+ghost use Rattle.clap.specs.declared.builder.value_parser.ValueParser.TheVariants as parsers;
+ghost use Rattle.ripngd_command_line.specs.CommandLine.{IsCommand, check_command, ctl_command, lab_command, ripngd, run_command, show_command, table_command};
 
 use crate::help;
-use crate::options::{
-    append, control, debug, explain, log, optional, quiet, required, seconds, tag, trace, turns,
-};
-use clap::Command;
+use clap::{Arg, Command, arg, value_parser};
 use std::alloc::{AllocError, Global};
 
-/// A subcommand with one argument.
-fn with_one<'a>(
-    alloc: Global,
-    name: &'a str,
-    about: &'a str,
-    more: &'a str,
-    id: &'a str,
-    help: &'a str,
-) -> Result<Command<'a>, AllocError>
-    ensures { IfOk result (λ c. IsCommand c (one_argument name.entry.now id.entry.now)) }
+/// `show HEX`.
+fn show<'a>(alloc: Global) -> Result<Command<'a>, AllocError>
+    ensures { IfOk result (λ c. IsCommand c show_command) }
 {
-    Command::new(alloc, name)
-        .about(about)
-        .after_help(more)
-        .arg(required(alloc, id, help))
+    Command::new(alloc, "show")
+        .about("Decode one datagram, given as hexadecimal digits")
+        .after_help(help::SHOW)
+        .arg(arg!(in alloc; <HEX> "Its bytes, two digits of either case for each"))
+}
+
+/// `check CONFIG`.
+fn check<'a>(alloc: Global) -> Result<Command<'a>, AllocError>
+    ensures { IfOk result (λ c. IsCommand c check_command) }
+{
+    Command::new(alloc, "check")
+        .about("Read a configuration, and say whether a router can run on it")
+        .after_help(help::CHECK)
+        .arg(arg!(in alloc; <CONFIG> "The file that holds it"))
 }
 
 /// `lab [--trace] [--explain] SCRIPT`.
@@ -35,9 +35,18 @@ fn lab<'a>(alloc: Global) -> Result<Command<'a>, AllocError>
     Command::new(alloc, "lab")
         .about("Run the network of routers that a script describes")
         .after_help(help::LAB)
-        .arg(trace(alloc))?
-        .arg(explain(alloc))?
-        .arg(required(alloc, "SCRIPT", "The file that holds it"))
+        .arg(arg!(in alloc; --trace
+            "Print a line of JSON for all that happens, in place of what the script prints"))?
+        .arg(arg!(in alloc; --explain
+            "Print a line of English for all that happens, beside what the script prints"))?
+        .arg(arg!(in alloc; <SCRIPT> "The file that holds it"))
+}
+
+/// The option with a number from 1 to 4,294,967,295 as its value.
+fn counted<'a>(option: Arg<'a>) -> Arg<'a>
+    ensures { result ≡ record option.entry { value_parser = Some (parsers.Signed (pos 1) (pos 4294967295)) } }
+{
+    option.value_parser(value_parser!(u32).range(1..))
 }
 
 /// `run [-q] [-d] [-t TAG] [-R FILE] [--append] [--turns N] [--seconds N] [--control PATH] CONFIG`.
@@ -47,15 +56,26 @@ fn run<'a>(alloc: Global) -> Result<Command<'a>, AllocError>
     Command::new(alloc, "run")
         .about("Run one router over UDP on loopback")
         .after_help(help::RUN)
-        .arg(quiet(alloc))?
-        .arg(debug(alloc))?
-        .arg(tag(alloc))?
-        .arg(log(alloc))?
-        .arg(append(alloc))?
-        .arg(turns(alloc))?
-        .arg(seconds(alloc))?
-        .arg(control(alloc))?
-        .arg(required(alloc, "CONFIG", "The file of its configuration"))
+        .arg(arg!(in alloc; quiet: -'q' "Send no Requests and no updates, and answer no router"))?
+        .arg(arg!(in alloc; debug: -'d'
+            "Write each refused datagram and entry to standard error, and counts at the end"))?
+        .arg(
+            arg!(in alloc; tag: -'t' <TAG> "The route tag of each owned prefix that CONFIG gives none")
+                .value_parser(value_parser!(u16))
+                .default_value("0"),
+        )?
+        .arg(arg!(in alloc; log: -'R' <FILE>
+            "Write a line to FILE at each change of a route; what FILE held is lost, but for --append"))?
+        .arg(arg!(in alloc; --append
+            "Keep what the FILE of -R holds, and write a line `start` behind it"))?
+        .arg(counted(arg!(in alloc; --turns <N>
+            "End after N turns, each with one datagram at most, and print the forwarding table"))
+        .default_value("4294967295"))?
+        .arg(counted(arg!(in alloc; --seconds <N>
+            "End after N seconds, as after the last turn, if that comes first")))?
+        .arg(arg!(in alloc; --control <PATH>
+            "Listen at a Unix socket, which is made at PATH, for what `ctl` asks and tells"))?
+        .arg(arg!(in alloc; <CONFIG> "The file of its configuration"))
 }
 
 /// `ctl PATH COMMAND [WHAT] [VALUE] [PORT]`.
@@ -65,87 +85,36 @@ fn ctl<'a>(alloc: Global) -> Result<Command<'a>, AllocError>
     Command::new(alloc, "ctl")
         .about("Ask a router that runs, or tell it something")
         .after_help(help::CTL)
-        .arg(required(alloc, "PATH", "The socket that `run --control` listens at"))?
-        .arg(required(alloc, "COMMAND", "The command, as `routes` or `cost`"))?
-        .arg(optional(
-            alloc,
-            "WHAT",
-            "The interface or the prefix that it is about",
-        ))?
-        .arg(optional(
-            alloc,
-            "VALUE",
-            "The cost, the tag, or the address of a neighbor",
-        ))?
-        .arg(optional(alloc, "PORT", "The port of a neighbor"))
-}
-
-/// `show HEX`.
-fn show<'a>(alloc: Global) -> Result<Command<'a>, AllocError>
-    ensures { IfOk result (λ c. IsCommand c (one_argument (codes "show") (codes "HEX"))) }
-{
-    with_one(
-        alloc,
-        "show",
-        "Decode one datagram, given as hexadecimal digits",
-        help::SHOW,
-        "HEX",
-        "Its bytes, two digits of either case for each",
-    )
-}
-
-/// `check CONFIG`.
-fn check<'a>(alloc: Global) -> Result<Command<'a>, AllocError>
-    ensures { IfOk result (λ c. IsCommand c (one_argument (codes "check") (codes "CONFIG"))) }
-{
-    with_one(
-        alloc,
-        "check",
-        "Read a configuration, and say whether a router can run on it",
-        help::CHECK,
-        "CONFIG",
-        "The file that holds it",
-    )
+        .arg(arg!(in alloc; <PATH> "The socket that `run --control` listens at"))?
+        .arg(arg!(in alloc; <COMMAND> "The command, as `routes` or `cost`"))?
+        .arg(arg!(in alloc; [WHAT] "The interface or the prefix that it is about"))?
+        .arg(arg!(in alloc; [VALUE] "The cost, the tag, or the address of a neighbor"))?
+        .arg(arg!(in alloc; [PORT] "The port of a neighbor"))
 }
 
 /// `table LOG`.
 fn table<'a>(alloc: Global) -> Result<Command<'a>, AllocError>
-    ensures { IfOk result (λ c. IsCommand c (one_argument (codes "table") (codes "LOG"))) }
+    ensures { IfOk result (λ c. IsCommand c table_command) }
 {
-    with_one(
-        alloc,
-        "table",
-        "Print the forwarding table that a log makes, also while its router runs",
-        help::TABLE,
-        "LOG",
-        "The file that `run -R` writes it to",
-    )
-}
-
-/// A command with a subcommand more.
-fn with<'a>(
-    command: Command<'a>,
-    subcommand: Result<Command<'a>, AllocError>,
-) -> Result<Command<'a>, AllocError>
-    ensures { (app inner : App) → IsCommand command.entry app → IfOk subcommand.entry (λ c. IsCommand c inner)
-        → IfOk result (λ c. IsCommand c (with_subcommand app inner.top)) }
-{
-    command.subcommand(subcommand?)
+    Command::new(alloc, "table")
+        .about("Print the forwarding table that a log makes, also while its router runs")
+        .after_help(help::TABLE)
+        .arg(arg!(in alloc; <LOG> "The file that `run -R` writes it to"))
 }
 
 /// The command that the program's words are given to.
 pub(crate) fn command<'a>(alloc: Global) -> Result<Command<'a>, AllocError>
     ensures { IfOk result (λ c. IsCommand c ripngd) }
 {
-    let command = Command::new(alloc, "ripngd")
+    Command::new(alloc, "ripngd")
         .about("A router for RIPng, the distance vector protocol of IPv6 (RFC 2080)")
         .after_help(help::PROGRAM)
         .version(help::VERSION)
-        .subcommand_required(true);
-    let command = with(command, show(alloc))?;
-    let command = with(command, check(alloc))?;
-    let command = with(command, lab(alloc))?;
-    let command = with(command, run(alloc))?;
-    let command = with(command, table(alloc))?;
-    with(command, ctl(alloc))
+        .subcommand_required(true)
+        .subcommand(show(alloc)?)?
+        .subcommand(check(alloc)?)?
+        .subcommand(lab(alloc)?)?
+        .subcommand(run(alloc)?)?
+        .subcommand(table(alloc)?)?
+        .subcommand(ctl(alloc)?)
 }

@@ -1,18 +1,20 @@
-use Rattle.std.proofs.Common.{codes}
-use Rattle.clap.specs.Simple.{new_app}
+use Rattle.std.proofs.Common.{codes, rules, true, []}
+use Rattle.clap.specs.Simple.{new_shape}
 use Rattle.ripngd_command_line.specs.CommandLine.{IsCommand}
-use Rattle.ripngd_command_line.proofs.Commands.{about_set, after_help_set, required_set, version_set}
+use Rattle.ripngd_command_line.proofs.Commands.{subcommand_added, subcommand_added_ok}
 use Rattle.ripngd_command_line.proofs.subcommands.command.Goals as goal
+use Rattle.ripngd_command_line.proofs.subcommands.command.Goals.{After-subcommand_required}
+
+begun_is : (c : After-subcommand_required)
+    → IsCommand c.subcommand_required.result (record { top = record (new_shape (codes "ripngd")) { has_version = true; subcommand_required = true }; subs = [] })
+begun_is c = record { app_is = search rules; local = search rules }
 
 pub returns : goal.returns
 returns c =
-    let made : IsCommand c.new.result (new_app (codes "ripngd")) = record { app_is = c.new.ensures.app; local = c.new.ensures.local } in
-    let helped = after_help_set _ _ _ _ c.after_help.ensures (about_set _ _ _ _ c.about.ensures made) in
-    let told = version_set _ _ _ _ c.version.ensures helped in
-    let s0 = required_set _ _ _ c.subcommand_required-command.ensures told in
-    let s1 = c.in_ok-command.ensures _ _ s0 c.show.ensures in
-    let s2 = c.in_ok-command-2.ensures _ _ s1 c.check.ensures in
-    let s3 = c.in_ok-command-3.ensures _ _ s2 c.lab.ensures in
-    let s4 = c.in_ok-command-4.ensures _ _ s3 c.run.ensures in
-    let s5 = c.in_ok-command-5.ensures _ _ s4 c.table.ensures in
-    c.with-6.ensures _ _ s5 c.ctl.ensures
+    let s0 = begun_is (goal.at.returns c).After-subcommand_required in
+    let s1 = subcommand_added _ _ _ _ _ c.in_ok-subcommand.ensures c.in_ok-show.ensures s0 in
+    let s2 = subcommand_added _ _ _ _ _ c.in_ok-subcommand-2.ensures c.in_ok-check.ensures s1 in
+    let s3 = subcommand_added _ _ _ _ _ c.in_ok-subcommand-3.ensures c.in_ok-lab.ensures s2 in
+    let s4 = subcommand_added _ _ _ _ _ c.in_ok-subcommand-4.ensures c.in_ok-run.ensures s3 in
+    let s5 = subcommand_added _ _ _ _ _ c.in_ok-subcommand-5.ensures c.in_ok-table.ensures s4 in
+    subcommand_added_ok _ _ _ _ c.subcommand-6.result c.subcommand-6.ensures c.in_ok-ctl.ensures s5
