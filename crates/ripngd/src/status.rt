@@ -94,15 +94,15 @@ fn outcome<
 {
     match ask(rt.alloc(), words) {
         Ok(asked) => match misuse_of(asked) {
-            Some(why) => Ok(explain_misuse(why, err)),
-            None => answer(rt, files, asked, &mut ports, out, err, lost),
+            Some(why) => Ok(write_misuse(why, err)),
+            None => answer(rt, files, asked, history, out, err),
         },
-        Err(error) => explain(&error, out, err),
+        Err(error) => write_clap_text(&error, out, err),
     }
 }
 
 /// Writes to `err` why what is asked makes no sense.
-fn explain_misuse<E: Write>(why: &str, err: &mut E) -> Status
+fn write_misuse<E: Write>(why: &str, err: &mut E) -> Status
     ensures { result ≡ Status.Usage }
 {
     let _ = err.write_all(why.as_bytes());
