@@ -1,6 +1,6 @@
 -- What follows from how a write or a test ended.
 use Rattle.std.proofs.Common.{◌≡◌, ◌++◌, ℕ, Bool, true, false, List, [], ◌∷◌, Option, Some, Result, Ok, Err, refl, subst, sym}
-use Rattle.std.specs.Prelude.{◌==◌, IsOk, OnOk, codes, is_err, not}
+use Rattle.std.specs.Prelude.{◌==◌, IsOk, OnOk, codes, is_err}
 use Rattle.ripngd_engine.specs.Seen.{Seen}
 use Rattle.ripngd_control.specs.Answers.{AnswersCommand, GainsLines}
 use Rattle.ripngd_control.specs.Printed.{counts_text, losses_text, neighbors_text, reply_line, row_lines, tally_text}
@@ -21,13 +21,9 @@ pub was_no_err : {X E P : Type 0} (r : Result X E) → is_err r ≡ false → On
 was_no_err (Ok x) well h = h
 was_no_err (Err e) well h = absurd (cc)
 
-pub not_muted : {P : Type 0} (b : Bool) → not b ≡ true → b ≡ true → P
-not_muted true h is = absurd (cc)
-not_muted false h is = absurd (cc)
-
-pub muted : {P : Type 0} (b : Bool) → not b ≡ false → b ≡ false → P
-muted true h is = absurd (cc)
-muted false h is = absurd (cc)
+pub apart : {P : Type 0} (b : Bool) → b ≡ false → b ≡ true → P
+apart true h is = absurd (cc)
+apart false h is = absurd (cc)
 
 -- the lines of others stand behind those of the rows
 pub others_said : (n : Neighbors) (rows : List Neighbor) → rows ≡ n.rows.items → (n.others.arrivals == 0) ≡ false

@@ -1,5 +1,5 @@
 -- Pieces of what is shown: routes that follow one another, and the entries behind a prefix.
-use Rattle.std.proofs.Common.{◌≡◌, ◌≢◌, ◌<◌, ◌≤◌, ◌+◌, ◌-◌, ◌∙◌, ℕ, zero, suc, Bool, true, false, List, [], ◌∷◌, ◌++◌, map as each, take, drop, length, length-drop, min, get_or, Option, Some, None, refl, sym, ap, subst, arith, append-nil, inl, inr}
+use Rattle.std.proofs.Common.{◌≡◌, ◌≢◌, ◌<◌, ◌≤◌, ◌+◌, ◌-◌, ◌∙◌, ℕ, zero, suc, true, false, List, [], ◌∷◌, ◌++◌, map as each, take, drop, length, length-drop, min, get_or, Option, Some, None, refl, sym, ap, subst, arith, append-nil, inl, inr}
 use Rattle.std.specs.Prelude.{codes, decimal, flat_map}
 use Rattle.std.specs.List.Sorted.{IsPartitionedBy, IsPartitionPoint}
 use Rattle.std.specs.Ordering.{is_le}
@@ -17,7 +17,7 @@ use Rattle.prefix6.specs.Places.{prefix_at}
 use Rattle.prefix6.specs.Written.{written_addr}
 use Rattle.prefix6.proofs.PrefixLaws.{prefixes_total, exact_prefixes}
 use Rattle.prefix6.proofs.SortedEntries.{sorted_at}
-use Rattle.fib.specs.Entries.{Entry, at_prefix, fib_entry, listed, AreInOrder, AreAllPast, AreUpTo}
+use Rattle.fib.specs.Entries.{Entry, at_prefix, fib_entry, listed, AreInOrder}
 use Rattle.fib.specs.Forwarding.{Forward, Forwarding}
 use Rattle.route_table.specs.Route.{RouteValue}
 use Rattle.route_table.specs.Table.{Table, first_past}

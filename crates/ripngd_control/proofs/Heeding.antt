@@ -1,6 +1,5 @@
 -- What a line that was taken in does to a router.
-use Rattle.std.proofs.Common.{◌≡◌, ℕ, List, [], ◌∷◌, ◌++◌, Option, Some, None, refl, subst, inl, inr}
-use Rattle.std.specs.Prelude.{codes}
+use Rattle.std.proofs.Common.{ℕ, List, Option, Some, None, refl, inl, inr}
 use Rattle.ripngd_engine.specs.Seen.{Seen}
 use Rattle.ripngd_control.specs.Answers.{AnswersCommand}
 use Rattle.ripngd_control.specs.Clients.{Heeds, TakesIn}
@@ -23,8 +22,3 @@ module _ (counts : Counts) (heard : Neighbors) (lost : Losses) (bytes : List ℕ
   heeds (Some commands.Stop) took h = inr (control_text commands.Stop, took.1, inl h.0)
   heeds (Some (commands.Link c)) took h = inr (control_text (commands.Link c), took.1, inl h.0)
   heeds (Some (commands.Reconfigure c)) took h = inr (control_text (commands.Reconfigure c), took.1, inr (c, h.0, refl, h.1))
-
--- where it is `stop`, that is the last line
-pub stops : (command : Option Command) (bytes : List ℕ) (lines taken : List (List ℕ)) → TakesIn command bytes lines taken → command ≡ Some commands.Stop
-    → taken ≡ lines ++ codes "stop" ∷ []
-stops command bytes lines taken took is = (subst (λ c. TakesIn c bytes lines taken) is took).1

@@ -87,6 +87,7 @@ pub struct Losses {
     pub strangers: u64,
 }
 
+/// `log failed` on a line of its own, if it did.
 fn failed_log_text(failed: bool) -> &'static str
     ensures { result.now ≡ (if failed then codes "\nlog failed" else []) }
 {

@@ -1,6 +1,6 @@
 //! Lines of routes and of a forwarding table, a piece at a time, so that a long answer holds nobody up.
 
-ghost use Rattle.std.specs.Prelude.{◌≡◌, ◌≤◌, [], IfOk, OnOk, Some, codes, if◌then◌else◌, length};
+ghost use Rattle.std.specs.Prelude.{◌≡◌, ◌≤◌, IfOk, OnOk, Some, length};
 ghost use Rattle.std.specs.Io.KnownBytes.{Appends};
 ghost use Rattle.fib.specs.Entries.{AreInOrder};
 ghost use Rattle.ripngd_control.specs.Answers.{IsPast, ShowsEntries, ShowsRoutes};
@@ -61,13 +61,6 @@ impl Display for ClockText {
     }
 }
 
-/// ` marked`, if a route is.
-fn mark_text(marked: bool) -> &'static str
-    ensures { result.now ≡ (if marked then codes " marked" else []) }
-{
-    if marked { " marked" } else { "" }
-}
-
 impl Display for RouteStatus {
     ghost output = { λ s. Some (status_text s.prefix s.route s.moment) };
 
@@ -77,7 +70,11 @@ impl Display for RouteStatus {
         let tag = self.route.tag();
         let origin = OriginText(self.route.origin());
         let clock = ClockText(self.route.clock(), self.moment);
-        let mark = mark_text(self.route.is_changed());
+        let mark = if self.route.is_changed() {
+            " marked"
+        } else {
+            ""
+        };
         write!(
             f,
             "{prefix} metric {metric} tag {tag} {origin} {clock}{mark}"

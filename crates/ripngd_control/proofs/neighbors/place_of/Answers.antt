@@ -1,4 +1,4 @@
-use Rattle.std.proofs.Common.{◌∙◌, ◌+◌, arith, sym}
+use Rattle.std.proofs.Common.{◌∙◌, arith, sym}
 use Rattle.ripngd_control.specs.Watching.{is_of}
 use Rattle.ripngd_control.proofs.Places.{place_here, place_past, place_step}
 use Rattle.ripngd_control.proofs.neighbors.place_of.Goals as goal

@@ -1,4 +1,4 @@
-use Rattle.std.proofs.Common.{◌≡◌, ◌<◌, ℕ, take, length}
+use Rattle.std.proofs.Common.{take}
 use Rattle.ripngd_control.specs.Watching.{Refused, notes_of}
 use Rattle.ripngd_control.proofs.refusals.Refusals.count_notes.Given as goal
 
