@@ -1,5 +1,5 @@
 -- What a refusal says, said of a table or a text around it.
-use Rattle.std.proofs.Common.{◌≡◌, ◌∙◌, ℕ, List, Err, IfErr, Result, Some}
+use Rattle.std.proofs.Common.{◌≡◌, ℕ, List, Some}
 use Rattle.toml.specs.Data.{Members}
 use Rattle.toml.specs.Parse.{parse_document}
 use Rattle.ripngd_config.specs.Configuration.{RefusesText}
