@@ -1,10 +1,5 @@
--- What a refusal says, said of a table or a text around it.
-use Rattle.std.proofs.Common.{◌≡◌, ◌∙◌, ℕ, List, Err, IfErr, Result, Some}
-use Rattle.toml.specs.Data.{Members}
-use Rattle.toml.specs.Parse.{parse_document}
-use Rattle.ripngd_config.specs.Configuration.{RefusesText}
-use Rattle.ripngd_config.specs.Faults.{RefusesKey, TableHas}
-use Rattle.ripngd_config.specs.Keys.{document_keys}
+-- What is wrong with a part, said of what it is a part of.
+use Rattle.ripngd_config.specs.Faults.{RefusesKey}
 use Rattle.ripngd_config.specs.declared.fault.ConfigFault.{ConfigFault}
 use Rattle.ripngd_config.specs.declared.fault.ConfigFault.TheVariants.{BadToml, MissingKey, WrongType, BadValue, UnknownKey, Router, PortTwice, PeerTwice, OutOfMemory}
 
@@ -18,15 +13,3 @@ key_refuses P Q then (Router refused named) h = h
 key_refuses P Q then (PortTwice path) h = h
 key_refuses P Q then (PeerTwice path) h = h
 key_refuses P Q then OutOfMemory h = h
-
--- the tables of a text
-pub text_refuses : (text : List ℕ) (ms : Members) (f : ConfigFault) → parse_document text ≡ Some ms → RefusesKey (TableHas document_keys ms) f → RefusesText text f
-text_refuses text ms (BadToml place) parsed h = absurd h
-text_refuses text ms (MissingKey path) parsed h = (ms, parsed, h)
-text_refuses text ms (WrongType path) parsed h = (ms, parsed, h)
-text_refuses text ms (BadValue path) parsed h = (ms, parsed, h)
-text_refuses text ms (UnknownKey path) parsed h = (ms, parsed, h)
-text_refuses text ms (Router refused named) parsed h = h
-text_refuses text ms (PortTwice path) parsed h = h
-text_refuses text ms (PeerTwice path) parsed h = h
-text_refuses text ms OutOfMemory parsed h = h

@@ -30,67 +30,67 @@ config_fault_name (PortTwice path) = codes "PortTwice"
 config_fault_name (PeerTwice path) = codes "PeerTwice"
 config_fault_name OutOfMemory = codes "OutOfMemory"
 
--- ---- what is wrong with a value
+-- ---- which fault a value has, by what its key holds
 
 -- an integer below the least or above the greatest
 abbrev pub IsOutside : ℕ → ℕ → ℤ → Type 0
 IsOutside low high (pos n) = (n < low) ⊎ (high < n)
 IsOutside low high (negsuc n) = ⊤
 
--- a value that is no integer, or an integer that is not from low to high
+-- a number from low to high: the value is no integer, or one that is outside
 abbrev pub NumberHas : ℕ → ℕ → Data → ConfigFault → Type 0
 NumberHas low high d (WrongType path) = as_integer d ≡ None
 NumberHas low high d (BadValue path) = IsSomeAnd (as_integer d) (IsOutside low high)
 NumberHas low high d _ = ⊥
 
--- a value that is no text, or a text that names nothing
+-- a text of an address or a prefix: the value is no text, or one that names nothing
 abbrev pub TextHas : {X : Type 0} → (List ℕ → X → Type 0) → Data → ConfigFault → Type 0
 TextHas Names d (WrongType path) = as_str d ≡ None
 TextHas {X = X} Names d (BadValue path) = IsSomeAnd (as_str d) (λ text. (x : X) → ¬ (Names text x))
 TextHas Names d _ = ⊥
 
--- a value that is no truth value
+-- a truth value: the value is none
 abbrev pub TruthHas : Data → ConfigFault → Type 0
 TruthHas d (WrongType path) = as_bool d ≡ None
 TruthHas d _ = ⊥
 
--- ---- what is wrong with a table
+-- ---- which fault a table has, by its keys
 
--- it is for the type of a value
+-- the type is wrong
 abbrev pub IsWrongType : ConfigFault → Type 0
 IsWrongType (WrongType path) = ⊤
 IsWrongType _ = ⊥
 
--- a key that is absent, and required
+-- the key is absent, and required
 abbrev pub AbsentHas : Bool → ConfigFault → Type 0
 AbsentHas required (MissingKey path) = required ≡ true
 AbsentHas required _ = ⊥
 
--- a key that is not among the names
+-- a key is not among the names
 abbrev pub HasOther : List (List ℕ) → Members → Type 0
 HasOther names no_members = ⊥
 HasOther names (member name d ms) = (is_listed names name ≡ false) ⊎ HasOther names ms
 
--- a table with such a key
-abbrev pub UnknownFault : List (List ℕ) → Members → ConfigFault → Type 0
-UnknownFault names ms (UnknownKey path) = HasOther names ms
-UnknownFault names ms _ = ⊥
+-- the table has such a key
+abbrev pub OtherHas : List (List ℕ) → Members → ConfigFault → Type 0
+OtherHas names ms (UnknownKey path) = HasOther names ms
+OtherHas names ms _ = ⊥
 
--- a member of an array of tables: it is no table, or has the fault of one
+-- the member of an array is no table, or is one that has the fault
 abbrev pub ItemHas : (Members → ConfigFault → Type 0) → Data → ConfigFault → Type 0
 ItemHas Has d f = MatchOption (as_table d) (IsWrongType f) (λ ms. Has ms f)
 
--- one of them
+-- one of the members has
 abbrev pub ItemsHave : (Members → ConfigFault → Type 0) → Items → ConfigFault → Type 0
 ItemsHave Has no_items f = ⊥
 ItemsHave Has (item d ds) f = ItemHas Has d f ⊎ ItemsHave Has ds f
 
--- a value that is no array, or has such a member
+-- the value is no array, or a member of it has
 abbrev pub ArrayHas : (Members → ConfigFault → Type 0) → Data → ConfigFault → Type 0
 ArrayHas Has d f = MatchOption (as_array d) (IsWrongType f) (λ ds. ItemsHave Has ds f)
 
 abbrev mutual
-  -- a value of a kind
+  -- the value of a kind has the fault
   pub KindHas : Kind → Data → ConfigFault → Type 0
   KindHas (number low high) d f = NumberHas low high d f
   KindHas address d f = TextHas Reads d f
@@ -98,17 +98,17 @@ abbrev mutual
   KindHas truth d f = TruthHas d f
   KindHas (sections keys) d f = ArrayHas (λ ms g. KeysHave (names_of keys) keys ms g) d f
 
-  -- a table, one of whose keys has the fault, or which has a key that is not among the names
+  -- one of the keys has it, or the table has a key that is not among the names
   pub KeysHave : List (List ℕ) → Keys → Members → ConfigFault → Type 0
-  KeysHave names no_keys ms f = UnknownFault names ms f
+  KeysHave names no_keys ms f = OtherHas names ms f
   KeysHave names (key name required kind keys) ms f =
       MatchOption (get_member name ms) (AbsentHas required f) (λ d. KindHas kind d f) ⊎ KeysHave names keys ms f
 
--- one key of a table
+-- one key has it
 abbrev pub KeyHas : List ℕ → Bool → Kind → Members → ConfigFault → Type 0
 KeyHas name required kind ms f = MatchOption (get_member name ms) (AbsentHas required f) (λ d. KindHas kind d f)
 
--- a table that has these keys
+-- the table, which may have these keys, has it
 abbrev pub TableHas : Keys → Members → ConfigFault → Type 0
 TableHas keys ms f = KeysHave (names_of keys) keys ms f
 

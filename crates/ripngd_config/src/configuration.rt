@@ -5,7 +5,7 @@ ghost use Rattle.ripngd_config.specs.Configuration.{HasOneEach, IsConfigured, Re
 ghost use Rattle.router_core.specs.Config.{IsConfig};
 
 use crate::fault::{ConfigFault, Read};
-use crate::naming::{place_behind, refused_part};
+use crate::naming::{end_of, refused_part};
 use crate::section::{FromSection, Section};
 use crate::tables::{Document, InterfaceTable};
 use crate::twice::{check_group_ports, check_peers, check_ports};
@@ -69,10 +69,7 @@ fn document_of(alloc: Global, text: &[u8]) -> Read<Document>
     let table = match toml::table_from_slice(alloc, text) {
         Ok(table) => table,
         Err(error) => match error.span() {
-            Some(span) => {
-                let place = place_behind(alloc, &text[..span.start])?;
-                return Err(ConfigFault::BadToml(place));
-            }
+            Some(span) => return Err(ConfigFault::BadToml(end_of(alloc, &text[..span.start])?)),
             None => return Err(ConfigFault::OutOfMemory),
         },
     };

@@ -5,8 +5,8 @@ use crate::tables::{Document, InterfaceTable, PrefixTable};
 use router_core::{ConfigRefused, Interface, RouterConfig};
 use std::alloc::{AllocError, Global};
 
-/// The place behind these bytes, with which a text begins, as an editor counts.
-pub(crate) fn place_behind(alloc: Global, before: &[u8]) -> Result<String, AllocError> {
+/// The line and the column at the end of these bytes, with which a text begins, as an editor counts.
+pub(crate) fn end_of(alloc: Global, before: &[u8]) -> Result<String, AllocError> {
     let (mut line, mut column) = (1_usize, 1_usize);
     for byte in before {
         if *byte == b'\n' {

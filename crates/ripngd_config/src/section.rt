@@ -4,7 +4,7 @@
 ghost use Rattle.std.specs.Prelude.{◌≡◌, [], true, false, IfErr, IfOk, OnOk, None, Some, is_none, map, option_map};
 ghost use Rattle.toml.specs.Data.{Members, get_member};
 ghost use Rattle.toml.specs.View.{table_view, view};
-ghost use Rattle.ripngd_config.specs.Faults.{ItemHas, KeyHas, RefusesKey, TableHas, UnknownFault};
+ghost use Rattle.ripngd_config.specs.Faults.{ItemHas, KeyHas, RefusesKey, TableHas, OtherHas};
 ghost use Rattle.ripngd_config.specs.Keys.{HasOnlyOf, Keys, address, number, prefix, sections, truth};
 ghost use Rattle.ripngd_config.specs.Values.{AreSections, IsAddress, IsItem, IsNumber, IsPrefixValue, IsReadAt, IsSomeNumber, IsTruth};
 
@@ -30,8 +30,7 @@ impl<'a> Section<'a> {
     }
 
     fn path_of(&self, key: &str) -> Result<String, AllocError> {
-        let path = self.path;
-        format!(in self.alloc; "{path}{key}")
+        format!(in self.alloc; "{}{key}", self.path)
     }
 
     /// The number at a key, from `low` to `high`; with no default the key is required.
@@ -40,7 +39,10 @@ impl<'a> Section<'a> {
         ensures fault { IfErr result (RefusesKey (KeyHas key.now (is_none default) (number low high) (table_view self.now.table.now))) }
     {
         let Some(value) = self.get(key) else {
-            return default.ok_or(ConfigFault::MissingKey(self.path_of(key)?));
+            return match default {
+                Some(number) => Ok(number),
+                None => Err(ConfigFault::MissingKey(self.path_of(key)?)),
+            };
         };
         let Some(number) = value.as_integer() else {
             return Err(ConfigFault::WrongType(self.path_of(key)?));
@@ -113,7 +115,7 @@ impl<'a> Section<'a> {
     /// Refuses the first key, in the order of bytes, that is not among the known ones.
     pub fn only(&self, known: &[&str]) -> Read<()>
         ensures only { OnOk result (HasOnlyOf (map (λ k. k.now) known.now) (table_view self.now.table.now)) }
-        ensures fault { IfErr result (RefusesKey (UnknownFault (map (λ k. k.now) known.now) (table_view self.now.table.now))) }
+        ensures fault { IfErr result (RefusesKey (OtherHas (map (λ k. k.now) known.now) (table_view self.now.table.now))) }
     {
         for key in self.table.keys() {
             if !known.contains(&key.as_str()) {
@@ -143,8 +145,7 @@ fn member_of<T: FromSection>(section: Section<'_>, key: &str, index: usize, item
     ensures read { IfOk result (IsItem T.is_read (view item.now)) }
     ensures fault { IfErr result (RefusesKey (ItemHas (TableHas T.keys) (view item.now))) }
 {
-    let path = section.path;
-    let place = format!(in section.alloc; "{path}{key}[{index}]")?;
+    let place = format!(in section.alloc; "{}{key}[{index}]", section.path)?;
     let Some(table) = item.as_table() else {
         return Err(ConfigFault::WrongType(place));
     };

@@ -5,11 +5,6 @@ use Rattle.ripngd_config.specs.declared.tables.InterfaceTable.{InterfaceTable}
 use Rattle.ripngd_config.proofs.OneEach.{one_each}
 use Rattle.ripngd_config.proofs.configuration.read_config.Goals as goal
 
-pub returns-in_err-document-clause-refused : goal.returns-in_err-document-clause-refused
-returns-in_err-document-clause-refused c =
-    let p = err_from_is_err_and c.from_residual.result c.from_residual.ensures.1 in
-    rw (p.1, p.2) (inl c.in_err-document.ensures.refused)
-
 pub returns-in_err-router-clause-refused : goal.returns-in_err-router-clause-refused
 returns-in_err-router-clause-refused c =
     let p = err_from_is_err_and c.from_residual-in_err-router.result c.from_residual-in_err-router.ensures.1 in

@@ -1,8 +1,8 @@
-use Rattle.std.proofs.Common.{◌≡◌, ◌∙◌, List, refl, subst, sym}
+use Rattle.std.proofs.Common.{List, refl, subst}
 use Rattle.std.proofs.lemmas.List.{take_all}
 use Rattle.std.proofs.lemmas.List.Elements.{All-more}
 use Rattle.std.proofs.lemmas.Option.{slice_get_read}
-use Rattle.ripngd_config.specs.Twice.{AreAllPeersDistinct, ArePeersDistinct, IsPeerTwice}
+use Rattle.ripngd_config.specs.Twice.{AreAllPeersDistinct, ArePeersDistinct}
 use Rattle.ripngd_config.specs.declared.tables.InterfaceTable.{InterfaceTable}
 use Rattle.ripngd_config.proofs.twice.check_peers.Goals as goal
 

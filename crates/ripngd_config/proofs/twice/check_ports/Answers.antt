@@ -1,4 +1,4 @@
-use Rattle.std.proofs.Common.{◌≡◌, ◌≢◌, ◌∙◌, ◌==◌, inl, refl, sym}
+use Rattle.std.proofs.Common.{◌≢◌, ◌∙◌, ◌==◌, inl, refl, sym}
 use Rattle.std.proofs.lemmas.Option.{slice_get_read}
 use Rattle.ripngd_config.proofs.Clashes.{ports_apart}
 use Rattle.ripngd_config.proofs.Pairs.{pairs_all, pairs_more}

@@ -1,4 +1,4 @@
-use Rattle.std.proofs.Common.{◌≡◌, ◌∙◌, refl, sym}
+use Rattle.std.proofs.Common.{◌∙◌, refl, sym}
 use Rattle.std.proofs.lemmas.Option.{slice_get_read}
 use Rattle.ripngd_config.specs.Twice.{AreApart}
 use Rattle.ripngd_config.proofs.Clashes.{peers_apart, peers_clash}
