@@ -8,7 +8,7 @@ ghost use Rattle.ripngd_daemon.specs.Checked.{IsChecked, counts_line, peers_coun
 
 use crate::failure::Failure;
 use crate::files::FileSource;
-use ripngd_config::{Config, ConfigFault, Subject, read_config};
+use ripngd_config::{Config, ConfigFault, read_config};
 use ripngd_engine::Peer;
 use ripngd_show::PrintFault;
 use std::alloc::Global;
@@ -119,9 +119,9 @@ pub(crate) fn write_refusal<W: Write, E: Write>(
 /// interface or prefix.
 fn write_place<W: Write>(file: &str, fault: &ConfigFault, err: &mut W) -> io::Result<()> {
     match fault {
-        ConfigFault::BadToml(place) => writeln!(err, "ripngd: {file}: at {place}"),
-        ConfigFault::Router(_, Subject::Whole) => Ok(()),
-        ConfigFault::Router(_, subject) => writeln!(err, "ripngd: {file}: at {subject}"),
+        ConfigFault::BadToml(place) | ConfigFault::Router(_, Some(place)) => {
+            writeln!(err, "ripngd: {file}: at {place}")
+        }
         _ => Ok(()),
     }
 }
