@@ -57,30 +57,16 @@ impl Peering for PeerDesk {
     }
 }
 
-/// A peer that comes.
-fn add<R: Clock>(link: &mut Udp<'_, R>, iface: usize, addr: Addr6, port: u16) -> Reply
-    ensures interfaces { link.new.interfaces ≡ link.old.interfaces }
-    ensures calls { link.new.calls ≡ link.old.calls }
-{
-    reply_to(link.add_peer(iface, plain_peer(addr, port)))
-}
-
-/// A peer that goes.
-fn remove<R: Clock>(link: &mut Udp<'_, R>, iface: usize, addr: Addr6) -> Reply
-    ensures interfaces { link.new.interfaces ≡ link.old.interfaces }
-    ensures calls { link.new.calls ≡ link.old.calls }
-{
-    reply_to(link.remove_peer(iface, addr))
-}
-
 /// A change of the peers, and what is replied to it.
 fn change_peers<R: Clock>(link: &mut Udp<'_, R>, change: PeerChange) -> Reply
     ensures interfaces { link.new.interfaces ≡ link.old.interfaces }
     ensures calls { link.new.calls ≡ link.old.calls }
 {
     match change {
-        PeerChange::Add { iface, addr, port } => add(link, iface, addr, port),
-        PeerChange::Remove { iface, addr } => remove(link, iface, addr),
+        PeerChange::Add { iface, addr, port } => {
+            reply_to(link.add_peer(iface, plain_peer(addr, port)))
+        }
+        PeerChange::Remove { iface, addr } => reply_to(link.remove_peer(iface, addr)),
     }
 }
 
