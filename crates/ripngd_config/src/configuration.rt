@@ -32,7 +32,7 @@ pub struct Config {
 /// Reads a configuration. An owned prefix whose table gives no tag gets `default_tag`; a quiet router only listens.
 ///
 /// # Errors
-/// A fault of the text, by its path: the first one. A table's keys are read in the order that docs/FORMATS.md has, an
+/// A fault of the text, by its path: the first one. A table's keys are read in the order that docs/OPERATING.md has, an
 /// array's members in their order, each to its end; a table's other keys come after its own. Then come the router's tests,
 /// then the local ports, then the group ports, then the peers.
 pub fn read_config(

@@ -3,7 +3,7 @@
 use ripngd_lab::Part;
 use std::fmt;
 
-/// The forms of lines, as docs/FORMATS.md has them. A word in capitals is a part, and `..` at the end repeats K. Of forms that a line
+/// The forms of lines, as docs/SCRIPTS.md has them. A word in capitals is a part, and `..` at the end repeats K. Of forms that a line
 /// leaves at the same word, the first is what it is told of.
 pub const FORMS: [&str; 37] = [
     "router NAME",

@@ -15,7 +15,7 @@ use std::io::{self, Write};
 
 /// Runs a script as [`ripngd_lab::lab`] does, and answers whether every line was done. Beside what its lines print, a line of
 /// English is written to `out` for the cold start and for each event: what a router was given, what it made of it, and why.
-/// docs/FORMATS.md has its parts. They say what [`trace`](crate::trace) has in its records.
+/// docs/SCRIPTS.md has its parts. They say what [`trace`](crate::trace) has in its records.
 ///
 /// # Errors
 /// `OutOfMemory` where memory was refused, else the fault of `out`.

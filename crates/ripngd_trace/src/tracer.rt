@@ -33,7 +33,7 @@ use std::io::{self, Write};
 
 /// Runs a script as [`ripngd_lab::lab`] does, and answers whether every line was done. In place of what its lines print, a
 /// line of JSON is written to `out` for the cold start, for each event, for each line that prints, and for the line that is
-/// refused, which ends the script. docs/FORMATS.md has the records.
+/// refused, which ends the script. docs/TRACE.md has the records.
 ///
 /// # Errors
 /// `OutOfMemory` where memory was refused, else the fault of `out`. Earlier records were written, and less than one more.
