@@ -1,5 +1,5 @@
 -- What a run has done.
-use Rattle.std.specs.Prelude.{◌≡◌, ◌≢◌, ◌≤◌, ◌+◌, ◌*◌, ◌⊎◌, ℕ, Bool, true, false, List, [], ◌∷◌, ◌++◌, Option, None, Some, map, ⊥}
+use Rattle.std.specs.Prelude.{◌≡◌, ◌≢◌, ◌≤◌, ◌+◌, ◌*◌, ◌⊎◌, ℕ, Bool, true, false, List, [], ◌∷◌, ◌++◌, Option, None, Some, map}
 use Rattle.std.specs.Io.KnownBytes.{Appends}
 use Rattle.rand_core.specs.Steps.{steps_u32, stream_of}
 use Rattle.rand_core.specs.Stream.{Stream}

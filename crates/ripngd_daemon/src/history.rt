@@ -1,6 +1,6 @@
 //! What is known of a run.
 
-ghost use Rattle.std.specs.Prelude.{◌≡◌, ◌∙◌, Some};
+ghost use Rattle.std.specs.Prelude.{◌≡◌};
 ghost use Rattle.ripngd_daemon.specs.Run.{lines_of};
 
 use crate::losses::{NOTHING_LOST, losses_of};

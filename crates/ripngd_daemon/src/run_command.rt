@@ -179,7 +179,7 @@ fn run_ready<
     requires unwritten { ready.log.written.bytes ≡ [] }
     ensures bound { history.new.ports.on_links ≡ history.old.ports.on_links }
     ensures alone { history.old.clients ≡ None → history.new.clients ≡ None }
-    ensures ran { OnOk result (ShowsRun order.entry ready.router ready.rng history.new (O.contents out.old) (O.contents out.new)) }
+    ensures ran { OnOk result (ShowsRun order.entry ready.entry.router ready.entry.rng history.new (O.contents out.old) (O.contents out.new)) }
     ensures failed { IfErr result (MayFail (asks.Run order.entry)) }
 {
     ready.log.begin(order)?;
@@ -206,10 +206,10 @@ fn run_monitored<'r, 'a, R: Clock + Net + Print + AllocGlobal, O: Write, E: Writ
     requires interfaces { ready.link.interfaces ≡ length ready.router.interfaces }
     requires uncalled { ready.link.calls ≡ [] }
     requires untold { lines_of history.old.clients ≡ [] }
-    requires begun { ready.log.written.bytes ≡ begins_with order.entry.log order.entry.append }
+    requires begun { ready.log.written.bytes ≡ begins_with order.log order.append }
     ensures bound { history.new.ports.on_links ≡ history.old.ports.on_links }
     ensures alone { history.old.clients ≡ None → history.new.clients ≡ None }
-    ensures ran { OnOk result (ShowsRun order.entry ready.router ready.rng history.new (O.contents out.old) (O.contents out.new)) }
+    ensures ran { OnOk result (ShowsRun order.entry ready.entry.router ready.entry.rng history.new (O.contents out.old) (O.contents out.new)) }
     ensures failed { IfErr result (MayFail (asks.Run order.entry)) }
 {
     let Ready {
