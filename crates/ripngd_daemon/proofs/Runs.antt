@@ -5,7 +5,7 @@ use Rattle.std.specs.Io.KnownBytes.{Appends}
 use Rattle.rand_pcg.specs.Lcg.{Lcg}
 use Rattle.router_core.specs.Config.{Config as RouterValue}
 use Rattle.ripngd_command_line.specs.declared.asked.Order.{Order}
-use Rattle.ripngd_control.specs.Clients.{Heeds}
+use Rattle.ripngd_control.specs.Clients.{ClientsState, Heeds}
 use Rattle.ripngd_engine.specs.Link.{Call}
 use Rattle.ripngd_engine.specs.Seen.{Seen, Started, untouched}
 use Rattle.ripngd_daemon.specs.Run.{HasDone, HasRun, IsOver, Lasts, ShowsRun, Begun, Turned, Told, TurnsAndHeeds, lines_of, words_of}
@@ -64,4 +64,39 @@ shows_run order router rng history first calls bytes begun done old new uncalled
     table_is = refl;
   },
   shown,
+)
+
+-- by whatever its turns answered
+pub shows_outcome : (order : Order) (router : RouterValue) (rng : Lcg) (history : History) (clients : Option ClientsState) (first calls : List Call)
+    (bytes : List ℕ) (begun done : Seen) (old new : Option (List ℕ)) (r : Result (Unit {0}) Failure) → history.clients ≡ clients → first ≡ []
+    → bytes ≡ begins_with order.log order.append → Started router (words_of rng) (untouched (Some first) None (Some bytes)) begun
+    → OnOk r (Lasts order.turns order.seconds (lines_of clients) begun done) → done.outside.calls ≡ Some calls → history.ports.calls ≡ Some calls
+    → done.outside.text ≡ Some history.log.bytes → OnOk r (Appends old new (table_text done.machine.fib)) → OnOk r (ShowsRun order router rng history old new)
+shows_outcome order router rng history clients first calls bytes begun done old new (Ok u) same uncalled is_begun started lasts are is log shown =
+    shows_run order router rng history first calls bytes begun done old new uncalled is_begun started (rw (sym same) at lasts) are is log shown
+shows_outcome order router rng history clients first calls bytes begun done old new (Err e) same uncalled is_begun started lasts are is log shown = tt
+
+-- whatever a call answers
+pub on_ok : {A : Type 0} (r : Result (Unit {0}) Failure) → A → OnOk r A
+on_ok (Ok u) holds = holds
+on_ok (Err e) holds = tt
+
+-- what is known of a run stays when its clients can come no more
+pub door_closed : (order : Order) (router : RouterValue) (rng : Lcg) (before after : History) (old new : Option (List ℕ)) (r : Result (Unit {0}) Failure)
+    → lines_of after.clients ≡ lines_of before.clients → after ≡ record before { clients = after.clients }
+    → OnOk r (ShowsRun order router rng before old new) → OnOk r (ShowsRun order router rng after old new)
+door_closed order router rng before after old new (Err e) lines same shows = tt
+door_closed order router rng before after old new (Ok u) lines same (table, run, wrote) = (
+  table,
+  record {
+    calls = run.calls;
+    begun = run.begun;
+    done = run.done;
+    started = run.started;
+    lasts = rw (sym lines) at run.lasts;
+    calls_are = (run.calls_are.0, ap (λ h. h.ports.calls) same ∙ run.calls_are.1);
+    log_is = run.log_is ∙ ap (λ h. Some h.log.bytes) (sym same);
+    table_is = run.table_is;
+  },
+  wrote,
 )

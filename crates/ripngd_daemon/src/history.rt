@@ -1,6 +1,7 @@
 //! What is known of a run.
 
-ghost use Rattle.std.specs.Prelude.{◌≡◌};
+ghost use Rattle.std.specs.Prelude.{◌≡◌, List, Some};
+ghost use Rattle.ripngd_engine.specs.Link.{Call};
 ghost use Rattle.ripngd_daemon.specs.Run.{lines_of};
 
 use crate::losses::{NOTHING_LOST, losses_of};
@@ -39,7 +40,7 @@ impl History {
 
     /// The router ends: what its link has still to send is sent, and the ports are closed.
     pub(crate) fn close<R: Clock>(&mut self, engine: Running<'_, R>, log: RunLog<'_, R>)
-        ensures calls { self.new.ports.calls ≡ engine.entry.calls }
+        ensures calls { (calls : List Call) × (engine.entry.calls ≡ Some calls) × (self.new.ports.calls ≡ Some calls) }
         ensures log { self.new.log ≡ log.entry.written }
         ensures links { self.new.ports.on_links ≡ self.old.ports.on_links }
         ensures clients { self.new.clients ≡ self.old.clients }

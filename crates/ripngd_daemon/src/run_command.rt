@@ -4,21 +4,19 @@ ghost use Rattle.std.specs.Prelude.{◌≡◌, ◌≢◌, [], IfErr, IfOk, List,
 ghost use Rattle.ripngd_config.specs.Configuration.{HasOneEach};
 ghost use Rattle.ripngd_command_line.specs.declared.asked.Ask.TheVariants as asks;
 ghost use Rattle.ripngd_daemon.specs.Failing.{MayFail};
-ghost use Rattle.ripngd_daemon.specs.Run.{HasRun, IsRan, ShowsRun, links_of, lines_of};
+ghost use Rattle.ripngd_daemon.specs.Run.{IsRan, ShowsRun, links_of, lines_of};
 ghost use Rattle.ripngd_daemon.specs.Written.{begins_with};
-ghost use Rattle.ripngd_daemon.specs.declared.failure.Failure.TheVariants as failures;
 
 use crate::check_command::write_refusal;
 use crate::failure::Failure;
 use crate::files::FileSource;
 use crate::history::History;
 use crate::run_log::{RunLog, refuse_own_config};
-use crate::table_command::write_table;
-use crate::turns::{Running, make_turns};
+use crate::turns::{Running, show_turns};
 use rand_pcg::Pcg32;
 use ripngd_command_line::Order;
 use ripngd_config::{Config, read_config};
-use ripngd_control::{Clients, Monitor};
+use ripngd_control::{Clients, Counts, Monitor};
 use ripngd_engine::Engine;
 use ripngd_udp::{Udp, Uptime};
 use router_core::RouterConfig;
@@ -100,10 +98,7 @@ fn write_echoes<E: Write>(config: &Config, err: &mut E) -> io::Result<()> {
 ///
 /// # Errors
 /// `Listen` with the path.
-fn clients_of<'a, R: Files + Net>(
-    rt: &R,
-    order: Order<'a>,
-) -> Result<Option<Clients>, Failure<'a>>
+fn clients_of<'a, R: Files + Net>(rt: &R, order: Order<'a>) -> Result<Option<Clients>, Failure<'a>>
     ensures untold { IfOk result (λ clients. lines_of clients ≡ []) }
     ensures alone { IfOk result (λ clients. order.entry.control ≡ None → clients ≡ None) }
     ensures failed { IfErr result (MayFail (asks.Run order.entry)) }
@@ -145,7 +140,9 @@ fn run_configured<
         peers,
         rng,
     } = config;
-    let link = history.ports.bind(rt, rt.alloc(), places.as_slice(), peers)?;
+    let link = history
+        .ports
+        .bind(rt, rt.alloc(), places.as_slice(), peers)?;
     history.clients = clients_of(rt, order)?;
     let ready = Ready {
         router,
@@ -158,14 +155,19 @@ fn run_configured<
     outcome
 }
 
+/// Writes what was counted of a router that is to be debugged.
+///
+/// # Errors
+/// Of the writer.
+fn write_counts<E: Write>(order: Order<'_>, counts: &Counts, err: &mut E) -> io::Result<()> {
+    if !order.debug {
+        return Ok(());
+    }
+    writeln!(err, "{counts}")
+}
+
 /// Begins the log, says that the router runs, and runs it. Where it is to be debugged, what is refused and counted is written.
-fn run_ready<
-    'r,
-    'a,
-    R: Files<File = File> + Print + Clock + Net + AllocGlobal,
-    O: Write,
-    E: Write,
->(
+fn run_ready<'r, 'a, R: Files<File = File> + Print + Clock + Net + AllocGlobal, O: Write, E: Write>(
     rt: &'r R,
     order: Order<'a>,
     mut ready: Ready<'r, R>,
@@ -185,23 +187,21 @@ fn run_ready<
     ready.log.begin(order)?;
     let interfaces = ready.router.interfaces().len();
     let _ = writeln!(err, "ripngd: running, {interfaces} interfaces");
-    let mut monitor = Monitor::new(rt.alloc(), &mut *err, !order.debug);
-    let outcome = run_monitored(rt, order, ready, history, &mut monitor, out);
-    let counts = monitor.counts();
-    if order.debug {
-        let _ = writeln!(err, "{counts}");
-    }
+    let mut counts = Counts::new();
+    let outcome = run_monitored(rt, order, ready, history, out, err, &mut counts);
+    let _ = write_counts(order, &counts, err);
     outcome
 }
 
-/// Starts the router, makes its turns, and writes its forwarding table.
+/// Starts the router, makes its turns, and writes its forwarding table. What was counted is left in `counts`.
 fn run_monitored<'r, 'a, R: Clock + Net + Print + AllocGlobal, O: Write, E: Write>(
     rt: &'r R,
     order: Order<'a>,
     ready: Ready<'r, R>,
     history: &mut History,
-    monitor: &mut Monitor<E>,
     out: &mut O,
+    err: &mut E,
+    counts: &mut Counts,
 ) -> Result<(), Failure<'a>>
     requires interfaces { ready.link.interfaces ≡ length ready.router.interfaces }
     requires uncalled { ready.link.calls ≡ [] }
@@ -218,14 +218,19 @@ fn run_monitored<'r, 'a, R: Clock + Net + Print + AllocGlobal, O: Write, E: Writ
         rng,
         mut log,
     } = ready;
+    let mut monitor = Monitor::new(rt.alloc(), err, !order.debug);
     let clock = Uptime::new(rt);
-    let mut engine: Running<'r, R> =
-        Engine::start(rt.alloc(), router, link, clock, rng, &mut log)?;
-    let turns = make_turns(rt, order, &mut engine, &mut history.clients, &mut log, monitor);
-    let outcome = match turns {
-        Ok(()) => write_table(engine.fib(), out).map_err(|_| Failure::Output),
-        Err(failure) => Err(failure),
-    };
+    let mut engine: Running<'r, R> = Engine::start(rt.alloc(), router, link, clock, rng, &mut log)?;
+    let outcome = show_turns(
+        rt,
+        order,
+        &mut engine,
+        &mut history.clients,
+        &mut log,
+        &mut monitor,
+        out,
+    );
+    *counts = monitor.counts();
     history.close(engine, log);
     outcome
 }

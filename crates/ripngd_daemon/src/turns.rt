@@ -1,15 +1,18 @@
 //! The turns of a router that runs, and what its clients tell it between them.
 
 ghost use Rattle.std.specs.Prelude.{◌≡◌, ◌≢◌, ◌≤◌, ◌*◌, ◌↔◌, [], IfErr, IfOk, IsTrue, OnOk, None, false, true};
+ghost use Rattle.std.specs.Io.KnownBytes.{Appends};
 ghost use Rattle.ripngd_control.specs.Clients.{Heeds};
 ghost use Rattle.ripngd_command_line.specs.declared.asked.Ask.TheVariants as asks;
 ghost use Rattle.ripngd_engine.specs.Seen.{Ran, seen};
 ghost use Rattle.ripngd_daemon.specs.Failing.{MayFail};
 ghost use Rattle.ripngd_daemon.specs.Run.{IsOver, IsToldToStop, Lasts, TurnsAndHeeds, lines_of, words_of};
+ghost use Rattle.ripngd_daemon.specs.Tabled.{table_text};
 
 use crate::failure::Failure;
 use crate::losses::losses_of;
 use crate::peering::PeerDesk;
+use crate::table_command::write_table;
 use rand_pcg::Pcg32;
 use ripngd_command_line::Order;
 use ripngd_control::{Clients, Course, Monitor};
@@ -102,7 +105,7 @@ fn turn<R: Clock + AllocGlobal, W: Write, E: Write>(
 ///
 /// # Errors
 /// `Link` with the turns before the one that failed; `OutOfMemory`.
-pub(crate) fn make_turns<'a, R: Clock + AllocGlobal, W: Write, E: Write>(
+fn make_turns<'a, R: Clock + AllocGlobal, W: Write, E: Write>(
     rt: &R,
     order: Order<'a>,
     engine: &mut Running<'_, R>,
@@ -129,4 +132,26 @@ pub(crate) fn make_turns<'a, R: Clock + AllocGlobal, W: Write, E: Write>(
         }
     }
     Ok(())
+}
+
+/// Makes the turns, and then writes the forwarding table.
+pub(crate) fn show_turns<'a, R: Clock + AllocGlobal, W: Write, E: Write, O: Write>(
+    rt: &R,
+    order: Order<'a>,
+    engine: &mut Running<'_, R>,
+    clients: &mut Option<Clients>,
+    log: &mut W,
+    monitor: &mut Monitor<E>,
+    out: &mut O,
+) -> Result<(), Failure<'a>>
+    requires going { engine.old.ended ≡ false }
+    requires untold { lines_of clients.old ≡ [] }
+    ensures lasts { OnOk result (Lasts order.entry.turns order.entry.seconds (lines_of clients.new)
+        (seen words_of W.contents engine.old log.old) (seen words_of W.contents engine.new log.new)) }
+    ensures shown { OnOk result (Appends (O.contents out.old) (O.contents out.new) (table_text engine.new.fib)) }
+    ensures alone { clients.old ≡ None → clients.new ≡ None }
+    ensures failed { IfErr result (MayFail (asks.Run order.entry)) }
+{
+    make_turns(rt, order, engine, clients, log, monitor)?;
+    write_table(engine.fib(), out).map_err(|_| Failure::Output)
 }
