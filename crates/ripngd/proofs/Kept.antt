@@ -15,7 +15,7 @@ appends_kept text (Some xs) (Some ys) (Some zs) wrote kept = kept ∙ wrote
 
 -- whatever was asked
 pub answer_kept : (holds : List ℕ → List ℕ → Type 0) (history : History) (ask : Ask) (accepted : Bool) (old mid new : Option (List ℕ))
-    → AnswersAsk holds ports ask accepted old mid → Keeps mid new → AnswersAsk holds ports ask accepted old new
+    → AnswersAsk holds history ask accepted old mid → Keeps mid new → AnswersAsk holds history ask accepted old new
 answer_kept holds history (asks.Show hex) accepted old mid new (text, is, wrote) kept = (text, is, appends_kept text old mid new wrote kept)
 answer_kept holds history (asks.Check file) true old mid new (text, held, (config, is, wrote)) kept =
     (text, held, (config, is, appends_kept _ old mid new wrote kept))
