@@ -1,8 +1,8 @@
 #!/usr/bin/env python3
 """A datagram's way from the socket to the log, listed from one traced run.
 
-    tools/unproved.sh crates/ripngd_program /tmp/ripngd -O0
-    tools/way.py /tmp/ripngd
+    tools/unproved.sh crates/ripngd_program bin/unoptimized -O0
+    tools/way.py bin/unoptimized
 
 A router hears a Response with one route, while gdb (a package of the system) notes which functions of this repository are entered. Listed in
 order are those from the `recv` that takes the datagram in to the end of its line in the log, each once: crate, module and name, of a trait's
