@@ -7,6 +7,8 @@ import resource
 import signal
 import struct
 
+from table import Fault
+
 NET_ADMIN = 12
 # Of prctl(2): PR_SET_PDEATHSIG, PR_SET_KEEPCAPS, PR_CAPBSET_DROP, PR_SET_NO_NEW_PRIVS, PR_CAP_AMBIENT and two more.
 DEATH_SIGNAL, KEEP, DROP_BOUND, NO_NEW_PRIVILEGES, AMBIENT, RAISE, CLEAR_ALL = 1, 8, 24, 38, 47, 2, 4
@@ -26,13 +28,21 @@ def keep(*capabilities):
         raise OSError(ctypes.get_errno(), "cannot set capabilities")
 
 
+def account_of(user):
+    """The account of that name, or a fault."""
+    try:
+        return pwd.getpwnam(user)
+    except KeyError:
+        raise Fault(f"there is no account `{user}`" if user else "user is missing: root has to name an account") from None
+
+
 def drop(user, *capabilities):
     """From here on this process is that user, where root started it, and has just these capabilities; and a socket for
     each neighbor, as far as the system lets it."""
     most = resource.getrlimit(resource.RLIMIT_NOFILE)[1]
     resource.setrlimit(resource.RLIMIT_NOFILE, (most, most))
     if os.geteuid() == 0:
-        account = pwd.getpwnam(user)
+        account = account_of(user)
         for capability in set(range(64)) - set(capabilities):
             prctl(DROP_BOUND, capability)
         prctl(KEEP, 1)

@@ -2,89 +2,83 @@
 
 import asyncio
 import collections
+import functools
 import re
-import socket
+import time
 from ipaddress import IPv6Address
 
+from entries import is_response, without_next_hop
+from loopback import Inlet, Port
 from router import say, spawn
-from wire import GROUP, LONGEST, fault_of, make_room
+from wire import GROUP, fault_of
 
-LOOPBACK = "127.0.0.1"
-# Bytes of a neighbor that wait until the router knows it; withdrawals in a datagram of 1,280 bytes.
-WAITING, WITHDRAWALS = 1 << 19, 61
+# Bytes of a link that wait until the router is ready, and seconds that they do; withdrawals in a datagram of 1,280 bytes.
+WAITING, WAITS, WITHDRAWALS = 1 << 21, 10, 61
 # A line of `ctl routes`.
 LEARNED = re.compile(r"(\S+)/(\d+) metric \d+ tag (\d+) via \S+ iface (\d+) from (\S+) live .*")
 # Asks for a whole table (RFC 2080 section 2.4.1).
 REQUEST = b"\1\1" + bytes(21) + b"\x10"
-# Seconds from one datagram on a link to the next: FRR's socket holds no more than seven of an update.
-GAP = 0.002
-
-
-def loopback_port():
-    """A socket at a port of 127.0.0.1 that nobody has."""
-    sock = socket.socket(socket.AF_INET, socket.SOCK_DGRAM)
-    make_room(sock)
-    sock.bind((LOOPBACK, 0))
-    return sock
+# Seconds from one question to the next while nobody answers a link that has come up, whose neighbors may be slower; and
+# from one question to a neighbor to that to another, since neighbors may be made up.
+PATIENCE, APART = (0, 2, 3), 0.05
 
 
 class Neighbor:
-    """A router on the link: its port, whether the router knows it, and what waits until then."""
+    """A router on the link: its port, whether the router knows it, whether it was asked for its table or has answered
+    since the link came up, when it was heard last, and what waits for the router until that knows it."""
 
-    def __init__(self, local_port):
-        self.socket, self.known, self.waiting = loopback_port(), False, []
-        self.socket.connect((LOOPBACK, local_port))
+    def __init__(self, address):
+        self.address, self.port, self.known, self.asked, self.heard = address, None, False, False, 0.0
+        self.waiting = []
 
 
 class Relay:
     """What goes between one link and the router's interface of that number, and counts of it."""
 
-    def __init__(self, link, wire, router):
-        self.link, self.wire, self.router = link, wire, router
-        self.device, self.number, self.local_port, self.group = None, None, 0, None
+    def __init__(self, link, wire, router, met):
+        self.link, self.wire, self.router, self.met = link, wire, router, met
+        self.device, self.number, self.inlet, self.group = None, None, None, None
+        # The real address, and what the router has in its place, or None (addresses.py).
+        self.real, self.made_up = None, None
         # In the order in which they were heard last.
         self.neighbors, self.counts = collections.OrderedDict(), collections.Counter()
+        self.waits, self.asks_again = 0, 0.0
 
     @property
     def up(self):
         return bool(self.device and self.device.carrier and self.device.link_local)
 
+    @property
+    def address(self):
+        """The router's address on the link."""
+        return self.made_up or self.device.link_local
+
     def attach(self, number, local_port):
         """A router starts that has this link at that number and port; answers the port for its group."""
-        self.number, self.local_port, self.group = number, local_port, loopback_port()
-        self.group.connect((LOOPBACK, local_port))
-        self.listen(self.group, GROUP)
-        return self.group.getsockname()[1]
+        self.number, self.inlet = number, Inlet(local_port)
+        self.group = Port(local_port, functools.partial(self.transmit, to=GROUP))
+        return self.group.number
 
     def detach(self):
-        """The router has ended."""
-        while self.neighbors:
-            self.forget(next(iter(self.neighbors)))
-        self.close(self.group)
-        self.number = self.group = None
+        """The router has ended. What waits for the next one stays."""
+        self.counts["dropped: router not up"] += self.inlet.close()
+        self.counts = self.counted()
+        for neighbor in list(self.neighbors.values()):
+            if not neighbor.waiting:
+                self.forget(neighbor)
+            elif neighbor.port:
+                neighbor.port.close()
+                neighbor.port = None
+        self.group.close()
+        self.number = self.group = self.inlet = None
 
-    def listen(self, sock, to):
-        """Sends what comes there, from now on; nothing of a socket that was closed meanwhile."""
-        if sock.fileno() >= 0:
-            asyncio.get_running_loop().add_reader(sock, self.send, sock, to)
-
-    def close(self, sock):
-        asyncio.get_running_loop().remove_reader(sock)
-        sock.close()
-
-    def forget(self, address):
-        self.close(self.neighbors.pop(address).socket)
-
-    def send(self, sock, to):
-        """Takes what the router has sent, to the group or to a neighbor, and then pauses."""
-        loop = asyncio.get_running_loop()
-        loop.remove_reader(sock)
-        loop.call_later(GAP, self.listen, sock, to)
-        try:
-            data = sock.recv(LONGEST)
-        except OSError:  # nothing is there, or the router is not
-            return
-        self.transmit(data, to)
+    def forget(self, neighbor):
+        """It is no neighbor any longer."""
+        del self.neighbors[neighbor.address]
+        self.counts["dropped: router not up"] += len(neighbor.waiting)
+        self.waits -= sum(len(data) for _, data in neighbor.waiting)
+        if neighbor.port:
+            neighbor.port.close()
 
     def transmit(self, data, to):
         """Sends on the link."""
@@ -97,56 +91,80 @@ class Relay:
         self.counts[what] += 1
 
     def take(self, data, source, port, to, hops):
-        """A datagram that came on the link is for the router, or counted with why it is not."""
+        """A datagram that came on the link is for the router, now or when it is ready, or counted with why it is not."""
         fault = fault_of(self.device, source, port, to, hops)
-        if not fault and (self.number is None or not self.router.ready):
-            fault = "router not up"
         neighbor = None if fault else self.neighbor(source)
-        if neighbor and neighbor.known:
-            self.hand_over(neighbor, data)
-        elif neighbor and sum(map(len, neighbor.waiting)) < WAITING:
-            neighbor.waiting.append(data)
-        else:
+        if not neighbor or not neighbor.known and self.waits + len(data) > WAITING:
             self.counts[f"dropped: {fault or 'too much at once'}"] += 1
+            return
+        neighbor.heard = time.monotonic()
+        neighbor.asked |= to != GROUP and is_response(data)
+        if self.made_up:
+            data = without_next_hop(data, self.real, source)
+        if neighbor.known:
+            self.hand_over(neighbor, data)
+            self.ask(neighbor)
+        else:
+            neighbor.waiting.append((neighbor.heard, data))
+            self.waits += len(data)
 
     def hand_over(self, neighbor, data):
-        try:
-            neighbor.socket.send(data)
-            self.counts["taken"] += 1
-        except OSError:
-            self.counts["dropped: router not up"] += 1
+        taken = self.inlet.put(neighbor.port.socket, data)
+        self.counts["taken" if taken else "dropped: too much at once"] += 1
 
     def neighbor(self, source):
         """The neighbor of that address, or a new one; the one silent longest goes for it, if the router knows it."""
         if source not in self.neighbors:
-            silent = next(iter(self.neighbors)) if len(self.neighbors) >= self.link.peers else None
-            if silent and not self.neighbors[silent].known:
-                return None
-            try:
-                neighbor = Neighbor(self.local_port)
-            except OSError:  # there are no more ports or files
+            silent = next(iter(self.neighbors.values())) if len(self.neighbors) >= self.link.peers else None
+            if silent and not silent.known:
                 return None
             if silent:
                 self.forget(silent)
                 self.counts["neighbors let go"] += 1
-                spawn(self.router.tell(f"unpeer {self.number} {silent}"))
-            self.neighbors[source] = neighbor
-            self.listen(neighbor.socket, source)
-            spawn(self.meet(source, neighbor, neighbor.socket.getsockname()[1]))
-        self.neighbors.move_to_end(source)
-        return self.neighbors[source]
+                spawn(self.router.tell(f"unpeer {self.number} {silent.address}"))
+            self.neighbors[source] = Neighbor(source)
+            self.met(self, source)
+            self.greet()
+        if source in self.neighbors:
+            self.neighbors.move_to_end(source)
+        return self.neighbors.get(source)
 
-    async def meet(self, source, neighbor, port):
-        """Makes the neighbor known to the router."""
-        _, verdict = await self.router.tell(f"peer {self.number} {source} {port}")
-        if self.neighbors.get(source) is not neighbor:
+    def greet(self):
+        """Makes all neighbors known to a router that is ready."""
+        for neighbor in list(self.neighbors.values()) if self.router.ready and self.number is not None else ():
+            if not neighbor.port:
+                try:
+                    neighbor.port = Port(self.inlet.port, functools.partial(self.transmit, to=neighbor.address))
+                except OSError:  # there are no more ports or files
+                    self.forget(neighbor)
+                else:
+                    spawn(self.meet(neighbor, neighbor.port))
+
+    async def meet(self, neighbor, port):
+        """Makes the neighbor known to the router, and hands over what has waited for that."""
+        _, verdict = await self.router.tell(f"peer {self.number} {neighbor.address} {port.number}")
+        if neighbor.port is not port or self.neighbors.get(neighbor.address) is not neighbor:
             return
         neighbor.known = verdict == "ok"
         if not neighbor.known:
-            return self.forget(source)
-        for data in neighbor.waiting:
-            self.hand_over(neighbor, data)
-        neighbor.waiting = []
+            if self.router.ready:
+                self.forget(neighbor)
+            return
+        waiting, neighbor.waiting = neighbor.waiting, []
+        for came, data in waiting:
+            self.waits -= len(data)
+            if time.monotonic() - came <= WAITS:
+                self.hand_over(neighbor, data)
+            else:
+                self.counts["dropped: router not up"] += 1
+        self.ask(neighbor)
+
+    def ask(self, neighbor):
+        """Asks the neighbor for its whole table, if it was not asked since the link came up and does not answer just now."""
+        now = time.monotonic()
+        if not neighbor.asked and now >= self.asks_again:
+            neighbor.asked, self.asks_again = True, now + APART
+            self.transmit(REQUEST, neighbor.address)
 
     def join(self):
         """The link has a carrier: it is heard, and whole tables are asked for, of it and in its neighbors' stead."""
@@ -154,11 +172,25 @@ class Relay:
             self.wire.join(self.device.index)
         except OSError as fault:
             say(f"{self.link.device} is not heard: {fault.strerror}")
-        if self.number is not None:
-            self.transmit(REQUEST, GROUP)
         for neighbor in self.neighbors.values():
+            neighbor.asked = False
             if neighbor.known:
                 self.hand_over(neighbor, REQUEST)
+        spawn(self.inquire())
+
+    async def inquire(self):
+        """Asks a link that has come up, and again while nobody has answered: who does not hear yet is asked later."""
+        for pause in PATIENCE:
+            await asyncio.sleep(pause)
+            if self.up and self.number is not None and not any(neighbor.asked for neighbor in self.neighbors.values()):
+                self.transmit(REQUEST, GROUP)
+
+    def counted(self):
+        """All counts, with what found no room between companion and router since that runs."""
+        ports = [self.group, *(neighbor.port for neighbor in self.neighbors.values())] if self.inlet else []
+        lost = {"lost on the way to the router": self.inlet.lost() if self.inlet else 0}
+        lost["not sent: too much at once"] = sum(port.lost for port in ports if port)
+        return self.counts + collections.Counter(lost)
 
     async def withdraw(self):
         """The link has no carrier: in its neighbors' stead the router is told metric 16 of each route through them."""
@@ -170,7 +202,7 @@ class Relay:
                 entry = IPv6Address(prefix).packed + int(tag).to_bytes(2, "big") + bytes((int(length), 16))
                 lost[IPv6Address(source)].append(entry)
         for source, entries in lost.items():
+            neighbor = self.neighbors.get(source)
             for at in range(0, len(entries), WITHDRAWALS):
-                if source in self.neighbors and not self.up:
-                    self.hand_over(self.neighbors[source], b"\2\1\0\0" + b"".join(entries[at : at + WITHDRAWALS]))
-                    await asyncio.sleep(GAP)
+                if neighbor and neighbor.known and not self.up:
+                    self.hand_over(neighbor, b"\2\1\0\0" + b"".join(entries[at : at + WITHDRAWALS]))

@@ -2,22 +2,14 @@
 
 import asyncio
 import os
-import socket
 import subprocess
 import sys
 
 from privilege import leave
 from table import Fault
 
-# Seconds that an answer may take.
-PATIENCE = 10
-
-
-def free_port():
-    """A UDP port of 127.0.0.1 that nobody has at the moment."""
-    with socket.socket(socket.AF_INET, socket.SOCK_DGRAM) as sock:
-        sock.bind(("127.0.0.1", 0))
-        return sock.getsockname()[1]
+# Seconds that an answer may take, and the end of the process.
+PATIENCE, ENDS = 10, 5
 
 
 def configuration(interfaces, owned):
@@ -96,12 +88,18 @@ class Router:
             say(f"{command}: {verdict}")
         return lines, verdict
 
-    async def stop(self):
-        """Ends the process, as `ctl stop` does where it listens."""
-        if self.ready:
+    def stop(self):
+        """Ends the process, as `ctl stop` does where it listens. From now on it is not ready."""
+        was_ready, self.ready = self.ready, False
+        return self.end(self.process, was_ready)
+
+    async def end(self, process, listens):
+        if listens:
             await self.tell("stop")
-        for _ in range(20):
-            if not self.process or self.process.poll() is not None:
+        elif process and process.poll() is None:
+            process.terminate()
+        for _ in range(ENDS * 10):
+            if not process or process.poll() is not None:
                 return
             await asyncio.sleep(0.1)
-        self.process.kill()
+        process.kill()

@@ -1,14 +1,25 @@
-"""The system's devices, addresses and routes, asked for and changed by ip(8)."""
+"""The system's devices and addresses, as ip(8) says them."""
 
 import json
 import subprocess
+from dataclasses import dataclass
 from ipaddress import IPv6Address, IPv6Network
-from types import SimpleNamespace
 
-from privilege import hand_on
-
+UP = "is up"
 UNSURE = {"tentative", "dadfailed"}
 WATCH = ["ip", "-o", "monitor", "link", "address"]
+
+
+@dataclass
+class Device:
+    """A device: its link-local address, all of its addresses, the prefixes of its global ones, and more."""
+
+    index: int
+    carrier: bool
+    mtu: int
+    link_local: IPv6Address | None
+    addresses: set[IPv6Address]
+    prefixes: set[IPv6Network]
 
 
 def devices():
@@ -18,11 +29,11 @@ def devices():
 
 
 def device(entry):
-    """A device: its link-local address, all of its addresses, the prefixes of its global ones, and more."""
+    """A device as `ip` says it."""
     told = [one for one in entry["addr_info"] if one["family"] == "inet6" and not UNSURE & one.keys()]
     near = [IPv6Address(one["local"]) for one in told if one["scope"] == "link"]
     far = [(one.get("address", one["local"]), one["prefixlen"]) for one in told if one["scope"] == "global"]
-    return SimpleNamespace(
+    return Device(
         index=entry["ifindex"],
         carrier={"UP", "LOWER_UP"} <= set(entry["flags"]),
         mtu=entry["mtu"],
@@ -32,41 +43,10 @@ def device(entry):
     )
 
 
-class Kernel:
-    """The routes of one table that have one protocol number. No other is touched: none is replaced, and each that is
-    taken away is named by table, protocol number, priority, gateway and device."""
-
-    def __init__(self, table, protocol, priority, is_used):
-        self.own, self.priority, self.is_used = f"table {table} proto {protocol}", priority, is_used
-        self.held, self.refused = {}, 0
-
-    def clear(self):
-        """Takes away all that has the protocol number in the table, whoever left it."""
-        self.held = {}
-        self.batch([f"route flush {self.own}"])
-
-    def change(self, changes):
-        """Each prefix gets the gateway and device that it is given, or no route; an old route goes just before."""
-        lines = []
-        for prefix, hop in changes.items() if self.is_used else ():
-            old = self.held.pop(prefix, None)
-            if old and old != hop:
-                lines.append(f"route del {prefix} {old} metric {self.priority} {self.own}")
-            if hop:
-                self.held[prefix] = hop
-            if hop and old != hop:
-                lines.append(f"route add {prefix} {hop} metric {self.priority} {self.own}")
-        for number in self.batch(lines):
-            verb, prefix = lines[number - 1].split()[1:3]
-            if verb == "add":
-                self.refused += 1
-                self.held.pop(prefix, None)
-
-    def batch(self, lines):
-        """Has `ip` do the lines, with the one capability; answers the numbers of those that the kernel refused."""
-        if not lines or not self.is_used:
-            return []
-        text = "".join(line + "\n" for line in lines).encode()
-        words = ["ip", "-6", "-force", "-batch", "-"]
-        said = subprocess.run(words, input=text, capture_output=True, preexec_fn=hand_on).stderr.decode()
-        return [int(line.rsplit(":", 1)[1]) for line in said.splitlines() if line.startswith("Command failed -:")]
+def state_of(device, stub=False):
+    """Whether a link is up on a device, or why it is not; a stub needs no link-local address."""
+    if not device:
+        return "is not there"
+    if not device.carrier:
+        return "has no carrier"
+    return UP if device.link_local or stub else "has no link-local address"

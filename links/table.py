@@ -1,51 +1,118 @@
 """The companion's table: a TOML text that says which links of the system are the router's, and what it owns."""
 
 import tomllib
+from dataclasses import dataclass, field, fields
 from ipaddress import IPv6Network
-from types import SimpleNamespace
+from typing import get_origin
 
 
 class Fault(Exception):
-    """What is wrong with a table, or with what it names; it ends the companion."""
+    """What ends the companion. Its status is 1 where a table is at fault, so that no new start mends it, and else 3."""
+
+    def __init__(self, text, status=1):
+        super().__init__(text)
+        self.status = status
 
 
-# The keys of each table, with what holds where one is left out, or the kind of value of one that has to be there.
-TABLE = {"user": str, "program": "ripngd", "folder": "/run/ripngd-links", "link": [], "prefix": []}
-TABLE |= {"table": 254, "protocol": 152, "priority": 521}
-LINK = {"device": str, "cost": 1, "peers": 64, "own": True, "tag": 0, "stub": False}
-PREFIX = {"prefix": str, "tag": 0}
+@dataclass
+class Link:
+    """A link of the system."""
+
+    device: str
+    cost: int = 1
+    peers: int = 64
+    own: bool = True
+    tag: int = 0
+    stub: bool = False
+
+
+@dataclass
+class Owned:
+    """A prefix that the router always owns."""
+
+    prefix: str
+    tag: int = 0
+
+
+@dataclass
+class Table:
+    """All of it."""
+
+    user: str = ""
+    program: str = "ripngd"
+    folder: str = "/run/ripngd-links"
+    table: int = 254
+    protocol: int = 152
+    priority: int = 521
+    link: list[dict] = field(default_factory=list)
+    prefix: list[dict] = field(default_factory=list)
+
+
 NUMBERS = {"cost": 15, "peers": 256, "tag": 65535, "table": 2**32 - 1, "protocol": 255, "priority": 2**32 - 1}
 LEAST = {"tag": 0, "protocol": 5}
-KINDS = {str: "a text", int: "a number", bool: "true or false", list: "an array of tables"}
+KINDS = {str: "a text", int: "a number", bool: "true or false", list: "an array"}
+LINKS = 16
 
 
-def made(keys, words, place=""):
-    """A table of TOML with those keys."""
+def made(kind, words, place=""):
+    """A table of TOML as a record of that kind."""
+    if not isinstance(words, dict):
+        raise Fault(f"{place[:-1]} must be a table")
+    keys = {one.name: get_origin(one.type) or one.type for one in fields(kind)}
     for key, value in words.items():
         if key not in keys:
             raise Fault(f"unknown key {place}{key}")
-        kind = keys[key] if isinstance(keys[key], type) else type(keys[key])
-        if type(value) is not kind:
-            raise Fault(f"{place}{key} must be {KINDS[kind]}")
+        if type(value) is not keys[key]:
+            hint = f"; write [[{key}]]" if isinstance(value, dict) else ""
+            raise Fault(f"{place}{key} must be {KINDS[keys[key]]}{hint}")
         if key in NUMBERS and not LEAST.get(key, 1) <= value <= NUMBERS[key]:
             raise Fault(f"{place}{key} must be from {LEAST.get(key, 1)} to {NUMBERS[key]}")
-    if missing := [key for key in keys if isinstance(keys[key], type) and key not in words]:
-        raise Fault(f"{place}{missing[0]} is missing")
-    return SimpleNamespace(**keys | words)
+    try:
+        return kind(**words)
+    except TypeError:
+        missing = next(one.name for one in fields(kind) if one.name not in words)
+        raise Fault(f"{place}{missing} is missing") from None
+
+
+def prefix_of(text, place):
+    """A prefix, which is never without its length."""
+    try:
+        if "/" not in text:
+            raise ValueError
+        return IPv6Network(text, strict=False)
+    except ValueError:
+        raise Fault(f"{place}: `{text}` is not an IPv6 prefix with its length") from None
+
+
+def refuse_twice(names, place):
+    """Each name stands once."""
+    for number, name in enumerate(names):
+        if name in names[:number]:
+            raise Fault(f"{place.format(number)}: {name} stands twice")
+
+
+def checked(table):
+    """The table with its links and prefixes as records."""
+    table.link = [made(Link, words, f"link[{number}].") for number, words in enumerate(table.link)]
+    table.prefix = [made(Owned, words, f"prefix[{number}].") for number, words in enumerate(table.prefix)]
+    for number, owned in enumerate(table.prefix):
+        owned.prefix = str(prefix_of(owned.prefix, f"prefix[{number}].prefix"))
+    refuse_twice([owned.prefix for owned in table.prefix], "prefix[{}].prefix")
+    refuse_twice([link.device for link in table.link], "link[{}].device")
+    spoken = sum(not link.stub for link in table.link)
+    if spoken == 0:
+        raise Fault("every link is a stub" if table.link else "there is no [[link]]")
+    if spoken > LINKS:
+        raise Fault(f"there are {spoken} links without the stubs, and {LINKS} at most have room")
+    return table
 
 
 def read(path):
     """The table of a file, or a fault."""
     try:
         with open(path, "rb") as file:
-            table = made(TABLE, tomllib.load(file))
-        table.link = [made(LINK, words, f"link[{number}].") for number, words in enumerate(table.link)]
-        table.prefix = [made(PREFIX, words, f"prefix[{number}].") for number, words in enumerate(table.prefix)]
-        for owned in table.prefix:
-            owned.prefix = str(IPv6Network(owned.prefix, strict=False))
-    except (OSError, ValueError, AttributeError) as fault:
-        raise Fault(f"cannot read {path}: {fault}") from None
-    names = [link.device for link in table.link]
-    if len(set(names)) < len(names) or not 1 <= sum(not link.stub for link in table.link) <= 16:
-        raise Fault("there are 1 to 16 links that are no stubs, and no device stands twice")
-    return table
+            return checked(made(Table, tomllib.load(file)))
+    except OSError as fault:
+        raise Fault(f"cannot read {path}: {fault.strerror}") from None
+    except (Fault, ValueError) as fault:
+        raise Fault(f"{path}: {fault}") from None

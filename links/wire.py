@@ -36,7 +36,7 @@ class Wire:
         try:
             self.socket.bind(("::", PORT))
         except OSError as fault:
-            raise Fault(f"cannot bind port {PORT}: {fault.strerror}") from None
+            raise Fault(f"cannot bind port {PORT}: {fault.strerror}", 3) from None
 
     def join(self, index):
         """Hears the group of all RIPng routers on the link of that device, anew if it did before."""

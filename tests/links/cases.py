@@ -6,14 +6,20 @@ import pathlib
 import sys
 import tempfile
 
+import addresses
 import edges
 import networks
+import service
 import soak
+import starts
 from spaces import Net, Wrong
 
 CASES = [networks.a_line, networks.a_ring, networks.a_lossy_cable, networks.many_routes]
 CASES += [edges.a_stranger, edges.many_neighbors, edges.a_flood, edges.a_killed_companion]
 CASES += [edges.addresses_come_and_go, edges.links_come_and_go, edges.the_page, edges.no_privilege, edges.an_unproved_router]
+CASES += [addresses.one_address_on_two_links, addresses.a_neighbor_with_our_address, starts.a_slow_router, starts.a_late_neighbor]
+CASES += [service.a_refused_table, service.ends_by_signals, service.links_that_are_not_there, service.losses_are_counted]
+CASES += [service.the_units]
 # Played only where it is named.
 LONG = [soak.ten_minutes]
 

@@ -111,6 +111,12 @@ class Space:
     def ip(self, *words):
         return self.do("ip", *words)
 
+    def link_local(self, device, address):
+        """The device has just this link-local address."""
+        self.do("sysctl", "-qw", f"net.ipv6.conf.{device}.addr_gen_mode=1")
+        self.ip("-6", "address", "flush", "dev", device, "scope", "link")
+        self.ip("address", "add", f"{address}/64", "dev", device, "nodad")
+
     def start(self, name, *words):
         """A process in the name space, whose output goes to a file of that name."""
         out = open(self.folder / f"{name}.out", "ab")
@@ -175,6 +181,15 @@ class Ours:
         text = self.space.text("companion")
         found = re.findall(r"^ripngd-links: (to-\S+ .*|kernel has \d+, refused) (\d+)$", text, re.M)
         return {re.sub("has .* ", "", words): int(number) for words, number in found}
+
+    def status(self):
+        """What `ripngd-links status --json` says."""
+        words = [sys.executable, COMPANION, "status", "--json", self.run]
+        return json.loads(subprocess.run(words, capture_output=True, text=True, check=True).stdout)
+
+    def link(self, device):
+        """What it says of that link."""
+        return next(link for link in self.status()["links"] if link["device"] == device)
 
     def refused(self):
         """What the router has refused, by name."""

@@ -1,6 +1,7 @@
 #!/usr/bin/env python3
 """What somebody sends on a link: `stranger.py DEVICE KIND [SOURCE [TIMES]]`, five times; of `request` it prints the
-answer, and `flood` sends 3,000 Responses, each from another link-local address."""
+answer, and `flood` sends 3,000 Responses, each from another link-local address. `next-hop=ADDRESS` is a Response of
+2001:db8:bad::/48 by way of that address, and of 2001:db8:bae::/48 by way of the sender."""
 
 import ipaddress
 import os
@@ -16,6 +17,13 @@ REQUEST = b"\1\1\0\0" + bytes(19) + b"\x10"
 RUBBISH = (b"\2", b"\2\1\0\0" + bytes(19), b"\3\1\0\0" + ENTRY, b"\2\2\0\0" + ENTRY, b"\2\1\0\1" + ENTRY)
 
 
+def through(address):
+    """A Response whose first prefix goes by way of that address, and whose second one by way of who sends it."""
+    hops = [ipaddress.IPv6Address(hop).packed + b"\0\0\0\xff" for hop in (address, "::")]
+    other = ENTRY.replace(b"\x0b\xad", b"\x0b\xae")
+    return b"\2\1\0\0" + hops[0] + ENTRY + hops[1] + other
+
+
 def opened(index, source, port=PORT, hops=255):
     sock = socket.socket(socket.AF_INET6, socket.SOCK_DGRAM)
     sock.setsockopt(socket.IPPROTO_IPV6, socket.IPV6_MULTICAST_HOPS, hops)
@@ -29,7 +37,9 @@ def opened(index, source, port=PORT, hops=255):
 def answer(sock):
     """Hop limit and prefixes of the first answer."""
     sock.settimeout(5)
-    data, told, _, (_, port, *_) = sock.recvmsg(65535, 128)
+    data = REQUEST
+    while data[0] == REQUEST[0]:  # the router asks, too
+        data, told, _, (_, port, *_) = sock.recvmsg(65535, 128)
     hops = struct.unpack("@i", told[0][2])[0]
     prefixes = [f"{ipaddress.IPv6Address(data[at : at + 16])}/{data[at + 18]}" for at in range(4, len(data), 20)]
     return " ".join([str(hops), *prefixes]) if port == PORT else f"from port {port}"
@@ -72,7 +82,8 @@ def main():
     if kind == "request":
         sock.sendto(REQUEST, group)
         return print(answer(sock))
-    sent = {"rubbish": RUBBISH, "neighbor": (RESPONSE,), "responses": (RESPONSE,), "requests": (REQUEST,)}
+    kind, _, hop = kind.partition("=")
+    sent = {"next-hop": (through(hop or "::"),), "rubbish": RUBBISH, "neighbor": (RESPONSE,), "responses": (RESPONSE,), "requests": (REQUEST,)}
     for _ in range(int(times)):
         for data in sent.get(kind, (RESPONSE, REQUEST)):
             sock.sendto(data, group)

@@ -1,0 +1,107 @@
+"""What the companion says of itself: `ripngd-links status` asks for it at a Unix socket in its folder."""
+
+import argparse
+import json
+import os
+import socket
+import time
+from collections import Counter
+
+from system import state_of
+from table import Fault
+
+SOCKET = "status"
+# Seconds that an answer may take.
+PATIENCE = 10
+
+
+def report(companion):
+    """All that is known, in the words of JSON."""
+    routes = Counter((via, number) for via, number in companion.forwarding.values())
+    relays = {relay.link.device: relay for relay in companion.relays}
+    links = []
+    for link in companion.table.link:
+        told = {"device": link.device, "state": state_of(companion.devices.get(link.device), link.stub), "stub": link.stub}
+        links.append(told | (of_relay(relays[link.device], routes) if link.device in relays else {}))
+    kernel = companion.kernel
+    return {
+        "router": {"ready": companion.router.ready, "control": companion.router.control},
+        "kernel": {"used": kernel.is_used, "routes": len(kernel.held), "refused": sorted(kernel.refused)},
+        "links": links,
+    }
+
+
+def of_relay(relay, routes):
+    """What is known of a link on which RIPng is spoken. The number of an interface is the router's, or none."""
+    now = time.monotonic()
+    neighbors = [
+        {
+            "address": str(one.address),
+            "known": one.known,
+            "heard_seconds_ago": round(now - one.heard, 1),
+            "routes": routes[str(one.address), relay.number],
+        }
+        for one in relay.neighbors.values()
+    ]
+    return {
+        "interface": relay.number,
+        "address": str(relay.device.link_local) if relay.up else None,
+        "made_up_address": str(relay.made_up) if relay.up and relay.made_up else None,
+        "neighbors": neighbors,
+        "counts": dict(sorted(relay.counted().items())),
+    }
+
+
+def lines(told):
+    """A report as text, line by line."""
+    yield f"router is {'up' if told['router']['ready'] else 'not up'}, control socket {told['router']['control']}"
+    kernel = told["kernel"]
+    yield f"kernel has {kernel['routes']} routes, refused {len(kernel['refused'])}" if kernel["used"] else "kernel is left alone"
+    yield from (f"  refused {prefix}" for prefix in kernel["refused"])
+    for link in told["links"]:
+        words = [f"{link['device']} {link['state']}"]
+        if link["stub"]:
+            words.append("stub")
+        elif link["address"]:
+            words.append(f"address {link['address']}")
+            words += [f"to the router {link['made_up_address']}"] if link["made_up_address"] else []
+            words += [f"interface {link['interface']}"] if link["interface"] is not None else []
+        yield ", ".join(words)
+        for one in link.get("neighbors", ()):
+            yield f"  neighbor {one['address']}, heard {one['heard_seconds_ago']:.0f} s ago, {one['routes']} routes"
+        yield from (f"  {what} {number}" for what, number in link.get("counts", {}).items())
+
+
+async def answer(companion, _, writer):
+    """A client is told all, and let go."""
+    writer.write(json.dumps(report(companion)).encode() + b"\n")
+    await writer.drain()
+    writer.close()
+
+
+def notify(text):
+    """Tells systemd, where that has started this process (sd_notify(3))."""
+    if path := os.environ.get("NOTIFY_SOCKET"):
+        with socket.socket(socket.AF_UNIX, socket.SOCK_DGRAM) as sock:
+            sock.sendto(text.encode(), path.replace("@", "\0", 1) if path.startswith("@") else path)
+
+
+def asked(folder):
+    """What the companion of that folder answers."""
+    sock = socket.socket(socket.AF_UNIX)
+    sock.settimeout(PATIENCE)
+    try:
+        sock.connect(f"{folder}/{SOCKET}")
+        with sock.makefile() as answered:
+            return json.load(answered)
+    except (OSError, ValueError):
+        raise Fault(f"nobody answers at {folder}/{SOCKET}", 3) from None
+
+
+def main(words):
+    parser = argparse.ArgumentParser(prog="ripngd-links status", description="Says how a companion that runs is.")
+    parser.add_argument("--json", action="store_true", help="as JSON")
+    parser.add_argument("folder", nargs="?", default="/run/ripngd-links", help="its folder (default: %(default)s)")
+    given = parser.parse_args(words)
+    told = asked(given.folder)
+    print(json.dumps(told, indent=2) if given.json else "\n".join(lines(told)))

@@ -1,0 +1,49 @@
+"""Cases of what comes before the router is ready, and of who is asked for a table."""
+
+import time
+
+from least import QUICK, REGULAR, least, settle
+from spaces import Bird, Frr, Ours, same, until
+
+# Seconds from one regular update of a neighbor to the next, so that only a question brings its table.
+SELDOM = 120
+# A router that starts, and says a second later that it does.
+SLOW = """#!/bin/bash
+exec {program} "$@" 2> >(while read -r line; do sleep 1; echo "$line" >&2; done)
+"""
+
+
+def a_slow_router(net, program):
+    """What neighbors answer before the router is ready waits: their tables are there at the first start."""
+    b, o, c = (net.space(name) for name in "boc")
+    net.cable(b, o)
+    net.cable(o, c)
+    owned = {"b": ["2001:db8:1::/48"], "o": ["2001:db8:2::/48"], "c": ["2001:db8:3::/48"]}
+    routers = {
+        "b": Bird(b, {"to-o": 1}, owned["b"], update=SELDOM),
+        "c": Bird(c, {"to-o": 1}, owned["c"], update=SELDOM),
+    }
+    time.sleep(4)  # until they have said all that they say by themselves
+    slow = net.folder / "slow"
+    slow.write_text(SLOW.format(program=program))
+    slow.chmod(0o755)
+    ours = routers["o"] = Ours(o, slow, {"to-b": {}, "to-c": {}}, owned["o"])
+    ours.program = program
+    settle(routers, least([("b", 1, "o", 1), ("o", 1, "c", 1)], owned), QUICK)
+    counts = ours.counts()
+    same("what is dropped", {what: number for what, number in counts.items() if "dropped" in what}, {})
+
+
+def a_late_neighbor(net, program):
+    """The far end of a link goes down and up: its neighbor, which does not hear at once, is asked for its table."""
+    o, f = net.space("o"), net.space("f")
+    net.cable(o, f)
+    owned = {"o": ["2001:db8:2::/48"], "f": ["2001:db8:3::/48"]}
+    frr = Frr(f, ["to-o"], owned["f"])
+    until(QUICK, "FRR takes its timers", lambda: "timers" not in frr.tell("router ripng", f"timers basic {SELDOM} 360 240"))
+    routers, wanted = {"f": frr, "o": Ours(o, program, {"to-f": {}}, owned["o"])}, least([("f", 1, "o", 1)], owned)
+    settle(routers, wanted, REGULAR)
+    f.ip("link", "set", "to-o", "down")
+    until(QUICK, "its route is gone", lambda: not routers["o"].kernel())
+    f.ip("link", "set", "to-o", "up")
+    until(2 * QUICK, "its route is back", lambda: routers["o"].kernel())
