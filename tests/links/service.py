@@ -1,0 +1,186 @@
+"""Cases of the companion as a service: how it ends, what it refuses, what it names, and what the units of systemd run."""
+
+import os
+import pathlib
+import re
+import signal
+import socket
+import subprocess
+import sys
+import time
+
+from edges import is_router, stranger
+from least import QUICK, REGULAR, TRIGGERED
+from spaces import COMPANION, ROOT, Bird, Ours, Wrong, same, until
+
+LINK = '[[link]]\ndevice = "to-b"\n'
+# Tables that are refused, each with what is said of it.
+REFUSED = {
+    LINK.replace("[[link]]", "[link]"): "link must be an array; write [[link]]",
+    LINK + 'cost = "1"\n': "link[0].cost must be a number",
+    LINK + "cost = 16\n": "link[0].cost must be from 1 to 15",
+    LINK + 'user = "nobody"\n': "unknown key link[0].user",
+    LINK + LINK: "link[1].device: to-b stands twice",
+    LINK + "stub = true\n": "every link is a stub",
+    "[[link]]\ncost = 1\n": "link[0].device is missing",
+    'user = "nobody"\n': "there is no [[link]]",
+    LINK + '[[prefix]]\nprefix = "2001:db8::"\n': "prefix[0].prefix: `2001:db8::` is not an IPv6 prefix with its length",
+    LINK + '[[prefix]]\nprefix = "2001:db8::/32"\n' * 2: "prefix[1].prefix: 2001:db8::/32 stands twice",
+    "[[link]\n": "Expected ']]' at the end of an array declaration (at line 1, column 7)",
+}
+
+
+def a_refused_table(net, program):
+    """Status 1, with which a unit does not start it again, and a line that names the fault."""
+    table = net.folder / "table.toml"
+    for text, why in REFUSED.items():
+        table.write_text(text)
+        done = subprocess.run([sys.executable, COMPANION, table], capture_output=True, text=True, timeout=30, check=False)
+        same("status and line", (done.returncode, done.stderr), (1, f"ripngd-links: {table}: {why}\n"))
+    table.write_text(f'program = "{program}"\nfolder = "{net.folder}/run"\n' + LINK)
+    done = subprocess.run([sys.executable, COMPANION, "--unproved", table], capture_output=True, text=True, check=False)
+    same("without an account", (done.returncode, "user is missing" in done.stderr), (1, True))
+
+
+def ends_by_signals(net, program):
+    """Status 0 and no route left, also where the signal comes to its children, as by Ctrl-C or a control group."""
+    b, o = net.space("b"), net.space("o")
+    net.cable(b, o)
+    Bird(b, {"to-o": 1}, ["2001:db8:1::/48"])
+    ours = Ours(o, program, {"to-b": {}}, by=["setsid"])
+    for turn, number in enumerate((signal.SIGINT, signal.SIGTERM) * 3):
+        until(REGULAR, "it has learned", ours.kernel)
+        if number == signal.SIGINT:
+            os.killpg(ours.process.pid, number)
+        else:
+            processes = [ours.process.pid, *ours.children()]
+            for pid in processes if turn % 4 == 1 else processes[::-1]:
+                os.kill(pid, number)
+        same(f"the status by {number.name}", ours.process.wait(20), 0)
+        same(f"what is said by {number.name}", "has ended" in ours.space.text("companion"), False)
+        same("routes of an ended one", ours.kernel(), {})
+        ours.start()
+
+
+def links_that_are_not_there(net, program):
+    """A misspelt device and one without an address are named, and the others are used. A folder is of one companion."""
+    b, o = net.space("b"), net.space("o")
+    net.cable(b, o)
+    Bird(b, {"to-o": 1}, ["2001:db8:1::/48"])
+    ours = Ours(o, program, {"to-b": {}, "eth9": {}, "lo": {}, "lan7": {"stub": True}})
+    until(REGULAR, "it has learned", ours.kernel)
+    for line in ("eth9 is not there", "lo has no link-local address", "lan7 is not there"):
+        same(f"whether `{line}` is said", f"ripngd-links: {line}\n" in o.text("companion"), True)
+    done = subprocess.run([sys.executable, COMPANION, "--unproved", ours.config], capture_output=True, text=True, check=False)
+    why = f"ripngd-links: cannot use {ours.run}: another ripngd-links is there; name another `folder`\n"
+    same("a second one", (done.returncode, done.stderr), (3, why))
+    text = subprocess.run([sys.executable, COMPANION, "status", ours.run], capture_output=True, text=True, check=True).stdout
+    address = next(iter(ours.kernel().values()))["gateway"]
+    for line in ("router is up, ", "kernel has 1 routes, refused 0", "to-b is up, address ", "eth9 is not there", "lan7 is not there, stub"):
+        same(f"whether status says `{line}`", re.search(f"^{line}", text, re.M) is not None, True)
+    same("whether status has the neighbor", re.search(rf"^  neighbor {address}, heard \d+ s ago, 1 routes$", text, re.M) is not None, True)
+
+
+def losses_are_counted(net, program):
+    """A router that does not take what is there for a while misses nothing of its links; what others make it miss is said."""
+    o, s = net.space("o"), net.space("s")
+    net.cable(o, s)
+    ours = Ours(o, program, {"to-s": {}}, ["2001:db8:2::/48"])
+    until(TRIGGERED, "the router is up", ours.table)
+    stranger(s, "request")
+    [router] = filter(is_router, ours.children())
+    os.kill(router, signal.SIGSTOP)
+    stranger(s, "responses", "::", 1000)
+    os.kill(router, signal.SIGCONT)
+    until(QUICK, "all of it comes to the router", lambda: sum(map(arrivals, ours.ctl("neighbors"))) >= 1000)
+    same("what is lost", ours.link("to-s")["counts"].get("lost on the way to the router"), None)
+    os.kill(router, signal.SIGSTOP)
+    port = int(re.search(r"^local_port = (\d+)", (ours.run / "router.toml").read_text(), re.M)[1])
+    o.do(sys.executable, "-c", FLOOD, port)
+    os.kill(router, signal.SIGCONT)
+    counted = ours.link("to-s")["counts"].get("lost on the way to the router", 0)
+    same("whether what found no room is counted", 300 < counted < 1000, True)
+    same("by signal", ours.counts().get("to-s lost on the way to the router"), counted)
+
+
+FLOOD = """import socket, sys
+sock = socket.socket(socket.AF_INET, socket.SOCK_DGRAM)
+for _ in range(1000):
+    sock.sendto(bytes(1000), ("127.0.0.1", int(sys.argv[1])))
+"""
+
+
+def arrivals(line):
+    """The arrivals in a line of `ctl neighbors`, if it has some."""
+    found = re.search(r" arrivals (\d+) ", line)
+    return int(found[1]) if found else 0
+
+
+def unit(name):
+    """The keys of a unit's file, with all values of each."""
+    keys = {}
+    for line in (ROOT / f"docs/{name}@.service").read_text().splitlines():
+        if "=" in line and not line.startswith("#"):
+            key, value = line.split("=", 1)
+            keys.setdefault(key, []).append(value)
+    return keys
+
+
+def of_unit(name, key, **places):
+    """The words of a command of a unit, as systemd would give them to it."""
+    text = unit(name)[key][0]
+    for place, value in places.items():
+        text = text.replace({"bindir": "@bindir@", "runtime": "${RUNTIME_DIRECTORY}", "unproved": "@unproved@"}[place], str(value))
+    found = re.findall(r"'([^']*)'|(\S+)", text.replace("$$", "$").replace("%i", "name"))
+    return [quoted or word for quoted, word in found]
+
+
+def the_units(net, program):
+    """What they ask of systemd, and that what they run does it."""
+    for name, wanted in {
+        "ripngd-links": {"KillMode": "mixed", "Type": "notify", "Restart": "on-failure", "RestartPreventExitStatus": "1 2"},
+        "ripngd": {"Type": "exec", "Restart": "on-failure", "RestartPreventExitStatus": "1 2"},
+    }.items():
+        keys = unit(name)
+        same(f"keys of {name}@", {key: keys.get(key) for key in wanted}, {key: [value] for key, value in wanted.items()})
+    folder = net.folder / "run"
+    folder.mkdir(mode=0o700)
+    (folder / "ripngd").symlink_to(program)
+    the_router_of_a_unit(net, folder)
+    the_companion_of_a_unit(net, folder)
+
+
+def the_router_of_a_unit(net, folder):
+    """Its log and its table are in the journal; its stop waits for its end; a refused configuration ends it with 1."""
+    config = net.folder / "name.toml"
+    words = [word.replace("/etc/ripngd", str(net.folder)) for word in of_unit("ripngd", "ExecStart", bindir=folder, runtime=folder)]
+    for text, status in (((ROOT / "examples/east.toml").read_text().replace("52", "62"), 0), ("[[interface]]", 1)):
+        config.write_text(text)
+        router = subprocess.Popen(words, stdout=subprocess.PIPE, text=True, umask=0o077)
+        if status == 0:
+            until(QUICK, "it listens", (folder / "name.sock").exists)
+            stop = of_unit("ripngd", "ExecStop", bindir=folder, runtime=folder)
+            subprocess.run(stop, env=os.environ | {"MAINPID": str(router.pid)}, check=True, timeout=QUICK, stdout=subprocess.DEVNULL)
+        same("its status", router.wait(QUICK), status)
+        if status == 0:
+            route = "2001:db8:e::/48 metric 1 direct"
+            same("what the journal gets", router.stdout.read().splitlines(), [f"add {route}", route])
+
+
+def the_companion_of_a_unit(net, folder):
+    """It says when it is ready, and when TERM comes to it alone its status is 0."""
+    b, o = net.space("b"), net.space("o")
+    net.cable(b, o)
+    (net.folder / "name.toml").write_text(f'program = "{folder}/ripngd"\nuser = "nobody"\n{LINK}')
+    words = of_unit("ripngd-links", "ExecStart", bindir=COMPANION.parent, unproved=" --unproved")
+    words = [word.replace("/etc/ripngd-links", str(net.folder)) for word in words]
+    with socket.socket(socket.AF_UNIX, socket.SOCK_DGRAM) as manager:
+        manager.settimeout(QUICK)
+        manager.bind(str(folder / "notify"))
+        os.chmod(folder / "notify", 0o777)
+        run = folder / "links"
+        run.mkdir(mode=0o700)
+        process = o.start("unit", "env", f"NOTIFY_SOCKET={folder}/notify", f"RUNTIME_DIRECTORY={run}", *words)
+        same("what systemd gets", manager.recv(99), b"READY=1")
+    process.send_signal(signal.SIGTERM)
+    same("the status of the companion", process.wait(QUICK), 0)
