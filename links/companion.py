@@ -20,8 +20,10 @@ from system import UP, WATCH, devices, state_of
 from table import Fault
 from wire import Wire
 
-# Seconds that links are waited for at the start, and until an ended router is started again; datagrams at a time.
-PATIENCE, PAUSE, AT_ONCE = 10, 1, 64
+# Seconds that links are waited for at the start, until an ended router is started again, that an earlier router's routes
+# stay without being told again, from one look at the kernel's routes to the next, and that what the router has sent goes
+# out after its end; datagrams at a time.
+PATIENCE, PAUSE, STAY, LOOK, REST, AT_ONCE = 10, 1, 10, 60, 5, 64
 # A change in the router's log.
 CHANGE = re.compile(r"(?:add|del) ([0-9a-f:]+/\d+)(?: metric \d+ (?:direct|via ([0-9a-f:]+) iface (\d+)))?")
 # A line of `ip monitor` on a device without a carrier.
@@ -52,7 +54,7 @@ class Companion:
         self.router = Router(table.program, self.folder)
         self.relays = [Relay(link, self.wire, self.router, self.met) for link in table.link if not link.stub]
         self.forwarding, self.owned, self.attached = {}, {}, {}
-        self.devices, self.stopping, self.fault = {}, asyncio.Event(), None
+        self.devices, self.stopping, self.fault, self.sweeping = {}, asyncio.Event(), None, None
 
     async def run(self):
         """Everything until a signal ends it, or a fault does, which it answers."""
@@ -60,7 +62,8 @@ class Companion:
         loop.set_exception_handler(lambda _, told: self.stop(told.get("exception") or Fault(told["message"], 3)))
         for number in (signal.SIGTERM, signal.SIGINT, signal.SIGHUP, signal.SIGUSR1):
             loop.add_signal_handler(number, self.count if number == signal.SIGUSR1 else self.stop)
-        self.kernel.clear()
+        self.kernel.adopt()
+        self.sweep_after(PATIENCE + STAY)
         watch = subprocess.Popen(WATCH, stdout=subprocess.PIPE, start_new_session=True, preexec_fn=privilege.leave)
         os.set_blocking(watch.stdout.fileno(), False)
         loop.add_reader(watch.stdout, self.moved, watch.stdout)
@@ -68,12 +71,15 @@ class Companion:
         await asyncio.start_unix_server(functools.partial(status.answer, self), f"{self.folder}/{status.SOCKET}")
         self.look()
         status.notify("READY=1")
+        loop.call_later(LOOK, self.check)
+        self.ending = asyncio.create_task(self.stopping.wait())
         keeper = asyncio.create_task(self.keep_router())
-        await asyncio.wait([keeper, asyncio.create_task(self.stopping.wait())], return_when=asyncio.FIRST_COMPLETED)
+        await asyncio.wait([keeper, self.ending], return_when=asyncio.FIRST_COMPLETED)
         loop.remove_reader(watch.stdout)
         watch.kill()
         await self.router.stop()
         await asyncio.wait([keeper])
+        await self.send_rest()
         self.kernel.clear()
         self.count()
         return self.fault or keeper.exception()
@@ -83,6 +89,13 @@ class Companion:
         if not self.stopping.is_set():
             self.fault = fault
             self.stopping.set()
+
+    async def send_rest(self):
+        """What the router has sent goes out, if it needs no longer than that."""
+        for _ in range(REST * 10):
+            if not any(port.waiting for relay in self.relays for port in relay.closing):
+                return
+            await asyncio.sleep(0.1)
 
     def count(self):
         """Says what was counted."""
@@ -123,10 +136,12 @@ class Companion:
             if relay.up and not (was_up and old.index == relay.device.index and name not in were_down):
                 self.forward(dict.fromkeys(here))
                 self.forward(here)
+                self.kernel.sweep(name)
                 relay.join()
             elif was_up and not relay.up:
                 say(f"{name} {state_of(relay.device)}")
                 self.forward(here)
+                self.kernel.sweep(name)
                 spawn(relay.withdraw())
         self.own()
         self.compare()
@@ -139,12 +154,16 @@ class Companion:
     def compare(self):
         """Starts the router anew where the links that are up are not as it has them."""
         separate(self.relays)
-        present = self.present()
-        changed = [relay.link.device for relay in present if present[relay] != self.attached.get(relay)]
+        changed = [relay.link.device for relay in self.present() if not self.suits(relay)]
         if self.attached and changed:
             say(f"{', '.join(changed)} changed, so the router starts anew")
             self.attached = {}
             spawn(self.router.stop())
+
+    def suits(self, relay):
+        """Whether the router has that link with its address, and sends nothing there that is too long for it."""
+        address, mtu = self.attached.get(relay, (None, 0))
+        return address == relay.address and mtu <= relay.device.mtu
 
     def present(self):
         """The links that a router would have, each with its address and MTU."""
@@ -169,12 +188,16 @@ class Companion:
             for command in told:
                 spawn(self.router.tell(command))
 
+    async def wait(self, seconds):
+        """Waits so long, or until all ends."""
+        await asyncio.wait([self.ending], timeout=seconds)
+
     async def wait_for_links(self):
         """Waits for all links a while, and says which are not up then."""
         for _ in range(PATIENCE * 10):
             if self.stopping.is_set() or all(relay.up for relay in self.relays):
                 break
-            await asyncio.sleep(0.1)
+            await self.wait(0.1)
         for link in self.table.link:
             state = state_of(self.devices.get(link.device), link.stub)
             if state != UP and not self.stopping.is_set():
@@ -185,9 +208,12 @@ class Companion:
         await self.wait_for_links()
         while not self.stopping.is_set():
             self.attached = self.present()
-            if self.attached:
-                await self.live()
-            await asyncio.sleep(0 if self.stopping.is_set() else PAUSE)
+            if not self.attached:
+                await self.wait(0.1)
+                continue
+            await self.live()
+            if self.attached:  # nobody has asked it to end
+                await self.wait(PAUSE)
 
     async def live(self):
         """A router's whole life, on the links that are attached."""
@@ -200,16 +226,30 @@ class Companion:
         self.lose(await self.router.live(text, self.debug, self.change, self.hear))
 
     def lose(self, code):
-        """The router has ended, and forwards nowhere."""
-        self.forward(dict.fromkeys(self.forwarding))
+        """The router has ended. The kernel keeps its routes until the next one has had time to tell its own."""
         self.forwarding = {}
+        self.kernel.expire()
+        self.sweep_after(STAY)
         for relay in self.relays:
             if relay.number is not None:
                 relay.detach()
         if code in (1, 2):
             raise Fault(f"the router refuses {self.router.config}")
-        if code and not self.stopping.is_set():
+        if code and self.attached and not self.stopping.is_set():
             say(f"the router has ended with status {code}")
+
+    def sweep_after(self, seconds):
+        """What is not told within that time is no route any longer."""
+        if self.sweeping:
+            self.sweeping.cancel()
+        self.sweeping = asyncio.get_running_loop().call_later(seconds, self.kernel.sweep)
+
+    def check(self):
+        """Looks at what nobody tells: routes that the kernel lacks, and losses."""
+        asyncio.get_running_loop().call_later(LOOK, self.check)
+        self.kernel.mend()
+        for relay in self.relays:
+            relay.say_lost()
 
     def hear(self, lines):
         """Lines of the router's standard error."""
@@ -217,6 +257,7 @@ class Companion:
             print(line, file=sys.stderr, flush=True)
             if line.startswith("ripngd: running, "):
                 self.router.ready = bool(self.attached)
+                self.sweep_after(STAY)
                 self.own()
                 for relay in self.relays:
                     relay.greet()

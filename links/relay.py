@@ -7,7 +7,7 @@ import re
 import time
 from ipaddress import IPv6Address
 
-from entries import is_response, without_next_hop
+from entries import Lists, is_response, without_next_hop
 from loopback import Inlet, Port
 from router import say, spawn
 from wire import GROUP, fault_of
@@ -16,6 +16,8 @@ from wire import GROUP, fault_of
 WAITING, WAITS, WITHDRAWALS = 1 << 21, 10, 61
 # A line of `ctl routes`.
 LEARNED = re.compile(r"(\S+)/(\d+) metric \d+ tag (\d+) via \S+ iface (\d+) from (\S+) live .*")
+# A count.
+LOST = "lost on the way to the router"
 # Asks for a whole table (RFC 2080 section 2.4.1).
 REQUEST = b"\1\1" + bytes(21) + b"\x10"
 # Seconds from one question to the next while nobody answers a link that has come up, whose neighbors may be slower; and
@@ -42,7 +44,8 @@ class Relay:
         self.real, self.made_up = None, None
         # In the order in which they were heard last.
         self.neighbors, self.counts = collections.OrderedDict(), collections.Counter()
-        self.waits, self.asks_again = 0, 0.0
+        self.waits, self.asks_again, self.said = 0, 0.0, 0
+        self.lists, self.closing = Lists(link.accept, link.reject, link.limit), []
 
     @property
     def up(self):
@@ -67,9 +70,10 @@ class Relay:
             if not neighbor.waiting:
                 self.forget(neighbor)
             elif neighbor.port:
-                neighbor.port.close()
+                self.close(neighbor.port)
                 neighbor.port = None
-        self.group.close()
+        self.close(self.group)
+        self.lists.taken.clear()
         self.number = self.group = self.inlet = None
 
     def forget(self, neighbor):
@@ -78,7 +82,12 @@ class Relay:
         self.counts["dropped: router not up"] += len(neighbor.waiting)
         self.waits -= sum(len(data) for _, data in neighbor.waiting)
         if neighbor.port:
-            neighbor.port.close()
+            self.close(neighbor.port)
+
+    def close(self, port):
+        """Nothing more comes from the router there; what has come goes out."""
+        port.close()
+        self.closing = [one for one in [*self.closing, port] if one.waiting]
 
     def transmit(self, data, to):
         """Sends on the link."""
@@ -101,6 +110,8 @@ class Relay:
         neighbor.asked |= to != GROUP and is_response(data)
         if self.made_up:
             data = without_next_hop(data, self.real, source)
+        data, refused = self.lists.judged(data, source, neighbor.heard)
+        self.counts["entries refused"] += refused
         if neighbor.known:
             self.hand_over(neighbor, data)
             self.ask(neighbor)
@@ -188,9 +199,16 @@ class Relay:
     def counted(self):
         """All counts, with what found no room between companion and router since that runs."""
         ports = [self.group, *(neighbor.port for neighbor in self.neighbors.values())] if self.inlet else []
-        lost = {"lost on the way to the router": self.inlet.lost() if self.inlet else 0}
+        lost = {LOST: self.inlet.lost() if self.inlet else 0}
         lost["not sent: too much at once"] = sum(port.lost for port in ports if port)
         return self.counts + collections.Counter(lost)
+
+    def say_lost(self):
+        """Says how much more was lost on the way to the router since this was asked last."""
+        lost = self.counted()[LOST]
+        if lost > self.said:
+            say(f"{self.link.device} {LOST} {lost}")
+        self.said = lost
 
     async def withdraw(self):
         """The link has no carrier: in its neighbors' stead the router is told metric 16 of each route through them."""

@@ -5,6 +5,8 @@ from dataclasses import dataclass, field, fields
 from ipaddress import IPv6Network
 from typing import get_origin
 
+from entries import ALL, Pattern
+
 
 class Fault(Exception):
     """What ends the companion. Its status is 1 where a table is at fault, so that no new start mends it, and else 3."""
@@ -24,6 +26,9 @@ class Link:
     own: bool = True
     tag: int = 0
     stub: bool = False
+    accept: list[str] = field(default_factory=list)
+    reject: list[str] = field(default_factory=list)
+    limit: int = ALL
 
 
 @dataclass
@@ -43,12 +48,12 @@ class Table:
     folder: str = "/run/ripngd-links"
     table: int = 254
     protocol: int = 152
-    priority: int = 521
+    priority: int = 2048
     link: list[dict] = field(default_factory=list)
     prefix: list[dict] = field(default_factory=list)
 
 
-NUMBERS = {"cost": 15, "peers": 256, "tag": 65535, "table": 2**32 - 1, "protocol": 255, "priority": 2**32 - 1}
+NUMBERS = {"cost": 15, "peers": 256, "limit": ALL, "tag": 65535, "table": 2**32 - 1, "protocol": 255, "priority": 2**32 - 1}
 LEAST = {"tag": 0, "protocol": 5}
 KINDS = {str: "a text", int: "a number", bool: "true or false", list: "an array"}
 LINKS = 16
@@ -84,6 +89,14 @@ def prefix_of(text, place):
         raise Fault(f"{place}: `{text}` is not an IPv6 prefix with its length") from None
 
 
+def pattern_of(text, place):
+    """A prefix, or with a `+` behind it that and all longer ones in it."""
+    if not isinstance(text, str):
+        raise Fault(f"{place} must be a text")
+    prefix = prefix_of(text.removesuffix("+"), place)
+    return Pattern(int(prefix.network_address), prefix.prefixlen, text.endswith("+"))
+
+
 def refuse_twice(names, place):
     """Each name stands once."""
     for number, name in enumerate(names):
@@ -95,6 +108,10 @@ def checked(table):
     """The table with its links and prefixes as records."""
     table.link = [made(Link, words, f"link[{number}].") for number, words in enumerate(table.link)]
     table.prefix = [made(Owned, words, f"prefix[{number}].") for number, words in enumerate(table.prefix)]
+    for number, link in enumerate(table.link):
+        for key in ("accept", "reject"):
+            place, texts = f"link[{number}].{key}", getattr(link, key)
+            setattr(link, key, [pattern_of(text, f"{place}[{at}]") for at, text in enumerate(texts)])
     for number, owned in enumerate(table.prefix):
         owned.prefix = str(prefix_of(owned.prefix, f"prefix[{number}].prefix"))
     refuse_twice([owned.prefix for owned in table.prefix], "prefix[{}].prefix")

@@ -1,7 +1,7 @@
 """Cases of link-local addresses: each means something on its link alone, so two links may have one."""
 
 from edges import stranger
-from least import QUICK, REGULAR, TRIGGERED, least, settle
+from least import QUICK, TRIGGERED, least, settle
 from spaces import Bird, Ours, same, until
 
 CABLES = [("b", 1, "o", 1), ("o", 1, "c", 1)]
@@ -38,8 +38,8 @@ def one_address_on_two_links(net, program):
     until(QUICK, "another address is made up", lambda: ours.link("to-c")["made_up_address"])
     settle(routers, least(CABLES, OWNED), QUICK)
     same("the kernel's routes", hops(ours), wanted)
-    same("the links", [(link["address"], link["made_up_address"] is None) for link in ours.status()["links"]],
-         [("fe80::2", True), ("fe80::2", False)])
+    told = [(link["address"], link["made_up_address"] is None) for link in ours.status()["links"]]
+    same("the links", told, [("fe80::2", True), ("fe80::2", False)])
     same("whether the companion runs", ours.process.poll(), None)
     ours.space.link_local("to-c", "fe80::3")
     until(QUICK, "it is itself again", lambda: ours.link("to-c")["address"] == "fe80::3")

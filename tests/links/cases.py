@@ -7,7 +7,9 @@ import sys
 import tempfile
 
 import addresses
+import changes
 import edges
+import lists
 import networks
 import service
 import soak
@@ -20,6 +22,8 @@ CASES += [edges.addresses_come_and_go, edges.links_come_and_go, edges.the_page, 
 CASES += [addresses.one_address_on_two_links, addresses.a_neighbor_with_our_address, starts.a_slow_router, starts.a_late_neighbor]
 CASES += [service.a_refused_table, service.ends_by_signals, service.links_that_are_not_there, service.losses_are_counted]
 CASES += [service.the_units]
+CASES += [changes.routes_stay, changes.what_is_not_told_goes, changes.routes_come_back]
+CASES += [lists.half_of_a_datagram, lists.the_greatest_number, lists.static_routes_win]
 # Played only where it is named.
 LONG = [soak.ten_minutes]
 

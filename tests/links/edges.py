@@ -97,7 +97,7 @@ def a_flood(net, program):
 OTHERS = (
     "2001:db8:77::/48 dev to-b proto static",
     "2001:db8:1::/48 dev to-b proto static metric 100",
-    "2001:db8:10::/48 dev to-b proto static metric 521",
+    "2001:db8:10::/48 dev to-b proto static metric 2048",
     "2001:db8:78::/48 dev to-b proto 152 table 100",
 )
 
@@ -137,10 +137,6 @@ def a_killed_companion(net, program):
     o.ip("-6", "route", "add", "2001:db8:dead::/48", "dev", "to-b", "proto", "152", "metric", "9")
     ours.start()
     has_learned()
-    [router] = filter(is_router, ours.children())
-    subprocess.run(["kill", "-KILL", str(router)], check=True)
-    until(5, "no route outlives the router", lambda: not ours.kernel())
-    has_learned()
     same("its status", ours.end(signal.SIGTERM), 0)
     same("routes of an ended one", ours.kernel(), {})
     same("routes of others", others_routes(o), before)
@@ -174,8 +170,7 @@ def links_come_and_go(net, program):
     bird = Bird(b, {"to-o": 1}, owned["b"], update=120)
     ours = Ours(o, program, {"to-b": {}, "to-c": {}}, owned["o"])
     routers = {"b": bird, "o": ours}
-    # An answer that comes before the router is up is lost, and BIRD's next update is two minutes away.
-    settle(routers, least(cables, owned), 150)
+    settle(routers, least(cables, owned), 2 * QUICK)
     o.do("sysctl", "-qw", "net.ipv6.conf.to-b.accept_dad=0")
     for _ in range(3):
         o.do("ip", "-batch", "-", input="link set to-b down\nlink set to-b up\n")
@@ -188,10 +183,9 @@ def links_come_and_go(net, program):
     o.ip("link", "del", "to-b")
     until(TRIGGERED, "nothing is reached", lambda: ours.table() == {"2001:db8:2::/48": 1} and not ours.kernel())
     net.cable(b, o)
-    # As above: BIRD may come up on the new link only behind the question.
-    settle(routers, least(cables, owned), 150)
+    settle(routers, least(cables, owned), 2 * QUICK)
     address = o.ip("-6", "-o", "address", "show", "dev", "to-b", "scope", "link").split()[3].split("/")[0]
-    same("whether it has the new address", f'"{address}"' in (ours.run / "router.toml").read_text(), True)
+    same("whether the router has the new address", f'"{address}"' in (ours.run / "router.toml").read_text(), True)
     routers["c"] = Bird(c, {"to-o": 1}, ["2001:db8:3::/48"])
     net.cable(c, o)
     settle(routers, least([*cables, ("c", 1, "o", 1)], owned | {"c": ["2001:db8:3::/48"]}), 2 * REGULAR)

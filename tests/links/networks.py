@@ -133,3 +133,5 @@ def many_routes(net, program):
 
         until(seconds, what, lambda: not differing(routers, wanted))
         settle(routers, wanted, 10)
+        lost = {what: number for what, number in routers["o"].link("to-b")["counts"].items() if "lost" in what or "dropped" in what}
+        same("what is lost", lost, {})

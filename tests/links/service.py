@@ -1,17 +1,15 @@
 """Cases of the companion as a service: how it ends, what it refuses, what it names, and what the units of systemd run."""
 
 import os
-import pathlib
 import re
 import signal
 import socket
 import subprocess
 import sys
-import time
 
 from edges import is_router, stranger
 from least import QUICK, REGULAR, TRIGGERED
-from spaces import COMPANION, ROOT, Bird, Ours, Wrong, same, until
+from spaces import COMPANION, ROOT, Bird, Ours, same, until
 
 LINK = '[[link]]\ndevice = "to-b"\n'
 # Tables that are refused, each with what is said of it.
@@ -75,10 +73,10 @@ def links_that_are_not_there(net, program):
     why = f"ripngd-links: cannot use {ours.run}: another ripngd-links is there; name another `folder`\n"
     same("a second one", (done.returncode, done.stderr), (3, why))
     text = subprocess.run([sys.executable, COMPANION, "status", ours.run], capture_output=True, text=True, check=True).stdout
-    address = next(iter(ours.kernel().values()))["gateway"]
-    for line in ("router is up, ", "kernel has 1 routes, refused 0", "to-b is up, address ", "eth9 is not there", "lan7 is not there, stub"):
-        same(f"whether status says `{line}`", re.search(f"^{line}", text, re.M) is not None, True)
-    same("whether status has the neighbor", re.search(rf"^  neighbor {address}, heard \d+ s ago, 1 routes$", text, re.M) is not None, True)
+    neighbor = f"  neighbor {next(iter(ours.kernel().values()))['gateway']}, heard \\d+ s ago, 1 routes"
+    links = ("to-b is up, address .*", "eth9 is not there", "lan7 is not there, stub")
+    for line in ("router is up, .*", "kernel has 1 routes, refused 0", *links, neighbor):
+        same(f"whether status says `{line}`", re.search(f"^{line}$", text, re.M) is not None, True)
 
 
 def losses_are_counted(net, program):
@@ -153,18 +151,18 @@ def the_units(net, program):
 def the_router_of_a_unit(net, folder):
     """Its log and its table are in the journal; its stop waits for its end; a refused configuration ends it with 1."""
     config = net.folder / "name.toml"
-    words = [word.replace("/etc/ripngd", str(net.folder)) for word in of_unit("ripngd", "ExecStart", bindir=folder, runtime=folder)]
-    for text, status in (((ROOT / "examples/east.toml").read_text().replace("52", "62"), 0), ("[[interface]]", 1)):
-        config.write_text(text)
-        router = subprocess.Popen(words, stdout=subprocess.PIPE, text=True, umask=0o077)
-        if status == 0:
-            until(QUICK, "it listens", (folder / "name.sock").exists)
-            stop = of_unit("ripngd", "ExecStop", bindir=folder, runtime=folder)
-            subprocess.run(stop, env=os.environ | {"MAINPID": str(router.pid)}, check=True, timeout=QUICK, stdout=subprocess.DEVNULL)
-        same("its status", router.wait(QUICK), status)
-        if status == 0:
-            route = "2001:db8:e::/48 metric 1 direct"
-            same("what the journal gets", router.stdout.read().splitlines(), [f"add {route}", route])
+    words = of_unit("ripngd", "ExecStart", bindir=folder, runtime=folder)
+    words = [word.replace("/etc/ripngd", str(net.folder)) for word in words]
+    config.write_text((ROOT / "examples/east.toml").read_text().replace("52", "62"))
+    router = subprocess.Popen(words, stdout=subprocess.PIPE, text=True, umask=0o077)
+    until(QUICK, "it listens", (folder / "name.sock").exists)
+    stop = of_unit("ripngd", "ExecStop", bindir=folder, runtime=folder)
+    stop = subprocess.Popen(stop, env=os.environ | {"MAINPID": str(router.pid)}, stdout=subprocess.DEVNULL)
+    same("its status", (router.wait(QUICK), stop.wait(QUICK)), (0, 0))
+    route = "2001:db8:e::/48 metric 1 direct"
+    same("what the journal gets", router.stdout.read().splitlines(), [f"add {route}", route])
+    config.write_text("[[interface]]")
+    same("the status of a refused one", subprocess.run(words, stdout=subprocess.DEVNULL, check=False).returncode, 1)
 
 
 def the_companion_of_a_unit(net, folder):

@@ -83,7 +83,9 @@ def main():
         sock.sendto(REQUEST, group)
         return print(answer(sock))
     kind, _, hop = kind.partition("=")
-    sent = {"next-hop": (through(hop or "::"),), "rubbish": RUBBISH, "neighbor": (RESPONSE,), "responses": (RESPONSE,), "requests": (REQUEST,)}
+    sent = {"rubbish": RUBBISH, "neighbor": (RESPONSE,), "responses": (RESPONSE,), "requests": (REQUEST,)}
+    if kind == "next-hop":
+        sent[kind] = (through(hop),)
     for _ in range(int(times)):
         for data in sent.get(kind, (RESPONSE, REQUEST)):
             sock.sendto(data, group)

@@ -1,0 +1,100 @@
+"""Cases of what changes while others go on: a link, the router, the companion. What need not leave the kernel stays."""
+
+import signal
+import subprocess
+import time
+
+from edges import is_router
+from least import QUICK, REGULAR, least, settle
+from spaces import Bird, Ours, same, until
+
+STAYS, GOES = "2001:db8:1::/48", "2001:db8:3::/48"
+# Seconds that the kernel keeps what no router tells any longer.
+STAY = 10
+
+
+def two_links(net, program):
+    """BIRD, ours, BIRD; a process writes what happens to routes of ours."""
+    b, o, c = (net.space(name) for name in "boc")
+    net.cable(b, o)
+    net.cable(o, c)
+    owned = {"b": [STAYS], "o": ["2001:db8:2::/48"], "c": [GOES]}
+    routers = {
+        "b": Bird(b, {"to-o": 1}, owned["b"]),
+        "o": Ours(o, program, {"to-b": {}, "to-c": {}}, owned["o"]),
+        "c": Bird(c, {"to-o": 1}, owned["c"]),
+    }
+    settle(routers, least([("b", 1, "o", 1), ("o", 1, "c", 1)], owned))
+    o.start("monitor", "ip", "-6", "monitor", "route")
+    return routers
+
+
+def is_deleted(ours, prefix):
+    return any(line.startswith(f"Deleted {prefix} ") for line in ours.space.text("monitor").splitlines())
+
+
+def routers_of(ours):
+    return [pid for pid in ours.children() if is_router(pid)]
+
+
+def kill_router(ours):
+    [router] = routers_of(ours)
+    subprocess.run(["kill", "-KILL", str(router)], check=True)
+
+
+def routes_stay(net, program):
+    """A link changes, the router dies, the companion dies: routes never leave the kernel."""
+    ours = two_links(net, program)["o"]
+    config = ours.run / "router.toml"
+
+    def another_after(what, do):
+        """There is another router, which learns all."""
+        before = config.read_text()
+        do()
+        until(QUICK, f"another router has learned after {what}", lambda: config.read_text() != before and len(ours.table()) == 3)
+        time.sleep(STAY + 2)
+        for prefix in (STAYS, GOES):
+            same(f"whether {prefix} has left after {what}", is_deleted(ours, prefix), False)
+        same(f"the kernel's routes after {what}", set(ours.kernel()), {STAYS, GOES})
+
+    def companion_dies():
+        ours.end(signal.SIGKILL)
+        ours.start()
+
+    another_after("a smaller MTU", lambda: ours.space.ip("link", "set", "to-c", "mtu", "1400"))
+    before = routers_of(ours)
+    ours.space.ip("link", "set", "to-c", "mtu", "1500")
+    time.sleep(2)
+    same("the router after a larger MTU", routers_of(ours), before)
+    another_after("the end of the router", lambda: kill_router(ours))
+    another_after("the end of the companion", companion_dies)
+
+
+def what_is_not_told_goes(net, program):
+    """The next router does not tell a route whose neighbor is gone: it leaves the kernel ten seconds later."""
+    routers = two_links(net, program)
+    ours = routers["o"]
+    routers["c"].ask("down")
+    time.sleep(1)
+    kill_router(ours)
+    time.sleep(STAY / 2)
+    same("the kernel's routes at first", set(ours.kernel()), {STAYS, GOES})
+    until(STAY + 2, "it goes", lambda: set(ours.kernel()) == {STAYS})
+    same("whether another has left", is_deleted(ours, STAYS), False)
+
+
+def routes_come_back(net, program):
+    """A route that the kernel refused is added once it can be, and one that somebody took away is added again."""
+    b, o = net.space("b"), net.space("o")
+    net.cable(b, o)
+    other = ["2001:db8:10::/48", "dev", "to-b", "proto", "static", "metric", "2048"]
+    o.ip("-6", "route", "add", *other)
+    Bird(b, {"to-o": 1}, [STAYS, "2001:db8:10::/48"])
+    ours = Ours(o, program, {"to-b": {}})
+    until(REGULAR, "it has learned", lambda: set(ours.kernel()) == {STAYS})
+    same("what is refused", ours.status()["kernel"]["refused"], ["2001:db8:10::/48"])
+    same("whether that is said", "refuses 1 routes, that to 2001:db8:10::/48" in o.text("companion"), True)
+    o.ip("-6", "route", "del", *other)
+    o.ip("-6", "route", "del", STAYS, "proto", "152")
+    until(75, "both are there", lambda: set(ours.kernel()) == {STAYS, "2001:db8:10::/48"})
+    same("what is refused then", ours.status()["kernel"]["refused"], [])

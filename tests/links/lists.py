@@ -1,0 +1,53 @@
+"""Cases of what a link takes: its lists, the greatest number, and what a learned route stands behind in the kernel."""
+
+from addresses import BAD, BAE, hops
+from edges import stranger
+from least import QUICK, REGULAR
+from spaces import Bird, Ours, same, until
+
+
+def half_of_a_datagram(net, program):
+    """Of two routes, one by way of a next hop entry, either is refused: the other one stands as it would by itself."""
+    o, s = net.space("o"), net.space("s")
+    net.cable(o, s)
+    s.link_local("to-o", "fe80::5")
+    for number, (refused, wanted) in enumerate(((BAE, {BAD: ("fe80::99", "to-s")}), (BAD, {BAE: ("fe80::5", "to-s")}))):
+        ours = Ours(o, program, {"to-s": {"accept": ["2001:db8::/32+"], "reject": [refused]}}, ["2001:db8:2::/48"])
+        until(QUICK, "the router is up", ours.table)
+        stranger(s, "next-hop=fe80::99", "fe80::5", 2)
+        until(QUICK, "the route is there", ours.kernel)
+        same("the kernel's routes", hops(ours), wanted)
+        same("what the router has of the other", ours.routes().get(refused), None)
+        same("what is counted", ours.link("to-s")["counts"]["entries refused"], 2)
+        same("the status", ours.end(15), 0)
+
+
+def the_greatest_number(net, program):
+    """Three of five prefixes have room; what is withdrawn makes room for another, at its next update."""
+    b, o = net.space("b"), net.space("o")
+    net.cable(b, o)
+    prefixes = [f"2001:db8:{number}::/48" for number in range(1, 6)]
+    bird = Bird(b, {"to-o": 1}, prefixes[:3], update=10)
+    ours = Ours(o, program, {"to-b": {"limit": 3}})
+    until(REGULAR, "it has learned", lambda: set(ours.kernel()) == set(prefixes[:3]))
+    bird.own(prefixes)
+    until(REGULAR, "the others are refused", lambda: ours.link("to-b")["counts"].get("entries refused", 0) >= 2)
+    same("the kernel's routes", set(ours.kernel()), set(prefixes[:3]))
+    bird.own(prefixes[1:4])
+    until(REGULAR, "another has room", lambda: set(ours.kernel()) == set(prefixes[1:4]))
+
+
+def static_routes_win(net, program):
+    """A neighbor tells a default route and a prefix that are static here: packets go where the operator has said."""
+    b, o, c = (net.space(name) for name in "boc")
+    net.cable(b, o)
+    net.cable(o, c)
+    o.ip("address", "add", "2001:db8:77::2/64", "dev", "to-c", "nodad")
+    for prefix in ("default", "2001:db8:99::/48"):
+        o.ip("-6", "route", "add", prefix, "via", "2001:db8:77::3")
+    bird = Bird(b, {"to-o": 1}, ["::/0", "2001:db8:99::/48", "2001:db8:1::/48"])
+    ours = Ours(o, program, {"to-b": {}, "to-c": {}})
+    until(REGULAR, "it has learned", lambda: len(ours.kernel()) == 3)
+    for address, device in (("2600::1", "to-c"), ("2001:db8:99::1", "to-c"), ("2001:db8:1::1", "to-b")):
+        same(f"the way to {address}", f" dev {device} " in o.ip("-6", "route", "get", address), True)
+    same("whether BIRD is there", bool(bird.table()), True)
