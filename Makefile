@@ -10,6 +10,7 @@
 #                   examples below PREFIX (and DESTDIR before it); with UNPROVED=1 a program that is not proved, too
 # make uninstall    takes them away again
 # make dist         what is installed, and checksums, in one file below dist
+# make deb          the same as a Debian package below dist (needs dpkg-deb)
 # make bench        times of a router and its forwarding table, as tables grow
 # make beside       what a route costs here and in BIRD, one after the other (needs root and BIRD, a package of the system)
 # make pictures     pictures of the examples, below docs (needs Chromium, a package of the system)
@@ -20,6 +21,10 @@ HEX ?= 02010000
 SCRIPT ?= examples/line.lab
 ROUTES ?= 1024 4096 16384 65536
 OUT ?= film.html
+
+# The program that is installed.
+PROGRAM ?= bin/ripngd
+DIST ?= dist
 
 # Where `make install` puts things, under the names that packages use. PREFIX is heard too.
 PREFIX ?= /usr/local
@@ -37,7 +42,7 @@ folders = docs docs/pictures examples examples/lessons page
 VERSION = $(shell sed -n 's/^pub const VERSION: &str = "\(.*\)";/\1/p' crates/ripngd_command_line/src/help.rt)
 name = ripngd-$(VERSION)$(if $(UNPROVED),-unproved)-x86_64-linux
 
-.PHONY: all prove test check lab show page film install uninstall dist proved bench beside pictures mutants clean
+.PHONY: all prove test check lab show page film install uninstall dist deb proved bench beside pictures mutants clean
 
 all: bin/ripngd
 
@@ -77,8 +82,8 @@ film:
 
 # What is installed is proved, but where UNPROVED says otherwise.
 proved:
-	@if [ ! -x bin/ripngd ] || { [ -z '$(UNPROVED)' ] && bin/ripngd --version | grep -q unproved; }; then \
-	echo 'bin/ripngd is not there, or not proved: `make prove` first, or `make` and UNPROVED=1' >&2; exit 1; fi
+	@if [ ! -x $(PROGRAM) ] || { [ -z '$(UNPROVED)' ] && $(PROGRAM) --version | grep -q unproved; }; then \
+	echo '$(PROGRAM) is not there, or not proved: `make prove` first, or `make` and UNPROVED=1' >&2; exit 1; fi
 
 # Units start no unproved program, but where one is installed.
 for_units = -e 's|@bindir@|$(bindir)|' -e 's|@unproved@|$(if $(UNPROVED), --unproved)|' $(if $(UNPROVED),-e '/grep unproved/d')
@@ -88,7 +93,7 @@ for_units = -e 's|@bindir@|$(bindir)|' -e 's|@unproved@|$(if $(UNPROVED), --unpr
 install: proved
 	$(INSTALL) -d $(DESTDIR)$(bindir) $(DESTDIR)$(mandir)/man8 $(DESTDIR)$(unitdir) $(DESTDIR)$(linksdir)
 	$(INSTALL) -d $(addprefix $(DESTDIR)$(docdir)/,$(folders) links)
-	$(INSTALL) -m 755 bin/ripngd $(DESTDIR)$(bindir)/ripngd
+	$(INSTALL) -m 755 $(PROGRAM) $(DESTDIR)$(bindir)/ripngd
 	$(INSTALL) -m 644 links/*.py $(DESTDIR)$(linksdir)
 	$(INSTALL) -m 755 links/ripngd-links $(DESTDIR)$(linksdir)
 	ln -sfr $(DESTDIR)$(linksdir)/ripngd-links $(DESTDIR)$(bindir)/ripngd-links
@@ -108,6 +113,11 @@ dist:
 	$(MAKE) install DESTDIR=$(CURDIR)/dist/$(name) prefix=/usr/local
 	cd dist/$(name) && find . -type f -print0 | LC_ALL=C sort -z | xargs -0 sha256sum > ../SHA256SUMS && mv ../SHA256SUMS .
 	cd dist && tar --sort=name --owner=0 --group=0 --numeric-owner --mtime=@0 -czf $(name).tar.gz $(name) && sha256sum $(name).tar.gz > $(name).tar.gz.sha256
+
+deb:
+	rm -rf $(DIST)/deb
+	$(MAKE) install DESTDIR=$(abspath $(DIST))/deb prefix=/usr
+	tools/deb.sh $(DIST)/deb $(VERSION)$(if $(UNPROVED),~unproved) $(DIST)/ripngd_$(VERSION)$(if $(UNPROVED),~unproved)_amd64.deb
 
 bench:
 	tools/prove.sh test_rows bin/test_rows

@@ -17,7 +17,7 @@ program=$(realpath "${1:-$root/bin/ripngd}")
 lacks() {
     [ "$(id -u)" = 0 ] || echo "no root"
     local name
-    for name in ip bird birdc vtysh python3 pgrep setpriv; do
+    for name in ip bird birdc vtysh python3 pgrep setpriv dpkg-deb; do
         command -v "$name" > /dev/null || echo "no $name"
     done
     [ -x /usr/lib/frr/ripngd ] || echo "no ripngd of FRR"

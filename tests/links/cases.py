@@ -11,6 +11,7 @@ import changes
 import edges
 import lists
 import networks
+import package
 import service
 import soak
 import starts
@@ -20,10 +21,10 @@ CASES = [networks.a_line, networks.a_ring, networks.a_lossy_cable, networks.many
 CASES += [edges.a_stranger, edges.many_neighbors, edges.a_flood, edges.a_killed_companion]
 CASES += [edges.addresses_come_and_go, edges.links_come_and_go, edges.the_page, edges.no_privilege, edges.an_unproved_router]
 CASES += [addresses.one_address_on_two_links, addresses.a_neighbor_with_our_address, starts.a_slow_router, starts.a_late_neighbor]
-CASES += [service.a_refused_table, service.ends_by_signals, service.links_that_are_not_there, service.losses_are_counted]
-CASES += [service.the_units]
 CASES += [changes.routes_stay, changes.what_is_not_told_goes, changes.routes_come_back]
 CASES += [lists.half_of_a_datagram, lists.the_greatest_number, lists.static_routes_win]
+CASES += [service.a_refused_table, service.ends_by_signals, service.links_that_are_not_there, service.losses_are_counted]
+CASES += [service.the_units, package.a_package]
 # Played only where it is named.
 LONG = [soak.ten_minutes]
 
