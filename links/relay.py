@@ -67,6 +67,7 @@ class Relay:
         self.counts["dropped: router not up"] += self.inlet.close()
         self.counts = self.counted()
         for neighbor in list(self.neighbors.values()):
+            neighbor.known = False
             if not neighbor.waiting:
                 self.forget(neighbor)
             elif neighbor.port:
@@ -103,16 +104,13 @@ class Relay:
         """A datagram that came on the link is for the router, now or when it is ready, or counted with why it is not."""
         fault = fault_of(self.device, source, port, to, hops)
         neighbor = None if fault else self.neighbor(source)
-        if not neighbor or not neighbor.known and self.waits + len(data) > WAITING:
+        is_known = neighbor and neighbor.known and self.router.ready
+        if not neighbor or not is_known and self.waits + len(data) > WAITING:
             self.counts[f"dropped: {fault or 'too much at once'}"] += 1
             return
         neighbor.heard = time.monotonic()
         neighbor.asked |= to != GROUP and is_response(data)
-        if self.made_up:
-            data = without_next_hop(data, self.real, source)
-        data, refused = self.lists.judged(data, source, neighbor.heard)
-        self.counts["entries refused"] += refused
-        if neighbor.known:
+        if is_known:
             self.hand_over(neighbor, data)
             self.ask(neighbor)
         else:
@@ -120,6 +118,11 @@ class Relay:
             self.waits += len(data)
 
     def hand_over(self, neighbor, data):
+        """The router gets it, byte for byte but for what is refused of it or names an address that the router lacks."""
+        if self.made_up:
+            data = without_next_hop(data, self.real, neighbor.address)
+        data, refused = self.lists.judged(data, neighbor.address, time.monotonic())
+        self.counts["entries refused"] += refused
         taken = self.inlet.put(neighbor.port.socket, data)
         self.counts["taken" if taken else "dropped: too much at once"] += 1
 
@@ -132,7 +135,8 @@ class Relay:
             if silent:
                 self.forget(silent)
                 self.counts["neighbors let go"] += 1
-                spawn(self.router.tell(f"unpeer {self.number} {silent.address}"))
+                if self.router.ready:
+                    spawn(self.router.tell(f"unpeer {self.number} {silent.address}"))
             self.neighbors[source] = Neighbor(source)
             self.met(self, source)
             self.greet()
@@ -185,7 +189,7 @@ class Relay:
             say(f"{self.link.device} is not heard: {fault.strerror}")
         for neighbor in self.neighbors.values():
             neighbor.asked = False
-            if neighbor.known:
+            if neighbor.known and self.router.ready:
                 self.hand_over(neighbor, REQUEST)
         spawn(self.inquire())
 
