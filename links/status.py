@@ -74,9 +74,13 @@ def lines(told):
 
 async def answer(companion, _, writer):
     """A client is told all, and let go."""
-    writer.write(json.dumps(report(companion)).encode() + b"\n")
-    await writer.drain()
-    writer.close()
+    try:
+        writer.write(json.dumps(report(companion)).encode() + b"\n")
+        await writer.drain()
+    except OSError:  # it has gone
+        pass
+    finally:
+        writer.close()
 
 
 def notify(text):

@@ -2,6 +2,7 @@
 
 import os
 import re
+import shutil
 import signal
 import socket
 import subprocess
@@ -55,7 +56,7 @@ def ends_by_signals(net, program):
             for pid in processes if turn % 4 == 1 else processes[::-1]:
                 os.kill(pid, number)
         same(f"the status by {number.name}", ours.process.wait(20), 0)
-        same(f"what is said by {number.name}", "has ended" in ours.space.text("companion"), False)
+        same(f"what is said by {number.name}", "`ip monitor` has ended" in ours.space.text("companion"), False)
         same("routes of an ended one", ours.kernel(), {})
         ours.start()
 
@@ -142,10 +143,22 @@ def the_units(net, program):
         keys = unit(name)
         same(f"keys of {name}@", {key: keys.get(key) for key in wanted}, {key: [value] for key, value in wanted.items()})
     folder = net.folder / "run"
-    folder.mkdir(mode=0o700)
+    folder.mkdir(mode=0o755)
     (folder / "ripngd").symlink_to(program)
+    if shutil.which("systemd-analyze"):
+        verify(folder)
     the_router_of_a_unit(net, folder)
     the_companion_of_a_unit(net, folder)
+
+
+def verify(folder):
+    """Says nothing of the units, as they are installed."""
+    (folder / "ripngd-links").symlink_to(COMPANION)
+    for name in ("ripngd", "ripngd-links"):
+        text = (ROOT / f"docs/{name}@.service").read_text().replace("@bindir@", str(folder)).replace("@unproved@", "")
+        (folder / f"{name}@.service").write_text(text)
+        words = ["systemd-analyze", "verify", "--man=no", folder / f"{name}@.service"]
+        same(f"faults of {name}@", subprocess.run(words, capture_output=True, text=True, check=False).stderr, "")
 
 
 def the_router_of_a_unit(net, folder):
