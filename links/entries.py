@@ -74,6 +74,8 @@ class Lists:
             return False
         if self.accept and not any(one.has(*prefix) for one in self.accept):
             return False
+        if self.limit == ALL:
+            return True
         first, until = self.taken.get(prefix, (source, 0))
         if until < now and not self.has_room(now):
             return False

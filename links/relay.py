@@ -5,6 +5,7 @@ import collections
 import functools
 import re
 import time
+from dataclasses import dataclass, field
 from ipaddress import IPv6Address
 
 from entries import Lists, is_response, without_next_hop
@@ -25,13 +26,17 @@ REQUEST = b"\1\1" + bytes(21) + b"\x10"
 PATIENCE, APART = (0, 2, 3), 0.05
 
 
+@dataclass
 class Neighbor:
     """A router on the link: its port, whether the router knows it, whether it was asked for its table or has answered
-    since the link came up, when it was heard last, and what waits for the router until that knows it."""
+    since the link came up, when it was heard last, and what waits for the router until that knows it, with its times."""
 
-    def __init__(self, address):
-        self.address, self.port, self.known, self.asked, self.heard = address, None, False, False, 0.0
-        self.waiting = []
+    address: IPv6Address
+    port: Port | None = None
+    known: bool = False
+    asked: bool = False
+    heard: float = 0.0
+    waiting: list[tuple[float, bytes]] = field(default_factory=list)
 
 
 class Relay:
