@@ -5,7 +5,7 @@ import subprocess
 import time
 
 from edges import is_router
-from least import QUICK, REGULAR, least, settle
+from least import REGULAR, TRIGGERED, least, settle
 from spaces import Bird, Ours, same, until
 
 STAYS, GOES = "2001:db8:1::/48", "2001:db8:3::/48"
@@ -51,7 +51,7 @@ def routes_stay(net, program):
         """There is another router, which learns all."""
         before = config.read_text()
         do()
-        until(QUICK, f"another router has learned after {what}", lambda: config.read_text() != before and len(ours.table()) == 3)
+        until(TRIGGERED, f"another router has learned after {what}", lambda: config.read_text() != before and len(ours.table()) == 3)
         time.sleep(STAY + 2)
         for prefix in (STAYS, GOES):
             same(f"whether {prefix} has left after {what}", is_deleted(ours, prefix), False)
@@ -79,7 +79,7 @@ def what_is_not_told_goes(net, program):
     kill_router(ours)
     time.sleep(STAY / 2)
     same("the kernel's routes at first", set(ours.kernel()), {STAYS, GOES})
-    until(STAY + 2, "it goes", lambda: set(ours.kernel()) == {STAYS})
+    until(2 * STAY, "it goes", lambda: set(ours.kernel()) == {STAYS})
     same("whether another has left", is_deleted(ours, STAYS), False)
 
 

@@ -170,7 +170,7 @@ def links_come_and_go(net, program):
     bird = Bird(b, {"to-o": 1}, owned["b"], update=120)
     ours = Ours(o, program, {"to-b": {}, "to-c": {}}, owned["o"])
     routers = {"b": bird, "o": ours}
-    settle(routers, least(cables, owned), 2 * QUICK)
+    settle(routers, least(cables, owned), TRIGGERED)
     o.do("sysctl", "-qw", "net.ipv6.conf.to-b.accept_dad=0")
     for _ in range(3):
         o.do("ip", "-batch", "-", input="link set to-b down\nlink set to-b up\n")
@@ -183,7 +183,7 @@ def links_come_and_go(net, program):
     o.ip("link", "del", "to-b")
     until(TRIGGERED, "nothing is reached", lambda: ours.table() == {"2001:db8:2::/48": 1} and not ours.kernel())
     net.cable(b, o)
-    settle(routers, least(cables, owned), 2 * QUICK)
+    settle(routers, least(cables, owned), TRIGGERED)
     address = o.ip("-6", "-o", "address", "show", "dev", "to-b", "scope", "link").split()[3].split("/")[0]
     same("whether the router has the new address", f'"{address}"' in (ours.run / "router.toml").read_text(), True)
     routers["c"] = Bird(c, {"to-o": 1}, ["2001:db8:3::/48"])

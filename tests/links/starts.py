@@ -2,7 +2,7 @@
 
 import time
 
-from least import QUICK, REGULAR, least, settle
+from least import QUICK, REGULAR, TRIGGERED, least, settle
 from spaces import Bird, Frr, Ours, same, until
 
 # Seconds from one regular update of a neighbor to the next, so that only a question brings its table.
@@ -29,7 +29,7 @@ def a_slow_router(net, program):
     slow.chmod(0o755)
     ours = routers["o"] = Ours(o, slow, {"to-b": {}, "to-c": {}}, owned["o"])
     ours.program = program
-    settle(routers, least([("b", 1, "o", 1), ("o", 1, "c", 1)], owned), QUICK)
+    settle(routers, least([("b", 1, "o", 1), ("o", 1, "c", 1)], owned), TRIGGERED)
     counts = ours.counts()
     same("what is dropped", {what: number for what, number in counts.items() if "dropped" in what}, {})
 
@@ -46,4 +46,4 @@ def a_late_neighbor(net, program):
     f.ip("link", "set", "to-o", "down")
     until(QUICK, "its route is gone", lambda: not routers["o"].kernel())
     f.ip("link", "set", "to-o", "up")
-    until(2 * QUICK, "its route is back", lambda: routers["o"].kernel())
+    until(TRIGGERED, "its route is back", lambda: routers["o"].kernel())
