@@ -136,7 +136,8 @@ class Companion:
             if relay.up and not (was_up and old.index == relay.device.index and name not in were_down):
                 self.forward(dict.fromkeys(here))
                 self.forward(here)
-                self.kernel.sweep(name)
+                if was_up:
+                    self.kernel.sweep(name)
                 relay.join()
             elif was_up and not relay.up:
                 say(f"{name} {state_of(relay.device)}")

@@ -84,6 +84,7 @@ def losses_are_counted(net, program):
     """A router that does not take what is there for a while misses nothing of its links; what others make it miss is said."""
     o, s = net.space("o"), net.space("s")
     net.cable(o, s)
+    s.link_local("to-o", "fe80::5")
     ours = Ours(o, program, {"to-s": {}}, ["2001:db8:2::/48"])
     until(TRIGGERED, "the router is up", ours.table)
     stranger(s, "request")
@@ -167,7 +168,7 @@ def the_router_of_a_unit(net, folder):
     words = of_unit("ripngd", "ExecStart", bindir=folder, runtime=folder)
     words = [word.replace("/etc/ripngd", str(net.folder)) for word in words]
     config.write_text((ROOT / "examples/east.toml").read_text().replace("52", "62"))
-    router = subprocess.Popen(words, stdout=subprocess.PIPE, text=True, umask=0o077)
+    router = subprocess.Popen(words, stdout=subprocess.PIPE, stderr=subprocess.DEVNULL, text=True, umask=0o077)
     until(QUICK, "it listens", (folder / "name.sock").exists)
     stop = of_unit("ripngd", "ExecStop", bindir=folder, runtime=folder)
     stop = subprocess.Popen(stop, env=os.environ | {"MAINPID": str(router.pid)}, stdout=subprocess.DEVNULL)
