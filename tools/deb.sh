@@ -23,8 +23,8 @@ echo 'ripngd: unstripped-binary-or-object' > "$folder/usr/share/lintian/override
 gzip -9nf "$folder"/usr/share/man/man8/*.8
 printf 'ripngd (%s) unstable; urgency=medium\n\n  * docs/CHANGELOG.md says what has changed.\n\n -- %s  %s\n' \
     "$version" "$maintainer" "$date" | gzip -9n > "$doc/changelog.gz"
-printf 'ripngd: a RIPng router, a companion for real links and a simulator\n\nCopyright: its authors.\n\n%s\n' \
-    'No licence has been chosen yet, so all rights are reserved.' > "$doc/copyright"
+printf 'ripngd: a RIPng router, a companion for real links and a simulator\n\nCopyright (C) %s %s\n\n%s\n' "$(date -ud "@$SOURCE_DATE_EPOCH" +%Y)" \
+    "$maintainer" 'No licence has been chosen yet, so all rights are reserved.' > "$doc/copyright"
 
 cat > "$folder/DEBIAN/control" <<END
 Package: ripngd
