@@ -64,7 +64,7 @@ class Companion:
             loop.add_signal_handler(number, self.count if number == signal.SIGUSR1 else self.stop)
         self.kernel.adopt()
         self.sweep_after(PATIENCE + STAY)
-        watch = subprocess.Popen(WATCH, stdout=subprocess.PIPE, start_new_session=True, preexec_fn=privilege.leave)
+        watch = subprocess.Popen(WATCH, stdout=subprocess.PIPE, preexec_fn=privilege.leave)
         os.set_blocking(watch.stdout.fileno(), False)
         loop.add_reader(watch.stdout, self.moved, watch.stdout)
         loop.add_reader(self.wire.socket, self.receive)

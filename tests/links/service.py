@@ -7,6 +7,7 @@ import signal
 import socket
 import subprocess
 import sys
+import time
 
 from edges import is_router, stranger
 from least import QUICK, REGULAR, TRIGGERED
@@ -37,7 +38,8 @@ def a_refused_table(net, program):
         done = subprocess.run([sys.executable, COMPANION, table], capture_output=True, text=True, timeout=30, check=False)
         same("status and line", (done.returncode, done.stderr), (1, f"ripngd-links: {table}: {why}\n"))
     table.write_text(f'program = "{program}"\nfolder = "{net.folder}/run"\n' + LINK)
-    done = subprocess.run([sys.executable, COMPANION, "--unproved", table], capture_output=True, text=True, check=False)
+    words = [sys.executable, COMPANION, "--unproved", table]
+    done = subprocess.run(words, capture_output=True, text=True, timeout=30, check=False)
     same("without an account", (done.returncode, "user is missing" in done.stderr), (1, True))
 
 
@@ -54,7 +56,8 @@ def ends_by_signals(net, program):
         else:
             processes = [ours.process.pid, *ours.children()]
             for pid in processes if turn % 4 == 1 else processes[::-1]:
-                os.kill(pid, number)
+                subprocess.run(["kill", f"-{number.name[3:]}", str(pid)], stderr=subprocess.DEVNULL, check=False)
+                time.sleep(0.2)
         same(f"the status by {number.name}", ours.process.wait(20), 0)
         same(f"what is said by {number.name}", "`ip monitor` has ended" in ours.space.text("companion"), False)
         same("routes of an ended one", ours.kernel(), {})
@@ -70,7 +73,8 @@ def links_that_are_not_there(net, program):
     until(REGULAR, "it has learned", ours.kernel)
     for line in ("eth9 is not there", "lo has no link-local address", "lan7 is not there"):
         same(f"whether `{line}` is said", f"ripngd-links: {line}\n" in o.text("companion"), True)
-    done = subprocess.run([sys.executable, COMPANION, "--unproved", ours.config], capture_output=True, text=True, check=False)
+    words = [sys.executable, COMPANION, "--unproved", ours.config]
+    done = subprocess.run(words, capture_output=True, text=True, timeout=30, check=False)
     why = f"ripngd-links: cannot use {ours.run}: another ripngd-links is there; name another `folder`\n"
     same("a second one", (done.returncode, done.stderr), (3, why))
     text = subprocess.run([sys.executable, COMPANION, "status", ours.run], capture_output=True, text=True, check=True).stdout
@@ -148,8 +152,10 @@ def the_units(net, program):
     (folder / "ripngd").symlink_to(program)
     if shutil.which("systemd-analyze"):
         verify(folder)
-    the_router_of_a_unit(net, folder)
-    the_companion_of_a_unit(net, folder)
+    b, o = net.space("b"), net.space("o")
+    net.cable(b, o)
+    the_router_of_a_unit(net, folder, ["ip", "netns", "exec", o.full])
+    the_companion_of_a_unit(net, folder, o)
 
 
 def verify(folder):
@@ -162,13 +168,14 @@ def verify(folder):
         same(f"faults of {name}@", subprocess.run(words, capture_output=True, text=True, check=False).stderr, "")
 
 
-def the_router_of_a_unit(net, folder):
+def the_router_of_a_unit(net, folder, within):
     """Its log and its table are in the journal; its stop waits for its end; a refused configuration ends it with 1."""
     config = net.folder / "name.toml"
     words = of_unit("ripngd", "ExecStart", bindir=folder, runtime=folder)
-    words = [word.replace("/etc/ripngd", str(net.folder)) for word in words]
-    config.write_text((ROOT / "examples/east.toml").read_text().replace("52", "62"))
-    router = subprocess.Popen(words, stdout=subprocess.PIPE, stderr=subprocess.DEVNULL, text=True, umask=0o077)
+    words = within + [word.replace("/etc/ripngd", str(net.folder)) for word in words]
+    shutil.copy(ROOT / "examples/east.toml", config)
+    quiet = {"stderr": subprocess.DEVNULL, "text": True, "umask": 0o077}
+    router = subprocess.Popen(words, stdout=subprocess.PIPE, **quiet)
     until(QUICK, "it listens", (folder / "name.sock").exists)
     stop = of_unit("ripngd", "ExecStop", bindir=folder, runtime=folder)
     stop = subprocess.Popen(stop, env=os.environ | {"MAINPID": str(router.pid)}, stdout=subprocess.DEVNULL)
@@ -179,10 +186,8 @@ def the_router_of_a_unit(net, folder):
     same("the status of a refused one", subprocess.run(words, stdout=subprocess.DEVNULL, check=False).returncode, 1)
 
 
-def the_companion_of_a_unit(net, folder):
+def the_companion_of_a_unit(net, folder, space):
     """It says when it is ready, and when TERM comes to it alone its status is 0."""
-    b, o = net.space("b"), net.space("o")
-    net.cable(b, o)
     (net.folder / "name.toml").write_text(f'program = "{folder}/ripngd"\nuser = "nobody"\n{LINK}')
     words = of_unit("ripngd-links", "ExecStart", bindir=COMPANION.parent, unproved=" --unproved")
     words = [word.replace("/etc/ripngd-links", str(net.folder)) for word in words]
@@ -192,7 +197,7 @@ def the_companion_of_a_unit(net, folder):
         os.chmod(folder / "notify", 0o777)
         run = folder / "links"
         run.mkdir(mode=0o700)
-        process = o.start("unit", "env", f"NOTIFY_SOCKET={folder}/notify", f"RUNTIME_DIRECTORY={run}", *words)
+        process = space.start("unit", "env", f"NOTIFY_SOCKET={folder}/notify", f"RUNTIME_DIRECTORY={run}", *words)
         same("what systemd gets", manager.recv(99), b"READY=1")
     process.send_signal(signal.SIGTERM)
     same("the status of the companion", process.wait(QUICK), 0)

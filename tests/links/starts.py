@@ -1,9 +1,10 @@
 """Cases of what comes before the router is ready, and of who is asked for a table."""
 
+import sys
 import time
 
 from least import QUICK, REGULAR, TRIGGERED, least, settle
-from spaces import Bird, Frr, Ours, same, until
+from spaces import HERE, Bird, Frr, Ours, same, until
 
 # Seconds from one regular update of a neighbor to the next, so that only a question brings its table.
 SELDOM = 120
@@ -32,6 +33,23 @@ def a_slow_router(net, program):
     settle(routers, least([("b", 1, "o", 1), ("o", 1, "c", 1)], owned), TRIGGERED)
     counts = ours.counts()
     same("what is dropped", {what: number for what, number in counts.items() if "dropped" in what}, {})
+
+
+def a_silent_neighbor(net, program):
+    """The far end of a link goes down and up, and hears a moment later: it is asked, though it says nothing itself."""
+    o, s = net.space("o"), net.space("s")
+    net.cable(o, s)
+    ours = Ours(o, program, {"to-s": {}}, ["2001:db8:2::/48"])
+    until(TRIGGERED, "the router is up", ours.table)
+    time.sleep(6)  # until nobody is asked any longer
+    s.do("sysctl", "-qw", "net.ipv6.conf.to-o.addr_gen_mode=1")
+    s.ip("link", "set", "to-o", "down")
+    until(QUICK, "the link is down", lambda: ours.link("to-s")["state"] == "has no carrier")
+    s.start("late", sys.executable, HERE / "stranger.py", "to-o", "late", "fe80::5")
+    time.sleep(2)
+    s.ip("link", "set", "to-o", "up")
+    s.ip("address", "replace", "fe80::5/64", "dev", "to-o", "nodad")
+    until(TRIGGERED, "it is asked", lambda: s.text("late") == "True\n")
 
 
 def a_late_neighbor(net, program):

@@ -1,6 +1,6 @@
 #!/usr/bin/env python3
 """What somebody sends on a link: `stranger.py DEVICE KIND [SOURCE [TIMES]]`, five times; of `request` it prints the
-answer, and `flood` sends 3,000 Responses, each from another link-local address. `next-hop=ADDRESS` is a Response of
+answer, of `late` whether a second after it has an address it is asked, and `flood` sends 3,000 Responses, each from another link-local address. `next-hop=ADDRESS` is a Response of
 2001:db8:bad::/48 by way of that address, and of 2001:db8:bae::/48 by way of the sender."""
 
 import ipaddress
@@ -45,6 +45,22 @@ def answer(sock):
     return " ".join([str(hops), *prefixes]) if port == PORT else f"from port {port}"
 
 
+def late(index, source):
+    """Waits for its address, hears nothing for a second, and then says whether a whole table is asked for."""
+    while True:
+        try:
+            opened(index, source).close()
+            break
+        except OSError:
+            time.sleep(0.05)
+    time.sleep(1)
+    sock = opened(index, "::")
+    request = ipaddress.IPv6Address(GROUP).packed + struct.pack("@I", index)
+    sock.setsockopt(socket.IPPROTO_IPV6, socket.IPV6_JOIN_GROUP, request)
+    sock.settimeout(20)
+    return sock.recv(65535) == REQUEST
+
+
 def checksum(data):
     """The checksum of the Internet, of an even number of bytes."""
     total = sum(struct.unpack(f"!{len(data) // 2}H", data))
@@ -73,6 +89,8 @@ def main():
     if kind == "flood":
         return flood(device)
     index = socket.if_nametoindex(device)
+    if kind == "late":
+        return print(late(index, source), flush=True)
     group = (GROUP, PORT, 0, index)
     sock = {
         "hop-limit": lambda: opened(index, source, hops=254),
