@@ -176,10 +176,10 @@ def the_router_of_a_unit(net, folder, within):
     shutil.copy(ROOT / "examples/east.toml", config)
     quiet = {"stderr": subprocess.DEVNULL, "text": True, "umask": 0o077}
     router = subprocess.Popen(words, stdout=subprocess.PIPE, **quiet)
-    until(QUICK, "it listens", (folder / "name.sock").exists)
+    until(TRIGGERED, "it listens", (folder / "name.sock").exists)
     stop = of_unit("ripngd", "ExecStop", bindir=folder, runtime=folder)
     stop = subprocess.Popen(stop, env=os.environ | {"MAINPID": str(router.pid)}, stdout=subprocess.DEVNULL)
-    same("its status", (router.wait(QUICK), stop.wait(QUICK)), (0, 0))
+    same("its status", (router.wait(TRIGGERED), stop.wait(TRIGGERED)), (0, 0))
     route = "2001:db8:e::/48 metric 1 direct"
     same("what the journal gets", router.stdout.read().splitlines(), [f"add {route}", route])
     config.write_text("[[interface]]")
@@ -192,7 +192,7 @@ def the_companion_of_a_unit(net, folder, space):
     words = of_unit("ripngd-links", "ExecStart", bindir=COMPANION.parent, unproved=" --unproved")
     words = [word.replace("/etc/ripngd-links", str(net.folder)) for word in words]
     with socket.socket(socket.AF_UNIX, socket.SOCK_DGRAM) as manager:
-        manager.settimeout(QUICK)
+        manager.settimeout(TRIGGERED)
         manager.bind(str(folder / "notify"))
         os.chmod(folder / "notify", 0o777)
         run = folder / "links"
@@ -200,4 +200,4 @@ def the_companion_of_a_unit(net, folder, space):
         process = space.start("unit", "env", f"NOTIFY_SOCKET={folder}/notify", f"RUNTIME_DIRECTORY={run}", *words)
         same("what systemd gets", manager.recv(99), b"READY=1")
     process.send_signal(signal.SIGTERM)
-    same("the status of the companion", process.wait(QUICK), 0)
+    same("the status of the companion", process.wait(TRIGGERED), 0)
