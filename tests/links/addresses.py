@@ -1,11 +1,11 @@
 """Cases of link-local addresses: each means something on its link alone, so two links may have one."""
 
 from edges import stranger
-from least import TRIGGERED, least, settle
+from least import REGULAR, least, settle
 from spaces import Bird, Ours, same, until
 
 # No update of BIRD's comes by itself in the time that is waited for.
-SELDOM = 120
+SELDOM = 150
 CABLES = [("b", 1, "o", 1), ("o", 1, "c", 1)]
 OWNED = {"b": ["2001:db8:1::/48"], "o": ["2001:db8:2::/48"], "c": ["2001:db8:3::/48"]}
 BAD, BAE = "2001:db8:bad::/48", "2001:db8:bae::/48"
@@ -37,27 +37,27 @@ def one_address_on_two_links(net, program):
     settle(routers, least(CABLES, OWNED))
     same("what is made up while they differ", [ours.link(device)["made_up_address"] for device in ours.devices], [None] * 2)
     ours.space.link_local("to-c", "fe80::2")
-    until(TRIGGERED, "another address is made up", lambda: ours.link("to-c")["made_up_address"])
-    settle(routers, least(CABLES, OWNED), TRIGGERED)
+    until(REGULAR, "another address is made up", lambda: ours.link("to-c")["made_up_address"])
+    settle(routers, least(CABLES, OWNED), REGULAR)
     same("the kernel's routes", hops(ours), wanted)
     told = [(link["address"], link["made_up_address"] is None) for link in ours.status()["links"]]
     same("the links", told, [("fe80::2", True), ("fe80::2", False)])
     same("whether the companion runs", ours.process.poll(), None)
     ours.space.link_local("to-c", "fe80::3")
-    until(TRIGGERED, "it is itself again", lambda: ours.link("to-c")["address"] == "fe80::3")
+    until(REGULAR, "it is itself again", lambda: ours.link("to-c")["address"] == "fe80::3")
     same("what is made up of it", ours.link("to-c")["made_up_address"], None)
-    settle(routers, least(CABLES, OWNED), TRIGGERED)
+    settle(routers, least(CABLES, OWNED), REGULAR)
 
 
 def a_neighbor_with_our_address(net, program):
     """A neighbor has the address that this router has on another link. A next hop that is this router means its sender."""
     routers = a_line_of(net, program, ["fe80::1", "fe80::2", "fe80::1", "fe80::c"])
     ours = routers["o"]
-    settle(routers, least(CABLES, OWNED), TRIGGERED)
+    settle(routers, least(CABLES, OWNED), REGULAR)
     same("the kernel's routes", hops(ours), {OWNED["b"][0]: ("fe80::1", "to-b"), OWNED["c"][0]: ("fe80::c", "to-c")})
     same("what is made up", [bool(ours.link(device)["made_up_address"]) for device in ours.devices], [False, True])
     routers["c"].ask("down")
     for hop, wanted in (("fe80::1", "fe80::c"), ("fe80::99", "fe80::99")):
         stranger(routers["c"].space, f"next-hop={hop}", "fe80::c")
-        until(TRIGGERED, f"{hop} is taken", lambda: hops(ours).get(BAD) == (wanted, "to-c"))
+        until(REGULAR, f"{hop} is taken", lambda: hops(ours).get(BAD) == (wanted, "to-c"))
         same("the next entry's", hops(ours).get(BAE), ("fe80::c", "to-c"))

@@ -5,7 +5,7 @@ import subprocess
 import time
 
 from edges import is_router
-from least import REGULAR, TRIGGERED, least, settle
+from least import REGULAR, least, settle
 from spaces import Bird, Ours, same, until
 
 STAYS, GOES = "2001:db8:1::/48", "2001:db8:3::/48"
@@ -51,7 +51,7 @@ def routes_stay(net, program):
         """There is another router, which learns all."""
         before = config.read_text()
         do()
-        until(TRIGGERED, f"another router has learned after {what}", lambda: config.read_text() != before and len(ours.table()) == 3)
+        until(REGULAR, f"another router has learned after {what}", lambda: config.read_text() != before and len(ours.table()) == 3)
         time.sleep(STAY + 2)
         for prefix in (STAYS, GOES):
             same(f"whether {prefix} has left after {what}", is_deleted(ours, prefix), False)

@@ -171,10 +171,10 @@ def links_come_and_go(net, program):
     net.cable(b, o)
     owned, cables = {"b": ["2001:db8:1::/48"], "o": ["2001:db8:2::/48"]}, [("b", 1, "o", 1)]
     # Its updates are so far apart that a link which is there again has to be asked.
-    bird = Bird(b, {"to-o": 1}, owned["b"], update=120)
+    bird = Bird(b, {"to-o": 1}, owned["b"], update=150)
     ours = Ours(o, program, {"to-b": {}, "to-c": {}}, owned["o"])
     routers = {"b": bird, "o": ours}
-    settle(routers, least(cables, owned), TRIGGERED)
+    settle(routers, least(cables, owned), REGULAR)
     o.do("sysctl", "-qw", "net.ipv6.conf.to-b.accept_dad=0")
     for _ in range(3):
         o.do("ip", "-batch", "-", input="link set to-b down\nlink set to-b up\n")
@@ -187,7 +187,7 @@ def links_come_and_go(net, program):
     o.ip("link", "del", "to-b")
     until(TRIGGERED, "nothing is reached", lambda: ours.table() == {"2001:db8:2::/48": 1} and not ours.kernel())
     net.cable(b, o)
-    settle(routers, least(cables, owned), TRIGGERED)
+    settle(routers, least(cables, owned), REGULAR)
     address = o.ip("-6", "-o", "address", "show", "dev", "to-b", "scope", "link").split()[3].split("/")[0]
     same("whether the router has the new address", f'"{address}"' in (ours.run / "router.toml").read_text(), True)
     routers["c"] = Bird(c, {"to-o": 1}, ["2001:db8:3::/48"])

@@ -4,7 +4,7 @@ from spaces import INFINITY, until
 
 # Seconds within which regular updates, up to 45 s apart, and triggered ones, up to 5 s apart, have told all; in which
 # what is lost is deleted; and in which an answer comes, sooner than any of these.
-REGULAR, TRIGGERED, GARBAGE, QUICK = 100, 30, 170, 10
+REGULAR, TRIGGERED, GARBAGE, QUICK = 100, 30, 170, 20
 
 
 def least(cables, owned):

@@ -2,7 +2,7 @@
 
 from addresses import BAD, BAE, hops
 from edges import stranger
-from least import REGULAR, TRIGGERED
+from least import REGULAR
 from spaces import Bird, Ours, same, until
 
 
@@ -13,9 +13,9 @@ def half_of_a_datagram(net, program):
     s.link_local("to-o", "fe80::5")
     for number, (refused, wanted) in enumerate(((BAE, {BAD: ("fe80::99", "to-s")}), (BAD, {BAE: ("fe80::5", "to-s")}))):
         ours = Ours(o, program, {"to-s": {"accept": ["2001:db8::/32+"], "reject": [refused]}}, ["2001:db8:2::/48"])
-        until(TRIGGERED, "the router is up", ours.table)
+        until(REGULAR, "the router is up", ours.table)
         stranger(s, "next-hop=fe80::99", "fe80::5", 2)
-        until(TRIGGERED, "the route is there", ours.kernel)
+        until(REGULAR, "the route is there", ours.kernel)
         same("the kernel's routes", hops(ours), wanted)
         same("what the router has of the other", ours.routes().get(refused), None)
         same("what is counted", ours.link("to-s")["counts"]["entries refused"], 2)

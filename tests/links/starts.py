@@ -3,11 +3,11 @@
 import sys
 import time
 
-from least import QUICK, REGULAR, TRIGGERED, least, settle
+from least import QUICK, REGULAR, least, settle
 from spaces import HERE, Bird, Frr, Ours, same, until
 
 # Seconds from one regular update of a neighbor to the next, so that only a question brings its table.
-SELDOM = 120
+SELDOM = 150
 # A router that starts, and says a second later that it does.
 SLOW = """#!/bin/bash
 exec {program} "$@" 2> >(while read -r line; do sleep 1; echo "$line" >&2; done)
@@ -30,7 +30,7 @@ def a_slow_router(net, program):
     slow.chmod(0o755)
     ours = routers["o"] = Ours(o, slow, {"to-b": {}, "to-c": {}}, owned["o"])
     ours.program = program
-    settle(routers, least([("b", 1, "o", 1), ("o", 1, "c", 1)], owned), TRIGGERED)
+    settle(routers, least([("b", 1, "o", 1), ("o", 1, "c", 1)], owned), REGULAR)
     counts = ours.counts()
     same("what is dropped", {what: number for what, number in counts.items() if "dropped" in what}, {})
 
@@ -40,16 +40,16 @@ def a_silent_neighbor(net, program):
     o, s = net.space("o"), net.space("s")
     net.cable(o, s)
     ours = Ours(o, program, {"to-s": {}}, ["2001:db8:2::/48"])
-    until(TRIGGERED, "the router is up", ours.table)
+    until(REGULAR, "the router is up", ours.table)
     time.sleep(6)  # until nobody is asked any longer
     s.do("sysctl", "-qw", "net.ipv6.conf.to-o.addr_gen_mode=1")
     s.ip("link", "set", "to-o", "down")
     until(QUICK, "the link is down", lambda: ours.link("to-s")["state"] == "has no carrier")
     s.start("late", sys.executable, HERE / "stranger.py", "to-o", "late", "fe80::5")
-    time.sleep(2)
+    until(REGULAR, "it waits", lambda: s.text("late"))
     s.ip("link", "set", "to-o", "up")
     s.ip("address", "replace", "fe80::5/64", "dev", "to-o", "nodad")
-    until(TRIGGERED, "it is asked", lambda: s.text("late") == "True\n")
+    until(REGULAR, "it is asked", lambda: s.text("late").endswith("True\n"))
 
 
 def a_late_neighbor(net, program):
@@ -64,4 +64,4 @@ def a_late_neighbor(net, program):
     f.ip("link", "set", "to-o", "down")
     until(QUICK, "its route is gone", lambda: not routers["o"].kernel())
     f.ip("link", "set", "to-o", "up")
-    until(TRIGGERED, "its route is back", lambda: routers["o"].kernel())
+    until(REGULAR, "its route is back", lambda: routers["o"].kernel())

@@ -47,6 +47,7 @@ def answer(sock):
 
 def late(index, source):
     """Waits for its address, hears nothing for a second, and then says whether a whole table is asked for."""
+    print("waits", flush=True)
     while True:
         try:
             opened(index, source).close()
