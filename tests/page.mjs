@@ -299,7 +299,26 @@ const THREE = 'router\niface fe80::a0 1 1280 0\nown 2001:db8::/32 0\nrouter\nifa
 const traceOf = script => readTrace(ran(runnable(script), '--trace'), script);
 const metricsAt = (trace, step = trace.steps.length - 1) => trace.steps[step].routers.map(({ table }) => table.get('2001:db8::/32')?.route.metric ?? null);
 
+// The answers of the exercises, by hand: metrics go up by the cost of each interface that receives, and end at 15.
+const ANSWERS = {
+  'exercise-02-line': '3 none 1 8', 'exercise-03-detour': '7 none 7 3 4', 'exercise-05-one-way-cost': '4 8 8 4 16',
+  'exercise-06-timeout': '2 16 16 none', 'exercise-10-poisoned-reverse': '3 16 16 3 16', 'exercise-11-ring-of-four': '3 16 3 4 5 16 6 16',
+  'exercise-15-horizon': '6 11 none',
+};
+
 Object.assign(CASES, {
+  // A blank that is not filled in is no line of the program; with the answers an exercise holds, and with any other it does not.
+  exercises: () => {
+    const folder = fileURLToPath(new URL('../examples/exercises/', import.meta.url)), files = readdirSync(folder);
+    same('them', files.map(file => file.replace('.lab', '')).sort(), Object.keys(ANSWERS).sort());
+    for (const [name, answers] of Object.entries(ANSWERS)) {
+      const script = readFileSync(`${folder}${name}.lab`, 'utf8'), blanks = expectationsOf(script), words = answers.split(' ');
+      same(`the blanks of ${name}`, [blanks.length, blanks.every(({ wanted }) => wanted === '?')], [words.length, true]);
+      same(`what ${name} says unfilled`, ran(script), `line ${blanks[0].line} refused BadLine\n`);
+      same(`what is found in ${name}`, checksOf(traceOf(script), blanks).map(({ found }) => found).join(' '), answers);
+      same(`${name} filled in`, ran(blanks.reduce((text, { line }, at) => withAnswer(text, line, words[at]), script)), '');
+    }
+  },
   // What stands behind an empty remark line and is indented or has a link in it is a drawing; a line of places is nothing.
   'captions without drawings': () => {
     same('a drawing', captionsOf('# How long?\n#\n#   0\n#  / \\\n#   1---2     link 0 costs 9\nrouter\n# So.\n#places 0 1 2\ncold 0'), ['', '', '', '', '', '', 'How long?', 'How long?', 'How long?', 'So.', 'So.']);
