@@ -13,8 +13,8 @@ export const SHAPES = {
 // The script of a new network of that shape: costs are 1, and router 0 owns a prefix. Its remark says what to do next.
 export function networkScript(shape, count) {
   const links = SHAPES[shape](count);
-  const lines = [`# ${count} routers: ${shape}. R0 owns a prefix. Press "round": each tells the others what it knows.`,
-    '# Click a link to cut it, a router to do more, and a route on the right to ask why.'];
+  const lines = [`# ${count} routers: ${shape}. R0 originates a prefix. Press "round": every router sends its update, and all arrive.`,
+    '# Click a link to cut it, a router to do more, and a metric to ask why.'];
   for (let router = 0; router < count; router++) {
     const own = links.flatMap((link, number) => link.includes(router) ? [number] : []);
     lines.push('router', ...own.map((link, iface) => `iface ${address(router, iface)} 1 1280 ${link}`));

@@ -74,7 +74,7 @@ function drawRouter(scene, router) {
   const { quiet, prefixes } = scene.routers[router], metric = routeAt(scene, router, prefix)?.metric, name = nameOf(trace, router);
   const { x, y } = places[router], inside = isInside(scene, router) ? name : `R${router}`;
   const walked = router === walk.owner || walk.hops.some(hop => hop.end.router === router), text = `router ${router}`;
-  const is = { quiet, silent: out.has(text), moved: record.router === router, changed: hasChanged(scene, router, prefix),
+  const is = { quiet, silent: out.has(text), moved: record.router === router, changed: !scene.isQuiz && hasChanged(scene, router, prefix),
     walked, chosen: chosen === text };
   const owns = prefixes.map(({ prefix: own, tag }) => `, originates ${own} with tag ${tag}`).join('');
   const manner = `${quiet ? ', quiet' : ''}${is.silent ? ', down' : ''}`, isHidden = scene.isQuiz && guessed(scene, router) !== metric;

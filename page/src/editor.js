@@ -21,7 +21,7 @@ function say(text, isBad = false, buttons = '') {
   fill('editing', html`<span>${text}</span>${buttons}${close}`);
   if (!text) byId('editing').textContent = '';
   clearTimeout(view.hushing);
-  if (text && !isBad && !isTyping && !buttons) view.hushing = setTimeout(hush, 9000);
+  if (text && !isBad && !isTyping && !isRunning()) view.hushing = setTimeout(hush, 30_000);
 }
 const hush = () => say('');
 
@@ -188,7 +188,7 @@ function change(edit, limit, goTo, said = '') {
     const last = JSON.parse(answer.trimEnd().split('\n').at(-1) || '{}'), isRefused = last.record === 'refused';
     if (editor.text !== text) return say('The script was changed meanwhile: nothing was added.', true);
     if (isRefused && last.line < limit) {
-      return say(`Not added: ${describe(last, view.trace.names)}${hintOf(last)}`, true);
+      return say(`Not added: ${describe(last, view.trace.names).replace('refused: ', '')}${hintOf(last)}`, true);
     }
     setDraft(script);
     const isTold = !isRefused && said, shown = showRun(script, answer, goTo && (({ steps }) => stepOfLine(steps, goTo)), true);

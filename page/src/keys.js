@@ -15,6 +15,7 @@ function onClick({ target }) {
   const { choose: text = '', lines, act } = clicked?.dataset ?? {}, [kind, number] = text.split(' ');
   const values = lines || MAKES[act] ? fields(clicked) : {};
   if (view.dragged || !values) return;
+  if (!target.closest('#editing')) hushToast();
   if (act) (MAKES[act] ?? ACTS[act])(MAKES[act] ? values : clicked);
   else if (lines) putIn(lines, values);
   else if (kind === 'step') go(Number(number));
@@ -70,7 +71,13 @@ function onKey(event) {
     ?? (LETTERS[key] && (() => LETTERS[key](target)));
   if (!does) return;
   event.preventDefault();
+  hushToast();
   does();
+}
+
+// What was said of the act before goes.
+function hushToast() {
+  if (byId('editing').classList.contains('toast') && !isRunning()) hush();
 }
 
 // The arrows up and down go through the things of a pane.

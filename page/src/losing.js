@@ -76,6 +76,6 @@ export function renumbered(had, old, { script, origins }, trace) {
   const before = old.split('\n');
   return script.split('\n').map((line, at) => {
     const [, word, number] = NAMING.exec(before[origins[at] - 1] ?? '') ?? [], key = had[number];
-    return NAMING.test(line) && now.has(key) ? line.replace(NAMING, `${word} ${now.get(key)}`) : line;
+    return line.startsWith(`${word} `) && now.has(key) ? line.replace(NAMING, `${word} ${now.get(key)}`) : line;
   }).join('\n');
 }
