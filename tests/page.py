@@ -99,7 +99,7 @@ class Page:
             one = browser.open_browser(self.kind)
             self.opened.append(one)
         one.open(f"file://{FILE}")
-        one.value("localStorage.clear()")
+        one.value("localStorage.clear(), sessionStorage.clear()")
         yield one
         self.free.put(one)
 

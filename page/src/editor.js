@@ -28,7 +28,10 @@ const hush = () => say('');
 // ---- The draft, and its states ----
 const snapshot = () => ({ text: editor.text, name: editor.name, isShared: editor.isShared, step: view.step });
 
-function setDraft(text, name = editor.name, isShared = false) {
+// A shared script that is changed becomes one's own, under a name that no other draft has.
+const nameFor = text => editor.isShared ? freeName(editor.name, text) : editor.name;
+
+function setDraft(text, name = nameFor(text), isShared = false) {
   if (text === editor.text && name === editor.name) return;
   editor.past.push(snapshot());
   Object.assign(editor, { future: [], typedAt: 0 });
@@ -111,7 +114,8 @@ function renameDraft() {
 function onTyped() {
   if (Date.now() - editor.typedAt > ONE_EDIT) editor.past.push(snapshot());
   Object.assign(editor, { typedAt: Date.now(), future: [] });
-  showDraft({ text: byId('script').value, name: editor.name });
+  const text = byId('script').value;
+  showDraft({ text, name: nameFor(text) });
   clearTimeout(editor.timer);
   editor.timer = setTimeout(() => runDraft(), PAUSE);
 }
@@ -148,12 +152,14 @@ async function runScript(run, then) {
   clearTimeout(editor.timer);
   const made = run(), stop = html`<button data-act="stop" title="Escape">stop</button>`;
   const notice = setTimeout(() => say('running .. ', false, stop), PAUSE);
+  showBusy();
   try {
     await then(await made);
   } catch (error) {
     if (error !== CALLED_OFF) say(`not run: ${error.message} `, true, AGAIN);
   } finally {
     clearTimeout(notice);
+    showBusy();
   }
 }
 

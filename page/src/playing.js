@@ -50,6 +50,7 @@ function playSpan(from, to) {
     shown = frames[at++];
   };
   view.span = { from, to, timer: setInterval(next, pause) };
+  showBusy();
   return next();
 }
 
@@ -65,7 +66,12 @@ function framesOf(steps, from, to) {
 function endSpan() {
   clearInterval(view.span?.timer);
   view.span = null;
+  showBusy();
   byId('network').style.removeProperty('--fly');
+}
+// Whether a script runs, or a span is played.
+function showBusy() {
+  byId('drawing').setAttribute('aria-busy', isRunning() || Boolean(view.span));
 }
 function finishSpan() {
   const { from, to } = view.span;
