@@ -101,7 +101,7 @@ export function describe(record, names = new Map()) {
   if (kind === 'phases') return `${plural(phases, 'phase')}, ${ended}`;
   if (kind !== 'event') return `${kind}: ${plural(prints.length, 'line')}`;
   const becomes = ({ change, metric }) => change === 'add' ? `at ${metric}` : LEAVES[event.kind] ?? 'is unreachable';
-  const one = changes.map(change => `, ${change.prefix} ${becomes(change)}`);
+  const one = changes.filter(({ prefix }) => prefix !== event.prefix).map(change => `, ${change.prefix} ${becomes(change)}`);
   const sends = sent.length > 0 ? `, ${sent.length} sent` : '';
   return `${name(router)}${HAPPENED[event.kind](event, name, record)}${sends}${one.length > 1 ? `, ${one.length} changes` : one}`;
 }
