@@ -33,7 +33,7 @@ const pick = list => list[below(list.length)];
 function ran(script, ...words) {
   writeFileSync(join(folder, 'script.lab'), script);
   try {
-    return execFileSync(program, ['lab', ...words, join(folder, 'script.lab')], { encoding: 'utf8', maxBuffer: 1 << 28 });
+    return execFileSync(program, ['lab', ...words, join(folder, 'script.lab')], { encoding: 'utf8', maxBuffer: 1 << 28, stdio: ['ignore', 'pipe', 'ignore'] });
   } catch (fault) {
     if (fault.status !== 1) throw fault;
     return fault.stdout;
