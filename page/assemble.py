@@ -1,5 +1,5 @@
 #!/usr/bin/env python3
-"""The laboratory in one file, docs/lab.html: the page with the module, the examples and the lessons in it.
+"""The laboratory in one file, docs/lab.html: the page with the module, the lessons and the examples in it.
 
     page/assemble.py page MODULE KIT WASM_OPT proved|unproved     prints the file, with that module, and says what made the module
     page/assemble.py sum sources|code                             prints the sum of all sources, or of those of the module
@@ -20,8 +20,8 @@ import sys
 PAGE = pathlib.Path(__file__).resolve().parent
 ROOT = PAGE.parent
 # The modules in order, of the page and of its worker.
-PAGE_MODULES = ["trace", "datagrams", "walks", "building", "layout", "markup", "texts", "drawing", "panes", "showing", "keeping", "laboratory",
-                "editor", "giving", "page"]
+PAGE_MODULES = ["trace", "losses", "datagrams", "walks", "building", "losing", "lessons", "layout", "markup", "texts", "tables", "acting", "detail",
+                "quiz", "marks", "drawing", "showing", "keeping", "laboratory", "playing", "editor", "giving", "acts", "keys", "page"]
 WORKER_MODULES = ["module", "worker"]
 FACTS = ("sources", "code", "kit", "wasm-opt", "proof")
 MADE = {"proved": "It was compiled from the proved sources", "unproved": "It was compiled from the sources without their proof"}
@@ -39,11 +39,26 @@ def joined(names):
     return "\n".join(line.removeprefix("export ") for line in kept)
 
 
+def course():
+    """The lessons in their order, each with its group: examples/lessons/course.txt has them indented below it."""
+    lines = [line for line in (ROOT / "examples/lessons/course.txt").read_text().splitlines() if line and not line.startswith("#")]
+    group, found = None, []
+    for line in lines:
+        if line.startswith(" "):
+            found.append((group, ROOT / "examples/lessons" / f"{line.strip()}.lab"))
+        else:
+            group = line
+    assert sorted(file for _, file in found) == sorted((ROOT / "examples/lessons").glob("*.lab")), "course.txt names each lesson once"
+    return found
+
+
 def scripts():
-    """The examples and the lessons, each an element with its name."""
-    kinds = {"examples": "examples", "lessons": "examples/lessons"}
-    files = [(kind, file) for kind, folder in kinds.items() for file in sorted((ROOT / folder).glob("*.lab"))]
-    return "\n".join(f'<div data-name="{file.name}" data-kind="{kind}">{escaped(file.read_text())}</div>' for kind, file in files)
+    """The lessons, the exercises and the examples, each an element with its name."""
+    lessons = [(group, file, " data-lesson") for group, file in course()]
+    others = [(kind, file, "") for kind, folder in (("Exercises", "exercises"), ("Examples", "."))
+              for file in sorted((ROOT / "examples" / folder).glob("*.lab"))]
+    return "\n".join(f'<div data-name="{file.name}" data-kind="{html.escape(kind)}"{mark}>{escaped(file.read_text())}</div>'
+                     for kind, file, mark in [*lessons, *others])
 
 
 def hash_of(text):
@@ -87,7 +102,7 @@ def code():
 
 def sources():
     """What the file is made of: the module, the page, and the scripts."""
-    return [*code(), PAGE / "assemble.py", *(PAGE / "src").iterdir(), *(ROOT / "examples").rglob("*.lab")]
+    return [*code(), PAGE / "assemble.py", *(PAGE / "src").iterdir(), *(ROOT / "examples").rglob("*.lab"), ROOT / "examples/lessons/course.txt"]
 
 
 def sum_of(what):

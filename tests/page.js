@@ -13,12 +13,14 @@
   // The page runs a script a while after the last key.
   const settled = async () => {
     await after(300);
-    while (isRunning()) await after(20);
+    while (isRunning() || view.span) await after(20);
     await after(20);
   };
   const key = (name, more = {}) => document.activeElement.dispatchEvent(new KeyboardEvent('keydown', { key: name, bubbles: true, cancelable: true, ...more }));
   const buttonOf = text => all('#detail button, #acts button').find(button => button.textContent === text);
   const set = (selector, value) => { one(selector).value = value; one(selector).dispatchEvent(new Event('input', { bubbles: true })); };
+  // What the page says, without the button that takes it away.
+  const said = () => (one('#editing').textContent.trim() ? textOf('#editing').replace(/ ?×$/, '') : '');
   const lastLine = () => script.value.trimEnd().split('\n').at(-1);
   const tell = (...facts) => report.push(facts.join(' | '));
   // The scripts that the page has run.
@@ -43,8 +45,8 @@
     const sums = keys.filter(({ router, prefix }) => {
       const rowOf = () => one(`#tables tr[data-router="${router}"][data-prefix="${prefix}"]`);
       click(rowOf());
-      const hops = all('#walk tbody tr'), costs = hops.map(hop => Number(hop.cells[2].textContent)), metric = rowOf().cells[1].textContent;
-      const isSum = costs.reduce((sum, cost) => sum + cost, 1) === Number(metric) && all('path.hop').length === hops.length;
+      const hops = all('#walk tbody tr'), costs = hops.map(hop => Number(hop.cells[2].textContent)), metric = rowOf().cells[1].textContent.replace('!', '');
+      const isSum = costs.reduce((sum, cost) => sum + cost, 1) === Number(metric) && all('#drawing path.hop').length === hops.length;
       if (!isSum) report.push(`wrong R${router} ${prefix} ${metric}: ${textOf('#sum')}`);
       return isSum;
     });
@@ -75,7 +77,7 @@
   // Clicks a router and lets it tick, then writes a line that is refused.
   async function edit() {
     click(one('.router[data-router="0"]'));
-    click(buttonOf('tick'));
+    click(buttonOf('send what is due'));
     await settled();
     report.push(`appended ${lastLine()}`, `last ${textOf('#events li:last-child')}`, textOf('#where'), `marks ${all('#drawing .pile').length > 0}`);
     await type(`${script.value}tick 9 400 0\n`);
@@ -85,33 +87,33 @@
   // A long run is called off by the next, by its button and by Escape; what is typed stays, and can be run again. Meanwhile the page steps.
   async function callOffRuns() {
     const good = script.value, begun = async () => {
-      while (!textOf('#editing').startsWith('running')) await after(50);
+      while (!said().startsWith('running')) await after(50);
     };
     const long = `${good}rounds 1000 60000 15000\n${'rounds 1000 +15000 15000\n'.repeat(99)}`;
     for (const stop of [() => press('step'), () => click(one('[data-act=stop]')), () => key('Escape')]) {
       set('#script', long);
       await begun();
       stop();
-      tell(isRunning(), textOf('#where').split(',')[0], textOf('#editing'), script.value === long);
+      tell(isRunning(), textOf('#where').split(',')[0], said(), script.value === long);
     }
     click(one('[data-act=again]'));
     await begun();
     const count = ran.length;
     set('#script', `${good}tick 0 400 0\n`);
     await settled();
-    tell(ran.length - count, textOf('#editing'), textOf('#events li:last-child'));
+    tell(ran.length - count, said(), textOf('#events li:last-child'));
   }
 
   // What keeps a trace from being shown is said: its length, want of memory, and a fault of the laboratory.
   async function sayFaults() {
     const good = script.value;
     await type(`${good}rounds 1000 60000 15000\n${'rounds 1000 +15000 15000\n'.repeat(24)}`);
-    tell(textOf('#editing').replace(/\d+ MiB/, 'so many MiB'), lastLine());
+    tell(said().replace(/\d+ MiB/, 'so many MiB'), lastLine());
     await type(good);
     for (const fault of ['it wants more memory than there is', 'the laboratory has stopped (unreachable)']) {
       window.traced = () => Promise.reject(new Error(fault));
       await type(`${script.value}# ${fault}\n`);
-      tell(textOf('#editing'), lastLine());
+      tell(said(), lastLine());
     }
   }
 
@@ -122,7 +124,7 @@
       await settled();
     };
     const listed = () => all('#examples optgroup')[0].label + all('#examples optgroup:first-of-type option').map(option => ` ${option.value}`).join('');
-    tell(listed().startsWith('examples'), all('#examples optgroup').map(({ label }) => label));
+    tell(listed().startsWith('How routes come'), all('#examples optgroup').map(({ label }) => label));
     await type(`${script.value}# first\n`);
     tell(listed());
     await choose('line.lab');
@@ -143,18 +145,18 @@
     one('#sharing').close();
   }
 
-  // A click whose line is refused leaves no line; one with a blank field, or a link past the next router, makes none; behind a refused
+  // A click whose line is refused leaves no line; one with a blank field, or a cost past 15, makes none; behind a refused
   // line nothing is put.
   async function refuseClicks() {
     const asked = () => ran.length;
     click(one('.router[data-router="0"]'));
     set('#detail [name=prefix]', 'ff00::/8');
-    click(buttonOf('own it'));
+    click(buttonOf('originate it'));
     await settled();
-    tell(lastLine(), textOf('#editing'));
+    tell(lastLine(), said());
     const before = asked();
     set('#detail [name=now]', '');
-    click(buttonOf('tick'));
+    click(buttonOf('send what is due'));
     click(one('#drawing svg'));
     click(one('.cost'));
     set('#detail [name=cost]', '99');
@@ -166,16 +168,10 @@
     click(buttonOf('set it'));
     await settled();
     tell(lastLine(), textOf('#events li:last-child'));
-    const count = asked();
-    click(one('.router[data-router="0"]'));
-    set('#detail [name=other]', '40');
-    click(buttonOf('link them'));
-    await settled();
-    tell(asked() - count, one('#detail [name=other]').validity.valid);
     await type(`${script.value}tick 9 400 0\n`);
     click(buttonOf('round'));
     await settled();
-    tell(lastLine(), textOf('#editing'));
+    tell(lastLine(), said());
   }
 
   // Typing, a click and another example are undone, one after another, and done again.
@@ -185,7 +181,7 @@
     texts.push(script.value);
     await after(1100);
     click(one('.router[data-router="0"]'));
-    click(buttonOf('tick'));
+    click(buttonOf('send what is due'));
     await settled();
     texts.push(script.value);
     tell(one('#name').value, examples.value === '' ? 'no example' : examples.value);
@@ -218,7 +214,7 @@
     one('#drawing [tabindex="0"]').focus();
     key('Enter');
     tell(textOf('#detail h2'), document.activeElement.getAttribute('aria-label'));
-    buttonOf('tick').focus();
+    buttonOf('send what is due').focus();
     document.activeElement.click();
     await settled();
     tell(document.activeElement.textContent, lastLine());
@@ -244,10 +240,10 @@
     tell(place.every(pixels => pixels > 0));
     const good = script.value;
     await type(good.replace('cold', 'xcold'));
-    tell(all('#drawing .router').length, document.body.className, textOf('#editing'));
+    tell(all('#drawing .router').length, document.body.className, said());
     await type(good);
-    tell(at().join() === place.join(), document.body.className, textOf('#editing'));
-    click(buttonOf('tidy'));
+    tell(at().join() === place.join(), document.body.className, said());
+    click(buttonOf('reset layout'));
     tell(at().join() === place.join());
   }
 
@@ -260,11 +256,11 @@
     one('#file').dispatchEvent(new Event('change'));
     for (let times = 0; times < 3; times++) await file.text();
     await settled();
-    tell(script.value === good, one('#name').value, one('#file').value === '', textOf('#where'), textOf('#editing'));
+    tell(script.value === good, one('#name').value, one('#file').value === '', textOf('#where'), said());
     const before = ran.length;
     for (let count = 0; count < 12; count++) set('#script', `${good}${'#'.repeat(count)}`);
     await settled();
-    tell(ran.length - before, textOf('#editing'));
+    tell(ran.length - before, said());
   }
 
   // Rounds by a click, a lost datagram, a branch, a moment that stays as it was typed, and a datagram before it is sent.
@@ -274,17 +270,17 @@
     tell(lastLine(), textOf('#where'));
     key('z', { ctrlKey: true });
     await settled();
-    click(all('#events button').find(button => button.textContent.includes('hears 10')));
-    click(buttonOf('lose this datagram'));
+    click(all('#events button').find(button => button.textContent.includes('receives datagram 10 ')));
+    click(one('#detail [data-act=lose]'));
     await settled();
-    tell(script.value.split('\n').find(line => line.includes('is lost')), all('#drawing .pile.lost').length > 0);
+    tell(script.value.split('\n').find(line => line.startsWith('lose')), all('#drawing .pile.lost').length > 0);
     key('z', { ctrlKey: true });
     await settled();
     set('#place', 'branch');
     one('#place').dispatchEvent(new Event('change'));
-    click(all('#events button').find(button => button.textContent.includes('hears 4')));
+    click(all('#events button').find(button => button.textContent.includes('receives datagram 4 ')));
     click(one('.router[data-router="1"]'));
-    click(buttonOf('tick'));
+    click(buttonOf('send what is due'));
     await settled();
     tell(lastLine(), textOf('#events li:last-child'));
     set('#detail [name=now]', '123');
@@ -299,9 +295,245 @@
     tell(alone.querySelectorAll('.router').length, alone.querySelector('.wire').getAttribute('stroke').startsWith('rgb'));
   }
 
+  // ---- Rounds, as they are seen ----
+  const chosenEvent = text => all('#events button').find(button => button.textContent.includes(text));
+  const metrics = () => all('#drawing .metric').map(badge => badge.textContent.trim()).join(' ');
+  const changed = () => all('#drawing .router.changed').map(router => `R${router.dataset.router}`).join(' ') || 'none';
+  async function make(shape, many) {
+    one('[name=shape]').value = shape;
+    one('[name=many]').value = many;
+    click(one('[data-act=make]'));
+    await settled();
+  }
+  async function act(name) {
+    click(one(`[data-act=${name}]`));
+    await settled();
+  }
+
+  // A round is played: datagrams fly, and at its end all that it changed is marked, also when stepping by line, forth and back.
+  async function seeRounds() {
+    await make('ring', 5);
+    click(one('[data-act=round]'));
+    let frames = 0, flights = 0;
+    while (!view.span) await after(5);
+    for (let shown = -1; view.span; await after(5)) {
+      if (view.step === shown) continue;
+      shown = view.step;
+      frames++;
+      flights += all('#drawing .flying').length;
+    }
+    tell(frames > 1, flights, changed(), metrics());
+    tell(all('#tables tr.new').map(row => row.dataset.router), all('#drawing .pile.lost').length);
+    await act('round');
+    tell(changed(), metrics());
+    one('#by').value = 'line';
+    press('back');
+    await settled();
+    tell(changed(), metrics(), textOf('#where').split(',')[0]);
+    press('step');
+    await settled();
+    tell(changed(), metrics(), all('#events .since').length);
+  }
+
+  // What an update advertises on each link is told where it is sent, the poison too; and a timer that sends nothing says why.
+  async function seeUpdates() {
+    await make('line', 3);
+    await act('round');
+    await act('round');
+    const at = view.trace.steps.findLastIndex(({ record }) => record.event?.kind === 'tick' && record.router === 1);
+    go(at);
+    tell(...all('#updates tbody tr').map(row => [...row.cells].map(cell => cell.textContent.trim().replace(/\s+/g, ' ')).join(' ')));
+    await type(`${script.value}drop 0 20000 2001:db8::/32\ntick 0 20000 0\ngain 0 20500 2001:db8::/32 0\ntick 0 20500 0\n`);
+    press('last');
+    tell(textOf('#detail .happened b'), all('#detail p').map(text => text.textContent).find(text => text.includes('delayed'))?.replace(/\s+/g, ' '));
+  }
+
+  // ---- Losing, and forging ----
+  async function loseAll() {
+    await make('line', 3);
+    await act('round');
+    await act('round');
+    click(chosenEvent('receives datagram 7 '));
+    click(one('#detail [data-act=lose]'));
+    await settled();
+    tell(metrics(), all('#drawing .pile.lost').length, said().replace(/ ?undo$/, ''));
+    press('step');
+    tell(all('#drawing .pile.lost').length);
+    await make('line', 3);
+    await act('ticks');
+    click(one('#drawing .pile.fresh'));
+    click(buttonOf('lose it, deliver the rest'));
+    await settled();
+    tell(script.value.trimEnd().split('\n').slice(-2), metrics());
+    key('z', { ctrlKey: true });
+    await settled();
+    await act('hear');
+    tell(lastLine(), metrics());
+    await act('ticks');
+    await act('round');
+    tell(said().includes('under way are lost'));
+  }
+
+  async function forge() {
+    await make('line', 3);
+    await act('rounds');
+    const forged = async (name, field = 'metric', value = '1') => {
+      if (view.chosen !== 'iface 2 0') click(one('.cost[data-choose="iface 2 0"]'));
+      set(`#detail [name=${field}]`, value);
+      click(buttonOf(name));
+      await settled();
+      tell(textOf('#events li:last-child').replace(/^\d+ /, ''), metrics());
+    };
+    await forged('forged from outside the link (refused)');
+    await forged('forged on the link (believed)');
+    await forged('it sends that Response');
+    tell(said());
+    tell(textOf('#tally'), all('#tables td.metric .bad').length);
+  }
+
+  // ---- What is cut ----
+  async function cutLinks() {
+    await make('ring', 5);
+    await act('rounds');
+    click(one('#drawing [aria-label^="link 4 of R0 and R4"]'));
+    click(buttonOf('cut the link'));
+    await settled();
+    click(one('#tables tr[data-router="4"]'));
+    tell(textOf('#outage'), all('#drawing .hop.broken').length, textOf('#packet'));
+    await act('untilChange');
+    tell(lastLine(), said().replace(/ ?undo$/, ''), one('#tables tr[data-router="4"] .metric').dataset.was);
+    click(one('#drawing svg'));
+    await act('rounds');
+    await act('rounds');
+    await act('untilChange');
+    tell(said().startsWith('No route changes'), metrics());
+    // A link more comes up now, and a cost holds at both ends.
+    click(one('.router[data-router="0"]'));
+    one('#detail [name=other]').value = '2';
+    click(buttonOf('link them'));
+    await settled();
+    tell(script.value.includes('cold 0\ncut 5\n'), lastLine(), said().replace(/ ?undo$/, ''));
+    await act('round');
+    tell(metrics());
+    click(one('.cost[data-choose="iface 0 0"]'));
+    set('#detail [name=cost]', '9');
+    click(buttonOf('set it at both ends'));
+    await settled();
+    tell(view.trace.steps.at(-1).routers.slice(0, 2).map(router => router.interfaces[0].cost));
+  }
+
+  // ---- Lessons ----
+  const lessonNamed = async name => { one('#examples').value = name; one('#examples').dispatchEvent(new Event('change')); await settled(); };
+  async function takeLessons() {
+    await lessonNamed('01-one-hop.lab');
+    tell(textOf('#lesson'), one('[data-act=lessonBefore]').disabled, textOf('#caption'));
+    await act('lessonAfter');
+    tell(one('#name').value, textOf('#lesson'), textOf('#caption').includes('--'));
+    await lessonNamed('11-ring-of-three.lab');
+    one('#by').value = 'remark';
+    for (let at = 0; at < 3; at++) { press('step'); await settled(); }
+    tell(textOf('#caption'), metrics(), all('#checks .check').map(check => check.textContent.trim().replace(/\s+/g, ' ')));
+    tell(all('#gutter .met').length, script.value.split('\n').filter(line => line.startsWith('expect')).length);
+    await type(script.value.replace('expect 1 2001:db8::/32 2', 'expect 1 2001:db8::/32 5'));
+    tell(all('#gutter .met').length, all('#gutter .unmet').length, textOf('#gutter .unmet'), said());
+  }
+
+  async function fillBlanks() {
+    await lessonNamed('exercise-02-line.lab');
+    one('#by').value = 'line';
+    press('step');
+    await settled();
+    const fill = async text => { set('[data-blank]', text); click(one('#checks [data-act=answer]')); await settled(); };
+    tell(all('#checks .blank').length, textOf('#checks').includes('found'));
+    await fill('x');
+    tell(said());
+    await fill('2');
+    tell(textOf('#checks .blank .bad'));
+    await fill('3');
+    tell(textOf('#checks .met'), all('#checks .blank').length, one('#name').value, script.value.includes('expect 1 2001:db8::/32 3'));
+    await fill('none');
+    tell(all('#checks .met').length, textOf('#where').split(',')[0]);
+  }
+
+  // Names stand in place of numbers wherever a router is named.
+  async function nameRouters() {
+    await lessonNamed('10-poisoned-reverse.lab');
+    await make('line', 3);
+    await act('rounds');
+    click(one('.router[data-router="0"]'));
+    set('#detail [name=name]', 'Berlin');
+    click(buttonOf('name it'));
+    await settled();
+    click(one('#drawing svg'));
+    click(one('#tables tr[data-router="1"]'));
+    press('last');
+    tell(textOf('#sum'), one('#tables caption').textContent, one('#drawing .router text').textContent);
+    tell(all('#events .now, #tables td:nth-child(4), #walk, #packet').filter(text => /\bR0\b/.test(text.textContent)).length);
+  }
+
+  // In a quiz nothing tells a metric; a guess is marked, and what is right is seen.
+  async function playQuiz() {
+    await make('line', 3);
+    await act('rounds');
+    click(one('[data-act=quiz]'));
+    const isSeen = selector => all(selector).some(element => element.checkVisibility({ visibilityProperty: true }) && element.textContent.trim());
+    tell(['#tables', '#tally', '#detail', '#events', '#checks', '#gutter'].filter(isSeen), metrics());
+    const guess = (router, text) => { const input = one(`[data-guess="${router}"]`); input.value = text; input.focus(); key('Enter'); };
+    guess(0, '1');
+    guess(1, '7');
+    guess(1, '2');
+    click(one('[data-act=reveal][data-router="2"]'));
+    tell(metrics(), textOf('#score'));
+    click(one('[data-act=quiz]'));
+    tell(isSeen('#tables'), metrics());
+  }
+
+  // From ten routers on the matrix stands first; a cell asks why.
+  async function seeMatrix() {
+    await make('line', 12);
+    await act('rounds');
+    tell(all('#tables .matrix tbody tr').length, all('#tables .matrix tbody td').slice(0, 7).map(cell => cell.textContent.trim()));
+    click(one('#tables .matrix [data-choose="route 3 2001:db8::/32"]'));
+    tell(textOf('#detail h2'));
+    await act('matrix');
+    tell(all('#tables table').length);
+  }
+
+  // Single keys do what buttons do.
+  async function useLetters() {
+    await make('ring', 5);
+    document.activeElement.blur();
+    const letter = async name => { document.activeElement.dispatchEvent(new KeyboardEvent('keydown', { key: name, bubbles: true, cancelable: true })); await settled(); };
+    await letter('r');
+    tell(lastLine());
+    one('#drawing [aria-label^="link 4 "]').focus();
+    await letter('c');
+    tell(lastLine(), document.activeElement.getAttribute('aria-label'));
+    await letter('c');
+    tell(lastLine());
+    one('.router[data-router="1"]').focus();
+    await letter('w');
+    tell(textOf('#detail h2'));
+    await letter('Escape');
+    document.activeElement.blur();
+    click(chosenEvent('receives datagram 10 '));
+    await letter('l');
+    tell(script.value.includes('lose 10'));
+    await letter('w');
+    tell(said());
+    for (const [name, where] of [['p', 'large'], ['q', 'quiz']]) { await letter(name); tell(document.body.classList.contains(where)); await letter(name); }
+    await lessonNamed('01-one-hop.lab');
+    one('#examples').blur();
+    await letter('n');
+    tell(one('#name').value);
+    await letter('b');
+    tell(one('#name').value);
+  }
+
   const script = document.getElementById('script');
   const plays = { film: playFilm, asked: showAsked, where: showWhere, refusals: showRefusals, edit, callOffRuns, sayFaults, keepDrafts, refuseClicks, undoAll,
-    useKeys, keepDrawing, loadFiles, useActs };
+    useKeys, keepDrawing, loadFiles, useActs, seeRounds, seeUpdates, loseAll, forge, cutLinks, takeLessons, fillBlanks, nameRouters, playQuiz, seeMatrix,
+    useLetters };
   const write = () => { document.body.innerHTML = '<pre id="report"></pre>'; document.getElementById('report').textContent = `${report.join('\n')}\n`; };
   window.onerror = message => { report.push(`wrong ${message}`); };
   window.onunhandledrejection = ({ reason }) => { report.push(`wrong ${reason}`); };

@@ -73,6 +73,13 @@ def example(name):
 
 
 LINE = example("line")
+UPDATES = {"regular": "regular update", "triggered": "triggered update", "held": "a triggered update waits", None: "its timer, nothing is due"}
+
+
+def ticked(record):
+    """What the page says of a tick."""
+    sent = len(record["sent"])
+    return f"R{record['router']}: {UPDATES[record['update']]}" + (f", {sent} sent" if sent else "")
 
 
 class Page:
@@ -92,7 +99,7 @@ class Page:
             one = browser.open_browser(self.kind)
             self.opened.append(one)
         one.open(f"file://{FILE}")
-        one.value("localStorage.clear()")
+        one.value("localStorage.clear(), sessionStorage.clear()")
         yield one
         self.free.put(one)
 
@@ -171,10 +178,10 @@ class Page:
 
     def changes(self, folder):
         tallies = self.film(folder, "changes", CHANGES)
-        same("the tally behind the drop", tallies[3], "7 of 7 metrics are the cost of a walk. 6 of 9 routes have the least cost.")
+        same("the tally behind the drop", tallies[3], "7 of 7 metrics belong to a path that is or was there. 6 of 9 routes are shortest paths.")
         same("what is red", self.report(folder, "refusals", CHANGES, ""),
-             ["refused 10 HopLimit: sent to the group, it has to come with hop limit 255",
-              "refused 7 ReconfigureRefused 35 NotOwned: the router does not own it"])
+             ["refused: sent to the group, it has to come with hop limit 255 (10 HopLimit)",
+              "refused: the router does not own it (7 ReconfigureRefused 35 NotOwned)"])
 
     def address(self, folder):
         """An address that names nothing does nothing; one with half a step neither; one of a route leads there; one of a lesson opens it."""
@@ -183,7 +190,7 @@ class Page:
             same(f"where {words} leads", self.report(folder, "where", fragment=f"line&{words}"), [f"step 2 of {steps}, at 0.000 s | nothing chosen"])
         same("where a route's address leads", self.report(folder, "where", fragment="line&step=1&router=0&prefix=2001:db8::/32"),
              [f"step 2 of {steps}, at 0.000 s | chosen"])
-        lesson = "05-timeout"
+        lesson = "06-timeout"
         steps = len(self.trace(folder, example(f"lessons/{lesson}")))
         where = self.report(folder, "where", fragment=f"{lesson}&step=1")[0]
         same("where a lesson's address leads", where.partition(",")[0], f"step 2 of {steps}")
@@ -197,34 +204,35 @@ class Page:
         return "" if hint is None else f"; {at}{hint['text']}"
 
     def edit(self, folder):
-        ticked = f"{LINE}tick 0 400 0\n"
-        line, steps = ticked.count("\n"), len(self.trace(folder, ticked))
+        script = f"{LINE}tick 0 400 0\n"
+        line, records = script.count("\n"), self.trace(folder, script)
+        steps = len(records)
         same("the report", self.report(folder, "edit"),
-             ["appended tick 0 400 0", f"last {line} R0 ticks", f"step {steps} of {steps}, at 0.400 s", "marks true", f"refused line {line + 1}",
-              f"last {line + 1} refused 1 NoSuchRouter: there is no such router"])
+             ["appended tick 0 400 0", f"last {line} {ticked(records[-1])}", f"step {steps} of {steps}, at 0.400 s", "marks true",
+              f"refused line {line + 1}", f"last {line + 1} refused: there is no such router (1 NoSuchRouter)"])
 
     def refused_clicks(self, folder):
         """Nothing stays of a click whose line is refused, and nothing is put behind a line that is."""
-        line, reason = LINE.count("\n"), "refused 7 ReconfigureRefused 32 PrefixNotAllowed: the prefix is multicast or link-local"
+        line, reason = LINE.count("\n"), "the prefix is multicast or link-local (7 ReconfigureRefused 32 PrefixNotAllowed)"
         same("the report", self.report(folder, "refuseClicks"),
-             ["print | not put in: " + reason + self.hint(folder, LINE + "gain 0 400 ff00::/8 0\n"), "print | 0",
-              f"cost 0 0 400 7 | {line + 1} R0 has cost 7 at interface 0", "0 | false",
-              f"tick 9 400 0 | Line {line + 2} is refused, so no line behind it is reached: mend it first, or undo."])
+             ["print | Not added: " + reason + self.hint(folder, LINE + "gain 0 400 ff00::/8 0\n"), "print | 0",
+              f"cost 0 0 400 7 | {line + 1} R0 has cost 7 at interface 0",
+              f"tick 9 400 0 | Line {line + 2} is refused, so no line after it is reached. Correct it first, or undo."])
 
     def undo(self, folder):
         same("the report", self.report(folder, "undoAll"), ["own-line.lab | own-line.lab", "true | line.lab", *["true"] * 5])
 
     def drafts(self, folder):
         same("the report", self.report(folder, "keepDrafts"),
-             ["true | examples,lessons", "your own own-line.lab", "your own own-line-2.lab own-line.lab", "# first | own-line.lab",
+             ["true | How routes come,How routes go,Loops and infinity,What comes in the end,Who may speak,More,Exercises,Examples", "your own own-line.lab", "your own own-line-2.lab own-line.lab", "# first | own-line.lab",
               "your own mine.lab own-line-2.lab", "https://example.org/lab.html | true"])
 
     def called_off(self, folder):
-        ticked, steps = LINE.count("\n") + 1, len(self.trace(folder, LINE))
+        line, steps, last = LINE.count("\n") + 1, len(self.trace(folder, LINE)), ticked(self.trace(folder, f"{LINE}tick 0 400 0\n")[-1])
         stopped = "The run was stopped. again | true"
         same("the report", self.report(folder, "callOffRuns"),
              [f"true | step 2 of {steps} | running .. stop | true", f"false | step 2 of {steps} | {stopped}",
-              f"false | step 2 of {steps} | {stopped}", f"1 |  | {ticked} R0 ticks"])
+              f"false | step 2 of {steps} | {stopped}", f"1 |  | {line} {last}"])
 
     def faults(self, folder):
         said = ["it wants more memory than there is", "the laboratory has stopped (unreachable)"]
@@ -236,12 +244,13 @@ class Page:
         """One thing of each pane is reached by Tab, the next by an arrow; the focus stays; a left or right arrow steps and nothing else."""
         same("the report", self.report(folder, "useKeys"),
              ["1,1,1 | 0 | true", "2 | true", "route 1 2001:db8::/32", "route 1 2001:db8::/32 | Why has R1 metric 5 for 2001:db8::/32?",
-              "nothing | route 1 2001:db8::/32", "R0 | R0, owns 2001:db8::/32 with tag 9, metric 1 for 2001:db8::/32", "tick | tick 0 400 0",
+              "nothing | route 1 2001:db8::/32", "R0 | R0, originates 2001:db8::/32 with tag 9, metric 1 for 2001:db8::/32",
+              "send what is due | tick 0 400 0",
               "nothing", "nameless | none"])
 
     def drawing_stays(self, folder):
         line, other = LINE[:LINE.index("cold")].count("\n") + 1, LINE.replace("cold", "xcold")
-        refused = f"line {line}, refused BadLine: the line is malformed or out of place{self.hint(folder, other)}"
+        refused = f"Line {line}: refused: the line is malformed or out of place (BadLine){self.hint(folder, other)}"
         same("the report", self.report(folder, "keepDrawing"), ["true | true", "true", f"3 | stale | {refused}", "true |  | ", "false"])
 
     def files(self, folder):
@@ -254,8 +263,76 @@ class Page:
         steps = len(self.trace(folder, f"{LINE}round {due}\n"))
         branch = LINE[:LINE.index("deliver 4 1 0 0")].count("\n") + 2
         said = [line.partition(", at ")[0] for line in self.report(folder, "useActs")]
-        same("the report", said, [f"round {due} | step {steps} of {steps}", "# Datagram 10 to R1 is lost. | true", f"tick 1 0 0 | {branch} R1 ticks, 2 sent",
+        same("the report", said, [f"round {due} | step {steps} of {steps}", "lose 10 | true", f"tick 1 0 0 | {branch} R1: regular update, 2 sent",
                                   "123", "true", "true", "3 | true"])
+
+    # ---- What a class does ----
+    def rounds(self, folder):
+        """A ring of five, by hand: in the first round R0 alone sends, two datagrams, and R1 and R4 learn; in the second R2 and R3. The start
+        has one step, the first round five ticks and two deliveries, the second five and six."""
+        same("the report", self.report(folder, "seeRounds"),
+             ["true | 2 | R1 R4 | 1 2 2", "1,4 | 0", "R2 R3 | 1 2 3 3 2", "R1 R4 | 1 2 2 | step 8 of 19", "R2 R3 | 1 2 3 3 2 | 10"])
+
+    def updates(self, folder):
+        """A line of three: after four Requests and one update of the first round R0 sends 5, and R1 6 and 7. A second triggered update within
+        the first second waits for its end."""
+        same("the report", self.report(folder, "seeUpdates"),
+             ["link 0 6 2001:db8::/32 at 16 (poisoned reverse) | link 1 7 2001:db8::/32 at 2",
+              "Line 17: R0: a triggered update waits | It has changes to advertise, but its triggered updates are delayed until 21.000 s."])
+
+    def losing(self, folder):
+        same("the report", self.report(folder, "loseAll"),
+             ["1 2 | 1 | The round was split into its datagrams, to lose one of them.", "0", "lose 4,hear | 1", "hear | 1 2", "true"])
+
+    def forging(self, folder):
+        """The metric of the forged Response is 1, and so 2 for R2, where 3 is right."""
+        believed = "R2 believes a forged Response of fe80::66, 2001:db8::/32 at 2 | 1 2 2"
+        same("the report", self.report(folder, "forge"),
+             ["R2 receives a datagram of an outside host, fe80::66 port 521 refused: sent to the group, it has to come with hop limit 255 "
+              "(10 HopLimit) | 1 2 3", believed, believed, "Not added: this could only come from a router of the link (5 NotAStranger)",
+              "2 of 3 metrics belong to a path that is or was there. 2 of 3 routes are shortest paths. After a forged update nothing is "
+              "guaranteed. | 1"])
+
+    def cutting(self, folder):
+        """R4 has heard R0 last at 120 s. Rounds come at 135 s and each 30 s later, so its route times out in the seventh. A link from R0 to R2
+        gives R2 2, a round before R3 hears of it."""
+        same("the report", self.report(folder, "cutLinks"),
+             ["This path goes over link 4, which was cut in line 21. R4 notices at 300 s, in 180 s, unless it hears of another path before. | 1 | "
+              "A packet for 2001:db8::/32 from here, now: R4 → R0, lost on link 4, which is cut.",
+              "rounds 7 135000 30000 | A route changed in round 7 from here, 3 minutes later. | 2", "true | 1 2 3 4 5",
+              "true | mend 5 | Link 5 to R2 comes up now. In the script it stands from the start, and is cut until here.", "1 2 2 4 5", "9,9"])
+
+    def lessons(self, folder):
+        script = example("lessons/11-ring-of-three").split("\n")
+        expects = [line for line in script if line.startswith("expect")]
+        first = 1 + script.index(expects[0])
+        checks = ",".join(f"✓ R{router}, 2001:db8::/32: expected {metric}, found {metric}" for router, metric in enumerate((4, 16, 16)))
+        same("the report", self.report(folder, "takeLessons"),
+             ["Lesson 1 of 26: How routes come | true | Question: two routers are on one link, and the first has a prefix. How does the second learn "
+              "of it, with which metric, and does the first then believe its own news?",
+              "02-one-hop-a-round.lab | Lesson 2 of 26: How routes come | false",
+              f"They poison each other's route, but each has advertised it to the owner, which now believes router 1. | 4 16 16 | {checks}",
+              f"{len(expects)} | {len(expects)}", f"0 | 1 | {first} | Line {first}: expected R1 2001:db8::/32 5 found 2"])
+
+    def blanks(self, folder):
+        same("the report", self.report(folder, "fillBlanks"),
+             ["2 | false", "A metric is 1 to 16, or none.", "✗ not 2", "✓ R1, 2001:db8::/32: expected 3, found 3 | 1 | own-exercise-02-line.lab | true",
+              "2 | step 5 of 11"])
+
+    def names(self, folder):
+        same("the report", self.report(folder, "nameRouters"),
+             ["1 + 1 = 2: 1 at the owner, and the cost of each hop. 1 hop to the owner, R1 → Berlin. | Berlin | Berlin", "0"])
+
+    def quiz(self, folder):
+        same("the report", self.report(folder, "playQuiz"), [" | ? ? ?", "1 2 3 | 2 of 3 right, 1 at the first guess.", "true | 1 2 3"])
+
+    def matrix(self, folder):
+        same("the report", self.report(folder, "seeMatrix"), ["12 | 1,2,3,4,5,6,·", "Why has R3 metric 4 for 2001:db8::/32?", "6"])
+
+    def letters(self, folder):
+        same("the report", self.report(folder, "useLetters"),
+             ["round 0", "cut 4 | link 4 of R0 and R4, cut", "mend 4", "Why has R1 metric 2 for 2001:db8::/32?", "true",
+              "Choose a router or a route first.", "true", "true", "02-one-hop-a-round.lab", "01-one-hop.lab"])
 
     # ---- Visits, and times ----
     def visit(self, folder, name):
@@ -277,7 +354,7 @@ def cases_of(page):
     cases = [(f"film of {file.stem}", lambda folder, name=file.stem: page.example(folder, name)) for file in (ROOT / "examples").glob("*.lab")]
     cases += [(name.replace("_", " "), getattr(page, name)) for name in (
         "called_off", "acts", "keys", "undo", "drafts", "refused_clicks", "changes", "address", "least_costs", "counting", "edit", "faults",
-        "drawing_stays", "files")]
+        "drawing_stays", "files", "rounds", "updates", "losing", "forging", "cutting", "lessons", "blanks", "names", "quiz", "matrix", "letters")]
     cases += [(f"visit of a {name}", lambda folder, name=name: page.visit(folder, name)) for name in visits.NAMES]
     return cases + ([("quick", page.quick)] if page.kind == "chromium" else [])
 

@@ -1,7 +1,7 @@
 #!/usr/bin/env python3
 """Visits to the laboratory's page by real clicks and keys, for tests/page.py.
 
-    tests/visits.py chromium|firefox newcomer|keyboard|sizes URL      says nothing, or why it went wrong, with status 1
+    tests/visits.py chromium|firefox VISIT URL      says nothing, or why it went wrong, with status 1
 
 The newcomer knows nothing but what stands in the page: each thing is found by its name as it is read there, has to be in sight,
 and has to be what lies under the pointer. What metrics have to come is worked out by hand, for a ring of five of which R0 owns
@@ -12,14 +12,14 @@ import sys
 
 import browser
 
-NAMES = ('newcomer', 'keyboard', 'sizes')
+NAMES = ('newcomer', 'keyboard', 'sizes', 'phone', 'room', 'drafts', 'places')
 ROUTE = '2001:db8::/32'
 # The point to click of what is named so: a button or a field by its words, a thing of the drawing by its title.
 FIND = '''(name => {
   const nameOf = element => element.getAttribute('aria-label') ?? element.querySelector(':scope > title')?.textContent
     ?? element.labels?.[0]?.textContent ?? element.textContent;
   const isNamed = element => nameOf(element).trim().replace(/\\s+/g, ' ') === name;
-  const found = [...document.querySelectorAll('button, select, input, svg g')].find(isNamed);
+  const found = [...document.querySelectorAll('button, select, input, svg g')].filter(isNamed).find(element => element.checkVisibility());
   if (!found) return null;
   found.scrollIntoView({ block: 'nearest' });
   const line = found.querySelector('path.wire'), box = found.getBoundingClientRect();
@@ -31,12 +31,16 @@ FIND = '''(name => {
   return [.5, .4, .6, .3, .7].map(at).find(([x, y]) => found.contains(document.elementFromPoint(x, y))) ?? null;
 })'''
 METRICS = '''[...document.querySelectorAll('#tables > div')].map(table => table.querySelector('td.metric')?.textContent ?? '-').join(' ')'''
+STILL = 'document.getElementById("drawing").getAttribute("aria-busy") !== "true"'
+# The drafts that the browser keeps, and the text of one.
+NAMES_KEPT = 'Object.keys(localStorage).filter(key => key.startsWith("ripngd draft ")).map(key => key.split(" ")[3]).sort().join()'
+TEXT_KEPT = '''(name => JSON.parse(localStorage.getItem(Object.keys(localStorage).find(key => key.endsWith(` ${name}`)))).text)'''
 
 
 # What is wider than its place, as a window and as a cell of a table; what a finger would not hit, below 24 pixels.
 WIDE = '''[...document.querySelectorAll('#tables td:first-child .link')].filter(text => text.scrollWidth > text.clientWidth + 1)
   .map(text => text.textContent).concat(document.documentElement.scrollWidth > innerWidth ? ['the page'] : []).join()'''
-SMALL = '''[...document.querySelectorAll('button, select, input, [role=button]')].filter(target => target.checkVisibility()).filter(target => {
+SMALL = '''[...document.querySelectorAll('button, select, input, [role=button]:not(.link-line)')].filter(target => target.checkVisibility()).filter(target => {
   const { width, height } = target.getBoundingClientRect();
   return width < 23.9 || height < 23.9 && target.type !== 'range';
 }).map(target => target.getAttribute('aria-label') ?? target.textContent).join()'''
@@ -73,12 +77,17 @@ class Visit:
     def click(self, name):
         self.page.click_at(*self.comes(f'{name!r} can be clicked', f'{FIND}({json.dumps(name)})'))
 
+    def still(self):
+        """Until what was run has been played."""
+        self.comes('the page is still', STILL)
+
     def rounds(self, metrics):
         """Twice five rounds, 300 seconds, longer than any timeout; and what the routers hold then."""
         for _ in range(2):
             steps = self.page.value('Number(document.getElementById("slider").max)')
             self.click('five rounds')
             self.comes('five rounds happen', f'Number(document.getElementById("slider").max) > {steps}')
+            self.still()
         self.comes(f'the metrics are {metrics}', f'{METRICS} === {json.dumps(metrics)}')
 
     # ---- The visits ----
@@ -88,22 +97,154 @@ class Visit:
         for word in ('round', 'Click a link', 'ask why'):
             same(f'whether the page says {word!r}', word in self.read('#caption'), True)
         self.rounds('1 2 3 3 2')
-        same('the tally', '5 of 5 routes have the least cost' in self.read('#tally'), True)
-        self.outage('link 4', 'cut the link', '#drawing .wire.cut', '1 2 3 4 5')
-        self.outage('link 4, cut', 'mend the link', '#drawing:not(:has(.cut))', '1 2 3 3 2')
-        self.outage(f'R1, metric 2 for {ROUTE}', 'take it down', '#drawing .router.silent', '1 2 4 3 2')
-        self.outage('R1, silent', 'bring it up', '#drawing:not(:has(.silent))', '1 2 3 3 2')
+        same('the tally', '5 of 5 routes are shortest paths' in self.read('#tally'), True)
+        self.outage('link 4 of R0 and R4', 'cut the link', '#drawing .wire.cut', '1 2 3 4 5')
+        self.outage('link 4 of R0 and R4, cut', 'mend the link', '#drawing:not(:has(.cut))', '1 2 3 3 2')
+        self.outage(f'R1, metric 2 for {ROUTE}', 'let it fail', '#drawing .router.silent', '1 2 4 3 2')
+        self.outage('R1, down', 'bring it up', '#drawing:not(:has(.silent))', '1 2 3 3 2')
         self.why()
+        self.recorded()
+        self.why()
+        # Who gets a film goes on from it.
+        self.rounds('1 2 3 3 2')
+        self.outage('link 4 of R0 and R4', 'cut the link', '#drawing .wire.cut', '1 2 3 4 5')
+
+    def recorded(self):
+        """What is sent away is opened, and has the same end."""
         self.click('export recording')
         film = self.page.downloaded('ring-5.html')
         where = self.read('#where')
         self.open(f'file://{film}')
         self.click('last')
         same('the last step of the film', self.read('#where'), where)
-        self.why()
-        # Who gets a film goes on from it.
-        self.rounds('1 2 3 3 2')
-        self.outage('link 4', 'cut the link', '#drawing .wire.cut', '1 2 3 4 5')
+
+    def phone(self):
+        """On a narrow window: what a newcomer needs is in the first view, what was clicked is in sight, and so is what is said of it."""
+        self.page.size(500, 900)
+        in_view = """(words => { const { top, bottom } = document.querySelector(words).getBoundingClientRect(); return top >= 0 && bottom <= innerHeight; })"""
+        for words in ('[data-act=make]', '#undo', '#step', '#drawing', '[data-act=round]'):
+            same(f'whether {words} is in the first view', self.page.value(f'{in_view}({json.dumps(words)})'), True)
+        self.click('make')
+        self.comes('there is a ring of five', 'document.querySelectorAll("#drawing .router").length === 5')
+        self.click('five rounds')
+        self.still()
+        self.click('link 4 of R0 and R4')
+        same('whether the act is in sight', self.page.value(f'{in_view}("#detail [data-key=c]")'), True)
+        self.click('cut the link')
+        self.comes('the link is cut', 'document.querySelector("#drawing .wire.cut") !== null')
+        self.page.value('document.querySelector("#detail [name=metric]").value = 99')
+        self.click('close')
+        self.click('until something changes')
+        self.comes('it is said', f'{text_of("#editing")}.startsWith("A route changed")')
+        same('whether it is in sight', self.page.value(f'{in_view}("#editing")'), True)
+        self.still()
+        self.page.value('document.querySelector("#editing button[data-act=hush]")?.click()')
+        self.rounds('1 2 3 4 5')
+        self.click(f'{ROUTE} at R4: why metric 5?')
+        same('the sum', self.read('#sum b'), '1 + 1 + 1 + 1 + 1 = 5')
+        same('the packet', self.read('#packet b'), 'R4 → R3 → R2 → R1 → R0')
+        self.click('close')
+        self.recorded()
+
+    def room(self):
+        """For a projector the drawing is scaled to the window, metrics are as large as routers, and why and round are at hand."""
+        self.page.size(1920, 1080)
+        self.click('make')
+        self.comes('there is a ring of five', 'document.querySelectorAll("#drawing .router").length === 5')
+        self.click('five rounds')
+        self.still()
+        self.click('present')
+        height = "(words => document.querySelector(words).getBoundingClientRect().height)"
+        share = self.page.value(f'{height}("#parts") / {height}("#drawing")')
+        same(f'whether the drawing ({share}) fills its pane', share > 0.75, True)
+        sizes = self.page.value(f'[".metric .plate", ".router > circle"].map({height})')
+        same(f'whether metrics are as large as routers: {sizes}', sizes[0] > 60 and sizes[0] > 0.75 * sizes[1], True)
+        self.click('round')
+        self.still()
+        self.click(f'{ROUTE} at R3: why metric 3?')
+        same('the sum', self.read('#sum b'), '1 + 1 + 1 = 3')
+        same('what is too wide', self.page.value('document.documentElement.scrollWidth > innerWidth'), False)
+        self.click('quiz')
+        same('what is hidden', self.page.value('document.querySelector(".metric text").textContent'), '?')
+
+    def drafts(self):
+        """A shared script, another example and another tab destroy nothing; states outlive a reload."""
+        script, text = 'document.getElementById("script").value', self.page.value
+        self.click('make')
+        self.comes('there is a ring of five', 'document.querySelectorAll("#drawing .router").length === 5')
+        self.click('round')
+        self.still()
+        own = text(script)
+        theirs = json.dumps('# theirs\nrouter\niface fe80::1 1 1280 0\nown 2001:db8::/32 0\ncold 0\n')
+        link = self.page.promised(f'(window.wrappedJSObject ?? window).packed({theirs})')
+        text(f'location.hash = "name=ring-5.lab&script={link}"')
+        self.comes('the shared script is there', f'{script}.startsWith("# theirs")')
+        self.still()
+        same('what is kept', text(NAMES_KEPT), 'ring-5.lab')
+        same('whether it is the own one', text(f'{TEXT_KEPT}("ring-5.lab")') == own, True)
+        self.page.value('history.replaceState(null, "", "#step=1")')
+        self.reload()
+        same('what is there after a reload', text(script).startswith('# theirs'), True)
+        self.click('undo')
+        self.comes('the own network is back', f'{script} === {json.dumps(own)}')
+        self.still()
+        self.click('redo')
+        self.comes('theirs is back', f'{script}.startsWith("# theirs")')
+        self.still()
+        # Once it is changed it is kept, under a name of its own.
+        self.click('round')
+        self.still()
+        same('what is kept then', text(NAMES_KEPT), 'ring-5-2.lab,ring-5.lab')
+        self.tabs()
+
+    def tabs(self):
+        """Two tabs edit one draft: what the second writes gets another name, and the first comes back as it was."""
+        script, value = 'document.getElementById("script").value', self.page.value
+        self.click('undo')
+        self.still()
+        self.click('undo')
+        self.still()
+        own, mine = value(script), value('JSON.stringify({ ...sessionStorage })')
+        value('localStorage.setItem(Object.keys(localStorage).find(key => key.endsWith(" ring-5.lab")), JSON.stringify({ text: "# another tab", at: Date.now() }))')
+        self.click('round')
+        self.still()
+        same('the draft of the other tab', value(f'{TEXT_KEPT}("ring-5.lab")'), '# another tab')
+        same('the names', value(NAMES_KEPT), 'ring-5-2.lab,ring-5-3.lab,ring-5.lab')
+        value('sessionStorage.clear()')
+        self.open(f'{self.url}#line')
+        same('a new tab', self.read('#caption') != '', True)
+        value(f'Object.entries({mine}).forEach(([key, text]) => sessionStorage.setItem(key, text))')
+        value('history.replaceState(null, "", "#step=1")')
+        self.reload()
+        same('the first tab', value(script) == own, True)
+
+    def reload(self):
+        self.open(self.page.value('location.href'))
+
+    def places(self):
+        """Where a router was dragged it stays, over a reload, in a film and in the script."""
+        self.click('make')
+        self.comes('there is a ring of five', 'document.querySelectorAll("#drawing .router").length === 5')
+        at = "['cx', 'cy'].map(name => Math.round(document.querySelector('.router[data-router=\"2\"] circle').getAttribute(name)))"
+        before = self.page.value(at)
+        self.page.value("""(() => {
+          const drag = (kind, x, y) => (kind === 'pointerdown' ? document.querySelector('.router[data-router="2"]') : window)
+            .dispatchEvent(new PointerEvent(kind, { clientX: x, clientY: y, bubbles: true }));
+          drag('pointerdown', 50, 50), drag('pointermove', 10, 20), drag('pointerup', 10, 20);
+        })()""")
+        place = self.page.value(at)
+        same('how far it was moved', [before[0] - place[0], before[1] - place[1]], [40, 30])
+        same('whether the script has it', '#places 2 ' in self.page.value('document.getElementById("script").value'), True)
+        self.page.value('history.replaceState(null, "", "#step=1")')
+        self.reload()
+        self.is_near('after a reload', at, place)
+        self.recorded()
+        self.is_near('in the film', at, place)
+
+    def is_near(self, where, at, place):
+        """The script has hundredths of a link's length."""
+        found = self.page.value(at)
+        same(f'whether it is at {place} {where}: {found}', max(abs(a - b) for a, b in zip(found, place)) <= 2, True)
 
     def outage(self, thing, act, sign, metrics):
         if not self.page.value(f'{FIND}({json.dumps(act)})'):
@@ -116,6 +257,7 @@ class Visit:
         self.click(f'{ROUTE} at R4: why metric 2?')
         self.comes('the page says why', f'{text_of("#detail h2")} === "Why has R4 metric 2 for {ROUTE}?"')
         same('the sum', self.read('#sum b'), '1 + 1 = 2')
+        same('the packet', self.read('#packet b'), 'R4 → R0')
 
     def keyboard(self):
         """Every pane is reached by Tab, a chosen example stays when one steps, and typing, Enter and Escape do what they say."""
@@ -137,7 +279,7 @@ class Visit:
         self.page.press('End')
         self.page.value('document.querySelector("#tables [tabindex=\\"0\\"]").focus()')
         self.page.press('Enter')
-        same('whether a route is asked', self.read('#detail h2').startswith('Why has R'), True)
+        same('whether a route is asked', self.read('#detail h2').startswith('Why '), True)
         same('the focus', self.page.value(focus), 'route')
         self.page.press('Escape')
         same('what is chosen', self.read('#detail h2'), '')

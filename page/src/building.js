@@ -13,8 +13,8 @@ export const SHAPES = {
 // The script of a new network of that shape: costs are 1, and router 0 owns a prefix. Its remark says what to do next.
 export function networkScript(shape, count) {
   const links = SHAPES[shape](count);
-  const lines = [`# ${count} routers: ${shape}. R0 owns a prefix. Press "round": each tells the others what it knows.`,
-    '# Click a link to cut it, a router to do more, and a route on the right to ask why.'];
+  const lines = [`# ${count} routers: ${shape}. R0 originates a prefix. Press "round": every router sends its update, and all arrive.`,
+    '# Click a link to cut it, a router to do more, and a metric to ask why.'];
   for (let router = 0; router < count; router++) {
     const own = links.flatMap((link, number) => link.includes(router) ? [number] : []);
     lines.push('router', ...own.map((link, iface) => `iface ${address(router, iface)} 1 1280 ${link}`));
@@ -44,38 +44,51 @@ export function withName(script, router, name) {
   return lines.with(at, `${head} ${name}`.trim()).join('\n');
 }
 
-// The script with a new link between two routers, or to a new one, the next; null where there is none such.
-export function joined(script, from, to, cost) {
-  const lines = script.split('\n'), routers = sections(lines), isNew = to === routers.length;
-  if (!routers[from] || from === to || !(routers[to] || isNew)) return null;
-  const used = lines.flatMap(line => line.startsWith('iface ') ? [Number(line.split(' ')[4])] : []);
-  const ifaceOf = (router, iface) => `iface ${address(router, iface)} ${cost} 1280 ${Math.max(-1, ...used) + 1}`;
-  const added = [to, from].map(router => {
-    const { end, ifaces } = routers[router] ?? {};
-    return ifaces ? [end, ifaceOf(router, ifaces.length)] : [routers.at(-1).end, 'router', ifaceOf(router, 0)];
-  });
-  for (const [end, ...more] of added.sort(([a], [b]) => b - a)) lines.splice(end, 0, ...more);
-  return lines.join('\n');
+// A script with lines changed: each change takes `remove` lines out at an index and puts others there. `origins` has for
+// each line the number of that which it was, or stands for; 0 for one that is new.
+export function spliced(script, changes) {
+  const lines = script.replace(/\n*$/, '').split('\n').map((text, at) => ({ text, origin: at + 1 }));
+  for (const { at, remove = 0, lines: added } of changes.toSorted((a, b) => b.at - a.at)) {
+    const origin = remove > 0 ? at + 1 : 0;
+    lines.splice(at, remove, ...added.map(text => ({ text, origin })));
+  }
+  return { script: [...lines.map(({ text }) => text), ''].join('\n'), origins: lines.map(({ origin }) => origin) };
 }
 
-// The remark that was last before a line, for each line by its number; and behind them that at the script's end.
-export function captionsOf(script) {
-  const captions = [''];
-  let caption = '', block = [];
-  for (const line of [...script.split('\n'), 'end']) {
-    if (line.startsWith('#')) block.push(line.replace(/^#+ ?/, ''));
-    else if (line !== '' && block.length > 0) [caption, block] = [block.join(' '), []];
-    captions.push(caption);
-  }
-  return captions;
+// The script with a new link between two routers, or to a new one, the next; null where there is none such. In a network
+// that has run already the link comes up now: it is cut from the start, and mended behind `line`.
+export function joined(script, from, to, cost, line = null) {
+  const lines = script.split('\n'), routers = sections(lines), isNew = to === routers.length;
+  if (!routers[from] || from === to || !(routers[to] || isNew)) return null;
+  const used = lines.flatMap(text => text.startsWith('iface ') ? [Number(text.split(' ')[4])] : []);
+  const link = Math.max(-1, ...used) + 1, ifaceOf = (router, iface) => `iface ${address(router, iface)} ${cost} 1280 ${link}`;
+  const added = [to, from].map(router => {
+    const { end, ifaces } = routers[router] ?? {};
+    return ifaces ? { at: end, lines: [ifaceOf(router, ifaces.length)] }
+      : { at: routers.at(-1).end, lines: ['router', ifaceOf(router, 0)] };
+  });
+  const cold = lines.findIndex(text => text.startsWith('cold')), isRunning = line !== null && cold >= 0 && line > cold + 1;
+  const late = isRunning ? [{ at: cold + 1, lines: [`cut ${link}`] }, { at: line, lines: [`mend ${link}`] }] : [];
+  return { ...spliced(script, [...added, ...late]), link, isLate: isRunning };
 }
 
 // The script with lines put in: at the end, or behind a line, with what follows or without; and the first's number.
 export function inserted(script, added, place, line) {
-  const lines = script.replace(/\n*$/, '').split('\n'), at = place === 'end' ? lines.length : line;
-  const rest = place === 'branch' ? [] : lines.slice(at);
-  return { script: [...lines.slice(0, at), ...added, ...rest, ''].join('\n'), first: at + 1 };
+  const count = script.replace(/\n*$/, '').split('\n').length, at = place === 'end' ? count : line;
+  const rest = place === 'branch' ? [{ at, remove: count - at, lines: [] }] : [];
+  return { ...spliced(script, [...rest, { at, lines: added }]), first: at + 1 };
 }
 
-// The script with the delivery of a line struck out, and a remark in its place.
-export const withoutDelivery = (script, line, remark) => script.split('\n').with(line - 1, `# ${remark}`).join('\n');
+// ---- Places of routers ----
+// How far routers were moved from where they would stand, in lengths of a link: a remark that the page writes and reads.
+const PLACES = /^#places .*\n?/gm;
+export const placesOf = script => {
+  const [text = ''] = script.match(PLACES) ?? [], shifts = [];
+  for (const [, router, x, y] of text.matchAll(/(\d+) (-?[\d.]+) (-?[\d.]+)/g)) shifts[router] = { x: Number(x), y: Number(y) };
+  return shifts;
+};
+export function withPlaces(script, shifts) {
+  const bare = script.replace(PLACES, ''), told = shifts.flatMap((shift, router) =>
+    shift && (shift.x || shift.y) ? [`${router} ${shift.x.toFixed(2)} ${shift.y.toFixed(2)}`] : []);
+  return told.length === 0 ? bare : `${bare.replace(/\n*$/, '\n')}#places ${told.join(', ')}\n`;
+}

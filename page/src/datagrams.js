@@ -34,6 +34,13 @@ export function prefixKey(prefix) {
   return [...[...before, ...zeros, ...after].map(group => group.padStart(4, '0')), length.padStart(3, '0')].join('');
 }
 
+// Whether all addresses of a prefix are in another.
+export function covers(wide, prefix) {
+  const bitsOf = text => [...prefixKey(text).slice(0, 32)].map(digit => parseInt(digit, 16).toString(2).padStart(4, '0')).join('');
+  const [length, own] = [wide, prefix].map(text => Number(text.split('/')[1]));
+  return wide === prefix || length <= own && bitsOf(wide).slice(0, length) === bitsOf(prefix).slice(0, length);
+}
+
 const digits = (number, bytes) => Number(number).toString(16).padStart(2 * bytes, '0');
 // A Request for all routes, and a Response with one entry.
 export const wholeRequest = () => `01010000${'0'.repeat(38)}10`;

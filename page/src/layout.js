@@ -15,13 +15,46 @@ export function wiringOf(trace) {
 }
 
 // Places for the spots, a wire being about one unit long: as far apart as they are along wires, turned so that most
-// wires are level or upright. Lines, rings and grids are seen as such; a star is drawn as a ring around its middle.
+// wires are level or upright, and spot 0 is to the left and the top. Lines and grids are seen as such; a ring is a regular
+// polygon, and a star a ring around its middle.
 export function layOut({ wires, size }) {
+  const ring = ringOf(wires, size);
+  if (ring) return ringAround(ring);
   const middle = Array(size).fill().findIndex((_, spot) => wires.every(({ from, to }) => from === spot || to === spot));
   if (size > 4 && wires.length === size - 1 && middle >= 0) return starAround(middle, size);
   const lengths = lengthsBetween(wires, size), spots = byMainAxes(lengths);
   for (let round = 0; round < 80; round++) spots.forEach((_, spot) => { spots[spot] = relaxed(spots, lengths, spot); });
-  return upright(spots, wires);
+  return facing(upright(spots, wires));
+}
+
+// The spots of a ring in order, from 0 to the nearer number of its neighbors; null where there is none.
+function ringOf(wires, size) {
+  const next = Array.from({ length: size }, (_, spot) =>
+    wires.flatMap(({ from, to }) => from === spot ? [to] : to === spot ? [from] : []).sort((a, b) => a - b));
+  if (size < 3 || next.some(others => new Set(others).size !== 2 || others.length !== 2)) return null;
+  const ring = [0, next[0][0]];
+  while (ring.length < size) ring.push(next[ring.at(-1)].find(spot => spot !== ring.at(-2)));
+  return new Set(ring).size === size ? ring : null;
+}
+
+// Spot 0 stands at the top; of three the next to its lower left, of four it stands at the upper left, else clockwise.
+function ringAround(ring) {
+  const { length } = ring, radius = 0.5 / Math.sin(Math.PI / length), way = length === 3 ? -1 : 1;
+  const spots = [];
+  ring.forEach((spot, index) => {
+    const turn = way * 2 * Math.PI * index / length - (length === 4 ? Math.PI / 4 : 0);
+    spots[spot] = { x: radius * Math.sin(turn), y: -radius * Math.cos(turn) };
+  });
+  return spots;
+}
+
+// Rather wide than high, and mirrored so that spot 0 is to the left and the top.
+function facing(spots) {
+  const extent = axis => Math.max(...spots.map(spot => spot[axis])) - Math.min(...spots.map(spot => spot[axis]));
+  const wide = extent('y') > extent('x') + 0.1 ? spots.map(({ x, y }) => ({ x: y, y: x })) : spots;
+  const isFar = axis => wide[0][axis] - wide.reduce((sum, spot) => sum + spot[axis], 0) / wide.length > 0.05;
+  const [left, up] = [isFar('x') ? -1 : 1, isFar('y') ? -1 : 1];
+  return wide.map(({ x, y }) => ({ x: left * x, y: up * y }));
 }
 
 function starAround(middle, size) {
@@ -85,26 +118,37 @@ function upright(spots, wires) {
   return spots.map(({ x, y }) => ({ x: x * cos - y * sin, y: x * sin + y * cos }));
 }
 
-// In pixels: what is left free at the rims; how far apart routers stand at least and at most, and with room for texts.
-const MARGIN = { x: 48, y: 36 }, NEAREST = { least: 40, most: 230, roomy: 84 };
+// In pixels: what is left free at the rims; how far apart routers stand at least and at most, and with room for texts; and
+// how far, and how many times as large at most, for a room.
+const MARGIN = { x: 48, y: 40 }, NEAREST = { least: 40, most: 230, roomy: 84 }, LARGE = { apart: 140, most: 4.5 };
 
-// The layout in pixels, shifted by what was dragged: as large as the pane; where routers would touch so, the pane
-// scrolls. No spot leaves it.
-export function fitted(spots, shifts, pane) {
+// The layout in pixels, moved by the shifts, in lengths of a wire: as large as the pane; where routers would touch so, the
+// pane scrolls. No spot leaves it. For a room all is `zoom` times as large.
+export function fitted(spots, shifts, pane, isLarge = false) {
   const apartOf = (a, index) => spots.slice(0, index).map(b => Math.hypot(a.x - b.x, a.y - b.y));
-  const nearest = Math.min(9, ...spots.flatMap(apartOf)) || 0.1;
-  const low = axis => Math.min(...spots.map(spot => spot[axis]));
-  const extent = axis => Math.max(...spots.map(spot => spot[axis])) - low(axis);
-  const most = (axis, pixels) => (pixels - 2 * MARGIN[axis]) / (extent(axis) || 1);
-  const whole = Math.min(most('x', pane.width), most('y', pane.height));
-  const scale = Math.min(whole * nearest < NEAREST.least / 2 ? NEAREST.least / nearest : whole, NEAREST.most / nearest);
+  const nearest = Math.min(9, ...spots.flatMap(apartOf)) || 0.1, whole = wholeScale(spots, pane, 1);
+  const zoom = isLarge ? zoomOf(spots, nearest, pane) : 1, shown = { width: pane.width / zoom, height: pane.height / zoom };
+  const most = isLarge ? wholeScale(spots, shown, 1) : Math.min(whole, NEAREST.most / nearest);
+  const scale = most * nearest < NEAREST.least / 2 ? NEAREST.least / nearest : most;
   const along = (axis, pixels) => {
-    const size = Math.max(pixels, extent(axis) * scale + 2 * MARGIN[axis]), middle = low(axis) + extent(axis) / 2;
-    const place = (spot, shift = 0) => size / 2 + (spot[axis] - middle) * scale + shift;
+    const size = Math.max(pixels, extentOf(spots, axis) * scale + 2 * MARGIN[axis]);
+    const middle = lowOf(spots, axis) + extentOf(spots, axis) / 2;
+    const place = (spot, shift = 0) => size / 2 + (spot[axis] - middle + shift) * scale;
     const within = (spot, number) => Math.max(24, Math.min(size - 24, place(spot, shifts[number]?.[axis])));
     return { size, at: spots.map(within) };
   };
-  const { size: width, at: xs } = along('x', pane.width), { size: height, at: ys } = along('y', pane.height);
+  const { size: width, at: xs } = along('x', shown.width), { size: height, at: ys } = along('y', shown.height);
   const apart = nearest * scale, places = xs.map((x, spot) => ({ x, y: ys[spot] }));
-  return { width, height, places, radius: Math.min(20, Math.max(9, 0.3 * apart)), roomy: apart >= NEAREST.roomy };
+  return { width, height, places, scale, zoom, radius: Math.min(20, Math.max(9, 0.3 * apart)), roomy: apart >= NEAREST.roomy };
+}
+
+const lowOf = (spots, axis) => Math.min(...spots.map(spot => spot[axis]));
+const extentOf = (spots, axis) => Math.max(...spots.map(spot => spot[axis])) - lowOf(spots, axis);
+const wholeScale = (spots, pane, zoom) => Math.min(...[['x', pane.width], ['y', pane.height]].map(([axis, pixels]) =>
+  (pixels / zoom - 2 * MARGIN[axis]) / (extentOf(spots, axis) || 1)));
+
+// How many times as large all is drawn: as far as routers still stand well apart.
+function zoomOf(spots, nearest, pane) {
+  for (let zoom = LARGE.most; zoom > 1; zoom -= 0.1) if (wholeScale(spots, pane, zoom) * nearest >= LARGE.apart) return zoom;
+  return 1;
 }

@@ -1,44 +1,61 @@
 // What the page shows: its state, and the panes, which are drawn from it.
 import { named, readTrace } from './trace.js';
 import { layOut, wiringOf } from './layout.js';
-import { captionsOf, namesOf } from './building.js';
+import { placesOf } from './building.js';
+import { captionsOf, checksOf, expectationsOf } from './lessons.js';
 import { describe, hintOf, seconds } from './texts.js';
 import { html } from './markup.js';
 import { drawingOf } from './drawing.js';
-import { detailOf, eventOf, tablesOf, tallyOf } from './panes.js';
+import { detailOf, eventOf } from './detail.js';
+import { matrixOf, tablesOf, tallyOf } from './tables.js';
+import { quizOf } from './quiz.js';
 
 const byId = id => document.getElementById(id);
 const fill = (id, markup) => { byId(id).innerHTML = markup.text; };
-// The scripts of this file, its own before the examples and the lessons.
+// The scripts of this file, its own before the lessons and the examples.
 const SCRIPTS = new Map([...document.querySelectorAll('#own > div, #scripts > div')].map(script =>
-  [script.dataset.name, { text: script.textContent, kind: script.dataset.kind ?? 'of this file' }]));
+  [script.dataset.name, { text: script.textContent, kind: script.dataset.kind ?? 'of this file', isLesson: 'lesson' in script.dataset }]));
 
-// What is shown: a script that was run with its trace, a step of it, what was chosen, and what was typed into fields.
-// The script that was run last, `ran`, may have no network; then `stale` is true, and the last network shows.
+// What is shown: a script that was run with its trace, a step of it, that since which changes are marked, what was chosen,
+// and what was typed into fields. The script that was run last, `ran`, may have no network; then `stale` is true, and the
+// last network shows.
 const view = {
-  script: '', trace: readTrace(''), step: 0, chosen: null, typed: {}, ran: null, refused: null, stale: false,
-  wiring: null, spots: [], shifts: [], names: new Map(), captions: [''], eventsFrom: null, place: 'end',
+  script: '', trace: readTrace(''), step: 0, since: -1, chosen: null, typed: {}, ran: null, refused: null, stale: false,
+  wiring: null, spots: [], shifts: [], captions: [''], checks: [], eventsFrom: null, place: 'end',
+  isLarge: false, isQuiz: false, guesses: new Map(), isMatrix: null,
 };
 const current = () => view.trace.steps[view.step];
 
 // ---- What was run is shown ----
-function showRun(script, text, stepOf = () => view.step) {
+// Of what was `added` all is played, from the step before it.
+function showRun(script, text, stepOf = () => view.step, isAdded = false) {
   const trace = readTrace(text, script), last = trace.steps.at(-1)?.record, hasNetwork = trace.ends.length > 0;
-  const refused = last?.record === 'refused' ? last : null;
+  const refused = last?.record === 'refused' ? last : null, before = isAdded ? stepAsBefore(view.trace, trace) : -1;
   Object.assign(view, { ran: script, refused, stale: !hasNetwork && view.wiring !== null });
-  if (refused) say(`line ${refused.line}, ${describe(refused)}${hintOf(refused)}`, true);
+  if (refused) say(`Line ${refused.line}: ${describe(refused, trace.names)}${hintOf(refused)}`, true);
   else say(hasNetwork ? '' : 'no network yet: the script has no line "cold NOW"');
   if (!view.stale) showTrace(script, trace);
-  go(stepOf(view.trace));
+  const step = stepOf(view.trace);
+  if (isAdded && before >= 0 && step > before) playSpan(before, step);
+  else go(step);
+}
+
+// The last step up to which two traces are the same.
+function stepAsBefore({ steps: old }, { steps }) {
+  const isSame = step => JSON.stringify({ ...old[step].record, line: 0 }) === JSON.stringify({ ...steps[step].record, line: 0 });
+  let step = 0;
+  while (step < Math.min(old.length, steps.length) && isSame(step)) step++;
+  return step - 1;
 }
 
 // Routers stay where they are while the network has the same links.
 function showTrace(script, trace) {
   const linksOf = ({ ends }) => JSON.stringify(ends.map(own => own.map(({ link }) => link)));
   const isSame = linksOf(trace) === linksOf(view.trace);
-  Object.assign(view, { script, trace, names: namesOf(script), captions: captionsOf(script), eventsFrom: null });
+  const checks = checksOf(trace, expectationsOf(script));
+  Object.assign(view, { script, trace, checks, captions: captionsOf(script), shifts: placesOf(script), eventsFrom: null });
   view.wiring = trace.ends.length > 0 ? wiringOf(trace) : null;
-  if (!isSame) Object.assign(view, { spots: view.wiring ? layOut(view.wiring) : [], shifts: [] });
+  if (!isSame) view.spots = view.wiring ? layOut(view.wiring) : [];
   if (!named(view.chosen, trace)) view.chosen = null;
 }
 
@@ -47,13 +64,13 @@ function showTrace(script, trace) {
 const PANES = ['drawing', 'tables', 'events'], stops = {};
 const itemsOf = pane => [...pane.querySelectorAll('button, input, [tabindex]')];
 function keepFocus(draw) {
-  const had = document.activeElement, pane = had?.closest('#drawing, #tables, #events, #detail');
+  const had = document.activeElement, pane = had?.closest('#drawing, #tables, #events, #detail, #quiz, #checks');
   const at = pane ? itemsOf(pane).indexOf(had) : -1;
   draw();
   for (const id of PANES) {
     const find = words => byId(id).querySelector(words), { text, stop } = stops[id] ?? {};
     const chosen = text && find(`[tabindex][data-choose="${CSS.escape(text)}"]`);
-    const next = chosen || find('li.now [tabindex]') || find('[tabindex]');
+    const next = chosen || find('li.now [tabindex]') || find('.router[tabindex]') || find('[tabindex]');
     stop?.setAttribute('tabindex', -1);
     next?.setAttribute('tabindex', 0);
     stops[id] = { text, stop: next };
@@ -76,23 +93,43 @@ function mark(list, name, index) {
 }
 
 function render(flying = false) {
-  const { steps } = view.trace, { record, now } = current() ?? {}, isLast = view.step === steps.length - 1;
+  const { steps } = view.trace, { record, now } = current() ?? {};
   document.body.classList.toggle('stale', view.stale);
+  document.body.classList.toggle('chosen', view.chosen !== null);
   byId('where').textContent = record ? `step ${view.step + 1} of ${steps.length}, at ${seconds(now)}` : '';
   Object.assign(byId('slider'), { max: Math.max(0, steps.length - 1), value: view.step });
-  if (record) byId('slider').setAttribute('aria-valuetext', `line ${record.line}, ${describe(record)}`);
-  const captions = [view.captions[record?.line], isLast && view.captions.at(-1)].filter(Boolean);
-  byId('caption').textContent = [...new Set(captions)].join(' ');
+  if (record) byId('slider').setAttribute('aria-valuetext', `line ${record.line}, ${describe(record, view.trace.names)}`);
+  renderCaption();
   keepFocus(() => {
     renderScript();
     renderEvents();
-    fill('detail', detailOf(view));
+    renderChecks();
+    fill('detail', view.isQuiz ? html`` : html`${view.chosen ? html`<button data-act="letGo" title="Escape">close</button>` : ''}${detailOf(view)}`);
     renderDrawing(flying);
     renderTables();
   });
   follow(byId('drawing').querySelector('.moved'));
   follow(byId('tables').querySelector('.now'));
   writeAddress();
+}
+
+// The remark that is last before the line of the step; at the last step that at the end, too.
+function renderCaption() {
+  const { record } = current() ?? {}, isLast = view.step === view.trace.steps.length - 1;
+  const captions = [view.captions[record?.line], isLast && view.captions.at(-1)].filter(Boolean);
+  byId('caption').textContent = [...new Set(captions)].join(' ');
+}
+
+// What the script expects behind the step, as checked; a blank is a field.
+function renderChecks() {
+  const { trace: { names }, checks } = view, here = view.isQuiz ? [] : checks.filter(({ step }) => step > view.since && step <= view.step);
+  const name = router => names.get(router) ?? `R${router}`;
+  fill('checks', html`${here.map(({ line, router, prefix, wanted, found, isBlank, isMet }) => isBlank ? html`<span class="check blank choices">
+    <label>line ${line}: the metric of ${name(router)} for ${prefix} is <input name="blank-${line}" data-blank="${line}" size="5"
+    autocomplete="off" value="${view.typed[`blank-${line}`]}"></label><button data-act="answer" data-line="${line}">check</button>
+    <span class="bad">${view.wrong?.line === line ? `✗ not ${view.wrong.text}` : ''}</span></span>`
+    : html`<span class="check ${isMet ? 'met' : 'unmet'}" title="line ${line}">${isMet ? '✓' : '✗'} ${name(router)}, ${prefix}: expected ${wanted},
+    found ${found}</span>`)}`);
 }
 
 // Only the parts of a pane that are other than before are put in anew; of a table as long as before only such rows.
@@ -115,17 +152,23 @@ function replace(old, text) {
 function renderDrawing(flying) {
   const { clientWidth, clientHeight } = byId('drawing'), svg = byId('network');
   const pane = { width: clientWidth, height: clientHeight }, isThere = view.wiring !== null;
-  const { width, height, roomy, parts } = isThere ? drawingOf({ ...view, flying, pane }) : { ...pane, parts: [] };
-  const attributes = { width, height, viewBox: `0 0 ${width} ${height}`, class: roomy ? 'roomy' : '' };
+  const { width, height, zoom = 1, scale = 1, roomy, parts } = isThere ? drawingOf({ ...view, flying, pane }) : { ...pane, parts: [] };
+  const attributes = { width: width * zoom, height: height * zoom, viewBox: `0 0 ${width} ${height}`, class: roomy ? 'roomy' : '' };
   for (const [name, value] of Object.entries(attributes)) svg.setAttribute(name, value);
+  view.pixels = zoom * scale;
   byId('nothing').hidden = isThere;
   patch(byId('parts'), 'g', parts);
   for (const mark of byId('parts').querySelectorAll('[data-motion]')) mark.style = mark.dataset.motion;
 }
 
+// From so many routers on the matrix stands first.
+const MANY_ROUTERS = 10;
 function renderTables() {
-  fill('tally', view.wiring ? tallyOf(view) : html``);
-  patch(byId('tables'), 'div', view.wiring ? tablesOf(view) : []);
+  const isMatrix = view.isMatrix ?? view.trace.ends.length >= MANY_ROUTERS, isThere = view.wiring !== null;
+  byId('matrix').textContent = isMatrix ? 'show tables' : 'show matrix';
+  fill('tally', isThere ? tallyOf(view) : html``);
+  fill('quiz', isThere && view.isQuiz ? quizOf(view) : html``);
+  patch(byId('tables'), 'div', !isThere || view.isQuiz ? [] : isMatrix ? [matrixOf(view)] : tablesOf(view));
 }
 
 // Of a long list the events near the step are there.
@@ -134,22 +177,33 @@ function renderEvents() {
   const { steps } = view.trace, list = byId('events');
   const from = steps.length > 2 * NEAR ? Math.max(0, Math.floor(view.step / NEAR) * NEAR - NEAR / 2) : 0;
   if (from !== view.eventsFrom) {
-    fill('events', html`${steps.slice(from, from + 2 * NEAR).map((state, index) => eventOf(state, from + index))}`);
+    fill('events', html`${steps.slice(from, from + 2 * NEAR).map((state, index) => eventOf(state, from + index, view.trace.names))}`);
     view.eventsFrom = from;
   }
   mark(list, 'now', view.step - from);
+  [...list.children].forEach((one, index) => one.classList.toggle('since', index + from > view.since && index + from < view.step));
   follow(list.children[view.step - from]);
 }
 
-// The lines of now and of a refusal are marked. The text field leads, and the numbers beside it follow.
+// The lines of now, of a refusal and of expectations are marked. The text field leads, and the numbers beside it follow.
 const LINE_HEIGHT = 20;
 function renderScript() {
   const area = byId('script'), now = view.stale ? undefined : current()?.record.line, refused = view.refused?.line;
   mark(byId('gutter'), 'now', now - 1);
   mark(byId('gutter'), 'refused', refused - 1);
+  if (view.marked !== view.checks || view.isMarkedQuiz !== view.isQuiz) markChecks();
   area.style = `--now-line: ${now ?? -99}; --refused-line: ${refused ?? -99}`;
   if (document.activeElement === area && !area.readOnly || now === undefined) return;
   const top = 4 + (now - 1) * LINE_HEIGHT, least = top + 3 * LINE_HEIGHT - area.clientHeight;
   area.scrollTop = Math.min(Math.max(area.scrollTop, least), Math.max(0, top - 2 * LINE_HEIGHT));
   byId('gutter').scrollTop = area.scrollTop;
+}
+
+function markChecks() {
+  const kinds = new Map(view.checks.map(({ line, isBlank, isMet }) => [line, isBlank ? 'blank' : isMet ? 'met' : 'unmet']));
+  [...byId('gutter').children].forEach((line, at) => {
+    const kind = view.isQuiz ? null : kinds.get(at + 1);
+    for (const name of ['met', 'unmet', 'blank']) line.classList.toggle(name, name === kind);
+  });
+  Object.assign(view, { marked: view.checks, isMarkedQuiz: view.isQuiz });
 }

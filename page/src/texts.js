@@ -32,38 +32,37 @@ const REASONS = new Map(Object.entries({
   PastLastMoment: 'the phase would begin past the last moment', Outage: 'a router is silent or a link is cut',
   NotALiar: 'the router sees through it: it is the datagram of any stranger', LiedTo: 'a router was lied to',
 }));
-const reasonOf = name => REASONS.has(name) ? `: ${REASONS.get(name)}` : '';
 
 // The lines of a script. What stands in brackets may be left out.
 export const LINES = [
-  ['router [quiet] [NAME]', 'the next router begins; a quiet one sends nothing of its own accord'],
+  ['router [quiet] [NAME]', 'the next router begins; a quiet (passive) one sends no updates'],
   ['iface ADDR COST MTU LINK', 'it has an interface (fe80::..), which costs 1 to 15, on the link of that number'],
-  ['own PREFIX TAG [times K]', 'it owns a prefix, or K of that length in a row'],
+  ['own PREFIX TAG [times K]', 'it originates a prefix, or K of that length in a row'],
   ['cold NOW', 'all routers start'],
-  ['tick R NOW WORD', 'time passes at router R, with a random word: it sends what is due'],
+  ['tick R NOW WORD', "router R's timer, with a random word: it sends what is due"],
   ['deliver N R I NOW', 'datagram N comes to interface I of router R'],
-  ['tell R NOW WORD [but K ..]', 'router R ticks, and all that it sent comes, but for the datagrams K of it'],
-  ['hear [but K ..]', 'all that was sent and did not come yet comes, but for the datagrams K of it'],
+  ['tell R NOW WORD [but K ..]', 'router R sends what is due, and all of it comes, except the datagrams K of it'],
+  ['hear [but K ..]', 'all that is under way comes, except the datagrams K of it'],
   ['lose N', 'datagram N is lost: it comes to nobody from now on'],
-  ['round NOW', 'every router ticks, then all that was sent comes'],
+  ['round NOW', 'every router sends its update, then all that was sent comes'],
   ['rounds K NOW GAP', 'K rounds, at NOW and each GAP later'],
   ['phases K SEED',
     'K minutes, in each of which every regular update comes; the rest is chance. Says which last changed a table'],
   ['cut LINK', 'nothing crosses the link in tell, hear and rounds'],
   ['mend LINK', 'all crosses it again'],
-  ['silent R', 'router R takes no part in them'],
-  ['speaks R', 'it takes part again'],
+  ['silent R', 'router R fails: it takes no part in them'],
+  ['speaks R', 'it is up again'],
   ['cost R I NOW COST', 'interface I of router R costs that from now on'],
-  ['gain R NOW PREFIX TAG', 'router R owns a prefix from now on'],
-  ['drop R NOW PREFIX', 'router R owns it no longer'],
-  ['restart R NOW', 'router R comes up again'],
-  ['stranger R I NOW SOURCE PORT HOP group HEX', 'a datagram of no router comes, to the group or (peer) to R alone'],
-  ['ask R I NOW SOURCE PORT PREFIX', 'a stranger asks for that prefix, or for all'],
-  ['liar R I NOW SOURCE HEX', 'a lie comes that R takes for a Response of its link; behind it nothing is promised'],
+  ['gain R NOW PREFIX TAG', 'router R originates a prefix from now on'],
+  ['drop R NOW PREFIX', 'router R withdraws it'],
+  ['restart R NOW', 'router R restarts'],
+  ['stranger R I NOW SOURCE PORT HOP group HEX', 'a datagram of an outside host comes, to the group or (peer) to R alone'],
+  ['ask R I NOW SOURCE PORT PREFIX', 'an outside host asks for that prefix, or for all'],
+  ['liar R I NOW SOURCE HEX', 'a forged Response that R takes for one of its link; after it nothing is guaranteed'],
   ['print [R [PREFIX]]', 'routes are printed'],
   ['sent [N]', 'datagrams are printed'],
   ['say TEXT', 'the text is printed'],
-  ['expect R PREFIX METRIC', 'the script goes on only if router R has that metric, or none'],
+  ['expect R PREFIX METRIC', 'the script goes on only if router R has that metric, or none. Here ? is a blank to be filled in'],
   ['refused NAME', 'the next line is to be refused so'],
 ];
 
@@ -73,33 +72,48 @@ export function hintOf({ line, hint }) {
   return `; ${hint.line === line ? '' : `line ${hint.line}: `}${hint.text}`;
 }
 
+const UPDATES = { regular: 'regular update', triggered: 'triggered update', held: 'a triggered update waits' };
 const HAPPENED = {
-  deliver: event => `hears ${event.datagram} of R${event.sender.router}`,
-  stranger: event => `hears a stranger, ${event.source} port ${event.port}`,
-  liar: event => `believes a lie of ${event.source}: nothing is promised from here on`,
-  tick: () => 'ticks',
-  restart: () => 'restarts',
-  cost: event => `has cost ${event.cost} at interface ${event.iface}`,
-  gain: event => `owns ${event.prefix} with tag ${event.tag}`,
-  drop: event => `gives up ${event.prefix}`,
+  deliver: (event, name) => ` receives datagram ${event.datagram} from ${name(event.sender.router)}`,
+  stranger: event => ` receives a datagram of an outside host, ${event.source} port ${event.port}`,
+  liar: (event, name, { routes, gone }) => routes.length + gone.length > 0 ? ` believes a forged Response of ${event.source}`
+    : ` receives a forged Response of ${event.source}`,
+  tick: (event, name, { update }) => `: ${UPDATES[update] ?? 'its timer, nothing is due'}`,
+  restart: () => ' restarts',
+  cost: event => ` has cost ${event.cost} at interface ${event.iface}`,
+  gain: event => ` originates ${event.prefix} with tag ${event.tag}`,
+  drop: event => ` withdraws ${event.prefix}`,
+  shutdown: () => ' shuts down',
+  link_down: event => `: the link of interface ${event.iface} is down`,
 };
+// What it means that a route leaves the forwarding table, by the event.
+const LEAVES = { tick: 'times out', deliver: 'is withdrawn by its next hop', drop: 'is no longer originated' };
 
-export function describe({ record, why, routers, router, event, sent, changes, prints, datagram, phases, last }) {
-  if (record === 'start') return `cold start of ${plural(routers.length, 'router')}, ${sent.length} sent`;
-  if (record === 'refused' && why.startsWith('expected')) return why;
-  if (record === 'refused') return `refused ${why}${reasonOf(why.split(' ').findLast(word => REASONS.has(word)))}`;
-  if (record === 'lost') return `datagram ${datagram} is lost`;
+// What happened at a record, in words; `names` has the names of routers, by their numbers.
+export function describe(record, names = new Map()) {
+  const { record: kind, why, routers, router, event, sent, changes, prints, datagram, phases, last } = record;
+  const name = number => names.get(number) ?? `R${number}`, asked = () => plural(sent.length, 'Request');
+  if (kind === 'start') return `${plural(routers.length, 'router')} start${routers.length === 1 ? 's' : ''}, ${asked()} sent`;
+  if (kind === 'refused' && why.startsWith('expected')) return why.replace(/^expected (\d+)/, (_, number) => `expected ${name(Number(number))}`);
+  if (kind === 'refused') return `refused: ${reasonIn(why)}`;
+  if (kind === 'lost') return `datagram ${datagram} is lost`;
   const ended = last === null ? 'no table changed' : `last change in ${last}`;
-  if (record === 'phases') return `${plural(phases, 'phase')}, ${ended}`;
-  if (record !== 'event') return `${record}: ${plural(prints.length, 'line')}`;
-  const becomes = ({ change, metric }) => change === 'add' ? `at ${metric}` : 'withdrawn';
-  const one = changes.map(change => `, ${change.prefix} ${becomes(change)}`);
+  if (kind === 'phases') return `${plural(phases, 'phase')}, ${ended}`;
+  if (kind !== 'event') return `${kind}: ${plural(prints.length, 'line')}`;
+  const becomes = ({ change, metric }) => change === 'add' ? `at ${metric}` : LEAVES[event.kind] ?? 'is unreachable';
+  const one = changes.filter(({ prefix }) => prefix !== event.prefix).map(change => `, ${change.prefix} ${becomes(change)}`);
   const sends = sent.length > 0 ? `, ${sent.length} sent` : '';
-  return `R${router} ${HAPPENED[event.kind](event)}${sends}${one.length > 1 ? `, ${one.length} changes` : one}`;
+  return `${name(router)}${HAPPENED[event.kind](event, name, record)}${sends}${one.length > 1 ? `, ${one.length} changes` : one}`;
+}
+
+// Why a line was refused, in words, with its number and name last.
+function reasonIn(why) {
+  const found = why.split(' ').findLast(word => REASONS.has(word));
+  return found ? `${REASONS.get(found)} (${why})` : why;
 }
 
 // Why a datagram, or entries of it, were refused.
 export function refusals({ fault, notes }) {
-  if (fault) return [`refused ${fault.number} ${fault.name}${reasonOf(fault.name)}`];
-  return (notes ?? []).map(({ entry, number, name }) => `entry ${entry} refused ${number} ${name}${reasonOf(name)}`);
+  if (fault) return [`refused: ${reasonIn(`${fault.number} ${fault.name}`)}`];
+  return (notes ?? []).map(({ entry, number, name }) => `entry ${entry} refused: ${reasonIn(`${number} ${name}`)}`);
 }

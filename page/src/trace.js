@@ -1,16 +1,22 @@
 // The trace of a script, read: what the network was after each step.
 import { namesOf } from './building.js';
+import { addLosses } from './losses.js';
 
 export const UNREACHABLE = 16;
 
 // A step is a record of the trace with the network as it was after it: the routers, their latest moment, what is out
-// (`link N` that is cut, `router R` that is silent), what the script says of that, and `least`, kept least costs.
+// (`link N` that is cut, `router R` that is silent, each with the line that says so), what the script says of that, and
+// `least`, kept least costs.
 export function readTrace(text, script = '') {
-  const trace = { steps: [], datagrams: [], links: new Map(), ends: [], routerAt: new Map() };
+  const trace = { steps: [], datagrams: [], links: new Map(), ends: [], routerAt: new Map(), names: namesOf(script) };
   for (const line of text.split('\n')) if (line) addRecord(trace, JSON.parse(line));
-  addOutages(trace.steps, script);
+  addOutages(trace, script);
+  addLosses(trace, script);
   return trace;
 }
+
+// A router's name: that of the script, else R and its number.
+export const nameOf = ({ names }, router) => names.get(router) ?? `R${router}`;
 
 function addRecord(trace, record) {
   const step = trace.steps.length;
@@ -31,13 +37,15 @@ function addEnds(trace, routers) {
   }
 }
 
-// Who sent from an address, in words: a router of the network, or by its address a liar, which is none.
-export const senderAt = ({ routerAt }, address) => routerAt.has(address) ? `R${routerAt.get(address)}` : address;
+// Who sent from an address, in words: a router of the network, or by its address a host outside of it.
+export const senderAt = (trace, address) =>
+  trace.routerAt.has(address) ? nameOf(trace, trace.routerAt.get(address)) : address;
 
-// A datagram has its arrivals; `doneAt` is the step at which it has come to all others of its link.
+// A datagram has its arrivals; `doneAt` is the step at which it has come to all others of its link, `lostAt` that at which
+// it is lost.
 function addDatagram(trace, sent, step) {
   const end = trace.ends[sent.router][sent.iface];
-  trace.datagrams.push({ ...sent, end, sentAt: step, arrivals: [], doneAt: Infinity });
+  trace.datagrams.push({ ...sent, end, sentAt: step, arrivals: [], doneAt: Infinity, lostAt: Infinity });
   end.sent.push(trace.datagrams.at(-1));
 }
 
@@ -75,10 +83,10 @@ function tableAfter(table, { routes, gone, event }, step) {
 
 // Lines that cut links and silence routers have no record: each belongs to the step before it.
 const OUTAGES = new Map([['cut', ['link', 'is cut']], ['mend', ['link', 'is mended']],
-  ['silent', ['router', 'falls silent']], ['speaks', ['router', 'speaks again']]]);
-function addOutages(steps, script) {
-  const lines = script.split('\n'), numbers = new Map([...namesOf(script)].map(([router, name]) => [name, router]));
-  let out = new Set(), least = new Map(), at = 0;
+  ['silent', ['router', 'fails']], ['speaks', ['router', 'is up again']]]);
+function addOutages({ steps, names }, script) {
+  const lines = script.split('\n'), numbers = new Map([...names].map(([router, name]) => [name, router]));
+  let out = new Map(), least = new Map(), at = 0;
   steps.forEach((step, number) => {
     const { record } = step, isRefused = record.record === 'refused', said = [];
     const next = steps[number + 1]?.record.line ?? (isRefused ? 0 : lines.length + 1);
@@ -87,8 +95,8 @@ function addOutages(steps, script) {
       const thing = `${kind} ${kind === 'router' ? numbers.get(what) ?? what : what}`;
       if (!kind) continue;
       said.push(`line ${at + 1}: ${kind} ${what} ${does}`);
-      out = new Set([...out].filter(other => other !== thing));
-      if (/^(cut|silent)$/.test(word)) out.add(thing);
+      out = new Map([...out].filter(([other]) => other !== thing));
+      if (/^(cut|silent)$/.test(word)) out.set(thing, at + 1);
     }
     if (said.length > 0 || ['cost', 'gain', 'drop'].includes(record.event?.kind)) least = new Map();
     Object.assign(step, { out, said, least });
@@ -98,11 +106,9 @@ function addOutages(steps, script) {
 export const routeAt = ({ routers }, router, prefix) => routers[router].table.get(prefix)?.route;
 export const otherEnds = (trace, end) => trace.links.get(end.link).filter(other => other !== end);
 export const hasCome = ({ arrivals }, end, by) => arrivals.some(({ end: to, step }) => step <= by && to === end);
-// What was sent at an end and has not come to all others of its link, the newest first.
+// What was sent at an end, is not lost, and has not come to all others of its link, the newest first.
 export const onTheirWay = ({ sent }, step) =>
-  sent.filter(({ sentAt, doneAt }) => sentAt <= step && step < doneAt).reverse();
-// Whether nobody hears a datagram after a step, though some of its link have not heard it: lost, as the script goes.
-export const isLost = ({ arrivals, doneAt }, step) => doneAt > step && !arrivals.some(arrival => arrival.step > step);
+  sent.filter(({ sentAt, doneAt, lostAt }) => sentAt <= step && step < Math.min(doneAt, lostAt)).reverse();
 
 // What a text names: `router R`, `iface R I`, `datagram N` or `route R PREFIX`; null where there is no such thing.
 export function named(text, { ends, datagrams }) {
@@ -115,14 +121,18 @@ export function named(text, { ends, datagrams }) {
   return kind === 'route' && /^[0-9a-f:]+\/\d+$/.test(words[1]) ? { kind, router: first, prefix: words[1] } : null;
 }
 
-// The step to go to from another, forth (1) or back (-1): by events, lines, changes of a route, or remarks, where
-// `captions` are those of lines. It is the last or the first where there is none.
+// The prefix whose metrics stand at the routers: that of the route that was chosen, else the first that was owned.
+export const prefixInView = ({ trace, chosen }) =>
+  named(chosen, trace)?.prefix ?? trace.steps[0]?.routers.flatMap(router => router.prefixes)[0]?.prefix;
+
+// The step to go to from another, forth (1) or back (-1): by events, or to the end of a line, of a change of a route, or
+// of what a remark is about, where `captions` are those of lines. It is the last or the first where there is none.
 export function nextStop({ steps }, captions, from, by, direction) {
   const lineOf = step => steps[step]?.record.line;
   const isStop = {
     line: step => lineOf(step) !== lineOf(step + 1),
     change: step => steps[step].record.changes?.length > 0,
-    remark: step => captions[lineOf(step)] !== captions[lineOf(step - 1)],
+    remark: step => captions[lineOf(step)] !== captions[lineOf(step + 1)],
   }[by] ?? (() => true);
   let step = from + direction;
   while (steps[step] && !isStop(step)) step += direction;

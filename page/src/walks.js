@@ -1,6 +1,6 @@
 // Why a metric is what it is: walks, least costs, and what a datagram offered.
-import { UNREACHABLE, routeAt } from './trace.js';
-import { entriesOf } from './datagrams.js';
+import { UNREACHABLE, nameOf, routeAt } from './trace.js';
+import { covers, entriesOf } from './datagrams.js';
 
 const walks = new WeakMap();
 
@@ -52,25 +52,52 @@ function costsTo(links, routers, prefix) {
 }
 
 // A list of routers without its rings: the way that is left, and each ring with how often it is gone around.
-export function withoutRings(routers) {
+export function withoutRings(trace, routers) {
   const way = [], rings = new Map();
   for (const router of routers) {
-    const ring = way.includes(router) ? wayText([...way.splice(way.indexOf(router)), router]) : null;
+    const ring = way.includes(router) ? wayText(trace, [...way.splice(way.indexOf(router)), router]) : null;
     if (ring) rings.set(ring, (rings.get(ring) ?? 0) + 1);
     way.push(router);
   }
   return { way, rings };
 }
 
-export const wayText = routers => routers.map(router => `R${router}`).join(' → ');
+export const wayText = (trace, routers) => routers.map(router => nameOf(trace, router)).join(' → ');
+
+// Where a packet to a prefix goes from a router, by the tables of a step: the interfaces that it passes, each with that at
+// which it comes in, and how it ends: `arrived`, `loop`, `none` (no route), `cut`, `down`, or `outside`, at no router.
+export function pathOf(trace, { routers, out }, router, prefix) {
+  const way = [router], hops = [];
+  for (let at = router; ;) {
+    const route = usableRoute(routers[at].table, prefix);
+    if (!route?.gateway) return { way, hops, end: route ? 'arrived' : 'none' };
+    const from = trace.ends[at][route.gateway.iface], { link } = from;
+    const to = trace.links.get(link).find(({ addr }) => addr === route.gateway.next_hop);
+    if (!to) return { way, hops, end: 'outside' };
+    const isBack = way.includes(to.router), isDown = out.has(`router ${to.router}`);
+    way.push(to.router);
+    hops.push({ from, to });
+    if (out.has(`link ${link}`)) return { way, hops, end: 'cut' };
+    if (isBack || isDown) return { way, hops, end: isBack ? 'loop' : 'down' };
+    at = to.router;
+  }
+}
+
+// The route that a packet to the first address of a prefix takes: of those that can be used, the longest prefix.
+function usableRoute(table, prefix) {
+  const lengthOf = route => Number(route.prefix.split('/')[1]);
+  return [...table.values()].map(({ route }) => route)
+    .filter(route => route.metric < UNREACHABLE && covers(route.prefix, prefix))
+    .reduce((best, route) => best && lengthOf(best) >= lengthOf(route) ? best : route, null);
+}
 
 // What each row of the table of adoption makes of an offer, in words.
 const OUTCOMES = {
-  Nothing: 'unreachable, and nothing is held', Added: 'nothing was held: taken', Owned: 'its own route stays',
-  GivenUp: 'its gateway gives it up: lost', Refreshed: 'its gateway: refreshed', Cheaper: 'cheaper: taken',
-  Older: 'equal, and half of the timeout has passed: taken', Dearer: 'dearer: nothing changes',
-  Young: 'equal, and half of the timeout has not passed: nothing changes', Revived: 'held at 16: taken',
-  Gone: 'held at 16, as told: nothing changes',
+  Nothing: 'unreachable: ignored', Added: 'new prefix: installed', Owned: 'its own prefix: ignored',
+  GivenUp: 'withdrawn by its next hop: unreachable', Refreshed: 'from its next hop: timer restarted',
+  Cheaper: 'lower cost: installed', Older: 'equal cost, and half of the timeout has passed: installed',
+  Dearer: 'higher cost: ignored', Young: 'equal cost, and half of the timeout has not passed: ignored',
+  Revived: 'was unreachable: installed', Gone: 'already unreachable',
 };
 
 // What a router makes of each offer of a Response that came at a step: what it held, what was offered, what it holds.
@@ -79,9 +106,21 @@ export function offersOf({ steps, datagrams }, step) {
   if (offers.length === 0) return [];
   const entries = entriesOf(datagrams[event.datagram].bytes), { cost } = routers[router].interfaces[event.iface];
   return offers.map(({ entry, prefix, metric, why }) => ({
-    prefix, told: entries[entry].metric, cost, offered: metric, outcome: OUTCOMES[why],
+    prefix, told: entries[entry].metric, cost, offered: metric,
+    outcome: metric >= UNREACHABLE && why === 'Dearer' ? OUTCOMES.Nothing : OUTCOMES[why],
     before: routeAt(steps[step - 1], router, prefix)?.metric, after: routeAt(steps[step], router, prefix)?.metric,
   }));
+}
+
+// What a step sent, each datagram with its link and its entries; one at infinity for a route that can be used is poisoned.
+export function updatesOf({ steps, ends }, step) {
+  const { record, routers } = steps[step];
+  return (record.sent ?? []).map(({ datagram, router, iface, peer, bytes }) => {
+    const metricOf = prefix => routers[router].table.get(prefix)?.route.metric;
+    const entries = entriesOf(bytes).map(entry =>
+      ({ ...entry, isPoisoned: entry.metric === UNREACHABLE && metricOf(entry.prefix) < UNREACHABLE }));
+    return { datagram, link: ends[router][iface].link, peer, isRequest: bytes.startsWith('01'), entries };
+  });
 }
 
 // A route's metric and its least cost, from each step on at which one of them changes.

@@ -1,0 +1,184 @@
+// What the buttons of the page do. Each act on the network is lines of the script.
+import { named, nameOf, prefixInView, readTrace } from './trace.js';
+import { oneResponse, wholeRequest } from './datagrams.js';
+import { inserted, joined, networkScript, withName, withPlaces } from './building.js';
+import { stepsByLine, turnsOf } from './losses.js';
+import { losing } from './losing.js';
+import { metricIn, runnable, withAnswer } from './lessons.js';
+import { hasChanged, printed } from './tables.js';
+import { markGuess, reveal } from './quiz.js';
+import { stepOfNew } from './acting.js';
+import { plural } from './texts.js';
+
+// The fields beside a button by name, the moment of the detail among them, if all of them hold what they may; else
+// null, and the browser says which does not.
+function fields(button) {
+  const beside = button.closest('.choices, #build').querySelectorAll('input, select');
+  const inputs = [...new Set([...byId('detail').querySelectorAll('[name=now]'), ...beside, ...fellows(button)])];
+  if (!inputs.every(input => input.reportValidity())) return null;
+  const values = Object.fromEntries(inputs.map(input => [input.name, input.value.trim()]));
+  const { prefix = '', metric, tag = 0 } = values;
+  return { ...values, ask: wholeRequest(), lie: metric && oneResponse(prefix.toLowerCase(), tag, metric) };
+}
+// Fields that a row shares with the row before it: who sends a forged datagram, and what.
+const fellows = button => button.closest('details')?.previousElementSibling?.querySelectorAll('input') ?? [];
+
+// Where new lines go: behind the line of this step, or at the end.
+const placeLine = () => view.place === 'end' ? editor.text.replace(/\n*$/, '').split('\n').length : current()?.record.line ?? 0;
+
+async function canPutIn() {
+  if (view.ran !== editor.text) await runDraft();
+  if (view.ran !== editor.text || !view.wiring) return false;
+  if (!view.refused) return true;
+  say(`Line ${view.refused.line} is refused, so no line after it is reached. Correct it first, or undo.`, true);
+  return false;
+}
+
+// Lines are put in where the list says: at the end, or behind the line of this step.
+async function putIn(lines, values = {}, said = '') {
+  if (!await canPutIn()) return;
+  const added = lines.replace(/\{(\w+)\}/g, (_, name) => values[name]).split('\n');
+  const edit = inserted(editor.text, added, view.place, placeLine());
+  await change(edit, edit.first + added.length, edit.first + added.length - 1, said);
+  view.typed = {};
+}
+
+// When the next round is: all regular updates are due then.
+const nextRound = () =>
+  Math.max(0, ...(stepOfNew(view)?.routers ?? []).flatMap(({ timers }) => [timers.last, timers.regular]));
+const chosenRouter = () => named(view.chosen, view.trace).router;
+
+// What a round would pass by: updates that are under way.
+function passedBy() {
+  const { datagrams } = view.trace, waiting = datagrams.filter(({ doneAt, lostAt, bytes }) =>
+    Math.min(doneAt, lostAt) === Infinity && bytes.startsWith('02')).length;
+  return waiting === 0 || view.place !== 'end' ? '' : `${plural(waiting, 'datagram')} under way ${waiting === 1 ? 'is' : 'are'} lost: a
+    round delivers its own. "deliver all" delivers them before.`;
+}
+
+// So many rounds are tried, and as many done as it takes until a route changes.
+const MOST_ROUNDS = 20;
+async function untilChange() {
+  if (!await canPutIn()) return;
+  const at = nextRound(), edit = inserted(editor.text, [`rounds ${MOST_ROUNDS} ${at} 30000`], view.place, placeLine());
+  await runScript(() => traced(runnable(edit.script)), answer => {
+    const trace = readTrace(answer, edit.script), own = stepsByLine(trace.steps).get(edit.first) ?? [];
+    const ends = turnsOf(trace.steps, own).map(turn => turn.at(-1)), isOther = (step, router) =>
+      hasChanged({ trace, step, since: own[0] - 1 }, router);
+    const turn = ends.findIndex(step => trace.ends.some((_, router) => isOther(step, router)));
+    if (turn < 0) return say(`No route changes within ${MOST_ROUNDS} rounds, ${MOST_ROUNDS / 2} minutes: the network has converged.`);
+    return putIn(turn === 0 ? `round ${at}` : `rounds ${turn + 1} ${at} 30000`, {}, `A route changed in ${
+      turn === 0 ? 'the next round' : `round ${turn + 1} from here, ${turn / 2} minutes later`}.`);
+  });
+}
+
+// ---- Losing ----
+async function lose(button) {
+  if (!await canPutIn()) return;
+  const edit = losing(view.trace, editor.text, Number(button.dataset.number), view.step, placeLine());
+  if (edit.why) return say(edit.why, true);
+  const isApart = edit.origins.filter((origin, at) => origin > 0 && origin === edit.origins[at - 1]).length > 1;
+  await change(edit, edit.goTo + 1, edit.goTo, isApart ? 'The round was split into its datagrams, to lose one of them.' : 'The datagram is lost.');
+}
+
+// ---- Quiz, and blanks ----
+function toggleQuiz(button) {
+  Object.assign(view, { isQuiz: toggle(button, 'quiz'), chosen: null });
+  render();
+}
+function markAll() {
+  for (const input of byId('quiz').querySelectorAll('[data-guess]')) markGuess(view, Number(input.dataset.guess), input.value);
+  render();
+}
+function showGuesses(routers) {
+  for (const router of routers) reveal(view, router);
+  render();
+}
+
+// A right answer takes the place of the blank in the script; a wrong one is said to be wrong.
+function answerBlank(line) {
+  const { found } = view.checks.find(check => check.line === line), text = byId('checks').querySelector(`[data-blank="${line}"]`).value;
+  const metric = metricIn(text);
+  if (metric === null) return say('A metric is 1 to 16, or none.', true);
+  view.wrong = metric === found ? null : { line, text: metric };
+  if (view.wrong) return render();
+  const { step, since } = view;
+  return change({ script: withAnswer(editor.text, line, found) }, line, line, 'Right.').then(() => go(step, since, false));
+}
+
+// ---- Places, and other ways to show ----
+// Where routers were moved stands in the script.
+function keepPlaces() {
+  const isRan = view.ran === editor.text, isShown = view.script === editor.text;
+  setDraft(withPlaces(editor.text, view.shifts));
+  if (isRan) view.ran = editor.text;
+  if (isShown) view.script = editor.text;
+}
+
+function toggle(button, name) {
+  const isOn = document.body.classList.toggle(name);
+  button.setAttribute('aria-pressed', isOn);
+  return isOn;
+}
+function present(button) {
+  view.isLarge = toggle(button, 'large');
+  render();
+}
+
+// The lessons in order, and that which the draft is, or was made of.
+const lessonNames = () => [...SCRIPTS].filter(([, { isLesson }]) => isLesson).map(([name]) => name);
+const lessonOf = name => lessonNames().findIndex(lesson => lesson === name.replace(/^own-/, '').replace(/-\d+\.lab$/, '.lab') || lesson === name);
+function toLesson(by) {
+  const names = lessonNames(), at = lessonOf(editor.name), name = names[at < 0 ? 0 : at + by];
+  return name && openNamed(name);
+}
+
+const ACTS = {
+  undo, redo, share, copyLink, present, lose, untilChange, markAll, hush, quiz: toggleQuiz, again: () => runDraft(), stop: stopRun,
+  film: saveFilm,
+  save: () => download('.lab', editor.text, 'text/plain'),
+  load: () => byId('file').click(),
+  svg: () => view.wiring && download('.svg', drawingAlone(), 'image/svg+xml'),
+  copy: () => copy(printed(current()), `The routes at step ${view.step + 1}`),
+  round: () => putIn(`round ${nextRound()}`, {}, passedBy()),
+  rounds: () => putIn(`rounds 5 ${nextRound()} 30000`, {}, passedBy()),
+  ticks: () => putIn(view.trace.ends.map((_, router) => `tick ${router} ${nextRound()} 0`).join('\n')),
+  hear: () => putIn('hear'),
+  help: () => byId('help').showModal(),
+  close: button => button.closest('dialog').close(),
+  tidy() { view.shifts = []; keepPlaces(); render(); },
+  matrix() { view.isMatrix = !(view.isMatrix ?? view.trace.ends.length >= MANY_ROUTERS); render(); },
+  why: () => choose(`route ${chosenRouter()} ${prefixInView(view)}`),
+  letGo: () => choose(null),
+  answer: ({ dataset }) => answerBlank(Number(dataset.line)),
+  reveal: ({ dataset }) => showGuesses([Number(dataset.router)]),
+  revealAll: () => showGuesses(view.trace.ends.keys()),
+  lessonBefore: () => toLesson(-1),
+  lessonAfter: () => toLesson(1),
+};
+// Those that read the fields beside them.
+const MAKES = {
+  make: ({ shape, many }) => openScript(networkScript(shape, Number(many)), `${shape}-${many}.lab`.replace(/ /g, '-')),
+  name: ({ name }) => change({ script: withName(editor.text, chosenRouter(), name) }, Infinity),
+  async join({ other, cost }) {
+    if (!await canPutIn()) return;
+    const edit = joined(editor.text, chosenRouter(), Number(other), Number(cost), placeLine());
+    if (!edit) return say('Choose another router.', true);
+    const to = nameOf(view.trace, Number(other)), said = edit.isLate
+      ? `Link ${edit.link} to ${to} comes up now. In the script it stands from the start, and is cut until here.` : '';
+    await change(edit, Infinity, edit.isLate ? edit.origins.length : undefined, said);
+  },
+};
+
+// The drawing as a file: each element with its colors, as there is no style sheet in it.
+const STYLES = ['fill', 'stroke', 'stroke-width', 'stroke-dasharray', 'font-size', 'font-weight', 'font-family',
+  'text-anchor', 'dominant-baseline', 'paint-order', 'visibility'];
+function drawingAlone() {
+  const drawing = byId('drawing').querySelector('svg'), alone = drawing.cloneNode(true);
+  const styled = alone.querySelectorAll('*');
+  drawing.querySelectorAll('*').forEach((element, index) => {
+    const style = getComputedStyle(element);
+    for (const name of STYLES) styled[index].setAttribute(name, style.getPropertyValue(name));
+  });
+  return new XMLSerializer().serializeToString(alone);
+}

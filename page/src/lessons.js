@@ -1,0 +1,76 @@
+// Lessons: the remarks of a script as captions, and its expectations, those with a blank among them, as checked.
+import { UNREACHABLE, routeAt } from './trace.js';
+import { namesOf } from './building.js';
+import { prefixKey } from './datagrams.js';
+
+// A remark without its drawing: what stands behind an empty remark line and is indented, or has a link in it. A line of
+// places, which the page writes, is no remark.
+const DRAWN = /^\s|--|^[\s|/\\+-]+$/;
+const isPlaces = line => line.startsWith('#places ');
+function proseOf(block) {
+  let isBehindGap = false;
+  const kept = block.filter(text => {
+    if (text.trim() === '') isBehindGap = true;
+    return text.trim() !== '' && !(isBehindGap && DRAWN.test(text));
+  });
+  return kept.join(' ');
+}
+
+// The remark that was last before a line, for each line by its number; and behind them that at the script's end.
+export function captionsOf(script) {
+  const captions = [''];
+  let caption = '', block = [];
+  for (const line of [...script.split('\n'), 'end']) {
+    const isRemark = line.startsWith('#');
+    if (isRemark && !isPlaces(line)) block.push(line.replace(/^#+ ?/, ''));
+    else if (!isRemark && line !== '' && block.length > 0) {
+      [caption, block] = [proseOf(block) || caption, []];
+    }
+    captions.push(caption);
+  }
+  return captions;
+}
+
+// ---- Expectations ----
+// `expect R PREFIX ?` has a blank: the page runs the script with a remark in its place.
+const EXPECTED = /^expect (\S+) (\S+) (\?|\d+|none)(?= *(?:#|$))/;
+export const runnable = script => script.replace(/^expect \S+ \S+ \?(?= *(?:#|$))/gm, '#$&');
+
+export function expectationsOf(script) {
+  const numbers = new Map([...namesOf(script)].map(([router, name]) => [name, router]));
+  return script.split('\n').flatMap((text, at) => {
+    const [, router, prefix, wanted] = EXPECTED.exec(text) ?? [];
+    return router ? [{ line: at + 1, router: numbers.get(router) ?? Number(router), prefix, wanted }] : [];
+  });
+}
+
+// A script with an answer in the place of the blank of a line.
+export function withAnswer(script, line, answer) {
+  const lines = script.split('\n');
+  return lines.with(line - 1, lines[line - 1].replace(/^(expect \S+ \S+) \?/, `$1 ${answer}`)).join('\n');
+}
+
+// What a router has at a step: a metric or `none`, as `expect` writes it.
+export function foundAt(state, router, prefix) {
+  const direct = routeAt(state, router, prefix), key = prefixKey(prefix.toLowerCase());
+  const like = () => [...state.routers[router].table.values()].find(({ route }) => prefixKey(route.prefix) === key)?.route;
+  return String((direct ?? like())?.metric ?? 'none');
+}
+
+// Each expectation that the run came to, with the step behind which it stands, and what was found there.
+export function checksOf({ steps, ends }, expectations) {
+  const last = steps.at(-1)?.record, reached = last?.record === 'refused' ? last.line : Infinity;
+  const before = line => steps.findLastIndex(({ record }) => record.line < line && record.record !== 'refused');
+  return expectations.filter(({ line, router }) => line <= reached && ends[router] && before(line) >= 0).map(one => {
+    const step = before(one.line), found = foundAt(steps[step], one.router, one.prefix);
+    return { ...one, step, found, isBlank: one.wanted === '?', isMet: one.wanted === found };
+  });
+}
+
+// What a text says as a metric: a number from 1 to 16, or none; else null.
+export function metricIn(text) {
+  const word = text.trim().toLowerCase();
+  if (/^(none|no|-|–)$/.test(word)) return 'none';
+  if (/^(inf|infinity|∞|unreachable)$/.test(word)) return String(UNREACHABLE);
+  return /^\d+$/.test(word) && Number(word) >= 1 && Number(word) <= UNREACHABLE ? String(Number(word)) : null;
+}
