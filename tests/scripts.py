@@ -168,7 +168,8 @@ def events_of_a_phase_are_in_its_minute(program, seed):
 
 def walks():
     """Scripts whose routes are walks, with how many are printed below 16, at least."""
-    examples = [(file.name, file.read_text() + "\nprint\n", 0) for file in sorted(EXAMPLES.glob("**/*.lab")) if "liar" not in file.name]
+    examples = [(file.name, file.read_text() + "\nprint\n", 0) for file in sorted(EXAMPLES.glob("**/*.lab"))
+                if "liar" not in file.name and file.parent.name != "exercises"]
     return [*examples,
             ("parallel links", TWINS + "".join(f"round {now}\nprint\n" for now in (0, 15000, 30000)), 16),
             ("a square whose routers come up again", restarted_square(), 40),
