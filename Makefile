@@ -37,7 +37,7 @@ linksdir ?= $(prefix)/lib/ripngd-links
 INSTALL ?= install
 
 # The folders with what goes beside README.md.
-folders = docs docs/pictures examples examples/lessons page
+folders = docs docs/pictures examples examples/exercises examples/lessons page
 
 VERSION = $(shell sed -n 's/^pub const VERSION: &str = "\(.*\)";/\1/p' crates/ripngd_command_line/src/help.rt)
 name = ripngd-$(VERSION)$(if $(UNPROVED),-unproved)-x86_64-linux
