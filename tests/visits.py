@@ -115,8 +115,10 @@ class Visit:
         film = self.page.downloaded('ring-5.html')
         where = self.read('#where')
         self.open(f'file://{film}')
+        steps = where[where.index(' of '):where.index(',') + 1]
+        self.comes('the film has its steps', f'{text_of("#where")}.includes({json.dumps(steps)})')
         self.click('last')
-        same('the last step of the film', self.read('#where'), where)
+        self.comes('the film is at its last step', f'{text_of("#where")} === {json.dumps(where)}')
 
     def phone(self):
         """On a narrow window: what a newcomer needs is in the first view, what was clicked is in sight, and so is what is said of it."""
