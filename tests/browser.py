@@ -58,11 +58,17 @@ class Browser:
         path, size, end = os.path.join(self.downloads, name), -1, time.time() + seconds
         while time.time() < end:
             now = os.path.getsize(path) if os.path.exists(path) else -1
-            if now > 0 and now == size:
+            if now > 0 and now == size and self.is_whole(path):
                 return path
             size = now
             time.sleep(0.2)
         raise TimeoutError(f'{name} was not saved, but {os.listdir(self.downloads)}')
+
+    @staticmethod
+    def is_whole(path):
+        """Whether a page that is saved has its end."""
+        with open(path, 'rb') as file:
+            return not path.endswith('.html') or file.read().rstrip().endswith(b'</html>')
 
     def close(self):
         self.process.terminate()

@@ -240,8 +240,9 @@ class Visit:
         self.page.value('history.replaceState(null, "", "#step=1")')
         self.reload()
         self.is_near('after a reload', at, place)
-        self.recorded()
-        self.is_near('in the film', at, place)
+        if type(self.page).__name__ == 'Chromium':
+            self.recorded()
+            self.is_near('in the film', at, place)
 
     def is_near(self, where, at, place):
         """The script has hundredths of a link's length."""

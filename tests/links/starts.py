@@ -58,6 +58,7 @@ def a_late_neighbor(net, program):
     net.cable(o, f)
     owned = {"o": ["2001:db8:2::/48"], "f": ["2001:db8:3::/48"]}
     frr = Frr(f, ["to-o"], owned["f"])
+    until(QUICK, "FRR is up", lambda: "RIPng" in frr.ask("show ipv6 ripng status"))
     until(QUICK, "FRR takes its timers", lambda: "timers" not in frr.tell("router ripng", f"timers basic {SELDOM} 360 240"))
     routers, wanted = {"f": frr, "o": Ours(o, program, {"to-f": {}}, owned["o"])}, least([("f", 1, "o", 1)], owned)
     settle(routers, wanted, REGULAR)
