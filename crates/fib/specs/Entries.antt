@@ -8,7 +8,7 @@ use Rattle.fib.specs.declared.change.Hop.{Hop}
 use Rattle.fib.specs.declared.change.RouteChange.{RouteChange}
 use Rattle.fib.specs.Forwarding.{Forward, Forwarding, prefix_of}
 
--- prefix, hop and metric
+-- an entry: prefix, hop and metric
 abbrev pub Entry : Type 0
 Entry = Prefix6 × Hop × ℕ
 
@@ -16,7 +16,7 @@ Entry = Prefix6 × Hop × ℕ
 abbrev pub at_prefix : Entry → Prefix6 × Forward
 at_prefix e = (e.0, record { hop = e.1; metric = e.2 })
 
--- what the table has at a prefix, as an entry
+-- a prefix and what the table has there, as an entry
 abbrev pub fib_entry : Prefix6 × Forward → Entry
 fib_entry e = (e.0, e.1.hop, e.1.metric)
 
@@ -28,7 +28,7 @@ listed table = each fib_entry (entries table)
 abbrev pub table_of : List Entry → Forwarding
 table_of es = from_sorted (each at_prefix es)
 
--- in that order, at most one entry a prefix
+-- the entries are in that order, at most one for each prefix
 pub record AreInOrder (es : List Entry) : Type 0 where
   pub rising : T (is_sorted prefix_cmp (each at_prefix es))
 
@@ -46,6 +46,6 @@ pub record IsLastUpTo (es : List Entry) (p : Prefix6) (i : ℕ) : Type 0 where
   pub up_to : (d : Entry) → prefix_cmp (get_or es i d).0 p ≢ Greater
   pub rest : AreAllPast es p (i + 1)
 
--- changes in the order of their prefixes
+-- the changes are in the order of their prefixes
 pub record AreByPrefix (changes : List RouteChange) : Type 0 where
   pub rising : IsSortedByKey prefix_of prefix_cmp changes

@@ -1,4 +1,4 @@
-//! What a router tells a forwarding table: the entry that a prefix now has, or that it has none.
+//! Changes of a forwarding table: a prefix gets an entry, or loses it.
 
 ghost use Rattle.std.specs.Prelude.{◌≡◌, count_by};
 ghost use Rattle.fib.specs.Forwarding.{prefix_of, is_install};
@@ -8,28 +8,28 @@ use prefix6::{Addr6, Prefix};
 /// Where a packet goes next.
 #[derive(Clone, Copy, Debug, PartialEq, Eq)]
 pub enum Hop {
-    /// To a prefix of the router's own.
+    /// Directly to its destination: the prefix is the router's own.
     Direct,
-    /// To a neighbor.
+    /// To a neighbor, which forwards it.
     Via {
-        /// The number of the router's interface.
+        /// The number of the router's interface, from 0.
         iface: usize,
-        /// The address of the neighbor, which holds on that interface's link.
+        /// The link-local address of the neighbor on that interface.
         next_hop: Addr6,
     },
 }
 
-/// A change of what a forwarding table holds for one prefix.
+/// A change of the forwarding entry of one prefix.
 #[derive(Clone, Copy, Debug, PartialEq, Eq)]
 pub enum RouteChange {
-    /// The prefix has this entry, whatever it had before.
+    /// The prefix has this entry now, with or without one before.
     Install {
         prefix: Prefix,
         hop: Hop,
-        /// The cost in hops: a router tells 1 to 15, and the table keeps what it is told.
+        /// The metric in hops, 1 to 15 from a router. The table keeps any.
         metric: u8,
     },
-    /// The prefix has no entry. A shorter prefix may still hold the addresses of its packets.
+    /// The prefix has no entry. A shorter prefix may still contain the destination of a packet.
     Withdraw {
         prefix: Prefix,
     },

@@ -1,4 +1,4 @@
-//! The forwarding table: where packets go, by the longest prefix that holds their address.
+//! The forwarding table: where packets go, by the longest prefix that contains their destination.
 
 ghost use Rattle.std.specs.Prelude.{◌≡◌, ◌+◌, ◌<◌, ◌≤◌, ◌↔◌, [], ◌∷◌, map as each, IsTrue, IsOk, OnOk, OnErr, IfOk, IfErr, IsNone, IfSome, option_map, count_by, vec_len, vec_capacity};
 ghost use Rattle.std.specs.FinMap as map;
@@ -15,8 +15,8 @@ use prefix6::{Addr6, Prefix};
 use std::alloc::{AllocError, Global};
 use std::marker::Model;
 
-/// A forwarding table: for each of its prefixes the hop and the metric, in the order of address,
-/// then length. Contracts see it as a finite map from prefixes.
+/// A forwarding table: the hop and the metric of each of its prefixes, in the order of address, then
+/// length. Contracts see it as a finite map from prefixes.
 #[derive(Debug, Drop)]
 pub struct Fib {
     entries: Vec<Entry>,
@@ -39,8 +39,7 @@ impl Model for Fib {
     ghost invariant = { λ f. AreInOrder f.entries.items };
 }
 
-/// Up to how many changes are replayed in place wherever they fall: a merge would copy the whole
-/// table for them.
+/// So few changes are always replayed in place: a merge would copy the whole table for them.
 const FEW: usize = 2;
 
 impl Fib {
@@ -67,27 +66,23 @@ impl Fib {
         self.entries.is_empty()
     }
 
-    /// Replays the changes of a router's call, in order: an install puts its entry over the one of
-    /// its prefix, if there is one, and a withdrawal takes the entry of its prefix out, if there is
-    /// one.
+    /// Replays the changes of a router's step, in order: an install adds or replaces the entry of its
+    /// prefix, and a withdrawal removes it, if there is one.
     ///
-    /// Where each of k changes replaces one of n entries, that is 2 k log2(n) comparisons, and no
-    /// entry moves. Where the changes come in the order of their prefixes, none before the last
-    /// entry, as in a neighbor's first update, that is k log2(n) comparisons, and entries move only
-    /// where there is no room for the new ones. Otherwise one or two changes are made in place, at
-    /// up to n moves each, and more of them by a merge into new memory, in whatever order they come:
-    /// n + k copies, and at most k log2(n) comparisons beside those of a sort by prefix, which
-    /// changes that come in that order do without.
+    /// The cost of k changes of a table of n entries:
+    /// - if each replaces an entry: 2 k log2(n) comparisons, and no entry moves;
+    /// - if they come in the order of prefixes after all entries, as in a neighbor's first update:
+    ///   k log2(n) comparisons, and entries move only if there is no room for the new ones;
+    /// - one or two others: in place, with up to n moves each;
+    /// - more of them: a sort by prefix if they are not in order, k log2(n) comparisons, and a merge
+    ///   into new memory of n + k copies.
     ///
-    /// A merge leaves room for n / 64 entries more. Where there is no room for what is made in
-    /// place, the table moves to memory with room for that, or for n / 64 entries more if that is
-    /// more. So calls that install one entry each move the table once in n / 64 of them, and it
-    /// takes an entry's size for each entry, a 64th more, and what withdrawals in place left free.
-    /// Withdrawals alone cannot fail: where memory to merge them is refused, they are made in place.
+    /// When entries move, the new memory has room for n / 64 more at least. So installs one by one
+    /// move the table once in n / 64 calls. Withdrawals alone cannot fail: if there is no memory to
+    /// merge them, they are made in place.
     ///
     /// # Errors
-    /// Where memory for all that the changes install, with what it has to spare, is refused. The
-    /// table is then as it was.
+    /// Only out of memory for the entries that are installed. The table is then unchanged.
     pub fn apply(&mut self, changes: &[RouteChange]) -> Result<(), AllocError>
         ensures ok { OnOk result (Replays self.old changes.now self.new) }
         ensures err { OnErr result (self.new ≡ self.old) }
@@ -113,16 +108,14 @@ impl Fib {
         Ok(())
     }
 
-    /// The hop of the longest prefix of the table that holds the address, and `None` where no
-    /// prefix of the table does (RFC 4632, section 5.1; RFC 7608, section 2).
+    /// The hop of the longest prefix of the table that contains the address, or `None` if no prefix
+    /// does (RFC 4632, section 5.1; RFC 7608, section 2).
     ///
-    /// It takes the last entry up to a bound, which is the address at length 128 at first. Either
-    /// that entry's prefix holds the address, and is the longest that does, or every one that does
-    /// is at most as long as what the two have in common, which is the next bound. For n entries
-    /// each bound costs log2(n) comparisons, and the bounds together at most 256 comparisons of
-    /// leading bits. As each is shorter than the one before, there are 129 at the most, and that
-    /// many only where the table has a prefix beside the address at each of its bits. Where prefixes
-    /// lie at random, there are about log2(n) / 2.
+    /// Each turn takes the last entry up to a bound, at first the address with length 128. If its
+    /// prefix contains the address, it is the longest that does. Otherwise every one that does is at
+    /// most as long as what prefix and bound have in common, and that is the next bound. A turn costs
+    /// log2(n) comparisons for n entries. Bounds get shorter, so there are at most 129 turns, and
+    /// about log2(n) / 2 for random prefixes.
     pub fn lookup(&self, addr: Addr6) -> Option<Hop>
         ensures found { IfSome result (IsLongestMatch self.now addr) }
         ensures none { IsNone result ↔ ((p : Prefix6) → ¬ (IsMatch self.now addr p)) }

@@ -1,4 +1,7 @@
-//! Forwarding: hops, the changes of routes, and the table that they make.
+//! Forwarding: hops, changes of entries, and a table that follows them.
+//!
+//! A router answers with a list of [`RouteChange`]. [`Fib`] replays them and looks up the longest match of an address. `Replays`
+//! in specs/Forwarding.antt says what a list of changes does to a table, and `IsLongestMatch` there judges a lookup.
 #![tactic(auto)]
 
 mod change;

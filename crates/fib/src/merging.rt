@@ -1,4 +1,4 @@
-//! Merging changes with the old entries into new ones, at one go: a bisection for each change, and
+//! Merging changes with the old entries into new ones, in one pass: a bisection for each change, and
 //! one copy of each entry that stays.
 
 ghost use Rattle.std.specs.Prelude.{◌≡◌, ◌≤◌, ◌-◌, [], ◌∷◌, ◌++◌, length, drop, map as each, IsTrue, IsFalse, IfOk};
@@ -14,7 +14,7 @@ use crate::searching::{Entry, place_of};
 use prefix6::Prefix;
 use std::alloc::{AllocError, Global};
 
-/// Whether the last entry, none of which comes after the prefix, is that of the prefix.
+/// Whether the last entry is that of the prefix. No entry comes after the prefix.
 fn ends_at(entries: &[Entry], prefix: &Prefix) -> bool
     requires in_order { AreInOrder entries.now }
     requires up_to { AreUpTo entries.now prefix.now }
@@ -28,8 +28,8 @@ fn ends_at(entries: &[Entry], prefix: &Prefix) -> bool
 }
 
 /// Merges the old entries, from a place on, up to a prefix, and leaves out the entry of that prefix
-/// itself, also where an earlier change of the prefix put it last. It answers from which place on
-/// the old entries are left.
+/// itself, even if an earlier change of the prefix put it last. The result is the index of the first
+/// old entry that is left.
 fn pass(
     merged: &mut Vec<Entry>,
     old: &[Entry],
@@ -62,7 +62,7 @@ fn pass(
 }
 
 /// Merges the old entries, from a place on, up to the prefix of a change, and what the change
-/// leaves there. It answers from which place on the old entries are left.
+/// leaves there. The result is the index of the first old entry that is left.
 fn merge_change(
     merged: &mut Vec<Entry>,
     old: &[Entry],

@@ -11,7 +11,7 @@ use crate::change::{Hop, RouteChange};
 use crate::searching::{Entry, place_of};
 use prefix6::Prefix;
 
-/// Puts an entry in its place, over the one of its prefix if there is one.
+/// Adds the entry of a prefix, or replaces it.
 fn install(entries: &mut Vec<Entry>, prefix: Prefix, hop: Hop, metric: u8)
     requires in_order { AreInOrder entries.old.items }
     requires room { vec_len entries.old < vec_capacity entries.old }
@@ -30,7 +30,7 @@ fn install(entries: &mut Vec<Entry>, prefix: Prefix, hop: Hop, metric: u8)
     }
 }
 
-/// Takes the entry of a prefix out, if there is one.
+/// Removes the entry of a prefix, if there is one.
 fn withdraw(entries: &mut Vec<Entry>, prefix: &Prefix)
     requires { AreInOrder entries.old.items }
     ensures table { table_of entries.new.items ≡ map.remove (table_of entries.old.items) prefix.now }
@@ -72,7 +72,7 @@ pub(crate) fn replay(entries: &mut Vec<Entry>, changes: &[RouteChange])
     }
 }
 
-/// Whether the change installs an entry over one that is there.
+/// Whether the change replaces an entry.
 fn is_replacement(entries: &[Entry], change: &RouteChange) -> bool
     requires { AreInOrder entries.now }
     ensures { result ≡ is_replacement (table_of entries.now) change.now }
@@ -80,7 +80,7 @@ fn is_replacement(entries: &[Entry], change: &RouteChange) -> bool
     change.is_install() && place_of(entries, &change.prefix()).is_ok()
 }
 
-/// Whether each of the changes does.
+/// Whether each of the changes replaces an entry.
 pub(crate) fn are_replacements(entries: &[Entry], changes: &[RouteChange]) -> bool
     requires { AreInOrder entries.now }
     ensures { IsTrue result → AllPass (is_replacement (table_of entries.now)) changes.now }
@@ -93,7 +93,7 @@ pub(crate) fn are_replacements(entries: &[Entry], changes: &[RouteChange]) -> bo
     true
 }
 
-/// Replays a change that installs an entry over one that is there: no entry moves.
+/// Replays a change that replaces an entry: no entry moves.
 fn replace(entries: &mut Vec<Entry>, change: RouteChange)
     requires in_order { AreInOrder entries.old.items }
     requires replacement { is_replacement (table_of entries.old.items) change ≡ true }
@@ -115,7 +115,7 @@ fn replace(entries: &mut Vec<Entry>, change: RouteChange)
     entries[at] = (prefix, hop, metric);
 }
 
-/// Replays changes that each install an entry over one that is there.
+/// Replays changes that each replace an entry.
 pub(crate) fn replace_all(entries: &mut Vec<Entry>, changes: &[RouteChange])
     requires in_order { AreInOrder entries.old.items }
     requires replacements { AllPass (is_replacement (table_of entries.old.items)) changes.now }

@@ -7,10 +7,10 @@ ghost use Rattle.fib.specs.Entries.{at_prefix, AreInOrder, IsLastUpTo, AreAllPas
 use crate::change::Hop;
 use prefix6::Prefix;
 
-/// A prefix with its hop and metric.
+/// An entry: a prefix with its hop and metric.
 pub(crate) type Entry = (Prefix, Hop, u8);
 
-/// The place of the entry of a prefix, or as an error the place where it would go.
+/// The index of the entry of a prefix, or as an error the index where it would go.
 pub(crate) fn place_of(entries: &[Entry], prefix: &Prefix) -> Result<usize, usize>
     requires { AreInOrder entries.now }
     ensures found { IfOk result (IsAt (each at_prefix entries.now) prefix.now) }
@@ -19,7 +19,7 @@ pub(crate) fn place_of(entries: &[Entry], prefix: &Prefix) -> Result<usize, usiz
     entries.binary_search_by_key(prefix, |&(prefix, _, _)| prefix)
 }
 
-/// The place of the last entry whose prefix is this one or comes before it.
+/// The index of the last entry whose prefix is this one or comes before it.
 pub(crate) fn last_up_to(entries: &[Entry], prefix: &Prefix) -> Option<usize>
     requires { AreInOrder entries.now }
     ensures found { IfSome result (IsLastUpTo entries.now prefix.now) }

@@ -1,4 +1,4 @@
--- The halves of a prefix, and where two prefixes part.
+-- The halves of a prefix, and the first bit in which two prefixes differ.
 use Rattle.std.specs.Prelude.{◌≡◌, ◌≢◌, ℕ, ◌+◌, ◌-◌, ◌^◌, ◌<◌, ◌≤◌}
 use Rattle.prefix6.specs.Prefix.{Prefix6, first_bits, cleared}
 
@@ -34,7 +34,7 @@ pub record IsHigh (p q : Prefix6) : Type 0 where
   pub from : middle p ≤ q.addr
   pub to : q.addr < past p
 
--- the longest prefix that holds both
+-- the longest prefix that contains both
 pub record IsMeet (a b m : Prefix6) : Type 0 where
   pub of_first : m ≡ cleared a.addr m.len
   pub agree : first_bits a.addr m.len ≡ first_bits b.addr m.len

@@ -1,4 +1,4 @@
--- The texts that are read: of addresses the first two forms of RFC 4291, 2.2, and of prefixes that of 2.3.
+-- The texts that are read: the first two forms of an address of RFC 4291, 2.2, and the form of a prefix of 2.3.
 use Rattle.std.specs.Prelude.{◌≡◌, ◌≢◌, ◌↔◌, ℕ, ◌+◌, ◌-◌, ◌^◌, ◌<◌, ◌≤◌, ◌==◌, ◌⊎◌, List, [], ◌∷◌, ◌++◌, length, replicate, slice_index, codes, Result, Ok, Err, IfErr}
 use Rattle.std.specs.List.{before_first, after_first}
 use Rattle.std.specs.Str.Parse.{IsNumeral, digits_value}
@@ -47,14 +47,14 @@ pub record ParsesAddr (text : List ℕ) (r : Result ℕ PrefixError) : Type 0 wh
   pub reads : (a : ℕ) → (r ≡ Ok a) ↔ Reads text a
   pub refused : IfErr r (λ e. e ≡ BadAddressText)
 
--- a length: decimal digits, of which the first is no 0 (48) where there are more, at most 128
+-- a length: decimal digits, of which the first is not 0 (48) unless it is the only one, at most 128
 pub record IsLengthText (text : List ℕ) (len : ℕ) : Type 0 where
   pub digits : IsNumeral 10 text
   pub no_leading_zero : slice_index text 0 ≡ 48 → length text ≡ 1
   pub value : digits_value 10 text ≡ len
   pub bound : len ≤ 128
 
--- an address, a slash and a length: the prefix of that length that holds the address
+-- an address, a slash and a length: the prefix of that length that contains the address (RFC 4291, 2.3)
 pub record ReadsPrefix (text : List ℕ) (p : Prefix6) : Type 0 where
   pub addr_text : List ℕ
   pub len_text : List ℕ
@@ -68,11 +68,11 @@ pub record ReadsPrefix (text : List ℕ) (p : Prefix6) : Type 0 where
 abbrev pub address_part : List ℕ → List ℕ
 address_part text = before_first (λ c. c == 47) text
 
--- what stands behind the first slash
+-- what stands after the first slash
 abbrev pub length_part : List ℕ → List ℕ
 length_part text = after_first (λ c. c == 47) text
 
--- no address stands before the first slash
+-- what stands before the first slash is not an address
 abbrev pub HasNoAddress : List ℕ → Type 0
 HasNoAddress text = (a : ℕ) → ¬ (Reads (address_part text) a)
 

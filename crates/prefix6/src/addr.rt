@@ -1,4 +1,4 @@
-//! IPv6 addresses, and the kinds of them that RIPng tells apart (RFC 4291, section 2.4).
+//! IPv6 addresses, and the kinds of address that RIPng distinguishes (RFC 4291, section 2.4).
 
 ghost use Rattle.std.specs.Prelude.{◌≡◌, ◌<◌, ◌^◌, ◌/◌, ◌%◌, ◌==◌};
 ghost use Rattle.std.specs.Int.{w128, to_be_bytes, from_be_bytes};
@@ -11,8 +11,8 @@ ghost use Rattle.prefix6.specs.Addr.{is_link_local, is_multicast, is_unspecified
 use std::cmp::Ordering;
 use std::marker::Model;
 
-/// An IPv6 address, in the order of its number. Contracts see it as that number, below 2^128. It
-/// is kept in two halves, so that it fits wherever a `u64` does: what holds addresses is smaller.
+/// An IPv6 address, ordered as a number. Contracts see it as that number, below 2^128. It is kept in
+/// two halves, which need only the alignment of a `u64`: structs that hold addresses are smaller.
 #[derive(Clone, Copy, Debug)]
 pub struct Addr6 {
     high: u64,
@@ -122,7 +122,7 @@ impl Addr6 {
         self.bits().to_be_bytes()
     }
 
-    /// Whether the address is in FE80::/10: it holds on one link alone (RFC 4291, section 2.5.6).
+    /// Whether the address is in FE80::/10: it is valid on one link only (RFC 4291, section 2.5.6).
     pub fn is_link_local(self) -> bool
         ensures { result ≡ is_link_local self }
     {

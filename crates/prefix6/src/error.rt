@@ -1,47 +1,19 @@
-//! Refusals: why a length is none, or a text names no address or prefix.
-
-ghost use Rattle.std.specs.Prelude.{◌≡◌};
-ghost use Rattle.prefix6.specs.Refusal.{prefix_error_number, prefix_error_name};
+//! Why a text or a length is refused as an address or a prefix.
 
 use thiserror::Error;
 
-/// Why something is no address or no prefix. Each refusal has a number, which never changes, and a
-/// name.
+/// Why a text is not an address or a prefix, or a length not that of a prefix.
 #[derive(Clone, Copy, Debug, PartialEq, Eq, Error)]
 pub enum PrefixError {
-    /// 1: the length of a prefix is above 128.
+    /// The length of a prefix is above 128 bits.
     #[error("prefix length above 128")]
     LengthTooLarge,
 
-    /// 2: the text of an address is in neither of the two forms that are read.
+    /// The text is in neither of the two forms that are read. A usual cause is the dotted form of IPv4.
     #[error("not the text of an IPv6 address")]
     BadAddressText,
 
-    /// 3: the length of a prefix is missing in its text, or is not written as a number up to 128.
+    /// The length of a prefix is missing in its text, or is not a decimal number up to 128 without leading zeros.
     #[error("not the text of a prefix length")]
     BadLengthText,
-}
-
-impl PrefixError {
-    /// The number of the refusal, from 1 to 3.
-    pub fn number(self) -> u8
-        ensures { result ≡ prefix_error_number self }
-    {
-        match self {
-            PrefixError::LengthTooLarge => 1,
-            PrefixError::BadAddressText => 2,
-            PrefixError::BadLengthText => 3,
-        }
-    }
-
-    /// The name of the refusal, as the variant is spelled.
-    pub fn name(self) -> &'static str
-        ensures { result.now ≡ prefix_error_name self }
-    {
-        match self {
-            PrefixError::LengthTooLarge => "LengthTooLarge",
-            PrefixError::BadAddressText => "BadAddressText",
-            PrefixError::BadLengthText => "BadLengthText",
-        }
-    }
 }

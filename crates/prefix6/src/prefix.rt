@@ -10,8 +10,8 @@ use crate::error::PrefixError;
 use std::cmp::Ordering;
 use std::marker::Model;
 
-/// A prefix: a length of at most 128 bits, and an address whose bits past that length are zero. In
-/// the order of address, then length.
+/// A prefix: a length of at most 128 bits, and an address whose bits past that length are zero. It is
+/// ordered by address, then by length.
 #[derive(Clone, Copy, Debug, PartialEq, Eq, PartialOrd, Ord)]
 pub struct Prefix {
     addr: Addr6,
@@ -39,7 +39,7 @@ fn leading_bits(addr: Addr6, len: u8) -> u128
 }
 
 impl Prefix {
-    /// The prefix of a length that holds an address: its bits past the length are cleared.
+    /// The prefix of this length that contains the address: the bits past the length are cleared.
     ///
     /// # Errors
     /// `LengthTooLarge` exactly where `len` is above 128.
@@ -78,15 +78,15 @@ impl Prefix {
         self.len
     }
 
-    /// Whether the address is one of the prefix: whether it begins with the bits of the prefix.
+    /// Whether the address is in the prefix: whether it begins with the bits of the prefix.
     pub fn contains(&self, addr: Addr6) -> bool
         ensures { IsTrue result ↔ Holds self.now addr }
     {
         leading_bits(addr, self.len) == leading_bits(self.addr, self.len)
     }
 
-    /// Whether routes may be told for the prefix: whether its address is neither multicast nor
-    /// link-local.
+    /// Whether the prefix may be advertised: its address is neither multicast nor link-local (RFC
+    /// 2080, section 2.4.2).
     pub fn is_routable(&self) -> bool
         ensures value { result ≡ is_routable self.now }
         ensures prefix { IsPrefix self.now }
@@ -94,7 +94,7 @@ impl Prefix {
         !self.addr.is_multicast() && !self.addr.is_link_local()
     }
 
-    /// Whether the other prefix is longer and lies in this one.
+    /// Whether the other prefix is longer and lies within this one.
     pub fn is_above(&self, other: &Prefix) -> bool
         ensures { IsTrue result ↔ IsUnder self.now other.now }
     {
@@ -118,7 +118,7 @@ impl Prefix {
         other.addr.bits().saturating_sub(self.addr.bits()) < half
     }
 
-    /// The longest prefix that holds both this one and the other.
+    /// The longest prefix that contains both this one and the other.
     pub fn meet(&self, other: &Prefix) -> Prefix
         ensures meet { IsMeet self.now other.now result }
         ensures first { IsPrefix self.now }

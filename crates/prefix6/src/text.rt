@@ -20,7 +20,7 @@ use std::str::FromStr;
 /// between colons, or fewer than eight with one `::` for one or more zero groups.
 ///
 /// # Errors
-/// `BadAddressText` for any other text, also for one with an address of IPv4 in it.
+/// `BadAddressText` for any other text, also for one with a dotted address of IPv4 in it.
 pub fn parse_addr(text: &str) -> Result<Addr6, PrefixError>
     ensures { ParsesAddr text.now result }
 {
@@ -49,7 +49,7 @@ fn parse_len(text: &str) -> Result<u8, PrefixError>
     }
 }
 
-/// What stands before the first slash and after it; where there is none, the whole and nothing.
+/// The text before the first slash and the text after it, or the whole text and an empty one.
 fn split_at_slash(text: &str) -> (&str, &str)
     ensures address { result.0.now ≡ address_part text.now }
     ensures length { result.1.now ≡ length_part text.now }
@@ -61,8 +61,8 @@ fn split_at_slash(text: &str) -> (&str, &str)
 /// up to 128, with no leading zero. Bits past the length are cleared.
 ///
 /// # Errors
-/// `BadAddressText` where what stands before the first slash, or the whole, is no address;
-/// `BadLengthText` where that is one, and no length or no slash follows.
+/// `BadAddressText` if the text before the first slash, or the whole, is not an address.
+/// `BadLengthText` if it is one, and no slash with a length follows.
 pub fn parse_prefix(text: &str) -> Result<Prefix, PrefixError>
     ensures { ParsesPrefix text.now result }
 {

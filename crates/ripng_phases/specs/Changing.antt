@@ -9,7 +9,7 @@ use Rattle.ripng_world.specs.World.{World}
 use Rattle.ripng_phases.specs.Phases.{Step, reached, steps_of}
 use Rattle.ripng_phases.specs.declared.shown.ShownRoute.{ShownRoute}
 
--- what is shown of a route of a router: all but its clock and its mark
+-- what is shown of a route of a router: all but its clock and its route change flag
 abbrev pub shown_route : ℕ → Prefix6 × RouteValue → ShownRoute
 shown_route router x = record { router = router; prefix = x.0; metric = x.1.metric; tag = x.1.tag; origin = x.1.origin }
 
@@ -18,7 +18,7 @@ abbrev pub shown_table : ℕ → Option State → List ShownRoute
 shown_table router None = []
 shown_table router (Some s) = map (shown_route router) (map_of.entries s.table)
 
--- what is shown of the tables of the first so many routers, router by router
+-- what is shown of the tables of the first n routers, router by router
 abbrev pub shown_below : List State → ℕ → List ShownRoute
 shown_below states zero = []
 shown_below states (suc n) = shown_below states n ++ shown_table n (slice_get states n)
@@ -27,7 +27,7 @@ shown_below states (suc n) = shown_below states n ++ shown_table n (slice_get st
 abbrev pub shown_in : Network → World → List ShownRoute
 shown_in net w = shown_below w.states (length net)
 
--- what is shown once so many of the phases are over
+-- what is shown once the first `count` phases are over
 abbrev pub shown_after : Network → World → List (List Step) → ℕ → List ShownRoute
 shown_after net w phases count = shown_in net (reached w (steps_of (take count phases)))
 
@@ -35,7 +35,7 @@ shown_after net w phases count = shown_in net (reached w (steps_of (take count p
 abbrev pub ChangesIn : Network → World → List (List Step) → ℕ → Type 0
 ChangesIn net w phases phase = shown_after net w phases (suc phase) ≢ shown_after net w phases phase
 
--- the last phase in which some table changes, or that there is none
+-- the last phase in which some table changes, or none if no table does
 abbrev pub IsLastChange : Network → World → List (List Step) → Option ℕ → Type 0
 IsLastChange net w phases None = (phase : ℕ) → phase < length phases → shown_after net w phases (suc phase) ≡ shown_after net w phases phase
 IsLastChange net w phases (Some last) =

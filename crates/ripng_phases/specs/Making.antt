@@ -1,4 +1,4 @@
--- Phases as a lab makes them: each is one minute by a true clock, in which datagrams are handed on in the order in which they were sent.
+-- Phases as a lab makes them. Each is one minute by a true clock, in which datagrams are handed on in the order in which they were sent.
 use Rattle.std.specs.Prelude.{◌≡◌, ◌≢◌, ℕ, ◌+◌, ◌*◌, ◌^◌, ◌<◌, ◌≤◌, ⊤, ◌⊎◌, Bool, true, IsTrue, List, [], ◌∷◌, ◌++◌, length, All, Contains, Option, Some, Result, Ok, Err, slice_get}
 use Rattle.std.specs.List.{AllByRecursion}
 use Rattle.router_core.specs.Machine.{State}
@@ -23,22 +23,22 @@ use Rattle.ripng_phases.specs.declared.course.Update.{Update}
 use Rattle.ripng_phases.specs.declared.refused.PhaseRefused.{PhaseRefused}
 use Rattle.ripng_phases.specs.declared.refused.PhaseRefused.TheVariants.{NoUpdateInTime, PastLastMoment, OutOfMemory}
 
--- ---- what is told of steps
+-- ---- notices of steps
 
--- the steps happen one after another, each an ordinary event, no new route wants for memory, and the watcher is told of each
+-- the steps happen one after another, each an ordinary event; memory suffices for every new route, and the observer is notified of each
 abbrev pub TellsSteps : {V : Type 0} → (V → Told → V → Type 0) → Network → World × V → List Step → World × V → Type 0
 TellsSteps takes net s [] s' = s' ≡ s
 TellsSteps {V} takes net s (x ∷ steps) s' =
     (v : V) × IsOrdinary x.event × Happens net s.0 x.event x.answer x.after × All (λ n. n.kind ≢ NoMemory) x.answer.notes
     × takes s.1 (telling net s.0 x.event x.answer x.after) v × TellsSteps takes net (x.after, v) steps s'
 
--- an event stops a call, where a new route wants for memory or the watcher fails; or there is none
+-- an event stops a call, because memory ran out for a new route or the observer failed; or no event does
 abbrev pub IsLast : {V F : Type 0} → (V → Told → V → Type 0) → (V → Told → V → Type 0) → Network → World × V → Stopped PhaseRefused F → World × V → Type 0
 IsLast takes fails net s why s' = (last : List Event) × EndsAt takes fails net s last why s'
 
 -- ---- what is asked of a phase
 
--- so many phases are made, the last change of a table is in one of them or in none, and the watcher is told of just their events
+-- `count` phases are made, the last change of a table is in one of them or in none, and the observer is notified of exactly their events
 pub record AreMadePhases {V : Type 0} (takes : V → Told → V → Type 0) (net : Network) (s : World × V) (count : ℕ) (last : Option ℕ) (s' : World × V) : Type 0 where
   pub phases : List (List Step)
   pub as_many : length phases ≡ count
@@ -52,12 +52,12 @@ IsTooLate (Refused (NoUpdateInTime router)) begin w = (state : State) → slice_
 IsTooLate (Refused PastLastMoment) begin w = 2 ^ 60 < begin
 IsTooLate _ begin w = ⊤
 
--- the last moment of all of so many routers, or 0
+-- the last moment of the first `count` routers, or 0
 pub record IsLatest (states : List State) (count latest : ℕ) : Type 0 where
   pub none_later : (router : ℕ) (s : State) → router < count → slice_get states router ≡ Some s → s.last ≤ latest
   pub one_is : (latest ≡ 0) ⊎ ((router : ℕ) × (s : State) × (slice_get states router ≡ Some s) × (s.last ≡ latest))
 
--- so many phases are made, a minute each from the last moment of all routers, and then some of the next one happens, all of it told, up to where the call stops
+-- `count` phases are made, a minute each from the last moment of all routers; then some of the next one happens, all with notices, up to where the call stops
 pub record AreMadeInPart {V F : Type 0} (takes fails : V → Told → V → Type 0) (net : Network) (s : World × V) (count : ℕ) (why : Stopped PhaseRefused F) (s' : World × V) : Type 0 where
   pub phases : List (List Step)
   pub since : List Step
@@ -110,7 +110,7 @@ pub record IsUpdateTold (net : Network) (w : World) (steps : List Step) (router 
   pub end_is : update.end ≡ length tick.after.sent
   pub handed_on : (datagram : ℕ) (d : Sent) → update.first ≤ datagram → datagram < next → slice_get tick.after.sent datagram ≡ Some d → IsHandedOn net (events_of after) datagram d
 
--- what has happened since a phase began with a datagram and a moment, as its course says it
+-- what has happened since a phase began with a datagram and a moment, as its course has it
 pub record IsUnderway {V : Type 0} (takes : V → Told → V → Type 0) (s : LabValue × V) (first begin : ℕ) (course : Course) (s' : LabValue × V) : Type 0 where
   pub network : s'.0.network ≡ s.0.network
   pub steps : List Step
@@ -162,7 +162,7 @@ MakesPhase takes fails (Err why) old first begin new = IsCutShort takes fails ol
 
 -- ---- small things
 
--- a phase begins at a moment, with a datagram, and no router has told anything
+-- a phase begins at a moment, with a datagram, and no router has sent anything
 pub record IsFresh (lab : LabValue) (moment first : ℕ) (course : Course) : Type 0 where
   pub moment_is : course.moment ≡ moment
   pub ends : course.end ≡ moment + 60_000
@@ -171,7 +171,7 @@ pub record IsFresh (lab : LabValue) (moment first : ℕ) (course : Course) : Typ
   pub routers : length course.told.items ≡ length lab.network
   pub untold : (router : ℕ) (u : Update) → slice_get course.told.items router ≡ Some (Some u) → ⊥
 
--- the datagram is of a regular update that was told
+-- the datagram is of a regular update that was sent
 pub record IsKept (told : List (Option Update)) (datagram : ℕ) : Type 0 where
   pub router : ℕ
   pub update : Update

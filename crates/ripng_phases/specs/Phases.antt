@@ -24,7 +24,7 @@ IsOrdinary (LinkDown router now on) = ⊥
 IsOrdinary (Reconfigure router now c) = ⊥
 IsOrdinary _ = Unit {0}
 
--- the steps happen one after another, each an ordinary event, and no new route wants for memory
+-- the steps happen one after another, each an ordinary event, and memory suffices for every new route
 abbrev pub Takes : Network → World → List Step → World → Type 0
 Takes net w [] w' = w' ≡ w
 Takes net w (s ∷ steps) w' =
@@ -56,7 +56,7 @@ pub record IsHeardUpdate (net : Network) (w : World) (steps : List Step) (router
       → (other ≢ d.router) ⊎ (iface ≢ d.iface)
       → (moment : ℕ) × Contains (events_of after) (Deliver datagram other iface moment)
 
--- so many datagrams had been sent at some moment of the steps
+-- `count` datagrams had been sent at some moment of the steps
 pub record IsCount (w : World) (steps : List Step) (count : ℕ) : Type 0 where
   pub before : List Step
   pub after : List Step
@@ -127,7 +127,7 @@ abbrev pub PhasesAfter : Network → Before → World → List (List Step) → W
 PhasesAfter net past w [] w' = w' ≡ w
 PhasesAfter net past w (steps ∷ phases) w' = (mid : World) × IsPhase net past w steps mid × PhasesAfter net (before_next w steps) mid phases w'
 
--- so it is from the first on, in which anything may still come that was ever sent
+-- the same from the first phase on, in which any datagram may still come that was ever sent
 abbrev pub Phases : Network → World → List (List Step) → World → Type 0
 Phases net w phases w' = PhasesAfter net (record { first = 0; counts = λ _. ⊥; moments = λ _ _. ⊥ }) w phases w'
 
@@ -142,7 +142,7 @@ abbrev pub BegunAfter : Network → Before → World → List (List Step) → Li
 BegunAfter net past w [] since w' = IsBegun net past w since w'
 BegunAfter net past w (steps ∷ phases) since w' = (mid : World) × IsPhase net past w steps mid × BegunAfter net (before_next w steps) mid phases since w'
 
--- so it is from the first on, at any moment
+-- the same from the first phase on, at any moment
 abbrev pub Begun : Network → World → List (List Step) → List Step → World → Type 0
 Begun net w phases since w' = BegunAfter net (record { first = 0; counts = λ _. ⊥; moments = λ _ _. ⊥ }) w phases since w'
 
@@ -159,7 +159,7 @@ AreCloseAfter before (round ∷ rounds) =
     ((router x y : ℕ) → before router x ⊎ IsMomentOf round router x → IsMomentOf round router y → (x < y + garbage_time) × (y < x + garbage_time))
     × AreCloseAfter (IsMomentOf round) rounds
 
--- so it is from the first round on
+-- the same from the first round on
 abbrev pub AreClose : List Round → Type 0
 AreClose rounds = AreCloseAfter (λ _ _. ⊥) rounds
 
@@ -167,7 +167,7 @@ AreClose rounds = AreCloseAfter (λ _ _. ⊥) rounds
 abbrev pub events_in : List Round → List Event
 events_in rounds = flat_map (λ r. r.ticks ++ r.deliveries) rounds
 
--- phases that are just these rounds
+-- phases that are exactly these rounds
 pub record ArePhases (net : Network) (w : World) (rounds : List Round) (w' : World) : Type 0 where
   pub phases : List (List Step)
   pub are : Phases net w phases w'

@@ -1,4 +1,4 @@
-//! What a router does in a phase, and what it hears.
+//! The actions of a phase: a router ticks, and a datagram comes to its receivers.
 
 ghost use Rattle.std.specs.Prelude.{◌≡◌, ◌≢◌, ℕ, true, ◌<◌, ◌≤◌, ◌+◌, ◌^◌, ◌⊎◌, ◌∷◌, [], max, All, Contains, IfErr, IfOk, IsFalse, IsTrue, OnErr, OnOk, Some, length, slice_get};
 ghost use Rattle.std.specs.List.{Any};
@@ -16,12 +16,12 @@ ghost use Rattle.ripng_phases.specs.declared.refused.PhaseRefused.TheVariants.{O
 use crate::course::{Course, Update};
 use crate::refused::PhaseRefused;
 use rand_core::Rng;
-use ripng_world::{Event, Lab, Sent, Stopped, Watch};
+use ripng_world::{Event, Lab, Observer, Sent, Stopped};
 use route_table::{Moment, RouteStore};
 use router_core::{Note, NoteKind};
 use std::alloc::{AllocError, Global};
 
-/// Whether a new route wants for memory.
+/// Whether memory ran out for a new route.
 fn wants_memory(notes: &[Note]) -> bool
     ensures absent { IsFalse result → All (λ n. n.kind ≢ NoMemory) notes.now }
     ensures found { IsTrue result → Any (λ n. n.kind ≡ NoMemory) notes.now }
@@ -29,8 +29,8 @@ fn wants_memory(notes: &[Note]) -> bool
     notes.iter().any(|note| note.kind == NoteKind::NoMemory)
 }
 
-/// An event happens, and the watcher is told of it.
-fn happen<S: RouteStore, V: Watch<S>>(
+/// An event happens, and the observer is notified of it.
+fn happen<S: RouteStore, V: Observer<S>>(
     lab: &mut Lab<S>,
     event: &Event<'_>,
     watch: &mut V,
@@ -42,7 +42,7 @@ fn happen<S: RouteStore, V: Watch<S>>(
 {
     let answer = match lab.step_watched(event, watch) {
         Ok(answer) => answer,
-        // The router, the datagram and the interface on its link are there: only memory can have been wanting.
+        // The router, the datagram and the interface on its link exist: only memory can have run out.
         Err(stopped) => return Err(stopped.refused_as(PhaseRefused::OutOfMemory)),
     };
     if wants_memory(answer.notes.as_slice()) {
@@ -68,8 +68,8 @@ pub fn is_due<S: RouteStore>(lab: &Lab<S>, router: usize, moment: Moment) -> boo
     }
 }
 
-/// A router ticks while its regular update is due, and so tells it.
-pub fn announce<S: RouteStore, V: Watch<S>>(
+/// A router ticks while its regular update is due, and so sends it.
+pub fn announce<S: RouteStore, V: Observer<S>>(
     lab: &mut Lab<S>,
     course: &mut Course,
     router: usize,
@@ -95,8 +95,8 @@ pub fn announce<S: RouteStore, V: Watch<S>>(
     Ok(())
 }
 
-/// A router ticks, and tells what there is to tell: nothing, or a triggered update.
-pub fn nudge<S: RouteStore, V: Watch<S>>(
+/// A router ticks, and sends nothing or a triggered update.
+pub fn nudge<S: RouteStore, V: Observer<S>>(
     lab: &mut Lab<S>,
     course: &Course,
     router: usize,
@@ -148,11 +148,11 @@ fn add_receivers<S: RouteStore>(
             receivers.push((router, iface))?;
         }
     }
-    // No router has so many.
+    // No router has that many.
     Err(AllocError)
 }
 
-/// The other interfaces of the link of a datagram, each behind its router's number.
+/// The other interfaces of the link of a datagram, each after its router's number.
 fn receivers<S: RouteStore>(
     alloc: Global,
     lab: &Lab<S>,
@@ -170,8 +170,8 @@ fn receivers<S: RouteStore>(
     Ok(receivers)
 }
 
-/// A datagram comes to these interfaces, each given behind its router. Where it is not kept, each of them may lose it.
-fn hand<S: RouteStore, V: Watch<S>, R: Rng>(
+/// A datagram comes to these interfaces, each given after its router. Unless it is kept, each of them may lose it.
+fn hand<S: RouteStore, V: Observer<S>, R: Rng>(
     lab: &mut Lab<S>,
     datagram: usize,
     now: Moment,
@@ -204,9 +204,8 @@ fn is_lost<R: Rng>(rng: &mut R) -> bool {
     rng.next_u32() % 4 == 0
 }
 
-/// The next datagram is handed on: it comes to each other interface of its link, or where it is of no regular update of this
-/// phase may be lost.
-pub fn hand_on<S: RouteStore, V: Watch<S>, R: Rng>(
+/// The next datagram comes to each other interface of its link. It may be lost, unless it is of a regular update of this phase.
+pub fn hand_on<S: RouteStore, V: Observer<S>, R: Rng>(
     lab: &mut Lab<S>,
     course: &mut Course,
     rng: &mut R,

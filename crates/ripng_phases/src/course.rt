@@ -1,4 +1,4 @@
-//! How far a phase has come: its clock, which datagrams were handed on, and which regular updates were told.
+//! How far a phase has come: its clock, which datagrams were handed on, and which regular updates were sent.
 
 ghost use Rattle.std.specs.Prelude.{◌≡◌, ◌≤◌, ◌<◌, IsTrue, Some, length, slice_get};
 ghost use Rattle.ripng_phases.specs.Making.{IsAdded, IsKept};
@@ -31,7 +31,7 @@ pub struct Course {
     pub next: usize,
     /// Before this one all have to be handed on before the phase is over.
     pub until: usize,
-    /// Of each router, its last regular update in this phase.
+    /// The last regular update of each router in this phase.
     pub told: Vec<Option<Update>>,
 }
 
@@ -50,14 +50,14 @@ impl Course {
         }
     }
 
-    /// Whether a router has told its regular update in this phase.
+    /// Whether a router has sent its regular update in this phase.
     pub fn has_told(&self, router: usize) -> bool
         ensures { IsTrue result → (update : UpdateValue) × (slice_get self.now.told.items router ≡ Some (Some update)) }
     {
         matches!(self.told.get(router), Some(Some(_)))
     }
 
-    /// Whether a datagram is of a regular update that was told, and so is not lost.
+    /// Whether a datagram is of a regular update, and so must not be lost.
     pub fn keeps(&self, datagram: usize) -> bool
         ensures { IsKept self.now.told.items datagram → IsTrue result }
     {
@@ -67,7 +67,7 @@ impl Course {
         })
     }
 
-    /// A router has told its regular update. All up to its end has to be handed on.
+    /// A router has sent its regular update. All datagrams up to its end have to be handed on.
     pub fn add(&mut self, router: usize, update: Update)
         ensures told { IsAdded self.old.told.items router update self.new.told.items }
         ensures same { self.new ≡ record self.old { told = self.new.told; until = update.end } }

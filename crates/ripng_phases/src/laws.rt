@@ -1,4 +1,4 @@
-//! Laws of phases, each the contract of a function with nothing to do: what follows from the definitions alone.
+//! Laws of phases. Each is the contract of an empty function: it follows from the definitions alone.
 
 ghost use Rattle.std.specs.Prelude.{◌≡◌, ℕ, ◌+◌, ◌*◌, ◌<◌, ◌≤◌, List, ◌++◌, length, All, Some, slice_get};
 ghost use Rattle.std.specs.List.{AllByRecursion};
@@ -14,7 +14,7 @@ ghost use Rattle.ripng_world.specs.World.{World, Event, IsCold, WorldRun, past_o
 ghost use Rattle.ripng_phases.specs.Minutes.{Timed, AreFrom, IsTimely, untimed};
 ghost use Rattle.ripng_phases.specs.Phases.{Step, Begun, Phases, AreClose, ArePhases, steps_of, events_of, reached};
 
-/// Phases are a run of just their events.
+/// Phases are a run of exactly their events.
 pub fn phases_are_run()
     ensures { (net : Network) (phases : List (List Step)) (w end : World) → Phases net w phases end
         → WorldRun net w (events_of (steps_of phases)) end }
@@ -64,7 +64,7 @@ pub fn heals_in_phases()
         → AreHealed (network_now (past_of net end)) end }
 {}
 
-/// And packets arrive in it: after 28 phases, and at every moment from then on.
+/// Packets arrive in it: after 28 phases, and at every moment from then on.
 pub fn packets_arrive_in_phases()
     ensures { (net : Network) (moments : List ℕ) (events : List Event) (phases : List (List Step)) (since : List Step) (cold w end : World)
         → IsNetwork net → IsNeverQuiet net → IsCold net moments cold → WorldRun net cold events w → FitsTablesSince (past_of net w)
@@ -86,7 +86,7 @@ pub fn heals_in_minutes()
         → let now = reached w (untimed before) in AreHealed (network_now (past_of net now)) now }
 {}
 
-/// And packets arrive in it by then, and at every moment from then on.
+/// Packets arrive in it by then, and at every moment from then on.
 pub fn packets_arrive_in_minutes()
     ensures arrive { (net : Network) (moments : List ℕ) (events : List Event) (history : List Timed) (start stop : ℕ) (cold w end : World)
         → IsNetwork net → IsNeverQuiet net → IsCold net moments cold → WorldRun net cold events w → FitsTablesSince (past_of net w)

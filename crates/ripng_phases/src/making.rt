@@ -1,9 +1,9 @@
 //! Phases are made: by chance, within the rules of a phase.
 //!
-//! A phase takes a minute by a true clock. First routers tick by chance, some of them before their regular update is due, and
-//! what was sent is handed on by chance, in the order in which it was sent; what is of no regular update of this phase may be
-//! lost. Then each router that has not told its regular update does, and what was sent up to the last one of these is handed on.
-//! What is left comes in the next phase.
+//! A phase takes a minute by a true clock. First routers tick at random, some of them before their regular update is due, and
+//! datagrams are handed on at random, in the order in which they were sent. Those of no regular update of this phase may be lost.
+//! Then each router that has not sent its regular update sends it, and all datagrams up to the last of these are handed on. What
+//! is left comes in the next phase.
 
 ghost use Rattle.std.specs.Prelude.{◌≡◌, ◌↔◌, ℕ, ◌+◌, ◌^◌, ◌<◌, ◌≤◌, ◌⊎◌, max, IfErr, IfOk, IfSome, IsTrue, OnOk, None, Some, length, slice_get};
 ghost use Rattle.router_core.specs.Machine.{State};
@@ -18,18 +18,18 @@ use crate::course::{Course, PHASE_MS};
 use crate::refused::PhaseRefused;
 use crate::shown::{ShownRoute, are_same, shown_routes};
 use rand_core::Rng;
-use ripng_world::{Lab, Stopped, Watch};
+use ripng_world::{Lab, Observer, Stopped};
 use route_table::{Moment, RouteStore};
 use std::alloc::{AllocError, Global};
 
-/// How many ticks by chance there are in a phase, for each router.
+/// How many random ticks there are in a phase, for each router.
 const TURNS: usize = 3;
 
 /// How long these take at most, if each waits for as long as it may, in milliseconds. It may be longer than the minute.
 const TURNS_MS: u32 = 90_000;
 
 /// A router ticks at this moment.
-fn tick<S: RouteStore, V: Watch<S>>(
+fn tick<S: RouteStore, V: Observer<S>>(
     lab: &mut Lab<S>,
     course: &mut Course,
     router: usize,
@@ -47,8 +47,8 @@ fn tick<S: RouteStore, V: Watch<S>>(
     }
 }
 
-/// Up to so many datagrams are handed on, if there are.
-fn hand_some<S: RouteStore, V: Watch<S>, R: Rng>(
+/// Up to `count` datagrams are handed on, if there are.
+fn hand_some<S: RouteStore, V: Observer<S>, R: Rng>(
     lab: &mut Lab<S>,
     course: &mut Course,
     count: usize,
@@ -68,7 +68,7 @@ fn hand_some<S: RouteStore, V: Watch<S>, R: Rng>(
 }
 
 /// Time passes, some router ticks, and some datagrams are handed on.
-fn turn<S: RouteStore, V: Watch<S>, R: Rng>(
+fn turn<S: RouteStore, V: Observer<S>, R: Rng>(
     lab: &mut Lab<S>,
     course: &mut Course,
     most_ms: u32,
@@ -87,7 +87,7 @@ fn turn<S: RouteStore, V: Watch<S>, R: Rng>(
     hand_some(lab, course, count, rng, watch)
 }
 
-/// The longest that one of so many turns waits, in milliseconds.
+/// The longest that one of these turns waits, in milliseconds.
 fn share(turns: usize) -> u32
     ensures { 0 < result }
 {
@@ -97,8 +97,8 @@ fn share(turns: usize) -> u32
     }
 }
 
-/// Routers tick and hear by chance.
-fn make_turns<S: RouteStore, V: Watch<S>, R: Rng>(
+/// Routers tick and receive at random.
+fn make_turns<S: RouteStore, V: Observer<S>, R: Rng>(
     lab: &mut Lab<S>,
     course: &mut Course,
     rng: &mut R,
@@ -132,8 +132,8 @@ fn due_moment<S: RouteStore>(lab: &Lab<S>, course: &Course, router: usize) -> Op
     }
 }
 
-/// A router tells its regular update as soon as it is due.
-fn tell<S: RouteStore, V: Watch<S>>(
+/// A router sends its regular update as soon as it is due.
+fn tell<S: RouteStore, V: Observer<S>>(
     lab: &mut Lab<S>,
     course: &mut Course,
     router: usize,
@@ -155,8 +155,8 @@ fn tell<S: RouteStore, V: Watch<S>>(
     }
 }
 
-/// Each router that has not told its regular update does.
-fn tell_rest<S: RouteStore, V: Watch<S>, R: Rng>(
+/// Each router that has not sent its regular update sends it.
+fn tell_rest<S: RouteStore, V: Observer<S>, R: Rng>(
     lab: &mut Lab<S>,
     course: &mut Course,
     rng: &mut R,
@@ -176,7 +176,7 @@ fn tell_rest<S: RouteStore, V: Watch<S>, R: Rng>(
 }
 
 /// What was sent up to the last regular update is handed on.
-fn hand_rest<S: RouteStore, V: Watch<S>, R: Rng>(
+fn hand_rest<S: RouteStore, V: Observer<S>, R: Rng>(
     lab: &mut Lab<S>,
     course: &mut Course,
     rng: &mut R,
@@ -193,7 +193,7 @@ fn hand_rest<S: RouteStore, V: Watch<S>, R: Rng>(
     Ok(())
 }
 
-/// The course of a phase that begins, in which no router has told anything.
+/// The course of a phase that begins, in which no router has sent anything.
 fn course_from<S: RouteStore>(
     alloc: Global,
     lab: &Lab<S>,
@@ -213,8 +213,8 @@ fn course_from<S: RouteStore>(
     })
 }
 
-/// One phase, from a moment and a datagram on. Says with which datagram the next begins.
-fn make_phase<S: RouteStore, V: Watch<S>, R: Rng>(
+/// One phase, from a moment and a datagram on. Returns the datagram with which the next begins.
+fn make_phase<S: RouteStore, V: Observer<S>, R: Rng>(
     alloc: Global,
     lab: &mut Lab<S>,
     begin: u64,
@@ -254,8 +254,8 @@ fn show<S: RouteStore, F>(
     }
 }
 
-/// One phase, as [`make_phase`] has it. Says, too, whether all tables are then as they were before.
-fn compare_phase<S: RouteStore, V: Watch<S>, R: Rng>(
+/// One phase, as [`make_phase`] has it. Returns also whether all tables are as they were before.
+fn compare_phase<S: RouteStore, V: Observer<S>, R: Rng>(
     alloc: Global,
     lab: &mut Lab<S>,
     begin: u64,
@@ -296,18 +296,17 @@ fn latest<S: RouteStore>(lab: &Lab<S>) -> u64
     latest
 }
 
-/// Phases are made one after another, by chance, until one is refused, and a watcher is told of each event. Says how many were
-/// made; and if all were, in which of them, numbered from 0, some table last changed, but for clocks and marks, or that none did.
-/// 28 of them leave each table with the least costs of now, and nothing else below 16 hops, whatever happened before; and packets
-/// arrive, from every router that has a route to their address.
+/// Phases are made one after another, at random, until one is refused, and an observer is notified of each event. Returns how many were
+/// made. If all were, returns also the last of them, numbered from 0, in which some table changed (clocks and route change flags
+/// aside), or none. 28 phases leave each table with the least costs of now, and nothing else below 16, whatever happened before.
+/// Packets then arrive, from every router that has a route to their address.
 ///
 /// The first begins at the last moment of all routers, and brings no datagram that was sent before it.
 ///
 /// # Errors
-/// A router whose regular update is not due in time, or a phase past the last moment; want of memory, also where a router
-/// skipped an entry for it; or the watcher's, and then the event that it failed at is the last one that was done. All events
-/// before are done.
-pub fn run_phases<S: RouteStore, V: Watch<S>, R: Rng>(
+/// A router whose regular update is not due in time, or a phase past the last moment; out of memory, also where a router skipped
+/// an entry for that reason; or the observer's, and then it failed at the last event that was done. All earlier events are done.
+pub fn run_phases<S: RouteStore, V: Observer<S>, R: Rng>(
     alloc: Global,
     lab: &mut Lab<S>,
     phases: usize,

@@ -1,6 +1,6 @@
 //! Why phases stop.
 
-/// Why a phase stops. All events before are done.
+/// Why a phase stops. All earlier events are done.
 #[derive(Clone, Copy, Debug, PartialEq, Eq)]
 pub enum PhaseRefused {
     /// The regular update of a router is not due before the minute of the phase is over, or before the last moment that
@@ -11,7 +11,7 @@ pub enum PhaseRefused {
     },
     /// The phase would begin past the last moment that there is.
     PastLastMoment,
-    /// Memory was refused, or a router wanted memory for a new route.
+    /// Memory was refused, or ran out in a router for a new route.
     OutOfMemory,
 }
 

@@ -1,4 +1,4 @@
-//! What all routers of a network hold, as scripts print it: all of each route but its clock and its mark.
+//! What all routers of a network hold, as scripts print it: each route without its clock and its route change flag.
 
 ghost use Rattle.std.specs.Prelude.{◌≡◌, ◌++◌, ◌↔◌, IfOk, IsTrue, OnOk, length, map};
 ghost use Rattle.std.specs.FinMap as map_of;
@@ -10,7 +10,7 @@ use route_table::{Origin, Route, RouteStore};
 use router_core::Router;
 use std::alloc::{AllocError, Global};
 
-/// A route of a router, but for its clock and its mark.
+/// A route of a router, without its clock and its route change flag.
 #[derive(Clone, Copy, Debug, PartialEq, Eq)]
 pub struct ShownRoute {
     pub router: usize,
@@ -42,7 +42,7 @@ fn routes_in<S: RouteStore>(alloc: Global, table: &S) -> Result<Vec<(Prefix, Rou
     Ok(routes)
 }
 
-/// The routes of the router of a number are shown behind others.
+/// The routes of the router with that number are shown after others.
 fn show<S: RouteStore>(
     alloc: Global,
     number: usize,
@@ -58,7 +58,7 @@ fn show<S: RouteStore>(
     Ok(())
 }
 
-/// What all routers hold, router by router, and of each in the order of prefixes.
+/// What all routers hold, router by router, each in the order of prefixes.
 pub fn shown_routes<S: RouteStore>(
     alloc: Global,
     lab: &Lab<S>,

@@ -1,4 +1,4 @@
--- What the bytes of a datagram are read as. That this is what they spell is proved of `decode`.
+-- What the bytes of a datagram are read as (RFC 2080, 2.1). `decode` is proved to read exactly what `Spells` says.
 use Rattle.std.specs.Prelude.{ℕ, zero, suc, ◌≤◌, ◌/◌, List, [], ◌∷◌, length, drop, slice_index, All}
 use Rattle.byteorder.specs.Endian.{big_number}
 use Rattle.ripng_wire.specs.declared.rte.Command.{Command}

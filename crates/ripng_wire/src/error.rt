@@ -1,36 +1,30 @@
-//! Why bytes are no datagram.
+//! Why bytes are refused as a datagram.
 
-ghost use Rattle.std.specs.Prelude.{◌≡◌};
+ghost use Rattle.std.specs.Prelude.{◌≡◌, Some};
+ghost use Rattle.ripng_wire.specs.Wire.{wire_error_name, wire_error_number, wire_error_text};
 
-use crate::rte::{HEADER_LEN, MAX_LEN};
-use thiserror::Error;
+use std::error::Error;
+use std::fmt::{self, Display};
 
-/// Why bytes are no datagram: the first reason to refuse them, in this order.
-#[derive(Clone, Copy, Debug, PartialEq, Eq, Hash, Error)]
+/// Why bytes are refused as a datagram: the first reason that applies, in this order. A usual cause is a program that is not
+/// RIPng at the same port, or a router whose packets are truncated: look at the sender.
+#[derive(Clone, Copy, Debug, PartialEq, Eq, Hash)]
 pub enum WireError {
-    /// Fewer bytes than the header has.
-    #[error("fewer than {min} bytes", min = HEADER_LEN)]
+    /// Fewer than 4 bytes, the length of the header.
     Short = 1,
-    /// More bytes than those of the most entries.
-    #[error("more than {max} bytes", max = MAX_LEN)]
+    /// More than 65,524 bytes, the length of a datagram with [`MAX_ENTRIES`](crate::MAX_ENTRIES) entries.
     TooLong = 2,
-    /// The bytes behind the header are no whole number of entries.
-    #[error("the last entry is cut short")]
+    /// The bytes after the header are not a whole number of entries.
     Ragged = 3,
-    /// The command is neither that of a Request nor that of a Response.
-    #[error("the command is neither 1 nor 2")]
+    /// The command is neither 1, of a Request, nor 2, of a Response.
     BadCommand = 4,
     /// The version is not 1.
-    #[error("the version is not 1")]
     BadVersion = 5,
     /// One of the two bytes that must be zero is not.
-    #[error("a byte that must be zero is not")]
     NotZero = 6,
 }
 
 impl WireError {
-    ghost use Rattle.ripng_wire.specs.Wire.{wire_error_name, wire_error_number};
-
     /// The number of the refusal, 1 to 6.
     pub fn number(self) -> u8
         ensures { result ≡ wire_error_number self }
@@ -52,3 +46,14 @@ impl WireError {
         }
     }
 }
+
+/// `NUMBER NAME`, as it is printed.
+impl Display for WireError {
+    ghost output = { λ e. Some (wire_error_text e) };
+
+    fn fmt<W: fmt::Write>(&self, f: &mut fmt::Formatter<W>) -> fmt::Result {
+        write!(f, "{} {}", self.number(), self.name())
+    }
+}
+
+impl Error for WireError {}

@@ -1,4 +1,4 @@
-//! Laws of the layout: a spelling is read in one way, and bytes are a spelling exactly where there is no reason to refuse them.
+//! Lemmas on the layout: bytes have one reading, and they spell a datagram exactly where there is no reason to refuse them.
 
 ghost use Rattle.std.specs.Prelude.{◌≡◌, ◌<◌, ◌^◌, ℕ, List, All, None};
 ghost use Rattle.ripng_wire.specs.declared.rte.Command.{Command};
@@ -6,8 +6,8 @@ ghost use Rattle.ripng_wire.specs.declared.rte.Rte.{Rte};
 ghost use Rattle.ripng_wire.specs.Layout.{Spells};
 ghost use Rattle.ripng_wire.specs.Wire.{wire_fault};
 
-/// No bytes spell two datagrams, so what [`decode`](crate::decode) answers for what
-/// [`encode`](crate::encode) was given is that very command with those entries.
+/// No bytes spell two datagrams. So [`decode`](crate::decode) gives back the command and the entries that
+/// [`encode`](crate::encode) was given.
 pub fn one_datagram()
     ensures { (c d : Command) (es fs : List Rte) (bytes : List ℕ)
         → Spells c es bytes → Spells d fs bytes → (c ≡ d) × (es ≡ fs) }

@@ -1,4 +1,7 @@
 //! RIPng datagrams as bytes: read and written (RFC 2080, section 2.1).
+//!
+//! [`decode`] reads a datagram in place and takes no memory. [`encode`] writes one. `Spells` in specs/Layout.antt says
+//! which bytes are which datagram, and both functions are judged by it. Entries are not judged here: `router_core` does that.
 #![tactic(auto)]
 
 mod error;

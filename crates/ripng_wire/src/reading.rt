@@ -101,37 +101,46 @@ fn rte_of(bytes: &[u8]) -> Rte
     }
 }
 
-/// The command of bytes laid out as a datagram, or the first reason to refuse them.
+/// The command of bytes that are laid out as a datagram, or the first reason to refuse them (RFC 2080, section 2.1).
 fn check_layout(bytes: &[u8]) -> Result<Command, WireError>
     ensures fault { result_err result ≡ wire_fault bytes.now }
     ensures command { IfOk result (λ c. slice_index bytes.now 0 ≡ command_byte c) }
 {
+    // A datagram begins with a header of 4 bytes: command, version and two zero bytes.
     if bytes.len() < HEADER_LEN {
         return Err(WireError::Short);
     }
+    // UDP can carry no more. The MTU of a link limits what is sent, and not what may come in.
     if bytes.len() > MAX_LEN {
         return Err(WireError::TooLong);
     }
+    // The rest of a datagram is a list of entries of 20 bytes each.
     if (bytes.len() - HEADER_LEN) % ENTRY_LEN != 0 {
         return Err(WireError::Ragged);
     }
+    // Command 1 is a Request and 2 a Response; no others are defined.
     let command = match bytes[0] {
         1 => Command::Request,
         2 => Command::Response,
         _ => return Err(WireError::BadCommand),
     };
+    // Version 1 is the only one.
     if bytes[1] != VERSION {
         return Err(WireError::BadVersion);
     }
+    // These two bytes must be zero.
     if bytes[2] != 0 || bytes[3] != 0 {
         return Err(WireError::NotZero);
     }
     Ok(command)
 }
 
-/// Reads a datagram. Bytes that are none are refused whole, with the first reason to refuse them. No memory is taken.
+/// Reads a datagram. Malformed bytes are refused as a whole. No memory is taken.
+///
+/// # Errors
+/// The first reason to refuse the bytes.
 pub fn decode(bytes: &[u8]) -> Result<Datagram<'_>, WireError>
-    // What is read is spelled so, and what is spelled so is read.
+    // What is read is what the bytes spell, and whatever they spell is read.
     ensures read { IfOk result (λ d. Spells d.command d.entries bytes.now) }
     ensures all { (command : Command) (entries : List Rte) → Spells command entries bytes.now
         → IsOkAnd result (λ d. (d.command ≡ command) × (d.entries ≡ entries)) }

@@ -1,4 +1,4 @@
-//! Datagrams written as bytes.
+//! Datagrams written as bytes (RFC 2080, section 2.1).
 
 ghost use Rattle.std.specs.Prelude.{◌≡◌, ◌≤◌, length, IfOk};
 ghost use Rattle.ripng_wire.specs.Layout.{Fits, Spells, command_byte, entry_bytes};
@@ -7,7 +7,10 @@ use crate::rte::{Command, ENTRY_LEN, HEADER_LEN, MAX_ENTRIES, Rte, VERSION};
 use byteorder::{ByteOrder, NetworkEndian};
 use std::alloc::{AllocError, Global};
 
-/// The bytes of a datagram with these entries, in their order. The only error is want of memory.
+/// The bytes of a datagram with these entries, in their order.
+///
+/// # Errors
+/// Only out of memory.
 pub fn encode(alloc: Global, command: Command, entries: &[Rte]) -> Result<Vec<u8>, AllocError>
     requires { length entries.now ≤ MAX_ENTRIES }
     ensures { IfOk result (λ bytes. Spells command entries.now bytes.items) }

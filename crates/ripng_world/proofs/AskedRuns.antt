@@ -1,7 +1,7 @@
 -- Rounds that were asked for, one event and one round after another.
-use Rattle.std.proofs.Common.{◌≡◌, ℕ, List, [], ◌∷◌, ◌++◌, length, refl, sym, subst, ◌∙◌, ap, ap₂, take, map, get_or, Some, option_map, slice_get, ◌+◌, ◌<◌, arith, ◌≤◌, Bool, true, false, inl, inr}
+use Rattle.std.proofs.Common.{◌≡◌, ℕ, List, [], ◌∷◌, ◌++◌, length, refl, sym, subst, ◌∙◌, ap, ap₂, take, get_or, Some, option_map, slice_get, ◌+◌, ◌<◌, arith, ◌≤◌, Bool, true, false, inl, inr}
 use Rattle.std.specs.List.{enumerate_from}
-use Rattle.std.proofs.lemmas.List.{length-append, take-map, map_more}
+use Rattle.std.proofs.lemmas.List.{take-map, map_more}
 use Rattle.std.proofs.lemmas.Bool.{cases_lt, false≢true}
 use Rattle.std.proofs.lemmas.List.FromFn.{length-enumerate_from, get_or-enumerate_from}
 use Rattle.std.proofs.lemmas.Option.{slice_get-get_or, slice_get-map}
@@ -9,7 +9,7 @@ use Rattle.router_core.specs.declared.answer.Answer.{Answer}
 use Rattle.ripng_world.specs.AskedRounds.{ticks_of}
 use Rattle.ripng_world.specs.Network.{Network}
 use Rattle.ripng_world.specs.Rounds.{AllTick, IsDueTick}
-use Rattle.ripng_world.specs.World.{World, Event, Happens, Deliver, Stranger, Tick, Restart, Shutdown, LinkDown, Reconfigure, sent_by}
+use Rattle.ripng_world.specs.World.{World, Event, Happens, Tick}
 
 pub tick_on : (net : Network) (es : List Event) (e : Event) (answer : Answer) (w mid w' : World) → AllTick net w es mid → IsDueTick mid e → Happens net mid e answer w'
     → AllTick net w (es ++ e ∷ []) w'
@@ -39,19 +39,6 @@ tick_at ticks n t here is =
     let f = λ (x : ℕ × (ℕ × ℕ)). Tick x.0 x.1.0 x.1.1 in
     let numbered = enumerate_from 0 ticks in
     slice_get-map f numbered n ∙ ap (option_map f) (slice_get-get_or numbered n (n, t) (numbered_within ticks n here) ∙ ap Some (numbered_at ticks n t here is))
-
--- ticks only add to what was sent
-pub ticks_grow : (net : Network) (es : List Event) (w w' : World) → AllTick net w es w' → length w.sent ≤ length w'.sent
-ticks_grow net [] w w' is = let same = ap (λ (v : World). length v.sent) is in omega (arith, same)
-ticks_grow net (Tick router now word ∷ es) w w' is =
-    let rest = ticks_grow net es is.0 w' is.4 in
-    omega (arith, rest, ap length is.3.sent, length-append w.sent (map (sent_by router) is.1.sends))
-ticks_grow net (Deliver datagram router iface now ∷ es) w w' is = absurd is.2
-ticks_grow net (Stranger router x ∷ es) w w' is = absurd is.2
-ticks_grow net (Restart router now ∷ es) w w' is = absurd is.2
-ticks_grow net (Shutdown router now ∷ es) w w' is = absurd is.2
-ticks_grow net (LinkDown router now on ∷ es) w w' is = absurd is.2
-ticks_grow net (Reconfigure router now change ∷ es) w w' is = absurd is.2
 
 pub undue : (b : Bool) (due now : ℕ) → b ≡ false → (due ≤ now → b ≡ true) → now < due
 undue b due now not_due must =

@@ -1,24 +1,23 @@
 -- Deliveries one after another: how they go on, and how they stop.
-use Rattle.std.proofs.Common.{◌≡◌, ℕ, inl, inr, ◌+◌, ◌-◌, ◌%◌, ◌<◌, ◌≤◌, Bool, true, false, cond, not, List, [], ◌∷◌, ◌++◌, map, take, drop, filter, filter_map, flat_map, length, get_or, Option, Some, slice_get, option_map, refl, ap, sym, subst, ◌∙◌, arith, append_assoc}
+use Rattle.std.proofs.Common.{◌≡◌, ℕ, inl, inr, ◌+◌, ◌-◌, ◌%◌, ◌<◌, ◌≤◌, Bool, true, false, cond, not, List, [], ◌∷◌, ◌++◌, map, take, drop, filter, filter_map, length, get_or, Option, Some, slice_get, option_map, refl, ap, sym, subst, ◌∙◌, arith, append_assoc}
 use Rattle.std.specs.List.{enumerate_from}
-use Rattle.std.proofs.lemmas.Grind.{flat_map-append}
-use Rattle.std.proofs.lemmas.List.{get_or_append_left, length-append, map-append, take_more, take-append-drop, append-nil}
+use Rattle.std.proofs.lemmas.List.{length-append, map-append, take-append-drop, append-nil}
 use Rattle.std.proofs.Math.Seq.{take-append_seam}
 use Rattle.std.proofs.lemmas.List.Elements.{filter-append, filter_map-append}
 use Rattle.router_core.specs.declared.answer.Answer.{Answer}
-use Rattle.ripng_world.specs.AskedRounds.{delivery, deliveries_of, is_other, is_picked, other_deliveries, pair_at, picked_deliveries, interfaces_of}
-use Rattle.ripng_world.specs.Delivering.{StopAt, StopForMemory, StopForWatcher, deliveries_since}
+use Rattle.ripng_world.specs.AskedRounds.{delivery, deliveries_of, is_picked, other_deliveries, picked_deliveries}
+use Rattle.ripng_world.specs.Delivering.{StopAt, StopForMemory, StopForWatcher}
 use Rattle.ripng_world.specs.Network.{Network}
 use Rattle.ripng_world.specs.Rounds.{AllHeard}
 use Rattle.ripng_world.specs.World.{World, Event, Deliver, Stranger, Tick, Restart, Shutdown, LinkDown, Reconfigure, Happens, WorldRun, sent_by}
 use Rattle.ripng_world.specs.declared.pairs.Pair.{Pair}
 use Rattle.ripng_world.specs.declared.sent.Sent.{Sent}
-use Rattle.ripng_world.proofs.Among.{numbered_more, enumerate_append}
+use Rattle.ripng_world.proofs.Among.{enumerate_append}
 use Rattle.ripng_world.proofs.Picking.{others_more, others_same, picked_more}
 use Rattle.ripng_world.specs.declared.watch.Stopped.{Stopped}
 use Rattle.ripng_world.specs.declared.watch.Stopped.TheVariants.{Refused, Failed}
 use Rattle.ripng_world.specs.Watching.{Told, HeardInPart, WatchedRun, WatchedInPart, IfRefused, any, failures, heard, refused_as, wanting}
-use Rattle.ripng_world.proofs.Watched.{failed_at, until_all, watched_any, watched_on, watched_run, whole_one}
+use Rattle.ripng_world.proofs.Watched.{failed_at, until_all, watched_any, watched_on, whole_one}
 
 pub delivered_heard : {V : Type 0} (t : V → Told → V → Type 0) (net : Network) (es : List Event) (w w' : World × V) → WatchedRun t heard net w es w' → AllHeard net w.0 es w'.0
 delivered_heard t net [] w w' is = ap (λ v. v.0) is
@@ -124,14 +123,18 @@ module _ {V : Type 0} (t : V → Told → V → Type 0) (net : Network) (part le
       subst (λ (xs : List Event). AllHeard net w.0 xs mid.0) (sym (ap (take (length part)) are ∙ take-append_seam part (last ++ left)))
       (delivered_heard t net part w mid first)
 
+  part_within : (last : List Event) → es ≡ part ++ (last ++ left) → length part ≤ length es
+  part_within last are = omega (arith, ap length are, length-append part (last ++ left))
+
   comes_next : (e : Event) → es ≡ part ++ (e ∷ [] ++ left) → slice_get es (length part) ≡ Some e
   comes_next e are = ap (λ (xs : List Event). slice_get xs (length part)) are ∙ at_seam part e left
 
   for_memory : (last : List Event) (w' : World × V) → es ≡ part ++ (last ++ left) → length last ≤ 1 → WatchedRun t wanting net mid last w' → StopForMemory net w.0 es w'.0
-  for_memory [] w' are few run = record { done = length part; before = mid.0; heard = heard_first [] are; last = inl (ap (λ (v : World × V). v.0) run) }
+  for_memory [] w' are few run = record { done = length part; within = part_within [] are; before = mid.0; heard = heard_first [] are; last = inl (ap (λ (v : World × V). v.0) run) }
   for_memory (e ∷ []) w' are few run =
       record {
         done = length part;
+        within = part_within (e ∷ []) are;
         before = mid.0;
         heard = heard_first (e ∷ []) are;
         last = inr (
@@ -176,91 +179,10 @@ sent_grow net (e ∷ es) w w' is =
     let later = sent_grow net es is.0 w' is.3 in
     (here.0 ++ later.0, later.1 ∙ ap (λ (ds : List Sent). ds ++ later.0) here.1 ∙ append_assoc w.sent here.0 later.0)
 
-module _ {V : Type 0} (t : V → Told → V → Type 0) (net : Network) (es : List Event) (w w' : World × V) (sent : List Sent) (n : ℕ) (done : WatchedRun t heard net w es w') (sent_is : sent ≡ w'.0.sent) (here : n < length w.0.sent) where
-  grown : (more : List Sent) × (sent ≡ w.0.sent ++ more)
-  grown = let g = sent_grow net es w.0 w'.0 (watched_run t heard net es w w' done) in (g.0, sent_is ∙ g.1)
-
-  pub still_within : n < length sent
-  still_within = omega (arith, here, ap length grown.1, length-append w.0.sent grown.0)
-
-  pub still_at : (d : Sent) → d ≡ get_or sent n d → d ≡ get_or w.0.sent n d
-  still_at d is = is ∙ ap (λ (ds : List Sent). get_or ds n d) grown.1 ∙ get_or_append_left w.0.sent grown.0 d n here
-
--- ---- a datagram that comes to a list of places
-
-abbrev pub to_places : ℕ → ℕ → List (ℕ × ℕ) → List Event
-to_places datagram now places = map (λ p. delivery p now) (map (pair_at datagram) places)
-
-to_both : (datagram now : ℕ) (xs ys : List (ℕ × ℕ)) → to_places datagram now (xs ++ ys) ≡ to_places datagram now xs ++ to_places datagram now ys
-to_both datagram now xs ys = ap (map (λ p. delivery p now)) (map-append (pair_at datagram) xs ys) ∙ map-append (λ p. delivery p now) (map (pair_at datagram) xs) (map (pair_at datagram) ys)
-
-module _ {V : Type 0} (t : V → Told → V → Type 0) (net net' : Network) (w mid w' : World × V) (same : net' ≡ net) where
-  module _ (datagram now : ℕ) (places : List (ℕ × ℕ)) (i : ℕ) (x : ℕ × ℕ) (here : i < length places) (is : x ≡ get_or places i x)
-      (first : WatchedRun t heard net w (to_places datagram now (take i places)) mid) where
-    next_place : to_places datagram now (take (i + 1) places) ≡ to_places datagram now (take i places) ++ delivery (pair_at datagram x) now ∷ []
-    next_place =
-        ap (to_places datagram now) (take_more places i x here ∙ ap (λ (y : ℕ × ℕ). take i places ++ y ∷ []) (sym is))
-        ∙ to_both datagram now (take i places) (x ∷ [])
-
-    pub to_next : WatchedRun t heard net' mid (delivery (pair_at datagram x) now ∷ []) w' → WatchedRun t heard net w (to_places datagram now (take (i + 1) places)) w'
-    to_next then =
-        delivered_next t net net' (to_places datagram now (take i places)) (delivery (pair_at datagram x) now ∷ []) (to_places datagram now (take (i + 1) places)) w mid w' same first then next_place
-
-    pub to_stop : {R F : Type 0} (f : V → Told → V → Type 0) (why : Stopped R F) → HeardInPart t f why net' mid (delivery (pair_at datagram x) now ∷ []) w' → HeardInPart t f why net w (to_places datagram now places) w'
-    to_stop f why stops =
-        part_next t f why net net' (to_places datagram now (take i places)) (delivery (pair_at datagram x) now ∷ []) (to_places datagram now (take (i + 1) places)) (to_places datagram now (drop (i + 1) places))
-        (to_places datagram now places) w mid w' same first stops next_place
-        (ap (to_places datagram now) (sym (take-append-drop (i + 1) places)) ∙ to_both datagram now (take (i + 1) places) (drop (i + 1) places))
-
--- ---- datagrams, each to all others of its link
-
-abbrev pub to_others : Network → ℕ → List (ℕ × Sent) → List Event
-to_others net now ds = map (λ p. delivery p now) (flat_map (λ d. map (pair_at d.0) (filter (is_other net d.1) (interfaces_of net))) ds)
-
-others_both : (net : Network) (now : ℕ) (ds es : List (ℕ × Sent)) → to_others net now (ds ++ es) ≡ to_others net now ds ++ to_others net now es
-others_both net now ds es =
-    let f : ℕ × Sent → List Pair = λ d. map (pair_at d.0) (filter (is_other net d.1) (interfaces_of net)) in
-    ap (map (λ p. delivery p now)) (flat_map-append f ds es) ∙ map-append (λ p. delivery p now) (flat_map f ds) (flat_map f es)
+-- ---- picks
 
 enumerate_left : {X : Type 0} (first n : ℕ) (xs : List X) → enumerate_from first xs ≡ enumerate_from first (take n xs) ++ enumerate_from (first + length (take n xs)) (drop n xs)
 enumerate_left first n xs = ap (enumerate_from first) (sym (take-append-drop n xs)) ∙ enumerate_append first (take n xs) (drop n xs)
-
-module _ {V : Type 0} (t : V → Told → V → Type 0) (net net' : Network) (w mid w' : World × V) (same : net' ≡ net) where
-  module _ (now first n : ℕ) (d : Sent) (others : List (ℕ × ℕ)) (low : first ≤ n) (high : n < length w.0.sent) (is : d ≡ get_or w.0.sent n d) (others_are : others ≡ filter (is_other net d) (interfaces_of net))
-      (before : WatchedRun t heard net w (to_others net now (enumerate_from first (take (n - first) (drop first w.0.sent)))) mid) where
-    part : ℕ → List (ℕ × Sent)
-    part m = enumerate_from first (take (m - first) (drop first w.0.sent))
-
-    next_datagram : to_others net now (part (n + 1)) ≡ to_others net now (part n) ++ to_places n now others
-    unfolding part
-    next_datagram =
-        ap (to_others net now) (numbered_more w.0.sent first n d low high is)
-        ∙ others_both net now (part n) ((n, d) ∷ [])
-        ∙ ap (λ (ps : List Pair). to_others net now (part n) ++ map (λ p. delivery p now) ps)
-        (append-nil (map (pair_at n) (filter (is_other net d) (interfaces_of net))) ∙ ap (map (pair_at n)) (sym others_are))
-
-    pub each_next : WatchedRun t heard net' mid (to_places n now others) w' → WatchedRun t heard net w (to_others net now (enumerate_from first (take (n + 1 - first) (drop first w.0.sent)))) w'
-    unfolding part
-    each_next then = delivered_next t net net' (to_others net now (part n)) (to_places n now others) (to_others net now (part (n + 1))) w mid w' same before then next_datagram
-
-    pub each_stop : {R F : Type 0} (f : V → Told → V → Type 0) (why : Stopped R F) → HeardInPart t f why net' mid (to_places n now others) w' → HeardInPart t f why net w (deliveries_since net first w.0.sent now) w'
-    unfolding part
-    each_stop f why stops =
-        let left = enumerate_from (first + length (take (n + 1 - first) (drop first w.0.sent))) (drop (n + 1 - first) (drop first w.0.sent)) in
-        part_next t f why net net' (to_others net now (part n)) (to_places n now others) (to_others net now (part (n + 1))) (to_others net now left) (deliveries_since net first w.0.sent now) w mid w' same before stops
-        next_datagram
-        (ap (to_others net now) (enumerate_left first (n + 1 - first) (drop first w.0.sent)) ∙ others_both net now (part (n + 1)) left)
-
--- some datagrams are done
-pub each_part : {V R F : Type 0} (t f : V → Told → V → Type 0) (why : R) (net : Network) (now first n : ℕ) (w w' : World × V) → WatchedRun t heard net w (to_others net now (enumerate_from first (take (n - first) (drop first w.0.sent)))) w'
-    → HeardInPart {V = V} {R = R} {F = F} t f (Refused why) net w (deliveries_since net first w.0.sent now) w'
-each_part {V} {R} {F} t f why net now first n w w' before =
-    let done = enumerate_from first (take (n - first) (drop first w.0.sent)) in
-    let left = enumerate_from (first + length (take (n - first) (drop first w.0.sent))) (drop (n - first) (drop first w.0.sent)) in
-    subst (λ (es : List Event). HeardInPart {V = V} {R = R} {F = F} t f (Refused why) net w es w') (sym (ap (to_others net now) (enumerate_left first (n - first) (drop first w.0.sent)) ∙ others_both net now done left))
-    (all_heard t f why net (to_others net now done) (to_others net now left) w w' before)
-
--- ---- picks
 
 module _ {V : Type 0} (t : V → Told → V → Type 0) (net net' : Network) (w mid w' : World × V) (same : net' ≡ net) (pairs : List Pair) where
   module _ (picks : List (ℕ × ℕ)) (i : ℕ) (x : ℕ × ℕ) (p : Pair) (here : i < length picks) (is : x ≡ get_or picks i x) (found : slice_get pairs (x.0 % length pairs) ≡ Some p)

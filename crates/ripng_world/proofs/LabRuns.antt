@@ -1,8 +1,9 @@
 -- What holds of a network that has run since a cold start, and how runs and cold starts go on.
 use Rattle.std.proofs.Common.{◌≡◌, ℕ, zero, suc, ◌+◌, ◌<◌, ◌≤◌, List, [], ◌∷◌, ◌++◌, map, take, drop, length, get_or, refl, ap, ap₂, sym, subst, ◌∙◌, arith, append_assoc}
-use Rattle.std.specs.Prelude.{Option, Some, None, Result, Ok, Err, IfOk, IfSome, OnErr}
+use Rattle.std.specs.Prelude.{Option, Some, None, Result, Ok, Err, IfErr, IfOk, IfSome}
 use Rattle.std.specs.Borrow.{Bor}
 use Rattle.std.specs.Option.{option_copied}
+use Rattle.std.specs.Result.{result_err}
 use Rattle.std.proofs.lemmas.List.{append-nil, map-append, length-map, length-append, take_more, take_all}
 use Rattle.router_core.specs.Machine.{State, Starts}
 use Rattle.router_core.specs.declared.answer.Answer.{Answer}
@@ -11,16 +12,19 @@ use Rattle.router_core.specs.declared.reconfiguring.Change.{Change}
 use Rattle.ripng_world.specs.World.{World, Event, Happens, WorldRun, IsCold, StartsFrom, reconfigurations_in, past_of, sent_by}
 use Rattle.ripng_world.specs.Rounds.{router_of}
 use Rattle.ripng_world.specs.Stations.{StationValue, MoveStations, network_of, world_of}
-use Rattle.ripng_world.specs.Labs.{LabValue, HasRun, HappensGiving, AreRoutesBacked, AreRoutesBackedSince, HaveNoneBelowLeast, HaveNoneBelowLeastSince, AreDatagramsSoundSince, HoldsFixed}
+use Rattle.ripng_world.specs.Labs.{LabValue, HasRun, HappensGiving, AreRoutesBacked, AreRoutesBackedSince, HaveNoneBelowLeast, HaveNoneBelowLeastSince, AreDatagramsSoundSince, HoldsFixed, Keeps}
 use Rattle.ripng_world.specs.Truth.{IsSoundDatagram}
 use Rattle.ripng_world.specs.TruthSince.{IsSoundDatagramSince}
+use Rattle.ripng_world.specs.Watching.{Told, WatchedInPart, failures}
 use Rattle.ripng_world.specs.declared.event.LabError.{LabError}
+use Rattle.ripng_world.specs.declared.watch.Stopped.{Stopped}
 use Rattle.ripng_world.specs.declared.sent.Sent.{Sent}
 use Rattle.ripng_world.proofs.Each.{each_weaker}
 use Rattle.ripng_world.proofs.Growing.{backed_first}
 use Rattle.ripng_world.proofs.WorldRuns.{IsGood, run_from_cold}
 use Rattle.ripng_world.proofs.Unchanged.{truth_first}
 use Rattle.ripng_world.proofs.RoundRuns.{run_on}
+use Rattle.ripng_world.proofs.Watched.{until_run}
 
 module _ (net : Network) (w : World) (has_run : HasRun net w) where
   good : IsGood net has_run.lawful.owns_prefixes w
@@ -66,6 +70,12 @@ module _ (net : Network) (w : World) (has_run : HasRun net w) where
         run = run_on net has_run.events events has_run.cold w w' has_run.run run;
       }
 
+pub keeps : (lab : LabValue) → HasRun lab.network lab.world → Keeps lab
+keeps lab has_run =
+    let net = lab.network in
+    let w = lab.world in
+    record { backed = backed net w has_run; least = least net w has_run; truth = truth net w has_run; fixed = fixed net w has_run }
+
 pub one_event : (net : Network) (w w' : World) (e : Event) (answer : Answer) → Happens net w e answer w' → WorldRun net w (e ∷ []) w'
 one_event net w w' e answer happens = (w', answer, happens, refl)
 
@@ -78,12 +88,22 @@ module _ (old new : List StationValue) (sent sent' : List Sent) (reconfiguration
       (subst (λ (cs : List (ℕ × Change)). Happens (network_of old) (world_of old sent reconfigurations) e answer (world_of new (sent ++ map (sent_by (router_of e)) answer.sends) cs)) (sym done) moves.happens)
 
 -- a lab has run on, once its routers have done an event or refused it
-pub step_on : (lab lab' : LabValue) (e : Event) (r : Result Answer LabError) → IfOk r (λ answer. HappensGiving lab e answer lab'.world) → lab'.network ≡ lab.network → OnErr r (lab' ≡ lab)
+pub step_on : (lab lab' : LabValue) (e : Event) (r : Result Answer LabError) → IfOk r (λ answer. HappensGiving lab e answer lab'.world) → lab'.network ≡ lab.network → IfSome (result_err r) (λ _. lab' ≡ lab)
     → HasRun lab.network lab.world → HasRun lab'.network lab'.world
 step_on lab lab' e (Ok answer) happens same still has_run =
     subst (λ (net : Network). HasRun net lab'.world) (sym same)
     (went_on lab.network lab.world has_run (e ∷ []) lab'.world (one_event lab.network lab.world lab'.world e happens.0 happens.1))
 step_on lab lab' e (Err why) happens same still has_run = subst (λ (l : LabValue). HasRun l.network l.world) (sym still) has_run
+
+-- so it has once an observer is told of the event, or fails
+pub step_watched_on : {V F : Type 0} (t f : V → Told → V → Type 0) (lab lab' : LabValue) (e : Event) (v v' : V) (r : Result Answer (Stopped LabError F)) → IfOk r (λ answer. HappensGiving lab e answer lab'.world)
+    → IfErr r (λ why. WatchedInPart t f (failures why) lab.network (lab.world, v) (e ∷ []) (lab'.world, v')) → lab'.network ≡ lab.network → HasRun lab.network lab.world → HasRun lab'.network lab'.world
+step_watched_on t f lab lab' e v v' (Ok answer) happens stopped same has_run =
+    subst (λ (net : Network). HasRun net lab'.world) (sym same)
+    (went_on lab.network lab.world has_run (e ∷ []) lab'.world (one_event lab.network lab.world lab'.world e happens.0 happens.1))
+step_watched_on t f lab lab' e v v' (Err why) happens stopped same has_run =
+    subst (λ (net : Network). HasRun net lab'.world) (sym same)
+    (went_on lab.network lab.world has_run stopped.part lab'.world (until_run t f (failures why) lab.network stopped.part (lab.world, v) (lab'.world, v') stopped.run))
 
 -- what is said of what was found, if it was
 pub if_found : {X : Type 0} (o : Option (Bor X)) (q : Option X) (P : X → Type 0) → option_copied o ≡ q → ((x : X) → q ≡ Some x → P x) → IfSome o (λ r. P r.now)

@@ -1,24 +1,24 @@
 -- What it means that nothing refuses a lie, how its router moves, and what is then promised of those that run.
-use Rattle.std.proofs.Common.{◌≡◌, ℕ, ◌<◌, ◌++◌, not, Bool, true, false, cond, List, [], ◌∷◌, map, length, Option, Some, None, option_map, slice_get, slice_set, refl, ap, sym, subst, ◌∙◌}
+use Rattle.std.proofs.Common.{◌≡◌, ℕ, ◌<◌, ◌++◌, not, Bool, true, false, cond, List, [], ◌∷◌, map, length, Option, Some, None, option_map, slice_get, refl, ap, sym, subst, ◌∙◌}
 use Rattle.std.specs.Option.{option_map_or}
 use Rattle.std.proofs.lemmas.List.{append-nil}
 use Rattle.std.proofs.lemmas.Option.{slice_get-map}
 use Rattle.ripng_wire.specs.Wire.{first_reason}
 use Rattle.ripng_wire.proofs.FirstReason.{each_passes}
 use Rattle.router_core.proofs.ReasonsOfEach.{first_reason-append}
-use Rattle.router_core.specs.Machine.{State, Arrives, Moves}
+use Rattle.router_core.specs.Machine.{State, Arrives}
 use Rattle.router_core.specs.Received.{Received}
 use Rattle.router_core.specs.declared.answer.Answer.{Answer}
 use Rattle.router_core.specs.declared.reconfiguring.Change.{Change}
 use Rattle.ripng_world.specs.Labs.{is_heard_at, lab_of, missing_interface_reasons}
-use Rattle.ripng_world.specs.Lying.{LieStations, Lies, lie_fault, lie_reasons}
+use Rattle.ripng_world.specs.Lying.{Lies, lie_fault, lie_reasons}
 use Rattle.ripng_world.specs.Network.{interface_at}
-use Rattle.ripng_world.specs.Stations.{StationValue, network_of, world_of}
+use Rattle.ripng_world.specs.Stations.{StationValue, IsMoveAt, network_of, world_of}
 use Rattle.ripng_world.specs.World.{is_heard, sent_by}
 use Rattle.ripng_world.specs.declared.event.LabError.TheVariants.{NotALiar}
 use Rattle.ripng_world.specs.declared.network.NetInterface.{NetInterface}
 use Rattle.ripng_world.specs.declared.sent.Sent.{Sent}
-use Rattle.ripng_world.proofs.StationMoves.{interface_within, map-slice_set, network_kept, some_of, within}
+use Rattle.ripng_world.proofs.StationMoves.{interface_within, moved_at, some_of, within}
 
 -- the test of a lie, where there is such an interface
 pub lie_tested : (stations : List StationValue) (sent : List Sent) (reconfigurations : List (ℕ × Change)) (router : ℕ) (x : Received) (s : StationValue) (b : Bool)
@@ -58,34 +58,15 @@ liar_within stations sent router x none =
     within stations router x.iface lawful.interface lawful.interface_is
 
 -- its router moves at its place
-pub deceived : (stations : List StationValue) (sent : List Sent) (router : ℕ) (x : Received) (old new : StationValue) (answer : Answer)
-    → lie_fault (lab_of stations sent []) router x ≡ None
-    → slice_get stations router ≡ Some old → new.node ≡ old.node → length old.state.config.interfaces ≡ length old.node.interfaces
-    → Moves old.state (Arrives x) answer new.state
-    → (reconfigurations : List (ℕ × Change)) → LieStations stations sent reconfigurations router x answer (slice_set stations router new)
-deceived stations sent router x old new answer none old_is same many moves reconfigurations =
-    let lawful = liar stations sent router x none in
-    let here = interface_within stations router x.iface lawful.interface old lawful.interface_is old_is in
-    record {
-      lies = record {
-        moves = record {
-          old = old.state;
-          new = new.state;
-          old_is = slice_get-map (λ (s : StationValue). s.state) stations router ∙ ap (option_map (λ (s : StationValue). s.state)) old_is;
-          moves = moves;
-          states = map-slice_set (λ (s : StationValue). s.state) stations router new;
-          sent = refl;
-          reconfigurations = sym (append-nil reconfigurations);
-        };
-        known = subst (λ (n : ℕ). x.iface < n) (sym many) here;
-        heard = lawful.heard old old_is;
-      };
-      network = network_kept stations router old new old_is same;
-    }
-
--- once what was sent is added
 pub lied : (old new : List StationValue) (sent sent' : List Sent) (reconfigurations : List (ℕ × Change)) (router : ℕ) (x : Received) (answer : Answer)
-    → LieStations old sent reconfigurations router x answer new → sent' ≡ sent ++ map (sent_by router) answer.sends
+    → lie_fault (lab_of old sent []) router x ≡ None → IsMoveAt old router (Arrives x) answer new → sent' ≡ sent ++ map (sent_by router) answer.sends
     → Lies (world_of old sent reconfigurations) router x answer (world_of new sent' reconfigurations)
-lied old new sent sent' reconfigurations router x answer moves added =
-    subst (λ (ds : List Sent). Lies (world_of old sent reconfigurations) router x answer (world_of new ds reconfigurations)) (sym added) moves.lies
+unfolding moved_at
+lied old new sent sent' reconfigurations router x answer none m added =
+    let lawful = liar old sent router x none in
+    let here = interface_within old router x.iface lawful.interface m.old lawful.interface_is m.old_is in
+    record {
+      moves = moved_at old new router (Arrives x) answer m sent sent' reconfigurations reconfigurations added (sym (append-nil reconfigurations));
+      known = subst (λ (n : ℕ). x.iface < n) (sym m.lawful) here;
+      heard = lawful.heard m.old m.old_is;
+    }

@@ -1,7 +1,7 @@
 -- How the move of a router at its place moves the world, and what it means that nothing refuses an event.
 use Rattle.std.proofs.Common.{◌≡◌, inl, inr, ℕ, zero, suc, ◌<◌, ◌≤◌, ◌+◌, max, ◌++◌, not, Bool, true, false, cond, ◌==◌, ◌&&◌, nat_le, unwrap_or, List, [], ◌∷◌, map, length, Option, Some, None, is_none, option_map, option_and_then, slice_get, slice_set, refl, ap, sym, subst, ◌∙◌, arith}
 use Rattle.std.specs.Prelude.{Result, Ok, Err, IfErr}
-use Rattle.std.specs.Result.{IsErrAnd}
+use Rattle.std.specs.Result.{IsErrAnd, result_err}
 use Rattle.std.specs.Option.{option_map_or}
 use Rattle.std.proofs.lemmas.List.{length-map}
 use Rattle.std.proofs.lemmas.Bool.{eqb-true}
@@ -26,8 +26,8 @@ use Rattle.router_core.specs.declared.reconfiguring.Change.TheVariants.{Cost, Ow
 use Rattle.router_core.specs.declared.reconfiguring.ReconfigureRefused.{ReconfigureRefused}
 use Rattle.router_core.specs.declared.reconfiguring.ReconfigureRefused.TheVariants as refused
 use Rattle.ripng_world.specs.World.{World, Event, RouterMoves, Happens, Deliver, Stranger, Tick, Restart, Shutdown, LinkDown, Reconfigure, reconfigurations_of, is_heard, arrival_of, sent_by}
-use Rattle.ripng_world.specs.Stations.{StationValue, MoveStations, network_of, world_of}
-use Rattle.ripng_world.specs.Labs.{LabValue, IsRefusal, asked_reasons, lab_of, event_fault, event_reasons, missing_router_reasons, missing_interface_reasons, named_reasons, refusal_of, step_fault, is_one_link, link_at, link_of_datagram}
+use Rattle.ripng_world.specs.Stations.{StationValue, IsMoveAt, MoveStations, network_of, world_of}
+use Rattle.ripng_world.specs.Labs.{LabValue, IsRefusal, StepEnds, asked_reasons, lab_of, event_fault, event_reasons, missing_router_reasons, missing_interface_reasons, named_reasons, refusal_of, step_fault, is_one_link, link_at, link_of_datagram}
 use Rattle.ripng_world.specs.declared.event.LabError.{LabError}
 use Rattle.ripng_world.specs.declared.network.NetInterface.{NetInterface}
 use Rattle.ripng_world.specs.declared.sent.Sent.{Sent}
@@ -63,6 +63,24 @@ module _ (stations : List StationValue) (router : ℕ) (old new : StationValue) 
         states = map-slice_set (λ s. s.state) stations router new;
         sent = refl;
         reconfigurations = refl;
+      }
+
+-- the same, said of what the stations became
+module _ (stations stations' : List StationValue) (router : ℕ) (happening : Happening) (answer : Answer) (m : IsMoveAt stations router happening answer stations') where
+  pub kept_at : network_of stations' ≡ network_of stations
+  kept_at = ap network_of m.stations_are ∙ network_kept stations router m.old m.new m.old_is m.node
+
+  unfoldable pub moved_at : (sent sent' : List Sent) (reconfigurations reconfigurations' : List (ℕ × Change)) → sent' ≡ sent ++ map (sent_by router) answer.sends → reconfigurations' ≡ reconfigurations ++ reconfigurations_of router happening
+      → RouterMoves (world_of stations sent reconfigurations) router happening answer (world_of stations' sent' reconfigurations')
+  moved_at sent sent' reconfigurations reconfigurations' added done =
+      record {
+        old = m.old.state;
+        new = m.new.state;
+        old_is = slice_get-map (λ (s : StationValue). s.state) stations router ∙ ap (option_map (λ (s : StationValue). s.state)) m.old_is;
+        moves = m.moves;
+        states = ap (map (λ (s : StationValue). s.state)) m.stations_are ∙ map-slice_set (λ (s : StationValue). s.state) stations router m.new;
+        sent = added;
+        reconfigurations = done;
       }
 
 -- ---- nothing refuses an event
@@ -181,22 +199,20 @@ stranger_within stations sent router x none =
     let lawful = stranger stations sent router x none in
     within stations router x.iface lawful.interface lawful.interface_is
 
-pub intruded : (stations : List StationValue) (sent : List Sent) (router : ℕ) (x : Received) (old new : StationValue) (answer : Answer)
-    → event_fault (lab_of stations sent []) (Stranger router x) ≡ None
-    → slice_get stations router ≡ Some old → new.node ≡ old.node → length old.state.config.interfaces ≡ length old.node.interfaces
-    → Moves old.state (Arrives x) answer new.state
-    → (reconfigurations : List (ℕ × Change)) → MoveStations stations sent reconfigurations (Stranger router x) answer (slice_set stations router new)
-unfolding router_moves
-intruded stations sent router x old new answer none old_is same many moves reconfigurations =
+pub intruded : (stations stations' : List StationValue) (sent : List Sent) (router : ℕ) (x : Received) (answer : Answer)
+    → event_fault (lab_of stations sent []) (Stranger router x) ≡ None → IsMoveAt stations router (Arrives x) answer stations'
+    → (reconfigurations : List (ℕ × Change)) → MoveStations stations sent reconfigurations (Stranger router x) answer stations'
+unfolding moved_at
+intruded stations stations' sent router x answer none m reconfigurations =
     let lawful = stranger stations sent router x none in
-    let here = interface_within stations router x.iface lawful.interface old lawful.interface_is old_is in
+    let here = interface_within stations router x.iface lawful.interface m.old lawful.interface_is m.old_is in
     record {
       happens = record {
-        moves = router_moves stations router old new old_is same sent reconfigurations (Arrives x) answer moves;
-        known = subst (λ (n : ℕ). x.iface < n) (sym many) here;
-        unheard = lawful.unheard old old_is;
+        moves = moved_at stations stations' router (Arrives x) answer m sent _ reconfigurations _ refl refl;
+        known = subst (λ (n : ℕ). x.iface < n) (sym m.lawful) here;
+        unheard = lawful.unheard m.old m.old_is;
       };
-      network = network_kept stations router old new old_is same;
+      network = kept_at stations stations' router (Arrives x) answer m;
     }
 
 -- room for an answer, where the table and the bytes are those that it was made for
@@ -317,6 +333,11 @@ reconfigured stations router now c old new answer old_is same moves sent reconfi
       happens = router_moves stations router old new old_is same sent reconfigurations (Reconfigures now c) answer moves;
       network = network_kept stations router old new old_is same;
     }
+
+-- a step that is refused leaves all as it was
+pub step_refused : (lab lab' : LabValue) (e : Event) (r : Result Answer LabError) (why : LabError) → IsErrAnd r (λ x. x ≡ why) → IsRefusal lab e why → lab' ≡ lab → StepEnds lab e (result_err r) lab'
+step_refused lab lab' e (Ok answer) why is refused same = absurd is
+step_refused lab lab' e (Err x) why is refused same = record { reconfigurations = tt; passes = tt; refused = subst (IsRefusal lab e) (sym is) refused; unchanged = same }
 
 -- what an error is, more weakly said
 pub err_is : {X E : Type 0} (r : Result X E) (P Q : E → Type 0) → ((e : E) → P e → Q e) → IsErrAnd r P → IfErr r Q

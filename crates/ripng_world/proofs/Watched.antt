@@ -1,11 +1,11 @@
 -- Watched runs: how they go on, and what they are without their watcher.
-use Rattle.std.proofs.Common.{◌≡◌, ℕ, Some, slice_get, List, [], ◌∷◌, ◌++◌, take, get_or, length, ◌+◌, ◌<◌, map, arith, Result, Ok, Err, IsErrAnd, IfErr, OnErr, refl, ap, ap₂, sym, subst, ◌∙◌, append_assoc}
+use Rattle.std.proofs.Common.{◌≡◌, ℕ, Some, slice_get, List, [], ◌∷◌, ◌++◌, take, get_or, length, ◌+◌, ◌<◌, map, arith, Result, Ok, Err, IsErrAnd, IfErr, IfSome, OnErr, refl, ap, ap₂, sym, subst, ◌∙◌, append_assoc}
 use Rattle.std.proofs.lemmas.List.{append-nil, length-append, map_more, nil_from_length, take-map}
 use Rattle.router_core.specs.declared.answer.Answer.{Answer}
 use Rattle.ripng_world.specs.Labs.{LabValue, HappensGiving, IsRefusal, IsRefusedNext}
 use Rattle.ripng_world.specs.Network.{Network}
 use Rattle.ripng_world.specs.Rounds.{AllTick}
-use Rattle.ripng_world.specs.Watching.{Told, WatchedRun, WatchedUntil, WatchedInPart, IfRefused, any, due, failures, refused_as, telling}
+use Rattle.ripng_world.specs.Watching.{Told, WatchedRun, WatchedUntil, WatchedInPart, IfRefused, any, due, failures, refusal, refused_as, telling}
 use Rattle.ripng_world.specs.Events.{event_of}
 use Rattle.ripng_world.specs.World.{World, Event, Happens, WorldRun}
 use Rattle.ripng_world.specs.declared.event.Event as coded
@@ -152,7 +152,7 @@ err_on (Err e) P Q step h = step e h
 
 -- ---- how a call stops
 
-pub both_still : {V R F : Type 0} (why : Stopped R F) (lab lab' : LabValue) (v v' : V) → IfRefused why (λ _. lab' ≡ lab) → IfRefused why (λ _. v' ≡ v)
+pub both_still : {V R F : Type 0} (why : Stopped R F) (lab lab' : LabValue) (v v' : V) → IfSome (refusal why) (λ _. lab' ≡ lab) → IfRefused why (λ _. v' ≡ v)
     → IfRefused why (λ _. ◌≡◌ {A = World × V} (lab'.world, v') (lab.world, v))
 both_still {V} (Refused why) lab lab' v v' same told =
     let pair : LabValue → V → World × V = λ l x. (l.world, x) in
@@ -169,8 +169,8 @@ module _ {V R F : Type 0} (t f : V → Told → V → Type 0) (net net' : Networ
       (until_all t f net (take n (map event_of events)) s s' (subst (λ (v : World × V). WatchedRun t any net s (take n (map event_of events)) v) (sym still) first))
   run_stopped (Failed fault) stop still = run_failed t f net net' s mid s' events n d here is first same (whole_one t f net' (event_of d) mid s' stop)
 
-pub next_refused : {F : Type 0} (why : Stopped LabError F) (lab lab' : LabValue) (events : List Event) (n : ℕ) (e : Event) → slice_get events n ≡ Some e → IfRefused why (IsRefusal lab e)
-    → IfRefused why (λ _. lab' ≡ lab) → IfRefused why (IsRefusedNext lab' events (n + failures why))
+pub next_refused : {F : Type 0} (why : Stopped LabError F) (lab lab' : LabValue) (events : List Event) (n : ℕ) (e : Event) → slice_get events n ≡ Some e → IfSome (refusal why) (IsRefusal lab e)
+    → IfSome (refusal why) (λ _. lab' ≡ lab) → IfRefused why (IsRefusedNext lab' events (n + failures why))
 next_refused (Refused why) lab lab' events n e here refused same =
     let none : n ≡ n + 0 = omega arith in
     record {

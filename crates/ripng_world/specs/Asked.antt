@@ -1,4 +1,4 @@
--- A round, as it is asked for.
+-- A round, as a caller asks for it.
 use Rattle.std.specs.Prelude.{ℕ, List}
 
 -- what a caller asks of one round

@@ -1,4 +1,4 @@
--- Rounds as they are asked for: which events they make.
+-- Rounds that a caller asks for, and the events that they make.
 use Rattle.std.specs.Prelude.{◌≡◌, ℕ, ◌%◌, ◌==◌, ◌≤◌, not, Bool, ◌&&◌, List, [], ◌∷◌, ◌++◌, map, drop, length, filter, filter_map, flat_map, option_map, slice_get}
 use Rattle.std.specs.List.{enumerate_from, list_any, range_with_len}
 use Rattle.ripng_world.specs.Asked.{Asked}
@@ -24,7 +24,7 @@ interfaces_of net = flat_map (λ n. map (λ i. (n.0, i)) (range_with_len 0 (leng
 abbrev pub is_other : Network → Sent → ℕ × ℕ → Bool
 is_other net d at = is_one_link (link_at net d.router d.iface) (link_at net at.0 at.1) && not (at.0 == d.router && at.1 == d.iface)
 
--- a datagram of a number, and an interface that it may come to
+-- the number of a datagram, and an interface that it may come to
 abbrev pub pair_at : ℕ → ℕ × ℕ → Pair
 pair_at number at = record { datagram = number; router = at.0; iface = at.1 }
 
@@ -36,11 +36,11 @@ pairs_since net first sent = flat_map (λ d. map (pair_at d.0) (filter (is_other
 abbrev pub delivery : Pair → ℕ → Event
 delivery pair now = Deliver pair.datagram pair.router pair.iface now
 
--- each pick delivers the pair of that number, modulo the number of pairs
+-- each pick delivers the pair with that number, modulo the number of pairs
 abbrev pub picked_deliveries : List Pair → List (ℕ × ℕ) → List Event
 picked_deliveries pairs picks = filter_map (λ p. option_map (λ pair. delivery pair p.1) (slice_get pairs (p.0 % length pairs))) picks
 
--- some pick takes the pair of that number
+-- some pick takes the pair with that number
 abbrev pub is_picked : ℕ → List (ℕ × ℕ) → ℕ → Bool
 is_picked pairs picks number = list_any (λ p. p.0 % pairs == number) picks
 
@@ -62,12 +62,12 @@ round_of net asked w after_ticks =
 
 -- ---- rounds that are done
 
--- the round makes just its events: its routers tick, each when its regular update is due, and the deliveries happen, and no
--- new route wants for memory
+-- the round is exactly its events: each router ticks when its regular update is due, then the deliveries happen, and memory suffices
+-- for every new route
 abbrev pub IsMade : Network → World → Asked → World → Type 0
 IsMade net w asked w' = (after_ticks : World) × AllTick net w (round_of net asked w after_ticks).ticks after_ticks × AllHeard net after_ticks (round_of net asked w after_ticks).deliveries w'
 
--- so do these rounds, one after another
+-- the same of several rounds, one after another
 abbrev pub AreMade : Network → World → List Asked → List Round → World → Type 0
 AreMade net w [] [] w' = w' ≡ w
 AreMade net w (asked ∷ more) (round ∷ rounds) w' =
@@ -75,7 +75,7 @@ AreMade net w (asked ∷ more) (round ∷ rounds) w' =
     × AllTick net w round.ticks after_ticks × AllHeard net after_ticks round.deliveries mid × AreMade net mid more rounds w'
 AreMade net w _ _ w' = ⊥
 
--- all that were asked for are made, as synchronous rounds, and nothing else happens
+-- all rounds that were asked for are made, as synchronous rounds, and nothing else happens
 pub record AreAllMade (net : Network) (w : World) (asked : List Asked) (w' : World) : Type 0 where
   pub rounds : List Round
   pub made : AreMade net w asked rounds w'
@@ -83,7 +83,7 @@ pub record AreAllMade (net : Network) (w : World) (asked : List Asked) (w' : Wor
   pub synchronous : SynchronousRounds net w rounds w'
   pub run : WorldRun net w (events_of_rounds rounds) w'
 
--- from a cold start, where moments are close, so many rounds find all that is that near
+-- from a cold start, with moments close together, k rounds find every least cost within k hops
 pub record Converges (net : Network) (w : World) (asked : List Asked) (w' : World) : Type 0 where
   pub exact : (moments : List ℕ) (rounds : List Round) → IsCold net moments w → IsNeverQuiet net → FitsTables net
       → AreMade net w asked rounds w' → AreWithinTimeout rounds → AreConverged net (length asked) w'

@@ -1,4 +1,4 @@
--- Cold convergence in counted rounds.
+-- Convergence from a cold start, in a counted number of rounds.
 use Rattle.std.specs.Prelude.{◌≡◌, ℕ, ◌<◌, ◌≤◌, IsFalse, List, length, Contains, Some, slice_get}
 use Rattle.std.specs.FinMap as map_of
 use Rattle.prefix6.specs.Prefix.{Prefix6}
@@ -9,7 +9,7 @@ use Rattle.ripng_world.specs.Walks.{IsLeast, IsLeastWithin}
 use Rattle.router_core.specs.Machine.{State}
 use Rattle.ripng_world.specs.World.{World}
 
--- no router of the network is quiet
+-- no router of the network is quiet (passive)
 abbrev pub IsNeverQuiet : Network → Type 0
 IsNeverQuiet net = (router : ℕ) (node : Node) → slice_get net router ≡ Some node → IsFalse node.quiet
 
@@ -18,12 +18,12 @@ abbrev pub FitsTables : Network → Type 0
 FitsTables net =
     (owned : List Prefix6) × (length owned ≤ table_limit) × ((router : ℕ) (p : Prefix6) (tag : ℕ) → Owns net router p tag → Contains owned p)
 
--- the routes below infinity have exactly the least costs within so many hops
+-- the routes below infinity have exactly the least costs within k hops
 pub record IsConverged (net : Network) (k router : ℕ) (table : Table) : Type 0 where
   pub least : (p : Prefix6) (r : RouteValue) → map_of.get table p ≡ Some r → r.metric < infinity → IsLeastWithin net k router p r.metric
   pub found : (p : Prefix6) (metric : ℕ) → IsLeastWithin net k router p metric → (r : RouteValue) × (map_of.get table p ≡ Some r) × (r.metric ≡ metric)
 
--- so are all tables
+-- the same of all tables
 abbrev pub AreConverged : Network → ℕ → World → Type 0
 AreConverged net k w = (router : ℕ) (state : State) → slice_get w.states router ≡ Some state → IsConverged net k router state.table
 

@@ -1,5 +1,5 @@
 -- Deliveries one after another: what is delivered, and where they stop.
-use Rattle.std.specs.Prelude.{◌≡◌, ◌⊎◌, ℕ, List, map, take, Some, slice_get}
+use Rattle.std.specs.Prelude.{◌≡◌, ◌≤◌, ◌⊎◌, ℕ, List, length, map, take, Some, slice_get}
 use Rattle.std.specs.List.{Any}
 use Rattle.router_core.specs.declared.answer.Answer.{Answer}
 use Rattle.router_core.specs.declared.answer.NoteKind.TheVariants.{NoMemory}
@@ -15,7 +15,7 @@ use Rattle.ripng_world.specs.declared.watch.Stopped.TheVariants.{Refused, Failed
 abbrev pub deliveries_since : Network → ℕ → List Sent → ℕ → List Event
 deliveries_since net first sent now = map (λ p. delivery p now) (pairs_since net first sent)
 
--- some new route wants for memory
+-- memory ran out for some new route
 abbrev pub WantsMemory : Answer → Type 0
 WantsMemory answer = Any (λ n. n.kind ≡ NoMemory) answer.notes
 
@@ -25,15 +25,16 @@ pub record HappensAt (net : Network) (w : World) (events : List Event) (place : 
   pub event_is : slice_get events place ≡ Some event
   pub happens : Happens net w event answer w'
 
--- deliveries stop for want of memory: none of those before a place has a new route that wants for it, and the one at that place
--- has, or does not happen
+-- deliveries stop out of memory. Before a place memory sufficed for all new routes; at that place it ran out for one, or the
+-- delivery did not happen
 pub record StopForMemory (net : Network) (w : World) (events : List Event) (w' : World) : Type 0 where
   pub done : ℕ
+  pub within : done ≤ length events
   pub before : World
   pub heard : AllHeard net w (take done events) before
   pub last : (w' ≡ before) ⊎ ((answer : Answer) × HappensAt net before events done answer w' × WantsMemory answer)
 
--- deliveries stop behind one, at which the watcher fails: no new route wants for memory before that one
+-- deliveries stop after one at which the observer failed; before that one memory sufficed for all new routes
 pub record StopForWatcher (net : Network) (w : World) (events : List Event) (w' : World) : Type 0 where
   pub done : ℕ
   pub before : World
@@ -41,7 +42,7 @@ pub record StopForWatcher (net : Network) (w : World) (events : List Event) (w' 
   pub answer : Answer
   pub last : HappensAt net before events done answer w'
 
--- deliveries stop for want of memory, or where the watcher fails, as is answered
+-- deliveries stop out of memory, or where the observer fails, as the call answers
 abbrev pub StopAt : {R F : Type 0} → Network → World → List Event → Stopped R F → World → Type 0
 StopAt net w events (Refused why) w' = StopForMemory net w events w'
 StopAt net w events (Failed fault) w' = StopForWatcher net w events w'

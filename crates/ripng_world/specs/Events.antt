@@ -1,7 +1,10 @@
--- The events of the code as the events of the model.
+-- The events of the code as those of the model.
+use Rattle.router_core.specs.Machine.{Happening, Arrives, Ticks, Restarts, ShutsDown, LinkGoesDown}
 use Rattle.ripng_world.specs.World.{Event, Deliver, Stranger, Tick, Restart, Shutdown, LinkDown, Reconfigure}
 use Rattle.ripng_world.specs.declared.event.Event as coded
 use Rattle.ripng_world.specs.declared.event.Event.TheVariants as variants
+use Rattle.ripng_world.specs.declared.event.Happening as at_router
+use Rattle.ripng_world.specs.declared.event.Happening.TheVariants as kinds
 
 -- the event of the model
 abbrev pub event_of : coded.Event → Event
@@ -12,3 +15,11 @@ event_of (variants.Restart router now) = Restart router now
 event_of (variants.Shutdown router now) = Shutdown router now
 event_of (variants.LinkDown router now iface) = LinkDown router now iface
 event_of (variants.Reconfigure router now c) = Reconfigure router now c
+
+-- what happens at a router
+abbrev pub happening_of : at_router.Happening → Happening
+happening_of (kinds.Arrives x) = Arrives x
+happening_of (kinds.Ticks now word) = Ticks now word
+happening_of (kinds.Restarts now) = Restarts now
+happening_of (kinds.ShutsDown now) = ShutsDown now
+happening_of (kinds.LinkGoesDown now iface) = LinkGoesDown now iface

@@ -51,8 +51,8 @@ FitsTablesSince past =
 abbrev pub IsTickOf : Round → ℕ → ℕ → Type 0
 IsTickOf round router moment = (word : ℕ) × Contains round.ticks (Tick router moment word)
 
--- a router ticks less than a garbage time after its tick of the round before, and all that it hears in a round comes less than
--- that after its tick of the round
+-- a router ticks less than a garbage time after its tick of the round before, and all that it receives in a round comes less
+-- than that after its tick of the round
 abbrev pub AreWithinGarbageTimeAfter : (ℕ → ℕ → Type 0) → List Round → Type 0
 AreWithinGarbageTimeAfter before [] = Unit {0}
 AreWithinGarbageTimeAfter before (round ∷ rounds) =
@@ -60,7 +60,7 @@ AreWithinGarbageTimeAfter before (round ∷ rounds) =
     × ((router x y : ℕ) → IsTickOf round router x → IsMomentOf round router y → y < x + garbage_time)
     × AreWithinGarbageTimeAfter (IsTickOf round) rounds
 
--- so it is in all rounds
+-- the same from the first round on
 abbrev pub AreWithinGarbageTime : List Round → Type 0
 AreWithinGarbageTime rounds = AreWithinGarbageTimeAfter (λ _ _. ⊥) rounds
 
@@ -77,11 +77,11 @@ pub record IsHealed (net : Network) (router : ℕ) (table : Table) : Type 0 wher
   pub led : IsLed net router table
   pub found : (p : Prefix6) (metric : ℕ) → IsLeast net router p metric → metric < infinity → (r : RouteValue) × (map_of.get table p ≡ Some r) × (r.metric ≡ metric)
 
--- so are all tables
+-- the same of all tables
 abbrev pub AreHealed : Network → World → Type 0
 AreHealed net w = (router : ℕ) (state : State) → slice_get w.states router ≡ Some state → IsHealed net router state.table
 
--- whatever happened before, so many rounds leave each table with the least costs of now, and nothing else
+-- whatever happened before, 26 rounds leave each table with the least costs of now, and nothing else
 abbrev pub Heals : Network → World → List Asked → World → Type 0
 Heals net w asked w' =
     (rounds : List Round) → IsNeverQuiet net → FitsTablesSince (past_of net w) → AreMade net w asked rounds w' → AreWithinGarbageTime rounds → 26 ≤ length asked

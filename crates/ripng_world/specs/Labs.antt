@@ -1,5 +1,5 @@
 -- A lab: a lawful network that has run since a cold start, and what then holds.
-use Rattle.std.specs.Prelude.{◌≡◌, ℕ, ◌<◌, ◌≤◌, ◌==◌, nat_le, not, Bool, false, List, [], ◌∷◌, ◌++◌, map, ◌⊎◌, length, Option, Some, None, is_none, option_map, option_and_then, slice_get, codes}
+use Rattle.std.specs.Prelude.{◌≡◌, ℕ, ◌<◌, ◌≤◌, ◌==◌, nat_le, not, Bool, false, List, [], ◌∷◌, ◌++◌, map, ◌⊎◌, length, Option, Some, None, IfNone, IfSome, is_none, option_map, option_and_then, slice_get, codes}
 use Rattle.std.specs.FinMap as map_of
 use Rattle.std.specs.List.{AllByRecursion}
 use Rattle.std.specs.Option.{option_map_or}
@@ -20,7 +20,7 @@ use Rattle.ripng_world.specs.Walks.{IsTableBacked, IsLeast}
 use Rattle.ripng_world.specs.Past.{IsTableBackedSince, IsLeastSince}
 use Rattle.ripng_world.specs.Truth.{IsSoundDatagram}
 use Rattle.ripng_world.specs.TruthSince.{IsSoundDatagramSince}
-use Rattle.ripng_world.specs.World.{World, Event, Deliver, Stranger, Tick, Restart, Shutdown, LinkDown, Reconfigure, Happens, WorldRun, IsCold, is_heard, past_of}
+use Rattle.ripng_world.specs.World.{World, Event, Deliver, Stranger, Tick, Restart, Shutdown, LinkDown, Reconfigure, Happens, WorldRun, IsCold, is_heard, past_of, reconfigurations_in}
 use Rattle.ripng_world.specs.declared.event.LabError.{LabError}
 use Rattle.ripng_world.specs.declared.event.LabError.TheVariants.{NoSuchRouter, NoSuchInterface, NoSuchDatagram, OtherLink, NotAStranger, OutOfMemory, NotALiar}
 use Rattle.ripng_world.specs.declared.sent.Sent.{Sent}
@@ -62,11 +62,11 @@ AreRoutesBackedSince net w = InEachRouter (λ router state. IsTableBackedSince (
 abbrev pub HasNoneBelowLeastSince : Network → World → ℕ → State → Type 0
 HasNoneBelowLeastSince net w router state = HasNoneBelow (λ p metric. IsLeastSince (past_of net w) router p metric) state
 
--- so it is in every router
+-- the same of every router
 abbrev pub HaveNoneBelowLeastSince : Network → World → Type 0
 HaveNoneBelowLeastSince net w = InEachRouter (HasNoneBelowLeastSince net w) w
 
--- every entry below infinity of every Response ever sent tells such a walk from its sender
+-- every entry below infinity of every Response ever sent advertises such a walk from its sender
 abbrev pub AreDatagramsSoundSince : Network → World → Type 0
 AreDatagramsSoundSince net w = AllByRecursion (λ d. IsSoundDatagramSince (past_of net w) d.router d.bytes) w.sent
 
@@ -80,11 +80,11 @@ AreRoutesBacked net w = InEachRouter (λ router state. IsTableBacked net router 
 abbrev pub HasNoneBelowLeast : Network → ℕ → State → Type 0
 HasNoneBelowLeast net router state = HasNoneBelow (λ p metric. IsLeast net router p metric) state
 
--- so it is in every router
+-- the same of every router
 abbrev pub HaveNoneBelowLeast : Network → World → Type 0
 HaveNoneBelowLeast net w = InEachRouter (HasNoneBelowLeast net) w
 
--- every entry below infinity of every Response ever sent tells a walk from its sender
+-- every entry below infinity of every Response ever sent advertises a walk from its sender
 abbrev pub AreDatagramsSound : Network → List Sent → Type 0
 AreDatagramsSound net sent = AllByRecursion (λ d. IsSoundDatagram net d.router d.bytes) sent
 
@@ -94,9 +94,18 @@ pub record HoldsFixed (net : Network) (w : World) : Type 0 where
   pub least : w.reconfigurations ≡ [] → HaveNoneBelowLeast net w
   pub truth : w.reconfigurations ≡ [] → AreDatagramsSound net w.sent
 
+-- ---- what every call of a lab keeps
+
+-- whatever the call did, and however it ended, all this holds of the lab
+pub record Keeps (lab : LabValue) : Type 0 where
+  pub backed : AreRoutesBackedSince lab.network lab.world
+  pub least : HaveNoneBelowLeastSince lab.network lab.world
+  pub truth : AreDatagramsSoundSince lab.network lab.world
+  pub fixed : HoldsFixed lab.network lab.world
+
 -- ---- steps
 
--- the event happens, and its answer is given but for the sends, which are among those that were sent
+-- the event happens. The answer that is given lacks its sends, which are now among all that were sent
 abbrev pub HappensGiving : LabValue → Event → Answer → World → Type 0
 HappensGiving lab e given w = (answer : Answer) × Happens lab.network lab.world e answer w × (given ≡ record answer { sends = [] })
 
@@ -151,7 +160,7 @@ event_reasons lab (Reconfigure router now c) = named_reasons lab.network router 
 abbrev pub event_fault : LabValue → Event → Option LabError
 event_fault lab e = first_reason (event_reasons lab e)
 
--- a router's own refusal, where want of memory is the lab's
+-- a router's own refusal, where out of memory is the lab's
 abbrev pub refusal_of : ReconfigureRefused → LabError
 refusal_of refused.OutOfMemory = OutOfMemory
 refusal_of why = LabError.ReconfigureRefused why
@@ -166,9 +175,16 @@ asked_reasons w _ = []
 abbrev pub step_fault : LabValue → Event → Option LabError
 step_fault lab e = first_reason (event_reasons lab e ++ asked_reasons lab.world e)
 
--- an event is refused by the first reason that applies, or for want of memory once the router is to be asked
+-- an event is refused by the first reason that applies, or out of memory once the router is to be asked
 abbrev pub IsRefusal : LabValue → Event → LabError → Type 0
 IsRefusal lab e why = (step_fault lab e ≡ Some why) ⊎ ((event_fault lab e ≡ None) × (why ≡ OutOfMemory))
+
+-- how a step ends, given why it was refused, if it was: the change of the event is added to those done, or nothing is changed
+pub record StepEnds (lab : LabValue) (e : Event) (refusal : Option LabError) (lab' : LabValue) : Type 0 where
+  pub reconfigurations : IfNone refusal (lab'.world.reconfigurations ≡ lab.world.reconfigurations ++ reconfigurations_in (e ∷ []))
+  pub passes : IfNone refusal (step_fault lab e ≡ None)
+  pub refused : IfSome refusal (IsRefusal lab e)
+  pub unchanged : IfSome refusal (λ _. lab' ≡ lab)
 
 -- so the event at a place is refused
 pub record IsRefusedNext (lab : LabValue) (events : List Event) (place : ℕ) (why : LabError) : Type 0 where

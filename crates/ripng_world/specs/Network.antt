@@ -43,7 +43,7 @@ pub record Owns (net : Network) (router : ℕ) (p : Prefix6) (tag : ℕ) : Type 
 abbrev pub OwnsPrefixes : Network → Type 0
 OwnsPrefixes net = (router : ℕ) (p : Prefix6) (tag : ℕ) → Owns net router p tag → IsPrefix p
 
--- addresses tell apart whoever hears each other; elsewhere in the network they may stand again
+-- routers that receive from each other have different addresses; elsewhere in the network an address may occur again
 pub record HasDistinctAddresses (net : Network) : Type 0 where
   -- no address is that of two interfaces of one link
   pub on_links : (r i s j : ℕ) (l : AreLinked net r i s j) → l.here.interface.addr ≡ l.there.interface.addr → (r ≡ s) × (i ≡ j)

@@ -19,7 +19,7 @@ faults_of_router number node = map (λ t. (t.0, BadRouter number t.1)) (config_r
 abbrev pub router_reasons : List Node → Node → List (Bool × NetRefused)
 router_reasons earlier node = faults_of_router (length earlier) node
 
--- an address behind earlier ones
+-- an address after earlier ones
 abbrev pub address_reasons : List ℕ → ℕ → List (Bool × NetRefused)
 address_reasons earlier a = (list_any (λ b. b == a) earlier, AddressSharedInNetwork) ∷ []
 

@@ -107,7 +107,7 @@ AreThere net w = (router : ℕ) (node : Node) → slice_get net router ≡ Some 
 abbrev pub PacketsArrive : Network → World → Type 0
 PacketsArrive net w = PacketsArriveBy net (forwardings_of w)
 
--- whatever happened before, so many rounds leave a network in which packets arrive
+-- whatever happened before, 26 rounds leave a network in which packets arrive
 abbrev pub LetsArrive : Network → World → List Asked → World → Type 0
 LetsArrive net w asked w' =
     (rounds : List Round) → IsNeverQuiet net → FitsTablesSince (past_of net w) → AreMade net w asked rounds w' → AreWithinGarbageTime rounds → 26 ≤ length asked

@@ -52,7 +52,7 @@ IsBackedSince past router p r = IsBackedBy (λ metric tag walk. ReachesSince pas
 abbrev pub IsTableBackedSince : Past → ℕ → Table → Type 0
 IsTableBackedSince past router table = IsTableBackedBy (IsBackedSince past router) table
 
--- an entry that the router tells
+-- an entry that the router advertises
 abbrev pub IsEntryBackedSince : Past → ℕ → Rte → Type 0
 IsEntryBackedSince past router e = IsEntryBackedBy (λ p metric tag walk. ReachesSince past router p metric tag walk) e
 

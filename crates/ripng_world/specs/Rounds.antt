@@ -1,4 +1,4 @@
--- Rounds in which every router tells all that it has, and every datagram arrives.
+-- Rounds in which every router advertises its whole table, and every datagram arrives.
 use Rattle.std.specs.Prelude.{◌≡◌, ◌≢◌, ℕ, ◌+◌, ◌<◌, ◌≤◌, max, ◌⊎◌, List, [], ◌∷◌, ◌++◌, map, length, All, Contains, Some, slice_get, nat_eq, flat_map}
 use Rattle.std.specs.List.{IsDistinct}
 use Rattle.router_core.specs.Timers.{timeout}
@@ -49,7 +49,7 @@ abbrev pub IsDeliveryOf : ℕ → ℕ → Event → Type 0
 IsDeliveryOf first end (Deliver datagram router iface now) = (first ≤ datagram) × (datagram < end)
 IsDeliveryOf first end _ = ⊥
 
--- the events happen one after another, and no new route wants for memory
+-- the events happen one after another, and memory suffices for every new route
 abbrev pub AllHeard : Network → World → List Event → World → Type 0
 AllHeard net w [] w' = w' ≡ w
 AllHeard net w (e ∷ events) w' =
@@ -94,6 +94,6 @@ AreWithinTimeoutAfter before (round ∷ rounds) =
     ((router x y : ℕ) → before router x ⊎ IsMomentOf round router x → IsMomentOf round router y → (x < y + timeout) × (y < x + timeout))
     × AreWithinTimeoutAfter (IsMomentOf round) rounds
 
--- so it is from the first round on
+-- the same from the first round on
 abbrev pub AreWithinTimeout : List Round → Type 0
 AreWithinTimeout rounds = AreWithinTimeoutAfter (λ _ _. ⊥) rounds

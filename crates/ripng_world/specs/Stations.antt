@@ -1,6 +1,7 @@
 -- Routers of a network at their places.
-use Rattle.std.specs.Prelude.{◌≡◌, ℕ, List, [], ◌∷◌, ◌++◌, map}
-use Rattle.router_core.specs.Machine.{State}
+use Rattle.std.specs.Prelude.{◌≡◌, ℕ, ◌<◌, ◌*◌, ◌/◌, max, ⊤, List, [], ◌∷◌, ◌++◌, map, length, Some, slice_get, slice_set}
+use Rattle.std.specs.FinMap as map_of
+use Rattle.router_core.specs.Machine.{State, Happening, Arrives, Ticks, Restarts, Reconfigures, ShutsDown, LinkGoesDown, Moves}
 use Rattle.router_core.specs.declared.answer.Answer.{Answer}
 use Rattle.router_core.specs.declared.reconfiguring.Change.{Change}
 use Rattle.ripng_world.specs.Network.{Network, Node}
@@ -8,7 +9,7 @@ use Rattle.ripng_world.specs.Rounds.{router_of}
 use Rattle.ripng_world.specs.World.{World, Event, Happens, reconfigurations_in, sent_by}
 use Rattle.ripng_world.specs.declared.sent.Sent.{Sent}
 
--- a router that runs, and what it was asked to be when it started
+-- a router that runs, and what it was configured to be when it started
 pub record StationValue : Type 0 where
   pub node : Node
   pub state : State
@@ -20,6 +21,30 @@ network_of stations = map (λ s. s.node) stations
 -- the world of these routers, with what was sent and changed
 abbrev pub world_of : List StationValue → List Sent → List (ℕ × Change) → World
 world_of stations sent reconfigurations = record { states = map (λ s. s.state) stations; sent = sent; reconfigurations = reconfigurations }
+
+-- an arrival comes to an interface of the router
+abbrev pub IsPlaced : Node → Happening → Type 0
+IsPlaced node (Arrives x) = x.iface < length node.interfaces
+IsPlaced node _ = ⊤
+
+-- no answer to it has more datagrams
+abbrev pub most_sends : State → Happening → ℕ
+most_sends s (Arrives x) = max (map_of.len s.table) (length x.bytes / 20)
+most_sends s (Ticks now word) = map_of.len s.table * length s.config.interfaces
+most_sends s (Restarts now) = length s.config.interfaces
+most_sends s (Reconfigures now c) = 0
+most_sends s (ShutsDown now) = map_of.len s.table * length s.config.interfaces
+most_sends s (LinkGoesDown now iface) = 0
+
+-- the router at a place moves, and all others stay
+pub record IsMoveAt (stations : List StationValue) (router : ℕ) (happening : Happening) (answer : Answer) (stations' : List StationValue) : Type 0 where
+  pub old : StationValue
+  pub new : StationValue
+  pub old_is : slice_get stations router ≡ Some old
+  pub lawful : length old.state.config.interfaces ≡ length old.node.interfaces
+  pub moves : Moves old.state happening answer new.state
+  pub node : new.node ≡ old.node
+  pub stations_are : stations' ≡ slice_set stations router new
 
 -- with the sends of its answer added to what was sent, and its change to the changes done, the event happens; the network
 -- as it started stays

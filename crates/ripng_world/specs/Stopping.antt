@@ -47,13 +47,13 @@ InDeliveries how net w asked w' =
 
 -- ---- one round
 
--- a round is refused before a tick that is not due; or for want of memory, at a tick that is due, or in its deliveries
+-- a round is refused before a tick that is not due; or out of memory, at a tick that is due or in its deliveries
 abbrev pub StopsFor : Network → World → Asked → RoundsRefused → World → Type 0
 StopsFor net w asked (NoRegularUpdate round router) w' = StopsBefore net w asked.ticks router w'
 StopsFor net w asked (OutOfMemory round) w' =
     StopsAtDue net w (ticks_of asked.ticks) w' ⊎ InDeliveries (λ n v events v'. StopForMemory n v events v') net w asked w'
 
--- the watcher fails at a tick, which is done and was due, or at a delivery
+-- the observer fails at a tick, which is done and was due, or at a delivery
 abbrev pub StopsForWatcher : Network → World → Asked → World → Type 0
 StopsForWatcher net w asked w' = StopsBehind net w (ticks_of asked.ticks) w' ⊎ InDeliveries (λ n v events v'. StopForWatcher n v events v') net w asked w'
 
@@ -82,7 +82,7 @@ pub record StopIn (net : Network) (w : World) (asked : List Asked) (round : ℕ)
 abbrev pub HaveStopped : Network → World → List Asked → RoundsRefused → World → Type 0
 HaveStopped net w asked why w' = StopIn net w asked (round_in why) (λ begin stopped. StopsFor net begin stopped why w')
 
--- some rounds are made, and in the next one the watcher fails
+-- some rounds are made, and in the next one the observer fails
 abbrev pub HaveFailed : Network → World → List Asked → World → Type 0
 HaveFailed net w asked w' = (round : ℕ) × StopIn net w asked round (λ begin stopped. StopsForWatcher net begin stopped w')
 

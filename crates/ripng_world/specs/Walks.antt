@@ -64,7 +64,7 @@ IsBackedBy reach net r = (walk : List Hop) × reach r.metric r.tag walk × Begin
 abbrev pub IsTableBackedBy : (Prefix6 → RouteValue → Type 0) → Table → Type 0
 IsTableBackedBy backed table = (p : Prefix6) (r : RouteValue) → map_of.get table p ≡ Some r → r.metric < infinity → backed p r
 
--- an entry that is not unreachable tells the cost and tag of a walk
+-- an entry that is not unreachable has the cost and tag of a walk
 abbrev pub IsEntryBackedBy : (Prefix6 → ℕ → ℕ → List Hop → Type 0) → Rte → Type 0
 IsEntryBackedBy reach e = e.metric < infinity → (walk : List Hop) × reach (cleared e.addr e.len) e.metric e.tag walk
 
@@ -83,7 +83,7 @@ IsBacked net router p r = IsBackedBy (λ metric tag walk. Reaches net router p m
 abbrev pub IsTableBacked : Network → ℕ → Table → Type 0
 IsTableBacked net router table = IsTableBackedBy (IsBacked net router) table
 
--- an entry that the router tells
+-- an entry that the router advertises
 abbrev pub IsEntryBacked : Network → ℕ → Rte → Type 0
 IsEntryBacked net router e = IsEntryBackedBy (λ p metric tag walk. Reaches net router p metric tag walk) e
 

@@ -23,7 +23,7 @@ pub record World : Type 0 where
 abbrev pub past_of : Network → World → Past
 past_of net w = record { net = net; reconfigurations = w.reconfigurations }
 
--- what may happen to a network; losing a datagram is none: it is never delivered
+-- what may happen to a network. The loss of a datagram is no event: it is never delivered
 pub data Event : Type 0 where
   Deliver : (datagram router iface now : ℕ) → Event
   Stranger : (router : ℕ) → Received → Event

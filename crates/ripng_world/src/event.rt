@@ -7,8 +7,8 @@ use std::alloc::AllocError;
 /// What may happen in a network.
 #[derive(Drop)]
 pub enum Event<'a> {
-    /// A datagram that a router sent comes to an interface of the link that it was sent on. Any datagram ever sent may
-    /// come, any number of times.
+    /// A datagram that a router sent comes to an interface of the link that it was sent on. Any datagram ever sent may come, at
+    /// any time and any number of times. One that never comes is lost.
     Deliver {
         /// Its number among all datagrams ever sent, from 0.
         datagram: usize,
@@ -19,7 +19,7 @@ pub enum Event<'a> {
         /// When it comes.
         now: Moment,
     },
-    /// Somebody else sends a datagram to a router. A Response that the router would take for one of its link is refused.
+    /// An outside host sends a datagram to a router. The event is refused for a Response that the router would accept.
     Stranger {
         /// The number of the router that it comes to.
         router: usize,
@@ -32,15 +32,15 @@ pub enum Event<'a> {
         router: usize,
         /// The moment that it is.
         now: Moment,
-        /// A random word, for the times of the next updates.
+        /// A random number, for the times of the next updates.
         word: u32,
     },
-    /// A router comes up again.
+    /// A router restarts.
     Restart {
         router: usize,
         now: Moment,
     },
-    /// A router shuts down: its last update poisons every route. It holds what it held.
+    /// A router shuts down: its last update poisons every route. Its own table stays.
     Shutdown {
         router: usize,
         now: Moment,
@@ -63,24 +63,36 @@ pub enum Event<'a> {
     },
 }
 
+/// What an event is for its router, unless it changes the router's configuration.
+#[derive(Drop)]
+pub enum Happening<'a> {
+    Arrives(Arrival<'a>),
+    /// At a moment, with a random number.
+    Ticks(Moment, u32),
+    Restarts(Moment),
+    ShutsDown(Moment),
+    /// At a moment, at an interface.
+    LinkGoesDown(Moment, usize),
+}
+
 /// Why an event is refused: the first reason to refuse it, in this order.
 #[derive(Clone, Copy, Debug, PartialEq, Eq)]
 pub enum LabError {
-    /// The network has no such router.
+    /// The network has no router with that number.
     NoSuchRouter,
-    /// The router has no such interface.
+    /// The router has no interface with that number.
     NoSuchInterface,
-    /// No such datagram was sent.
+    /// No datagram with that number was sent yet.
     NoSuchDatagram,
-    /// The datagram was sent on another link.
+    /// The datagram was sent on another link, so it cannot come to this interface.
     OtherLink,
-    /// The arrival is a Response without a fault, as a router of the link would send.
+    /// The arrival is a Response that the router would accept, as if a neighbor had sent it.
     NotAStranger,
     /// Memory was refused.
     OutOfMemory,
-    /// The router refused to be changed so. Tested behind the first two.
+    /// The router refused the change of its configuration. Tested after the first two.
     ReconfigureRefused(ReconfigureRefused),
-    /// A liar's arrival is no Response without a fault, so it is any stranger's. Tested behind the first two.
+    /// The router would not accept the arrival as a Response, so any outside host may send it. Tested after the first two.
     NotALiar,
 }
 

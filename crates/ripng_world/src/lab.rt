@@ -1,14 +1,15 @@
-//! A lab: a lawful network that runs, over real routers and bytes. Whatever happens in it, no router has a route, and no
-//! datagram tells one, that no walk through the network backs.
+//! A lab: a lawful network that runs, with real routers and bytes. Whatever happens in it, each route of a router, and each that a
+//! datagram advertises, is backed by a walk through the network.
 
-ghost use Rattle.std.specs.Prelude.{◌≡◌, ℕ, ◌++◌, ◌∷◌, [], None, IfErr, IfOk, IfSome, OnErr, OnOk, length, map, take, slice_get, unwrap_or};
+ghost use Rattle.std.specs.Prelude.{◌≡◌, ℕ, ◌++◌, ◌∷◌, [], IfErr, IfOk, IfSome, OnOk, length, map, take, slice_get, unwrap_or};
 ghost use Rattle.std.specs.Option.{option_copied};
+ghost use Rattle.std.specs.Result.{result_err};
 ghost use Rattle.ripng_world.specs.Events.{event_of};
-ghost use Rattle.ripng_world.specs.Labs.{HasRun, AreRoutesBackedSince, HaveNoneBelowLeastSince, HasNoneBelowLeast, HasNoneBelowLeastSince, AreDatagramsSoundSince, HoldsFixed, AreDatagramsSound, HappensGiving, IsRefusal, IsRefusedNext, link_at, step_fault};
+ghost use Rattle.ripng_world.specs.Labs.{HasRun, Keeps, HasNoneBelowLeast, HasNoneBelowLeastSince, AreDatagramsSoundSince, AreDatagramsSound, HappensGiving, IsRefusedNext, StepEnds, link_at};
 ghost use Rattle.ripng_world.specs.Past.{IsTableBackedSince};
 ghost use Rattle.ripng_world.specs.Stations.{network_of, world_of};
 ghost use Rattle.ripng_world.specs.Walks.{IsTableBacked};
-ghost use Rattle.ripng_world.specs.Watching.{IfRefused, WatchedInPart, WatchedUntil, any, failures, failures_in};
+ghost use Rattle.ripng_world.specs.Watching.{IfRefused, WatchedInPart, WatchedUntil, failures, failures_in, refusal_in};
 ghost use Rattle.ripng_world.specs.World.{IsCold, WorldRun, reconfigurations_in, past_of};
 
 mod delivering;
@@ -20,7 +21,7 @@ use crate::network::{NetConfig, NetRouter};
 use crate::running::Running;
 use crate::sent::Sent;
 use crate::station::Station;
-use crate::watch::{Stopped, Unwatched, Watch};
+use crate::watch::{Observer, Stopped, Unwatched};
 use route_table::{Moment, RouteStore};
 use router_core::{Answer, Change, Router};
 use std::alloc::{AllocError, Global};
@@ -76,16 +77,13 @@ impl<S: RouteStore> Lab<S> {
     /// Every router of a network starts, each at its moment, in order.
     ///
     /// # Errors
-    /// Only want of memory.
+    /// Out of memory, and no other.
     pub fn cold(alloc: Global, network: NetConfig, moments: &[Moment]) -> Result<Lab<S>, LabError>
         requires { length moments.now ≡ length network }
         ensures network { IfOk result (λ lab. lab.network ≡ network) }
         ensures cold { IfOk result (λ lab. IsCold network moments.now lab.world) }
         ensures only_memory { IfErr result (λ why. why ≡ LabError.OutOfMemory) }
-        ensures backed { IfOk result (λ lab. AreRoutesBackedSince lab.network lab.world) }
-        ensures least { IfOk result (λ lab. HaveNoneBelowLeastSince lab.network lab.world) }
-        ensures truth { IfOk result (λ lab. AreDatagramsSoundSince lab.network lab.world) }
-        ensures fixed { IfOk result (λ lab. HoldsFixed lab.network lab.world) }
+        ensures keeps { IfOk result Keeps }
     {
         let NetConfig { routers } = network;
         let (stations, sent) = start_all(alloc, routers, moments)?;
@@ -106,14 +104,14 @@ impl<S: RouteStore> Lab<S> {
         self.running.routers()
     }
 
-    /// The routers as they run, of which nothing more is said than what each does.
+    /// The routers as they run. Of these only single steps are promised.
     pub fn running(&self) -> &Running<S>
         ensures { result.now ≡ self.now }
     {
         &self.running
     }
 
-    /// The same routers, which may be lied to from now on. What is promised of a lab is not promised of them.
+    /// The same routers, which may receive forged Responses from now on. What is promised of a lab is not promised of them.
     pub fn into_running(self) -> Running<S>
         ensures { result ≡ self }
     {
@@ -121,8 +119,8 @@ impl<S: RouteStore> Lab<S> {
         running
     }
 
-    /// A router of the network, if it has one of that number. Each of its routes below 16 hops is backed by a walk, at costs
-    /// in force since the cold start, and so is not below the least such cost.
+    /// The router with that number, if the network has it. Each of its routes with a metric below 16 is backed by a walk, at costs
+    /// in force since the cold start, and so its metric is not below the least such cost.
     pub fn router(&self, router: usize) -> Option<&Router<S>>
         ensures value { option_copied result ≡ slice_get self.now.world.states router }
         ensures backed { IfSome result (λ r. IsTableBackedSince (past_of self.now.network self.now.world) router r.now.table) }
@@ -133,7 +131,7 @@ impl<S: RouteStore> Lab<S> {
         self.running.router(router)
     }
 
-    /// All datagrams ever sent, numbered from 0. Each entry below 16 hops of each Response tells a walk from its sender.
+    /// All datagrams ever sent, numbered from 0. Each entry of a Response with a metric below 16 advertises a walk from its sender.
     pub fn sent(&self) -> &[Sent]
         ensures value { result.now ≡ self.now.world.sent }
         ensures truth { AreDatagramsSoundSince self.now.network self.now.world }
@@ -142,7 +140,7 @@ impl<S: RouteStore> Lab<S> {
         self.running.sent()
     }
 
-    /// The changes that routers have done since the cold start, each with its router, in order.
+    /// The changes of configuration that routers have done since the cold start, each with its router, in order.
     pub fn changes_done(&self) -> &[(usize, Change)]
         ensures { result.now ≡ self.now.world.reconfigurations }
     {
@@ -163,32 +161,25 @@ impl<S: RouteStore> Lab<S> {
         let _ = &self.running;
     }
 
-    /// An event happens: one router moves, and answers. What it sends is moved to the end of `sent`, and is not in the
-    /// answer that is given.
+    /// An event happens: one router moves, and answers. What it sends goes to the end of `sent`, and is not in the answer.
     ///
     /// # Errors
-    /// The first reason to refuse the event, or want of memory; the lab is then as it was. Room for a change is made before
-    /// its router is asked.
+    /// The first reason to refuse the event, or out of memory; the lab is then unchanged. Room for a change of configuration is
+    /// made before its router is asked.
     pub fn step(&mut self, event: &Event<'_>) -> Result<Answer, LabError>
         ensures happens { IfOk result (λ answer. HappensGiving self.old (event_of event.entry.now) answer self.new.world) }
         ensures network { self.new.network ≡ self.old.network }
-        ensures reconfigurations { OnOk result (self.new.world.reconfigurations ≡ self.old.world.reconfigurations ++ reconfigurations_in (event_of event.entry.now ∷ [])) }
-        ensures passes { OnOk result (step_fault self.old (event_of event.entry.now) ≡ None) }
-        ensures refused { IfErr result (λ why. IsRefusal self.old (event_of event.entry.now) why) }
-        ensures err { OnErr result (self.new ≡ self.old) }
-        ensures backed { AreRoutesBackedSince self.new.network self.new.world }
-        ensures least { HaveNoneBelowLeastSince self.new.network self.new.world }
-        ensures truth { AreDatagramsSoundSince self.new.network self.new.world }
-        ensures fixed { HoldsFixed self.new.network self.new.world }
+        ensures ends { StepEnds self.old (event_of event.entry.now) (result_err result) self.new }
+        ensures keeps { Keeps self.new }
     {
         self.running.step(event)
     }
 
-    /// An event happens as `step` makes it, and a watcher is told of it with its answer.
+    /// As `step`, and then an observer is notified of the event with its answer.
     ///
     /// # Errors
-    /// As `step`, and then nobody is told; or the watcher's, and then the event is done.
-    pub fn step_watched<V: Watch<S>>(
+    /// As `step`, and then nobody is notified; or the observer's, and then the event is done.
+    pub fn step_watched<V: Observer<S>>(
         &mut self,
         event: &Event<'_>,
         watch: &mut V,
@@ -197,41 +188,24 @@ impl<S: RouteStore> Lab<S> {
         ensures stopped { IfErr result (λ why. WatchedInPart V.takes V.fails (failures why) self.old.network (self.old.world, watch.old) (event_of event.entry.now ∷ []) (self.new.world, watch.new)) }
         ensures happens { IfOk result (λ answer. HappensGiving self.old (event_of event.entry.now) answer self.new.world) }
         ensures network { self.new.network ≡ self.old.network }
-        ensures reconfigurations { OnOk result (self.new.world.reconfigurations ≡ self.old.world.reconfigurations ++ reconfigurations_in (event_of event.entry.now ∷ [])) }
-        ensures passes { OnOk result (step_fault self.old (event_of event.entry.now) ≡ None) }
-        ensures refused { IfErr result (λ why. IfRefused why (IsRefusal self.old (event_of event.entry.now))) }
-        ensures err { IfErr result (λ why. IfRefused why (λ _. self.new ≡ self.old)) }
+        ensures ends { StepEnds self.old (event_of event.entry.now) (refusal_in result) self.new }
         ensures untold { IfErr result (λ why. IfRefused why (λ _. watch.new ≡ watch.old)) }
-        ensures backed { AreRoutesBackedSince self.new.network self.new.world }
-        ensures least { HaveNoneBelowLeastSince self.new.network self.new.world }
-        ensures truth { AreDatagramsSoundSince self.new.network self.new.world }
-        ensures fixed { HoldsFixed self.new.network self.new.world }
+        ensures keeps { Keeps self.new }
     {
-        let first = self.sent().len();
-        let answer = match self.step(event) {
-            Ok(answer) => answer,
-            Err(why) => return Err(Stopped::Refused(why)),
-        };
-        match watch.happened(self.running(), event, &answer, first) {
-            Ok(()) => Ok(answer),
-            Err(fault) => Err(Stopped::Failed(fault)),
-        }
+        self.running.step_watched(event, watch)
     }
 
-    /// Events happen one after another, until one is refused. Says how many were done, and why the next was refused.
+    /// Events happen one after another, until one is refused. Returns how many were done, and why the next was refused.
     ///
     /// # Errors
-    /// The first reason to refuse the next event, else want of memory; the lab is as the events before it left it.
+    /// The first reason to refuse the next event, else out of memory; the lab is as the events before it left it.
     pub fn run(&mut self, events: &[Event<'_>]) -> (usize, Result<(), LabError>)
         ensures done { WorldRun self.old.network self.old.world (take result.0 (map event_of events.entry.now)) self.new.world }
         ensures network { self.new.network ≡ self.old.network }
         ensures reconfigurations { self.new.world.reconfigurations ≡ self.old.world.reconfigurations ++ reconfigurations_in (take result.0 (map event_of events.entry.now)) }
         ensures all { OnOk result.1 (result.0 ≡ length events.entry.now) }
         ensures refused { IfErr result.1 (λ why. IsRefusedNext self.new (map event_of events.entry.now) result.0 why) }
-        ensures backed { AreRoutesBackedSince self.new.network self.new.world }
-        ensures least { HaveNoneBelowLeastSince self.new.network self.new.world }
-        ensures truth { AreDatagramsSoundSince self.new.network self.new.world }
-        ensures fixed { HoldsFixed self.new.network self.new.world }
+        ensures keeps { Keeps self.new }
     {
         let (done, outcome) = self.run_watched(events, &mut Unwatched);
         match outcome {
@@ -240,11 +214,11 @@ impl<S: RouteStore> Lab<S> {
         }
     }
 
-    /// Events happen as `run` makes them, and a watcher is told of each. Says how many were done.
+    /// As `run`, and an observer is notified of each event.
     ///
     /// # Errors
-    /// As `run`; or the watcher's, and then the last of the events that were done is the one that it failed at.
-    pub fn run_watched<V: Watch<S>>(
+    /// As `run`; or the observer's, and then it failed at the last of the events that were done.
+    pub fn run_watched<V: Observer<S>>(
         &mut self,
         events: &[Event<'_>],
         watch: &mut V,
@@ -255,10 +229,7 @@ impl<S: RouteStore> Lab<S> {
         ensures reconfigurations { self.new.world.reconfigurations ≡ self.old.world.reconfigurations ++ reconfigurations_in (take result.0 (map event_of events.entry.now)) }
         ensures all { OnOk result.1 (result.0 ≡ length events.entry.now) }
         ensures refused { IfErr result.1 (λ why. IfRefused why (IsRefusedNext self.new (map event_of events.entry.now) result.0)) }
-        ensures backed { AreRoutesBackedSince self.new.network self.new.world }
-        ensures least { HaveNoneBelowLeastSince self.new.network self.new.world }
-        ensures truth { AreDatagramsSoundSince self.new.network self.new.world }
-        ensures fixed { HoldsFixed self.new.network self.new.world }
+        ensures keeps { Keeps self.new }
     {
         // The lab is opened, so that what holds of it is known before the first event.
         let _ = &self.running;

@@ -1,4 +1,4 @@
-//! Laws of networks, each the contract of a function with nothing to do: what follows from the definitions alone.
+//! Laws of networks. Each is the contract of an empty function: it follows from the definitions alone.
 
 ghost use Rattle.std.specs.Prelude.{◌≡◌, ℕ, ◌<◌, ◌≤◌, List, [], ◌∷◌, ◌++◌, length, Some, slice_get};
 ghost use Rattle.std.specs.List.{AllByRecursion};
@@ -28,8 +28,8 @@ ghost use Rattle.ripng_world.specs.Truth.{IsNeighbor, IsSoundTable, IsSoundEntry
 ghost use Rattle.ripng_world.specs.TruthSince.{IsNeighborSince, IsSoundTableSince, IsSoundEntrySince, IsSoundDatagramSince};
 ghost use Rattle.ripng_world.specs.World.{World, Event, IsCold, WorldRun, past_of, reconfigurations_in};
 
-/// A router whose routes are backed sends only entries that tell the cost and tag of a walk: over all that was in force
-/// since a cold start, and, with the same words, over a network with fixed costs and owners.
+/// A router whose routes are backed sends only entries with the cost and tag of a walk. `since` is for all costs and owners in
+/// force since a cold start, `fixed` for a network whose costs and owners never change.
 pub fn tells_only_walks()
     ensures since { (past : Past) (router : ℕ) (old new : State) (happening : Happening) (answer : Answer)
         → IsSoundTableSince past router old.table → Moves old happening answer new
@@ -39,13 +39,13 @@ pub fn tells_only_walks()
         → AllByRecursion (λ o. IsSoundDatagram net router o.bytes) answer.sends }
 {}
 
-/// A router that shuts down tells nothing but losses: each entry of each of its datagrams has metric 16.
+/// A router that shuts down advertises only unreachable routes: each entry of each of its datagrams has metric 16.
 pub fn shutdown_tells_losses()
     ensures { (old : State) (now : ℕ) (answer : Answer) (new : State) → Moves old (Happening.ShutsDown now) answer new
         → AllByRecursion (λ o. (entries : List Rte) → Spells Response entries o.bytes → AllByRecursion (λ e. e.metric ≡ infinity) entries) answer.sends }
 {}
 
-/// To hear such entries of a neighbor, to age, and to do a change keeps routes backed.
+/// Routes stay backed when a router processes such entries from a neighbor, ages its table, or changes its configuration.
 pub fn keeps_routes_backed()
     ensures heard { (past : Past) (router sender sender_iface : ℕ) (h : Hearing) (after : Table)
         → IsNeighborSince past router h.gateway sender sender_iface
@@ -65,9 +65,9 @@ pub fn keeps_routes_backed()
         → IsSoundTable net router table → IsSoundTable net router (aged_table now table) }
 {}
 
-/// In every network, after every list of events, reconfigurations among them, every route is backed by a walk, at costs in
-/// force since the cold start, to a router that has owned the prefix with the route's tag; and so is not below the least
-/// such cost. Addresses of interfaces may be any.
+/// The main theorem. In every network, after every list of events, changes of configuration among them, every route is backed by
+/// a walk, at costs in force since the cold start, to a router that has owned the prefix with the route's tag. So its metric is
+/// not below the least such cost. Interfaces may have any addresses.
 pub fn invents_no_distance()
     ensures backed { (net : Network) (moments : List ℕ) (events : List Event) (cold w : World)
         → OwnsPrefixes net → IsCold net moments cold → WorldRun net cold events w
@@ -84,8 +84,8 @@ pub fn invents_no_distance()
         → IsCold net moments cold → WorldRun net cold events w → w.reconfigurations ≡ reconfigurations_in events }
 {}
 
-/// In every network with fixed costs and fixed owners, after every list of events, every route is backed by a walk, and so
-/// is not below the least cost: the same while no change was done.
+/// The same while no configuration was changed: every route is backed by a walk of the network as it is, and so its metric is not
+/// below the least cost.
 pub fn invents_no_distance_unchanged()
     ensures backed { (net : Network) (moments : List ℕ) (events : List Event) (cold w : World)
         → OwnsPrefixes net → IsCold net moments cold → WorldRun net cold events w → w.reconfigurations ≡ []
@@ -100,8 +100,7 @@ pub fn invents_no_distance_unchanged()
         → AllByRecursion (λ d. IsSoundDatagram net d.router d.bytes) w.sent }
 {}
 
-/// With no change done, walks at costs in force since the cold start are the walks of the network; and these always are
-/// such walks.
+/// With no change done, walks at costs in force since the cold start are the walks of the network. The converse always holds.
 pub fn generalises_walks()
     ensures unchanged { (past : Past) (from : ℕ) (p : Prefix6) (metric tag : ℕ) (walk : List Hop)
         → past.reconfigurations ≡ [] → ReachesSince past from p metric tag walk → Reaches past.net from p metric tag walk }
@@ -109,15 +108,15 @@ pub fn generalises_walks()
         → Reaches past.net from p metric tag walk → ReachesSince past from p metric tag walk }
 {}
 
-/// Where addresses are distinct on each link, a learned route has one gateway: all walks that begin as its origin says have one
-/// first hop, to the interface that has the gateway's address.
+/// Where addresses are distinct on each link, a learned route has one gateway. All walks that begin as its origin says have the
+/// same first hop, to the interface with the gateway's address.
 pub fn names_one_gateway()
     ensures { (net : Network) (router iface from next_hop : ℕ) (a b : Hop) (rest rest' : List Hop) → HasDistinctAddresses net
         → IsWalk net router (a ∷ rest) → BeginsAs net (Learned iface from next_hop) (a ∷ rest)
         → IsWalk net router (b ∷ rest') → BeginsAs net (Learned iface from next_hop) (b ∷ rest') → a ≡ b }
 {}
 
-/// After so many synchronous rounds from a cold start, every router has exactly the least costs of walks with so many hops.
+/// After k synchronous rounds from a cold start, every router has exactly the least costs of walks of at most k hops.
 pub fn converges_in_rounds()
     ensures exact { (net : Network) (moments : List ℕ) (rounds : List Round) (cold w : World)
         → IsNetwork net → IsNeverQuiet net → FitsTables net
@@ -133,9 +132,8 @@ pub fn converges_in_rounds()
         → (r : RouteValue) × (map_of.get state.table p ≡ Some r) × (r.metric ≡ metric) }
 {}
 
-/// A network heals. Whatever happened since a cold start, losses, restarts and reconfigurations among it: from there on, once
-/// every router has told and heard all in so many synchronous rounds, each table holds exactly the least costs that the costs
-/// and owners of now make, and nothing else below infinity.
+/// A network heals, whatever happened since a cold start: losses, restarts, changes of configuration. After 26 synchronous rounds
+/// each table has exactly the least costs of now, by the costs and owners of now, and nothing else below infinity.
 pub fn heals_in_rounds()
     ensures { (net : Network) (moments : List ℕ) (events : List Event) (rounds : List Round) (cold w end : World)
         → IsNetwork net → IsNeverQuiet net → IsCold net moments cold → WorldRun net cold events w → FitsTablesSince (past_of net w)
@@ -143,10 +141,10 @@ pub fn heals_in_rounds()
         → AreHealed (network_now (past_of net end)) end }
 {}
 
-/// Where a network has healed, packets arrive. From every router, for every address that its forwarding table matches, and so for
-/// every one of a prefix that some walk of less than 16 reaches: they are handed on from router to router, past none of them twice,
-/// to one that owns a prefix which holds the address. As long as they stay with a prefix, they cost no more than the first router
-/// says of it. And they have one way at most.
+/// Where a network has healed, packets arrive: from every router, for every address that its forwarding table matches, so for every
+/// address of a prefix that a walk of cost below 16 reaches. They go from router to router, through none twice, to an owner of a
+/// prefix that holds the address. As long as they follow one prefix, they cost no more than the first router's metric. There is
+/// at most one way.
 pub fn packets_arrive()
     ensures healed { (net : Network) (w : World) → IsNetwork net → AreThere net w → AreHealed net w → PacketsArrive net w }
     ensures one_way { (net : Network) (fibs : Forwardings) (addr router : ℕ) (way other : List Hop) → HasDistinctAddresses net
@@ -157,18 +155,18 @@ pub fn packets_arrive()
         → PacketsArrive (network_now (past_of net end)) end }
 {}
 
-/// Synchronous rounds are a run of just their events.
+/// Synchronous rounds are a run of exactly their events.
 pub fn rounds_are_run()
     ensures { (net : Network) (rounds : List Round) (w end : World) → SynchronousRounds net w rounds end → WorldRun net w (events_of_rounds rounds) end }
 {}
 
-/// Rounds go on by rounds: those of several calls are those of one.
+/// Rounds after rounds are rounds: two calls are as good as one.
 pub fn rounds_go_on()
     ensures { (net : Network) (rounds later : List Round) (w mid end : World)
         → SynchronousRounds net w rounds mid → SynchronousRounds net mid later end → SynchronousRounds net w (rounds ++ later) end }
 {}
 
-/// A run goes on by a run.
+/// A run after a run is a run.
 pub fn runs_go_on()
     ensures { (net : Network) (events later : List Event) (w mid end : World)
         → WorldRun net w events mid → WorldRun net mid later end → WorldRun net w (events ++ later) end }

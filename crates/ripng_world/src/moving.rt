@@ -1,17 +1,16 @@
-//! How a router of a network moves, once nothing refuses the event.
+//! How the router of an event moves, once nothing refuses the event.
 
-ghost use Rattle.std.specs.Prelude.{◌≡◌, ℕ, ◌+◌, ◌<◌, ◌≤◌, ◌++◌, ◌∷◌, [], List, None, IfErr, IfOk, OnErr, OnOk, map, length, vec_len};
+ghost use Rattle.std.specs.Prelude.{◌≡◌, ℕ, ◌+◌, ◌<◌, ◌≤◌, ◌++◌, ◌∷◌, [], List, None, Some, IfErr, IfOk, OnErr, OnOk, map, length, slice_get, vec_len};
 ghost use Rattle.std.specs.Vec.{vec_capacity};
 ghost use Rattle.ripng_wire.specs.Wire.{first_reason};
 ghost use Rattle.router_core.specs.declared.reconfiguring.Change.{Change as ChangeValue};
-ghost use Rattle.ripng_world.specs.Events.{event_of};
+ghost use Rattle.ripng_world.specs.Events.{event_of, happening_of};
 ghost use Rattle.ripng_world.specs.Labs.{IsRefusal, event_fault, lab_of, named_reasons};
-ghost use Rattle.ripng_world.specs.Lying.{LieStations, lie_fault};
-ghost use Rattle.ripng_world.specs.Stations.{MoveStations, network_of};
-ghost use Rattle.ripng_world.specs.World.{Deliver, Stranger, Tick, Restart, Shutdown, LinkDown, Reconfigure, arrival_of, reconfigurations_in, sent_by};
+ghost use Rattle.ripng_world.specs.Stations.{IsMoveAt, IsPlaced, MoveStations, StationValue, network_of};
+ghost use Rattle.ripng_world.specs.World.{Deliver, Reconfigure, arrival_of, reconfigurations_in, sent_by};
 ghost use Rattle.ripng_world.specs.declared.sent.Sent.{Sent as SentValue};
 
-use crate::event::{Event, LabError};
+use crate::event::{Event, Happening, LabError};
 use crate::refusing::interface_at;
 use crate::sent::Sent;
 use crate::station::Station;
@@ -43,7 +42,7 @@ fn arrival_of<'a, S: RouteStore>(
     }
 }
 
-/// A datagram of the network is delivered. Room for what is sent is made first, here and below.
+/// A datagram of the network is delivered. Room for what the router sends is made first, here and below.
 fn deliver<S: RouteStore>(
     stations: &mut [Station<S>],
     sent: &mut Vec<Sent>,
@@ -61,12 +60,12 @@ fn deliver<S: RouteStore>(
     let room = stations[router].answer_room(sent[datagram].bytes.as_slice().len());
     sent.reserve(room)?;
     let arrival = arrival_of(stations, &sent[datagram], iface, now);
-    let answer = stations[router].arrive(arrival)?;
+    let answer = stations[router].happen(Happening::Arrives(arrival))?;
     Ok(answer)
 }
 
-/// An arrival again, for the router that is to take it.
-fn again<'a>(arrival: &Arrival<'a>) -> Arrival<'a>
+/// A copy of an arrival, for the router that is to take it.
+pub fn again<'a>(arrival: &Arrival<'a>) -> Arrival<'a>
     ensures { result ≡ arrival.entry.now }
 {
     Arrival {
@@ -80,112 +79,25 @@ fn again<'a>(arrival: &Arrival<'a>) -> Arrival<'a>
     }
 }
 
-/// A stranger's datagram comes.
-fn intrude<S: RouteStore>(
+/// Something happens at a router. Room for what the router sends is made first, and nothing is added yet.
+pub fn act<S: RouteStore>(
     stations: &mut [Station<S>],
     sent: &mut Vec<Sent>,
     router: usize,
-    arrival: &Arrival<'_>,
+    happening: Happening<'_>,
 ) -> Result<Answer, AllocError>
-    requires { event_fault (lab_of stations.old sent.old.items []) (Stranger router arrival.now) ≡ None }
-    ensures moves { IfOk result (λ answer. (reconfigurations : List (ℕ × ChangeValue)) → MoveStations stations.old sent.old.items reconfigurations (Stranger router arrival.entry.now) answer stations.new) }
+    requires there { router < length stations.old }
+    requires placed { (s : StationValue) → slice_get stations.old router ≡ Some s → IsPlaced s.node (happening_of happening) }
+    ensures moves { IfOk result (λ answer. IsMoveAt stations.old router (happening_of happening.entry) answer stations.new) }
     ensures room { IfOk result (λ answer. vec_len sent.new + length answer.sends ≤ vec_capacity sent.new) }
     ensures sent { sent.new.items ≡ sent.old.items }
     ensures err { OnErr result (stations.new ≡ stations.old) }
 {
-    let room = stations[router].answer_room(arrival.bytes.len());
-    sent.reserve(room)?;
-    let answer = stations[router].arrive(again(arrival))?;
-    Ok(answer)
+    sent.reserve(stations[router].room(&happening))?;
+    stations[router].happen(happening)
 }
 
-/// A liar's Response comes. Room for what is sent is made, and nothing is added yet.
-pub fn deceive<S: RouteStore>(
-    stations: &mut [Station<S>],
-    sent: &mut Vec<Sent>,
-    router: usize,
-    arrival: &Arrival<'_>,
-) -> Result<Answer, AllocError>
-    requires { lie_fault (lab_of stations.old sent.old.items []) router arrival.now ≡ None }
-    ensures moves { IfOk result (λ answer. (reconfigurations : List (ℕ × ChangeValue)) → LieStations stations.old sent.old.items reconfigurations router arrival.entry.now answer stations.new) }
-    ensures room { IfOk result (λ answer. vec_len sent.new + length answer.sends ≤ vec_capacity sent.new) }
-    ensures sent { sent.new.items ≡ sent.old.items }
-    ensures err { OnErr result (stations.new ≡ stations.old) }
-{
-    let room = stations[router].answer_room(arrival.bytes.len());
-    sent.reserve(room)?;
-    let answer = stations[router].arrive(again(arrival))?;
-    Ok(answer)
-}
-
-/// Time passes at a router.
-fn tick<S: RouteStore>(
-    stations: &mut [Station<S>],
-    sent: &mut Vec<Sent>,
-    router: usize,
-    now: Moment,
-    word: u32,
-) -> Result<Answer, AllocError>
-    requires { router < length stations.old }
-    ensures moves { IfOk result (λ answer. (reconfigurations : List (ℕ × ChangeValue)) → MoveStations stations.old sent.old.items reconfigurations (Tick router now word) answer stations.new) }
-    ensures room { IfOk result (λ answer. vec_len sent.new + length answer.sends ≤ vec_capacity sent.new) }
-    ensures sent { sent.new.items ≡ sent.old.items }
-    ensures err { OnErr result (stations.new ≡ stations.old) }
-{
-    sent.reserve(stations[router].update_room())?;
-    stations[router].tick(now, word)
-}
-
-/// A router comes up again.
-fn restart<S: RouteStore>(
-    stations: &mut [Station<S>],
-    sent: &mut Vec<Sent>,
-    router: usize,
-    now: Moment,
-) -> Result<Answer, AllocError>
-    requires { router < length stations.old }
-    ensures moves { IfOk result (λ answer. (reconfigurations : List (ℕ × ChangeValue)) → MoveStations stations.old sent.old.items reconfigurations (Restart router now) answer stations.new) }
-    ensures room { IfOk result (λ answer. vec_len sent.new + length answer.sends ≤ vec_capacity sent.new) }
-    ensures sent { sent.new.items ≡ sent.old.items }
-    ensures err { OnErr result (stations.new ≡ stations.old) }
-{
-    sent.reserve(stations[router].start_room())?;
-    stations[router].restart(now)
-}
-
-/// A router shuts down.
-fn shutdown<S: RouteStore>(
-    stations: &mut [Station<S>],
-    sent: &mut Vec<Sent>,
-    router: usize,
-    now: Moment,
-) -> Result<Answer, AllocError>
-    requires { router < length stations.old }
-    ensures moves { IfOk result (λ answer. (reconfigurations : List (ℕ × ChangeValue)) → MoveStations stations.old sent.old.items reconfigurations (Shutdown router now) answer stations.new) }
-    ensures room { IfOk result (λ answer. vec_len sent.new + length answer.sends ≤ vec_capacity sent.new) }
-    ensures sent { sent.new.items ≡ sent.old.items }
-    ensures err { OnErr result (stations.new ≡ stations.old) }
-{
-    sent.reserve(stations[router].update_room())?;
-    stations[router].shutdown(now)
-}
-
-/// The link of an interface of a router goes down. Nothing is sent.
-fn link_down<S: RouteStore>(
-    stations: &mut [Station<S>],
-    router: usize,
-    now: Moment,
-    iface: usize,
-) -> Result<Answer, AllocError>
-    requires { router < length stations.old }
-    ensures moves { IfOk result (λ answer. (sent : List SentValue) (reconfigurations : List (ℕ × ChangeValue)) → MoveStations stations.old sent reconfigurations (LinkDown router now iface) answer stations.new) }
-    ensures silent { IfOk result (λ answer. answer.sends ≡ []) }
-    ensures err { OnErr result (stations.new ≡ stations.old) }
-{
-    stations[router].link_down(now, iface)
-}
-
-/// The configuration of a router is changed. Room for the change, among those that were done, is made first.
+/// The configuration of a router is changed. Room to record the change is made first.
 fn reconfigure<S: RouteStore>(
     stations: &mut [Station<S>],
     reconfigurations: &mut Vec<(usize, Change)>,
@@ -207,8 +119,8 @@ fn reconfigure<S: RouteStore>(
     Ok(answer)
 }
 
-/// The router of an event moves. Room for what it sends is made, and nothing is added yet; a change is added to those that
-/// were done.
+/// The router of an event moves. Room for what it sends is made, and nothing is added yet; a change of its configuration is
+/// recorded.
 pub fn happen<S: RouteStore>(
     stations: &mut [Station<S>],
     sent: &mut Vec<Sent>,
@@ -231,12 +143,26 @@ pub fn happen<S: RouteStore>(
             iface,
             now,
         } => Ok(deliver(stations, sent, *datagram, *router, *iface, *now)?),
-        Event::Stranger { router, arrival } => Ok(intrude(stations, sent, *router, arrival)?),
-        Event::Tick { router, now, word } => Ok(tick(stations, sent, *router, *now, *word)?),
-        Event::Restart { router, now } => Ok(restart(stations, sent, *router, *now)?),
-        Event::Shutdown { router, now } => Ok(shutdown(stations, sent, *router, *now)?),
+        Event::Stranger { router, arrival } => {
+            let arrives = Happening::Arrives(again(arrival));
+            Ok(act(stations, sent, *router, arrives)?)
+        }
+        Event::Tick { router, now, word } => {
+            Ok(act(stations, sent, *router, Happening::Ticks(*now, *word))?)
+        }
+        Event::Restart { router, now } => {
+            Ok(act(stations, sent, *router, Happening::Restarts(*now))?)
+        }
+        Event::Shutdown { router, now } => {
+            Ok(act(stations, sent, *router, Happening::ShutsDown(*now))?)
+        }
         Event::LinkDown { router, now, iface } => {
-            Ok(link_down(stations, *router, *now, *iface)?)
+            Ok(act(
+                stations,
+                sent,
+                *router,
+                Happening::LinkGoesDown(*now, *iface),
+            )?)
         }
         Event::Reconfigure {
             router,

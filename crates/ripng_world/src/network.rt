@@ -21,18 +21,18 @@ pub const ROUTER_LIMIT: usize = 64;
 #[derive(Clone, Copy, Debug, PartialEq, Eq)]
 pub struct NetInterface {
     pub interface: Interface,
-    /// The number of its link: interfaces of one link hear each other.
+    /// The number of its link: interfaces of one link receive from each other.
     pub link: u16,
 }
 
-/// What one router of a network is asked to be.
+/// The configuration of one router of a network.
 #[derive(Drop)]
 pub struct Node {
     /// Its interfaces, numbered from 0.
     pub interfaces: Vec<NetInterface>,
     /// The prefixes that it owns, each with its route tag.
     pub prefixes: Vec<(Prefix, u16)>,
-    /// Whether it only listens, and answers askers that are no routers.
+    /// Whether it is passive: it learns, and answers only management queries.
     pub quiet: bool,
 }
 
@@ -48,8 +48,8 @@ impl Model for Node {
     } };
 }
 
-/// Why a network is refused: the first reason to refuse it, or want of memory. Each router is tested before the addresses
-/// that routers share.
+/// Why a network is refused: the first reason to refuse it, or out of memory. Each router is tested before the addresses that
+/// routers share.
 #[derive(Clone, Copy, Debug, PartialEq, Eq)]
 pub enum NetRefused {
     /// It has more than `ROUTER_LIMIT` routers.
@@ -239,7 +239,7 @@ impl NetConfig {
     /// A network of these routers, numbered from 0.
     ///
     /// # Errors
-    /// The first reason that applies, or want of memory; what was given is dropped.
+    /// The first reason that applies, or out of memory; what was given is dropped.
     pub fn check(alloc: Global, routers: Vec<Node>) -> Result<NetConfig, NetRefused>
         ensures kept { IfOk result (λ network. network ≡ routers.items) }
         ensures passes { OnOk result (network_fault routers.items ≡ None) }

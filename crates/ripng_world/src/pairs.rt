@@ -1,6 +1,6 @@
 //! Which datagrams come where: pairs of a datagram and another interface of its link.
 
-ghost use Rattle.std.specs.Prelude.{◌≡◌, ◌≤◌, ◌++◌, IfOk, OnOk, length, map};
+ghost use Rattle.std.specs.Prelude.{◌≡◌, ◌++◌, IfOk, OnOk, map};
 ghost use Rattle.std.specs.List.{filter, range_with_len};
 ghost use Rattle.ripng_world.specs.AskedRounds.{is_other, pair_at, pairs_since, interfaces_of};
 ghost use Rattle.ripng_world.specs.Stations.{network_of};
@@ -52,8 +52,8 @@ fn add_interfaces(
     Ok(())
 }
 
-/// All interfaces of the network, each behind its router's number, in order.
-pub fn interfaces<S: RouteStore>(
+/// All interfaces of the network, each after its router's number, in order.
+fn interfaces<S: RouteStore>(
     alloc: Global,
     stations: &[Station<S>],
 ) -> Result<Vec<(usize, usize)>, AllocError>
@@ -86,24 +86,6 @@ fn is_other<S: RouteStore>(
     }
 }
 
-/// The other interfaces of the link of a datagram, in order.
-pub fn other_interfaces<S: RouteStore>(
-    alloc: Global,
-    stations: &[Station<S>],
-    interfaces: &[(usize, usize)],
-    datagram: &Sent,
-) -> Result<Vec<(usize, usize)>, AllocError>
-    ensures { IfOk result (λ others. others.items ≡ filter (is_other (network_of stations.now) datagram.now) interfaces.now) }
-{
-    let mut others = Vec::new(alloc);
-    for &(router, iface) in interfaces {
-        if is_other(stations, datagram, router, iface) {
-            others.push((router, iface))?;
-        }
-    }
-    Ok(others)
-}
-
 /// Adds a datagram with each interface of its link.
 fn add_pairs<S: RouteStore>(
     pairs: &mut Vec<Pair>,
@@ -133,7 +115,6 @@ pub fn pairs_since<S: RouteStore>(
     sent: &[Sent],
     first: usize,
 ) -> Result<Vec<Pair>, AllocError>
-    requires { first ≤ length sent.now }
     ensures { IfOk result (λ pairs. pairs.items ≡ pairs_since (network_of stations.now) first sent.now) }
 {
     let interfaces = interfaces(alloc, stations)?;

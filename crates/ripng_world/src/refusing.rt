@@ -88,7 +88,7 @@ fn check_delivery<S: RouteStore>(
     }
 }
 
-/// Whether the router takes the arrival for a Response of its link. Nothing but a Response is decoded for that.
+/// Whether the router would accept the arrival as a Response. Only a Response is decoded for that.
 fn is_heard<S: RouteStore>(router: &Router<S>, arrival: &Arrival<'_>) -> bool
     ensures { result ≡ is_heard router.now arrival.entry.now }
 {
@@ -97,7 +97,7 @@ fn is_heard<S: RouteStore>(router: &Router<S>, arrival: &Arrival<'_>) -> bool
         && router.fault_of(arrival).is_none()
 }
 
-/// Whether the arrival may be a stranger's.
+/// Whether an outside host may send the arrival.
 fn check_stranger<S: RouteStore>(
     stations: &[Station<S>],
     sent: &[Sent],
@@ -114,7 +114,7 @@ fn check_stranger<S: RouteStore>(
     }
 }
 
-/// Whether the arrival may be a liar's: one that the router takes for a Response of its link.
+/// Whether the arrival is a forged Response: one that the router would accept.
 pub fn check_liar<S: RouteStore>(
     stations: &[Station<S>],
     router: usize,

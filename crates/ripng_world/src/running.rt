@@ -1,21 +1,20 @@
-//! Routers of a network that run at their places, with all that they have sent. Of them is promised what each step does, and nothing
-//! more: what holds of a network that was never lied to is promised of a `Lab`, which is made of this.
+//! Routers that run in a network, with all that they have sent. Only what each step does is promised of them. More holds while no
+//! router has received a forged Response: that is promised of a `Lab`, which is made of this.
 
-ghost use Rattle.std.specs.Prelude.{◌≡◌, ◌++◌, ◌∷◌, [], None, IfErr, IfOk, OnErr, OnOk, length, slice_get};
+ghost use Rattle.std.specs.Prelude.{◌≡◌, ◌∷◌, [], IfErr, IfOk, OnErr, length, slice_get};
 ghost use Rattle.std.specs.Option.{option_copied};
 ghost use Rattle.std.specs.Result.{result_err};
 ghost use Rattle.ripng_world.specs.Events.{event_of};
-ghost use Rattle.ripng_world.specs.Labs.{HappensGiving, IsRefusal, link_at, step_fault};
+ghost use Rattle.ripng_world.specs.Labs.{HappensGiving, StepEnds, link_at};
 ghost use Rattle.ripng_world.specs.Lying.{IsLieRefusal, LiesGiving, lie_fault};
-ghost use Rattle.ripng_world.specs.Watching.{WatchedInPart, failures};
-ghost use Rattle.ripng_world.specs.World.{reconfigurations_in};
+ghost use Rattle.ripng_world.specs.Watching.{IfRefused, WatchedInPart, failures, refusal_in};
 
-use crate::event::{Event, LabError};
-use crate::moving::{deceive, file, happen};
+use crate::event::{Event, Happening, LabError};
+use crate::moving::{act, again, file, happen};
 use crate::refusing::{check, check_liar, link_at};
 use crate::sent::Sent;
 use crate::station::Station;
-use crate::watch::{Stopped, Watch};
+use crate::watch::{Observer, Stopped};
 use fib::RouteChange;
 use route_table::RouteStore;
 use router_core::{Answer, Arrival, Change, Fault, Listed, Note, Router};
@@ -46,7 +45,7 @@ impl<S: RouteStore> Model for Running<S> {
     ghost view = { λ l. lab_of l.stations.items l.sent.items l.reconfigurations.items };
 }
 
-/// What is handed out of an answer whose sends were taken.
+/// An answer without its sends, which were taken.
 fn handed_out(
     alloc: Global,
     fault: Option<Fault>,
@@ -71,7 +70,7 @@ impl<S: RouteStore> Running<S> {
         self.stations.len()
     }
 
-    /// A router of the network, if it has one of that number.
+    /// The router with that number, if the network has it.
     pub fn router(&self, router: usize) -> Option<&Router<S>>
         ensures { option_copied result ≡ slice_get self.now.world.states router }
     {
@@ -88,7 +87,7 @@ impl<S: RouteStore> Running<S> {
         &self.sent
     }
 
-    /// The changes that routers have done since the cold start, each with its router, in order.
+    /// The changes of configuration that routers have done since the cold start, each with its router, in order.
     pub fn reconfigurations(&self) -> &[(usize, Change)]
         ensures { result.now ≡ self.now.world.reconfigurations }
     {
@@ -102,19 +101,15 @@ impl<S: RouteStore> Running<S> {
         link_at(&self.stations, router, iface)
     }
 
-    /// An event happens: one router moves, and answers. What it sends is moved to the end of `sent`, and is not in the
-    /// answer that is given.
+    /// An event happens: one router moves, and answers. What it sends goes to the end of `sent`, and is not in the answer.
     ///
     /// # Errors
-    /// The first reason to refuse the event, or want of memory; all is then as it was. Room for a change is made before
-    /// its router is asked.
+    /// The first reason to refuse the event, or out of memory; nothing is then changed. Room for a change of configuration is
+    /// made before its router is asked.
     pub fn step(&mut self, event: &Event<'_>) -> Result<Answer, LabError>
         ensures happens { IfOk result (λ answer. HappensGiving self.old (event_of event.entry.now) answer self.new.world) }
         ensures network { self.new.network ≡ self.old.network }
-        ensures reconfigurations { OnOk result (self.new.world.reconfigurations ≡ self.old.world.reconfigurations ++ reconfigurations_in (event_of event.entry.now ∷ [])) }
-        ensures passes { OnOk result (step_fault self.old (event_of event.entry.now) ≡ None) }
-        ensures refused { IfErr result (λ why. IsRefusal self.old (event_of event.entry.now) why) }
-        ensures err { OnErr result (self.new ≡ self.old) }
+        ensures ends { StepEnds self.old (event_of event.entry.now) (result_err result) self.new }
     {
         check(&self.stations, &self.sent, event)?;
         let answer = happen(
@@ -127,11 +122,11 @@ impl<S: RouteStore> Running<S> {
         Ok(handed_out(self.alloc, answer.fault, answer.changes, answer.notes))
     }
 
-    /// An event happens as `step` makes it, and a watcher is told of it with its answer.
+    /// As `step`, and then an observer is notified of the event with its answer.
     ///
     /// # Errors
-    /// As `step`, and then nobody is told; or the watcher's, and then the event is done.
-    pub fn step_watched<V: Watch<S>>(
+    /// As `step`, and then nobody is notified; or the observer's, and then the event is done.
+    pub fn step_watched<V: Observer<S>>(
         &mut self,
         event: &Event<'_>,
         watch: &mut V,
@@ -140,6 +135,8 @@ impl<S: RouteStore> Running<S> {
         ensures stopped { IfErr result (λ why. WatchedInPart V.takes V.fails (failures why) self.old.network (self.old.world, watch.old) (event_of event.entry.now ∷ []) (self.new.world, watch.new)) }
         ensures happens { IfOk result (λ answer. HappensGiving self.old (event_of event.entry.now) answer self.new.world) }
         ensures network { self.new.network ≡ self.old.network }
+        ensures ends { StepEnds self.old (event_of event.entry.now) (refusal_in result) self.new }
+        ensures untold { IfErr result (λ why. IfRefused why (λ _. watch.new ≡ watch.old)) }
     {
         let first = self.sent().len();
         let answer = match self.step(event) {
@@ -152,22 +149,21 @@ impl<S: RouteStore> Running<S> {
         }
     }
 
-    /// Why a liar's datagram is refused, if it is: there is no such router or interface, or the router does not take it for a
-    /// Response of its link, so that it is any stranger's.
+    /// Whether a datagram is a forged Response: the router would accept it as one from a neighbor.
     ///
     /// # Errors
-    /// That reason.
+    /// The first reason that it is not: no such router, no such interface, or a datagram that any outside host may send.
     pub fn check_lie(&self, router: usize, arrival: &Arrival<'_>) -> Result<(), LabError>
         ensures { result_err result ≡ lie_fault self.now router arrival.entry.now }
     {
         check_liar(&self.stations, router, arrival)
     }
 
-    /// A lie comes: a Response that the router takes for one of its link, which nobody of the network has sent. The router moves by
-    /// its own step, and answers. Behind it nothing is promised of any table.
+    /// A forged Response comes: the router accepts it as one from a neighbor, but no router of the network has sent it. The router
+    /// moves by its own step, and answers. After it nothing is promised of any table.
     ///
     /// # Errors
-    /// The reason to refuse it, as `check_lie` has it, or want of memory; all is then as it was.
+    /// The reason to refuse it, as `check_lie` has it, or out of memory; nothing is then changed.
     pub fn lie(&mut self, router: usize, arrival: &Arrival<'_>) -> Result<Answer, LabError>
         ensures lies { IfOk result (λ answer. LiesGiving self.old router arrival.entry.now answer self.new.world) }
         ensures network { self.new.network ≡ self.old.network }
@@ -175,7 +171,8 @@ impl<S: RouteStore> Running<S> {
         ensures err { OnErr result (self.new ≡ self.old) }
     {
         self.check_lie(router, arrival)?;
-        let answer = deceive(&mut self.stations, &mut self.sent, router, arrival)?;
+        let arrives = Happening::Arrives(again(arrival));
+        let answer = act(&mut self.stations, &mut self.sent, router, arrives)?;
         file(&mut self.sent, router, answer.sends);
         Ok(handed_out(self.alloc, answer.fault, answer.changes, answer.notes))
     }

@@ -1,18 +1,21 @@
-//! A router that runs at its place in a network.
+//! A router that runs in a network.
 
-ghost use Rattle.std.specs.Prelude.{◌≡◌, ◌<◌, ◌≤◌, ◌*◌, ◌/◌, [], max, IfErr, IfOk, OnErr, length, slice_get, unwrap_or};
+ghost use Rattle.std.specs.Prelude.{◌≡◌, ◌≤◌, ◌/◌, [], max, IfErr, IfOk, OnErr, length, slice_get, unwrap_or};
 ghost use Rattle.std.specs.FinMap as map_of;
-ghost use Rattle.router_core.specs.Machine.{Happening, Moves, Starts};
+ghost use Rattle.router_core.specs.Machine.{Moves, Reconfigures, Starts};
 ghost use Rattle.router_core.specs.Reconfiguring.{NamesInterface, reconfigure_fault};
+ghost use Rattle.ripng_world.specs.Events.{happening_of};
 ghost use Rattle.ripng_world.specs.Network.{config_of};
+ghost use Rattle.ripng_world.specs.Stations.{IsPlaced, most_sends};
 
+use crate::event::Happening;
 use crate::network::{NetInterface, NetRouter, Node};
 use route_table::{Moment, RouteStore};
-use router_core::{Answer, Arrival, Change, ReconfigureRefused, Router};
+use router_core::{Answer, Change, ReconfigureRefused, Router};
 use std::alloc::{AllocError, Global};
 use std::marker::Model;
 
-/// A router, and what it was asked to be when it started. Its costs and owned prefixes may be others by now.
+/// A router, and what it was configured to be when it started. Its costs and owned prefixes may have changed since.
 #[derive(Drop)]
 pub struct Station<S: RouteStore> {
     node: Node,
@@ -41,7 +44,7 @@ impl<S: RouteStore> Station<S> {
     /// The router of a network starts.
     ///
     /// # Errors
-    /// Only want of memory.
+    /// Out of memory, and no other.
     pub fn start(
         alloc: Global,
         router: NetRouter,
@@ -76,14 +79,14 @@ impl<S: RouteStore> Station<S> {
         self.node.interfaces.get(iface).copied()
     }
 
-    /// What its interfaces were asked to be when it started.
+    /// Its interfaces as they were configured when it started.
     pub fn interfaces(&self) -> &[NetInterface]
         ensures { result.now ≡ self.now.node.interfaces }
     {
         &self.node.interfaces
     }
 
-    /// No answer to so many bytes has more datagrams than this.
+    /// The most datagrams in an answer to an arrival of that many bytes.
     pub fn answer_room(&self, bytes: usize) -> usize
         ensures value { result ≡ max (map_of.len self.now.state.table) (bytes / 20) }
         ensures interfaces { length self.now.state.config.interfaces ≡ length self.now.node.interfaces }
@@ -91,93 +94,48 @@ impl<S: RouteStore> Station<S> {
         self.router.routes().len().max(bytes / 20)
     }
 
-    /// No update has more datagrams than this.
-    pub fn update_room(&self) -> usize
-        ensures { result ≡ map_of.len self.now.state.table * length self.now.state.config.interfaces }
+    /// The most datagrams in an answer.
+    pub fn room(&self, happening: &Happening<'_>) -> usize
+        ensures value { result ≡ most_sends self.now.state (happening_of happening.entry.now) }
+        ensures interfaces { length self.now.state.config.interfaces ≡ length self.now.node.interfaces }
     {
-        self.router.routes().len() * self.router.config().interfaces().len()
+        let routes = self.router.routes().len();
+        let interfaces = self.router.config().interfaces().len();
+        match happening {
+            Happening::Arrives(arrival) => self.answer_room(arrival.bytes.len()),
+            Happening::Ticks(..) | Happening::ShutsDown(_) => routes * interfaces,
+            Happening::Restarts(_) => interfaces,
+            Happening::LinkGoesDown(..) => 0,
+        }
     }
 
-    /// No start has more datagrams than this.
-    pub fn start_room(&self) -> usize
-        ensures { result ≡ length self.now.state.config.interfaces }
-    {
-        self.router.config().interfaces().len()
-    }
-
-    /// A datagram comes to the router.
+    /// Something happens at the router.
     ///
     /// # Errors
-    /// Only want of memory; the router is then as it was.
-    pub fn arrive(&mut self, arrival: Arrival<'_>) -> Result<Answer, AllocError>
-        requires { arrival.iface < length self.old.node.interfaces }
-        ensures moves { IfOk result (λ answer. Moves self.old.state (Happening.Arrives arrival.entry) answer self.new.state) }
-        ensures few { IfOk result (λ answer. length answer.sends ≤ max (map_of.len self.old.state.table) (length arrival.entry.bytes / 20)) }
+    /// Out of memory; the router is then unchanged.
+    pub fn happen(&mut self, happening: Happening<'_>) -> Result<Answer, AllocError>
+        requires { IsPlaced self.old.node (happening_of happening) }
+        ensures moves { IfOk result (λ answer. Moves self.old.state (happening_of happening.entry) answer self.new.state) }
+        ensures few { IfOk result (λ answer. length answer.sends ≤ most_sends self.old.state (happening_of happening.entry)) }
         ensures node { self.new.node ≡ self.old.node }
         ensures err { OnErr result (self.new ≡ self.old) }
     {
-        self.router.arrive(arrival)
-    }
-
-    /// Time passes at the router.
-    ///
-    /// # Errors
-    /// Only want of memory; the router is then as it was.
-    pub fn tick(&mut self, now: Moment, word: u32) -> Result<Answer, AllocError>
-        ensures moves { IfOk result (λ answer. Moves self.old.state (Happening.Ticks now word) answer self.new.state) }
-        ensures few { IfOk result (λ answer. length answer.sends ≤ map_of.len self.old.state.table * length self.old.state.config.interfaces) }
-        ensures node { self.new.node ≡ self.old.node }
-        ensures err { OnErr result (self.new ≡ self.old) }
-    {
-        self.router.tick(now, word)
-    }
-
-    /// The router comes up again.
-    ///
-    /// # Errors
-    /// Only want of memory; the router is then as it was.
-    pub fn restart(&mut self, now: Moment) -> Result<Answer, AllocError>
-        ensures moves { IfOk result (λ answer. Moves self.old.state (Happening.Restarts now) answer self.new.state) }
-        ensures few { IfOk result (λ answer. length answer.sends ≤ length self.old.state.config.interfaces) }
-        ensures node { self.new.node ≡ self.old.node }
-        ensures err { OnErr result (self.new ≡ self.old) }
-    {
-        self.router.restart(now)
-    }
-
-    /// The router shuts down.
-    ///
-    /// # Errors
-    /// Only want of memory; the router is then as it was.
-    pub fn shutdown(&mut self, now: Moment) -> Result<Answer, AllocError>
-        ensures moves { IfOk result (λ answer. Moves self.old.state (Happening.ShutsDown now) answer self.new.state) }
-        ensures few { IfOk result (λ answer. length answer.sends ≤ map_of.len self.old.state.table * length self.old.state.config.interfaces) }
-        ensures node { self.new.node ≡ self.old.node }
-        ensures err { OnErr result (self.new ≡ self.old) }
-    {
-        self.router.shutdown(now)
-    }
-
-    /// The link of one of its interfaces goes down.
-    ///
-    /// # Errors
-    /// Only want of memory; the router is then as it was.
-    pub fn link_down(&mut self, now: Moment, iface: usize) -> Result<Answer, AllocError>
-        ensures moves { IfOk result (λ answer. Moves self.old.state (Happening.LinkGoesDown now iface) answer self.new.state) }
-        ensures silent { IfOk result (λ answer. answer.sends ≡ []) }
-        ensures node { self.new.node ≡ self.old.node }
-        ensures err { OnErr result (self.new ≡ self.old) }
-    {
-        self.router.link_down(now, iface)
+        match happening {
+            Happening::Arrives(arrival) => self.router.arrive(arrival),
+            Happening::Ticks(now, word) => self.router.tick(now, word),
+            Happening::Restarts(now) => self.router.restart(now),
+            Happening::ShutsDown(now) => self.router.shutdown(now),
+            Happening::LinkGoesDown(now, iface) => self.router.link_down(now, iface),
+        }
     }
 
     /// The configuration of the router is changed.
     ///
     /// # Errors
-    /// The first reason to refuse the change, else want of memory; the router is then as it was.
+    /// The first reason to refuse the change, else out of memory; the router is then unchanged.
     pub fn reconfigure(&mut self, now: Moment, change: Change) -> Result<Answer, ReconfigureRefused>
         requires { NamesInterface (config_of self.old.node) change }
-        ensures moves { IfOk result (λ answer. Moves self.old.state (Happening.Reconfigures now change) answer self.new.state) }
+        ensures moves { IfOk result (λ answer. Moves self.old.state (Reconfigures now change) answer self.new.state) }
         ensures silent { IfOk result (λ answer. answer.sends ≡ []) }
         ensures node { self.new.node ≡ self.old.node }
         ensures refused { IfErr result (λ why. why ≡ unwrap_or (reconfigure_fault self.old.state.config self.old.state.table change) ReconfigureRefused.OutOfMemory) }

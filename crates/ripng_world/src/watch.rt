@@ -1,4 +1,4 @@
-//! Who is told what happens in a lab, and how a call ends that tells it.
+//! Observers of a lab, and how a call ends that has one.
 
 ghost use Rattle.std.specs.Prelude.{⊤, OnErr, OnOk};
 ghost use Rattle.ripng_world.specs.Events.{event_of};
@@ -10,21 +10,21 @@ use route_table::RouteStore;
 use router_core::Answer;
 use std::convert::Infallible;
 
-/// Who is told of each event of a lab, as soon as it is done. It changes nothing of the lab, and may fail.
-pub trait Watch<S: RouteStore> {
-    /// Why a telling fails.
+/// An observer is notified of each event of a lab, as soon as it is done. It cannot change the lab, and may fail.
+pub trait Observer<S: RouteStore> {
+    /// Why the observer fails.
     type Fault: Drop;
 
-    // What a telling makes of it: how it was, what it is told, and how it is then.
+    // What a notice makes of the observer: how it was, the notice, and how it is then.
     ghost takes: { Self → Told → Self → Type 0 };
-    // What a telling that fails makes of it.
+    // The same of a notice that fails.
     ghost fails: { Self → Told → Self → Type 0 };
 
-    /// An event was done, and left the lab like this. The answer is that of the router that moved; its sends are the
-    /// lab's datagrams from the number `first` on, and are not in the answer.
+    /// An event was done, and left the lab like this. The answer is that of the router that moved. Its sends are the lab's
+    /// datagrams from the number `first` on, and are not in the answer.
     ///
     /// # Errors
-    /// What the watcher fails with. The event stays done, and the call that made it ends.
+    /// The observer's own. The event stays done, and the call that made it ends.
     fn happened(
         &mut self,
         lab: &Running<S>,
@@ -36,11 +36,11 @@ pub trait Watch<S: RouteStore> {
         ensures fails { OnErr result (fails self.old (record { lab = lab.now; event = event_of event.now; answer = answer.now; first = first }) self.new) };
 }
 
-/// Nobody: a watcher that does nothing with what it is told.
+/// An observer that does nothing, and never fails.
 #[derive(Clone, Copy, Debug, PartialEq, Eq)]
 pub struct Unwatched;
 
-impl<S: RouteStore> Watch<S> for Unwatched {
+impl<S: RouteStore> Observer<S> for Unwatched {
     type Fault = Infallible;
 
     ghost takes = { λ _ _ _. ⊤ };
@@ -58,12 +58,12 @@ impl<S: RouteStore> Watch<S> for Unwatched {
     }
 }
 
-/// Why a call that tells a watcher ends early.
+/// Why a call with an observer ends early.
 #[derive(Debug, Drop)]
 pub enum Stopped<R, F> {
-    /// For a reason of the call that tells nobody.
+    /// For a reason that the call without an observer has too.
     Refused(R),
-    /// The watcher failed.
+    /// The observer failed.
     Failed(F),
 }
 
@@ -71,7 +71,7 @@ impl<R: Drop, F> Stopped<R, F> {
     ghost use Rattle.std.specs.Prelude.{◌≡◌};
     ghost use Rattle.ripng_world.specs.Watching.{failures, refused_as};
 
-    /// How many tellings failed: one, if the watcher ended the call.
+    /// How many notices failed: one, if the observer ended the call.
     pub fn failures(&self) -> usize
         ensures { result ≡ failures self.now }
     {
@@ -96,7 +96,7 @@ impl<R> Stopped<R, Infallible> {
     ghost use Rattle.std.specs.Prelude.{◌≡◌};
     ghost use Rattle.ripng_world.specs.declared.watch.Stopped.TheVariants.{Refused};
 
-    /// The refusal, where the watcher cannot fail.
+    /// The refusal, where the observer cannot fail.
     pub fn refusal(self) -> R
         ensures { self ≡ Refused result }
     {

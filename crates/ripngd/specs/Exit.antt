@@ -1,4 +1,4 @@
--- What the exit statuses of ripngd tell (they are this project's choice).
+-- What the exit statuses of ripngd mean (they are this project's choice).
 use Rattle.std.specs.Prelude.{◌≢◌, ◌⊎◌, ℕ, Bool, List, [], Option, ⊤}
 use Rattle.std.specs.Io.KnownBytes.{Appends}
 use Rattle.clap.specs.Faults.{fault_of}

@@ -1,18 +1,18 @@
-//! `lab`: a network of routers, run from a script, and the trace and the explanation of one.
+//! `lab`: simulates a network of routers from a script, with or without a trace or an explanation.
 
 use ripngd_show::PrintFault;
 use std::alloc::Global;
 use std::io::Write;
 
-/// Runs a script, as [`ripngd_lab::lab`] does, and answers whether every line was done.
+/// Runs a script, as [`ripngd_lab::lab`] does, and returns whether every line was done.
 ///
 /// # Errors
-/// `OutOfMemory` where memory was refused, else `Write`. What earlier lines printed may have been written.
+/// `OutOfMemory` or `Write`. What earlier lines printed may have been written.
 pub fn lab<W: Write>(alloc: Global, script: &[u8], out: &mut W) -> Result<bool, PrintFault> {
     Ok(ripngd_lab::lab(alloc, script, out)?)
 }
 
-/// Runs a script as [`lab`] does; `err` is told what a refused line should have been, as [`ripngd_hints::lab_hinted`] tells it.
+/// Runs a script as [`lab`] does; `err` gets a hint for a refused line, as [`ripngd_hints::lab_hinted`] gives it.
 ///
 /// # Errors
 /// Those of [`lab`].
@@ -25,18 +25,18 @@ pub(crate) fn lab_hinted<W: Write, E: Write>(
     Ok(ripngd_hints::lab_hinted(alloc, script, out, err)?)
 }
 
-/// Runs a script, as [`ripngd_trace::trace`] does, and answers whether every line was done.
+/// Runs a script, as [`ripngd_trace::trace`] does, and returns whether every line was done.
 ///
 /// # Errors
-/// `OutOfMemory` where memory was refused, else `Write`. Earlier records may have been written.
+/// `OutOfMemory` or `Write`. Earlier records may have been written.
 pub fn trace<W: Write>(alloc: Global, script: &[u8], out: &mut W) -> Result<bool, PrintFault> {
     Ok(ripngd_trace::trace(alloc, script, out)?)
 }
 
-/// Runs a script, as [`ripngd_trace::explain`] does, and answers whether every line was done.
+/// Runs a script, as [`ripngd_trace::explain`] does, and returns whether every line was done.
 ///
 /// # Errors
-/// `OutOfMemory` where memory was refused, else `Write`. Earlier lines may have been written.
+/// `OutOfMemory` or `Write`. Earlier lines may have been written.
 pub fn explain<W: Write>(alloc: Global, script: &[u8], out: &mut W) -> Result<bool, PrintFault> {
     Ok(ripngd_trace::explain(alloc, script, out)?)
 }

@@ -1,4 +1,4 @@
-//! What the program `ripngd` does: its subcommands, and its exit statuses.
+//! The program `ripngd` as a library: its subcommands, and its exit statuses.
 #![tactic(auto)]
 
 mod laboratory;

@@ -1,4 +1,4 @@
-//! The program on two writers: each subcommand with its exit status.
+//! The whole program, on two writers: each subcommand, and its exit status.
 
 ghost use Rattle.std.specs.Prelude.{◌≡◌, ◌≢◌, ◌⊎◌, ◌≤◌, IfErr, IfOk, Ok, false, map, true};
 ghost use Rattle.clap.specs.Words.{kind_of};
@@ -21,31 +21,30 @@ use std::rt::{Clock, Files};
 /// The exit status of the program.
 #[derive(Clone, Copy, Debug, PartialEq, Eq)]
 pub(crate) enum Status {
-    /// What was asked is done, help and the version among it.
+    /// Done; also for help and the version.
     Done = 0,
-    /// The datagram, the configuration, or a line of the script or of the log was refused; standard output says why.
+    /// The input was refused: a datagram, a configuration, or a line of a script or a log. Standard output says why.
     Refused = 1,
-    /// The command line is not one of the program's; standard error says why.
+    /// Usage error; standard error says why.
     Usage = 2,
-    /// Something outside the program failed; standard error says what.
+    /// A file, a port, a socket or memory failed; standard error says which.
     Failed = 3,
 }
 
-/// Does what the words of a command line ask for, the first of them the program's name, and answers the exit status:
+/// Runs the program on the words of a command line, the first of them its name, and returns the exit status:
 ///
-/// - 0 where it is done; help or the version, if that was asked for, is written to `out`;
-/// - 1 where the datagram, the configuration, or a line of the script or of the log is refused, as a line on `out` says; of a
-///   script that `lab` runs, a line on `err` may say what the line should have been, and of a configuration where its fault is;
-/// - 2 at a fault of the command line, or where `--append` has no file to go on in, or a number of an option has a sign; the
-///   text is written to `err`;
-/// - 3 where something else failed, as a line on `err` says, with why where the system says so: `ripngd: cannot read FILE`,
-///   `ripngd: cannot write FILE` (with `stdout` for `out`), `ripngd: cannot bind PORT`, `ripngd: link fault after N turns` or
-///   `ripngd: out of memory`; but nothing is said of an `out` that nobody reads any more.
+/// - 0: done. Help and the version are written to `out`.
+/// - 1: the datagram, the configuration, or a line of the script or the log is refused, and a line on `out` says why. A line on `err`
+///   may have a hint for the line of a script, or the place of the fault of a configuration.
+/// - 2: usage error, also `--append` without a file and a number with a sign. `err` gets the message.
+/// - 3: a failure, with a line on `err`: `ripngd: cannot read FILE`, `ripngd: cannot write FILE` (`stdout` for `out`), `ripngd: cannot
+///   bind PORT`, `ripngd: link fault after N turns` or `ripngd: out of memory`, and others, with the cause if it is known. Nothing is
+///   written for an `out` that nobody reads any more.
 ///
-/// A run that is debugged writes what it refuses to `err`, and counts. One that lost something has a last line on `err` that says what, also with status 0: `ripngd: lost sends N, lost
-/// steps M`, with `, log failed` behind it where a write of the log failed.
+/// A run that has lost something writes a last line to `err`, also with status 0: `ripngd: lost sends N, lost steps M`, with
+/// `, log failed` at its end if a write of the log failed.
 ///
-/// What was written to `out` is flushed before a status of 0 or 1 is answered. A failure of `err` changes no status.
+/// `out` is flushed before a status of 0 or 1 is returned. A failure of `err` changes no status.
 pub fn program<R: AllocGlobal + Files<File = File> + Print + Clock + Net, O: Write, E: Write>(
     rt: &R,
     words: &[&str],
@@ -69,7 +68,7 @@ pub fn program<R: AllocGlobal + Files<File = File> + Print + Clock + Net, O: Wri
     status as u8
 }
 
-/// Does what the words ask for.
+/// Parses the words, and does what they ask for.
 fn outcome<
     'a,
     R: AllocGlobal + Files<File = File> + Print + Clock + Net,
@@ -101,7 +100,7 @@ fn outcome<
     }
 }
 
-/// Writes to `err` why what is asked makes no sense.
+/// Writes a usage error that clap does not find.
 fn write_misuse<E: Write>(why: &str, err: &mut E) -> Status
     ensures { result ≡ Status.Usage }
 {
@@ -109,7 +108,7 @@ fn write_misuse<E: Write>(why: &str, err: &mut E) -> Status
     Status::Usage
 }
 
-/// Does what is asked, and answers whether what was given is accepted.
+/// Runs a subcommand, and returns whether its input is accepted.
 fn accepts<
     'a,
     R: AllocGlobal + Files<File = File> + Print + Clock + Net,
@@ -140,7 +139,7 @@ fn accepts<
     }
 }
 
-/// Does what is asked.
+/// Runs a subcommand, and flushes its output.
 fn answer<
     'a,
     R: AllocGlobal + Files<File = File> + Print + Clock + Net,
@@ -173,7 +172,7 @@ fn answer<
     }
 }
 
-/// Writes why the command line asks for nothing: help or the version to `out`, a fault to `err`.
+/// Writes the text of clap: help or the version to `out`, a usage error to `err`.
 fn write_clap_text<'a, O: Write, E: Write>(
     error: &clap::Error,
     out: &mut O,
@@ -195,7 +194,7 @@ fn write_clap_text<'a, O: Write, E: Write>(
     }
 }
 
-/// Writes help or the version that was asked for.
+/// Writes help or the version.
 fn print<'a, O: Write>(help: &clap::Error, out: &mut O) -> Result<Status, Failure<'a>>
     ensures done { IfOk result (λ status. status ≡ Status.Done) }
     ensures failed { IfErr result (λ f. f ≡ failures.Output) }
@@ -205,7 +204,7 @@ fn print<'a, O: Write>(help: &clap::Error, out: &mut O) -> Result<Status, Failur
     Ok(Status::Done)
 }
 
-/// Whether who read what is written has gone away.
+/// Whether the reader of `out` has gone.
 fn is_left<O: Write>(out: &mut O) -> bool {
     match out.flush() {
         Err(error) => error.kind() == io::ErrorKind::BrokenPipe,
@@ -213,7 +212,7 @@ fn is_left<O: Write>(out: &mut O) -> bool {
     }
 }
 
-/// Writes what failed to `err`, and answers the status of a failure. That nobody reads `out` any more is not said.
+/// Writes a failure to `err`, unless it is that nobody reads `out` any more, and returns its status.
 fn report<O: Write, E: Write>(failure: Failure<'_>, out: &mut O, err: &mut E) -> Status
     ensures { result ≡ Status.Failed }
 {

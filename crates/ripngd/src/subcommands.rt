@@ -1,5 +1,5 @@
-//! The subcommands that print: of digits, and of a script's file. Each fails with `Read` where its file cannot be read, with
-//! `Output` where `out` failed, or with `OutOfMemory`.
+//! The subcommands `show` and `lab`. Each fails with `Read` if its file cannot be read, with `Output` if `out` failed, or with
+//! `OutOfMemory`.
 
 ghost use Rattle.std.specs.Prelude.{IfErr, IfOk, List, ℕ};
 ghost use Rattle.std.specs.Io.KnownBytes.{Appends};
@@ -13,7 +13,7 @@ use ripngd_show::show;
 use std::alloc::Global;
 use std::io::Write;
 
-/// `show HEX`: whether the digits are those of a datagram.
+/// `show HEX`: returns whether the digits are those of a datagram.
 pub(crate) fn show_digits<'a, O: Write>(
     alloc: Global,
     hex: &'a str,
@@ -26,7 +26,7 @@ pub(crate) fn show_digits<'a, O: Write>(
     Ok(show(alloc, hex, out)?)
 }
 
-/// `lab SCRIPT`: whether every line of the file was done. What a refused line should have been is told on `err`.
+/// `lab SCRIPT`: returns whether every line of the file was done. A refused line gets a hint on `err`.
 pub(crate) fn lab_file<'a, F: FileSource, O: Write, E: Write>(
     alloc: Global,
     files: &F,
@@ -40,7 +40,7 @@ pub(crate) fn lab_file<'a, F: FileSource, O: Write, E: Write>(
     Ok(lab_hinted(alloc, files.read(file)?.as_slice(), out, err)?)
 }
 
-/// `lab --trace SCRIPT`: whether every line of the file was done.
+/// `lab --trace SCRIPT`: returns whether every line of the file was done.
 pub(crate) fn trace_file<'a, F: FileSource, O: Write>(
     alloc: Global,
     files: &F,
@@ -53,7 +53,7 @@ pub(crate) fn trace_file<'a, F: FileSource, O: Write>(
     Ok(trace(alloc, files.read(file)?.as_slice(), out)?)
 }
 
-/// `lab --explain SCRIPT`: whether every line of the file was done.
+/// `lab --explain SCRIPT`: returns whether every line of the file was done.
 pub(crate) fn explain_file<'a, F: FileSource, O: Write>(
     alloc: Global,
     files: &F,

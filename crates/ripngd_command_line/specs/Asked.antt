@@ -9,7 +9,7 @@ use Rattle.ripngd_command_line.specs.declared.asked.Question.{Question}
 use Rattle.ripngd_command_line.specs.declared.asked.Ask.TheVariants as asks
 use Rattle.ripngd_command_line.specs.CommandLine.{ripngd}
 
--- the number that a decimal text stands for
+-- the number of a decimal text
 abbrev pub decimal_value : Text → ℕ
 decimal_value text = digits_value 10 (without_leading_plus text)
 
@@ -34,7 +34,7 @@ HasSign rows id = IsSigned (first_of id rows)
 abbrev pub HasSignedOrder : List Row → Type 0
 HasSignedOrder rows = HasSign rows (codes "tag") ⊎ HasSign rows (codes "turns") ⊎ HasSign rows (codes "seconds")
 
--- these seconds were given; or none were
+-- these seconds were given; or no number was
 abbrev pub AreSeconds : Option ℕ → List Row → Type 0
 AreSeconds (Some n) rows = HasNumber rows (codes "seconds") n × (1 ≤ n)
 AreSeconds None rows = first_of (codes "seconds") rows ≡ None

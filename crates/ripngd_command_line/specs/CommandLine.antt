@@ -94,7 +94,7 @@ ctl_command = subcommand (codes "ctl") (
 abbrev pub table_command : App
 table_command = subcommand (codes "table") (required (codes "LOG") ∷ [])
 
--- `ripngd`, which tells its version, and is given only with one of these subcommands
+-- `ripngd`, which prints its version, and needs one of these subcommands
 abbrev pub ripngd : App
 ripngd = record {
   top = record (new_shape (codes "ripngd")) { has_version = true; subcommand_required = true; is_leaf = false };

@@ -1,61 +1,61 @@
-//! What a command line asks for.
+//! A parsed command line.
 
-/// What is asked of the program: a subcommand with its arguments, whose texts are words of the command line.
+/// A subcommand with its arguments, whose texts are words of the command line.
 #[derive(Clone, Copy, Debug, PartialEq, Eq)]
 pub enum Ask<'a> {
-    /// `show HEX`: the lines of one datagram, which is given as hexadecimal digits.
+    /// `show HEX`: decodes one datagram, given as hexadecimal digits.
     Show(&'a str),
-    /// `check CONFIG`: whether a file is a configuration.
+    /// `check CONFIG`: checks a configuration.
     Check(&'a str),
-    /// `lab SCRIPT`: what a file's script prints.
+    /// `lab SCRIPT`: runs a script.
     Lab(&'a str),
-    /// `lab --trace SCRIPT`: all that happens as a file's script is run.
+    /// `lab --trace SCRIPT`: runs it, and prints each event as JSON.
     Trace(&'a str),
-    /// `lab --explain SCRIPT`: the same in English.
+    /// `lab --explain SCRIPT`: runs it, and prints each event in English.
     Explain(&'a str),
-    /// `run [-q] [-d] [-t TAG] [-R FILE] [--append] [--turns N] [--seconds N] [--control PATH] CONFIG`: one router that runs.
+    /// `run [-q] [-d] [-t TAG] [-R FILE] [--append] [--turns N] [--seconds N] [--control PATH] CONFIG`: runs one router.
     Run(Order<'a>),
-    /// `ctl PATH COMMAND [WHAT] [VALUE] [PORT]`: a router that runs is asked or told something.
+    /// `ctl PATH COMMAND [WHAT] [VALUE] [PORT]`: sends a command to a running router.
     Ctl(Question<'a>),
-    /// `table LOG`: the forwarding table that a file's log makes.
+    /// `table LOG`: prints the forwarding table that a log makes.
     Table(&'a str),
 }
 
-/// How a router is to run.
+/// The options of `run`.
 #[derive(Clone, Copy, Debug, PartialEq, Eq)]
 pub struct Order<'a> {
-    /// Whether it sends no Requests and no updates, and answers no router.
+    /// Whether it is passive: it sends no Requests and no updates, and answers no router.
     pub quiet: bool,
-    /// Whether standard error gets a line for each refused datagram and entry, and counts at the end.
+    /// Whether standard error gets a line for each refused datagram and entry, and the counts at the end.
     pub debug: bool,
-    /// The route tag of each owned prefix that the configuration gives none.
+    /// The route tag of owned prefixes that have none in the configuration.
     pub tag: u16,
-    /// The file that gets a line for each change of a route.
+    /// The file of the log, `-` for standard output.
     pub log: Option<&'a str>,
-    /// Whether it goes on behind what that file holds, and does not empty it.
+    /// Whether the log is appended to that file, and the file not emptied.
     pub append: bool,
-    /// How many turns it makes at the most, at least 1.
+    /// The most turns it makes, at least 1.
     pub turns: u32,
-    /// After how many seconds of its clock it makes no turn more, at least 1, if it is to end so.
+    /// After how many seconds it ends, at least 1, if a number is given.
     pub seconds: Option<u32>,
-    /// The path of the socket at which it is asked and told, if it is to be.
+    /// The path of its control socket, if it has one.
     pub control: Option<&'a str>,
     /// The file of its configuration.
     pub config: &'a str,
-    /// Whether one of these numbers was given with a sign.
+    /// Whether one of the numbers was written with a sign.
     pub signed: bool,
 }
 
-/// What a router that runs is asked or told, in up to four words.
+/// The arguments of `ctl`: a command of up to four words.
 #[derive(Clone, Copy, Debug, PartialEq, Eq)]
 pub struct Question<'a> {
-    /// The path of its socket.
+    /// The path of the router's control socket.
     pub socket: &'a str,
     /// The name of the command.
     pub command: &'a str,
-    /// The interface or the prefix that it is about.
+    /// An interface or a prefix.
     pub what: Option<&'a str>,
-    /// The cost, the tag, or the address of a neighbor.
+    /// A cost, a tag, or the address of a neighbor.
     pub value: Option<&'a str>,
     /// The port of a neighbor.
     pub port: Option<&'a str>,

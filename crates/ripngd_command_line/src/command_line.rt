@@ -1,4 +1,4 @@
-//! What the words of a command line ask.
+//! Parses a command line.
 
 ghost use Rattle.std.specs.Prelude.{◌≡◌, ◌≤◌, ◌↔◌, IfErr, IfOk, IfSome, IsTrue, List, Some, codes, map, option_map, true};
 ghost use Rattle.clap.specs.Words.{FailsBy, Row, Text, fault_of, first_of, found_of, kind_of, rows_of, subcommand_rows_of, takes};
@@ -11,25 +11,25 @@ use clap::error::ErrorKind;
 use clap::{ArgMatches, Error};
 use std::alloc::{AllocError, Global};
 
-/// Reads a command line, whose first word is the program's name.
+/// Parses a command line, whose first word is the program's name.
 ///
 /// # Errors
-/// The fault that clap finds, help or the version that was asked for among them, or want of memory.
+/// The error of clap, which help and the version are, too; or out of memory.
 pub fn ask<'a>(alloc: Global, words: &'a [&'a str]) -> Result<Ask<'a>, Error>
-    // What is answered is what the words give to the command.
+    // The result is what the words give to the command.
     ensures asked { IfOk result (Asks (map (λ w. w.now) words.entry.now)) }
-    // Words that the command takes are refused only for want of memory.
+    // Words that the command takes are refused only when memory runs out.
     ensures taken { IfErr result (λ e. takes ripngd (map (λ w. w.now) words.entry.now) ≡ true
         → kind_of e ≡ ErrorKind.OutOfMemory) }
-    // An answer comes only where the command finds no fault; an error has the kind of the fault, or is want of memory.
+    // There is a result only if the command finds no fault; an error has the kind of the fault, or is out of memory.
     ensures kinds { FailsBy (fault_of ripngd (map (λ w. w.now) words.entry.now)) result }
 {
     let matches = command(alloc)?.try_get_matches_from(words)?;
-    // A parse leaves no required argument without a value, so something is always asked.
+    // A parse leaves no required argument without a value, so there is always a subcommand.
     subcommand_asked(&matches).ok_or(Error::from(AllocError))
 }
 
-/// The subcommand that was met, with its arguments.
+/// The subcommand, with its arguments.
 fn subcommand_asked<'a>(matches: &ArgMatches<'a>) -> Option<Ask<'a>>
     ensures { IfSome result (λ a. (met : Text × List Row)
         × (subcommand_rows_of matches.now ≡ Some met) × IsAsked a met.0 met.1) }
@@ -38,7 +38,7 @@ fn subcommand_asked<'a>(matches: &ArgMatches<'a>) -> Option<Ask<'a>>
     asked_of(name, inner)
 }
 
-/// The subcommand of a name, with what was found for its arguments.
+/// The subcommand of a name, with the values of its arguments.
 fn asked_of<'a>(name: &'a str, matches: &ArgMatches<'a>) -> Option<Ask<'a>>
     ensures { IfSome result (λ a. IsAsked a name.entry.now (rows_of (found_of matches.now))) }
 {
@@ -59,7 +59,7 @@ fn asked_of<'a>(name: &'a str, matches: &ArgMatches<'a>) -> Option<Ask<'a>>
     }
 }
 
-/// A laboratory, whose script is traced where that option was given, or else explained where the other was.
+/// `lab`, with `--trace` before `--explain` if both are given.
 fn lab_asked<'a>(matches: &ArgMatches<'a>) -> Option<Ask<'a>>
     ensures { IfSome result (λ a. IsAsked a (codes "lab") (rows_of (found_of matches.now))) }
 {
@@ -73,7 +73,7 @@ fn lab_asked<'a>(matches: &ArgMatches<'a>) -> Option<Ask<'a>>
     })
 }
 
-/// A run, with what was found for its options.
+/// `run`, with the values of its options.
 fn run_asked<'a>(matches: &ArgMatches<'a>) -> Option<Ask<'a>>
     ensures { IfSome result (λ a. IsAsked a (codes "run") (rows_of (found_of matches.now))) }
 {
@@ -105,7 +105,7 @@ fn is_set(matches: &ArgMatches<'_>, id: &str) -> bool
     matches.get_one::<bool>(id).unwrap_or(false)
 }
 
-/// The number of an option, which is at least that.
+/// The number of an option, or `None` if it is less than `least`.
 fn number(matches: &ArgMatches<'_>, id: &str, least: u32) -> Option<u32>
     ensures number { IfSome result (HasNumber (rows_of (found_of matches.now)) id.now) }
     ensures least { IfSome result (λ n. least ≤ n) }
@@ -114,7 +114,7 @@ fn number(matches: &ArgMatches<'_>, id: &str, least: u32) -> Option<u32>
     if number < least { None } else { Some(number) }
 }
 
-/// The seconds that were given, or that none were.
+/// The number of seconds, if it was given.
 fn seconds(matches: &ArgMatches<'_>) -> Option<Option<u32>>
     ensures { IfSome result (λ seconds. AreSeconds seconds (rows_of (found_of matches.now))) }
 {
@@ -124,7 +124,7 @@ fn seconds(matches: &ArgMatches<'_>) -> Option<Option<u32>>
     }
 }
 
-/// Whether an option has a number that is written with a sign.
+/// Whether the number of an option is written with a sign.
 fn has_sign(matches: &ArgMatches<'_>, id: &str) -> bool
     ensures { IsTrue result ↔ HasSign (rows_of (found_of matches.now)) id.now }
 {

@@ -1,4 +1,4 @@
-//! The command line of `ripngd`: its subcommands with their arguments, and what words ask of it.
+//! The command line of `ripngd`: its subcommands, options and arguments, and how words are parsed.
 #![tactic(auto)]
 
 mod asked;

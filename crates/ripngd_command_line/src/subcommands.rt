@@ -1,4 +1,4 @@
-//! The command that the program's words are given to: its subcommands, with their options and arguments.
+//! The subcommands, with their options and arguments.
 
 ghost use Rattle.std.specs.Prelude.{◌≡◌, IfOk, Some, pos};
 ghost use Rattle.clap.specs.declared.builder.value_parser.ValueParser.TheVariants as parsers;
@@ -15,7 +15,7 @@ fn show<'a>(alloc: Global) -> Result<Command<'a>, AllocError>
     Command::new(alloc, "show")
         .about("Decode one datagram, given as hexadecimal digits")
         .after_help(help::SHOW)
-        .arg(arg!(in alloc; <HEX> "Its bytes, two digits of either case for each"))
+        .arg(arg!(in alloc; <HEX> "Its bytes, two digits for each, in upper or lower case"))
 }
 
 /// `check CONFIG`.
@@ -23,9 +23,9 @@ fn check<'a>(alloc: Global) -> Result<Command<'a>, AllocError>
     ensures { IfOk result (λ c. IsCommand c check_command) }
 {
     Command::new(alloc, "check")
-        .about("Read a configuration, and say whether a router can run on it")
+        .about("Check a configuration")
         .after_help(help::CHECK)
-        .arg(arg!(in alloc; <CONFIG> "The file that holds it"))
+        .arg(arg!(in alloc; <CONFIG> "The file of the configuration"))
 }
 
 /// `lab [--trace] [--explain] SCRIPT`.
@@ -33,16 +33,16 @@ fn lab<'a>(alloc: Global) -> Result<Command<'a>, AllocError>
     ensures { IfOk result (λ c. IsCommand c lab_command) }
 {
     Command::new(alloc, "lab")
-        .about("Run the network of routers that a script describes")
+        .about("Simulate the network of routers that a script describes")
         .after_help(help::LAB)
         .arg(arg!(in alloc; --trace
-            "Print a line of JSON for all that happens, in place of what the script prints"))?
+            "Print each event as a line of JSON, in place of what the script prints"))?
         .arg(arg!(in alloc; --explain
-            "Print a line of English for all that happens, beside what the script prints"))?
-        .arg(arg!(in alloc; <SCRIPT> "The file that holds it"))
+            "Print each event as a line of English, beside what the script prints"))?
+        .arg(arg!(in alloc; <SCRIPT> "The file of the script"))
 }
 
-/// The option with a number from 1 to 4,294,967,295 as its value.
+/// An option with a number from 1 to 4,294,967,295 as its value.
 fn counted<'a>(option: Arg<'a>) -> Arg<'a>
     ensures { result ≡ record option.entry { value_parser = Some (parsers.Signed (pos 1) (pos 4294967295)) } }
 {
@@ -60,21 +60,21 @@ fn run<'a>(alloc: Global) -> Result<Command<'a>, AllocError>
         .arg(arg!(in alloc; debug: -'d'
             "Write each refused datagram and entry to standard error, and counts at the end"))?
         .arg(
-            arg!(in alloc; tag: -'t' <TAG> "The route tag of each owned prefix that CONFIG gives none")
+            arg!(in alloc; tag: -'t' <TAG> "The route tag of owned prefixes that have none in CONFIG")
                 .value_parser(value_parser!(u16))
                 .default_value("0"),
         )?
         .arg(arg!(in alloc; log: -'R' <FILE>
-            "Write a line to FILE at each change of a route; what FILE held is lost, but for --append"))?
+            "Write a line to FILE for each change of a route; FILE is emptied first, unless --append is given"))?
         .arg(arg!(in alloc; --append
-            "Keep what the FILE of -R holds, and write a line `start` behind it"))?
+            "Keep the contents of the FILE of -R, and add a line `start`"))?
         .arg(counted(arg!(in alloc; --turns <N>
-            "End after N turns, each with one datagram at most, and print the forwarding table"))
+            "Exit after N turns, each with one datagram at most, and print the forwarding table"))
         .default_value("4294967295"))?
         .arg(counted(arg!(in alloc; --seconds <N>
-            "End after N seconds, as after the last turn, if that comes first")))?
+            "Exit after N seconds in the same way, if that comes first")))?
         .arg(arg!(in alloc; --control <PATH>
-            "Listen at a Unix socket, which is made at PATH, for what `ctl` asks and tells"))?
+            "Create a Unix socket at PATH, and obey the commands of `ctl` there"))?
         .arg(arg!(in alloc; <CONFIG> "The file of its configuration"))
 }
 
@@ -83,12 +83,12 @@ fn ctl<'a>(alloc: Global) -> Result<Command<'a>, AllocError>
     ensures { IfOk result (λ c. IsCommand c ctl_command) }
 {
     Command::new(alloc, "ctl")
-        .about("Ask a router that runs, or tell it something")
+        .about("Ask or change a running router")
         .after_help(help::CTL)
         .arg(arg!(in alloc; <PATH> "The socket that `run --control` listens at"))?
-        .arg(arg!(in alloc; <COMMAND> "The command, as `routes` or `cost`"))?
-        .arg(arg!(in alloc; [WHAT] "The interface or the prefix that it is about"))?
-        .arg(arg!(in alloc; [VALUE] "The cost, the tag, or the address of a neighbor"))?
+        .arg(arg!(in alloc; <COMMAND> "The command, such as `routes` or `cost`"))?
+        .arg(arg!(in alloc; [WHAT] "An interface or a prefix"))?
+        .arg(arg!(in alloc; [VALUE] "A cost, a tag, or the address of a neighbor"))?
         .arg(arg!(in alloc; [PORT] "The port of a neighbor"))
 }
 
@@ -97,12 +97,12 @@ fn table<'a>(alloc: Global) -> Result<Command<'a>, AllocError>
     ensures { IfOk result (λ c. IsCommand c table_command) }
 {
     Command::new(alloc, "table")
-        .about("Print the forwarding table that a log makes, also while its router runs")
+        .about("Print the forwarding table that a log makes, also of a running router")
         .after_help(help::TABLE)
         .arg(arg!(in alloc; <LOG> "The file that `run -R` writes it to"))
 }
 
-/// The command that the program's words are given to.
+/// The whole command line.
 pub(crate) fn command<'a>(alloc: Global) -> Result<Command<'a>, AllocError>
     ensures { IfOk result (λ c. IsCommand c ripngd) }
 {

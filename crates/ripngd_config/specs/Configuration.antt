@@ -23,7 +23,7 @@ use Rattle.ripngd_config.specs.declared.tables.PrefixTable.{PrefixTable}
 abbrev pub configured_interfaces : Document → List Interface
 configured_interfaces d = map (λ t. t.interface) d.interfaces.items
 
--- an owned prefix, with the default tag where its table gives none
+-- an owned prefix, with the default tag if its table has none
 abbrev pub owned_of : ℕ → PrefixTable → Prefix6 × ℕ
 owned_of tag t = (t.prefix, unwrap_or t.tag tag)
 

@@ -1,34 +1,10 @@
--- Why a configuration is refused: the number and the name of each refusal, and which of its faults tables have.
-use Rattle.std.specs.Prelude.{◌≡◌, ◌⊎◌, ◌<◌, ℕ, ℤ, pos, negsuc, Bool, true, false, List, MatchOption, IsSomeAnd, None, codes, ⊤}
+-- Why a configuration is refused: which of the faults its tables have.
+use Rattle.std.specs.Prelude.{◌≡◌, ◌⊎◌, ◌<◌, ℕ, ℤ, pos, negsuc, Bool, true, false, List, MatchOption, IsSomeAnd, None, ⊤}
 use Rattle.toml.specs.Data.{Data, Items, Members, as_array, as_bool, as_integer, as_str, as_table, get_member, item, member, no_items, no_members}
 use Rattle.prefix6.specs.Text.{Reads, ReadsPrefix}
 use Rattle.ripngd_config.specs.Keys.{Keys, Kind, address, is_listed, key, names_of, no_keys, number, prefix, sections, truth}
 use Rattle.ripngd_config.specs.declared.fault.ConfigFault.{ConfigFault}
 use Rattle.ripngd_config.specs.declared.fault.ConfigFault.TheVariants.{BadToml, MissingKey, WrongType, BadValue, UnknownKey, Router, PortTwice, PeerTwice, OutOfMemory}
-
--- the number of a refusal
-abbrev pub config_fault_number : ConfigFault → ℕ
-config_fault_number (BadToml place) = 1
-config_fault_number (MissingKey path) = 2
-config_fault_number (WrongType path) = 3
-config_fault_number (BadValue path) = 4
-config_fault_number (UnknownKey path) = 5
-config_fault_number (Router refused named) = 6
-config_fault_number (PortTwice path) = 7
-config_fault_number (PeerTwice path) = 8
-config_fault_number OutOfMemory = 9
-
--- as the variant is spelled
-abbrev pub config_fault_name : ConfigFault → List ℕ
-config_fault_name (BadToml place) = codes "BadToml"
-config_fault_name (MissingKey path) = codes "MissingKey"
-config_fault_name (WrongType path) = codes "WrongType"
-config_fault_name (BadValue path) = codes "BadValue"
-config_fault_name (UnknownKey path) = codes "UnknownKey"
-config_fault_name (Router refused named) = codes "Router"
-config_fault_name (PortTwice path) = codes "PortTwice"
-config_fault_name (PeerTwice path) = codes "PeerTwice"
-config_fault_name OutOfMemory = codes "OutOfMemory"
 
 -- ---- which fault a value has, by what its key holds
 
@@ -49,7 +25,7 @@ TextHas Names d (WrongType path) = as_str d ≡ None
 TextHas {X = X} Names d (BadValue path) = IsSomeAnd (as_str d) (λ text. (x : X) → ¬ (Names text x))
 TextHas Names d _ = ⊥
 
--- a truth value: the value is none
+-- a boolean: the value is of another type
 abbrev pub TruthHas : Data → ConfigFault → Type 0
 TruthHas d (WrongType path) = as_bool d ≡ None
 TruthHas d _ = ⊥

@@ -56,11 +56,11 @@ names_of (key name required kind rest) = name ∷ names_of rest
 abbrev pub is_listed : List (List ℕ) → List ℕ → Bool
 is_listed names name = list_any (λ known. bytes_eq known name) names
 
--- the table has no key but these
+-- the table has only these keys
 abbrev pub HasOnlyOf : List (List ℕ) → Members → Type 0
 HasOnlyOf names no_members = ⊤
 HasOnlyOf names (member name d ms) = (is_listed names name ≡ true) × HasOnlyOf names ms
 
--- no key but these
+-- only these keys
 abbrev pub HasOnly : Keys → Members → Type 0
 HasOnly keys ms = HasOnlyOf (names_of keys) ms

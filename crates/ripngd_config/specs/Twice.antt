@@ -1,13 +1,13 @@
 -- Ports and peers that stand twice.
 use Rattle.std.specs.Prelude.{◌≡◌, ◌≢◌, ◌==◌, ◌||◌, ◌⊎◌, ℕ, Bool, true, false, List, Option, All, None, Some, slice_get, take, ⊤}
 use Rattle.std.specs.List.{AllPairs, list_any}
-use Rattle.ripngd_engine.specs.Peers.{has_same}
+use Rattle.ripngd_engine.specs.Peers.{has_clash}
 use Rattle.ripngd_engine.specs.declared.peer.Peer.{Peer}
 use Rattle.ripngd_config.specs.declared.fault.ConfigFault.{ConfigFault}
 use Rattle.ripngd_config.specs.declared.fault.ConfigFault.TheVariants.{OutOfMemory, PeerTwice, PortTwice}
 use Rattle.ripngd_config.specs.declared.tables.InterfaceTable.{InterfaceTable}
 
--- one of the earlier interfaces stands at the local port of this one
+-- an earlier interface has the local port of this one
 abbrev pub has_port : List InterfaceTable → InterfaceTable → Bool
 has_port earlier t = list_any (λ u. u.local_port == t.local_port) earlier
 
@@ -15,20 +15,20 @@ has_port earlier t = list_any (λ u. u.local_port == t.local_port) earlier
 abbrev pub ArePortsDistinct : List InterfaceTable → Type 0
 ArePortsDistinct = AllPairs (λ t u. t.local_port ≢ u.local_port)
 
--- the interface, or one of its peers, stands at the port
+-- the interface, or one of its peers, has the local port
 abbrev pub stands_at : ℕ → InterfaceTable → Bool
 stands_at port t = t.local_port == port || list_any (λ p. p.local_port == port) t.peers.items
 
--- an interface or a peer stands at a port that may be there
+-- an interface or a peer has this local port, if there is one
 abbrev pub is_taken : List InterfaceTable → Option ℕ → Bool
 is_taken interfaces None = false
 is_taken interfaces (Some port) = list_any (λ t. stands_at port t) interfaces
 
--- one of them stands at the group port of this interface
+-- the group port of this interface is the local port of one of them
 abbrev pub has_group_port : List InterfaceTable → InterfaceTable → Bool
 has_group_port interfaces t = is_taken interfaces t.group_port
 
--- none does at that of any
+-- no group port is such a local port
 abbrev pub AreGroupPortsApart : List InterfaceTable → Type 0
 AreGroupPortsApart interfaces = All (λ t. has_group_port interfaces t ≡ false) interfaces
 
@@ -45,7 +45,7 @@ ArePeersDistinct = AllPairs AreApart
 abbrev pub AreAllPeersDistinct : List InterfaceTable → Type 0
 AreAllPeersDistinct interfaces = All (λ t. ArePeersDistinct t.peers.items) interfaces
 
--- ---- which of them stands twice
+-- ---- which of them is a duplicate
 
 -- the interface of that number: its local port is that of an earlier one, or its group port is somebody's
 pub record IsPortTwice (interfaces : List InterfaceTable) (index : ℕ) : Type 0 where
@@ -57,7 +57,7 @@ pub record IsPortTwice (interfaces : List InterfaceTable) (index : ℕ) : Type 0
 pub record IsPeerTwice (peers : List Peer) (index : ℕ) : Type 0 where
   pub peer : Peer
   pub there : slice_get peers index ≡ Some peer
-  pub twice : has_same (take index peers) peer ≡ true
+  pub twice : has_clash (take index peers) peer ≡ true
 
 -- such a peer of the interface of that number
 pub record HasPeerTwice (interfaces : List InterfaceTable) (index : ℕ) : Type 0 where
@@ -66,7 +66,7 @@ pub record HasPeerTwice (interfaces : List InterfaceTable) (index : ℕ) : Type 
   pub peer : ℕ
   pub twice : IsPeerTwice interface.peers.items peer
 
--- memory ran out, or the refusal is of a port or a peer that stands twice
+-- out of memory, or the refusal is of a duplicate port or peer
 abbrev pub RefusesTwice : List InterfaceTable → ConfigFault → Type 0
 RefusesTwice interfaces (PortTwice path) = (index : ℕ) × IsPortTwice interfaces index
 RefusesTwice interfaces (PeerTwice path) = (index : ℕ) × HasPeerTwice interfaces index

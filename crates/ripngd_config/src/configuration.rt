@@ -1,4 +1,4 @@
-//! A configuration, read and checked: all that a router runs on.
+//! Reads and checks a configuration.
 
 ghost use Rattle.std.specs.Prelude.{◌≡◌, IfErr, IfOk, map};
 ghost use Rattle.ripngd_config.specs.Configuration.{HasOneEach, IsConfigured, RefusesConfig, RefusesRouter, RefusesText, Says, owned_by, places_of, router_config_of};
@@ -16,25 +16,24 @@ use ripngd_engine::{Peer, Place};
 use router_core::{Interface, RouterConfig};
 use std::alloc::{AllocError, Global};
 
-/// All that a router runs on.
+/// A configuration.
 #[derive(Drop)]
 pub struct Config {
     /// Its interfaces and the prefixes that it owns.
     pub router: RouterConfig,
-    /// For each interface, where it stands; each at another local port, and none where another's group port is.
+    /// For each interface its address and ports. No two have one local port, and no local port is a group port.
     pub places: Vec<Place>,
-    /// For each interface, its peers, of which no two have the same address or local port.
+    /// For each interface its peers. No two of one interface have the same address or local port.
     pub peers: Vec<Vec<Peer>>,
-    /// Where its random words come from.
+    /// The source of its random numbers.
     pub rng: Pcg32,
 }
 
-/// Reads a configuration. An owned prefix whose table gives no tag gets `default_tag`; a quiet router only listens.
+/// Reads a configuration. An owned prefix without a tag gets `default_tag`; a quiet router is passive.
 ///
 /// # Errors
-/// A fault of the text, by its path: the first one. A table's keys are read in the order that docs/OPERATING.md has, an
-/// array's members in their order, each to its end; a table's other keys come after its own. Then come the router's tests,
-/// then the local ports, then the group ports, then the peers.
+/// The first fault of the text, with its path. Keys of a table are read in the order of docs/OPERATING.md, then its unknown keys;
+/// members of an array are read in their order. Then come the router's own check, the local ports, the group ports, and the peers.
 pub fn read_config(
     alloc: Global,
     text: &[u8],
@@ -61,7 +60,7 @@ pub fn read_config(
     })
 }
 
-/// The tables of a text, which has to be TOML in UTF-8.
+/// The tables of a text, which must be TOML in UTF-8.
 fn document_of(alloc: Global, text: &[u8]) -> Read<Document>
     ensures read { IfOk result (Says text.now) }
     ensures refused { IfErr result (RefusesText text.now) }
@@ -80,7 +79,7 @@ fn document_of(alloc: Global, text: &[u8]) -> Read<Document>
     })
 }
 
-/// What the router is configured as, by its own check.
+/// The configuration of the router, checked by `router_core`.
 fn router_of(alloc: Global, document: &Document, tag: u16, quiet: bool) -> Read<RouterConfig>
     ensures kept { IfOk result (λ c. c ≡ router_config_of tag quiet document.now) }
     ensures lawful { IfOk result IsConfig }

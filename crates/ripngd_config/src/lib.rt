@@ -1,7 +1,7 @@
-//! The configuration of `ripngd`: a TOML text that says what a router runs on.
+//! The configuration of `ripngd run`, a TOML text.
 //!
-//! A text is read table by table (`section`, `tables`), then checked as a whole (`configuration`): by the router's own
-//! tests, and for ports and peers that stand twice (`twice`). Why a text is refused is a [`ConfigFault`].
+//! A text is read table by table (`section`, `tables`), then checked as a whole (`configuration`): by the router's own check, and for
+//! duplicate ports and peers (`twice`). A text is refused with a [`ConfigFault`].
 #![tactic(auto)]
 
 mod configuration;

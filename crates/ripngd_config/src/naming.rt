@@ -1,11 +1,11 @@
-//! What a refusal tells people beside its own words: where a text is no TOML, and which interface or prefix the router's
-//! own check refuses. Tests show it; no contract speaks of it.
+//! The place of a fault, for people: the line and column of a text that is no TOML, and the interface or prefix that the router's own
+//! check refuses. It is tested; no contract speaks of it.
 
 use crate::tables::{Document, InterfaceTable, PrefixTable};
 use router_core::{ConfigRefused, Interface, RouterConfig};
 use std::alloc::{AllocError, Global};
 
-/// The line and the column at the end of these bytes, with which a text begins, as an editor counts.
+/// The line and the column, as an editor counts, at the end of these bytes at the head of a text.
 pub(crate) fn end_of(alloc: Global, before: &[u8]) -> Result<String, AllocError> {
     let (mut line, mut column) = (1_usize, 1_usize);
     for byte in before {
@@ -19,7 +19,7 @@ pub(crate) fn end_of(alloc: Global, before: &[u8]) -> Result<String, AllocError>
     format!(in alloc; "line {line}, column {column}")
 }
 
-/// The first interface that is refused behind those before it.
+/// The first interface with which the interfaces are refused.
 fn refused_interface(
     alloc: Global,
     tables: &[InterfaceTable],
@@ -35,7 +35,7 @@ fn refused_interface(
     Ok(None)
 }
 
-/// The first prefix that is refused behind those before it.
+/// The first prefix that is not allowed, or that an earlier one repeats.
 fn refused_prefix(alloc: Global, tables: &[PrefixTable]) -> Result<Option<String>, AllocError> {
     for (index, table) in tables.iter().enumerate() {
         let prefix = table.prefix;
@@ -47,7 +47,7 @@ fn refused_prefix(alloc: Global, tables: &[PrefixTable]) -> Result<Option<String
     Ok(None)
 }
 
-/// The interface or the prefix that the router's own check refuses for this, if it is not the whole.
+/// The interface or the prefix that the router's own check refuses for this reason, or `None` if it refuses the whole.
 pub(crate) fn refused_part(
     alloc: Global,
     document: &Document,

@@ -1,5 +1,4 @@
-//! Tables of TOML, read key by key. A value that is missed or that its key may not hold ends the reading: the refusal is a
-//! fault of the table, and has the key's path.
+//! Reads a TOML table key by key. A missing or wrong value ends it with a refusal that has the path of the key.
 
 ghost use Rattle.std.specs.Prelude.{◌≡◌, [], true, false, IfErr, IfOk, OnOk, None, Some, is_none, map, option_map};
 ghost use Rattle.toml.specs.Data.{Members, get_member};
@@ -13,7 +12,7 @@ use prefix6::{Addr6, Prefix, parse_addr, parse_prefix};
 use std::alloc::{AllocError, Global};
 use toml::{Table, Value};
 
-/// A table, and what stands before each of its keys in a path: `interface[0].peer[1].`, and nothing at the top.
+/// A table, and the head of the paths of its keys: `interface[0].peer[1].`, or nothing at the top.
 #[derive(Clone, Copy)]
 pub(crate) struct Section<'a> {
     pub alloc: Global,
@@ -22,7 +21,7 @@ pub(crate) struct Section<'a> {
 }
 
 impl<'a> Section<'a> {
-    /// The value at a key.
+    /// The value of a key.
     fn get(&self, key: &str) -> Option<&'a Value>
         ensures { option_map (λ v. view v.now) result ≡ get_member key.now (table_view self.now.table.now) }
     {
@@ -33,7 +32,7 @@ impl<'a> Section<'a> {
         format!(in self.alloc; "{}{key}", self.path)
     }
 
-    /// The number at a key, from `low` to `high`; with no default the key is required.
+    /// The number of a key, from `low` to `high`; without a default the key is required.
     pub fn number(&self, key: &str, low: u64, high: u64, default: Option<u64>) -> Read<u64>
         ensures read { IfOk result (IsReadAt (IsNumber low high) key.now default (table_view self.now.table.now)) }
         ensures fault { IfErr result (RefusesKey (KeyHas key.now (is_none default) (number low high) (table_view self.now.table.now))) }
@@ -53,7 +52,7 @@ impl<'a> Section<'a> {
         }
     }
 
-    /// The number at a key that may be left out, from `low` to 65,535.
+    /// The number of an optional key, from `low` to 65,535.
     pub fn optional_number(&self, key: &str, low: u64) -> Read<Option<u16>>
         ensures read { IfOk result (IsReadAt (IsSomeNumber low 65535) key.now (Some None) (table_view self.now.table.now)) }
         ensures fault { IfErr result (RefusesKey (KeyHas key.now false (number low 65535) (table_view self.now.table.now))) }
@@ -64,7 +63,7 @@ impl<'a> Section<'a> {
         }
     }
 
-    /// The address at a key, which is required.
+    /// The address of a required key.
     pub fn address(&self, key: &str) -> Read<Addr6>
         ensures read { IfOk result (IsReadAt IsAddress key.now None (table_view self.now.table.now)) }
         ensures fault { IfErr result (RefusesKey (KeyHas key.now true address (table_view self.now.table.now))) }
@@ -81,7 +80,7 @@ impl<'a> Section<'a> {
         }
     }
 
-    /// The prefix at a key, which is required.
+    /// The prefix of a required key.
     pub fn prefix(&self, key: &str) -> Read<Prefix>
         ensures read { IfOk result (IsReadAt IsPrefixValue key.now None (table_view self.now.table.now)) }
         ensures fault { IfErr result (RefusesKey (KeyHas key.now true prefix (table_view self.now.table.now))) }
@@ -98,7 +97,7 @@ impl<'a> Section<'a> {
         }
     }
 
-    /// The truth value at a key, or the default.
+    /// The boolean of a key, or the default.
     pub fn truth(&self, key: &str, default: bool) -> Read<bool>
         ensures read { IfOk result (IsReadAt IsTruth key.now (Some default) (table_view self.now.table.now)) }
         ensures fault { IfErr result (RefusesKey (KeyHas key.now false truth (table_view self.now.table.now))) }
@@ -112,7 +111,7 @@ impl<'a> Section<'a> {
         }
     }
 
-    /// Refuses the first key, in the order of bytes, that is not among the known ones.
+    /// Refuses the first unknown key, in the order of bytes.
     pub fn only(&self, known: &[&str]) -> Read<()>
         ensures only { OnOk result (HasOnlyOf (map (λ k. k.now) known.now) (table_view self.now.table.now)) }
         ensures fault { IfErr result (RefusesKey (OtherHas (map (λ k. k.now) known.now) (table_view self.now.table.now))) }
@@ -126,21 +125,21 @@ impl<'a> Section<'a> {
     }
 }
 
-/// What a whole table says.
+/// A value that is read from a whole table.
 pub(crate) trait FromSection: Sized {
     // The keys of such a table.
     ghost keys: { Keys };
 
-    // The table is read as the value.
+    // Which value a table is read as.
     ghost is_read: { Members → Self → Type 0 };
 
-    /// Reads each key of the table in order, and refuses any other.
+    /// Reads the keys of the table in order, and refuses any other.
     fn from_section(section: Section<'_>) -> Read<Self>
         ensures read { IfOk result (is_read (table_view section.entry.table.now)) }
         ensures fault { IfErr result (RefusesKey (TableHas keys (table_view section.entry.table.now))) };
 }
 
-/// What a member of the array at a key says, which has to be a table.
+/// A member of the array of a key, which must be a table.
 fn member_of<T: FromSection>(section: Section<'_>, key: &str, index: usize, item: &Value) -> Read<T>
     ensures read { IfOk result (IsItem T.is_read (view item.now)) }
     ensures fault { IfErr result (RefusesKey (ItemHas (TableHas T.keys) (view item.now))) }
@@ -157,7 +156,7 @@ fn member_of<T: FromSection>(section: Section<'_>, key: &str, index: usize, item
     })
 }
 
-/// What the tables of the array at a key say, in order; none where there is no such key.
+/// The members of the array of a key, in order; an empty list if there is no such key.
 pub(crate) fn tables_at<T: FromSection + Drop>(section: Section<'_>, key: &str) -> Read<Vec<T>>
     ensures read { IfOk result (λ v. IsReadAt (AreSections T.is_read) key.now (Some []) (table_view section.entry.table.now) v.items) }
     ensures fault { IfErr result (RefusesKey (KeyHas key.now false (sections T.keys) (table_view section.entry.table.now))) }

@@ -1,4 +1,4 @@
-//! The tables of a configuration, each with its keys in the order of reading.
+//! The tables of a configuration, each with its keys in the order in which they are read.
 
 ghost use Rattle.ripngd_config.specs.Keys.{document_keys, interface_keys, peer_keys, prefix_keys};
 
@@ -28,8 +28,7 @@ impl FromSection for Peer {
     }
 }
 
-/// A link of the router: its interface, the port of 127.0.0.1 at which it stands and that for the group, and who else is
-/// on it.
+/// An interface, its local port and group port, and its peers.
 #[derive(Debug, Drop)]
 pub(crate) struct InterfaceTable {
     pub interface: Interface,
@@ -61,7 +60,7 @@ impl FromSection for InterfaceTable {
     }
 }
 
-/// A prefix of the router's own, and its route tag where the table gives one.
+/// An owned prefix, and its route tag if the table gives one.
 #[derive(Clone, Copy, Debug)]
 pub(crate) struct PrefixTable {
     pub prefix: Prefix,
@@ -83,7 +82,7 @@ impl FromSection for PrefixTable {
     }
 }
 
-/// A whole configuration, as its text says it.
+/// A whole configuration, as it is written.
 #[derive(Debug, Drop)]
 pub(crate) struct Document {
     pub seed: u64,

@@ -1,16 +1,15 @@
-//! Ports and peers that stand twice.
+//! Refuses duplicate ports and peers.
 
 ghost use Rattle.std.specs.Prelude.{◌≡◌, ◌==◌, IfErr, MatchOption, OnOk, Some};
 ghost use Rattle.std.specs.List.{list_any};
 ghost use Rattle.ripngd_config.specs.Twice.{AreAllPeersDistinct, AreGroupPortsApart, ArePeersDistinct, ArePortsDistinct, IsPeerTwice, RefusesTwice, has_group_port, has_port, is_taken};
-ghost use Rattle.ripngd_engine.specs.Peers.{has_same};
 
 use crate::fault::{ConfigFault, Read};
 use crate::tables::InterfaceTable;
-use ripngd_engine::Peer;
+use ripngd_engine::{Peer, has_clash};
 use std::alloc::Global;
 
-/// Whether one of the earlier interfaces stands at the local port of this one.
+/// Whether an earlier interface has the local port of this one.
 fn has_port(earlier: &[InterfaceTable], table: &InterfaceTable) -> bool
     ensures { result ≡ has_port earlier.now table.now }
 {
@@ -31,14 +30,14 @@ pub(crate) fn check_ports(alloc: Global, interfaces: &[InterfaceTable]) -> Read<
     Ok(())
 }
 
-/// Whether one of the peers stands at a port.
+/// Whether a peer has a local port.
 fn has_peer_at(peers: &[Peer], port: u16) -> bool
     ensures { result ≡ list_any (λ p. p.local_port == port) peers.now }
 {
     peers.iter().any(|peer| peer.local_port == port)
 }
 
-/// Whether an interface or a peer stands at a port.
+/// Whether an interface or a peer has a local port.
 fn is_taken(interfaces: &[InterfaceTable], port: u16) -> bool
     ensures { result ≡ is_taken interfaces.now (Some port) }
 {
@@ -49,7 +48,7 @@ fn is_taken(interfaces: &[InterfaceTable], port: u16) -> bool
     found
 }
 
-/// Whether an interface or a peer stands at the group port of this one.
+/// Whether an interface or a peer has the group port of this interface as its local port.
 fn has_group_port(interfaces: &[InterfaceTable], table: &InterfaceTable) -> bool
     ensures { result ≡ has_group_port interfaces.now table.now }
 {
@@ -59,7 +58,7 @@ fn has_group_port(interfaces: &[InterfaceTable], table: &InterfaceTable) -> bool
     }
 }
 
-/// Refuses the first interface at whose group port an interface or a peer stands.
+/// Refuses the first interface whose group port is the local port of an interface or a peer.
 pub(crate) fn check_group_ports(alloc: Global, interfaces: &[InterfaceTable]) -> Read<()>
     ensures ok { OnOk result (AreGroupPortsApart interfaces.now) }
     ensures fault { IfErr result (RefusesTwice interfaces.now) }
@@ -73,26 +72,19 @@ pub(crate) fn check_group_ports(alloc: Global, interfaces: &[InterfaceTable]) ->
     Ok(())
 }
 
-/// Whether one of the earlier peers has the address or the local port of this one.
-fn has_same(earlier: &[Peer], peer: &Peer) -> bool
-    ensures { result ≡ has_same earlier.now peer.now }
-{
-    earlier.iter().any(|other| other.addr == peer.addr || other.local_port == peer.local_port)
-}
-
 /// The first peer that has the address or the local port of an earlier one.
 fn peer_twice(peers: &[Peer]) -> Option<usize>
     ensures { MatchOption result (ArePeersDistinct peers.now) (IsPeerTwice peers.now) }
 {
     for (index, peer) in peers.iter().enumerate() {
-        if has_same(&peers[..index], peer) {
+        if has_clash(&peers[..index], peer) {
             return Some(index);
         }
     }
     None
 }
 
-/// Refuses the first interface of which a peer stands twice.
+/// Refuses the first interface with a duplicate peer.
 pub(crate) fn check_peers(alloc: Global, interfaces: &[InterfaceTable]) -> Read<()>
     ensures ok { OnOk result (AreAllPeersDistinct interfaces.now) }
     ensures fault { IfErr result (RefusesTwice interfaces.now) }

@@ -1,7 +1,7 @@
 -- Counts, one telling after another.
 use Rattle.std.proofs.Common.{◌≡◌, ℕ, ◌+◌, List, [], ◌∷◌, sym, arith, subst}
 use Rattle.ripngd_engine.specs.Run.{counted}
-use Rattle.ripngd_engine.specs.Watch.{LinkReport, WasTold}
+use Rattle.ripngd_engine.specs.Observer.{LinkReport, WasTold}
 use Rattle.ripngd_control.specs.Watching.{Counted, Refused}
 use Rattle.ripngd_control.specs.declared.counts.Counts.{Counts}
 use Rattle.ripngd_control.specs.declared.refusals.Refusals.{Refusals}

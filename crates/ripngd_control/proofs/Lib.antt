@@ -1,4 +1,3 @@
-mod Walks
 mod Counted
 mod Places
 mod Following

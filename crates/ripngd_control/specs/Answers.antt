@@ -11,8 +11,9 @@ use Rattle.router_core.specs.Machine.{State}
 use Rattle.router_core.specs.Reconfiguring.{NamesInterface}
 use Rattle.router_core.specs.declared.reconfiguring.Change.{Change}
 use Rattle.ripngd_engine.specs.Changing.{ReconfiguresNothing, ReconfiguresOnce, why_refused}
+use Rattle.ripngd_engine.specs.Log.{entry_lines}
 use Rattle.ripngd_engine.specs.Seen.{Acts, Seen}
-use Rattle.ripngd_control.specs.Printed.{counts_text, entry_lines, losses_text, neighbors_text, reply_line, status_lines}
+use Rattle.ripngd_control.specs.Printed.{counts_text, losses_text, neighbors_text, reply_line, status_lines}
 use Rattle.ripngd_control.specs.declared.answering.Rest.{Rest}
 use Rattle.ripngd_control.specs.declared.answering.Rest.TheVariants as rests
 use Rattle.ripngd_control.specs.declared.command.Command.{Command}
@@ -24,13 +25,13 @@ use Rattle.ripngd_control.specs.declared.reply.Reply.{Reply}
 use Rattle.ripngd_control.specs.declared.reply.Reply.TheVariants as replies
 
 -- ---- lines of routes, and of a forwarding table
--- these routes of a table follow one another behind a prefix, none between them left out, up to this prefix
+-- these routes of a table follow one another after a prefix, none left out, up to this prefix
 abbrev pub Follow : Table → Option Prefix6 → List (Prefix6 × RouteValue) → Option Prefix6 → Type 0
 Follow table after [] end = end ≡ after
 Follow table after (e ∷ es) end = (first_past after table ≡ Some e) × Follow table (Some e.0) es end
 
--- the writer gained a line for each of the next routes of a table, 256 at the most, up to the prefix behind which there may be more;
--- or there is none behind them
+-- the writer gained a line for each of the next routes of a table, at most 256, up to the prefix after which there may be more; or
+-- there is none after them
 pub record ShowsRoutes (table : Table) (now : ℕ) (after more : Option Prefix6) (old new : Option (List ℕ)) : Type 0 where
   pub shown : List (Prefix6 × RouteValue)
   pub end : Option Prefix6
@@ -40,7 +41,7 @@ pub record ShowsRoutes (table : Table) (now : ℕ) (after more : Option Prefix6)
   pub ends : more ≡ None → first_past end table ≡ None
   pub lines : Appends old new (status_lines now shown)
 
--- the entries from this place on are those behind a prefix, or all of them
+-- the entries from this index on are those after a prefix, or all of them
 abbrev pub IsPast : List (Prefix6 × Hop × ℕ) → Option Prefix6 → ℕ → Type 0
 IsPast es None begin = begin ≡ 0
 IsPast es (Some p) begin = AreUpTo (take begin es) p × AreAllPast es p begin
@@ -49,8 +50,8 @@ IsPast es (Some p) begin = AreUpTo (take begin es) p × AreAllPast es p begin
 abbrev pub last_prefix : List (Prefix6 × Hop × ℕ) → Option Prefix6
 last_prefix es = option_map (λ e. e.0) (slice_get es (length es - 1))
 
--- the writer gained a line for each of the next entries of a table, 256 at the most, with none between them left out, up to the
--- prefix behind which there may be more; or there was none
+-- the writer gained a line for each of the next entries of a table, at most 256, none left out, up to the prefix after which there may
+-- be more; or there was none
 pub record ShowsEntries (table : Forwarding) (after more : Option Prefix6) (old new : Option (List ℕ)) : Type 0 where
   pub begin : ℕ
   pub past : IsPast (listed table) after begin
@@ -63,15 +64,15 @@ abbrev pub ObeysChange : Change → Seen → Reply → Seen → Type 0
 ObeysChange c a replies.Done b = (b.machine.ended ≡ false) × Acts (ReconfiguresOnce c) a b
 ObeysChange c a (replies.Refused why) b = (b.machine.ended ≡ false) × (why ≡ why_refused a.machine.router c) × Acts ReconfiguresNothing a b
 ObeysChange c a replies.NoSuchInterface b = (b ≡ a) × ¬ (NamesInterface a.machine.router.config c)
-ObeysChange c a (replies.LinkRefused number name) b = ⊥
+ObeysChange c a (replies.LinkRefused why) b = ⊥
 ObeysChange c a replies.NoSuchCommand b = ⊥
 ObeysChange c a replies.Ended b = (b.machine.ended ≡ true) × Acts (ReconfiguresOnce c) a b
 
--- the writer gained this and nothing is left to write, but where the writer failed
+-- the writer gained this and nothing is left to write, unless the writer failed
 abbrev pub GainsLines : Option (List ℕ) → Rest → Option (List ℕ) → List ℕ → Type 0
 GainsLines old rest new text = rest ≢ rests.Lost → (rest ≡ rests.Nothing) × Appends old new text
 
--- what was done and said for a command, or for a line that is of none: only a change changes the router
+-- what was done and written for a command, or for a line that is no command: only a change changes the router
 abbrev pub AnswersCommand : Option Command → Counts → Neighbors → Losses → Seen → Option (List ℕ) → Rest → Seen → Option (List ℕ) → Type 0
 AnswersCommand None counts heard lost a old rest b new = (b ≡ a) × GainsLines old rest new (reply_line replies.NoSuchCommand)
 AnswersCommand (Some commands.Routes) counts heard lost a old rest b new = (b ≡ a) × (rest ≡ rests.Routes None) × (new ≡ old)
@@ -85,12 +86,12 @@ AnswersCommand (Some (commands.Reconfigure c)) counts heard lost a old rest b ne
 AnswersCommand (Some (commands.Link c)) counts heard lost a old rest b new = (b ≡ a) × (reply : Reply) × GainsLines old rest new (reply_line reply)
 
 -- ---- what is answered in pieces
--- there may be more behind a prefix, and nothing is said of it yet; or all was written, and that it was
+-- there may be more after a prefix, and nothing more is written yet; or all was written, and then `ok`
 abbrev pub GoesOnOrEnds : (Option Prefix6 → Rest) → Option Prefix6 → Rest → Option (List ℕ) → Option (List ℕ) → Type 0
 GoesOnOrEnds Kind (Some p) left mid new = (left ≡ Kind (Some p)) × (new ≡ mid)
 GoesOnOrEnds Kind None left mid new = (left ≡ rests.Nothing) × Appends mid new (reply_line replies.Done)
 
--- the writer gained what was next of the rest of an answer, but where it failed
+-- the writer gained the next piece of an answer, unless it failed
 abbrev pub Continues : State → Forwarding → Rest → Option (List ℕ) → Rest → Option (List ℕ) → Type 0
 Continues s table (rests.Routes after) old left new = left ≢ rests.Lost → (more : Option Prefix6) × (mid : Option (List ℕ))
     × ShowsRoutes s.table s.last after more old mid × GoesOnOrEnds rests.Routes more left mid new

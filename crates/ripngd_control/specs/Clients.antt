@@ -1,16 +1,14 @@
--- The clients of a router that runs: who may connect, what is received of one and sent to it, and what they make of the router.
-use Rattle.std.specs.Prelude.{◌≡◌, ◌≢◌, ◌≤◌, ◌/◌, ◌%◌, ◌⊎◌, ℕ, List, [], ◌∷◌, ◌++◌, Option, None, Some, length, take, drop}
-use Rattle.std.specs.List.{All}
+-- The clients of a running router: who may connect, what is received from one and sent to it, and what they make of the router.
+use Rattle.std.specs.Prelude.{◌≡◌, ◌≤◌, ◌/◌, ◌%◌, ◌⊎◌, ℕ, List, [], ◌∷◌, ◌++◌, Option, None, Some, length, take, drop}
 use Rattle.std.specs.Io.KnownBytes.{Appends, Consumes}
 use Rattle.router_core.specs.declared.reconfiguring.Change.{Change}
+use Rattle.ripngd_engine.specs.Log.{HasNoLineFeed}
 use Rattle.ripngd_engine.specs.Seen.{Seen}
 use Rattle.ripngd_control.specs.Answers.{ObeysChange}
 use Rattle.ripngd_control.specs.Commands.{control_text}
 use Rattle.ripngd_control.specs.declared.command.Command.{Command}
 use Rattle.ripngd_control.specs.declared.command.Command.TheVariants.{Reconfigure}
 use Rattle.ripngd_control.specs.declared.reply.Reply.{Reply}
-use Rattle.ripngd_control.specs.declared.transcript.Entry.{Entry}
-use Rattle.ripngd_control.specs.declared.transcript.Entry.TheVariants as entries
 
 -- whoever may write a socket's file may connect. Of its mode: neither its group nor others may
 pub record IsPrivate (mode : ℕ) : Type 0 where
@@ -18,15 +16,11 @@ pub record IsPrivate (mode : ℕ) : Type 0 where
   pub others : (mode / 2) % 2 ≡ 0
 
 -- ---- one client
--- no byte is a line feed
-abbrev pub HasNoFeed : List ℕ → Type 0
-HasNoFeed bytes = All (λ b. b ≢ 10) bytes
-
--- these bytes begin with this line and a line feed, and the line has none
+-- these bytes begin with this line and a line feed, and the line has no line feed
 pub record BeginsWith (line bytes : List ℕ) : Type 0 where
   pub rest : List ℕ
   pub spelled : bytes ≡ line ++ (10 ∷ rest)
-  pub in_line : HasNoFeed line
+  pub in_line : HasNoLineFeed line
 
 -- what was received grew by just what a stream gave, if that is known
 pub record GrowsByReceived (before : Option (List ℕ)) (old : List ℕ) (after : Option (List ℕ)) (new : List ℕ) : Type 0 where
@@ -34,7 +28,7 @@ pub record GrowsByReceived (before : Option (List ℕ)) (old : List ℕ) (after 
   pub given : Consumes before after more
   pub grown : new ≡ old ++ more
 
--- a stream took so many bytes, the first of these, and the others are left
+-- a stream took the first `count` of these bytes, and the others are left
 pub record ShrinksBySent (before : Option (List ℕ)) (old : List ℕ) (count : ℕ) (after : Option (List ℕ)) (new : List ℕ) : Type 0 where
   pub within : count ≤ length old
   pub taken : Appends before after (take count old)
@@ -45,17 +39,12 @@ pub record ShrinksBySent (before : Option (List ℕ)) (old : List ℕ) (count : 
 pub record ClientsState : Type 0 where
   pub lines : List (List ℕ)
 
--- none, or a line behind those that were taken in
-abbrev pub taken_by : Entry → List (List ℕ)
-taken_by entries.Nothing = []
-taken_by (entries.Behind before line) = before.now.taken ++ line.now ∷ []
-
 -- the line at the head of what was received was taken in, if it is that of a command
 abbrev pub TakesIn : Option Command → List ℕ → List (List ℕ) → List (List ℕ) → Type 0
 TakesIn None bytes old new = new ≡ old
 TakesIn (Some c) bytes old new = BeginsWith (control_text c) bytes × (new ≡ old ++ control_text c ∷ [])
 
--- a router is told what the line of a client asks: a change, or nothing of it changes
+-- a router does what the line of a client commands: a change, or nothing changes
 abbrev pub ObeysLine : List ℕ → Seen → Seen → Type 0
 ObeysLine line a b = (b ≡ a) ⊎ ((c : Change) × (reply : Reply) × (line ≡ control_text (Reconfigure c)) × ObeysChange c a reply b)
 

@@ -20,6 +20,6 @@ control_text (commands.Reconfigure (Disown p)) = codes "drop " ++ written_prefix
 control_text (commands.Link (Add iface addr port)) = codes "peer " ++ (decimal iface ++ (codes " " ++ (written_addr addr ++ (codes " " ++ decimal port))))
 control_text (commands.Link (Remove iface addr)) = codes "unpeer " ++ (decimal iface ++ (codes " " ++ written_addr addr))
 
--- whether a sign, `+` or `-`, stands in a text: in no command one does
+-- whether a text has a sign, `+` or `-`, which no command has
 abbrev pub has_sign : List ℕ → Bool
 has_sign text = list_any (λ byte. byte == 43 || byte == 45) text

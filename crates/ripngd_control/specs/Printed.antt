@@ -3,22 +3,20 @@ use Rattle.std.specs.Prelude.{ℕ, ◌-◌, ◌==◌, List, [], ◌∷◌, ◌++
 use Rattle.prefix6.specs.Prefix.{Prefix6}
 use Rattle.prefix6.specs.Written.{written_addr, written_prefix}
 use Rattle.ripng_wire.specs.declared.error.WireError.TheVariants.{Short, TooLong, Ragged, BadCommand, BadVersion, NotZero}
-use Rattle.fib.specs.declared.change.Hop.{Hop}
 use Rattle.route_table.specs.Route.{RouteValue}
 use Rattle.route_table.specs.declared.route.Clock.{Clock}
 use Rattle.route_table.specs.declared.route.Clock.TheVariants.{Fixed, Live, Dying}
 use Rattle.route_table.specs.declared.route.Origin.{Origin}
 use Rattle.route_table.specs.declared.route.Origin.TheVariants.{Own, Learned}
-use Rattle.router_core.specs.Faults.{fault_name, fault_number}
-use Rattle.router_core.specs.Offers.{note_name, note_number}
-use Rattle.router_core.specs.Reconfiguring.{reconfigure_name, reconfigure_number}
+use Rattle.router_core.specs.Faults.{fault_number, fault_text}
+use Rattle.router_core.specs.Offers.{note_number, note_text}
+use Rattle.router_core.specs.Reconfiguring.{reconfigure_text}
 use Rattle.router_core.specs.declared.answer.Note.{Note}
 use Rattle.router_core.specs.declared.answer.NoteKind.TheVariants.{BadLength, BadPrefix, BadMetric, TableFull, NoMemory}
 use Rattle.router_core.specs.declared.arrival.Fault.{Fault}
 use Rattle.router_core.specs.declared.arrival.Fault.TheVariants.{Wire, NotRipngPort, NotLinkLocal, OwnAddress, HopLimit, EmptyRequest, BadSource}
-use Rattle.ripngd_engine.specs.Log.{route_text}
-use Rattle.ripngd_engine.specs.Watch.{LinkReport, Heard, Sent}
-use Rattle.ripngd_engine.specs.declared.watch.Arrived.{Arrived}
+use Rattle.ripngd_engine.specs.Observer.{LinkReport, Processed, Sent}
+use Rattle.ripngd_engine.specs.declared.observer.Arrived.{Arrived}
 use Rattle.ripngd_control.specs.declared.counts.Counts.{Counts}
 use Rattle.ripngd_control.specs.declared.counts.Losses.{Losses}
 use Rattle.ripngd_control.specs.declared.neighbors.Neighbor.{Neighbor}
@@ -38,8 +36,8 @@ arrival_text a =
 
 -- `refused NR NAME` or `noted NR NAME`
 abbrev pub refusal_text : Refusal → List ℕ
-refusal_text (Arrival fault) = codes "refused " ++ (decimal (fault_number fault) ++ (codes " " ++ fault_name fault))
-refusal_text (Entry kind) = codes "noted " ++ (decimal (note_number kind) ++ (codes " " ++ note_name kind))
+refusal_text (Arrival fault) = codes "refused " ++ fault_text fault
+refusal_text (Entry kind) = codes "noted " ++ note_text kind
 
 -- a line `ORIGIN refused NR NAME` for the fault, if there is one
 abbrev pub refusal_lines : Arrived → Option Fault → List ℕ
@@ -51,9 +49,9 @@ abbrev pub note_lines : Arrived → List Note → List ℕ
 note_lines a notes =
     flat_map (λ n. (arrival_text a ++ (codes " entry " ++ (decimal n.entry ++ (codes " " ++ refusal_text (Entry n.kind))))) ++ 10 ∷ []) notes
 
--- the lines of what is told
+-- the lines of a report
 abbrev pub lines_of : LinkReport → List ℕ
-lines_of (Heard a bytes fault notes) = refusal_lines a fault ++ note_lines a notes
+lines_of (Processed a bytes fault notes) = refusal_lines a fault ++ note_lines a notes
 lines_of (Sent s went) = []
 
 -- ---- counts
@@ -69,7 +67,7 @@ every_refusal =
     ∷ Arrival (Wire NotZero) ∷ Arrival NotRipngPort ∷ Arrival NotLinkLocal ∷ Arrival OwnAddress ∷ Arrival HopLimit
     ∷ Arrival EmptyRequest ∷ Arrival BadSource ∷ Entry BadLength ∷ Entry BadPrefix ∷ Entry BadMetric ∷ Entry TableFull ∷ Entry NoMemory ∷ []
 
--- a line `refused NR NAME N` or `noted NR NAME N`, where there was any, behind what is not ended
+-- a line `refused NR NAME N` or `noted NR NAME N`, if the count is not 0, after a line feed
 abbrev pub count_line : Refusal → ℕ → List ℕ
 count_line refusal count = if count == 0 then [] else 10 ∷ refusal_text refusal ++ (codes " " ++ decimal count)
 
@@ -81,7 +79,7 @@ count_lines counts refusals = flat_map (λ r. count_line r (slice_index_or count
 abbrev pub refusals_text : Refusals → List ℕ
 refusals_text r = count_lines r.by_number every_refusal
 
--- `arrivals A sends S failed F`, and behind it the lines of what was refused
+-- `arrivals A sends S failed F`, and then the lines of what was refused
 abbrev pub counts_text : Counts → List ℕ
 counts_text c =
     codes "arrivals " ++ (decimal c.arrivals ++ (codes " sends " ++ (decimal c.sends ++ (codes " failed "
@@ -92,7 +90,7 @@ abbrev pub last_text : Option ℕ → List ℕ
 last_text None = []
 last_text (Some moment) = codes " last " ++ decimal moment
 
--- ` arrivals A responses R entries E`, ` last MS` if there was a Response, and behind it the lines of what was refused
+-- ` arrivals A responses R entries E`, ` last MS` if there was a Response, and then the lines of what was refused
 abbrev pub tally_text : Tally → List ℕ
 tally_text t =
     codes " arrivals " ++ (decimal t.arrivals ++ (codes " responses " ++ (decimal t.responses ++ (codes " entries "
@@ -136,15 +134,11 @@ status_text p r now =
 abbrev pub status_lines : ℕ → List (Prefix6 × RouteValue) → List ℕ
 status_lines now es = flat_map (λ e. status_text e.0 e.1 now ++ 10 ∷ []) es
 
--- a line for each of these entries of a forwarding table
-abbrev pub entry_lines : List (Prefix6 × Hop × ℕ) → List ℕ
-entry_lines es = flat_map (λ e. route_text e.0 e.1 e.2 ++ 10 ∷ []) es
-
 -- the numbers of refusals: those of the router, those of its link, and three of their own
 abbrev pub reply_text : Reply → List ℕ
 reply_text replies.Done = codes "ok"
-reply_text (replies.Refused why) = codes "refused " ++ (decimal (reconfigure_number why) ++ (codes " " ++ reconfigure_name why))
-reply_text (replies.LinkRefused number name) = codes "refused " ++ (decimal number ++ (codes " " ++ name.now))
+reply_text (replies.Refused why) = codes "refused " ++ reconfigure_text why
+reply_text (replies.LinkRefused why) = codes "refused " ++ why.now
 reply_text replies.NoSuchInterface = codes "refused 51 NoSuchInterface"
 reply_text replies.NoSuchCommand = codes "refused 52 NoSuchCommand"
 reply_text replies.Ended = codes "refused 53 Ended"

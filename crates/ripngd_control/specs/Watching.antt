@@ -1,4 +1,4 @@
--- What the watcher of a run makes of what it is told: what is counted, in all and of each sender, and what is said.
+-- What the monitor of a run makes of reports: what is counted, in all and by sender, and which lines are written.
 use Rattle.std.specs.Prelude.{ℕ, ◌≡◌, ◌<◌, ◌+◌, ◌-◌, ◌/◌, ◌==◌, ◌&&◌, ◌⊎◌, Bool, true, false, List, [], ◌∷◌, ◌++◌, Option, None, Some, if◌then◌else◌, length, nat_lt, replicate, slice_get, slice_index_or, slice_set, vec_capacity}
 use Rattle.std.specs.Io.KnownBytes.{Appends}
 use Rattle.std.specs.List.{count_by, position_or_len}
@@ -8,8 +8,8 @@ use Rattle.router_core.specs.Offers.{note_number}
 use Rattle.router_core.specs.declared.answer.Note.{Note}
 use Rattle.router_core.specs.declared.arrival.Fault.{Fault}
 use Rattle.ripngd_engine.specs.Run.{counted}
-use Rattle.ripngd_engine.specs.Watch.{LinkReport, Heard, Sent}
-use Rattle.ripngd_engine.specs.declared.watch.Arrived.{Arrived}
+use Rattle.ripngd_engine.specs.Observer.{LinkReport, Processed, Sent}
+use Rattle.ripngd_engine.specs.declared.observer.Arrived.{Arrived}
 use Rattle.ripngd_control.specs.Printed.{lines_of}
 use Rattle.ripngd_control.specs.declared.counts.Counts.{Counts}
 use Rattle.ripngd_control.specs.declared.monitor.Monitor.{Monitor}
@@ -19,14 +19,14 @@ use Rattle.ripngd_control.specs.declared.refusals.Refusals.{Refusals}
 use Rattle.ripngd_control.specs.declared.neighbors.Tally.{Tally}
 
 -- ---- what is counted of a report
--- f of an arrival's fault and notes, and none of what was sent
+-- f of an arrival's fault and notes, and 0 for what was sent
 abbrev pub heard_in : (Option Fault → List Note → ℕ) → LinkReport → ℕ
-heard_in f (Heard a bytes fault notes) = f fault notes
+heard_in f (Processed a bytes fault notes) = f fault notes
 heard_in f (Sent s went) = 0
 
--- f of whether the link took what was sent, and none of an arrival
+-- f of whether the link could send what was sent, and 0 for an arrival
 abbrev pub sent_in : (Bool → ℕ) → LinkReport → ℕ
-sent_in f (Heard a bytes fault notes) = 0
+sent_in f (Processed a bytes fault notes) = 0
 sent_in f (Sent s went) = f went
 
 -- how many there are in all of them
@@ -69,7 +69,7 @@ abbrev pub is_sound_response : List ℕ → Option Fault → Bool
 is_sound_response bytes None = is_response bytes
 is_sound_response bytes (Some fault) = false
 
--- the entries of a datagram: 20 bytes each, behind the first 4
+-- the entries of a datagram: 20 bytes each, after the first 4
 abbrev pub rte_count : List ℕ → ℕ
 rte_count bytes = (length bytes - 4) / 20
 
@@ -87,7 +87,7 @@ pub record Tallied (c : Tally) (a : Arrived) (bytes : List ℕ) (fault : Option 
   pub refusals : Refused (λ number. is_fault number fault + notes_of number notes) c.refusals d.refusals
 
 -- ---- of all senders
--- nobody was heard, and there is room for 64 rows, or for none
+-- no sender yet, and there is room for 64 rows, or for none
 pub record KnowsNobody (n : Neighbors) : Type 0 where
   pub rows : n.rows.items ≡ []
   pub room : (vec_capacity n.rows ≡ 64) ⊎ (vec_capacity n.rows ≡ 0)
@@ -97,16 +97,16 @@ pub record KnowsNobody (n : Neighbors) : Type 0 where
 abbrev pub is_of : Arrived → Neighbor → Bool
 is_of a r = (r.iface == a.iface) && (r.source == a.source)
 
--- where the row of an arrival's sender is, or how many rows there are where it has none
+-- the index of the row of an arrival's sender, or how many rows there are if it has none
 abbrev pub place_of : Arrived → List Neighbor → ℕ
 place_of a rows = position_or_len (is_of a) rows
 
--- the rows, with an empty one for an arrival's sender behind them where it has none and there is room for one
+-- the rows, and after them an empty one for an arrival's sender, if it has none and there is room
 abbrev pub with_row : Arrived → ℕ → List Neighbor → List Neighbor
 with_row a room rows = if (place_of a rows == length rows) && nat_lt (length rows) room
     then rows ++ record { iface = a.iface; source = a.source; tally = no_tally } ∷ [] else rows
 
--- an arrival was counted in the row at a place, or with all others where there is none
+-- an arrival was counted in the row at an index, or with all others if there is no such row
 abbrev pub CountsAt : (Tally → Tally → Type 0) → Option Neighbor → ℕ → List Neighbor → Neighbors → Neighbors → Type 0
 CountsAt Counts (Some row) place rows v w = (tally : Tally) × Counts row.tally tally
     × (w.rows.items ≡ slice_set rows place (record row { tally = tally })) × (w.others ≡ v.others)
@@ -117,12 +117,12 @@ abbrev pub CountsOf : (Tally → Tally → Type 0) → Arrived → List Neighbor
 CountsOf Counts a rows v w =
     (vec_capacity w.rows ≡ vec_capacity v.rows) × CountsAt Counts (slice_get rows (place_of a rows)) (place_of a rows) rows v w
 
--- what a telling makes of the rows: what is sent is nobody's
+-- what a report makes of the rows: what is sent is of no sender
 abbrev pub CountsReport : Neighbors → LinkReport → Neighbors → Type 0
-CountsReport v (Heard a bytes fault notes) w = CountsOf (λ c d. Tallied c a bytes fault notes d) a (with_row a (vec_capacity v.rows) v.rows.items) v w
+CountsReport v (Processed a bytes fault notes) w = CountsOf (λ c d. Tallied c a bytes fault notes d) a (with_row a (vec_capacity v.rows) v.rows.items) v w
 CountsReport v (Sent s went) w = w ≡ v
 
--- ---- what a telling makes of a monitor: it is counted, and its lines are written, but none once it is muted
+-- ---- what a report makes of a monitor: it is counted, and its lines are written, unless the monitor is muted
 pub record Monitors {W : Type 0} (text : W → Option (List ℕ)) (v : Monitor W) (t : LinkReport) (w : Monitor W) : Type 0 where
   pub counts : Counted v.counts (t ∷ []) w.counts
   pub neighbors : CountsReport v.neighbors t w.neighbors

@@ -1,4 +1,4 @@
-//! What a router that runs answers to one command, between two of its turns: at once, or in pieces.
+//! What a running router does for a command, and its answer: at once, or in pieces.
 
 ghost use Rattle.std.specs.Prelude.{◌≡◌, ◌≢◌, ◌↔◌, IsOk, IsTrue, Some, false};
 ghost use Rattle.router_core.specs.Reconfiguring.{NamesInterface};
@@ -20,31 +20,31 @@ use route_table::RouteStore;
 use router_core::{Change, Router, RouterConfig};
 use std::io::{self, Write};
 
-/// What is still to be written of an answer.
+/// The rest of an answer, which is still to be written.
 #[derive(Clone, Copy, Debug, PartialEq, Eq)]
 pub(crate) enum Rest {
-    /// Lines of routes, behind a prefix if one is named.
+    /// Lines of routes, of all or of those after a prefix.
     Routes(Option<Prefix>),
-    /// Lines of the forwarding table, behind a prefix if one is named.
+    /// Lines of the forwarding table, all or those after a prefix.
     Table(Option<Prefix>),
     /// Nothing.
     Nothing,
-    /// What should be cannot: the writer failed.
+    /// The writer failed, so the rest cannot be written.
     Lost,
 }
 
-/// Whether a router goes on.
+/// Whether a router goes on after a command.
 #[derive(Clone, Copy, Debug, PartialEq, Eq)]
-pub enum Course {
+pub enum RunState {
     /// It does.
-    GoOn,
-    /// It was told to stop.
-    Stop,
+    Running,
+    /// A client told it to stop.
+    Stopped,
     /// There was no memory for its forwarding table.
     Ended,
 }
 
-/// What is left of an answer that was to be written to its end.
+/// The rest of an answer that was written whole.
 fn all_of(written: io::Result<()>) -> Rest
     ensures { result ≢ Rest.Lost → (result ≡ Rest.Nothing) × IsOk written }
 {
@@ -61,7 +61,7 @@ fn write_reply<W: Write>(reply: Reply, out: &mut W) -> Rest
     all_of(writeln!(out, "{reply}"))
 }
 
-/// Whether a change of cost names an interface.
+/// Whether the interface of a change of cost exists.
 fn names_interface(config: &RouterConfig, change: &Change) -> bool
     ensures { IsTrue result ↔ NamesInterface config.now change.now }
 {
@@ -71,30 +71,30 @@ fn names_interface(config: &RouterConfig, change: &Change) -> bool
     }
 }
 
-/// Changes the configuration of an engine's router, and answers how that ended, and whether the router goes on.
+/// Changes the configuration of an engine's router. Returns the reply, and whether the router goes on.
 fn obey<S: RouteStore, L: Link, C: TimeSource, R: Rng + Drop, W: Write>(
     engine: &mut Engine<S, L, C, R>,
     change: Change,
     log: &mut W,
-) -> (Reply, Course)
+) -> (Reply, RunState)
     requires { engine.old.ended ≡ false }
     ensures obeys { ObeysChange change (seen R.stream W.contents engine.old log.old) result.0
         (seen R.stream W.contents engine.new log.new) }
-    ensures goes_on { result.1 ≢ Course.Ended → engine.new.ended ≡ false }
-    ensures no_stop { result.1 ≢ Course.Stop }
+    ensures goes_on { result.1 ≢ RunState.Ended → engine.new.ended ≡ false }
+    ensures no_stop { result.1 ≢ RunState.Stopped }
 {
     if !names_interface(engine.router().config(), &change) {
-        return (Reply::NoSuchInterface, Course::GoOn);
+        return (Reply::NoSuchInterface, RunState::Running);
     }
     match engine.reconfigure(change, log) {
-        Ok(()) => (Reply::Done, Course::GoOn),
-        Err(ChangeFault::Refused(why)) => (Reply::Refused(why), Course::GoOn),
-        Err(ChangeFault::Ended) => (Reply::Ended, Course::Ended),
+        Ok(()) => (Reply::Done, RunState::Running),
+        Err(ChangeFault::Refused(why)) => (Reply::Refused(why), RunState::Running),
+        Err(ChangeFault::Ended) => (Reply::Ended, RunState::Ended),
     }
 }
 
-/// Does what a command tells, or begins to answer what it asks: what is still to be written, and whether the router goes on. With the
-/// command come the monitor of the run, what was lost, and who changes the peers of the link.
+/// Does a command, or begins to answer it, where `None` is a line that is no command. Returns the rest of the answer, and whether the
+/// router goes on. `monitor` and `lost` have what the answer counts; `peering` changes the peers of the link.
 pub(crate) fn respond<
     S: RouteStore,
     L: Link,
@@ -112,41 +112,44 @@ pub(crate) fn respond<
     peering: &mut P,
     log: &mut W,
     out: &mut O,
-) -> (Rest, Course)
+) -> (Rest, RunState)
     requires { engine.old.ended ≡ false }
     ensures answers { AnswersCommand command monitor.now.counts monitor.now.neighbors lost (seen R.stream W.contents engine.old log.old)
         (O.contents out.old) result.0 (seen R.stream W.contents engine.new log.new) (O.contents out.new) }
-    ensures goes_on { result.1 ≢ Course.Ended → engine.new.ended ≡ false }
-    ensures stops { (result.1 ≡ Course.Stop) ↔ (command ≡ Some Command.Stop) }
+    ensures goes_on { result.1 ≢ RunState.Ended → engine.new.ended ≡ false }
+    ensures stops { (result.1 ≡ RunState.Stopped) ↔ (command ≡ Some Command.Stop) }
     ensures links { (c : PeerChange) → command ≡ Some (Command.Link c)
         → GainsLines (O.contents out.old) result.0 (O.contents out.new) (reply_line (P.Peering.ended peering.new)) }
 {
     match command {
-        Some(Command::Routes) => (Rest::Routes(None), Course::GoOn),
-        Some(Command::Table) => (Rest::Table(None), Course::GoOn),
+        Some(Command::Routes) => (Rest::Routes(None), RunState::Running),
+        Some(Command::Table) => (Rest::Table(None), RunState::Running),
         Some(Command::Counts) => {
             let counts = monitor.counts();
-            (all_of(writeln!(out, "{counts}\n{lost}\nok")), Course::GoOn)
+            (
+                all_of(writeln!(out, "{counts}\n{lost}\nok")),
+                RunState::Running,
+            )
         }
         Some(Command::Neighbors) => {
             let neighbors = monitor.neighbors();
-            (all_of(writeln!(out, "{neighbors}ok")), Course::GoOn)
+            (all_of(writeln!(out, "{neighbors}ok")), RunState::Running)
         }
-        Some(Command::Stop) => (write_reply(Reply::Done, out), Course::Stop),
+        Some(Command::Stop) => (write_reply(Reply::Done, out), RunState::Stopped),
         Some(Command::Reconfigure(change)) => {
-            let (reply, course) = obey(engine, change, log);
-            (write_reply(reply, out), course)
+            let (reply, state) = obey(engine, change, log);
+            (write_reply(reply, out), state)
         }
         Some(Command::Link(change)) => {
             peering.order(change);
             engine.change_link(peering);
-            (write_reply(peering.reply(), out), Course::GoOn)
+            (write_reply(peering.reply(), out), RunState::Running)
         }
-        None => (write_reply(Reply::NoSuchCommand, out), Course::GoOn),
+        None => (write_reply(Reply::NoSuchCommand, out), RunState::Running),
     }
 }
 
-/// Writes a piece of what is still to be written, 256 lines at the most, and answers what is left then.
+/// Writes the next piece of an answer, at most 256 lines, and returns the rest.
 pub(crate) fn write_rest<S: RouteStore, O: Write>(
     router: &Router<S>,
     fib: &Fib,

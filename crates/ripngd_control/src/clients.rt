@@ -1,19 +1,18 @@
-//! The clients of a router that runs: one at a time is served, a bounded moment between two turns.
+//! The clients of a running router. One at a time is served, for a bounded time between two turns.
 
 ghost use Rattle.std.specs.Prelude.{◌≡◌, ◌≢◌, ◌++◌, ◌∷◌, [], IfOk, IfSome, IsNone, None, codes, false};
 ghost use Rattle.ripngd_engine.specs.Seen.{seen};
 ghost use Rattle.ripngd_control.specs.Clients.{Heeds, TakesIn};
 
-use crate::answering::{Course, respond};
+use crate::answering::{RunState, respond};
 use crate::command::{Command, read_command};
+use crate::connection::{Connection, LINE_LIMIT, line_in};
+use crate::control_socket::{ControlSocket, ListenFault};
 use crate::counts::Losses;
-use crate::door::{Door, DoorFault};
 use crate::monitor::Monitor;
 use crate::reply::Peering;
-use crate::transcript::{Entry, Lines};
-use crate::visit::{LINE_LIMIT, Visit, line_in};
 use rand_core::Rng;
-use ripngd_engine::{Engine, Link, LinkChange, TimeSource};
+use ripngd_engine::{Engine, Entry, Link, LinkChange, TimeSource, Transcript};
 use route_table::RouteStore;
 use std::alloc::Global;
 use std::io::Write;
@@ -21,13 +20,13 @@ use std::marker::Model;
 use std::net::Net;
 use std::rt::{Clock, Files};
 
-/// The clients of a router: the socket at which they come, if there is one, and the one that is served. Contracts see the lines that
-/// were taken in and named a command.
+/// The clients of a router: its control socket, while it listens, and the client that is served. Contracts see the lines that named a
+/// command and were obeyed.
 #[derive(Drop)]
 pub struct Clients {
-    door: Option<Door>,
-    visit: Option<Visit>,
-    lines: Lines,
+    socket: Option<ControlSocket>,
+    connection: Option<Connection>,
+    transcript: Transcript,
 }
 
 impl Model for Clients {
@@ -35,83 +34,73 @@ impl Model for Clients {
 
     ghost Value = { ClientsState };
 
-    ghost view = { λ c. record { lines = c.lines.taken } };
+    ghost view = { λ c. record { lines = c.transcript.past.lines } };
 }
 
 impl Clients {
-    /// Nobody can come.
-    pub fn none() -> Clients
-        ensures { result.lines ≡ [] }
-    {
-        Clients {
-            door: None,
-            visit: None,
-            lines: Lines::of(&Entry::Nothing),
-        }
-    }
-
-    /// Listens at a path. What a router that is gone left there is replaced.
+    /// Listens at a path. The socket of a router that has ended is replaced.
     ///
     /// # Errors
-    /// Those of [`DoorFault`].
-    pub fn open<R: Files + Net>(rt: &R, path: &str) -> Result<Clients, DoorFault>
+    /// Those of [`ListenFault`].
+    pub fn open<R: Files + Net>(rt: &R, path: &str) -> Result<Clients, ListenFault>
         ensures { IfOk result (λ clients. clients.lines ≡ []) }
     {
         Ok(Clients {
-            door: Some(Door::open(rt, path)?),
-            visit: None,
-            lines: Lines::of(&Entry::Nothing),
+            socket: Some(ControlSocket::open(rt, path)?),
+            connection: None,
+            transcript: Transcript::of(&Entry::Nothing),
         })
     }
 
-    /// Lets nobody in any more, and takes the file of the socket away, if it is still the one that was made. Who is served is left.
+    /// Stops listening, and removes the file of the socket if it is still the one that was made. The client that is served is let go.
     pub fn close<R: Files>(&mut self, rt: &R, path: &str)
         ensures { self.new.lines ≡ self.old.lines }
     {
-        self.visit = None;
-        if let Some(door) = self.door.take() {
-            door.close(rt, path);
+        self.connection = None;
+        if let Some(socket) = self.socket.take() {
+            socket.close(rt, path);
         }
     }
 
-    /// The client that is served, or that has come now.
-    fn next_visit<R: Clock + AllocGlobal>(&mut self, rt: &R) -> Option<Visit>
+    /// The client that is served, or else one that has connected.
+    fn next_connection<R: Clock + AllocGlobal>(&mut self, rt: &R) -> Option<Connection>
         ensures { self.new.lines ≡ self.old.lines }
     {
-        if self.visit.is_some() {
-            return self.visit.take();
+        if self.connection.is_some() {
+            return self.connection.take();
         }
-        let stream = self.door.as_ref()?.accept()?;
-        Visit::new(rt, stream).ok()
+        let stream = self.socket.as_ref()?.accept()?;
+        Connection::new(rt, stream).ok()
     }
 
-    /// Reads once of a client, and answers the command of its line once that is whole, or that what it sent is none; or that there
-    /// is nothing to do for it. The line of a command is taken in.
-    fn listen(&mut self, alloc: Global, visit: &mut Visit) -> Option<Option<Command>>
-        ensures taken { IfSome result (λ command. TakesIn command visit.new.received.items self.old.lines self.new.lines) }
+    /// Reads once from a client. `None`: no complete line yet, or its command is known already. `Some(None)`: its line is no command.
+    /// `Some(Some(c))`: command c.
+    fn listen(&mut self, alloc: Global, connection: &mut Connection) -> Option<Option<Command>>
+        ensures taken { IfSome result (λ command. TakesIn command connection.new.received.items self.old.lines self.new.lines) }
         ensures none { IsNone result → self.new.lines ≡ self.old.lines }
-        ensures once { visit.old.rest ≢ None → result ≡ None }
+        ensures once { connection.old.rest ≢ None → result ≡ None }
     {
-        if !visit.receive() {
+        if !connection.receive() {
             return None;
         }
-        let received = visit.received.as_slice();
+        let received = connection.received.as_slice();
         match line_in(received) {
             None if received.len() < LINE_LIMIT => None,
             None => Some(None),
             Some(line) => {
                 let command = read_command(alloc, line).ok()?;
                 if command.is_some() {
-                    self.lines = Lines::of(&Entry::Behind(&self.lines, line));
+                    self.transcript = Transcript::of(&Entry::Obeyed(&self.transcript, line));
                 }
                 Some(command)
             }
         }
     }
 
-    /// Looks once at the clients of a router, between two of its turns: one that waits is let in if none is served, one read is
-    /// made of it, its command is done, and it is sent up to 16 pieces of its answer.
-    pub fn look<
+    /// Serves the clients of a router between two of its turns: accepts one if none is served, reads once from it, does its command,
+    /// and sends it up to 16 pieces of its answer. That a client is ever accepted is tested and not proved: nothing is known of a
+    /// socket.
+    pub fn serve<
         RT: Clock + AllocGlobal,
         S: RouteStore,
         L: Link,
@@ -128,35 +117,35 @@ impl Clients {
         lost: Losses,
         peering: &mut P,
         log: &mut W,
-    ) -> Course
+    ) -> RunState
         requires { engine.old.ended ≡ false }
         ensures heeds { Heeds self.old.lines (seen R.stream W.contents engine.old log.old)
             self.new.lines (seen R.stream W.contents engine.new log.new) }
-        ensures goes_on { result ≢ Course.Ended → engine.new.ended ≡ false }
-        ensures stops { result ≡ Course.Stop → self.new.lines ≡ self.old.lines ++ codes "stop" ∷ [] }
+        ensures goes_on { result ≢ RunState.Ended → engine.new.ended ≡ false }
+        ensures stops { result ≡ RunState.Stopped → self.new.lines ≡ self.old.lines ++ codes "stop" ∷ [] }
     {
-        let Some(mut visit) = self.next_visit(rt) else {
-            return Course::GoOn;
+        let Some(mut connection) = self.next_connection(rt) else {
+            return RunState::Running;
         };
-        let course = match self.listen(rt.alloc(), &mut visit) {
-            None => Course::GoOn,
+        let state = match self.listen(rt.alloc(), &mut connection) {
+            None => RunState::Running,
             Some(command) => {
-                let (rest, course) = respond(
+                let (rest, state) = respond(
                     engine,
                     command,
                     monitor,
                     lost,
                     peering,
                     log,
-                    &mut visit.text,
+                    &mut connection.text,
                 );
-                visit.rest = Some(rest);
-                course
+                connection.rest = Some(rest);
+                state
             }
         };
-        if visit.send(rt, engine.router(), engine.fib()) {
-            self.visit = Some(visit);
+        if connection.send(rt, engine.router(), engine.fib()) {
+            self.connection = Some(connection);
         }
-        course
+        state
     }
 }

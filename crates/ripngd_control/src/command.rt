@@ -1,4 +1,4 @@
-//! Commands, and the lines that they are sent as.
+//! The commands of clients, and their lines.
 
 ghost use Rattle.std.specs.Prelude.{◌≡◌, IfOk, IfSome, IsTrue, None, Some};
 ghost use Rattle.ripngd_control.specs.Commands.{control_text, has_sign};
@@ -9,38 +9,38 @@ use std::alloc::{AllocError, Global};
 use std::fmt::{self, Display};
 use std::str;
 
-/// A change of who is on the link of an interface. The router itself knows nothing of it.
+/// A change of the peers on the link of an interface. The router itself does not notice it.
 #[derive(Clone, Copy, Debug, PartialEq, Eq)]
 pub enum PeerChange {
-    /// `peer INTERFACE ADDRESS PORT`: a neighbor of that address stands at that port of 127.0.0.1.
+    /// `peer INTERFACE ADDRESS PORT`: a neighbor has this address, and this port of 127.0.0.1.
     Add {
         iface: usize,
         addr: Addr6,
         port: u16,
     },
-    /// `unpeer INTERFACE ADDRESS`: no neighbor of that address is there any more.
+    /// `unpeer INTERFACE ADDRESS`: the neighbor of this address has gone.
     Remove {
         iface: usize,
         addr: Addr6,
     },
 }
 
-/// What a router is told or asked.
+/// A command to a running router.
 #[derive(Clone, Copy, Debug, PartialEq, Eq)]
 pub enum Command {
     /// `routes`: its routes.
     Routes,
     /// `table`: its forwarding table.
     Table,
-    /// `counts`: what came, was sent, refused and lost.
+    /// `counts`: how many datagrams arrived, were sent, refused and lost.
     Counts,
-    /// `neighbors`: what came of each sender.
+    /// `neighbors`: what arrived from each sender.
     Neighbors,
-    /// `stop`: it is to end.
+    /// `stop`: the router ends.
     Stop,
-    /// `cost INTERFACE COST`, `gain PREFIX TAG`, `drop PREFIX`: its configuration is to change.
+    /// `cost INTERFACE COST`, `gain PREFIX TAG`, `drop PREFIX`: a change of its configuration.
     Reconfigure(Change),
-    /// `peer INTERFACE ADDRESS PORT`, `unpeer INTERFACE ADDRESS`: the peers of its link are to change.
+    /// `peer INTERFACE ADDRESS PORT`, `unpeer INTERFACE ADDRESS`: a change of its peers.
     Link(PeerChange),
 }
 
@@ -68,15 +68,14 @@ impl Display for Command {
     }
 }
 
-/// Whether a sign stands in a text.
+/// Whether a text has a sign, `+` or `-`.
 fn has_sign(text: &str) -> bool
     ensures { result ≡ has_sign text.now }
 {
     text.bytes().any(|byte| byte == b'+' || byte == b'-')
 }
 
-/// The command that somebody may have meant by a text: addresses, prefixes and numbers in any of their forms, but none with a
-/// sign.
+/// The command of a text, with addresses, prefixes and numbers in any of their forms. A text with a sign is none.
 pub fn command_in(text: &str) -> Option<Command>
     ensures unsigned { IsTrue (has_sign text.now) → result ≡ None }
 {
@@ -87,7 +86,7 @@ pub fn command_in(text: &str) -> Option<Command>
     }
 }
 
-/// The same of a text in which no sign stands.
+/// The command of a text without a sign.
 fn unsigned_command_in(text: &str) -> Option<Command> {
     let mut words = text.splitn(4, ' ');
     match (words.next()?, words.next(), words.next(), words.next()) {
@@ -120,10 +119,10 @@ fn unsigned_command_in(text: &str) -> Option<Command> {
     }
 }
 
-/// The command of a line, which has no line feed, if it is one as a command is written.
+/// The command of a line without its line feed, if the line is just as the command is printed.
 ///
 /// # Errors
-/// Want of memory.
+/// Out of memory.
 pub fn read_command(alloc: Global, line: &[u8]) -> Result<Option<Command>, AllocError>
     ensures { IfOk result (λ read. IfSome read (λ c. control_text c ≡ line.now)) }
 {

@@ -1,9 +1,9 @@
-//! Counts of all that a watcher is told, and of what was lost beside it.
+//! The counts of a router's datagrams, and of what was lost.
 
 ghost use Rattle.std.specs.Prelude.{◌≡◌, ◌∷◌, [], ℕ, List, Some, codes, if◌then◌else◌};
 ghost use Rattle.router_core.specs.declared.answer.Outgoing.{Outgoing};
-ghost use Rattle.ripngd_engine.specs.Watch.{Heard, LinkReport, Sent, WasTold};
-ghost use Rattle.ripngd_engine.specs.declared.watch.Arrived.{Arrived};
+ghost use Rattle.ripngd_engine.specs.Observer.{Processed, LinkReport, Sent, WasTold};
+ghost use Rattle.ripngd_engine.specs.declared.observer.Arrived.{Arrived};
 ghost use Rattle.ripngd_control.specs.Printed.{counts_text, losses_text};
 ghost use Rattle.ripngd_control.specs.Watching.{Counted, no_counts};
 ghost use Rattle.ripngd_control.specs.declared.counts.Counts.{Counts};
@@ -13,21 +13,21 @@ use ripngd_engine::Report;
 use router_core::{Fault, Note};
 use std::fmt::{self, Display};
 
-/// How many there were, each up to the greatest `u64`.
+/// Counts of datagrams. A count stays at the greatest `u64`.
 #[derive(Clone, Copy, Debug, PartialEq, Eq)]
 pub struct Counts {
-    /// Arrivals that the router answered, refused ones too.
+    /// Datagrams that the router processed, refused ones included.
     pub arrivals: u64,
     /// Datagrams that were handed to the link.
     pub sends: u64,
-    /// Those of them that it did not take.
+    /// Those of them that it could not send.
     pub failed_sends: u64,
     /// What was refused of the arrivals.
     pub refusals: Refusals,
 }
 
 impl Counts {
-    /// Counts of nothing.
+    /// All counts are 0.
     pub const fn new() -> Counts
         ensures { result ≡ no_counts }
     {
@@ -41,7 +41,7 @@ impl Counts {
 
     /// Counts an arrival, with its fault or its notes.
     pub(crate) fn count_arrival(&mut self, fault: Option<Fault>, notes: &[Note])
-        ensures { (a : Arrived) (bytes : List ℕ) → Counted self.old (Heard a bytes fault notes.now ∷ []) self.new }
+        ensures { (a : Arrived) (bytes : List ℕ) → Counted self.old (Processed a bytes fault notes.now ∷ []) self.new }
     {
         self.arrivals = self.arrivals.saturating_add(1);
         self.refusals.count(fault, notes);
@@ -58,12 +58,12 @@ impl Counts {
     }
 }
 
-/// Counts that were told one thing after another are the counts over all of them: a law, which follows from the definitions alone.
+/// Counting reports one by one gives the counts of them all: a lemma, which follows from the definitions alone.
 pub fn counts_are_of_all_told()
     ensures { (c d : Counts) (ts : List LinkReport) → WasTold (λ v t w. Counted v (t ∷ []) w) c ts d → Counted c ts d }
 {}
 
-/// `arrivals A sends S failed F`, and behind it, on lines of their own, what was refused. The last line is not ended.
+/// `arrivals A sends S failed F`, and after it, on lines of their own, what was refused. The last line has no line feed.
 impl Display for Counts {
     ghost output = { λ counts. Some (counts_text counts) };
 
@@ -76,14 +76,14 @@ impl Display for Counts {
     }
 }
 
-/// What a router and its link have lost. The counts stay at the greatest `u64`.
+/// What a router and its link have lost. A count stays at the greatest `u64`.
 #[derive(Clone, Copy, Debug, PartialEq, Eq)]
 pub struct Losses {
-    /// What the router lost; its sends and steps count what its link lost, too.
+    /// What the router lost; its sends and steps include those that its link lost.
     pub report: Report,
-    /// The arrivals among the steps for which the link had no room or no memory.
+    /// Of the steps, the datagrams for which the link had no room or no memory.
     pub arrivals: u64,
-    /// The datagrams that came from ports of no peer.
+    /// Datagrams that came from a port of no peer.
     pub strangers: u64,
 }
 
@@ -95,7 +95,7 @@ fn failed_log_text(failed: bool) -> &'static str
 }
 
 /// `lost sends N steps M arrivals K`, `strangers S` on a line of its own, and `log failed` on another where a write of the log
-/// failed. The last line is not ended.
+/// failed. The last line has no line feed.
 impl Display for Losses {
     ghost output = { λ l. Some (losses_text l) };
 

@@ -1,4 +1,4 @@
-//! The watcher of a run: it counts what it is told, and writes a line for each refused arrival and each skipped entry.
+//! The observer of a run: it counts datagrams, and writes a line for each refused datagram and each skipped entry.
 
 ghost use Rattle.std.specs.Prelude.{◌≡◌, ◌++◌, OnOk, Some};
 ghost use Rattle.std.specs.Io.KnownBytes.{Appends};
@@ -8,13 +8,13 @@ ghost use Rattle.ripngd_control.specs.Watching.{KnowsNobody, Monitors, no_counts
 use crate::counts::Counts;
 use crate::neighbors::Neighbors;
 use crate::refusals::Refusal;
-use ripngd_engine::{Arrived, Watch};
+use ripngd_engine::{Arrived, TrafficObserver};
 use router_core::{Fault, Note, Outgoing};
 use std::alloc::Global;
 use std::fmt::{self, Display};
 use std::io::{self, Write};
 
-/// Where an arrival came from, and when, written `MOMENT iface I from ADDR port P`.
+/// When and from where a datagram arrived, written `MOMENT iface I from ADDR port P`.
 #[derive(Clone, Copy)]
 struct Origin(Arrived);
 
@@ -43,7 +43,7 @@ fn write_notes<W: Write>(origin: Origin, notes: &[Note], out: &mut W) -> io::Res
     Ok(())
 }
 
-/// Writes `ORIGIN refused NR NAME` for the fault of an arrival, if there is one, and the lines of its notes.
+/// Writes `ORIGIN refused NR NAME` for the fault of a datagram, if there is one, and the lines of its notes.
 fn write_lines<W: Write>(
     arrived: Arrived,
     fault: Option<Fault>,
@@ -60,8 +60,8 @@ fn write_lines<W: Write>(
     write_notes(origin, notes, out)
 }
 
-/// What becomes of arrivals and sends: counted, in all and by neighbor, and said line by line where that is wanted. A write that
-/// fails ends the lines, perhaps within one, and changes nothing else.
+/// An observer that counts, in all and by neighbor, and writes lines unless it is muted. The first write that fails ends the lines,
+/// perhaps within one, and changes nothing else.
 #[derive(Drop)]
 pub struct Monitor<W> {
     counts: Counts,
@@ -71,7 +71,7 @@ pub struct Monitor<W> {
 }
 
 impl<W> Monitor<W> {
-    /// One that was told nothing yet; where `is_muted`, no line is ever written to `out`.
+    /// A monitor with all counts at 0. If `is_muted`, it never writes a line to `out`.
     pub fn new(alloc: Global, out: W, is_muted: bool) -> Monitor<W>
         ensures counts { result.counts ≡ no_counts }
         ensures neighbors { KnowsNobody result.neighbors }
@@ -85,32 +85,25 @@ impl<W> Monitor<W> {
         }
     }
 
-    /// The counts of all that it was told.
+    /// The counts of all datagrams.
     pub fn counts(&self) -> Counts
         ensures { result ≡ self.now.counts }
     {
         self.counts
     }
 
-    /// What came of each sender.
+    /// The counts of each sender.
     pub fn neighbors(&self) -> &Neighbors
         ensures { result.now ≡ self.now.neighbors }
     {
         &self.neighbors
     }
-
-    /// Where its lines go, for what is written behind them.
-    pub fn out(&mut self) -> &mut W
-        ensures { result.now ≡ self.old.out }
-    {
-        &mut self.out
-    }
 }
 
-impl<W: Write> Watch for Monitor<W> {
+impl<W: Write> TrafficObserver for Monitor<W> {
     ghost takes = { Monitors W.contents };
 
-    fn heard(&mut self, arrived: Arrived, bytes: &[u8], fault: Option<Fault>, notes: &[Note]) {
+    fn processed(&mut self, arrived: Arrived, bytes: &[u8], fault: Option<Fault>, notes: &[Note]) {
         self.counts.count_arrival(fault, notes);
         self.neighbors.count(&arrived, bytes, fault, notes);
         if !self.is_muted {

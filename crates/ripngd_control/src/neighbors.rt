@@ -1,4 +1,4 @@
-//! What came of each sender that was heard, by interface and address.
+//! The counts of each sender, by interface and address.
 
 ghost use Rattle.std.specs.Prelude.{◌≡◌, ◌≤◌, Some, length, vec_capacity};
 ghost use Rattle.std.specs.Fmt.{WritesOnOk};
@@ -14,16 +14,16 @@ use router_core::{Fault, Note};
 use std::alloc::Global;
 use std::fmt::{self, Display};
 
-/// What came of one sender, or of several together. Each count stays at the greatest `u64`.
+/// The counts of one sender, or of several together. A count stays at the greatest `u64`.
 #[derive(Clone, Copy, Debug, PartialEq, Eq)]
 pub struct Tally {
-    /// Arrivals that the router answered, refused ones too.
+    /// Datagrams that the router processed, refused ones included.
     pub arrivals: u64,
-    /// Responses among them without a fault.
+    /// Of these, Responses without a fault.
     pub responses: u64,
     /// The entries of these.
     pub entries: u64,
-    /// When the last of them came, in milliseconds of the router's clock.
+    /// When the last of them arrived, in milliseconds of the router's clock.
     pub last: Option<u64>,
     /// What was refused of the arrivals.
     pub refusals: Refusals,
@@ -40,7 +40,7 @@ fn is_sound_response(bytes: &[u8], fault: Option<Fault>) -> bool
 }
 
 impl Tally {
-    /// Nothing came.
+    /// All counts are 0.
     pub const fn new() -> Tally
         ensures { result ≡ no_tally }
     {
@@ -66,7 +66,7 @@ impl Tally {
         self.last = Some(moment);
     }
 
-    /// Counts an arrival, with its fault or its notes. An entry has 20 bytes, behind the first 4.
+    /// Counts an arrival, with its fault or its notes. A Response has 4 bytes, and then 20 for each entry.
     fn count(&mut self, arrived: &Arrived, bytes: &[u8], fault: Option<Fault>, notes: &[Note])
         ensures { Tallied self.old arrived.now bytes.now fault notes.now self.new }
     {
@@ -79,7 +79,7 @@ impl Tally {
     }
 }
 
-/// When the last Response came, written ` last MS`, or nothing.
+/// When the last Response arrived, written ` last MS`, or nothing.
 #[derive(Clone, Copy)]
 struct LastText(Option<u64>);
 
@@ -94,8 +94,8 @@ impl Display for LastText {
     }
 }
 
-/// ` arrivals A responses R entries E`, ` last MS` if there was a Response, and behind it, on lines of their own, what was refused.
-/// The last line is not ended.
+/// ` arrivals A responses R entries E`, ` last MS` if there was a Response, and after it, on lines of their own, what was refused.
+/// The last line has no line feed.
 impl Display for Tally {
     ghost output = { λ t. Some (tally_text t) };
 
@@ -109,14 +109,14 @@ impl Display for Tally {
     }
 }
 
-/// A sender, and what came of it.
+/// A sender, and its counts.
 #[derive(Clone, Copy, Debug, PartialEq, Eq)]
 pub struct Neighbor {
     /// The number of the interface.
     pub iface: usize,
     /// Its address.
     pub source: Addr6,
-    /// What came of it.
+    /// Its counts.
     pub tally: Tally,
 }
 
@@ -129,7 +129,7 @@ impl Neighbor {
     }
 }
 
-/// The place of the row of an arrival's sender, or how many rows there are where it has none.
+/// The index of the row of an arrival's sender, or how many rows there are where it has none.
 fn place_of(rows: &[Neighbor], arrived: &Arrived) -> usize
     ensures value { result ≡ place_of arrived.now rows.now }
     ensures within { result ≤ length rows.now }
@@ -144,8 +144,7 @@ fn place_of(rows: &[Neighbor], arrived: &Arrived) -> usize
     place
 }
 
-/// What came of each sender: of the first 64 in rows of their own, in the order in which they came first, and of all others
-/// together.
+/// The counts of each sender: a row for each of the first 64, in the order of their first datagrams, and one for all others together.
 #[derive(Drop)]
 pub struct Neighbors {
     rows: Vec<Neighbor>,
@@ -153,7 +152,7 @@ pub struct Neighbors {
 }
 
 impl Neighbors {
-    /// Nobody was heard yet. Where there is no memory for rows, all senders are counted together.
+    /// No sender yet. Where there is no memory for rows, all senders are counted together.
     pub(crate) fn new(alloc: Global) -> Neighbors
         ensures { KnowsNobody result }
     {
@@ -163,23 +162,23 @@ impl Neighbors {
         }
     }
 
-    /// The senders that have a row, in the order in which they came first.
+    /// The senders that have a row, in the order of their first datagrams.
     pub fn rows(&self) -> &[Neighbor]
         ensures { result.now ≡ self.now.rows.items }
     {
         self.rows.as_slice()
     }
 
-    /// What came of all others.
+    /// The counts of all others.
     pub fn others(&self) -> Tally
         ensures { result ≡ self.now.others }
     {
         self.others
     }
 
-    /// The place of the row of an arrival's sender, or how many rows there are where it has none. Who comes first gets one, as
-    /// long as there is room.
-    fn seat(&mut self, arrived: &Arrived) -> usize
+    /// The index of the row of an arrival's sender, or how many rows there are where it has none. A new sender gets a row while there
+    /// is room.
+    fn row_of(&mut self, arrived: &Arrived) -> usize
         ensures place { result ≡ place_of arrived.now self.new.rows.items }
         ensures rows { self.new.rows.items ≡ with_row arrived.now (vec_capacity self.old.rows) self.old.rows.items }
         ensures room { vec_capacity self.new.rows ≡ vec_capacity self.old.rows }
@@ -207,7 +206,7 @@ impl Neighbors {
         ensures { CountsOf (λ c d. Tallied c arrived.now bytes.now fault notes.now d) arrived.now
             (with_row arrived.now (vec_capacity self.old.rows) self.old.rows.items) self.old self.new }
     {
-        let place = self.seat(arrived);
+        let place = self.row_of(arrived);
         match self.rows.get(place).copied() {
             None => self.others.count(arrived, bytes, fault, notes),
             Some(row) => {
@@ -219,7 +218,7 @@ impl Neighbors {
     }
 }
 
-/// The lines of each row, and those of all others together where there are any.
+/// The lines of each row, and of all others together if there are any.
 impl Display for Neighbors {
     ghost output = { λ n. Some (neighbors_text n) };
 
@@ -232,7 +231,7 @@ impl Display for Neighbors {
     }
 }
 
-/// `iface I from ADDR`, and what came of it, a line for each row.
+/// `iface I from ADDR` and the counts, a line for each row.
 fn write_rows<W: fmt::Write>(f: &mut fmt::Formatter<W>, rows: &[Neighbor]) -> fmt::Result
     ensures { WritesOnOk W.write_str_gives f.old result (row_lines rows.now) f.new }
 {

@@ -1,14 +1,13 @@
-//! Lines of routes and of a forwarding table, a piece at a time, so that a long answer holds nobody up.
+//! The lines of routes and of a forwarding table, a piece at a time, so that a long answer never holds the router up.
 
-ghost use Rattle.std.specs.Prelude.{◌≡◌, ◌≤◌, IfOk, OnOk, Some, length};
-ghost use Rattle.std.specs.Io.KnownBytes.{Appends};
+ghost use Rattle.std.specs.Prelude.{◌≤◌, IfOk, Some, length};
 ghost use Rattle.fib.specs.Entries.{AreInOrder};
 ghost use Rattle.ripngd_control.specs.Answers.{IsPast, ShowsEntries, ShowsRoutes};
-ghost use Rattle.ripngd_control.specs.Printed.{clock_text, entry_lines, origin_text, status_text};
+ghost use Rattle.ripngd_control.specs.Printed.{clock_text, origin_text, status_text};
 
 use fib::{Fib, Hop};
 use prefix6::Prefix;
-use ripngd_engine::RouteLine;
+use ripngd_engine::write_entries;
 use route_table::{Clock, Moment, Origin, Route, RouteStore};
 use std::fmt::{self, Display};
 use std::io::{self, Write};
@@ -16,8 +15,8 @@ use std::io::{self, Write};
 /// How many lines a piece has at most.
 const PIECE: usize = 256;
 
-/// A route to a prefix at a moment, written `PREFIX metric M tag T ORIGIN CLOCK`, and ` marked` behind it where the next
-/// triggered update tells it.
+/// A route to a prefix at a moment, written `PREFIX metric M tag T ORIGIN CLOCK`, with ` marked` at its end if its route change flag is
+/// set.
 #[derive(Clone, Copy)]
 struct RouteStatus {
     prefix: Prefix,
@@ -44,7 +43,7 @@ impl Display for OriginText {
     }
 }
 
-/// A clock at a moment: `fixed`, or how many milliseconds are left of its timeout, `live MS`, or until it is deleted, `dying MS`.
+/// A route's clock at a moment: `fixed` of an own route, `live MS` until its timeout, or `dying MS` until it is deleted.
 #[derive(Clone, Copy)]
 struct ClockText(Clock, Moment);
 
@@ -82,8 +81,8 @@ impl Display for RouteStatus {
     }
 }
 
-/// Writes the next routes of a table, behind a prefix if one is named, as they are at a moment, and answers the last prefix,
-/// if there may be others behind it.
+/// Writes the next routes of a table as they are at a moment: the first ones, or those after a prefix. Returns the last prefix, if
+/// there may be more.
 ///
 /// # Errors
 /// Of the writer.
@@ -111,23 +110,7 @@ pub(crate) fn write_routes<S: RouteStore, W: Write>(
     Ok(last)
 }
 
-/// Writes a line for each of some entries.
-fn write_entries<W: Write>(entries: &[(Prefix, Hop, u8)], out: &mut W) -> io::Result<()>
-    ensures { OnOk result (Appends (W.contents out.old) (W.contents out.new) (entry_lines entries.now)) }
-{
-    for entry in entries {
-        let (prefix, hop, metric) = *entry;
-        let line = RouteLine {
-            prefix,
-            hop,
-            metric,
-        };
-        writeln!(out, "{line}")?;
-    }
-    Ok(())
-}
-
-/// How many entries are not behind a prefix, of entries in their order; none where no prefix is named.
+/// How many of the entries, which are in order, are not after a prefix: 0 where there is no prefix.
 fn passed(entries: &[(Prefix, Hop, u8)], after: Option<Prefix>) -> usize
     requires { AreInOrder entries.now }
     ensures within { result ≤ length entries.now }
@@ -139,8 +122,8 @@ fn passed(entries: &[(Prefix, Hop, u8)], after: Option<Prefix>) -> usize
     }
 }
 
-/// Writes the next entries of a forwarding table, behind a prefix if one is named, and answers the last prefix, if there may
-/// be others behind it.
+/// Writes the next entries of a forwarding table: the first ones, or those after a prefix. Returns the last prefix, if there may be
+/// more.
 ///
 /// # Errors
 /// Of the writer.

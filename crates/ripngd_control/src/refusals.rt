@@ -1,4 +1,4 @@
-//! What is refused, arrivals for a fault and entries of Responses for a note, and counts of that.
+//! What a router refuses, and how often: datagrams for a fault, and entries of Responses for a note.
 
 ghost use Rattle.std.specs.Prelude.{◌≡◌, ◌+◌, ◌<◌, ◌==◌, Some, if◌then◌else◌};
 ghost use Rattle.std.specs.Fmt.{WritesOnOk};
@@ -9,7 +9,7 @@ use ripng_wire::WireError;
 use router_core::{Fault, Note, NoteKind};
 use std::fmt::{self, Display};
 
-/// Why an arrival was refused, or an entry of a Response skipped.
+/// Why a datagram was refused, or an entry of a Response skipped.
 #[derive(Clone, Copy)]
 pub(crate) enum Refusal {
     Arrival(Fault),
@@ -56,21 +56,21 @@ impl Display for Refusal {
 
     fn fmt<W: fmt::Write>(&self, f: &mut fmt::Formatter<W>) -> fmt::Result {
         match *self {
-            Refusal::Arrival(fault) => write!(f, "refused {} {}", fault.number(), fault.name()),
-            Refusal::Entry(kind) => write!(f, "noted {} {}", kind.number(), kind.name()),
+            Refusal::Arrival(fault) => write!(f, "refused {fault}"),
+            Refusal::Entry(kind) => write!(f, "noted {kind}"),
         }
     }
 }
 
-/// How many arrivals were refused and how many entries skipped, by the number of the fault, 1 to 12, or of the note, 20 to 24. Each
-/// count stays at the greatest `u64`.
+/// How many datagrams were refused and how many entries skipped, by the number of the fault, 1 to 12, or of the note, 20 to 24. A count
+/// stays at the greatest `u64`.
 #[derive(Clone, Copy, Debug, PartialEq, Eq)]
 pub struct Refusals {
     pub by_number: [u64; 25],
 }
 
 impl Refusals {
-    /// Nothing was refused.
+    /// All counts are 0.
     pub const fn new() -> Refusals
         ensures { result ≡ no_refusals }
     {
@@ -85,7 +85,7 @@ impl Refusals {
         self.by_number[number] = self.by_number[number].saturating_add(1);
     }
 
-    /// Counts an entry for each note.
+    /// Counts each note.
     fn count_notes(&mut self, notes: &[Note])
         ensures { Refused (λ number. notes_of number notes.now) self.old self.new }
     {
@@ -94,7 +94,7 @@ impl Refusals {
         }
     }
 
-    /// Counts what was refused of an arrival: all of it for a fault, or the entries that have notes.
+    /// Counts what was refused of a datagram: the whole for a fault, or the entries that have notes.
     pub(crate) fn count(&mut self, fault: Option<Fault>, notes: &[Note])
         ensures { Refused (λ number. is_fault number fault + notes_of number notes.now) self.old self.new }
     {
@@ -105,8 +105,7 @@ impl Refusals {
     }
 }
 
-/// `refused NR NAME N` for each fault and `noted NR NAME N` for each kind of note that was counted, on lines of their own behind what
-/// is not ended. The last line is not ended.
+/// `refused NR NAME N` for each fault and `noted NR NAME N` for each kind of note that was counted. A line feed stands before each.
 impl Display for Refusals {
     ghost output = { λ r. Some (refusals_text r) };
 
@@ -115,7 +114,7 @@ impl Display for Refusals {
     }
 }
 
-/// A line for each of these refusals that was counted.
+/// Writes a line for each of these refusals that was counted.
 fn write_lines<W: fmt::Write>(
     f: &mut fmt::Formatter<W>,
     refusals: &[Refusal],
@@ -129,7 +128,7 @@ fn write_lines<W: fmt::Write>(
     Ok(())
 }
 
-/// A line for what was counted, where there was any.
+/// Writes a line for a refusal, unless its count is 0.
 fn write_line<W: fmt::Write>(f: &mut fmt::Formatter<W>, refusal: Refusal, count: u64) -> fmt::Result
     ensures { WritesOnOk W.write_str_gives f.old result (count_line refusal count) f.new }
 {

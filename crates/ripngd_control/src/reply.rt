@@ -1,4 +1,4 @@
-//! How a command ended, and who changes the peers of a link.
+//! The last line of an answer, and the changes of a link's peers.
 
 ghost use Rattle.std.specs.Prelude.{◌≡◌, Some};
 ghost use Rattle.ripngd_control.specs.Printed.{reply_text};
@@ -8,8 +8,8 @@ use crate::command::PeerChange;
 use router_core::ReconfigureRefused;
 use std::fmt::{self, Display};
 
-/// The last line of an answer: how a command ended. It is `ok` or `refused NR NAME`, with the number and the name of the router's
-/// refusal, or 51 to 53.
+/// The last line of an answer: `ok`, or `refused NR NAME` with the number and the name of a refusal of the router, of the link, or of
+/// one of these.
 #[derive(Clone, Copy, Debug, PartialEq, Eq)]
 pub enum Reply {
     /// It was done.
@@ -18,11 +18,11 @@ pub enum Reply {
     Refused(ReconfigureRefused),
     /// 51: the router has no interface of that number.
     NoSuchInterface,
-    /// 52: the line is that of no command.
+    /// 52: the line is no command.
     NoSuchCommand,
-    /// 51 or 61 to 67, with its name: the link refused a change of its peers.
-    LinkRefused(u8, &'static str),
-    /// 53: memory for the forwarding table was refused. The change was made, and the router ends.
+    /// The link refused a change of its peers, for a reason that is printed so, as `61 BadPort`.
+    LinkRefused(&'static str),
+    /// 53: there was no memory for the forwarding table. The change was made, and the router ends.
     Ended,
 }
 
@@ -32,8 +32,8 @@ impl Display for Reply {
     fn fmt<W: fmt::Write>(&self, f: &mut fmt::Formatter<W>) -> fmt::Result {
         match *self {
             Reply::Done => write!(f, "ok"),
-            Reply::Refused(why) => write!(f, "refused {} {}", why.number(), why.name()),
-            Reply::LinkRefused(number, name) => write!(f, "refused {number} {name}"),
+            Reply::Refused(why) => write!(f, "refused {why}"),
+            Reply::LinkRefused(why) => write!(f, "refused {why}"),
             Reply::NoSuchInterface => write!(f, "refused 51 NoSuchInterface"),
             Reply::NoSuchCommand => write!(f, "refused 52 NoSuchCommand"),
             Reply::Ended => write!(f, "refused 53 Ended"),
@@ -41,16 +41,15 @@ impl Display for Reply {
     }
 }
 
-/// Who knows how the peers of a link are changed: it is told which change, makes it when it is lent the link, and then says how
-/// that ended.
+/// How the peers of a link are changed: it takes a change, makes it when the engine lends it the link, and then has the reply.
 pub trait Peering {
-    // How the last change ended.
+    // The reply to the last change.
     ghost ended: { Self → Reply };
 
-    /// Takes a change that it is to make.
+    /// Takes the change to make.
     fn order(&mut self, change: PeerChange);
 
-    /// How the last change ended.
+    /// The reply to the last change.
     fn reply(&self) -> Reply
         ensures { result ≡ ended self.now };
 }

@@ -1,3 +1,2 @@
 pub mod Failing
-pub mod Walks
 pub mod Runs

@@ -9,6 +9,7 @@ use Rattle.ripngd_control.specs.Clients.{ClientsState, Heeds}
 use Rattle.ripngd_engine.specs.Link.{Call}
 use Rattle.ripngd_engine.specs.Seen.{Seen, Started, untouched}
 use Rattle.ripngd_daemon.specs.Run.{HasDone, HasRun, IsOver, Lasts, ShowsRun, Begun, Turned, Told, TurnsAndHeeds, lines_of, words_of}
+use Rattle.ripngd_daemon.specs.Losses.{AreLossesOf}
 use Rattle.ripngd_daemon.specs.Tabled.{table_text}
 use Rattle.ripngd_daemon.specs.Written.{begins_with}
 use Rattle.ripngd_daemon.specs.declared.failure.Failure.{Failure}
@@ -16,7 +17,7 @@ use Rattle.ripngd_daemon.specs.declared.history.History.{History}
 
 -- a run of no turn
 pub has_done_nothing : (seconds : Option ℕ) (lines : List (List ℕ)) (a : Seen) → lines ≡ [] → HasDone seconds 0 lines a a
-has_done_nothing seconds lines a none = record { deeds = Begun; turns = refl; told = sym none; are_done = refl }
+has_done_nothing seconds lines a none = record { steps = Begun; turns = refl; told = sym none; are_done = refl }
 
 -- what clients told behind it
 heeds_more : (seconds : Option ℕ) (count : ℕ) (before after : List (List ℕ)) (a m b : Seen) → HasDone seconds count before a m
@@ -26,7 +27,7 @@ heeds_more seconds count before after a m b has (inl same) =
     let Q : List (List ℕ) → Type 0 = λ lines. HasDone seconds count lines a b in
     subst Q (sym same.0) (subst P (sym same.1) has)
 heeds_more seconds count before after a m b has (inr told) = record {
-  deeds = Told has.deeds told.0;
+  steps = Told has.steps told.0;
   turns = has.turns;
   told = ap (λ lines. lines ++ told.0 ∷ []) has.told ∙ sym told.1;
   are_done = (m, has.are_done, told.2);
@@ -38,7 +39,7 @@ pub turns_more : (seconds : Option ℕ) (count : ℕ) (before after : List (List
 turns_more seconds count before after a m b has in_time does =
     heeds_more seconds (count + 1) before after a does.0 b
     (record {
-      deeds = Turned has.deeds;
+      steps = Turned has.steps;
       turns = ap (λ n. n + 1) has.turns;
       told = has.told;
       are_done = (m, has.are_done, (in_time, does.1));
@@ -49,9 +50,10 @@ turns_more seconds count before after a m b has in_time does =
 pub shows_run : (order : Order) (router : RouterValue) (rng : Lcg) (history : History) (first calls : List Call) (bytes : List ℕ) (begun done : Seen)
     (old new : Option (List ℕ)) → first ≡ [] → bytes ≡ begins_with order.log order.append
     → Started router (words_of rng) (untouched (Some first) None (Some bytes)) begun → Lasts order.turns order.seconds (lines_of history.clients) begun done
-    → done.outside.calls ≡ Some calls → history.ports.calls ≡ Some calls → done.outside.text ≡ Some history.log.bytes
+    → done.outside.calls ≡ Some calls → history.ports.calls ≡ Some calls → done.outside.text ≡ Some history.log.past.bytes
+    → AreLossesOf done.outside.lost_sends done.machine.lost_memory done.outside.log_failed history.lost
     → Appends old new (table_text done.machine.fib) → ShowsRun order router rng history old new
-shows_run order router rng history first calls bytes begun done old new uncalled is_begun started lasts are is log shown = (
+shows_run order router rng history first calls bytes begun done old new uncalled is_begun started lasts are is log lost shown = (
   done.machine.fib,
   record {
     calls = calls;
@@ -61,6 +63,7 @@ shows_run order router rng history first calls bytes begun done old new uncalled
     lasts = lasts;
     calls_are = (are, is);
     log_is = log;
+    lost = lost;
     table_is = refl;
   },
   shown,
@@ -71,10 +74,11 @@ pub shows_outcome : (order : Order) (router : RouterValue) (rng : Lcg) (history 
     (bytes : List ℕ) (begun done : Seen) (old new : Option (List ℕ)) (r : Result (Unit {0}) Failure) → history.clients ≡ clients → first ≡ []
     → bytes ≡ begins_with order.log order.append → Started router (words_of rng) (untouched (Some first) None (Some bytes)) begun
     → OnOk r (Lasts order.turns order.seconds (lines_of clients) begun done) → done.outside.calls ≡ Some calls → history.ports.calls ≡ Some calls
-    → done.outside.text ≡ Some history.log.bytes → OnOk r (Appends old new (table_text done.machine.fib)) → OnOk r (ShowsRun order router rng history old new)
-shows_outcome order router rng history clients first calls bytes begun done old new (Ok u) same uncalled is_begun started lasts are is log shown =
-    shows_run order router rng history first calls bytes begun done old new uncalled is_begun started (rw (sym same) at lasts) are is log shown
-shows_outcome order router rng history clients first calls bytes begun done old new (Err e) same uncalled is_begun started lasts are is log shown = tt
+    → done.outside.text ≡ Some history.log.past.bytes → AreLossesOf done.outside.lost_sends done.machine.lost_memory done.outside.log_failed history.lost
+    → OnOk r (Appends old new (table_text done.machine.fib)) → OnOk r (ShowsRun order router rng history old new)
+shows_outcome order router rng history clients first calls bytes begun done old new (Ok u) same uncalled is_begun started lasts are is log lost shown =
+    shows_run order router rng history first calls bytes begun done old new uncalled is_begun started (rw (sym same) at lasts) are is log lost shown
+shows_outcome order router rng history clients first calls bytes begun done old new (Err e) same uncalled is_begun started lasts are is log lost shown = tt
 
 -- whatever a call answers
 pub on_ok : {A : Type 0} (r : Result (Unit {0}) Failure) → A → OnOk r A
@@ -82,11 +86,11 @@ on_ok (Ok u) holds = holds
 on_ok (Err e) holds = tt
 
 -- what is known of a run stays when its clients can come no more
-pub door_closed : (order : Order) (router : RouterValue) (rng : Lcg) (before after : History) (old new : Option (List ℕ)) (r : Result (Unit {0}) Failure)
+pub listening_stopped : (order : Order) (router : RouterValue) (rng : Lcg) (before after : History) (old new : Option (List ℕ)) (r : Result (Unit {0}) Failure)
     → lines_of after.clients ≡ lines_of before.clients → after ≡ record before { clients = after.clients }
     → OnOk r (ShowsRun order router rng before old new) → OnOk r (ShowsRun order router rng after old new)
-door_closed order router rng before after old new (Err e) lines same shows = tt
-door_closed order router rng before after old new (Ok u) lines same (table, run, wrote) = (
+listening_stopped order router rng before after old new (Err e) lines same shows = tt
+listening_stopped order router rng before after old new (Ok u) lines same (table, run, wrote) = (
   table,
   record {
     calls = run.calls;
@@ -95,7 +99,8 @@ door_closed order router rng before after old new (Ok u) lines same (table, run,
     started = run.started;
     lasts = rw (sym lines) at run.lasts;
     calls_are = (run.calls_are.0, ap (λ h. h.ports.calls) same ∙ run.calls_are.1);
-    log_is = run.log_is ∙ ap (λ h. Some h.log.bytes) (sym same);
+    log_is = run.log_is ∙ ap (λ h. Some h.log.past.bytes) (sym same);
+    lost = rw (ap (λ h. h.lost) (sym same)) at run.lost;
     table_is = run.table_is;
   },
   wrote,

@@ -8,7 +8,7 @@ use Rattle.ripngd_control.specs.declared.command.Command.{Command}
 abbrev pub command_line : Command → List ℕ
 command_line c = control_text c ++ 10 ∷ []
 
--- what is printed of an answer: all but a last line `ok`, or all of it, where its last line is `refused ..`
+-- what is printed of an answer: all except a last line `ok`, or all of it if its last line is `refused ..`
 abbrev pub IsPrintedAnswer : List ℕ → Bool → List ℕ → Type 0
 IsPrintedAnswer answer true text = answer ≡ text ++ codes "ok\n"
 IsPrintedAnswer answer false text = (text ≡ answer) × (before : List ℕ) × (why : List ℕ) × (answer ≡ before ++ (codes "refused " ++ why))

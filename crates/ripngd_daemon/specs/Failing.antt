@@ -2,7 +2,6 @@
 use Rattle.std.specs.Prelude.{◌≡◌, ◌<◌, ℕ, Bool, true, false, List, Option, None, Some, option_map, IsTrue, ⊤}
 use Rattle.ripngd_command_line.specs.declared.asked.Ask.{Ask}
 use Rattle.ripngd_command_line.specs.declared.asked.Ask.TheVariants as asks
-use Rattle.ripngd_command_line.specs.declared.asked.Order.{Order}
 use Rattle.ripngd_daemon.specs.declared.failure.Failure.{Failure}
 use Rattle.ripngd_daemon.specs.declared.failure.Failure.TheVariants as failures
 
@@ -23,9 +22,9 @@ log_file_of (asks.Run order) = option_map (λ s. s.now) order.log
 log_file_of _ = None
 
 -- the path at which it listens
-abbrev pub door_of : Ask → Option (List ℕ)
-door_of (asks.Run order) = option_map (λ s. s.now) order.control
-door_of _ = None
+abbrev pub control_path_of : Ask → Option (List ℕ)
+control_path_of (asks.Run order) = option_map (λ s. s.now) order.control
+control_path_of _ = None
 
 -- the path at which it asks
 abbrev pub asks_at : Ask → Option (List ℕ)
@@ -42,13 +41,13 @@ abbrev pub has_sockets : Ask → Bool
 has_sockets (asks.Run order) = true
 has_sockets _ = false
 
--- what may fail where this is asked: no file and no path but those that it names, and no link after its turns
+-- what may fail where this is asked: only files and paths that it names, and no link after its turns
 abbrev pub MayFail : Ask → Failure → Type 0
 MayFail ask (failures.Read file cause) = file_of ask ≡ Some file.now
 MayFail ask (failures.Log file cause) = log_file_of ask ≡ Some file.now
 MayFail ask failures.Output = ⊤
 MayFail ask (failures.Bind port cause) = IsTrue (has_sockets ask)
-MayFail ask (failures.Listen path why) = door_of ask ≡ Some path.now
+MayFail ask (failures.Listen path why) = control_path_of ask ≡ Some path.now
 MayFail ask (failures.Ask path) = asks_at ask ≡ Some path.now
 MayFail ask (failures.Answer path) = asks_at ask ≡ Some path.now
 MayFail ask (failures.Link done) = done < turns_of ask

@@ -1,11 +1,25 @@
 -- What is written of what a run lost (the format is this project's choice).
-use Rattle.std.specs.Prelude.{ℕ, Bool, true, false, List, [], ◌++◌, codes, decimal}
+use Rattle.std.specs.Prelude.{◌≡◌, ℕ, Bool, true, false, List, [], ◌++◌, codes, decimal}
+use Rattle.ripngd_control.specs.declared.counts.Losses.{Losses}
+use Rattle.ripngd_engine.specs.Run.{counted}
 use Rattle.ripngd_engine.specs.declared.report.Report.{Report}
 use Rattle.ripngd_show.specs.Shown.{newline}
 
 -- nothing was lost
 abbrev pub nothing_lost : Report
 nothing_lost = record { lost_sends = 0; lost_memory = 0; log_failed = false }
+
+-- nor by a link
+abbrev pub no_losses : Losses
+no_losses = record { report = nothing_lost; arrivals = 0; strangers = 0 }
+
+-- these are the losses of an engine that has lost `sends` and `steps`, together with those of its link: `late` sends that failed after
+-- they had waited, and received datagrams that it could not keep, which count as steps
+pub record AreLossesOf (sends steps : ℕ) (log_failed : Bool) (lost : Losses) : Type 0 where
+  pub late : ℕ
+  pub sends_are : lost.report.lost_sends ≡ counted sends late
+  pub steps_are : lost.report.lost_memory ≡ counted steps lost.arrivals
+  pub log_is : lost.report.log_failed ≡ log_failed
 
 -- `, log failed`, if it failed
 abbrev pub log_text : Bool → List ℕ

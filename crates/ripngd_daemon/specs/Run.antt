@@ -18,6 +18,7 @@ use Rattle.ripngd_control.specs.declared.command.Command.TheVariants.{Stop}
 use Rattle.ripngd_engine.specs.Link.{Call}
 use Rattle.ripngd_engine.specs.Seen.{Ran, Seen, Started, untouched}
 use Rattle.ripngd_udp.specs.Peers.{OnLink, links_at}
+use Rattle.ripngd_daemon.specs.Losses.{AreLossesOf}
 use Rattle.ripngd_daemon.specs.Tabled.{table_text}
 use Rattle.ripngd_daemon.specs.Written.{begins_with}
 use Rattle.ripngd_daemon.specs.declared.history.History.{History}
@@ -26,16 +27,16 @@ use Rattle.ripngd_daemon.specs.declared.history.History.{History}
 abbrev pub words_of : Lcg → Stream
 words_of = stream_of (steps_u32 pcg32)
 
--- the lines of clients that a router was told, if anybody could come
+-- the lines of clients that a router has obeyed, if it listened
 abbrev pub lines_of : Option ClientsState → List (List ℕ)
 lines_of None = []
 lines_of (Some clients) = clients.lines
 
--- who is on the links of a configuration
+-- the peers on the links of a configuration
 abbrev pub links_of : Config → List OnLink
 links_of config = links_at config.places.items (map (λ v. v.items) config.peers.items)
 
--- ---- turns, and what clients tell between them
+-- ---- turns, and the commands of clients between them
 -- the seconds, if there are any, have passed at a moment, which is in milliseconds
 abbrev pub IsOver : Option ℕ → ℕ → Type 0
 IsOver None moment = ⊥
@@ -45,46 +46,46 @@ IsOver (Some seconds) moment = seconds * 1000 ≤ moment
 abbrev pub RanInTime : Option ℕ → Seen → Seen → Type 0
 RanInTime seconds a b = (¬ (IsOver seconds a.machine.router.last)) × Ran 1 a b
 
--- a router made a turn, and was then told what a client's line asks, or nothing
+-- a router made a turn, and then obeyed the line of a client, or none
 abbrev pub TurnsAndHeeds : List (List ℕ) → Seen → List (List ℕ) → Seen → Type 0
 TurnsAndHeeds before a after b = (m : Seen) × Ran 1 a m × Heeds before m after b
 
--- what a router did, the last behind all before it: it made a turn, or was told the line of a client
-pub data Deeds : Type 0 where
-  Begun : Deeds
-  Turned : Deeds → Deeds
-  Told : Deeds → List ℕ → Deeds
+-- the steps of a router, the last one last: it made a turn, or obeyed the line of a client
+pub data Steps : Type 0 where
+  Begun : Steps
+  Turned : Steps → Steps
+  Told : Steps → List ℕ → Steps
 
 -- how many of them are turns
-abbrev pub turns_in : Deeds → ℕ
+abbrev pub turns_in : Steps → ℕ
 turns_in Begun = 0
 turns_in (Turned before) = turns_in before + 1
 turns_in (Told before line) = turns_in before
 
 -- the lines among them, in their order
-abbrev pub lines_in : Deeds → List (List ℕ)
+abbrev pub lines_in : Steps → List (List ℕ)
 lines_in Begun = []
 lines_in (Turned before) = lines_in before
 lines_in (Told before line) = lines_in before ++ line ∷ []
 
 -- they were done: each turn in time, each line obeyed
-abbrev pub AreDone : Option ℕ → Deeds → Seen → Seen → Type 0
+abbrev pub AreDone : Option ℕ → Steps → Seen → Seen → Type 0
 AreDone seconds Begun a b = b ≡ a
 AreDone seconds (Turned before) a b = (m : Seen) × AreDone seconds before a m × RanInTime seconds m b
 AreDone seconds (Told before line) a b = (m : Seen) × AreDone seconds before a m × ObeysLine line m b
 
--- so many turns were made, and just these lines of clients obeyed between them
+-- `count` turns were made, and just these lines of clients obeyed between them
 pub record HasDone (seconds : Option ℕ) (count : ℕ) (lines : List (List ℕ)) (a b : Seen) : Type 0 where
-  pub deeds : Deeds
-  pub turns : turns_in deeds ≡ count
-  pub told : lines_in deeds ≡ lines
-  pub are_done : AreDone seconds deeds a b
+  pub steps : Steps
+  pub turns : turns_in steps ≡ count
+  pub told : lines_in steps ≡ lines
+  pub are_done : AreDone seconds steps a b
 
 -- the last of these lines is `stop`
 abbrev pub IsToldToStop : List (List ℕ) → Type 0
 IsToldToStop lines = (before : List (List ℕ)) × (lines ≡ before ++ control_text Stop ∷ [])
 
--- a router has made all its turns, or fewer, and then its seconds had passed, or a client had told it to stop
+-- a router has made all its turns, or fewer, and then its seconds had passed, or a client had stopped it
 pub record Lasts (most : ℕ) (seconds : Option ℕ) (lines : List (List ℕ)) (a b : Seen) : Type 0 where
   pub count : ℕ
   pub within : count ≤ most
@@ -94,7 +95,7 @@ pub record Lasts (most : ℕ) (seconds : Option ℕ) (lines : List (List ℕ)) (
 -- ---- a whole run
 -- a router of this configuration started with these random words, over a link that was never called, a clock that tells nothing
 -- and a log that begins as ordered, and has done as ordered what its clients' lines say. What is known of it are just the calls
--- of its link and just the bytes of its log; this is its forwarding table then
+-- of its link, just the bytes of its log, and what it and its link have lost; this is its forwarding table then
 pub record HasRun (order : Order) (router : RouterValue) (rng : Lcg) (history : History) (table : Forwarding) : Type 0 where
   pub calls : List Call
   pub begun : Seen
@@ -102,7 +103,8 @@ pub record HasRun (order : Order) (router : RouterValue) (rng : Lcg) (history : 
   pub started : Started router (words_of rng) (untouched (Some []) None (Some (begins_with order.log order.append))) begun
   pub lasts : Lasts order.turns order.seconds (lines_of history.clients) begun done
   pub calls_are : (done.outside.calls ≡ Some calls) × (history.ports.calls ≡ Some calls)
-  pub log_is : done.outside.text ≡ Some history.log.bytes
+  pub log_is : done.outside.text ≡ Some history.log.past.bytes
+  pub lost : AreLossesOf done.outside.lost_sends done.machine.lost_memory done.outside.log_failed history.lost
   pub table_is : table ≡ done.machine.fib
 
 -- the writer gained the forwarding table of such a router

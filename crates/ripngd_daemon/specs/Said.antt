@@ -4,25 +4,25 @@ use Rattle.ripngd_daemon.specs.declared.failure.Failure.{Failure}
 use Rattle.ripngd_daemon.specs.declared.failure.Failure.TheVariants as failures
 use Rattle.ripngd_daemon.specs.declared.file_cause.FileCause.{FileCause}
 use Rattle.ripngd_daemon.specs.declared.file_cause.FileCause.TheVariants as files
-use Rattle.ripngd_control.specs.declared.door.DoorFault.{DoorFault}
-use Rattle.ripngd_control.specs.declared.door.DoorFault.TheVariants as doors
+use Rattle.ripngd_control.specs.declared.control_socket.ListenFault.{ListenFault}
+use Rattle.ripngd_control.specs.declared.control_socket.ListenFault.TheVariants as listening
 use Rattle.ripngd_show.specs.Shown.{newline}
 use Rattle.ripngd_udp.specs.declared.bind_cause.BindCause.{BindCause}
 use Rattle.ripngd_udp.specs.declared.bind_cause.BindCause.TheVariants as causes
 
--- why a router cannot listen, behind where
-abbrev pub why_text : DoorFault → List ℕ
-why_text doors.Taken = codes ": somebody answers there"
-why_text doors.Shared = codes ": others may write to it; start under umask 077"
-why_text doors.Failed = []
+-- why a router cannot listen, after the path
+abbrev pub why_text : ListenFault → List ℕ
+why_text listening.Taken = codes ": somebody answers there"
+why_text listening.Shared = codes ": others may write to it; start under umask 077"
+why_text listening.Failed = []
 
--- why a port cannot be bound, behind it
+-- why a port cannot be bound, after the port
 abbrev pub cause_text : BindCause → List ℕ
 cause_text causes.NotPermitted = codes ": not permitted"
 cause_text causes.InUse = codes ": in use"
 cause_text causes.Other = []
 
--- why a file cannot be read or written, behind it
+-- why a file cannot be read or written, after its name
 abbrev pub file_cause_text : FileCause → List ℕ
 file_cause_text files.NotFound = codes ": not found"
 file_cause_text files.NotPermitted = codes ": not permitted"

@@ -1,4 +1,4 @@
-//! `check`: whether a text is a configuration that a router can run on.
+//! `check`: whether a text is a valid configuration.
 
 ghost use Rattle.std.specs.Prelude.{◌≡◌, ◌≢◌, IfErr, IfOk, List, OnOk, false, ℕ};
 ghost use Rattle.std.specs.Io.KnownBytes.{Appends};
@@ -14,8 +14,8 @@ use ripngd_show::PrintFault;
 use std::alloc::Global;
 use std::io::{self, Write};
 
-/// Writes what a configuration has, as `ok interfaces A prefixes B peers C`, or why it is refused, as `refused ..`, and
-/// answers whether it is accepted. It is read as for a router that is not quiet, with the default tag 0.
+/// Writes what a configuration has, as `ok interfaces A prefixes B peers C`, or why it is refused, as `refused ..`. Returns whether it
+/// is accepted. It is read as for a router that is not quiet, with the default tag 0.
 ///
 /// # Errors
 /// `OutOfMemory` before anything is written; `Write` where `out` failed.
@@ -26,7 +26,7 @@ pub fn check<W: Write>(alloc: Global, text: &[u8], out: &mut W) -> Result<bool, 
     check_named(alloc, "", text, out, &mut io::sink())
 }
 
-/// `check CONFIG`: whether the file is a configuration. Where in it a fault stands that has no path is told on `err`.
+/// `check CONFIG`: whether the file is a valid configuration. A fault that has no path gets its place on `err`.
 ///
 /// # Errors
 /// `Read` with the file, `Output` or `OutOfMemory`.
@@ -44,8 +44,7 @@ pub fn check_file<'a, F: FileSource, O: Write, E: Write>(
     Ok(check_named(alloc, file, files.read(file)?.as_slice(), out, err)?)
 }
 
-/// Does the same of the text of a file, and tells `err` where in it a fault stands that has no path. A failure of `err`
-/// changes nothing else.
+/// The same for the text of a file. A fault that has no path gets its place on `err`; a failure of `err` changes nothing else.
 ///
 /// # Errors
 /// Those of [`check`].
@@ -68,7 +67,7 @@ fn check_named<W: Write, E: Write>(
     }
 }
 
-/// How many peers there are on all interfaces together, or the greatest `usize`.
+/// The number of peers of all interfaces together, at most the greatest `usize`.
 fn count_peers(peers: &[Vec<Peer>]) -> usize
     ensures { result ≡ peers_counted peers.now }
 {
@@ -91,11 +90,11 @@ fn write_counts<W: Write>(config: &Config, out: &mut W) -> io::Result<()>
     )
 }
 
-/// Writes why the configuration of a file is refused, and answers that it is not accepted. Where the fault stands, `err` is
-/// told; its failure changes nothing else.
+/// Writes why the configuration of a file is refused, and returns that it is not accepted. The place of the fault goes to `err`, whose
+/// failure changes nothing else.
 ///
 /// # Errors
-/// `OutOfMemory` where that is the fault, and then nothing is written; `Write` where `out` failed.
+/// `OutOfMemory` if that is the fault, and then nothing is written; `Write` where `out` failed.
 pub(crate) fn write_refusal<W: Write, E: Write>(
     file: &str,
     fault: &ConfigFault,
@@ -115,8 +114,7 @@ pub(crate) fn write_refusal<W: Write, E: Write>(
     }
 }
 
-/// Writes where a fault stands in a file, as `ripngd: FILE: at line 1, column 5`, if it has a place there or is of one
-/// interface or prefix.
+/// Writes the place of a fault in a file, as `ripngd: FILE: at line 1, column 5` or with an interface or a prefix, if it has one.
 fn write_place<W: Write>(file: &str, fault: &ConfigFault, err: &mut W) -> io::Result<()> {
     match fault {
         ConfigFault::BadToml(place) | ConfigFault::Router(_, Some(place)) => {

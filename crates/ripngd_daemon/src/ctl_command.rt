@@ -1,4 +1,4 @@
-//! `ctl`: a router that runs is asked or told something, and what it answers is printed.
+//! `ctl`: sends a command to a running router, and prints its answer.
 
 ghost use Rattle.std.specs.Prelude.{◌≡◌, ◌⊎◌, ◌≤◌, IfErr, IfOk, IfSome, List, OnOk, length, ℕ};
 ghost use Rattle.std.specs.Io.KnownBytes.{Appends};
@@ -16,10 +16,10 @@ use std::net::Net;
 use std::os::unix::net::UnixStream;
 use std::time::Duration;
 
-/// How long a router may say nothing, in milliseconds.
+/// How many milliseconds a router may be silent.
 const SILENCE: u64 = 10_000;
 
-/// The words of a question, a space between them.
+/// The words of a question, separated by spaces.
 fn words_of(alloc: Global, question: Question<'_>) -> Result<String, AllocError> {
     let command = question.command;
     match (question.what, question.value, question.port) {
@@ -39,7 +39,7 @@ fn send<T: Write>(command: Command, stream: &mut T) -> io::Result<()>
     writeln!(stream, "{command}")
 }
 
-/// All that a router answers.
+/// The whole answer of a router.
 fn receive<T: Read>(alloc: Global, stream: &mut T) -> io::Result<Vec<u8>>
     ensures { OnOk result (IfSome (T.remaining stream.old) (λ bytes. IfOk result (λ answer. answer.items ≡ bytes))) }
 {
@@ -48,10 +48,10 @@ fn receive<T: Read>(alloc: Global, stream: &mut T) -> io::Result<Vec<u8>>
     Ok(answer)
 }
 
-/// Sends a command to the router that listens at a path, and gives its answer.
+/// Sends a command over a connection, and returns the answer.
 ///
 /// # Errors
-/// Of the socket, after the connection is made.
+/// Of the socket.
 fn converse(alloc: Global, command: Command, stream: &mut UnixStream) -> io::Result<Vec<u8>> {
     stream.set_read_timeout(Some(Duration::from_millis(SILENCE)))?;
     stream.set_write_timeout(Some(Duration::from_millis(SILENCE)))?;
@@ -59,7 +59,7 @@ fn converse(alloc: Global, command: Command, stream: &mut UnixStream) -> io::Res
     receive(alloc, stream)
 }
 
-/// Where the last line begins.
+/// The index at which the last line begins.
 fn last_line(answer: &[u8]) -> usize
     ensures { result ≤ length answer.now }
 {
@@ -70,9 +70,9 @@ fn last_line(answer: &[u8]) -> usize
     }
 }
 
-/// What is to be printed of an answer, and whether the router did what it was told; none where the answer breaks off.
-fn told_in(answer: &[u8]) -> Option<(&[u8], bool)>
-    ensures { IfSome result (λ told. IsPrintedAnswer answer.now told.1 told.0.now) }
+/// The part of an answer that is printed, and whether the router did the command; `None` where the answer is cut off.
+fn printed_of(answer: &[u8]) -> Option<(&[u8], bool)>
+    ensures { IfSome result (λ printed. IsPrintedAnswer answer.now printed.1 printed.0.now) }
 {
     let (lines, last) = answer.split_at(last_line(answer));
     if last == b"ok\n".as_slice() {
@@ -93,7 +93,7 @@ fn print_answer<'a, O: Write>(
     ensures answered { IfOk result (λ accepted. IsAnswerWritten answer.now accepted (O.contents out.old) (O.contents out.new)) }
     ensures failed { IfErr result (λ f. (f ≡ failures.Output) ⊎ (f ≡ failures.Answer socket.entry)) }
 {
-    match told_in(answer) {
+    match printed_of(answer) {
         Some((text, accepted)) => match out.write_all(text) {
             Ok(()) => Ok(accepted),
             Err(_) => Err(Failure::Output),
@@ -102,7 +102,7 @@ fn print_answer<'a, O: Write>(
     }
 }
 
-/// Says that words are no command, as a router says it of a line that is none.
+/// Prints that words are no command, as a router does for a line that is none.
 fn refuse<'a, O: Write>(out: &mut O) -> Result<bool, Failure<'a>>
     ensures answered { IfOk result (λ accepted. (answer : List ℕ) × IsAnswerWritten answer accepted (O.contents out.old) (O.contents out.new)) }
     ensures failed { IfErr result (λ f. f ≡ failures.Output) }
@@ -113,7 +113,7 @@ fn refuse<'a, O: Write>(out: &mut O) -> Result<bool, Failure<'a>>
     }
 }
 
-/// Asks the router that listens at a socket.
+/// Sends a command to the router that listens at a path, and prints its answer.
 fn ask<'a, R: Net + AllocGlobal, O: Write>(
     rt: &R,
     socket: &'a str,
@@ -132,12 +132,12 @@ fn ask<'a, R: Net + AllocGlobal, O: Write>(
     }
 }
 
-/// `ctl PATH COMMAND..`: asks the router that listens at a path, or tells it something, prints its answer without the last
-/// line `ok`, and answers whether it did what it was asked and told. Words that are no command are refused unasked.
+/// `ctl PATH COMMAND..`: sends a command to the router that listens at a path, and prints its answer without the last line `ok`. Returns
+/// whether the router did it. Words that are no command are refused without asking the router.
 ///
 /// # Errors
-/// `Ask` with the path, where nobody listens; `Answer` with it, where the answer breaks off, or none comes for 10 seconds;
-/// `Output` or `OutOfMemory`.
+/// `Ask` with the path, if nobody listens there; `Answer` with it, if the answer is cut off, or nothing comes for 10 seconds; `Output`
+/// or `OutOfMemory`.
 pub fn ctl<'a, R: Net + AllocGlobal, O: Write>(
     rt: &R,
     question: Question<'a>,

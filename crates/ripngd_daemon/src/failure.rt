@@ -1,4 +1,4 @@
-//! What fails outside the program, and what standard error says of it.
+//! Failures outside the program, and their messages.
 
 ghost use Rattle.std.specs.Prelude.{◌≡◌, ◌≢◌, ◌⊎◌, OnOk, Some};
 ghost use Rattle.std.specs.Io.KnownBytes.{Appends};
@@ -8,48 +8,48 @@ ghost use Rattle.ripngd_daemon.specs.Said.{cause_text, failure_line, failure_tex
 ghost use Rattle.ripngd_daemon.specs.declared.failure.Failure.TheVariants as failures;
 
 use crate::file_cause::FileCause;
-use ripngd_control::DoorFault;
+use ripngd_control::ListenFault;
 use ripngd_engine::EngineFault;
 use ripngd_show::PrintFault;
 use ripngd_udp::{BindCause, UdpError};
 use std::fmt::{self, Display};
 use std::io::{self, ErrorKind, Write};
 
-/// What failed outside the program, with the file, the path, the port or the turns that it failed at.
+/// What failed outside the program: a file, a path, a port, a socket, or memory.
 #[derive(Clone, Copy, Debug, PartialEq, Eq)]
 pub enum Failure<'a> {
     /// A file cannot be read.
     Read(&'a str, FileCause),
-    /// A file for the log cannot be made or written.
+    /// The file of the log cannot be created or written.
     Log(&'a str, FileCause),
     /// Standard output failed.
     Output,
     /// A port of 127.0.0.1 cannot be bound.
     Bind(u16, BindCause),
     /// A router cannot listen at a path.
-    Listen(&'a str, DoorFault),
-    /// Nobody listens at a path.
+    Listen(&'a str, ListenFault),
+    /// No router listens at a path.
     Ask(&'a str),
-    /// Who listens at a path gives no whole answer.
+    /// The router at a path gives no complete answer.
     Answer(&'a str),
-    /// A socket failed, after so many turns.
+    /// A socket failed, after this many turns.
     Link(u32),
-    /// Memory was refused.
+    /// There was not enough memory.
     OutOfMemory,
 }
 
-/// Why a router cannot listen, behind where.
-fn why_text(why: DoorFault) -> &'static str
+/// Why a router cannot listen, as text after the path.
+fn why_text(why: ListenFault) -> &'static str
     ensures { result.now ≡ why_text why }
 {
     match why {
-        DoorFault::Taken => ": somebody answers there",
-        DoorFault::Shared => ": others may write to it; start under umask 077",
-        DoorFault::Failed => "",
+        ListenFault::Taken => ": somebody answers there",
+        ListenFault::Shared => ": others may write to it; start under umask 077",
+        ListenFault::Failed => "",
     }
 }
 
-/// Why a port cannot be bound, behind it.
+/// Why a port cannot be bound, as text after the port.
 fn cause_text(cause: BindCause) -> &'static str
     ensures { result.now ≡ cause_text cause }
 {
@@ -85,7 +85,7 @@ pub fn write_failure<W: Write>(failure: Failure<'_>, err: &mut W) -> io::Result<
     writeln!(err, "ripngd: {failure}")
 }
 
-/// What a fault of the system is, where something was tried: want of memory, or else that this failed.
+/// The failure for an error of the system: out of memory, or else what was tried.
 pub(crate) fn failed<'a>(tried: Failure<'a>, error: &io::Error) -> Failure<'a>
     ensures memory { error_kind error.now ≡ ErrorKind.OutOfMemory → result ≡ failures.OutOfMemory }
     ensures other { error_kind error.now ≢ ErrorKind.OutOfMemory → result ≡ tried.entry }

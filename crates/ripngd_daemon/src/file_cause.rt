@@ -9,24 +9,24 @@ use std::io::{self, ErrorKind};
 /// Why a file cannot be read or written.
 #[derive(Clone, Copy, Debug, PartialEq, Eq)]
 pub enum FileCause {
-    /// It is not there, or its directory is not.
+    /// It does not exist, or its directory does not.
     NotFound,
-    /// The program has no right to it.
+    /// Not permitted.
     NotPermitted,
     /// It is a directory.
     IsDirectory,
-    /// There is no space for more in it.
+    /// There is no space left on the device.
     Full,
-    /// Another program that runs has locked it.
+    /// Another program has locked it, often another router with the same log.
     InUse,
     /// It is the configuration.
     IsConfig,
-    /// The system gave any other reason.
+    /// Any other reason.
     Other,
 }
 
 impl FileCause {
-    /// What an error of the system says.
+    /// The cause that an error of the system names.
     pub(crate) fn of(error: &io::Error) -> FileCause
         ensures found { (result ≡ FileCause.NotFound) ↔ (error_kind error.now ≡ ErrorKind.NotFound) }
         ensures permission { (result ≡ FileCause.NotPermitted) ↔ (error_kind error.now ≡ ErrorKind.PermissionDenied) }
@@ -42,7 +42,7 @@ impl FileCause {
         }
     }
 
-    /// What is said of it, behind the file.
+    /// The text after the name of the file.
     pub(crate) fn text(self) -> &'static str
         ensures { result.now ≡ file_cause_text self }
     {

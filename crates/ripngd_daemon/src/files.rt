@@ -1,4 +1,4 @@
-//! Files that the program is given.
+//! The files that the program reads.
 
 ghost use Rattle.std.specs.Prelude.{◌≡◌, ◌⊎◌, IfErr, IfOk, List, ℕ};
 ghost use Rattle.ripngd_daemon.specs.declared.failure.Failure.TheVariants as failures;
@@ -9,21 +9,21 @@ use crate::file_cause::FileCause;
 use std::fs;
 use std::rt::Files;
 
-/// What the texts of files are read from.
+/// Where files are read from.
 pub trait FileSource {
-    // Whether a file of that name may hold this.
+    // The file of this name may have this content.
     ghost holds: { Self → List ℕ → List ℕ → Type 0 };
 
-    /// What a file holds.
+    /// The content of a file.
     ///
     /// # Errors
-    /// `Read` with its name, and why, where it cannot be read; `OutOfMemory`.
+    /// `Read` with its name and the cause; `OutOfMemory`.
     fn read<'a>(&self, file: &'a str) -> Result<Vec<u8>, Failure<'a>>
         ensures text { IfOk result (λ text. holds self.now file.entry.now text.items) }
         ensures failed { IfErr result (λ f. (f ≡ failures.OutOfMemory) ⊎ ((cause : FileCause) × (f ≡ failures.Read file.entry cause))) };
 }
 
-/// The files of the system, of which contracts know nothing.
+/// The files of the system. Contracts know nothing of their content.
 #[derive(Drop)]
 pub struct SystemFiles<'r, R>(pub &'r R);
 

@@ -1,7 +1,7 @@
-//! One router and its files, as the program's command line orders: `run`, `ctl`, `check` and `table`, what they print, and
-//! what fails outside the program.
+//! The subcommands for one router and its files: `run`, `ctl`, `check` and `table`, what they print, and the failures of files, ports
+//! and sockets.
 //!
-//! What a run has done stands in `specs/Run`, and what may fail of what is asked in `specs/Failing`.
+//! `specs/Run` says what a run has done, and `specs/Failing` which failures each subcommand may have.
 #![tactic(auto)]
 
 mod check_command;
@@ -16,7 +16,6 @@ mod run_command;
 mod run_log;
 mod table_command;
 mod turns;
-mod written;
 
 pub use check_command::{check, check_file};
 pub use ctl_command::ctl;

@@ -1,4 +1,4 @@
-//! What a run lost, as a line of standard error.
+//! What a run has lost, and its message.
 
 ghost use Rattle.std.specs.Prelude.{◌≡◌, ◌≢◌, OnOk};
 ghost use Rattle.std.specs.Io.KnownBytes.{Appends};
@@ -11,7 +11,7 @@ use ripngd_udp::Udp;
 use std::io::{self, Write};
 use std::rt::Clock;
 
-/// What a run lost that lost nothing.
+/// No losses.
 pub(crate) const NOTHING_LOST: Losses = Losses {
     report: Report {
         lost_sends: 0,
@@ -22,8 +22,8 @@ pub(crate) const NOTHING_LOST: Losses = Losses {
     strangers: 0,
 };
 
-/// What a router lost, with what its link lost beside: sends that failed after they were taken, arrivals for which it had no
-/// room or no memory, and datagrams of strangers.
+/// What a router has lost, together with its link: sends that failed after they had waited, received datagrams for which there was no
+/// room or no memory, and datagrams from ports of no peer.
 pub(crate) fn losses_of<R: Clock>(report: Report, link: &Udp<'_, R>) -> Losses
     ensures { result ≡ record {
       report = record report {
@@ -52,7 +52,7 @@ fn log_text(failed: bool) -> &'static str
     if failed { ", log failed" } else { "" }
 }
 
-/// Writes what was lost: `ripngd: lost sends N, lost steps M`, with `, log failed` behind it where a write of the log failed.
+/// Writes `ripngd: lost sends N, lost steps M`, with `, log failed` at its end if a write of the log failed.
 fn write_line<W: Write>(report: Report, out: &mut W) -> io::Result<()>
     ensures { OnOk result (Appends (W.contents out.old) (W.contents out.new) (losses_line report)) }
 {
@@ -68,7 +68,7 @@ fn write_line<W: Write>(report: Report, out: &mut W) -> io::Result<()>
     )
 }
 
-/// Writes what was lost, if anything was. Datagrams of strangers are no loss.
+/// Writes what was lost, if anything was. Datagrams from ports of no peer are not losses.
 pub fn write_losses<W: Write>(lost: Losses, out: &mut W) -> io::Result<()>
     ensures nothing { lost.report ≡ nothing_lost → out.new ≡ out.old }
     ensures line { lost.report ≢ nothing_lost → OnOk result (Appends (W.contents out.old) (W.contents out.new) (losses_line lost.report)) }

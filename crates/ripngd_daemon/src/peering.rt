@@ -1,4 +1,4 @@
-//! Changes of the peers of a router's sockets, while it runs.
+//! Changes of a router's peers while it runs.
 
 ghost use Rattle.std.specs.Prelude.{◌≡◌};
 
@@ -9,14 +9,14 @@ use ripngd_udp::{PeerRefused, Udp};
 use router_core::{MAX_HOP_LIMIT, RIPNG_PORT};
 use std::rt::Clock;
 
-/// Who changes the peers of sockets, and remembers how the last change ended.
+/// A change of the peers of a link, and the reply to it.
 #[derive(Clone, Copy, Debug, PartialEq, Eq)]
-pub(crate) struct PeerDesk {
+pub(crate) struct PeerUpdate {
     change: Option<PeerChange>,
     reply: Reply,
 }
 
-/// A neighbor as the keys of a configuration have it that are left out.
+/// A peer with the defaults of a configuration.
 fn plain_peer(addr: Addr6, local_port: u16) -> Peer {
     Peer {
         addr,
@@ -27,26 +27,26 @@ fn plain_peer(addr: Addr6, local_port: u16) -> Peer {
     }
 }
 
-/// What is replied to a change that ended so.
+/// The reply to a change.
 fn reply_to(outcome: Result<(), PeerRefused>) -> Reply {
     match outcome {
         Ok(()) => Reply::Done,
-        Err(why) => Reply::LinkRefused(why.number(), why.name()),
+        Err(why) => Reply::LinkRefused(why.text()),
     }
 }
 
-impl PeerDesk {
-    /// One that was told no change yet.
-    pub(crate) fn new() -> PeerDesk {
-        PeerDesk {
+impl PeerUpdate {
+    /// No change yet.
+    pub(crate) fn new() -> PeerUpdate {
+        PeerUpdate {
             change: None,
             reply: Reply::Done,
         }
     }
 }
 
-impl Peering for PeerDesk {
-    ghost ended = { λ desk. desk.reply };
+impl Peering for PeerUpdate {
+    ghost ended = { λ update. update.reply };
 
     fn order(&mut self, change: PeerChange) {
         self.change = Some(change);
@@ -57,7 +57,7 @@ impl Peering for PeerDesk {
     }
 }
 
-/// A change of the peers, and what is replied to it.
+/// Makes a change of the peers, and returns the reply.
 fn change_peers<R: Clock>(link: &mut Udp<'_, R>, change: PeerChange) -> Reply
     ensures interfaces { link.new.interfaces ≡ link.old.interfaces }
     ensures calls { link.new.calls ≡ link.old.calls }
@@ -70,7 +70,7 @@ fn change_peers<R: Clock>(link: &mut Udp<'_, R>, change: PeerChange) -> Reply
     }
 }
 
-impl<'r, R: Clock> LinkChange<Udp<'r, R>> for PeerDesk {
+impl<'r, R: Clock> LinkChange<Udp<'r, R>> for PeerUpdate {
     fn make(&mut self, link: &mut Udp<'r, R>) {
         if let Some(change) = self.change {
             self.reply = change_peers(link, change);

@@ -1,4 +1,4 @@
-//! `run`: one router over UDP sockets of loopback, in one path for whatever its options order.
+//! `run`: one router over UDP sockets of loopback. All options take the same path.
 
 ghost use Rattle.std.specs.Prelude.{◌≡◌, ◌≢◌, [], IfErr, IfOk, List, None, OnOk, Some, length, option_map, ℕ};
 ghost use Rattle.ripngd_config.specs.Configuration.{HasOneEach};
@@ -12,7 +12,7 @@ use crate::failure::Failure;
 use crate::files::FileSource;
 use crate::history::History;
 use crate::run_log::{RunLog, refuse_own_config};
-use crate::turns::{Running, show_turns};
+use crate::turns::{UdpEngine, show_turns};
 use rand_pcg::Pcg32;
 use ripngd_command_line::Order;
 use ripngd_config::{Config, read_config};
@@ -25,7 +25,7 @@ use std::io::{self, Write};
 use std::net::Net;
 use std::rt::{Clock, Files};
 
-/// A router that may start: its ports are bound, and its log is open.
+/// A router that is ready to start: its ports are bound, and its log is open.
 #[derive(Drop)]
 struct Ready<'r, R: Clock> {
     router: RouterConfig,
@@ -34,23 +34,22 @@ struct Ready<'r, R: Clock> {
     log: RunLog<'r, R>,
 }
 
-/// Runs the router of a configuration until it has made its turns, or its seconds have passed, or a client tells it to stop, and
-/// then writes its forwarding table, a line for each entry. Each change of a route is a line of the log, if one is ordered, whose
-/// old contents are lost once all ports are bound, but where it is to be gone on in: a line feed and a line `start` are then
-/// written behind them.
-/// A configuration that is refused is written as `refused ..`, before that file is touched, and the answer is then false; `err`
-/// gets the place of its fault, as it does from `check`.
-/// What is known of the run is left in `history`, also where it ended early. `err` gets the line `ripngd: running, N interfaces`
-/// once all ports are bound and the log is begun, and before it one for each interface that is its own peer. Where the router is
-/// to be debugged, it also gets a line for each arrival and entry that is refused, and counts of all at its end, early or
-/// not; a failure of `err` changes nothing else.
+/// Runs the router of a configuration until it has made its turns, its seconds have passed, or a client stops it. Then it writes the
+/// forwarding table, a line for each entry.
 ///
-/// Where a path is named for it, it listens there once all ports are bound, and looks at what comes between its turns; it may
-/// then be told a change, or to stop, which it does as after its last turn.
+/// - A configuration that is refused is written as `refused ..`, and the result is `false`; `err` gets the place of its fault, as from
+///   `check`. No other file is touched.
+/// - The log, if one is ordered, gets a line for each change of a route. It is emptied once all ports are bound; with `--append` it gets
+///   a line `start` instead.
+/// - With a control path the router listens there once all ports are bound, and serves its clients between turns.
+/// - `err` gets a line for each interface that is its own peer, and `ripngd: running, N interfaces` once the log is begun. With
+///   `-d` it also gets a line for each datagram and entry that is refused, and the counts at the end. A failure of `err` changes
+///   nothing else.
+/// - `history` has the past of the run, also if it ended early.
 ///
 /// # Errors
-/// The first thing that failed: a log that is the configuration, to read the configuration, to open the log or to lock it,
-/// to bind a port, to listen, to empty the log or to write in it that the run begins, the link, memory, or `out`.
+/// The first failure of these: the log is the configuration; reading the configuration; opening or locking the log; binding a port;
+/// listening; beginning the log; the link; memory; `out`.
 pub fn run<
     'a,
     R: Files<File = File> + Print + Clock + Net + AllocGlobal,
@@ -81,7 +80,7 @@ pub fn run<
     }
 }
 
-/// Writes a line for each interface that has a peer at its own port, and so hears what it sends.
+/// Writes a line for each interface that has a peer at its own port, and so receives what it sends.
 ///
 /// # Errors
 /// Of the writer.
@@ -94,7 +93,7 @@ fn write_echoes<E: Write>(config: &Config, err: &mut E) -> io::Result<()> {
     Ok(())
 }
 
-/// The clients that may come, if a path is ordered for them.
+/// Listens for clients, if a path is ordered for them.
 ///
 /// # Errors
 /// `Listen` with the path.
@@ -151,11 +150,11 @@ fn run_configured<
         log,
     };
     let outcome = run_ready(rt, order, ready, history, out, err);
-    history.close_door(rt, order.control);
+    history.stop_listening(rt, order.control);
     outcome
 }
 
-/// Writes what was counted of a router that is to be debugged.
+/// With `-d`, writes the counts.
 ///
 /// # Errors
 /// Of the writer.
@@ -166,7 +165,7 @@ fn write_counts<E: Write>(order: Order<'_>, counts: &Counts, err: &mut E) -> io:
     writeln!(err, "{counts}")
 }
 
-/// Begins the log, says that the router runs, and runs it. Where it is to be debugged, what is refused and counted is written.
+/// Begins the log, says that the router runs, and runs it. With `-d` it writes what is refused, and the counts.
 fn run_ready<'r, 'a, R: Files<File = File> + Print + Clock + Net + AllocGlobal, O: Write, E: Write>(
     rt: &'r R,
     order: Order<'a>,
@@ -178,7 +177,7 @@ fn run_ready<'r, 'a, R: Files<File = File> + Print + Clock + Net + AllocGlobal, 
     requires interfaces { ready.link.interfaces ≡ length ready.router.interfaces }
     requires uncalled { ready.link.calls ≡ [] }
     requires untold { lines_of history.old.clients ≡ [] }
-    requires unwritten { ready.log.written.bytes ≡ [] }
+    requires unwritten { ready.log.written.past.bytes ≡ [] }
     ensures bound { history.new.ports.on_links ≡ history.old.ports.on_links }
     ensures alone { history.old.clients ≡ None → history.new.clients ≡ None }
     ensures ran { OnOk result (ShowsRun order.entry ready.entry.router ready.entry.rng history.new (O.contents out.old) (O.contents out.new)) }
@@ -193,7 +192,7 @@ fn run_ready<'r, 'a, R: Files<File = File> + Print + Clock + Net + AllocGlobal, 
     outcome
 }
 
-/// Starts the router, makes its turns, and writes its forwarding table. What was counted is left in `counts`.
+/// Starts the router, makes its turns, and writes its forwarding table. `counts` gets the counts.
 fn run_monitored<'r, 'a, R: Clock + Net + Print + AllocGlobal, O: Write, E: Write>(
     rt: &'r R,
     order: Order<'a>,
@@ -206,7 +205,7 @@ fn run_monitored<'r, 'a, R: Clock + Net + Print + AllocGlobal, O: Write, E: Writ
     requires interfaces { ready.link.interfaces ≡ length ready.router.interfaces }
     requires uncalled { ready.link.calls ≡ [] }
     requires untold { lines_of history.old.clients ≡ [] }
-    requires begun { ready.log.written.bytes ≡ begins_with order.log order.append }
+    requires begun { ready.log.written.past.bytes ≡ begins_with order.log order.append }
     ensures bound { history.new.ports.on_links ≡ history.old.ports.on_links }
     ensures alone { history.old.clients ≡ None → history.new.clients ≡ None }
     ensures ran { OnOk result (ShowsRun order.entry ready.entry.router ready.entry.rng history.new (O.contents out.old) (O.contents out.new)) }
@@ -220,7 +219,14 @@ fn run_monitored<'r, 'a, R: Clock + Net + Print + AllocGlobal, O: Write, E: Writ
     } = ready;
     let mut monitor = Monitor::new(rt.alloc(), err, !order.debug);
     let clock = Uptime::new(rt);
-    let mut engine: Running<'r, R> = Engine::start(rt.alloc(), router, link, clock, rng, &mut log)?;
+    let mut engine: UdpEngine<'r, R> = Engine::start(
+        rt.alloc(),
+        router,
+        link,
+        clock,
+        rng,
+        &mut log,
+    )?;
     let outcome = show_turns(
         rt,
         order,

@@ -1,5 +1,5 @@
-//! The log of a run: a file, standard output, or nothing. A file is written at its end, whoever else shortens it, and locked
-//! while it is open.
+//! The log of a run: a file, standard output, or nothing. A file is always written at its end, even if others truncate it, and is
+//! locked while it is open.
 
 ghost use Rattle.std.specs.Prelude.{◌≡◌, ◌≢◌, ◌⊎◌, ◌++◌, [], IfErr, IfOk, OnOk, Some, option_map};
 ghost use Rattle.std.specs.Io.{WritesAtMost};
@@ -11,18 +11,18 @@ ghost use Rattle.ripngd_daemon.specs.declared.file_cause.FileCause.{FileCause};
 
 use crate::failure::{Failure, failed};
 use crate::file_cause::FileCause;
-use crate::written::{Entry, Written};
 use ripngd_command_line::Order;
+use ripngd_engine::{Entry, Transcript};
 use std::fs::{self, File, OpenOptions, TryLockError};
 use std::io::{self, Print, Write};
 use std::os::unix::fs::MetadataExt;
 use std::rt::Files;
 
-/// Where the lines of a log go.
+/// Where the log goes.
 #[derive(Drop)]
 enum Target<'r, R> {
     Nowhere,
-    /// To standard output, without a buffer.
+    /// Standard output, without a buffer.
     Output(&'r R),
     File(File),
 }
@@ -31,10 +31,10 @@ enum Target<'r, R> {
 #[derive(Drop)]
 pub(crate) struct RunLog<'r, R> {
     target: Target<'r, R>,
-    pub(crate) written: Written,
+    pub(crate) written: Transcript,
 }
 
-/// Whether two names are those of one regular file.
+/// Whether two names are of one regular file.
 fn is_same_file<R: Files>(rt: &R, name: &str, other: &str) -> bool {
     match (fs::metadata(rt, name), fs::metadata(rt, other)) {
         (Ok(one), Ok(two)) => one.is_file() && one.dev() == two.dev() && one.ino() == two.ino(),
@@ -42,7 +42,7 @@ fn is_same_file<R: Files>(rt: &R, name: &str, other: &str) -> bool {
     }
 }
 
-/// Refuses a log that is the configuration itself, under its own name or another.
+/// Refuses a log that is the file of the configuration, under this or another name.
 ///
 /// # Errors
 /// `Log` with the name of the log.
@@ -60,8 +60,7 @@ pub(crate) fn refuse_own_config<'a, R: Files>(rt: &R, order: Order<'a>) -> Resul
     }
 }
 
-/// Whether a program that runs holds the lock of a file. Of what is no regular file, as a device, nobody does, and neither
-/// where the system has no locks.
+/// Whether another program holds the lock of a file. Only regular files are locked, and only where the system has locks.
 fn is_held(lines: &File) -> bool {
     match lines.metadata() {
         Ok(about) if about.is_file() => match lines.try_lock() {
@@ -72,18 +71,17 @@ fn is_held(lines: &File) -> bool {
     }
 }
 
-/// What fails where the system lets a log not be opened or written.
+/// The failure of a log that cannot be opened or written.
 fn cannot_write<'a>(file: &'a str, error: &io::Error) -> Failure<'a>
     ensures { (result ≡ failures.OutOfMemory) ⊎ ((cause : FileCause) × (result ≡ failures.Log file.entry cause)) }
 {
     failed(Failure::Log(file, FileCause::of(error)), error)
 }
 
-/// Opens a file, which is made if it is not there, to be written at its end, and locks it until it is closed. It is left as
-/// it is.
+/// Opens a file for writing at its end, and locks it until it is closed. It is created if it does not exist, and not changed.
 ///
 /// # Errors
-/// `Log` with its name, where it cannot be opened, or another program holds its lock; `OutOfMemory`.
+/// `Log` with its name, if it cannot be opened or another program holds its lock; `OutOfMemory`.
 fn open_file<'a, R: Files<File = File>>(rt: &R, file: &'a str) -> Result<File, Failure<'a>>
     ensures { IfErr result (λ f. (f ≡ failures.OutOfMemory) ⊎ ((cause : FileCause) × (f ≡ failures.Log file.entry cause))) }
 {
@@ -99,7 +97,7 @@ fn open_file<'a, R: Files<File = File>>(rt: &R, file: &'a str) -> Result<File, F
     }
 }
 
-/// Opens where the lines are ordered to go.
+/// Opens the target of the log that is ordered.
 fn open_target<'r, 'a, R: Files<File = File>>(
     rt: &'r R,
     order: Order<'a>,
@@ -114,7 +112,7 @@ fn open_target<'r, 'a, R: Files<File = File>>(
 }
 
 impl<R: Print> Target<'_, R> {
-    /// Takes as much as it can at once.
+    /// Writes as much as one call can.
     fn take(&mut self, bytes: &[u8]) -> io::Result<usize>
         ensures { WritesAtMost result bytes.now }
     {
@@ -127,7 +125,7 @@ impl<R: Print> Target<'_, R> {
 }
 
 impl<R> Target<'_, R> {
-    /// Takes away what a file holds. Devices and pipes hold nothing that could be taken away.
+    /// Empties a regular file. Devices and pipes have nothing to empty.
     fn empty(&mut self) -> io::Result<()> {
         match self {
             Target::File(file) if file.metadata()?.is_file() => file.set_len(0),
@@ -137,11 +135,11 @@ impl<R> Target<'_, R> {
 }
 
 impl<R: Print> Write for RunLog<'_, R> {
-    ghost contents = { λ log. Some log.written.bytes };
+    ghost contents = { λ log. Some log.written.past.bytes };
 
     fn write(&mut self, buf: &[u8]) -> io::Result<usize> {
         let taken = self.target.take(buf)?;
-        self.written = Written::of(&Entry::Took(&self.written, &buf[..taken]));
+        self.written = Transcript::of(&Entry::Wrote(&self.written, &buf[..taken]));
         Ok(taken)
     }
 
@@ -151,28 +149,28 @@ impl<R: Print> Write for RunLog<'_, R> {
 }
 
 impl<'r, R: Files<File = File> + Print> RunLog<'r, R> {
-    /// Opens the log that is ordered, and leaves what it holds.
+    /// Opens the log that is ordered, and does not change it.
     ///
     /// # Errors
-    /// `Log` with its name, where it cannot be opened, or another program holds its lock; `OutOfMemory`.
+    /// `Log` with its name, if it cannot be opened or another program holds its lock; `OutOfMemory`.
     pub(crate) fn open<'a>(rt: &'r R, order: Order<'a>) -> Result<RunLog<'r, R>, Failure<'a>>
-        ensures untouched { IfOk result (λ log. log.written.bytes ≡ []) }
+        ensures untouched { IfOk result (λ log. log.written.past.bytes ≡ []) }
         ensures failed { IfErr result (MayFail (asks.Run order.entry)) }
     {
         let target = open_target(rt, order)?;
         Ok(RunLog {
             target,
-            written: Written::of(&Entry::Begun),
+            written: Transcript::of(&Entry::Nothing),
         })
     }
 
-    /// Takes away what it holds; or leaves that, and writes behind it that a run begins. A line feed stands before that, since
-    /// the last line may have been cut off.
+    /// Begins the log: empties it, or with `--append` adds a line `start` at its end, after a line feed in case its last line was cut
+    /// off.
     ///
     /// # Errors
-    /// `Log` with its name, where it cannot be emptied or written; `OutOfMemory`.
+    /// `Log` with its name, if it cannot be emptied or written; `OutOfMemory`.
     pub(crate) fn begin<'a>(&mut self, order: Order<'a>) -> Result<(), Failure<'a>>
-        ensures begun { OnOk result (self.new.written.bytes ≡ self.old.written.bytes ++ begins_with order.entry.log order.entry.append) }
+        ensures begun { OnOk result (self.new.written.past.bytes ≡ self.old.written.past.bytes ++ begins_with order.entry.log order.entry.append) }
         ensures failed { IfErr result (MayFail (asks.Run order.entry)) }
     {
         let Some(file) = order.log else {

@@ -1,4 +1,4 @@
-//! `table`: the forwarding table that a log makes, a line for each entry.
+//! `table`: prints the forwarding table that a log makes.
 
 ghost use Rattle.std.specs.Prelude.{◌≡◌, IfErr, IfOk, List, OnOk, ℕ};
 ghost use Rattle.std.specs.Io.KnownBytes.{Appends};
@@ -9,15 +9,15 @@ ghost use Rattle.ripngd_daemon.specs.Tabled.{IsTabled, bad_line_text, table_text
 use crate::failure::Failure;
 use crate::files::FileSource;
 use fib::Fib;
-use ripngd_engine::RouteLine;
+use ripngd_engine::write_entries;
 use ripngd_log::{LogFault, read_log};
 use ripngd_show::PrintFault;
 use std::alloc::Global;
 use std::io::{self, Write};
 
-/// Writes the forwarding table that the lines of a log make, as [`write_table`] does, and answers whether all of them are
-/// lines of changes; the first that is not gives the line `line L refused 1 BadLine` in place of a table. What stands
-/// after the last line feed does not count.
+/// Writes the forwarding table that the lines of a log make, as [`write_table`] does. Returns whether each of them is the line of a
+/// change; if not, the first that is not gives `line L refused 1 BadLine` in place of a table. Bytes after the last line feed do not
+/// count.
 ///
 /// # Errors
 /// `OutOfMemory` before anything is written; `Write` where `out` failed.
@@ -56,30 +56,18 @@ pub fn table_file<'a, F: FileSource, O: Write>(
     Ok(table(alloc, files.read(file)?.as_slice(), out)?)
 }
 
-/// Writes a forwarding table: a line `PREFIX metric M direct` or `PREFIX metric M via ADDR iface I` for each entry, in the
-/// order of address, then length.
+/// Writes a line `PREFIX metric M direct` or `PREFIX metric M via ADDR iface I` for each entry of a forwarding table, in the order of
+/// address, then length.
 pub(crate) fn write_table<W: Write>(fib: &Fib, out: &mut W) -> io::Result<()>
     ensures { OnOk result (Appends (W.contents out.old) (W.contents out.new) (table_text fib.now)) }
 {
-    let entries = fib.entries();
-    for entry in entries {
-        let (prefix, hop, metric) = *entry;
-        let line = RouteLine {
-            prefix,
-            hop,
-            metric,
-        };
-        writeln!(out, "{line}")?;
-    }
-    Ok(())
+    write_entries(fib.entries(), out)
 }
 
-/// Writes that a line of a log is refused.
+/// Writes which line of a log is refused.
 fn write_bad_line<W: Write>(line: usize, out: &mut W) -> io::Result<()>
     ensures { OnOk result (Appends (W.contents out.old) (W.contents out.new) (bad_line_text line)) }
 {
     let fault = LogFault::BadLine { line };
-    let number = fault.number();
-    let name = fault.name();
-    writeln!(out, "line {line} refused {number} {name}")
+    writeln!(out, "line {line} refused {fault}")
 }

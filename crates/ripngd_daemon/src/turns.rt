@@ -1,4 +1,4 @@
-//! The turns of a router that runs, and what its clients tell it between them.
+//! The turns of a running router, with the commands of its clients between them.
 
 ghost use Rattle.std.specs.Prelude.{◌≡◌, ◌≢◌, ◌≤◌, ◌*◌, ◌↔◌, [], IfErr, IfOk, IsTrue, OnOk, None, false, true};
 ghost use Rattle.std.specs.Io.KnownBytes.{Appends};
@@ -11,32 +11,32 @@ ghost use Rattle.ripngd_daemon.specs.Tabled.{table_text};
 
 use crate::failure::Failure;
 use crate::losses::losses_of;
-use crate::peering::PeerDesk;
+use crate::peering::PeerUpdate;
 use crate::table_command::write_table;
 use rand_pcg::Pcg32;
 use ripngd_command_line::Order;
-use ripngd_control::{Clients, Course, Monitor};
+use ripngd_control::{Clients, Monitor, RunState};
 use ripngd_engine::{Engine, EngineFault};
 use ripngd_udp::{Udp, Uptime};
 use route_table::{Moment, SortedRoutes};
 use std::io::Write;
 use std::rt::Clock;
 
-/// A router over sockets and the system's clock, with its own random words.
-pub(crate) type Running<'r, R> = Engine<SortedRoutes, Udp<'r, R>, Uptime<'r, R>, Pcg32>;
+/// A router over sockets and the system's clock, with a seeded source of random numbers.
+pub(crate) type UdpEngine<'r, R> = Engine<SortedRoutes, Udp<'r, R>, Uptime<'r, R>, Pcg32>;
 
-/// The milliseconds of a second.
+/// How many milliseconds a second has.
 const SECOND: u64 = 1_000;
 
-/// Whether so many seconds have passed at a moment.
+/// Whether this many seconds have passed at a moment.
 fn have_passed(seconds: u32, moment: Moment) -> bool
     ensures { IsTrue result ↔ (seconds * 1000 ≤ moment) }
 {
     u64::from(seconds) * SECOND <= moment.ms()
 }
 
-/// Whether the seconds, if there is a number, had passed at the last step of a router.
-fn is_over<R: Clock>(seconds: Option<u32>, engine: &Running<'_, R>) -> bool
+/// Whether the seconds, if a number was ordered, had passed at the last step of a router.
+fn is_over<R: Clock>(seconds: Option<u32>, engine: &UdpEngine<'_, R>) -> bool
     ensures over { result ≡ true → IsOver seconds engine.now.router.last }
     ensures in_time { result ≡ false → ¬ (IsOver seconds engine.now.router.last) }
 {
@@ -46,9 +46,9 @@ fn is_over<R: Clock>(seconds: Option<u32>, engine: &Running<'_, R>) -> bool
     }
 }
 
-/// Makes a turn. The log gets a line for each change that it made.
+/// Makes a turn.
 fn step<R: Clock, W: Write, E: Write>(
-    engine: &mut Running<'_, R>,
+    engine: &mut UdpEngine<'_, R>,
     log: &mut W,
     monitor: &mut Monitor<E>,
 ) -> Result<(), EngineFault>
@@ -56,59 +56,59 @@ fn step<R: Clock, W: Write, E: Write>(
     ensures ran { OnOk result (Ran 1 (seen words_of W.contents engine.old log.old) (seen words_of W.contents engine.new log.new)) }
     ensures goes_on { OnOk result (engine.new.ended ≡ false) }
 {
-    engine.turns_watched(1, log, monitor)
+    engine.turns_observed(1, log, monitor)
 }
 
-/// Looks at the clients, if anybody may come.
-fn heed<R: Clock + AllocGlobal, W: Write, E: Write>(
+/// Serves the clients, if the router listens.
+fn serve_clients<R: Clock + AllocGlobal, W: Write, E: Write>(
     rt: &R,
-    engine: &mut Running<'_, R>,
+    engine: &mut UdpEngine<'_, R>,
     clients: &mut Option<Clients>,
     log: &mut W,
     monitor: &Monitor<E>,
-) -> Course
+) -> RunState
     requires { engine.old.ended ≡ false }
     ensures heeds { Heeds (lines_of clients.old) (seen words_of W.contents engine.old log.old)
         (lines_of clients.new) (seen words_of W.contents engine.new log.new) }
-    ensures goes_on { result ≢ Course.Ended → engine.new.ended ≡ false }
-    ensures stops { result ≡ Course.Stop → IsToldToStop (lines_of clients.new) }
+    ensures goes_on { result ≢ RunState.Ended → engine.new.ended ≡ false }
+    ensures stops { result ≡ RunState.Stopped → IsToldToStop (lines_of clients.new) }
     ensures alone { clients.old ≡ None → clients.new ≡ None }
 {
     let Some(clients) = clients else {
-        return Course::GoOn;
+        return RunState::Running;
     };
     let lost = losses_of(engine.report(), engine.link());
-    let mut peering = PeerDesk::new();
-    clients.look(rt, engine, monitor, lost, &mut peering, log)
+    let mut peering = PeerUpdate::new();
+    clients.serve(rt, engine, monitor, lost, &mut peering, log)
 }
 
-/// Makes a turn, and looks at the clients.
+/// Makes a turn, and serves the clients.
 fn turn<R: Clock + AllocGlobal, W: Write, E: Write>(
     rt: &R,
-    engine: &mut Running<'_, R>,
+    engine: &mut UdpEngine<'_, R>,
     clients: &mut Option<Clients>,
     log: &mut W,
     monitor: &mut Monitor<E>,
-) -> Result<Course, EngineFault>
+) -> Result<RunState, EngineFault>
     requires { engine.old.ended ≡ false }
     ensures does { OnOk result (TurnsAndHeeds (lines_of clients.old) (seen words_of W.contents engine.old log.old)
         (lines_of clients.new) (seen words_of W.contents engine.new log.new)) }
-    ensures goes_on { IfOk result (λ course. course ≢ Course.Ended → engine.new.ended ≡ false) }
-    ensures stops { IfOk result (λ course. course ≡ Course.Stop → IsToldToStop (lines_of clients.new)) }
+    ensures goes_on { IfOk result (λ state. state ≢ RunState.Ended → engine.new.ended ≡ false) }
+    ensures stops { IfOk result (λ state. state ≡ RunState.Stopped → IsToldToStop (lines_of clients.new)) }
     ensures alone { clients.old ≡ None → clients.new ≡ None }
 {
     step(engine, log, monitor)?;
-    Ok(heed(rt, engine, clients, log, monitor))
+    Ok(serve_clients(rt, engine, clients, log, monitor))
 }
 
-/// Makes turns until there were as many as ordered, or the seconds have passed, or a client tells the router to stop.
+/// Makes turns until as many were made as ordered, or the seconds have passed, or a client stops the router.
 ///
 /// # Errors
-/// `Link` with the turns before the one that failed; `OutOfMemory`.
+/// `Link` with the number of turns before the one that failed; `OutOfMemory`.
 fn make_turns<'a, R: Clock + AllocGlobal, W: Write, E: Write>(
     rt: &R,
     order: Order<'a>,
-    engine: &mut Running<'_, R>,
+    engine: &mut UdpEngine<'_, R>,
     clients: &mut Option<Clients>,
     log: &mut W,
     monitor: &mut Monitor<E>,
@@ -125,9 +125,9 @@ fn make_turns<'a, R: Clock + AllocGlobal, W: Write, E: Write>(
             return Ok(());
         }
         match turn(rt, engine, clients, log, monitor) {
-            Ok(Course::GoOn) => {}
-            Ok(Course::Stop) => return Ok(()),
-            Ok(Course::Ended) | Err(EngineFault::OutOfMemory) => return Err(Failure::OutOfMemory),
+            Ok(RunState::Running) => {}
+            Ok(RunState::Stopped) => return Ok(()),
+            Ok(RunState::Ended) | Err(EngineFault::OutOfMemory) => return Err(Failure::OutOfMemory),
             Err(EngineFault::LinkFault { .. }) => return Err(Failure::Link(done)),
         }
     }
@@ -138,7 +138,7 @@ fn make_turns<'a, R: Clock + AllocGlobal, W: Write, E: Write>(
 pub(crate) fn show_turns<'a, R: Clock + AllocGlobal, W: Write, E: Write, O: Write>(
     rt: &R,
     order: Order<'a>,
-    engine: &mut Running<'_, R>,
+    engine: &mut UdpEngine<'_, R>,
     clients: &mut Option<Clients>,
     log: &mut W,
     monitor: &mut Monitor<E>,

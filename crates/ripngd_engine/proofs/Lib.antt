@@ -1,3 +1,4 @@
+mod Walks
 mod Tells
 pub mod Steps
 mod Changes

@@ -14,14 +14,14 @@ use Rattle.router_core.specs.Machine.{State, Happening, Arrives, Ticks, Moves, S
 use Rattle.router_core.specs.declared.answer.Answer.{Answer}
 use Rattle.ripngd_engine.specs.declared.link.Received.{Received}
 use Rattle.ripngd_engine.specs.Telling.{Gains}
-use Rattle.ripngd_engine.specs.Watch.{LinkReport, WasTold}
+use Rattle.ripngd_engine.specs.Observer.{LinkReport, WasTold}
 use Rattle.ripngd_engine.specs.Log.{change_text, log_of}
 use Rattle.ripngd_engine.specs.Link.{Call, Gave, Silent, RecvFailed, Handed, Datagram, failed_sends, gave_call}
 use Rattle.ripngd_engine.specs.Run.{Machine, Trace, Sends, MovedOrLost, Carries, FollowsUnless, TakesArrival, TakesIn, TicksOnce, TicksUnless, Turn, Turns, arrival, handed, arrival_told, sent, one_call, one_moment, no_step, followed_by, all_joined, counted}
 use Rattle.ripngd_engine.specs.Outlet.{OutletSeen, CarriesOut}
-use Rattle.ripngd_engine.specs.Seen.{Seen, Outside, Shows, Acts, Started, Listens, Ran, TurnsWatched, untouched}
+use Rattle.ripngd_engine.specs.Seen.{Seen, Outside, Shows, Acts, Started, Listens, Ran, TurnsObserved, untouched}
 use Rattle.ripngd_engine.specs.declared.report.EngineFault.TheVariants.{LinkFault, OutOfMemory}
-use Rattle.ripngd_engine.specs.Running.{TakesReceived, ActsTold}
+use Rattle.ripngd_engine.specs.Runner.{TakesReceived, ActsTold}
 use Rattle.ripngd_engine.proofs.Tells.{Gains-nil, Gains-trans, WasTold-append, failed_sends-append}
 
 -- ---- what the outside gained
@@ -327,17 +327,17 @@ module _ {V : Type 0} (takes : V → LinkReport → V → Type 0) where
   }
 
   -- what a call for turns then answers
-  pub TurnsWatched-all : (v w : V) (k n : ℕ) (a b : Seen) → k ≡ n → b.machine.ended ≡ false → RanTold v w k a b → TurnsWatched takes v w n a (Ok tt) b
-  TurnsWatched-all v w k n a b all going ran =
+  pub TurnsObserved-all : (v w : V) (k n : ℕ) (a b : Seen) → k ≡ n → b.machine.ended ≡ false → RanTold v w k a b → TurnsObserved takes v w n a (Ok tt) b
+  TurnsObserved-all v w k n a b all going ran =
       let it : RanTold v w n a b = subst (λ x. RanTold v w x a b) all ran in
       record { answer = (going, it.ran); told = it.told }
 
-  pub TurnsWatched-deaf : (v w : V) (done n : ℕ) (a m b : Seen) → b.machine.ended ≡ false → done < n → RanTold v w done a m → Listens RecvFailed m b
-      → TurnsWatched takes v w n a (Err (LinkFault done)) b
-  TurnsWatched-deaf v w done n a m b going before ran deaf =
+  pub TurnsObserved-deaf : (v w : V) (done n : ℕ) (a m b : Seen) → b.machine.ended ≡ false → done < n → RanTold v w done a m → Listens RecvFailed m b
+      → TurnsObserved takes v w n a (Err (LinkFault done)) b
+  TurnsObserved-deaf v w done n a m b going before ran deaf =
       record { answer = (going, before, record { middle = m; ran = ran.ran; deaf = deaf }); told = ran.told }
 
-  pub TurnsWatched-refused : (v w : V) (count n : ℕ) (a b : Seen) → b.machine.ended ≡ true → count ≤ n → RanTold v w count a b
-      → TurnsWatched takes v w n a (Err OutOfMemory) b
-  TurnsWatched-refused v w count n a b ended within ran =
+  pub TurnsObserved-refused : (v w : V) (count n : ℕ) (a b : Seen) → b.machine.ended ≡ true → count ≤ n → RanTold v w count a b
+      → TurnsObserved takes v w n a (Err OutOfMemory) b
+  TurnsObserved-refused v w count n a b ended within ran =
       record { answer = (ended, record { count = count; within = within; ran = ran.ran }); told = ran.told }

@@ -5,7 +5,7 @@ use Rattle.std.proofs.lemmas.List.{map-append}
 use Rattle.router_core.specs.declared.answer.Outgoing.{Outgoing}
 use Rattle.ripngd_engine.specs.Telling.{Gains}
 use Rattle.ripngd_engine.specs.Link.{Call, Gave, Silent, RecvFailed, Handed, failed_sends}
-use Rattle.ripngd_engine.specs.Watch.{LinkReport, Sent, WasTold}
+use Rattle.ripngd_engine.specs.Observer.{LinkReport, Sent, WasTold}
 use Rattle.ripngd_engine.specs.Run.{Sends, handed, sent, counted}
 use Rattle.ripngd_engine.specs.Outlet.{HandsOver}
 

@@ -1,5 +1,5 @@
 -- What is done to an engine's router between its turns: changes of its configuration, its shutdown, and links of it that go down.
-use Rattle.std.specs.Prelude.{ℕ, ◌≡◌, List, [], ◌∷◌, Result, Ok, Err, Bool, true, false, unwrap_or}
+use Rattle.std.specs.Prelude.{ℕ, ◌≡◌, Result, Ok, Err, true, false, unwrap_or}
 use Rattle.router_core.specs.Machine.{State, Reconfigures, ShutsDown, LinkGoesDown}
 use Rattle.router_core.specs.Reconfiguring.{reconfigure_fault}
 use Rattle.router_core.specs.declared.reconfiguring.Change.{Change}
@@ -26,7 +26,7 @@ LinkGoesDownOnce iface m t n = (now : ℕ) × Moved m (LinkGoesDown now iface) n
 abbrev pub ReconfiguresNothing : Machine → Trace → Machine → Type 0
 ReconfiguresNothing m t n = (now : ℕ) × (t ≡ one_moment now) × (n ≡ m)
 
--- why a router refuses a change: the first reason against it, or want of memory
+-- why a router refuses a change: the first reason against it, or out of memory
 abbrev pub why_refused : State → Change → ReconfigureRefused
 why_refused s c = unwrap_or (reconfigure_fault s.config s.table c) refusals.OutOfMemory
 

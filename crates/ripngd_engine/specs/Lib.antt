@@ -1,11 +1,12 @@
 pub mod Telling
 pub mod Peers
 pub mod Link
-pub mod Watch
+pub mod Past
+pub mod Transcript
+pub mod Observer
 pub mod Log
 pub mod Run
 pub mod Outlet
 pub mod Seen
 pub mod Changing
-pub mod Running
-pub mod Report
+pub mod Runner

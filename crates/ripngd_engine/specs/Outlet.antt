@@ -8,7 +8,7 @@ use Rattle.ripngd_engine.specs.Telling.{Gains}
 use Rattle.ripngd_engine.specs.Link.{Call, failed_sends}
 use Rattle.ripngd_engine.specs.Log.{log_of}
 use Rattle.ripngd_engine.specs.Run.{Sends, datagrams_of, handed, sent, counted, FollowsUnless}
-use Rattle.ripngd_engine.specs.Watch.{LinkReport, WasTold}
+use Rattle.ripngd_engine.specs.Observer.{LinkReport, WasTold}
 use Rattle.ripngd_engine.specs.declared.outlet.Outlet.{Outlet}
 
 -- what an outlet holds, and its log
@@ -20,7 +20,7 @@ pub record OutletSeen : Type 0 where
   pub lost_sends : ℕ
   pub log_failed : Bool
 
--- an outlet and its log, where `calls` gives what a link tells, and `text` what stands in a log
+-- an outlet and its log, where `calls` gives the calls of a link, and `text` the text of a log
 abbrev pub outlet_seen : {L W : Type 0} → (L → Option (List Call)) → (W → Option (List ℕ)) → Outlet L → W → OutletSeen
 outlet_seen calls text o log =
     record {
@@ -32,8 +32,8 @@ outlet_seen calls text o log =
       log_failed = o.log_failed;
     }
 
--- datagrams were handed to a link, each once and in order, failed or not, those that failed were counted, and a watcher
--- was told of each
+-- datagrams were handed to a link, each once and in order, failed or not; those that failed were counted, and an observer was
+-- notified of each
 pub record HandsOver {V : Type 0} (takes : V → LinkReport → V → Type 0) (v w : V) (before after : Option (List Call)) (datagrams : List Outgoing) (lost lost_after : ℕ) : Type 0 where
   pub sends : Sends
   pub all_sends : datagrams_of sends ≡ datagrams

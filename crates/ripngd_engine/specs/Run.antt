@@ -10,8 +10,8 @@ use Rattle.router_core.specs.Received.{Received}
 use Rattle.router_core.specs.declared.answer.Answer.{Answer}
 use Rattle.router_core.specs.declared.answer.Outgoing.{Outgoing}
 use Rattle.ripngd_engine.specs.Link.{Datagram, Call, Gave, Silent, RecvFailed, Handed}
-use Rattle.ripngd_engine.specs.Watch.{LinkReport, Heard, Sent}
-use Rattle.ripngd_engine.specs.declared.watch.Arrived.{Arrived}
+use Rattle.ripngd_engine.specs.Observer.{LinkReport, Processed, Sent}
+use Rattle.ripngd_engine.specs.declared.observer.Arrived.{Arrived}
 
 -- what the turns of an engine go on from
 pub record Machine : Type 0 where
@@ -22,7 +22,7 @@ pub record Machine : Type 0 where
   pub stream : Stream  -- the words that the source has left
 
 -- what some steps did on the outside: the calls of the link, the moments that the clock gave, the changes of routes, and
--- what a watcher is told of them, each in order
+-- what an observer is notified of, each in order
 pub record Trace : Type 0 where
   pub calls : List Call
   pub moments : List ℕ
@@ -68,24 +68,24 @@ datagrams_of sends = map (λ s. s.0) sends
 abbrev pub handed : Sends → List Call
 handed sends = map (λ s. Handed s.0 s.1) sends
 
--- what a watcher is told of them
+-- what an observer is notified of them
 abbrev pub sent : Sends → List LinkReport
 sent sends = map (λ s. Sent s.0 s.1) sends
 
--- what a watcher is told of an arrival beside its answer
+-- an arrival, as an observer gets it
 abbrev pub arrived : Received → Arrived
 arrived x = record { moment = x.now; iface = x.iface; source = x.source; source_port = x.source_port }
 
--- what a watcher is told of an answer before that: an arrival and its bytes, with its fault and its notes
+-- what an observer is notified of before an answer is carried out: an arrival and its bytes, with its fault and its notes
 abbrev pub arrival_told : Happening → Answer → List LinkReport
-arrival_told (Arrives x) answer = Heard (arrived x) x.bytes answer.fault answer.notes ∷ []
+arrival_told (Arrives x) answer = Processed (arrived x) x.bytes answer.fault answer.notes ∷ []
 arrival_told (Ticks now word) answer = []
 arrival_told (Restarts now) answer = []
 arrival_told (Reconfigures now c) answer = []
 arrival_told (ShutsDown now) answer = []
 arrival_told (LinkGoesDown now iface) answer = []
 
--- the count after so many more, which stays at the greatest u64
+-- the count after some more; it stays at the greatest u64
 abbrev pub counted : ℕ → ℕ → ℕ
 counted n more = max n (min (n + more) (2 ^ 64 - 1))
 

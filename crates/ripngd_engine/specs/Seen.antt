@@ -1,4 +1,4 @@
--- What contracts see of an engine and of what stands around it, and how calls of the engine change that.
+-- What contracts see of an engine and of its link, clock and log, and how calls of the engine change that.
 use Rattle.std.specs.Prelude.{ℕ, ◌≡◌, ◌<◌, ◌≤◌, List, [], ◌∷◌, Option, Result, Ok, Err, Bool, true, false, length}
 use Rattle.std.specs.Io.KnownBytes.{Appends}
 use Rattle.rand_core.specs.Stream.{Stream}
@@ -8,7 +8,7 @@ use Rattle.router_core.specs.Machine.{State}
 use Rattle.ripngd_engine.specs.Telling.{Gains}
 use Rattle.ripngd_engine.specs.Link.{Call, RecvFailed, failed_sends}
 use Rattle.ripngd_engine.specs.Log.{log_of}
-use Rattle.ripngd_engine.specs.Watch.{LinkReport, WasTold}
+use Rattle.ripngd_engine.specs.Observer.{LinkReport, WasTold}
 use Rattle.ripngd_engine.specs.Run.{Machine, Trace, ComesUp, Turns, all_joined, counted}
 use Rattle.ripngd_engine.specs.declared.report.EngineFault.{EngineFault}
 use Rattle.ripngd_engine.specs.declared.report.EngineFault.TheVariants.{LinkFault, OutOfMemory}
@@ -25,7 +25,7 @@ pub record Held (R : Type 0) : Type 0 where
   pub lost_sends : ℕ
   pub log_failed : Bool
 
--- what the outside of an engine tells, and what the engine reports of it
+-- the past of the link, clock and log of an engine, and what the engine reports of them
 pub record Outside : Type 0 where
   pub calls : Option (List Call)
   pub moments : Option (List ℕ)
@@ -33,12 +33,12 @@ pub record Outside : Type 0 where
   pub lost_sends : ℕ
   pub log_failed : Bool
 
--- what an engine goes on from, and what its outside tells
+-- what an engine goes on from, and the past of its link, clock and log
 pub record Seen : Type 0 where
   pub machine : Machine
   pub outside : Outside
 
--- an engine and its log, where `stream` gives the words that a source has left, and `text` what stands in a log
+-- an engine and its log, where `stream` gives the words that a source has left, and `text` the text of a log
 abbrev pub seen : {R W : Type 0} → (R → Stream) → (W → Option (List ℕ)) → Held R → W → Seen
 seen stream text e log =
     record {
@@ -89,14 +89,14 @@ pub record Listens (call : Call) (a b : Seen) : Type 0 where
   pub machine : b.machine ≡ a.machine
   pub rest : b.outside ≡ record a.outside { calls = b.outside.calls }
 
--- so many turns were made, and the outside gained just these
+-- `count` turns were made, and the outside gained just these
 pub record Ran (count : ℕ) (a b : Seen) : Type 0 where
   pub traces : List Trace
   pub count_is : length traces ≡ count
   pub turns : Turns a.machine traces b.machine
   pub shows : Shows a.outside (all_joined traces) b.outside
 
--- so many turns were made, and then a `recv` failed
+-- `done` turns were made, and then a `recv` failed
 pub record RanUntilDeaf (done : ℕ) (a b : Seen) : Type 0 where
   pub middle : Seen
   pub ran : Ran done a middle
@@ -115,13 +115,13 @@ TurnsAnswer n a (Ok u) b = (b.machine.ended ≡ false) × Ran n a b
 TurnsAnswer n a (Err (LinkFault done)) b = (b.machine.ended ≡ false) × (done < n) × RanUntilDeaf done a b
 TurnsAnswer n a (Err OutOfMemory) b = (b.machine.ended ≡ true) × RanUntilRefused n a b
 
--- what a watcher is told of the turns of such an answer
+-- what an observer is notified of in the turns of such an answer
 abbrev pub told_in_turns : (n : ℕ) (a : Seen) (result : Result (Unit {0}) EngineFault) (b : Seen) → TurnsAnswer n a result b → List LinkReport
 told_in_turns n a (Ok u) b answer = (all_joined answer.1.traces).told
 told_in_turns n a (Err (LinkFault done)) b answer = (all_joined answer.2.ran.traces).told
 told_in_turns n a (Err OutOfMemory) b answer = (all_joined answer.1.ran.traces).told
 
--- such turns were made, and a watcher was told just what became of their arrivals and sends
-pub record TurnsWatched {V : Type 0} (takes : V → LinkReport → V → Type 0) (v w : V) (n : ℕ) (a : Seen) (result : Result (Unit {0}) EngineFault) (b : Seen) : Type 0 where
+-- such turns were made, and an observer was notified of just their arrivals and sends
+pub record TurnsObserved {V : Type 0} (takes : V → LinkReport → V → Type 0) (v w : V) (n : ℕ) (a : Seen) (result : Result (Unit {0}) EngineFault) (b : Seen) : Type 0 where
   pub answer : TurnsAnswer n a result b
   pub told : WasTold takes v (told_in_turns n a result b answer) w

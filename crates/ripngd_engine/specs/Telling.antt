@@ -1,7 +1,7 @@
--- What a link, a clock or a log tells of the calls that were made of it.
+-- The past of a link, a clock or a log, as far as contracts see it.
 use Rattle.std.specs.Prelude.{◌≡◌, ◌++◌, List, ⊤, Option, None, Some}
 
--- what is told now is what was told before, and then these. Who tells nothing, or stops telling, claims nothing
+-- the past is now what it was before, and then these. One that is not seen, or no longer, claims nothing
 abbrev pub Gains : {X : Type 0} → Option (List X) → Option (List X) → List X → Type 0
 Gains None after more = after ≡ None
 Gains (Some before) None more = ⊤

@@ -1,4 +1,4 @@
-//! What an engine sends and receives over.
+//! The link that an engine sends and receives over.
 
 ghost use Rattle.std.specs.Prelude.{◌≡◌, ℕ, ◌<◌, ◌≤◌, [], ◌∷◌, List, Option, length, is_ok, IfOk, IfSome};
 ghost use Rattle.ripngd_engine.specs.Link.{Call, Handed, recv_call};
@@ -11,29 +11,29 @@ use thiserror::Error;
 /// A datagram that a link has put into a buffer.
 #[derive(Clone, Copy, Debug, PartialEq, Eq)]
 pub struct Received {
-    /// The number of the interface that it came to.
+    /// The number of the interface that it arrived at.
     pub iface: usize,
     /// The address that it came from.
     pub source: Addr6,
     /// The UDP port that it came from.
     pub source_port: u16,
-    /// The hop limit that was left, 255 if no router forwarded it.
+    /// The hop limit it arrived with, 255 if no router forwarded it.
     pub hop_limit: u8,
-    /// Whether it was sent to the group of all RIPng routers, FF02::9, and not to this router.
+    /// Whether it was sent to the group of all RIPng routers, FF02::9 (RFC 2080, section 2.5), and not to this router.
     pub to_group: bool,
-    /// How many bytes it has; they stand at the head of the buffer.
+    /// How many bytes it has; they are the first of the buffer.
     pub len: usize,
 }
 
-/// A link could not be read, or could not take a datagram.
+/// A link could not be read, or could not send a datagram.
 #[derive(Clone, Copy, Debug, PartialEq, Eq, Error)]
 #[error("the link failed")]
 pub struct LinkFault;
 
-/// Interfaces, numbered from 0, that give and take datagrams.
+/// Interfaces, numbered from 0, that receive and send datagrams.
 pub trait Link: Drop {
-    // The calls of `recv` and `send` so far, failed or not, where the link tells them. A link that never tells says
-    // `λ _. None`; one that stops telling promises nothing from then on.
+    // The calls of `recv` and `send` so far, failed or not, or `None` for a link whose past contracts do not see. From `Some` it
+    // may become `None`, and nothing is promised from then on.
     ghost calls: { Self → Option (List Call) };
 
     // How many interfaces it has. No call changes it.
@@ -43,27 +43,26 @@ pub trait Link: Drop {
     fn interfaces(&self) -> usize
         ensures { result ≡ interface_count self.now };
 
-    /// Takes in the next datagram, if one came. It may wait a little, and returns where none came.
+    /// Receives the next datagram into the buffer. It may wait a little; `None` where no datagram came.
     ///
     /// # Errors
-    /// Where the link could not be read. The caller may try again.
+    /// The link could not be read. The caller may try again.
     fn recv(&mut self, buffer: &mut [u8]) -> Result<Option<Received>, LinkFault>
         ensures gained { Gains (calls self.old) (calls self.new) (recv_call result buffer.new ∷ []) }
         ensures interface { IfOk result (λ o. IfSome o (λ r. r.iface < interface_count self.old)) }
         ensures within { IfOk result (λ o. IfSome o (λ r. r.len ≤ length buffer.new)) }
         ensures same { interface_count self.new ≡ interface_count self.old };
 
-    /// Takes a datagram to send on the interface that it names, at once or a little later, behind those before it.
+    /// Sends a datagram on the interface that it names, at once or a little later, in the order of the calls.
     ///
     /// # Errors
-    /// Where it could not be taken. It is then lost.
+    /// The datagram could not be sent. It is lost.
     fn send(&mut self, outgoing: &Outgoing) -> Result<(), LinkFault>
         ensures gained { Gains (calls self.old) (calls self.new) (Handed outgoing.now (is_ok result) ∷ []) }
         ensures same { interface_count self.new ≡ interface_count self.old };
 }
 
-/// What may be changed of a link while a router runs over it, as who stands at its other end. It is no `recv` and no `send`, and
-/// the interfaces stay.
+/// A change of a link while a router runs over it, as of its peers. It receives and sends nothing, and the interfaces stay the same.
 pub trait LinkChange<L: Link> {
     /// Makes the change.
     fn make(&mut self, link: &mut L)

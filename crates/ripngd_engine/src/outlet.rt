@@ -1,44 +1,49 @@
-//! Where the answers of a router go: datagrams to a link, changes to a forwarding table and a log.
+//! Where the output of a router goes: datagrams to a link, changes to a forwarding table and a log.
 
 ghost use Rattle.std.specs.Prelude.{◌≡◌, is_err};
 ghost use Rattle.ripngd_engine.specs.Run.{counted};
 ghost use Rattle.ripngd_engine.specs.Outlet.{HandsOver};
 
-use crate::change_lines::write_lines;
+use crate::lines::write_lines;
 use crate::link::Link;
-use crate::watch::Watch;
+use crate::observer::TrafficObserver;
 use fib::Fib;
 use router_core::{Answer, Outgoing};
 use std::alloc::AllocError;
 use std::io::Write;
 
-/// What the answers of a router are carried out on, but for the log.
+/// What the output of a router is carried out on, except the log.
 #[derive(Drop)]
 pub(crate) struct Outlet<L: Link> {
     pub(crate) link: L,
     pub(crate) fib: Fib,
     pub(crate) lost_sends: u64,
     pub(crate) log_failed: bool,
-    /// Whether memory for the forwarding table was refused.
+    /// Whether there was no memory for the forwarding table.
     pub(crate) ended: bool,
 }
 
-/// The count after one more, which stays at the greatest.
+/// The count after one more; it stays at the greatest `u64`.
 pub(crate) fn one_more(count: u64) -> u64
     ensures { result ≡ counted count 1 }
 {
     count.saturating_add(1)
 }
 
-/// Hands each datagram to the link, once and in order, tells of it, and answers the count of those that failed.
-fn hand_over<L: Link, V: Watch>(link: &mut L, sends: &[Outgoing], lost: u64, watch: &mut V) -> u64
-    ensures hands { HandsOver V.takes watch.old watch.new (L.calls link.old) (L.calls link.new) sends.now lost result }
+/// Hands each datagram to the link, once and in order, and reports it. Returns the count of those that failed.
+fn hand_over<L: Link, V: TrafficObserver>(
+    link: &mut L,
+    sends: &[Outgoing],
+    lost: u64,
+    observer: &mut V,
+) -> u64
+    ensures hands { HandsOver V.takes observer.old observer.new (L.calls link.old) (L.calls link.new) sends.now lost result }
     ensures same { L.interface_count link.new ≡ L.interface_count link.old }
 {
     let mut total = lost;
     for outgoing in sends {
         let went = link.send(outgoing).is_ok();
-        watch.sent(outgoing, went);
+        observer.sent(outgoing, went);
         if !went {
             total = one_more(total);
         }
@@ -49,23 +54,23 @@ fn hand_over<L: Link, V: Watch>(link: &mut L, sends: &[Outgoing], lost: u64, wat
 impl<L: Link> Outlet<L> {
     ghost use Rattle.ripngd_engine.specs.Outlet.{outlet_seen, CarriesOut};
 
-    /// Hands over the datagrams of an answer and tells of each, follows its changes and writes their lines, in this order.
+    /// Hands over the datagrams of an answer and reports each, then follows its changes, then writes their lines.
     ///
     /// # Errors
-    /// Where memory for the forwarding table is refused; it is then as it was. All else is done all the same.
-    pub(crate) fn carry_out<W: Write, V: Watch>(
+    /// Out of memory for the forwarding table, which is then unchanged. All else is done all the same.
+    pub(crate) fn carry_out<W: Write, V: TrafficObserver>(
         &mut self,
         answer: Answer,
         log: &mut W,
-        watch: &mut V,
+        observer: &mut V,
     ) -> Result<(), AllocError>
-        ensures carries { CarriesOut V.takes watch.old watch.new (outlet_seen L.calls W.contents self.old log.old) answer
+        ensures carries { CarriesOut V.takes observer.old observer.new (outlet_seen L.calls W.contents self.old log.old) answer
             (outlet_seen L.calls W.contents self.new log.new) }
         ensures ended { self.new.ended ≡ is_err result }
         ensures same { L.interface_count self.new.link ≡ L.interface_count self.old.link }
     {
         let sends = answer.sends.as_slice();
-        self.lost_sends = hand_over(&mut self.link, sends, self.lost_sends, watch);
+        self.lost_sends = hand_over(&mut self.link, sends, self.lost_sends, observer);
         let followed = self.fib.apply(answer.changes.as_slice());
         self.log_failed = write_lines(log, answer.changes.as_slice(), self.log_failed);
         self.ended = followed.is_err();

@@ -1,25 +1,28 @@
-//! Where an interface and its neighbors stand, on links that are made of sockets of 127.0.0.1.
+//! The ports of an interface and of its neighbors, on links that are made of sockets of 127.0.0.1.
+
+ghost use Rattle.std.specs.Prelude.{◌≡◌};
+ghost use Rattle.ripngd_engine.specs.Peers.{has_clash};
 
 use prefix6::Addr6;
 
-/// Where an interface stands on its link.
+/// The addresses of an interface on its link.
 #[derive(Clone, Copy, Debug, PartialEq, Eq)]
 pub struct Place {
     /// Its own link-local address.
     pub addr: Addr6,
-    /// The port of 127.0.0.1 at which its socket stands.
+    /// The port of 127.0.0.1 that its socket is bound to.
     pub local_port: u16,
-    /// The port of 127.0.0.1 that gets what it sends to the group, once. Without one each peer gets a copy.
+    /// The port of 127.0.0.1 that gets one copy of what it sends to the group. Without one each peer gets a copy.
     pub group_port: Option<u16>,
 }
 
-/// A neighbor on a link: where its datagrams come from, and as what they arrive. What a real link would tell of a datagram is
-/// set here for all of its datagrams.
+/// A neighbor on a link: its port of 127.0.0.1, and the addresses and the hop limit that all its datagrams are taken to have. On a
+/// real link each datagram has its own.
 #[derive(Clone, Copy, Debug, PartialEq, Eq)]
 pub struct Peer {
     /// The link-local address that its datagrams arrive from.
     pub addr: Addr6,
-    /// The port of 127.0.0.1 at which it stands.
+    /// The port of 127.0.0.1 that its socket is bound to.
     pub local_port: u16,
     /// The UDP port that its datagrams arrive from.
     pub port: u16,
@@ -27,4 +30,11 @@ pub struct Peer {
     pub hop_limit: u8,
     /// Whether its datagrams arrive as sent to the group of all routers; the key `group`.
     pub to_group: bool,
+}
+
+/// Whether one of the peers has the address or the local port of this one.
+pub fn has_clash(peers: &[Peer], peer: &Peer) -> bool
+    ensures { result ≡ has_clash peers.now peer.now }
+{
+    peers.iter().any(|other| other.addr == peer.addr || other.local_port == peer.local_port)
 }

@@ -1,35 +1,22 @@
-//! What an engine answers and reports.
+//! The errors and the counts of an engine.
 
 ghost use Rattle.std.specs.Prelude.{◌≡◌};
-ghost use Rattle.ripngd_engine.specs.Report.{engine_fault_number};
 ghost use Rattle.ripngd_engine.specs.declared.report.EngineFault.TheVariants as fault;
 
 use router_core::ReconfigureRefused;
 use std::alloc::AllocError;
 use thiserror::Error;
 
-/// Why an engine did not make all the turns that it was asked for, or did not start.
+/// Why an engine did not start, or stopped before its last turn: its number, which never changes, its name, and the turns.
 #[derive(Clone, Copy, Debug, PartialEq, Eq, Error)]
 pub enum EngineFault {
-    /// 1: the link could not be read, after so many whole turns of this call. The engine may be asked for more.
-    #[error("link fault after {done} turns")]
+    /// 1: the link could not be read, after `done` whole turns of this call. A later call goes on.
+    #[error("1 LinkFault {done}")]
     LinkFault { done: u32 },
 
-    /// 2: there was no memory to start, or none for the forwarding table. The engine makes no more turns.
-    #[error("out of memory")]
+    /// 2: out of memory at the start, or for the forwarding table. The engine makes no more turns.
+    #[error("2 OutOfMemory")]
     OutOfMemory,
-}
-
-impl EngineFault {
-    /// The number of the fault, 1 or 2.
-    pub fn number(self) -> u8
-        ensures { result ≡ engine_fault_number self }
-    {
-        match self {
-            Self::LinkFault { .. } => 1,
-            Self::OutOfMemory => 2,
-        }
-    }
 }
 
 impl From<AllocError> for EngineFault {
@@ -40,22 +27,22 @@ impl From<AllocError> for EngineFault {
     }
 }
 
-/// Why a change of the configuration, a shutdown, or what follows from a link that goes down, was not made whole.
+/// Why a change of the configuration, a shutdown or the end of a link was not carried out whole.
 #[derive(Clone, Copy, Debug, PartialEq, Eq)]
 pub enum ChangeFault {
     /// The router refused it, and is as it was.
     Refused(ReconfigureRefused),
-    /// There was no memory for the forwarding table, then or before. The engine makes no more turns.
+    /// Out of memory for the forwarding table, now or in an earlier call. The engine makes no more turns.
     Ended,
 }
 
-/// What was lost since an engine started. The counts stay at the greatest `u64`.
+/// What was lost since an engine started. A count stays at the greatest `u64` once it is there.
 #[derive(Clone, Copy, Debug, PartialEq, Eq)]
 pub struct Report {
-    /// How many datagrams the link did not take.
+    /// Datagrams that the link could not send.
     pub lost_sends: u64,
-    /// How many arrivals and ticks were refused for memory.
+    /// Arrivals and ticks for which there was no memory.
     pub lost_memory: u64,
-    /// Whether a write of the log failed. No line is written after it.
+    /// Whether a write of the log failed. No line is written after that.
     pub log_failed: bool,
 }

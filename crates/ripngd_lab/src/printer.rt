@@ -64,7 +64,7 @@ impl<'a, W: Write> Printer<'a, W> {
     }
 }
 
-impl<'a, W: Write> ripng_world::Watch<Routes> for Printer<'a, W> {
+impl<'a, W: Write> ripng_world::Observer<Routes> for Printer<'a, W> {
     type Fault = io::Error;
 
     ghost takes = { λ _ _ _. ⊤ };

@@ -5,7 +5,7 @@ ghost use Rattle.ripng_world.specs.Events.{event_of};
 ghost use Rattle.ripng_world.specs.Labs.{HappensGiving};
 ghost use Rattle.ripng_world.specs.Watching.{WatchedInPart, failures};
 
-use ripng_world::{Event, Lab, LabError, Running, Sent, Stopped, Watch};
+use ripng_world::{Event, Lab, LabError, Observer, Running, Sent, Stopped};
 use route_table::SortedRoutes;
 use router_core::Answer;
 use std::marker::Model;
@@ -96,7 +96,7 @@ impl Site {
     ///
     /// # Errors
     /// The first reason to refuse the event, or want of memory, and then nobody is told; or the watcher's, and then the event is done.
-    pub fn step_watched<V: Watch<Routes>>(
+    pub fn step_watched<V: Observer<Routes>>(
         &mut self,
         event: &Event<'_>,
         watch: &mut V,

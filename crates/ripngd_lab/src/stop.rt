@@ -240,9 +240,7 @@ fn write_phases<W: fmt::Write>(
 fn write_network<W: fmt::Write>(refused: NetRefused, f: &mut fmt::Formatter<W>) -> fmt::Result {
     write!(f, "{} {}", refused.number(), refused.name())?;
     match refused {
-        NetRefused::BadRouter { router, refusal } => {
-            write!(f, " {router} {} {}", refusal.number(), refusal.name())
-        }
+        NetRefused::BadRouter { router, refusal } => write!(f, " {router} {refusal}"),
         _ => Ok(()),
     }
 }

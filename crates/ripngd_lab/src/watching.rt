@@ -15,7 +15,7 @@ use router_core::{Answer, Arrival};
 use std::io;
 
 /// A watcher of a script. It is told of each thing as soon as that is done, in order; of events as a watcher of the lab.
-pub trait Watch: ripng_world::Watch<Routes, Fault = io::Error> {
+pub trait Watch: ripng_world::Observer<Routes, Fault = io::Error> {
     // What the start of a lab makes of it: how it was, the lab, the moment, and how it is then.
     ghost starts: { Self → LabValue → ℕ → Self → Type 0 };
     // What a telling makes of it that is of nothing that happens in the lab: how it was, what it is told, and how it is then;

@@ -9,9 +9,8 @@ use Rattle.fib.specs.declared.change.Hop.{Hop}
 use Rattle.fib.specs.declared.change.Hop.TheVariants.{Direct, Via}
 use Rattle.fib.specs.declared.change.RouteChange.{RouteChange}
 use Rattle.fib.specs.declared.change.RouteChange.TheVariants.{Install, Withdraw}
-use Rattle.ripngd_engine.specs.Log.{hop_text, change_text, log_of}
+use Rattle.ripngd_engine.specs.Log.{HasNoLineFeed, hop_text, change_text, log_of}
 use Rattle.ripngd_log.specs.Reading.{IsWritableHop, IsWritableChange, IsRunOf, IsFirstBadOfRun}
-use Rattle.ripngd_log.specs.Runs.{HasNoLineFeed}
 use Rattle.ripngd_log.proofs.WordTexts.{addr_in_word, decimal_in_word, prefix_in_word, change_in_line}
 
 abbrev pub Lacks : ℕ → List ℕ → Type 0

@@ -1,7 +1,8 @@
 -- A text has one last run.
 use Rattle.std.proofs.Common.{◌≡◌, ◌≢◌, ℕ, List, [], ◌∷◌, ◌++◌, All, refl, sym, ap, ◌∙◌, subst, inl, inr, append_assoc}
 use Rattle.std.proofs.lemmas.List.Elements.{All-head, All-tail, All-append}
-use Rattle.ripngd_log.specs.Runs.{EndsInStart, HasNoLineFeed, HasPassed, IsLastRun, lines_text, start_text}
+use Rattle.ripngd_engine.specs.Log.{HasNoLineFeed}
+use Rattle.ripngd_log.specs.Runs.{EndsInStart, HasPassed, IsLastRun, lines_text, start_text}
 use Rattle.ripngd_log.proofs.OneReading.{one_split, has_it}
 
 pub lines_text-append : (xs ys : List (List ℕ)) → lines_text (xs ++ ys) ≡ lines_text xs ++ lines_text ys

@@ -2,7 +2,8 @@
 use Rattle.std.proofs.Common.{◌≡◌, ◌≢◌, ℕ, ◌+◌, List, [], ◌∷◌, ◌++◌, refl, sym, ap, ◌∙◌, inl, inr, arith, append_assoc}
 use Rattle.std.proofs.lemmas.Grind.{common_steps}
 use Rattle.std.proofs.lemmas.List.Elements.{All-nil, All-cons, All-append}
-use Rattle.ripngd_log.specs.Runs.{HasNoLineFeed, HasPassed, lines_text, start_text}
+use Rattle.ripngd_engine.specs.Log.{HasNoLineFeed}
+use Rattle.ripngd_log.specs.Runs.{HasPassed, lines_text, start_text}
 use Rattle.ripngd_log.proofs.OneRun.{lines_text-append}
 
 -- nothing was passed

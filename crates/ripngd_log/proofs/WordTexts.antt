@@ -20,9 +20,8 @@ use Rattle.fib.specs.declared.change.Hop.{Hop}
 use Rattle.fib.specs.declared.change.Hop.TheVariants.{Direct, Via}
 use Rattle.fib.specs.declared.change.RouteChange.{RouteChange}
 use Rattle.fib.specs.declared.change.RouteChange.TheVariants.{Install, Withdraw}
-use Rattle.ripngd_engine.specs.Log.{hop_text, route_text, change_text}
+use Rattle.ripngd_engine.specs.Log.{HasNoLineFeed, hop_text, route_text, change_text}
 use Rattle.ripngd_log.specs.Reading.{IsWritableHop, IsWritableChange}
-use Rattle.ripngd_log.specs.Runs.{HasNoLineFeed}
 use Rattle.ripngd_log.specs.Words.{IsInWord}
 
 -- past the space and before the first byte that is not ASCII

@@ -8,8 +8,8 @@ use Rattle.fib.specs.declared.change.Hop.TheVariants.{Direct, Via}
 use Rattle.fib.specs.declared.change.RouteChange.{RouteChange}
 use Rattle.fib.specs.declared.change.RouteChange.TheVariants.{Install, Withdraw}
 use Rattle.fib.specs.Forwarding.{Forwarding, Replays}
-use Rattle.ripngd_engine.specs.Log.{change_text, log_of}
-use Rattle.ripngd_log.specs.Runs.{HasNoLineFeed, IsLastRun}
+use Rattle.ripngd_engine.specs.Log.{HasNoLineFeed, change_text, log_of}
+use Rattle.ripngd_log.specs.Runs.{IsLastRun}
 use Rattle.ripngd_log.specs.declared.fault.LogFault.{LogFault}
 use Rattle.ripngd_log.specs.declared.fault.LogFault.TheVariants.{BadLine, OutOfMemory}
 
@@ -34,7 +34,7 @@ pub record IsRunOf (text : List ℕ) (changes : List RouteChange) : Type 0 where
 abbrev pub IsLogOf : List ℕ → List RouteChange → Type 0
 IsLogOf text changes = (run : List ℕ) × (skipped : ℕ) × IsLastRun text run skipped × IsRunOf run changes
 
--- the table that the changes make, one after another, where there was none
+-- the table that the changes make, one after another, from an empty one
 pub record MakesTable (text : List ℕ) (table : Forwarding) : Type 0 where
   pub changes : List RouteChange
   pub is_log : IsLogOf text changes
@@ -51,7 +51,7 @@ pub record IsFirstBadOfRun (text : List ℕ) (line : ℕ) : Type 0 where
   pub numbered : line ≡ length before + 1
   pub no_change : (c : RouteChange) → IsWritableChange c → change_text c ≢ bad
 
--- what a refusal says of a run behind so many lines; want of memory says nothing
+-- what a refusal says of a run that begins after `skipped` lines; out of memory says nothing
 abbrev pub RefusesRun : List ℕ → ℕ → LogFault → Type 0
 RefusesRun run skipped (BadLine line) = (in_run : ℕ) × IsFirstBadOfRun run in_run × (line ≡ skipped + in_run)
 RefusesRun run skipped OutOfMemory = Unit {0}
@@ -60,17 +60,12 @@ RefusesRun run skipped OutOfMemory = Unit {0}
 abbrev pub IsFirstBadLine : List ℕ → ℕ → Type 0
 IsFirstBadLine text line = (run : List ℕ) × (skipped : ℕ) × IsLastRun text run skipped × RefusesRun run skipped (BadLine line)
 
--- what a refusal says of the text; want of memory says nothing
+-- what a refusal says of the text; out of memory says nothing
 abbrev pub RefusesLog : List ℕ → LogFault → Type 0
 RefusesLog text (BadLine line) = IsFirstBadLine text line
 RefusesLog text OutOfMemory = Unit {0}
 
--- the number of a refusal
-abbrev pub log_fault_number : LogFault → ℕ
-log_fault_number (BadLine line) = 1
-log_fault_number OutOfMemory = 2
-
--- as the variant is spelled
-abbrev pub log_fault_name : LogFault → List ℕ
-log_fault_name (BadLine line) = codes "BadLine"
-log_fault_name OutOfMemory = codes "OutOfMemory"
+-- a refusal as it is printed: its number and its name
+abbrev pub log_fault_text : LogFault → List ℕ
+log_fault_text (BadLine line) = codes "1 BadLine"
+log_fault_text OutOfMemory = codes "2 OutOfMemory"

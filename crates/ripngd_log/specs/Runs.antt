@@ -1,10 +1,7 @@
--- The runs of a log: a router that goes on in a log begins with a line `start`, and only what stands behind the last one counts.
+-- The runs of a log: a router that appends to a log begins with a line `start`, and only the text after the last one counts.
 use Rattle.std.specs.Prelude.{◌≡◌, ◌≢◌, ◌⊎◌, ◌+◌, ℕ, List, [], ◌∷◌, ◌++◌, codes, flat_map, length}
 use Rattle.std.specs.List.{All}
-
--- no byte is a line feed (10)
-abbrev pub HasNoLineFeed : List ℕ → Type 0
-HasNoLineFeed text = All (λ b. b ≢ 10) text
+use Rattle.ripngd_engine.specs.Log.{HasNoLineFeed}
 
 -- the line at which a run begins
 abbrev pub start_text : List ℕ
@@ -18,7 +15,7 @@ lines_text lines = flat_map (λ line. line ++ 10 ∷ []) lines
 abbrev pub EndsInStart : List (List ℕ) → Type 0
 EndsInStart lines = (lines ≡ []) ⊎ ((earlier : List (List ℕ)) × (lines ≡ earlier ++ start_text ∷ []))
 
--- so many lines of a text stand before this run of it; behind them there are lines of which none is `start`, and then the rest
+-- `skipped` lines of a text are before this run; the run has lines, none of them `start`, and then the rest
 pub record HasPassed (text run rest : List ℕ) (skipped passed : ℕ) : Type 0 where
   pub before : List (List ℕ)
   pub lines : List (List ℕ)
@@ -31,7 +28,7 @@ pub record HasPassed (text run rest : List ℕ) (skipped passed : ℕ) : Type 0 
   pub skipped_is : skipped ≡ length before
   pub passed_is : passed ≡ length before + length lines
 
--- the last run of a text, before which there are so many lines: there is no line `start` in it
+-- the last run of a text, after `skipped` lines: it has no line `start`
 pub record IsLastRun (text run : List ℕ) (skipped : ℕ) : Type 0 where
   pub rest : List ℕ
   pub passed : ℕ

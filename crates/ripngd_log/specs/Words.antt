@@ -17,12 +17,12 @@ CutsWord line first second = (word rest : List ℕ) → IsInWord word → line �
 abbrev pub IsOfNone : List ℕ → Type 0
 IsOfNone line = (c : RouteChange) → IsWritableChange c → change_text c ≢ line
 
--- the change that the line is of, or none where it is of none
+-- the change of a line, or `None` if it has none
 abbrev pub IsRead : List ℕ → Option RouteChange → Type 0
 IsRead line (Some c) = IsWritableChange c × (change_text c ≡ line)
 IsRead line None = IsOfNone line
 
--- the line is that of a change, which comes after those that were there; or it is that of none
+-- the line has a change, which comes after the earlier ones; or it has none
 abbrev pub PushesLine : List ℕ → Bool → List RouteChange → List RouteChange → Type 0
 PushesLine line true old new = (c : RouteChange) × IsWritableChange c × (change_text c ≡ line) × (new ≡ old ++ c ∷ [])
 PushesLine line false old new = IsOfNone line × (new ≡ old)

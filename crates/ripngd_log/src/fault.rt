@@ -1,42 +1,28 @@
-//! Refusals: why a log is not read.
+//! Why a log is not read.
 
-ghost use Rattle.std.specs.Prelude.{◌≡◌};
-ghost use Rattle.ripngd_log.specs.Reading.{log_fault_number, log_fault_name};
+ghost use Rattle.std.specs.Prelude.{◌≡◌, Some};
+ghost use Rattle.ripngd_log.specs.Reading.{log_fault_text};
 ghost use Rattle.ripngd_log.specs.declared.fault.LogFault.TheVariants as fault;
 
 use std::alloc::AllocError;
-use thiserror::Error;
+use std::fmt::{self, Display};
 
-/// Why a log is not read. Each refusal has a number, which never changes, and a name.
-#[derive(Clone, Copy, Debug, PartialEq, Eq, Error)]
+/// Why a log is not read. It is printed as its number, which never changes, and its name.
+#[derive(Clone, Copy, Debug, PartialEq, Eq)]
 pub enum LogFault {
-    /// 1: a line, by its number from 1, is not the line of a change.
-    #[error("line {line} is not the line of a change")]
+    /// A line, by its number from 1, is not the line of a change: the file is no log, or was edited.
     BadLine { line: usize },
-
-    /// 2: there was no memory for the changes or for the table.
-    #[error("out of memory")]
+    /// There was not enough memory for the changes or for the table.
     OutOfMemory,
 }
 
-impl LogFault {
-    /// The number of the refusal, 1 or 2.
-    pub fn number(self) -> u8
-        ensures { result ≡ log_fault_number self }
-    {
-        match self {
-            Self::BadLine { .. } => 1,
-            Self::OutOfMemory => 2,
-        }
-    }
+impl Display for LogFault {
+    ghost output = { λ f. Some (log_fault_text f) };
 
-    /// The name of the refusal, as the variant is spelled.
-    pub fn name(self) -> &'static str
-        ensures { result.now ≡ log_fault_name self }
-    {
-        match self {
-            Self::BadLine { .. } => "BadLine",
-            Self::OutOfMemory => "OutOfMemory",
+    fn fmt<W: fmt::Write>(&self, f: &mut fmt::Formatter<W>) -> fmt::Result {
+        match *self {
+            LogFault::BadLine { .. } => write!(f, "1 BadLine"),
+            LogFault::OutOfMemory => write!(f, "2 OutOfMemory"),
         }
     }
 }

@@ -1,6 +1,6 @@
-//! The log of a router, read: the forwarding table that its lines make.
+//! Reads the log of a router: the forwarding table that its lines make.
 //!
-//! What a log says, and where it says nothing, stands in `specs/Reading`.
+//! `specs/Reading` says which changes a log has, and which texts are none.
 #![tactic(auto)]
 
 mod cutting;

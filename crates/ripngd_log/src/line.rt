@@ -1,4 +1,4 @@
-//! One line of a log: the change that it can be of, and whether it is the line of a change.
+//! One line of a log. It is parsed loosely, and the result is printed and compared with the line.
 
 ghost use Rattle.std.specs.Prelude.{◌≡◌, ℕ, ◌<◌, ◌^◌, ◌↔◌, IsTrue, IfOk, IfSome, OnErr, Some};
 ghost use Rattle.prefix6.specs.Prefix.{Prefix6, IsPrefix};
@@ -16,7 +16,7 @@ use std::alloc::AllocError;
 use std::fmt::Write;
 use std::str;
 
-/// The hop that the text can be of.
+/// The hop that a text may be of.
 fn hop_in(text: &str) -> Option<Hop>
     ensures lawful { IfSome result IsWritableHop }
     ensures found { (hop : Hop) → IsWritableHop hop → text.now ≡ hop_text hop → result ≡ Some hop }
@@ -33,7 +33,7 @@ fn hop_in(text: &str) -> Option<Hop>
     })
 }
 
-/// The entry that the text can be of.
+/// The entry that a text may be of.
 fn install_in(text: &str) -> Option<RouteChange>
     ensures lawful { IfSome result IsWritableChange }
     ensures found { (p : Prefix6) (hop : Hop) (metric : ℕ) → IsPrefix p → IsWritableHop hop → metric < 2 ^ 8 → text.now ≡ route_text p hop metric → result ≡ Some (Install p hop metric) }
@@ -48,7 +48,7 @@ fn install_in(text: &str) -> Option<RouteChange>
     })
 }
 
-/// The change that the line can be of: it is read by the places of its words.
+/// The change that a line may be of. Only the positions of its words are looked at.
 fn change_in(line: &[u8]) -> Option<RouteChange>
     ensures lawful { IfSome result IsWritableChange }
     ensures found { (c : RouteChange) → IsWritableChange c → change_text c ≡ line.now → result ≡ Some c }
@@ -63,7 +63,7 @@ fn change_in(line: &[u8]) -> Option<RouteChange>
     }
 }
 
-/// Whether the line is that of the change. It is written into the memory of `written`.
+/// Whether a line is that of a change. `written` is a buffer for the text of the change.
 fn is_line_of(written: &mut String, line: &[u8], change: &RouteChange) -> Result<bool, AllocError>
     ensures { IfOk result (λ same. IsTrue same ↔ (change_text change.now ≡ line.now)) }
 {
@@ -74,8 +74,7 @@ fn is_line_of(written: &mut String, line: &[u8], change: &RouteChange) -> Result
     Ok(written.as_bytes() == line)
 }
 
-/// The change that the line is of, if it is one. What is read of a line is written again, into the memory of `written`,
-/// and counts only if that is the line.
+/// The change of a line, or `None`. What was parsed is printed again, into the buffer `written`, and counts only if it is the line.
 fn read_line(written: &mut String, line: &[u8]) -> Result<Option<RouteChange>, AllocError>
     ensures { IfOk result (λ read. IsRead line.now read) }
 {
@@ -89,10 +88,10 @@ fn read_line(written: &mut String, line: &[u8]) -> Result<Option<RouteChange>, A
     }
 }
 
-/// Adds the change that the line is of, and says whether it is one. `written` is memory to write in.
+/// Adds the change of a line, and returns whether the line has one. `written` is a buffer.
 ///
 /// # Errors
-/// Where memory is refused. Nothing is added then.
+/// Out of memory. Nothing is added then.
 pub(crate) fn push_line(
     changes: &mut Vec<RouteChange>,
     written: &mut String,

@@ -18,8 +18,8 @@ use Rattle.ripng_phases.specs.Phases as phases
 use Rattle.ripngd_engine.specs.Link.{Call, Datagram, Gave, Silent, RecvFailed, Handed}
 use Rattle.ripngd_engine.specs.Run as engine
 use Rattle.ripngd_engine.specs.Run.{Machine, Trace, Sends, MovedOrLost, Moved, ComesUp, arrival, counted, followed_by, one_call, handed, datagrams_of}
-use Rattle.ripngd_engine.specs.Watch.{LinkReport, Heard}
-use Rattle.ripngd_engine.specs.declared.watch.Arrived.{Arrived}
+use Rattle.ripngd_engine.specs.Observer.{LinkReport, Processed}
+use Rattle.ripngd_engine.specs.declared.observer.Arrived.{Arrived}
 use Rattle.ripngd_networks.specs.Daemons.{Act, Start, Listen, Tick, Reconfigure, Shutdown, LinkDown, Refuse, Deed, Does, Goes, HearsCall, in_force, reconfiguration_by}
 use Rattle.ripngd_networks.specs.Links.{handed_in, handed_by, IsCopyOf, IsOfAStranger}
 use Rattle.ripngd_networks.specs.OnTime.{IsNumbered}
@@ -64,7 +64,7 @@ pub record IsHeard (trace : Trace) (now : ℕ) (answer : Answer) : Type 0 where
   pub who : Arrived
   pub bytes : List ℕ
   pub rest : List LinkReport
-  pub told : trace.told ≡ Heard who bytes answer.fault answer.notes ∷ rest
+  pub told : trace.told ≡ Processed who bytes answer.fault answer.notes ∷ rest
 
 -- it ticked at that moment, and noted nothing
 pub record IsTicked (trace : Trace) (now : ℕ) (answer : Answer) : Type 0 where

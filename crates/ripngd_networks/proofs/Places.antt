@@ -19,8 +19,8 @@ use Rattle.ripng_phases.specs.Phases.{Step, Takes, reached}
 use Rattle.ripng_phases.proofs.Along.{contains_from}
 use Rattle.ripngd_engine.specs.Link.{Datagram, Gave}
 use Rattle.ripngd_engine.specs.Run.{Machine}
-use Rattle.ripngd_engine.specs.Watch.{LinkReport, Heard}
-use Rattle.ripngd_engine.specs.declared.watch.Arrived.{Arrived}
+use Rattle.ripngd_engine.specs.Observer.{LinkReport, Processed}
+use Rattle.ripngd_engine.specs.declared.observer.Arrived.{Arrived}
 use Rattle.ripngd_networks.specs.Daemons.{Listen, Tick, Happened, Lives, own_deeds}
 use Rattle.ripngd_networks.specs.Links.{LiveOn, handed_by, all_handed}
 use Rattle.ripngd_networks.specs.OnTime.{Dated, GoOn, HappenFrom, IsPlain, undated}
@@ -91,7 +91,7 @@ timed_split ps xs p ys parts s is =
 
 -- nothing new is noted
 abbrev pub IsRoomy : Paired → Type 0
-IsRoomy p = (x : Arrived) (bytes : List ℕ) (why : Option Fault) (notes : List Note) → Contains p.dated.happened.deed.trace.told (Heard x bytes why notes) → All (λ n. n.kind ≢ NoMemory) notes
+IsRoomy p = (x : Arrived) (bytes : List ℕ) (why : Option Fault) (notes : List Note) → Contains p.dated.happened.deed.trace.told (Processed x bytes why notes) → All (λ n. n.kind ≢ NoMemory) notes
 
 takes_all : (net : Network) (first : List Sent) (ends : ℕ → Option Machine) (ps : List Paired) (daemons : ℕ → Option Machine) (handed_over : List Sent) (done : List (ℕ × Change)) (w : World)
     → ArePairs net first ends daemons handed_over done w ps → AllByRecursion (λ p. IsPlain p.dated.happened.deed.act × IsRoomy p) ps
@@ -114,7 +114,7 @@ takes_all net first ends (p ∷ ps) daemons handed_over done w are good =
         notes : (s.answer.notes ≡ []) ⊎ ((now : ℕ) × IsHeard p.dated.happened.deed.trace now s.answer) → All (λ n. n.kind ≢ NoMemory) s.answer.notes
         notes (inl none) = subst (All (λ n. n.kind ≢ NoMemory)) (sym none) (All-nil (λ n. n.kind ≢ NoMemory))
         notes (inr heard) =
-            let it : LinkReport = Heard heard.1.who heard.1.bytes s.answer.fault s.answer.notes in
+            let it : LinkReport = Processed heard.1.who heard.1.bytes s.answer.fault s.answer.notes in
             good.0.1 heard.1.who heard.1.bytes s.answer.fault s.answer.notes
             (contains_from p.dated.happened.deed.trace.told it (subst (λ (xs : List LinkReport). At xs it) (sym heard.1.told) (0, refl)))
 

@@ -37,7 +37,7 @@ abbrev pub HearsCall : Call → Machine → Trace → Machine → Type 0
 HearsCall RecvFailed m t n = (t ≡ one_call RecvFailed) × (n ≡ m)
 HearsCall call m t n = (taken : Trace) × TakesIn call m taken n × (t ≡ followed_by (one_call call) taken)
 
--- a daemon that runs does so. One that wanted memory for its forwarding table has ended
+-- a daemon that runs does so. One that ran out of memory for its forwarding table has ended
 abbrev pub Goes : Act → Machine → Trace → Machine → Type 0
 Goes Start m t n = ⊥
 Goes (Listen call) m t n = (m.ended ≡ false) × HearsCall call m t n

@@ -1,4 +1,4 @@
--- What a neighbor hears of the last update of a router that shuts down, and which routes have ended then.
+-- What a neighbor receives of the last update of a router that shuts down, and which routes have ended then.
 use Rattle.std.specs.Prelude.{◌≡◌, ℕ, ◌<◌, ◌≤◌, ◌==◌, ◌&&◌, if◌then◌else◌, List, [], ◌∷◌, ◌++◌, map, filter, length, All, Contains, Some, slice_get}
 use Rattle.std.specs.FinMap as map_of
 use Rattle.prefix6.specs.Prefix.{Prefix6}
@@ -22,12 +22,12 @@ HasNoneBy iface from table p =
 abbrev pub AreRoutes : Table → Type 0
 AreRoutes table = (p : Prefix6) (r : RouteValue) → map_of.get table p ≡ Some r → IsRoute r
 
--- what is heard on the interface from that address: the bytes of a Response that is not refused
+-- what is received on the interface from that address: the bytes of a Response that is not refused
 abbrev pub heard_from : (iface from : ℕ) → State → Happening → List (List ℕ)
 heard_from iface from s (Arrives x) = if x.iface == iface && x.source == from && is_heard s x then x.bytes ∷ [] else []
 heard_from iface from s _ = []
 
--- the happenings lead the router from one state to another, and this is all that it hears so on the way, in order
+-- the happenings lead the router from one state to another, and this is all that it receives so on the way, in order
 abbrev pub HearsFrom : (iface from : ℕ) → State → List Happening → List (List ℕ) → State → Type 0
 HearsFrom iface from s [] heard s' = (heard ≡ []) × (s' ≡ s)
 HearsFrom iface from s (h ∷ happenings) heard s' =
@@ -38,7 +38,7 @@ HearsFrom iface from s (h ∷ happenings) heard s' =
 abbrev pub sent_on : ℕ → List Outgoing → List (List ℕ)
 sent_on iface sends = map (λ o. o.bytes) (filter (λ o. o.iface == iface) sends)
 
--- all that was sent is heard, in whatever order and however often, and nothing else is
+-- all that was sent is received, in any order and any number of times, and nothing else is
 pub record IsHeardWhole (sent heard : List (List ℕ)) : Type 0 where
   pub all : All (Contains heard) sent
   pub only : All (Contains sent) heard

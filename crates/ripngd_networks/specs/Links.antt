@@ -38,7 +38,7 @@ pub record IsOfTheLink (net : Network) (handed : List Sent) (router : ℕ) (d : 
   pub before : Contains handed sent
   pub copy : IsCopyOf net sent router d
 
--- or it is a stranger's: no Response, or one that the router refuses (RFC 2080, 2.4.2), at an interface that it has
+-- or it is an outside host's: no Response, or one that the router refuses (RFC 2080, 2.4.2), at an interface that it has
 pub record IsOfAStranger (config : Config) (d : Datagram) : Type 0 where
   pub known : d.iface < length config.interfaces
   pub unheard : (now : ℕ) → IsFalse (is_response d.bytes && is_none (fault config (arrival now d)))
@@ -74,7 +74,7 @@ all_handed order = flat_map handed_by order
 abbrev pub past_of_daemons : Network → List Happened → Past
 past_of_daemons net order = record { net = net; reconfigurations = reconfigurations_by order }
 
--- a run of the network from a cold start, in which just these changes were done, that sends all that was handed over and leaves
+-- a run of the network from a cold start, in which exactly these changes were done, that sends all that was handed over and leaves
 -- each router as its daemon is
 pub record IsRunOf (net : Network) (order : List Happened) (daemons : ℕ → Option Machine) : Type 0 where
   pub moments : List ℕ

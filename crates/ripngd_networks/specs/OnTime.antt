@@ -1,12 +1,12 @@
 -- Networks of daemons by one true clock, in milliseconds, which no daemon sees: what is known of links and daemons that heal.
 --
--- The law is `daemons_heal`. Whatever daemons did before, let for 28 minutes none be started anew, none be reconfigured and none want
--- memory; let each tick every half second, by a clock that is a constant behind the true one, but for less than half a second; and let
--- links keep order, lose no regular update, and take less than 13 seconds. Then each forwarding table has just the least costs of now.
+-- The law is `daemons_heal`. Whatever daemons did before: for 28 minutes none is started anew, none is reconfigured and none runs out of
+-- memory. Each ticks every half second, by a clock that is a constant behind the true one, within less than half a second. Links keep
+-- order, lose no regular update, and take less than 13 seconds. Then each forwarding table has exactly the least costs of now.
 --
 -- Each 59 seconds are then a phase. By its own clock a daemon's next regular update is due 45 seconds after any moment, at the latest;
 -- half a second more is its clock's, another half until it ticks, and 13 seconds are the links'. And 118 seconds of the true clock are
--- less than the 120 for which a lost route is told, by any daemon's own.
+-- less than the 120 for which a lost route is advertised, by any daemon's own.
 use Rattle.std.specs.Prelude.{◌≡◌, ◌≢◌, ℕ, ◌+◌, ◌-◌, ◌^◌, ◌<◌, ◌≤◌, max, ◌⊎◌, ⊤, List, [], ◌∷◌, ◌++◌, map, length, All, Contains, Option, Some, None, slice_get}
 use Rattle.std.specs.FinMap as map_of
 use Rattle.std.specs.List.{AllByRecursion}
@@ -22,8 +22,8 @@ use Rattle.ripng_world.specs.Walks.{IsLeast}
 use Rattle.ripng_world.specs.declared.sent.Sent.{Sent}
 use Rattle.ripngd_engine.specs.Link.{Datagram, Gave}
 use Rattle.ripngd_engine.specs.Run.{Machine}
-use Rattle.ripngd_engine.specs.Watch.{Heard}
-use Rattle.ripngd_engine.specs.declared.watch.Arrived.{Arrived}
+use Rattle.ripngd_engine.specs.Observer.{Processed}
+use Rattle.ripngd_engine.specs.declared.observer.Arrived.{Arrived}
 use Rattle.ripngd_networks.specs.Daemons.{Act, Start, Listen, Tick, Reconfigure, Shutdown, LinkDown, Happened, Lives, own_deeds}
 use Rattle.ripngd_networks.specs.Links.{IsCopyOf, IsOfAStranger, LiveOn, handed_by, all_handed}
 
@@ -44,7 +44,7 @@ abbrev pub HappenFrom : ℕ → List Dated → Type 0
 HappenFrom start [] = ⊤
 HappenFrom start (t ∷ history) = (start ≤ t.at) × HappenFrom t.at history
 
--- a link gave a copy of the datagram of that number, which was handed over before; with no number, a stranger's
+-- a link gave a copy of the datagram of that number, which was handed over before; with no number, an outside host's
 abbrev pub IsNumbered : Network → List Sent → ℕ → Config → Act → Option ℕ → Type 0
 IsNumbered net handed router config (Listen (Gave d)) (Some number) = (sent : Sent) × (slice_get handed number ≡ Some sent) × IsCopyOf net sent router d
 IsNumbered net handed router config (Listen (Gave d)) None = IsOfAStranger config d
@@ -76,7 +76,7 @@ pub record IsTickIn (history : List Dated) (router from until : ℕ) : Type 0 wh
   pub not_before : from ≤ tick.at
   pub in_time : tick.at < until
 
--- a daemon's own clock is a constant behind the true one, but for less than half a second; and it has not gone back
+-- a daemon's own clock is a constant behind the true one, within less than half a second; and it has not gone back
 pub record KeepsTime (history : List Dated) (start router : ℕ) (daemon : Option Machine) : Type 0 where
   pub behind : ℕ
   pub moments : (t : Dated) (now : ℕ) → Contains history t → t.happened.router ≡ router → Contains t.happened.deed.trace.moments now
@@ -98,9 +98,9 @@ pub record GoOn (net : Network) (before : List Happened) (daemons : ℕ → Opti
   pub clocks : (router : ℕ) → KeepsTime history start router (daemons router)
   -- none loses a step for memory: it counts no more such steps, and could
   pub lossless : (router : ℕ) (m n : Machine) → router < length net → daemons router ≡ Some m → daemons' router ≡ Some n → (n.lost_memory ≡ m.lost_memory) × (m.lost_memory < 2 ^ 64 - 1)
-  -- and no new route wants for memory
+  -- and memory suffices for every new route
   pub roomy : (t : Dated) (x : Arrived) (bytes : List ℕ) (why : Option Fault) (notes : List Note) → Contains history t
-      → Contains t.happened.deed.trace.told (Heard x bytes why notes)
+      → Contains t.happened.deed.trace.told (Processed x bytes why notes)
       → All (λ n. n.kind ≢ NoMemory) notes
 
 -- ---- links that are on time
@@ -145,7 +145,7 @@ pub record AreOnTime (net : Network) (before : List Happened) (daemons : ℕ →
 
 -- ---- what is left
 
--- the entries have just the least costs, and there is one wherever the least cost is below infinity
+-- the entries have exactly the least costs, and there is one wherever the least cost is below infinity
 pub record ForwardsLeast (net : Network) (router : ℕ) (fib : Forwarding) : Type 0 where
   pub least : (p : Prefix6) (f : Forward) → map_of.get fib p ≡ Some f → (f.metric < infinity) × IsLeast net router p f.metric
   pub found : (p : Prefix6) (metric : ℕ) → IsLeast net router p metric → metric < infinity → (f : Forward) × (map_of.get fib p ≡ Some f) × (f.metric ≡ metric)

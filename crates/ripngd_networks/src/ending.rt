@@ -1,4 +1,4 @@
-//! Laws of how routes end: those by a router that shuts down, at a neighbor, and those by a link that goes down.
+//! Laws of how routes end: a neighbor's routes by a router that shuts down, and a router's routes by a link that goes down.
 
 ghost use Rattle.std.specs.Prelude.{◌≡◌, ◌≢◌, ◌↔◌, ℕ, ◌<◌, ◌≤◌, List, [], ◌∷◌, length, Some, slice_get, true, false, IsTrue};
 ghost use Rattle.std.specs.FinMap as map_of;
@@ -17,10 +17,10 @@ ghost use Rattle.ripngd_networks.specs.LastUpdate.{AreRoutes, HasNoneBy, HearsFr
 
 use ripng_world::shutdown_tells_losses;
 
-/// A router that is not quiet shuts down, and a neighbor hears the whole of its last update on their link, in whatever order and
-/// however often, and nothing else that it sent there. Then the neighbor has no reachable route by that router to any prefix of that
-/// router's table, whatever else happens to the neighbor meanwhile. So it is of one router that hears a gateway (`heard`), and of
-/// two routers of a network that runs (`delivered`).
+/// A router that is not passive shuts down. A neighbor receives its whole last update on their link, in any order and any number of
+/// times, and nothing else that it sent there. Then the neighbor has no reachable route by that router to any prefix of that
+/// router's table, whatever else happens to the neighbor meanwhile. `heard` says so of one router and its gateway, `delivered` of two
+/// routers of a network that runs.
 pub fn shutdown_ends_routes()
     ensures heard { (a a' b b' : State) (now iface on from : ℕ) (answer : Answer) (happenings : List Happening) (heard : List (List ℕ))
         → a.config.quiet ≡ false → iface < length a.config.interfaces → 1280 ≤ mtu_at a.config iface → Moves a (ShutsDown now) answer a'
@@ -35,8 +35,8 @@ pub fn shutdown_ends_routes()
     shutdown_tells_losses()
 }
 
-/// When the link of an interface goes down, the router has no reachable route by that interface left, of whatever gateway, and
-/// forwards nothing there. Its own routes, and those that it learned on other interfaces, are as they were.
+/// When the link of an interface goes down, the router has no reachable route by that interface left, whatever the gateway, and
+/// forwards nothing there. Its own routes, and those that it learned on other interfaces, are unchanged.
 pub fn link_down_ends_routes()
     ensures none_left { (old new : State) (now iface : ℕ) (answer : Answer) → Moves old (LinkGoesDown now iface) answer new
         → (p : Prefix6) (from : ℕ) → HasNoneBy iface from new.table p }

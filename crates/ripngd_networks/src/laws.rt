@@ -1,4 +1,4 @@
-//! Laws of networks of daemons, each the contract of a function with nothing to do: what follows from the definitions alone.
+//! Laws of networks of daemons. Each is the contract of an empty function: it follows from the definitions alone.
 
 ghost use Rattle.std.specs.Prelude.{◌≡◌, ℕ, ◌+◌, ◌*◌, ◌<◌, ◌≤◌, List, [], ◌∷◌, ◌++◌, length, Contains, Option, Some, Result, false};
 ghost use Rattle.std.specs.FinMap as map_of;
@@ -28,9 +28,9 @@ ghost use Rattle.ripngd_networks.specs.OnTime.{AreOnTime, Dated, ForwardsLeast, 
 ghost use Rattle.ripngd_networks.specs.Delivering.{AllGoOn, forwardings_by};
 ghost use Rattle.ripng_world.specs.Packets.{PacketsArriveBy};
 
-/// What the contracts of an engine say is a daemon's life: its start, whatever was before, its turns, those before a link
-/// that failed or a want of memory among them, changes of its configuration, its shutdowns, and links of it that go down, those that
-/// are refused among them. The outside gained just what the deeds of that life did.
+/// What the contracts of an engine say is a daemon's life: its start, whatever was before; its turns, also those that end early
+/// because a link failed or memory ran out; changes of its configuration, shutdowns and links that go down, also those that are
+/// refused. The outside gained exactly what the deeds of that life did.
 pub fn engines_live()
     ensures start { (config : Config) (stream : Stream) (a : Outside) (b : Seen) (before : Option Machine) → Started (in_force config before) stream a b
         → (deed : Deed) × (deed.act ≡ Start) × Lives config before (deed ∷ []) (Some b.machine) × Shows a deed.trace b.outside }
@@ -46,15 +46,16 @@ pub fn engines_live()
         → Lives config a deeds b → Lives config b later c → Lives config a (deeds ++ later) c }
 {}
 
-/// A network of daemons runs as a network of the model does: what its daemons did is a run of events from a cold start, at
-/// whose end each router is as its daemon is.
+/// A network of daemons runs as a network of the model does: what its daemons did is a run of events from a cold start. At its end
+/// each router is as its daemon is.
 pub fn daemons_run_as_networks()
     ensures { (net : Network) (order : List Happened) (daemons : ℕ → Option Machine) → HaveRun net order daemons → IsRunOf net order daemons }
 {}
 
-/// So daemons invent no distance: each route of each daemon below 16 is backed by a walk at costs in force since the first starts, and
-/// none is below the least such cost; with no change done, the walk is one of the network as it is configured. The forwarding table of a
-/// daemon that has not ended is that of its routes; and each entry that a daemon ever told is true. Addresses of interfaces may be any.
+/// So daemons invent no distance: each route of each daemon below 16 is backed by a walk at costs in force since the first starts,
+/// and none is below the least such cost. With no change done, the walk is one of the network as it is configured. The forwarding
+/// table of a daemon that has not ended is that of its routes, and each entry that a daemon ever advertised is true. Interfaces may
+/// have any addresses.
 pub fn daemons_invent_no_distance()
     ensures backed { (net : Network) (order : List Happened) (daemons : ℕ → Option Machine) → OwnsPrefixes net → HaveRun net order daemons
         → (router : ℕ) (m : Machine) (p : Prefix6) (r : RouteValue) → router < length net → daemons router ≡ Some m
@@ -78,10 +79,10 @@ pub fn daemons_invent_no_distance()
         → (d : Sent) → Contains (all_handed order) d → IsSoundDatagramSince (past_of_daemons net order) d.router d.bytes }
 {}
 
-/// Networks of daemons heal by themselves. Whatever was before, let daemons go on for 28 minutes of a true clock that none of
-/// them sees, with no start, no shutdown, no link that goes down and no reconfiguration, a tick in each half second and no want of
-/// memory, and let links keep order, lose no regular update, and take less than 13 seconds. Then each daemon holds, and forwards by,
-/// just the least costs of now; and so it is at each moment from then on, while they go on so.
+/// Networks of daemons heal by themselves. Whatever was before, let daemons run for 28 minutes of a true clock that none of them
+/// sees. No daemon starts, shuts down or is reconfigured, no link goes down, each daemon ticks every half second, and memory
+/// suffices. Links keep order, lose no regular update, and take less than 13 seconds. Then each daemon holds, and forwards by,
+/// exactly the least costs of now, at each moment from then on while these conditions last.
 pub fn daemons_heal()
     ensures healed { (net : Network) (before : List Happened) (daemons daemons' : ℕ → Option Machine) (history : List Dated) (start stop : ℕ)
         → IsNetwork net → IsNeverQuiet net → HaveRun net before daemons → FitsTablesSince (past_of_daemons net before)
@@ -106,7 +107,7 @@ pub fn daemons_heal()
 {}
 
 /// Then packets arrive, by the daemons' own forwarding tables, while none of the daemons has ended: from each of them, for every
-/// address that its table matches. So it is 28 minutes after the last change, and at each moment from then on.
+/// address that its table matches. This holds 28 minutes after the last change, and at each moment from then on.
 pub fn daemons_deliver()
     ensures deliver { (net : Network) (before : List Happened) (daemons daemons' : ℕ → Option Machine) (history : List Dated) (start stop : ℕ)
         → IsNetwork net → IsNeverQuiet net → HaveRun net before daemons → FitsTablesSince (past_of_daemons net before)

@@ -1,9 +1,9 @@
 //! Networks of daemons: what holds of every network whose routers are engines over links, whatever the links lose, repeat or
 //! reorder.
 //!
-//! The definitions stand in `specs/Daemons` (what one daemon does), `specs/Links` (what is known of links), `specs/OnTime`
-//! (what is known of links and daemons that heal), `specs/Delivering` (where packets go) and `specs/LastUpdate` (what a neighbor
-//! hears of a router that shuts down); the laws are the contracts of functions with nothing to do.
+//! The definitions stand in `specs/Daemons` (what one daemon does), `specs/Links` (what is known of links), `specs/OnTime` (what is
+//! known of links and daemons that heal), `specs/Delivering` (where packets go) and `specs/LastUpdate` (what a neighbor receives from
+//! a router that shuts down). The laws are the contracts of empty functions.
 #![tactic(auto)]
 
 mod ending;

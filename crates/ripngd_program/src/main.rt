@@ -1,4 +1,4 @@
-//! The program `ripngd`: its arguments and standard streams, handed to the library of that name.
+//! The program `ripngd`: hands its arguments and standard streams to the library of that name.
 #![tactic(auto)]
 
 use std::env;
@@ -8,10 +8,10 @@ use std::net::Net;
 use std::process::ExitCode;
 use std::rt::{Clock, Env, Files};
 
-/// Does what the arguments ask for, and answers the exit status.
+/// Runs the program, and returns the exit status.
 ///
 /// # Errors
-/// `OutOfMemory`, or `InvalidData` where an argument is not UTF-8.
+/// `OutOfMemory`, or `InvalidData` if an argument is not UTF-8.
 fn run<R: AllocGlobal + Env + Files<File = File> + Print + Clock + Net, O: Write + Drop, E: Write>(
     rt: &R,
     out: O,

@@ -4,7 +4,7 @@ use Rattle.std.specs.List.{enumerate_from, flat_map}
 use Rattle.hex.specs.Hex.{decode_of}
 use Rattle.prefix6.specs.Written.{written_addr}
 use Rattle.ripng_wire.specs.Layout.{Spells, is_next_hop}
-use Rattle.ripng_wire.specs.Wire.{wire_error_name, wire_error_number, wire_fault}
+use Rattle.ripng_wire.specs.Wire.{wire_error_text, wire_fault}
 use Rattle.ripng_wire.specs.declared.rte.Command.{Command}
 use Rattle.ripng_wire.specs.declared.rte.Command.TheVariants.{Request, Response}
 use Rattle.ripng_wire.specs.declared.rte.Rte.{Rte}
@@ -41,10 +41,9 @@ abbrev pub listing : Command → List Rte → List ℕ
 listing command entries = head_line command (length entries)
     ++ flat_map (λ p. entry_line p.0 p.1) (enumerate_from 0 entries)
 
--- `refused NR NAME`
+-- the line for bytes that are refused: `refused NUMBER NAME`
 abbrev pub refusal_line : WireError → List ℕ
-refusal_line e =
-    codes "refused " ++ (decimal (wire_error_number e) ++ (codes " " ++ (wire_error_name e ++ newline)))
+refusal_line e = codes "refused " ++ (wire_error_text e ++ newline)
 
 -- the text for some bytes, and whether they are a datagram
 abbrev pub IsBytesText : List ℕ → Bool → List ℕ → Type 0

@@ -11,11 +11,11 @@ use ripng_wire::{Command, Datagram, Rte, WireError};
 use std::alloc::Global;
 use std::io::{self, Write};
 
-/// Writes the lines of the datagram that a text of hexadecimal digits stands for, and answers whether it is one.
-/// Bytes that are no datagram give the line `refused NR NAME`, digits that stand for no bytes `refused bad hex`.
+/// Writes the lines of the datagram that a text of hexadecimal digits stands for. The result says whether it is a datagram.
+/// Malformed bytes give the line `refused NUMBER NAME`, and a text that is not hexadecimal `refused bad hex`.
 ///
 /// # Errors
-/// `OutOfMemory` before anything is written; `Write` where `out` failed.
+/// `OutOfMemory` before anything is written, and `Write` if `out` failed.
 pub fn show<W: Write>(alloc: Global, hex: &str, out: &mut W) -> Result<bool, PrintFault>
     ensures shown { IfOk result (λ accepted. (text : List ℕ) × IsShown hex.now accepted text
         × Appends (W.contents out.old) (W.contents out.new) text) }
@@ -32,7 +32,7 @@ pub fn show<W: Write>(alloc: Global, hex: &str, out: &mut W) -> Result<bool, Pri
     }
 }
 
-/// Writes what the bytes say, and answers whether they are a datagram.
+/// Writes the lines for some bytes. The result says whether they are a datagram.
 fn show_bytes<W: Write>(bytes: &[u8], out: &mut W) -> io::Result<bool>
     ensures { IfOk result (λ accepted. (text : List ℕ) × IsBytesText bytes.now accepted text
         × Appends (W.contents out.old) (W.contents out.new) text) }
@@ -52,7 +52,7 @@ fn show_bytes<W: Write>(bytes: &[u8], out: &mut W) -> io::Result<bool>
 fn write_refusal<W: Write>(out: &mut W, error: WireError) -> io::Result<()>
     ensures { OnOk result (Appends (W.contents out.old) (W.contents out.new) (refusal_line error)) }
 {
-    writeln!(out, "refused {} {}", error.number(), error.name())
+    writeln!(out, "refused {error}")
 }
 
 /// Writes the head line, and then a line for each entry, numbered from 0.

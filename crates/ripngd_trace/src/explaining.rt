@@ -35,7 +35,7 @@ struct Explainer<'a, W: Write> {
     tracer: Tracer<'a, W>,
 }
 
-impl<'a, W: Write> ripng_world::Watch<Routes> for Explainer<'a, W> {
+impl<'a, W: Write> ripng_world::Observer<Routes> for Explainer<'a, W> {
     type Fault = io::Error;
 
     ghost takes = { λ _ _ _. ⊤ };

@@ -288,7 +288,7 @@ impl<'a, W: Write> Tracer<'a, W> {
     }
 }
 
-impl<'a, W: Write> ripng_world::Watch<Routes> for Tracer<'a, W> {
+impl<'a, W: Write> ripng_world::Observer<Routes> for Tracer<'a, W> {
     type Fault = io::Error;
 
     ghost takes = { λ old what new. SaysEvent (record { line = old.line; known = old.known.items; timers = old.timers.items; written = W.contents old.out.now }) what (record { line = new.line; known = new.known.items; timers = new.timers.items; written = W.contents new.out.now })

@@ -1,6 +1,6 @@
 -- How a link's counts go on.
 use Rattle.std.specs.Prelude.{◌≡◌, ◌≤◌}
-use Rattle.ripngd_udp.specs.declared.counts.Counts.{Counts}
+use Rattle.ripngd_udp.specs.declared.endpoint.Counts.{Counts}
 
 -- no count is less than before
 abbrev pub Grows : Counts → Counts → Type 0

@@ -1,7 +1,5 @@
 pub mod Peers
 pub mod Udp
-pub mod Queue
-pub mod Inbox
+pub mod SendQueue
+pub mod ReceiveQueue
 pub mod Counting
-pub mod Told
-pub mod Transcript

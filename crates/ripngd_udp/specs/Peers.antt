@@ -1,14 +1,14 @@
--- Who is on the link of an interface, how that changes while the router runs, and why it does not.
+-- The peers on the link of an interface, how they change while the router runs, and why a change is refused.
 use Rattle.std.specs.Prelude.{◌≡◌, ◌==◌, not, nat_le, ℕ, Bool, true, List, [], ◌∷◌, ◌++◌, false, length, Option, None, Some, codes, slice_get, slice_set}
 use Rattle.std.specs.List.{filter, list_any}
 use Rattle.ripng_wire.specs.Wire.{first_reason}
-use Rattle.ripngd_engine.specs.Peers.{has_same}
+use Rattle.ripngd_engine.specs.Peers.{has_clash}
 use Rattle.ripngd_engine.specs.declared.peer.Peer.{Peer}
 use Rattle.ripngd_engine.specs.declared.peer.Place.{Place}
 use Rattle.ripngd_udp.specs.declared.peer_refused.PeerRefused.{PeerRefused}
 use Rattle.ripngd_udp.specs.declared.peer_refused.PeerRefused.TheVariants.{NoSuchInterface, BadPort, PortTwice, OwnAddress, PeerTwice, PeersFull, NoSuchPeer, OutOfMemory}
 
--- an interface as its link sees it: where it stands, and its peers
+-- an interface on its link: its addresses, and its peers
 pub record OnLink : Type 0 where
   pub place : Place
   pub peers : List Peer
@@ -32,16 +32,16 @@ abbrev pub is_port : Option ℕ → ℕ → Bool
 is_port None port = false
 is_port (Some p) port = p == port
 
--- so it is on one of these
+-- it is the group port of one of these
 abbrev pub is_group_port : List OnLink → ℕ → Bool
 is_group_port links port = list_any (λ i. is_port i.place.group_port port) links
 
--- ---- which changes are refused: each reason stands with whether it applies
+-- ---- which changes are refused: each reason, with whether it applies
 
 -- why an interface does not get the peer, in order
 abbrev pub peer_reasons : OnLink → Peer → List (Bool × PeerRefused)
 peer_reasons i peer =
-    (i.place.addr == peer.addr, OwnAddress) ∷ (has_same i.peers peer, PeerTwice) ∷ (nat_le 256 (length i.peers), PeersFull) ∷ []
+    (i.place.addr == peer.addr, OwnAddress) ∷ (has_clash i.peers peer, PeerTwice) ∷ (nat_le 256 (length i.peers), PeersFull) ∷ []
 
 -- why the interface of a number does not get it, if there is that interface
 abbrev pub adding_reasons_at : List OnLink → Option OnLink → Peer → List (Bool × PeerRefused)
@@ -69,11 +69,11 @@ RefusesFor fault why = fault ≡ Some why
 
 -- ---- what a change does
 
--- a peer more, behind the others
+-- one more peer, after the others
 abbrev pub with_peer : OnLink → Peer → OnLink
 with_peer i peer = record i { peers = i.peers ++ peer ∷ [] }
 
--- the peers but that of an address
+-- the peers without that of an address
 abbrev pub without_peer : OnLink → ℕ → OnLink
 without_peer i addr = record i { peers = filter (λ p. not (p.addr == addr)) i.peers }
 
@@ -83,26 +83,13 @@ pub record ChangesLink (change : OnLink → OnLink) (iface : ℕ) (before after 
   pub was : slice_get before iface ≡ Some link
   pub is : after ≡ slice_set before iface (change link)
 
--- ---- what a refusal is called
-
--- the number of a refusal
-abbrev pub peer_refused_number : PeerRefused → ℕ
-peer_refused_number NoSuchInterface = 51
-peer_refused_number BadPort = 61
-peer_refused_number PortTwice = 62
-peer_refused_number OwnAddress = 63
-peer_refused_number PeerTwice = 64
-peer_refused_number PeersFull = 65
-peer_refused_number NoSuchPeer = 66
-peer_refused_number OutOfMemory = 67
-
--- as the variant is spelled
-abbrev pub peer_refused_name : PeerRefused → List ℕ
-peer_refused_name NoSuchInterface = codes "NoSuchInterface"
-peer_refused_name BadPort = codes "BadPort"
-peer_refused_name PortTwice = codes "PortTwice"
-peer_refused_name OwnAddress = codes "OwnAddress"
-peer_refused_name PeerTwice = codes "PeerTwice"
-peer_refused_name PeersFull = codes "PeersFull"
-peer_refused_name NoSuchPeer = codes "NoSuchPeer"
-peer_refused_name OutOfMemory = codes "OutOfMemory"
+-- a refusal as it is printed: its number and its name
+abbrev pub peer_refused_text : PeerRefused → List ℕ
+peer_refused_text NoSuchInterface = codes "51 NoSuchInterface"
+peer_refused_text BadPort = codes "61 BadPort"
+peer_refused_text PortTwice = codes "62 PortTwice"
+peer_refused_text OwnAddress = codes "63 OwnAddress"
+peer_refused_text PeerTwice = codes "64 PeerTwice"
+peer_refused_text PeersFull = codes "65 PeersFull"
+peer_refused_text NoSuchPeer = codes "66 NoSuchPeer"
+peer_refused_text OutOfMemory = codes "67 OutOfMemory"

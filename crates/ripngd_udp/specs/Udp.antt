@@ -1,5 +1,5 @@
 -- A link of sockets: why it could not be bound, and as what a datagram of a peer arrives.
-use Rattle.std.specs.Prelude.{ℕ, List, [], length, map, Contains, ⊤}
+use Rattle.std.specs.Prelude.{ℕ, List, [], Option, length, map, Contains, ⊤}
 use Rattle.ripngd_engine.specs.declared.peer.Peer.{Peer}
 use Rattle.ripngd_engine.specs.declared.peer.Place.{Place}
 use Rattle.ripngd_engine.specs.Link.{Call}
@@ -18,6 +18,12 @@ pub record LinkState : Type 0 where
   pub strangers : ℕ
   pub calls : List Call
 
+-- what contracts see of the ports of a run: the peers on the links that were bound last, and the calls of the link that was closed
+-- since
+pub record PortsState : Type 0 where
+  pub on_links : Option (List OnLink)
+  pub calls : Option (List Call)
+
 -- a link with these interfaces that has lost nothing, and that no router has called
 abbrev pub new_link : List Place → List (List Peer) → LinkState
 new_link places lists =
@@ -35,12 +41,7 @@ abbrev pub NamesPortOf : List Place → UdpError → Type 0
 NamesPortOf places (Bind port cause) = Contains (map (λ p. p.local_port) places) port
 NamesPortOf places OutOfMemory = ⊤
 
--- the numbers of these faults
-abbrev pub link_number : UdpError → ℕ
-link_number (Bind port cause) = 1
-link_number OutOfMemory = 2
-
--- a datagram of so many bytes, as one of the peer
+-- a datagram of `len` bytes, as one of the peer
 abbrev pub as_of : Peer → ℕ → ℕ → Received
 as_of peer iface len =
     record {

@@ -4,24 +4,20 @@ ghost use Rattle.std.specs.Prelude.{◌≡◌, ◌↔◌};
 ghost use Rattle.std.specs.IoError.{error_kind};
 
 use std::io::{self, ErrorKind};
-use thiserror::Error;
 
 /// Why a port could not be bound.
-#[derive(Clone, Copy, Debug, PartialEq, Eq, Error)]
+#[derive(Clone, Copy, Debug, PartialEq, Eq)]
 pub enum BindCause {
-    /// The program has no right to it, as to ports below 1024 without privilege.
-    #[error("not permitted")]
+    /// Not permitted, as a port below 1024 is without privilege.
     NotPermitted,
-    /// Another socket stands at it.
-    #[error("in use")]
+    /// Another socket is bound to it, often that of another router with the same configuration.
     InUse,
-    /// The system gave any other reason.
-    #[error("failed")]
+    /// Any other reason.
     Other,
 }
 
 impl BindCause {
-    /// What an error of the system says.
+    /// The cause that an error of the system names.
     pub(crate) fn of(error: &io::Error) -> BindCause
         ensures permission { (result ≡ BindCause.NotPermitted) ↔ (error_kind error.now ≡ ErrorKind.PermissionDenied) }
         ensures in_use { (result ≡ BindCause.InUse) ↔ (error_kind error.now ≡ ErrorKind.AddrInUse) }

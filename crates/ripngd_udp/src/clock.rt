@@ -1,4 +1,4 @@
-//! The time that has passed since a clock was made, as the system's clock tells it.
+//! The time since a clock was made, by the system's clock.
 
 ghost use Rattle.std.specs.Prelude.{◌≡◌, ◌/◌, ◌^◌, min};
 ghost use Rattle.std.specs.Duration.{as_nanos};
@@ -8,11 +8,11 @@ use route_table::Moment;
 use std::rt::Clock;
 use std::time::{Duration, Instant};
 
-/// The last moment, in milliseconds.
+/// The last moment that a router knows, in milliseconds.
 const LAST_MS: u128 = 1 << 60;
 
-/// A clock that tells how long ago it was made, up to the last moment there is. Where the system's clock cannot be read it
-/// tells its last answer again, and the first moment where it has none.
+/// A clock that counts from 0 when it is made, up to the last moment. Where the system's clock cannot be read, it repeats its last
+/// answer, or 0 if it has none.
 #[derive(Drop)]
 pub struct Uptime<'a, R: Clock> {
     rt: &'a R,
@@ -21,7 +21,7 @@ pub struct Uptime<'a, R: Clock> {
     last: Moment,
 }
 
-/// The moment so long after the first, or the last one that there is.
+/// The moment when this much time has passed, at most the last one.
 fn moment_after(passed: Duration) -> Moment
     ensures { result ≡ min (as_nanos passed / 1_000_000) (2 ^ 60) }
 {
@@ -30,7 +30,7 @@ fn moment_after(passed: Duration) -> Moment
 }
 
 impl<'a, R: Clock> Uptime<'a, R> {
-    /// A clock that begins at the first moment, now.
+    /// A clock that is at 0 now.
     pub fn new(rt: &'a R) -> Uptime<'a, R> {
         Uptime {
             rt,
@@ -43,7 +43,7 @@ impl<'a, R: Clock> Uptime<'a, R> {
 impl<R: Clock> TimeSource for Uptime<'_, R> {
     ghost use Rattle.std.specs.Prelude.{None};
 
-    // The system's clock promises nothing.
+    // Nothing is known of the system's clock.
     ghost moments = { λ _. None };
 
     fn now(&mut self) -> Moment {

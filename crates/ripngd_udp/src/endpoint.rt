@@ -1,39 +1,48 @@
-//! The socket of an interface, with what came in by it and what waits to be sent by it.
+//! The socket of an interface, with its queues of received datagrams and of those that wait to be sent.
 
 ghost use Rattle.std.specs.Prelude.{◌≡◌, IfErr, IfOk, length, vec_len};
 ghost use Rattle.ripngd_udp.specs.Counting.{Grows};
 ghost use Rattle.ripngd_udp.specs.Udp.{NamesPortOf};
 
-use crate::Place;
 use crate::bind_cause::BindCause;
-use crate::counts::Counts;
-use crate::inbox::Inbox;
-use crate::neighborhood::Neighborhood;
-use crate::outbox::Outbox;
+use crate::peer_table::PeerTable;
+use crate::receive_queue::ReceiveQueue;
+use crate::send_queue::SendQueue;
 use crate::udp::UdpError;
 use crate::waiting::Polled;
-use ripngd_engine::LinkFault;
+use ripngd_engine::{LinkFault, Place};
 use std::alloc::Global;
 use std::io::{self, ErrorKind};
 use std::net::{Net, UdpSocket};
 
-/// How many datagrams are taken in from one socket before the others are looked at: more than it holds.
+/// How many datagrams are read from one socket before the next socket: more than its buffer holds.
 const TAKEN_AT_ONCE: u32 = 512;
+
+/// What a link of sockets counts. A count stays at the greatest `u64`.
+#[derive(Clone, Copy, Debug, PartialEq, Eq)]
+pub(crate) struct Counts {
+    /// Datagrams that waited and then could not be sent, also because their peer was removed.
+    pub(crate) failed_sends: u64,
+    /// Datagrams of peers that were lost because the queue was full, or for want of memory.
+    pub(crate) lost_arrivals: u64,
+    /// Datagrams that came from a port of no peer.
+    pub(crate) strangers: u64,
+}
 
 /// The socket of an interface.
 #[derive(Drop)]
 pub(crate) struct Endpoint {
     pub(crate) socket: UdpSocket,
-    pub(crate) outbox: Outbox,
-    pub(crate) inbox: Inbox,
-    /// Whether there may be something to read: it was told of, and no read has found nothing since.
+    pub(crate) send_queue: SendQueue,
+    pub(crate) receive_queue: ReceiveQueue,
+    /// Whether there may be something to read: the system said so, and no read has found it empty since.
     pub(crate) ready: bool,
 }
 
-/// A socket at the local port of each place, in order, as that of the interface of its number.
+/// A socket at the local port of each place, in order: one for each interface.
 ///
 /// # Errors
-/// `Bind` with the first port at which no socket can be had, and why; or want of memory.
+/// `Bind` with the first port that cannot be bound, and why; or out of memory.
 pub(crate) fn endpoints_at<N: Net>(
     net: &N,
     alloc: Global,
@@ -55,8 +64,8 @@ pub(crate) fn endpoints_at<N: Net>(
         };
         let endpoint = Endpoint {
             socket,
-            outbox: Outbox::new(alloc),
-            inbox: Inbox::new(alloc),
+            send_queue: SendQueue::new(alloc),
+            receive_queue: ReceiveQueue::new(alloc),
             ready: false,
         };
         if endpoints.push(endpoint).is_err() {
@@ -67,15 +76,15 @@ pub(crate) fn endpoints_at<N: Net>(
 }
 
 impl Endpoint {
-    /// Whether nothing that came waits for the router, and the socket is not to be read.
+    /// Whether no datagram waits for the router, and the socket need not be read.
     pub(crate) fn is_quiet(&self) -> bool {
-        self.inbox.is_empty() && !self.ready
+        self.receive_queue.is_empty() && !self.ready
     }
 
-    /// Leaves the socket, which gave no datagram, and answers that there is no other.
+    /// A read gave no datagram: returns that there is no other now.
     ///
     /// # Errors
-    /// Where it failed.
+    /// The socket failed.
     fn leave(&mut self, error: &io::Error) -> Result<bool, LinkFault> {
         match error.kind() {
             ErrorKind::WouldBlock | ErrorKind::TimedOut => {
@@ -87,14 +96,14 @@ impl Endpoint {
         }
     }
 
-    /// Takes in one datagram, by way of a buffer, as one of the peer that stands where it came from, and answers whether to look
-    /// for another. One that is not kept is counted, and so is one of a stranger, which is dropped.
+    /// Reads one datagram into the queue, by way of a buffer, as one of the peer at its source port. Returns whether to try for
+    /// another. One that the queue cannot keep is lost, one from a port of no peer is dropped; both are counted.
     ///
     /// # Errors
-    /// Where the socket could not be read.
+    /// The socket could not be read.
     fn take_one(
         &mut self,
-        neighborhood: &Neighborhood,
+        peer_table: &PeerTable,
         buffer: &mut [u8],
         counts: &mut Counts,
     ) -> Result<bool, LinkFault>
@@ -104,31 +113,31 @@ impl Endpoint {
             Ok(read) => read,
             Err(error) => return self.leave(&error),
         };
-        let Some(peer) = neighborhood.peer_at(from) else {
+        let Some(peer) = peer_table.peer_at(from) else {
             counts.strangers = counts.strangers.saturating_add(1);
             return Ok(true);
         };
-        let kept = self.inbox.keep(peer, &buffer[..len]);
+        let kept = self.receive_queue.keep(peer, &buffer[..len]);
         if !kept {
             counts.lost_arrivals = counts.lost_arrivals.saturating_add(1);
         }
         Ok(kept)
     }
 
-    /// Takes in what is there, if the socket was told of, until there is no room for one, which is lost.
+    /// Reads what is there, if the socket is ready, until the queue is full and one datagram was lost.
     ///
     /// # Errors
-    /// Where the socket could not be read.
+    /// The socket could not be read.
     pub(crate) fn take_all(
         &mut self,
-        neighborhood: &Neighborhood,
+        peer_table: &PeerTable,
         buffer: &mut [u8],
         counts: &mut Counts,
     ) -> Result<(), LinkFault>
         ensures { Grows counts.old counts.new }
     {
         for _ in 0..TAKEN_AT_ONCE {
-            if !self.ready || !self.take_one(neighborhood, buffer, counts)? {
+            if !self.ready || !self.take_one(peer_table, buffer, counts)? {
                 return Ok(());
             }
         }

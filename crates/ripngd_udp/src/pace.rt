@@ -1,26 +1,26 @@
-//! How fast datagrams go to one peer: some at once, and then a pause. A socket of loopback holds some ninety datagrams of a
-//! whole update, and what does not fit is lost without a word.
+//! The pace of sending: 16 datagrams at once, and then a pause. A socket of loopback holds about 90 datagrams of an update of a whole
+//! table. More are lost, and the sender is not told.
 
 ghost use Rattle.std.specs.Prelude.{◌≡◌, ◌+◌, ◌-◌, ◌<◌, ◌≤◌, min};
 
-/// How many datagrams go to a peer without a pause.
+/// How many datagrams go out without a pause.
 const AT_ONCE: usize = 16;
 
-/// How long it takes until as many may go again, in milliseconds.
+/// After how many milliseconds as many may go out again.
 const PAUSE_MS: u64 = 4;
 
-/// How many datagrams may go now.
+/// How many datagrams may go out now.
 #[derive(Clone, Copy, Debug, PartialEq, Eq)]
 pub(crate) struct Pace {
-    /// When datagrams were counted anew, in milliseconds.
+    /// When the count last began anew, in milliseconds.
     since: u64,
-    /// How many may go before the next pause.
+    /// How many may go out before the next pause.
     left: usize,
     ghost few: { left ≤ 16 },
 }
 
 impl Pace {
-    /// The pace of who has sent nothing.
+    /// The pace before anything was sent.
     pub(crate) fn new() -> Pace
         ensures { (result.since ≡ 0) × (result.left ≡ 16) }
     {
@@ -30,7 +30,7 @@ impl Pace {
         }
     }
 
-    /// How many of so many datagrams may go at a moment, in milliseconds; these are counted as gone.
+    /// How many of `wanted` datagrams may go out at a moment, in milliseconds. They are counted as sent.
     pub(crate) fn take(&mut self, wanted: usize, now: u64) -> usize
         ensures few { result ≤ 16 }
         ensures paused { now < self.old.since + 4
@@ -47,7 +47,7 @@ impl Pace {
         taken
     }
 
-    /// How long it is at a moment until one may go, in milliseconds.
+    /// How many milliseconds after a moment one may go out.
     pub(crate) fn until_open(&self, now: u64) -> u64 {
         if self.left > 0 {
             0

@@ -1,50 +1,43 @@
 //! Why a peer is not added to a link, or not removed from it.
 
 ghost use Rattle.std.specs.Prelude.{◌≡◌};
-ghost use Rattle.ripngd_udp.specs.Peers.{peer_refused_name, peer_refused_number};
+ghost use Rattle.ripngd_udp.specs.Peers.{peer_refused_text};
 
-/// Why a peer is not added to a link, or not removed from it: the first reason to refuse it, in this order.
+/// Why a peer is not added to a link, or not removed from it: the first of these reasons that applies.
 #[derive(Clone, Copy, Debug, PartialEq, Eq)]
 pub enum PeerRefused {
     /// The link has no interface of that number.
-    NoSuchInterface = 51,
-    /// Its local port is 0, at which nobody stands.
-    BadPort = 61,
+    NoSuchInterface,
+    /// Its local port is 0, which no socket has.
+    BadPort,
     /// Its local port is the group port of an interface.
-    PortTwice = 62,
+    PortTwice,
     /// Its address is the interface's own.
-    OwnAddress = 63,
+    OwnAddress,
     /// A peer of the interface has its address or its local port.
-    PeerTwice = 64,
+    PeerTwice,
     /// The interface has `PEER_LIMIT` peers.
-    PeersFull = 65,
+    PeersFull,
     /// No peer of the interface has that address.
-    NoSuchPeer = 66,
-    /// There was no memory.
-    OutOfMemory = 67,
+    NoSuchPeer,
+    /// There was not enough memory.
+    OutOfMemory,
 }
 
 impl PeerRefused {
-    /// The number of the refusal: 51, or 61 to 67.
-    pub fn number(self) -> u8
-        ensures { result ≡ peer_refused_number self }
-    {
-        self as u8
-    }
-
-    /// The name of the refusal, as the variant is spelled.
-    pub fn name(self) -> &'static str
-        ensures { result.now ≡ peer_refused_name self }
+    /// The refusal as it is printed: its number, which never changes, and its name.
+    pub fn text(self) -> &'static str
+        ensures { result.now ≡ peer_refused_text self }
     {
         match self {
-            PeerRefused::NoSuchInterface => "NoSuchInterface",
-            PeerRefused::BadPort => "BadPort",
-            PeerRefused::PortTwice => "PortTwice",
-            PeerRefused::OwnAddress => "OwnAddress",
-            PeerRefused::PeerTwice => "PeerTwice",
-            PeerRefused::PeersFull => "PeersFull",
-            PeerRefused::NoSuchPeer => "NoSuchPeer",
-            PeerRefused::OutOfMemory => "OutOfMemory",
+            PeerRefused::NoSuchInterface => "51 NoSuchInterface",
+            PeerRefused::BadPort => "61 BadPort",
+            PeerRefused::PortTwice => "62 PortTwice",
+            PeerRefused::OwnAddress => "63 OwnAddress",
+            PeerRefused::PeerTwice => "64 PeerTwice",
+            PeerRefused::PeersFull => "65 PeersFull",
+            PeerRefused::NoSuchPeer => "66 NoSuchPeer",
+            PeerRefused::OutOfMemory => "67 OutOfMemory",
         }
     }
 }

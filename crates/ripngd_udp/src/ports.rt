@@ -1,19 +1,18 @@
-//! The ports of a run: those that were bound, and what was told of the link over them when it was closed.
+//! The ports of a run: which were bound, and the past of the link over them since it was closed.
 
 ghost use Rattle.std.specs.Prelude.{◌≡◌, IfErr, IfOk, None, OnErr, OnOk, Some, length, map, vec_len};
 ghost use Rattle.ripngd_udp.specs.Peers.{links_at};
 ghost use Rattle.ripngd_udp.specs.Udp.{NamesPortOf, new_link};
 
-use crate::transcript::{Entry, Transcript};
 use crate::udp::{Udp, UdpError};
-use crate::{Peer, Place};
+use ripngd_engine::{Entry, Peer, Place, Transcript};
 use std::alloc::Global;
 use std::marker::Model;
 use std::net::Net;
 use std::rt::Clock;
 
-/// The ports of a run. Contracts see who was on the links that were bound last, and each call of the link that was closed
-/// since, with what `recv` gave: nothing else makes them known.
+/// The ports of a run. Contracts see the peers on the links that were bound last, and each call of the link that was closed since,
+/// with what `recv` returned.
 #[derive(Drop)]
 pub struct Ports {
     bound: Option<Transcript>,
@@ -22,18 +21,19 @@ pub struct Ports {
 
 impl Model for Ports {
     ghost use Rattle.std.specs.Prelude.{option_map};
-    ghost use Rattle.ripngd_udp.specs.Told.{PortsState};
+    ghost use Rattle.ripngd_udp.specs.Peers.{links_at};
+    ghost use Rattle.ripngd_udp.specs.Udp.{PortsState};
 
     ghost Value = { PortsState };
 
     ghost view = { λ ports. record {
-      on_links = option_map (λ t. t.told.on_links) ports.bound;
-      calls = option_map (λ t. t.told.calls) ports.closed;
+      on_links = option_map (λ t. links_at t.past.places t.past.peers) ports.bound;
+      calls = option_map (λ t. t.past.calls) ports.closed;
     } };
 }
 
 impl Ports {
-    /// None that are bound.
+    /// No port was bound.
     pub fn new() -> Ports
         ensures { result ≡ record { on_links = None; calls = None } }
     {
@@ -61,8 +61,9 @@ impl Ports {
         ensures refused { IfErr result (NamesPortOf places.now) }
         ensures err { OnErr result (self.new ≡ self.old) }
     {
+        let bound = Transcript::of(&Entry::Bound(places, peers.as_slice()));
         let link = Udp::bind(rt, alloc, places, peers)?;
-        self.bound = Some(Transcript::of(&Entry::Bound(link.sockets.neighborhoods.as_slice())));
+        self.bound = Some(bound);
         self.closed = None;
         Ok(link)
     }

@@ -1,17 +1,16 @@
-//! One datagram to the ports of this machine that it is meant for: each is tried, whatever came of those before it.
+//! Sends one datagram to the ports of its destination. A failure at one port does not keep it from the next.
 
-use crate::Peer;
 use crate::loopback::local;
-use crate::neighborhood::Neighborhood;
-use ripngd_engine::LinkFault;
+use crate::peer_table::PeerTable;
+use ripngd_engine::{LinkFault, Peer};
 use router_core::{Destination, Outgoing};
 use std::io::ErrorKind;
 use std::net::UdpSocket;
 
-/// How often a datagram is tried at a port, as long as each try is interrupted.
+/// How often a send to a port is tried while signals interrupt it.
 const TRIES: u32 = 16;
 
-/// Sends to a port, and answers whether the whole datagram was taken. What a signal interrupts is tried again.
+/// Sends to a port, and returns whether the whole datagram went out. What a signal interrupts is tried again.
 fn send_to(socket: &UdpSocket, port: u16, bytes: &[u8]) -> bool {
     for _ in 0..TRIES {
         match socket.send_to(bytes, local(port)) {
@@ -31,15 +30,15 @@ fn is_meant(peer: &Peer, to: &Destination) -> bool {
     }
 }
 
-/// Whether there is anybody at that destination; the group is there without peers too.
-pub(crate) fn is_known(neighborhood: &Neighborhood, to: &Destination) -> bool {
+/// Whether the destination is known: the group always is, an address if a peer has it.
+pub(crate) fn is_known(peer_table: &PeerTable, to: &Destination) -> bool {
     match to {
         Destination::Group => true,
-        Destination::Peer { addr, .. } => neighborhood.has_peer(*addr),
+        Destination::Peer { addr, .. } => peer_table.has_peer(*addr),
     }
 }
 
-/// Sends to each peer that is meant, in order, and answers whether all was taken.
+/// Sends to each peer that is meant, in order, and returns whether all went out.
 fn send_to_peers(socket: &UdpSocket, peers: &[Peer], to: &Destination, bytes: &[u8]) -> bool {
     let mut all_went = true;
     for peer in peers {
@@ -50,22 +49,21 @@ fn send_to_peers(socket: &UdpSocket, peers: &[Peer], to: &Destination, bytes: &[
     all_went
 }
 
-/// Sends to the port for the group, or to each peer that is meant, the later ones also where an earlier one could not be sent
-/// to.
+/// Sends to the group port, or to each peer that is meant.
 ///
 /// # Errors
-/// Where one of them could not be sent to, or where nobody is at the destination.
+/// A send to one of them failed, or there is no peer at the destination.
 pub(crate) fn send(
     socket: &UdpSocket,
-    neighborhood: &Neighborhood,
+    peer_table: &PeerTable,
     outgoing: &Outgoing,
 ) -> Result<(), LinkFault> {
     let (to, bytes) = (&outgoing.to, outgoing.bytes.as_slice());
-    let all_went = match neighborhood.shared_port(to) {
+    let all_went = match peer_table.shared_port(to) {
         Some(port) => send_to(socket, port, bytes),
-        None => send_to_peers(socket, neighborhood.peers(), to, bytes),
+        None => send_to_peers(socket, peer_table.peers(), to, bytes),
     };
-    if all_went && is_known(neighborhood, to) {
+    if all_went && is_known(peer_table, to) {
         Ok(())
     } else {
         Err(LinkFault)

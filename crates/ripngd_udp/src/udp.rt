@@ -1,19 +1,17 @@
-//! A link of UDP sockets on loopback, which stands in for the links of a router: each interface has a socket at a port of
-//! 127.0.0.1, and each neighbor on its link one of its own.
+//! A link of UDP sockets on loopback, in place of the real links of a router: each interface has a socket at a port of 127.0.0.1,
+//! and so has each neighbor on its link.
 
 ghost use Rattle.std.specs.Prelude.{◌≡◌, ◌≤◌, IfErr, IfOk, None, OnErr, OnOk, length, map, vec_len};
 ghost use Rattle.std.specs.Result.{result_err};
 ghost use Rattle.ripngd_udp.specs.Peers.{ChangesLink, RefusesFor, adding_fault, removing_fault, with_peer, without_peer};
-ghost use Rattle.ripngd_udp.specs.Udp.{NamesPortOf, link_number, new_link};
+ghost use Rattle.ripngd_udp.specs.Udp.{NamesPortOf, new_link};
 
 use crate::bind_cause::BindCause;
-use crate::neighborhood::check_peer;
 use crate::peer_refused::PeerRefused;
+use crate::peer_table::check_peer;
 use crate::sockets::Sockets;
-use crate::transcript::{Entry, Transcript};
-use crate::{Peer, Place};
 use prefix6::Addr6;
-use ripngd_engine::{Link, LinkFault, Received};
+use ripngd_engine::{Entry, Link, LinkFault, Peer, Place, Received, Transcript};
 use router_core::Outgoing;
 use std::alloc::Global;
 use std::marker::Model;
@@ -24,31 +22,19 @@ use thiserror::Error;
 /// Why a link could not be bound.
 #[derive(Clone, Copy, Debug, PartialEq, Eq, Error)]
 pub enum UdpError {
-    /// 1: no socket could be had at this port of 127.0.0.1.
-    #[error("cannot bind {port}: {cause}")]
+    /// 1: this port of 127.0.0.1 cannot be bound.
+    #[error("1 Bind {port}")]
     Bind { port: u16, cause: BindCause },
-    /// 2: there was no memory.
-    #[error("out of memory")]
+    /// 2: there was not enough memory.
+    #[error("2 OutOfMemory")]
     OutOfMemory,
 }
 
-impl UdpError {
-    /// The number of the fault, 1 or 2.
-    pub fn number(self) -> u8
-        ensures { result ≡ link_number self }
-    {
-        match self {
-            UdpError::Bind { .. } => 1,
-            UdpError::OutOfMemory => 2,
-        }
-    }
-}
-
-/// A link of sockets, one for each interface, over a clock. Contracts see how many interfaces it has, what it counts as lost,
-/// and each call of `recv` and `send` with what it answered, but not what its sockets carry.
+/// A link of sockets, one for each interface, and a clock. Contracts see its interfaces and their peers, what it has lost, and each
+/// call of `recv` and `send` with its result. They do not see what the sockets carry.
 ///
-/// A datagram is sent at once, or else, where too many would come together for the socket of a neighbor, a few
-/// milliseconds later, by `recv` or at last by `finish`.
+/// A datagram is sent at once. If too many would reach the socket of a neighbor together, it is sent a few milliseconds later, by
+/// `recv` or at last by `finish`.
 #[derive(Drop)]
 pub struct Udp<'a, R: Clock> {
     pub(crate) sockets: Sockets<'a, R>,
@@ -62,12 +48,12 @@ impl<'a, R: Clock> Model for Udp<'a, R> {
     ghost Value = { LinkState };
 
     ghost view = { λ link. record {
-      interfaces = vec_len link.sockets.neighborhoods;
-      on_links = link.sockets.neighborhoods.items;
+      interfaces = vec_len link.sockets.peer_tables;
+      on_links = link.sockets.peer_tables.items;
       failed_sends = link.sockets.counts.failed_sends;
       lost_arrivals = link.sockets.counts.lost_arrivals;
       strangers = link.sockets.counts.strangers;
-      calls = link.transcript.told.calls;
+      calls = link.transcript.past.calls;
     } };
 }
 
@@ -75,7 +61,7 @@ impl<'a, R: Clock> Udp<'a, R> {
     /// An interface at each place, in order, with its peers.
     ///
     /// # Errors
-    /// `Bind` with the first local port that cannot be bound, and why. What was bound before is given up.
+    /// `Bind` with the first local port that cannot be bound, and why. The others are closed.
     pub fn bind(
         rt: &'a R,
         alloc: Global,
@@ -88,15 +74,13 @@ impl<'a, R: Clock> Udp<'a, R> {
         ensures bound { IfOk result (λ link. link ≡ new_link places.now (map (λ v. v.items) peers.items)) }
         ensures refused { IfErr result (NamesPortOf places.now) }
     {
-        let sockets = Sockets::open(rt, alloc, places, peers)?;
-        let transcript = Transcript::of(&Entry::Bound(sockets.neighborhoods.as_slice()));
         Ok(Udp {
-            sockets,
-            transcript,
+            sockets: Sockets::open(rt, alloc, places, peers)?,
+            transcript: Transcript::of(&Entry::Nothing),
         })
     }
 
-    /// Sends all that waits to be sent, at the pace of its neighbors. To be called when nothing more is received.
+    /// Sends all that waits to be sent, at its pace. To be called when nothing more is received.
     pub fn finish(&mut self)
         ensures failed { self.old.failed_sends ≤ self.new.failed_sends }
         ensures lost { self.new.lost_arrivals ≡ self.old.lost_arrivals }
@@ -107,10 +91,10 @@ impl<'a, R: Clock> Udp<'a, R> {
         self.sockets.finish();
     }
 
-    /// An interface has a peer more, from now on.
+    /// Adds a peer to an interface.
     ///
     /// # Errors
-    /// The first reason to refuse it, in the order of `PeerRefused`. Nothing is then changed.
+    /// The first reason that applies, in the order of `PeerRefused`. Nothing is changed.
     pub fn add_peer(&mut self, iface: usize, peer: Peer) -> Result<(), PeerRefused>
         ensures added { OnOk result (ChangesLink (λ i. with_peer i peer) iface self.old.on_links self.new.on_links) }
         ensures passes { OnOk result (adding_fault self.old.on_links iface peer ≡ None) }
@@ -119,18 +103,18 @@ impl<'a, R: Clock> Udp<'a, R> {
         ensures same { self.new ≡ record self.old { on_links = self.new.on_links } }
     {
         let sockets = &mut self.sockets;
-        check_peer(sockets.neighborhoods.as_slice(), iface, &peer)?;
-        match sockets.neighborhoods.get_mut(iface) {
+        check_peer(sockets.peer_tables.as_slice(), iface, &peer)?;
+        match sockets.peer_tables.get_mut(iface) {
             Some(link) => link.add(peer),
             None => Err(PeerRefused::NoSuchInterface),
         }
     }
 
-    /// An interface has the peer of an address no longer. What has come from it stays; what still waits to be sent to it alone
-    /// goes to nobody, and counts as failed.
+    /// Removes the peer of an address from an interface. Datagrams that have come from it stay. One that waits to be sent to it alone
+    /// is not sent, and counts as failed.
     ///
     /// # Errors
-    /// `NoSuchInterface` or `NoSuchPeer`. Nothing is then changed.
+    /// `NoSuchInterface` or `NoSuchPeer`. Nothing is changed.
     pub fn remove_peer(&mut self, iface: usize, addr: Addr6) -> Result<(), PeerRefused>
         ensures removed { OnOk result (ChangesLink (λ i. without_peer i addr) iface self.old.on_links self.new.on_links) }
         ensures refused { result_err result ≡ removing_fault self.old.on_links iface addr }
@@ -138,28 +122,28 @@ impl<'a, R: Clock> Udp<'a, R> {
         ensures same { self.new ≡ record self.old { on_links = self.new.on_links } }
     {
         let sockets = &mut self.sockets;
-        match sockets.neighborhoods.get_mut(iface) {
+        match sockets.peer_tables.get_mut(iface) {
             Some(link) => link.remove(addr),
             None => Err(PeerRefused::NoSuchInterface),
         }
     }
 
-    /// How many datagrams could not be sent when they had waited. `send` has answered Ok for these.
+    /// How many datagrams waited and then could not be sent. `send` has returned `Ok` for these.
     pub fn failed_sends(&self) -> u64
         ensures { result ≡ self.now.failed_sends }
     {
         self.sockets.counts.failed_sends
     }
 
-    /// How many datagrams of neighbors were lost: 16,384 waited on its interface, or it would have made them longer than 32 MiB
-    /// together, or there was no memory to keep it.
+    /// How many datagrams of peers were lost: 16,384 waited on the interface, or they would have had more than 32 MiB together, or
+    /// there was no memory for one more.
     pub fn lost_arrivals(&self) -> u64
         ensures { result ≡ self.now.lost_arrivals }
     {
         self.sockets.counts.lost_arrivals
     }
 
-    /// How many datagrams came to a socket of an interface from anywhere but its peers. They are dropped.
+    /// How many datagrams came to an interface from a port of no peer. They are dropped.
     pub fn strangers(&self) -> u64
         ensures { result ≡ self.now.strangers }
     {
@@ -167,8 +151,8 @@ impl<'a, R: Clock> Udp<'a, R> {
     }
 }
 
-/// A call of `recv` first sends what has waited long enough, and takes in what is there on all sockets. While datagrams
-/// come it does not wait. Else it waits up to 50 ms for one, at all sockets at once. Interfaces are served in turn.
+/// A call of `recv` first sends what has waited long enough, and reads all sockets. If no datagram is there, it waits up to 50 ms for
+/// one, at all sockets at once. Interfaces are served in turn.
 impl<R: Clock> Link for Udp<'_, R> {
     ghost use Rattle.std.specs.Prelude.{◌≡◌, ◌<◌, ◌≤◌, ◌++◌, ◌∷◌, [], IfOk, IfSome, Some, is_ok, length};
     ghost use Rattle.ripngd_engine.specs.Link.{Handed, recv_call};
@@ -178,7 +162,7 @@ impl<R: Clock> Link for Udp<'_, R> {
     ghost interface_count = { λ link. link.interfaces };
 
     fn interfaces(&self) -> usize {
-        self.sockets.neighborhoods.len()
+        self.sockets.peer_tables.len()
     }
 
     fn recv(&mut self, buffer: &mut [u8]) -> Result<Option<Received>, LinkFault>

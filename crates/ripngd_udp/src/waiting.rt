@@ -1,23 +1,21 @@
-//! The wait for datagrams: at all sockets of a link at once, by the system's own list of those that have something to read.
+//! The wait for datagrams at all sockets of a link at once (`epoll`).
 
 ghost use Rattle.std.specs.Prelude.{◌≤◌, IfErr};
 ghost use Rattle.ripngd_udp.specs.Udp.{NamesPortOf};
 
-use crate::Place;
 use crate::bind_cause::BindCause;
 use crate::loopback::local;
 use crate::udp::UdpError;
 use mio::unix::SourceFd;
 use mio::{Events, Interest, Poll, Token};
-use ripngd_engine::LinkFault;
+use ripngd_engine::{LinkFault, Place};
 use std::alloc::Global;
 use std::io;
 use std::net::{Net, UdpSocket};
 use std::os::fd::AsRawFd;
 use std::time::Duration;
 
-/// The system's list of sockets. What it has told of a socket holds until a read of it finds nothing; before that it need not
-/// tell it again.
+/// The system's list of sockets that are ready. It reports a socket as ready once, and again only after a read has found it empty.
 #[derive(Drop)]
 pub(crate) struct Polled {
     poll: Poll,
@@ -25,8 +23,7 @@ pub(crate) struct Polled {
 }
 
 impl Polled {
-    /// The list for the sockets of places, which has none so far. Where the system has none to give, the first of them cannot be
-    /// bound.
+    /// An empty list for the sockets of these places. Where the system cannot make one, the first of them cannot be bound.
     pub(crate) fn new<N: Net>(net: &N, alloc: Global, places: &[Place]) -> Result<Polled, UdpError>
         ensures { IfErr result (NamesPortOf places.now) }
     {
@@ -43,7 +40,7 @@ impl Polled {
         }
     }
 
-    /// A socket at a port of 127.0.0.1, whose calls never wait, and of which it tells from now on as of that of an interface.
+    /// A socket at a port of 127.0.0.1, whose calls never wait. From now on it is reported as that of an interface.
     pub(crate) fn open<N: Net>(&self, net: &N, iface: usize, port: u16) -> io::Result<UdpSocket> {
         let socket = UdpSocket::bind(net, local(port))?;
         socket.set_nonblocking(true)?;
@@ -55,10 +52,10 @@ impl Polled {
         Ok(socket)
     }
 
-    /// Waits for so many milliseconds at most, until some socket has something to read.
+    /// Waits until some socket is ready, at most `limit_ms` milliseconds.
     ///
     /// # Errors
-    /// Where the system does not tell.
+    /// The system cannot wait.
     pub(crate) fn wait(&mut self, limit_ms: u64) -> Result<(), LinkFault>
         requires { limit_ms ≤ 50 }
     {
@@ -69,9 +66,9 @@ impl Polled {
         }
     }
 
-    /// The interface of the first socket that the last wait told of, of the second, and so on.
-    pub(crate) fn told(&self, place: usize) -> Option<usize> {
-        let event = self.events.iter().nth(place)?;
+    /// The interface of one of the sockets that the last wait reported: of the first for 0, and so on.
+    pub(crate) fn ready_at(&self, index: usize) -> Option<usize> {
+        let event = self.events.iter().nth(index)?;
         Some(event.token().0)
     }
 }

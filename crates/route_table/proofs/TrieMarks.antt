@@ -12,7 +12,7 @@ use Rattle.route_table.specs.Due.{without_mark}
 use Rattle.route_table.specs.Place.{Entries}
 use Rattle.route_table.specs.Summary.{SummaryValue, both, summary_of, summary_of_route}
 use Rattle.route_table.specs.Table.{map_entries}
-use Rattle.route_table.specs.declared.trie.Link.{Link}
+use Rattle.route_table.specs.declared.trie.Node.{Node}
 use Rattle.route_table.specs.Trie.{linked, owned, in_turn, fork_entries, IsFork, HasEntries}
 use Rattle.route_table.proofs.TableLaws.{is_sorted-map_entries}
 use Rattle.route_table.proofs.TrieLists.{Entry}
@@ -53,7 +53,7 @@ plain_summary [] = refl
 plain_summary (e ∷ es) = ap (both (summary_of_route (plain_entry e).1)) (plain_summary es)
 
 -- ---- a fork whose parts are without their marks
-module _ (p : Prefix6) (s : SummaryValue) (own : Option (Box Entry Global)) (low high : Link) (f : IsFork p s own low high) (own' : Option (Box Entry Global)) (low' high' : Link) (o : owned own' ≡ plain (owned own)) (l : linked low' ≡ plain (linked low)) (h : linked high' ≡ plain (linked high)) where
+module _ (p : Prefix6) (s : SummaryValue) (own : Option (Box Entry Global)) (low high : Node) (f : IsFork p s own low high) (own' : Option (Box Entry Global)) (low' high' : Node) (o : owned own' ≡ plain (owned own)) (l : linked low' ≡ plain (linked low)) (h : linked high' ≡ plain (linked high)) where
   pub plain_whole : fork_entries own' low' high' ≡ plain (fork_entries own low high)
   plain_whole =
       ap (λ x. in_turn x (linked low') (linked high')) o

@@ -9,13 +9,13 @@ use Rattle.prefix6.proofs.PrefixLaws.{prefixes_total}
 use Rattle.route_table.specs.Route.{RouteValue}
 use Rattle.route_table.specs.Table.{Table, table_limit, table_with, map_entries}
 use Rattle.route_table.specs.Due.{without_mark}
-use Rattle.route_table.specs.declared.trie.Link.{Link}
+use Rattle.route_table.specs.declared.trie.Node.{Node}
 use Rattle.route_table.specs.Trie.{linked, without, entries_with, HasEntries, IsTrie}
 use Rattle.route_table.proofs.SortedTable.{get_is, table_put, sorted_unmarked}
 use Rattle.route_table.proofs.TrieMarks.{plain_length}
 
 -- a trie whose marks are taken
-pub unmarked_trie : (count : ℕ) (root : Link) (n : IsTrie count root) (t : Table) → from_sorted (linked root) ≡ t → (root' : Link) → HasEntries root' → linked root' ≡ map_entries without_mark (linked root) → IsTrie count root'
+pub unmarked_trie : (count : ℕ) (root : Node) (n : IsTrie count root) (t : Table) → from_sorted (linked root) ≡ t → (root' : Node) → HasEntries root' → linked root' ≡ map_entries without_mark (linked root) → IsTrie count root'
 unmarked_trie count root n t is root' some e = record {
   sorted = sorted_unmarked (linked root) n.sorted t is (linked root') (sym e);
   some = some;
@@ -23,12 +23,12 @@ unmarked_trie count root n t is root' some e = record {
   few = n.few;
 }
 
-module _ (count : ℕ) (root : Link) (n : IsTrie count root) (t : Table) (is : from_sorted (linked root) ≡ t) (k : Prefix6) where
+module _ (count : ℕ) (root : Node) (n : IsTrie count root) (t : Table) (is : from_sorted (linked root) ≡ t) (k : Prefix6) where
   -- a prefix of the table is found in the trie
   pub present : IsSome (map.get t k) → IsSome (find prefix_cmp k (linked root))
   present some = subst IsSome (get_is (linked root) n.sorted t is k) some
 
-  pub added : (v : RouteValue) (root' : Link) → map.get t k ≡ None → count < table_limit → HasEntries root' → linked root' ≡ put prefix_cmp k v (linked root) → IsTrie (count + 1) root'
+  pub added : (v : RouteValue) (root' : Node) → map.get t k ≡ None → count < table_limit → HasEntries root' → linked root' ≡ put prefix_cmp k v (linked root) → IsTrie (count + 1) root'
   added v root' none room some e =
       let absent : find prefix_cmp k (linked root) ≡ None = sym (get_is (linked root) n.sorted t is k) ∙ none in
       let more : length (linked root') ≡ length (linked root) + 1 = ap length e ∙ length-put prefix_cmp prefixes_total k v (linked root) n.sorted ∙ ap (λ o. cond (is_some o) (length (linked root)) (length (linked root) + 1)) absent in
@@ -39,7 +39,7 @@ module _ (count : ℕ) (root : Link) (n : IsTrie count root) (t : Table) (is : f
         few = omega arith;
       }
 
-  pub replaced : (v : RouteValue) (root' : Link) → IsSome (map.get t k) → HasEntries root' → linked root' ≡ put prefix_cmp k v (linked root) → IsTrie count root'
+  pub replaced : (v : RouteValue) (root' : Node) → IsSome (map.get t k) → HasEntries root' → linked root' ≡ put prefix_cmp k v (linked root) → IsTrie count root'
   replaced v root' found some e =
       let same : length (linked root') ≡ length (linked root) = ap length e ∙ length-put prefix_cmp prefixes_total k v (linked root) n.sorted ∙ ap (λ b. cond b (length (linked root)) (length (linked root) + 1)) (present found) in
       record {
@@ -50,7 +50,7 @@ module _ (count : ℕ) (root : Link) (n : IsTrie count root) (t : Table) (is : f
       }
 
   -- something was made of the route to the prefix, if there is one
-  module _ (root' : Link) (some : HasEntries root') where
+  module _ (root' : Node) (some : HasEntries root') where
     is_present : (made : RouteValue × RouteValue) → option_map (λ m. m.0) (Some made) ≡ find prefix_cmp k (linked root) → IsSome (map.get t k)
     is_present made b = subst IsSome (b ∙ sym (get_is (linked root) n.sorted t is k)) refl
 
@@ -73,7 +73,7 @@ module _ (count : ℕ) (root : Link) (n : IsTrie count root) (t : Table) (is : f
   pub some_left : IsSome (map.get t k) → 1 ≤ count
   some_left found = omega (arith, fewer found, n.counted)
 
-  pub removed : (root' : Link) → IsSome (map.get t k) → HasEntries root' → linked root' ≡ without k (linked root) → IsTrie (count - 1) root'
+  pub removed : (root' : Node) → IsSome (map.get t k) → HasEntries root' → linked root' ≡ without k (linked root) → IsTrie (count - 1) root'
   removed root' found some e = record {
     sorted = subst (λ l. T (is_sorted prefix_cmp l)) (sym e) (is_sorted-where_key {X = RouteValue} prefix_cmp _ (linked root) n.sorted);
     some = some;

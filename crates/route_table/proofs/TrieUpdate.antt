@@ -10,7 +10,7 @@ use Rattle.prefix6.proofs.PrefixLaws.{prefixes_total}
 use Rattle.route_table.specs.Route.{RouteValue}
 use Rattle.route_table.specs.Place.{Entries}
 use Rattle.route_table.specs.Summary.{SummaryValue, both, summary_of}
-use Rattle.route_table.specs.declared.trie.Link.{Link}
+use Rattle.route_table.specs.declared.trie.Node.{Node}
 use Rattle.route_table.specs.Trie.{linked, owned, in_turn, fork_entries, entries_with, IsFork, AreParts, AreShared, HasEntries}
 use Rattle.route_table.proofs.TrieLists.{Entry, found, found_some, put_left, put_some, All-put}
 use Rattle.route_table.proofs.TrieSummary.{summary-append}
@@ -27,7 +27,7 @@ IsBefore k made es = option_map (λ m. m.0) made ≡ find prefix_cmp k es
 is_there : (k : Prefix6) (m : RouteValue × RouteValue) (es : Entries) → IsBefore k (Some m) es → IsSome (find prefix_cmp k es)
 is_there k m es b = subst IsSome b refl
 
-module _ (p : Prefix6) (s : SummaryValue) (own : Option (Box Entry Global)) (low high : Link) (f : IsFork p s own low high) where
+module _ (p : Prefix6) (s : SummaryValue) (own : Option (Box Entry Global)) (low high : Node) (f : IsFork p s own low high) where
   -- ---- a half is smaller than a fork that has an entry
   module _ (some : 0 < length (fork_entries own low high)) where
     sizes : length (fork_entries own low high) ≡ length (owned own) + (length (linked low) + length (linked high))
@@ -115,7 +115,7 @@ module _ (p : Prefix6) (s : SummaryValue) (own : Option (Box Entry Global)) (low
       not_high_alone = λ h. omega (arith, put_some k m.1 (linked low));
     }
 
-    module _ (made : Made) (b : IsBefore k made (linked low)) (low' : Link) (after : linked low' ≡ entries_with k made (linked low)) where
+    module _ (made : Made) (b : IsBefore k made (linked low)) (low' : Node) (after : linked low' ≡ entries_with k made (linked low)) where
       pub low_before : p.len < k.len → k.addr < middle p → IsBefore k made (fork_entries own low high)
       low_before longer less = b ∙ find_low p (owned own) (linked low) (linked high) f.parts k (longer_other p k longer) less
 
@@ -150,7 +150,7 @@ module _ (p : Prefix6) (s : SummaryValue) (own : Option (Box Entry Global)) (low
       not_high_alone = λ h. f.shared.not_high_alone (found_some k (linked high) (is_there k m (linked high) b));
     }
 
-    module _ (made : Made) (b : IsBefore k made (linked high)) (high' : Link) (after : linked high' ≡ entries_with k made (linked high)) where
+    module _ (made : Made) (b : IsBefore k made (linked high)) (high' : Node) (after : linked high' ≡ entries_with k made (linked high)) where
       pub high_before : p.len < k.len → middle p ≤ k.addr → IsBefore k made (fork_entries own low high)
       high_before longer ge = b ∙ find_high p (owned own) (linked low) (linked high) f.parts k (longer_other p k longer) ge
 
@@ -168,19 +168,19 @@ module _ (p : Prefix6) (s : SummaryValue) (own : Option (Box Entry Global)) (low
 
 -- ---- where the summary of a part stays, that of the whole does
 module _ (own : Option (Box Entry Global)) where
-  pub own_same : (own' : Option (Box Entry Global)) (low high : Link) → summary_of (owned own') ≡ summary_of (owned own) → summary_of (fork_entries own' low high) ≡ summary_of (fork_entries own low high)
+  pub own_same : (own' : Option (Box Entry Global)) (low high : Node) → summary_of (owned own') ≡ summary_of (owned own) → summary_of (fork_entries own' low high) ≡ summary_of (fork_entries own low high)
   own_same own' low high e =
       sym (summary-append (owned own') (linked low ++ linked high)) ∙ ap (λ s. both s (summary_of (linked low ++ linked high))) e ∙ summary-append (owned own) (linked low ++ linked high)
 
   below_same : (xs ys : Entries) → summary_of xs ≡ summary_of ys → summary_of (owned own ++ xs) ≡ summary_of (owned own ++ ys)
   below_same xs ys e = sym (summary-append (owned own) xs) ∙ ap (both (summary_of (owned own))) e ∙ summary-append (owned own) ys
 
-  pub low_same : (low low' high : Link) → summary_of (linked low') ≡ summary_of (linked low) → summary_of (fork_entries own low' high) ≡ summary_of (fork_entries own low high)
+  pub low_same : (low low' high : Node) → summary_of (linked low') ≡ summary_of (linked low) → summary_of (fork_entries own low' high) ≡ summary_of (fork_entries own low high)
   low_same low low' high e =
       below_same (linked low' ++ linked high) (linked low ++ linked high)
       (sym (summary-append (linked low') (linked high)) ∙ ap (λ s. both s (summary_of (linked high))) e ∙ summary-append (linked low) (linked high))
 
-  pub high_same : (low high high' : Link) → summary_of (linked high') ≡ summary_of (linked high) → summary_of (fork_entries own low high') ≡ summary_of (fork_entries own low high)
+  pub high_same : (low high high' : Node) → summary_of (linked high') ≡ summary_of (linked high) → summary_of (fork_entries own low high') ≡ summary_of (fork_entries own low high)
   high_same low high high' e =
       below_same (linked low ++ linked high') (linked low ++ linked high)
       (sym (summary-append (linked low) (linked high')) ∙ ap (both (summary_of (linked low))) e ∙ summary-append (linked low) (linked high))

@@ -1,4 +1,4 @@
--- Sorted blocks of routes, one after the other.
+-- Sorted blocks of routes, in the order of their prefixes.
 use Rattle.std.specs.Prelude.{◌≡◌, ℕ, ◌+◌, ◌<◌, ◌≤◌, false, Option, List, [], ◌∷◌, ◌++◌, length, take, drop, slice_index_or, T, All}
 use Rattle.std.specs.declared.cmp.Ordering.TheVariants.{Less}
 use Rattle.std.specs.FinMap.{is_sorted}
@@ -13,7 +13,7 @@ use Rattle.route_table.specs.Table.{table_limit, is_past}
 abbrev pub block_limit : ℕ
 block_limit = 128
 
--- how many a full block keeps where it is parted
+-- how many routes a full block keeps when it is split
 abbrev pub half_block : ℕ
 half_block = 64
 
@@ -26,20 +26,20 @@ joined (b ∷ bs) = b ++ joined bs
 abbrev pub block_at : List Entries → ℕ → Entries
 block_at bs i = slice_index_or bs i []
 
--- a summary says no more with that of a route: no deadline is later than the route's, and the mark is there if the route's is
+-- a summary bounds a route: its deadline is not later than the route's, and its flag is set if the route's is
 abbrev pub IsUnder : SummaryValue → RouteValue → Type 0
 IsUnder s r = both s (summary_of_route r) ≡ s
 
--- a bound of what entries know together
+-- a summary bounds each of the entries
 abbrev pub Covers : SummaryValue → Entries → Type 0
 Covers s es = All (λ e. IsUnder s e.1) es
 
--- the prefix that entries begin by, if there is one
+-- the entries begin at the prefix, if there are any
 abbrev pub StartsAt : Prefix6 → Entries → Type 0
 StartsAt p [] = Unit {0}
 StartsAt p (e ∷ es) = e.0 ≡ p
 
--- what holds of a block
+-- the invariant of a block
 pub record IsBlock (first : Prefix6) (bound : SummaryValue) (es : Entries) : Type 0 where
   pub sorted : T (is_sorted prefix_cmp es)
   pub few : length es ≤ block_limit
@@ -55,7 +55,7 @@ pub record AreBlocks (bs : List Entries) : Type 0 where
   pub sorted : T (is_sorted prefix_cmp (joined bs))
   pub filled : AreFilled bs
 
--- what holds of the whole store
+-- the invariant of the whole store
 pub record IsStore (count : ℕ) (bs : List Entries) : Type 0 where
   pub blocks : AreBlocks bs
   pub counted : count ≡ length (joined bs)

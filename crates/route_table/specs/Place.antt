@@ -9,7 +9,7 @@ use Rattle.route_table.specs.Table.{is_past}
 abbrev pub Entries : Type 0
 Entries = List (Prefix6 × RouteValue)
 
--- where the entries past a prefix, if there is one, begin
+-- the index of the first entry past a prefix, or 0 without a prefix
 pub record IsStartPast (es : Entries) (after : Option Prefix6) (i : ℕ) : Type 0 where
   pub in_range : i ≤ length es
   pub before : (j : ℕ) (d : Prefix6 × RouteValue) → j < i → j < length es → is_past after (prefix_at es j d) ≡ false

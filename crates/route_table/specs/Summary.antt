@@ -1,4 +1,4 @@
--- What a fork of the trie knows of the routes below it without looking at them.
+-- What is known of several routes without a look at them.
 use Rattle.std.specs.Prelude.{◌≡◌, ℕ, Bool, true, false, ◌||◌, List, [], ◌∷◌, Option, Some, None}
 use Rattle.prefix6.specs.Prefix.{Prefix6}
 use Rattle.route_table.specs.Route.{RouteValue, deadline}
@@ -6,20 +6,20 @@ use Rattle.route_table.specs.Due.{is_due, is_reached, earlier}
 use Rattle.route_table.specs.declared.wanted.Wanted.{Wanted}
 use Rattle.route_table.specs.declared.wanted.Wanted.TheVariants.{Any, Due, Changed}
 
--- the least deadline of the routes that age, and whether a route is marked
+-- the least deadline of some routes, and whether a route change flag is set
 pub record SummaryValue : Type 0 where
   pub due : Option ℕ
   pub changed : Bool
 
--- of two lists of routes together
+-- the summary of two lists of routes together
 abbrev pub both : SummaryValue → SummaryValue → SummaryValue
 both a b = record { due = earlier a.due b.due; changed = a.changed || b.changed }
 
--- of no routes
+-- the summary of no routes
 abbrev pub no_routes : SummaryValue
 no_routes = record { due = None; changed = false }
 
--- of one route
+-- the summary of one route
 abbrev pub summary_of_route : RouteValue → SummaryValue
 summary_of_route r = record { due = deadline r; changed = r.changed }
 
@@ -28,17 +28,17 @@ abbrev pub summary_of : List (Prefix6 × RouteValue) → SummaryValue
 summary_of [] = no_routes
 summary_of (e ∷ es) = both (summary_of_route e.1) (summary_of es)
 
--- a deadline that may be missing, packed into a number and whether it counts
+-- a deadline that may be missing, from a number and whether it counts
 abbrev pub unpacked : Bool → ℕ → Option ℕ
 unpacked true n = Some n
 unpacked false n = None
 
--- the number kept for a deadline; none is kept as 0
+-- the number that is kept for a deadline: 0 if there is none
 abbrev pub packed_ms : Option ℕ → ℕ
 packed_ms None = 0
 packed_ms (Some n) = n
 
--- where nothing ages, the number is 0
+-- the number is 0 if there is no deadline
 abbrev pub IsPacked : ℕ → Bool → Type 0
 IsPacked due_ms ages = ages ≡ false → due_ms ≡ 0
 
@@ -48,7 +48,7 @@ meets Any r = true
 meets (Due by) r = is_due by r
 meets Changed r = r.changed
 
--- whether a search may find a route where the summary is so
+-- whether a search may find a route among those of a summary
 abbrev pub may_meet : Wanted → SummaryValue → Bool
 may_meet Any s = true
 may_meet (Due by) s = is_reached by s.due

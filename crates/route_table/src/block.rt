@@ -1,4 +1,4 @@
-//! A few routes in the order of their prefixes, with what is known of them without looking at them.
+//! A block: a few routes in the order of their prefixes, with a bound that lets a search skip them.
 
 ghost use Rattle.std.specs.Prelude.{◌≡◌, ◌+◌, ◌<◌, ◌≤◌, ◌↔◌, [], ◌∷◌, ◌++◌, length, take, drop, IsTrue, IfOk, IfSome, OnOk, OnErr, All, None, Some, vec_len, vec_capacity};
 ghost use Rattle.std.specs.FinMap.{find};
@@ -20,13 +20,13 @@ use prefix6::Prefix;
 use std::alloc::{AllocError, Global};
 use std::marker::Model;
 
-/// The most routes that a block holds.
+/// The most routes of a block.
 const LIMIT: usize = 128;
 
-/// How many of them a full block keeps where it is parted.
+/// How many routes a full block keeps when it is split.
 const HALF: usize = 64;
 
-/// At most `LIMIT` routes. The summary is a bound: no route is due before it says, and none is marked where it says so.
+/// At most `LIMIT` routes. The summary is a bound: no deadline is earlier, and no route change flag is set unless it says so.
 #[derive(Drop)]
 pub struct Block {
     first: Prefix,
@@ -51,7 +51,7 @@ impl Model for Block {
     ghost invariant = { λ b. IsBlock b.first b.bound b.routes.items };
 }
 
-/// The prefix that routes begin by, or another where there is none.
+/// The prefix of the first route, or another prefix if there is none.
 fn first_of(routes: &[(Prefix, Route)], other: Prefix) -> Prefix
     ensures { StartsAt result routes.now }
 {
@@ -61,8 +61,8 @@ fn first_of(routes: &[(Prefix, Route)], other: Prefix) -> Prefix
     }
 }
 
-/// Whether the bound of routes is to be made exact where one of them was changed: at the last, so that one pass in order does it
-/// once; and where the route was the first to be due and the next is not due with it, so that the bound is seldom far off.
+/// Whether the bound is to be made exact after one of the routes was changed. It is at the last route, so that one pass in order
+/// does it once, and where the route had the least deadline and the next one has another, so that the bound is seldom far off.
 fn wants_exact(routes: &[(Prefix, Route)], changed: usize, before: Summary, bound: Summary) -> bool
     requires { changed < length routes.now }
 {
@@ -73,7 +73,7 @@ fn wants_exact(routes: &[(Prefix, Route)], changed: usize, before: Summary, boun
     due == bound.due_ms() && Summary::of(&routes[changed + 1].1).due_ms() != due
 }
 
-/// A bound of these routes, where one of them was changed.
+/// A bound of these routes after one of them was changed.
 fn bound_of(routes: &[(Prefix, Route)], changed: usize, before: Summary, bound: Summary) -> Summary
     requires place { changed < length routes.now }
     requires covered { Covers bound routes.now }
@@ -90,7 +90,7 @@ impl Block {
     /// A block of one route.
     ///
     /// # Errors
-    /// Only want of memory.
+    /// Only out of memory.
     pub fn of(alloc: Global, prefix: Prefix, route: Route) -> Result<Block, AllocError>
         ensures { IfOk result (λ block. block ≡ (prefix, route) ∷ []) }
     {
@@ -112,21 +112,21 @@ impl Block {
         self.routes.len()
     }
 
-    /// Whether the block holds as many routes as it may.
+    /// Whether the block has `LIMIT` routes.
     pub fn is_full(&self) -> bool
         ensures { IsTrue result ↔ (block_limit ≤ length self.now) }
     {
         self.routes.len() >= LIMIT
     }
 
-    /// The prefix that the block begins by.
+    /// The prefix of its first route.
     pub fn first(&self) -> Prefix
         ensures { StartsAt result self.now }
     {
         self.first
     }
 
-    /// Whether all prefixes of the block come before this one.
+    /// Whether all its prefixes come before this one.
     pub fn ends_before(&self, prefix: &Prefix) -> bool
         ensures { IsTrue result → All (λ e. prefix_cmp e.0 prefix.now ≡ Less) self.now }
     {
@@ -175,7 +175,7 @@ impl Block {
         run::first_wanted(&self.routes, *after, wanted)
     }
 
-    /// The earlier of a deadline and the least of the block. Where the bound says that the block's is not earlier, no route is looked at.
+    /// The earlier of a deadline and the least of the block. No route is looked at if the bound says that the latter is not earlier.
     pub fn earlier_due(&self, due: Option<u64>) -> Option<u64>
         ensures { result ≡ earlier due (summary_of self.now).due }
     {
@@ -185,7 +185,7 @@ impl Block {
         summary::earlier(due, run::sum_up(&self.routes).due_ms())
     }
 
-    /// Appends the routes in their order, into room that is there.
+    /// Appends the routes in their order. The vector must have room for them.
     pub fn list(&self, out: &mut Vec<(Prefix, Route)>)
         requires room { vec_len out.old + length self.now ≤ vec_capacity out.old }
         ensures items { out.new.items ≡ out.old.items ++ self.now }
@@ -197,10 +197,10 @@ impl Block {
         };
     }
 
-    /// Puts a route that has no place yet into its place.
+    /// Inserts the route to a prefix that has none.
     ///
     /// # Errors
-    /// Only want of memory.
+    /// Only out of memory.
     pub fn insert(&mut self, prefix: Prefix, route: Route) -> Result<(), AllocError>
         requires room { length self.old < block_limit }
         requires absent { find prefix_cmp prefix self.old ≡ None }
@@ -219,10 +219,10 @@ impl Block {
         Ok(())
     }
 
-    /// Parts a full block: the upper half is handed out.
+    /// Splits a full block: the upper half is returned.
     ///
     /// # Errors
-    /// Only want of memory.
+    /// Only out of memory.
     pub fn split(&mut self) -> Result<Block, AllocError>
         requires { block_limit ≤ length self.old }
         ensures ok { OnOk result (self.new ≡ take half_block self.old) }
@@ -239,7 +239,7 @@ impl Block {
         })
     }
 
-    /// Puts what is made of the route to a prefix in its place, and hands out both.
+    /// Replaces the route to a prefix by what `make` returns for it: the route before and after.
     pub fn update<F: FnOnce(Route) -> Route>(
         &mut self,
         at: usize,
@@ -260,7 +260,7 @@ impl Block {
         (before, after)
     }
 
-    /// Takes the marks of all routes. Where the bound says that there is none, no route is looked at.
+    /// Clears all route change flags. Where the bound says that none is set, no route is looked at.
     pub fn unmark(&mut self)
         ensures { self.new ≡ map_entries without_mark self.old }
     {
@@ -270,7 +270,7 @@ impl Block {
         }
     }
 
-    /// Takes the route at a place out.
+    /// Removes the route at a place.
     pub fn remove(&mut self, at: usize, prefix: &Prefix)
         requires { IsAt self.old prefix.now at }
         ensures { self.new ≡ without prefix.now self.old }

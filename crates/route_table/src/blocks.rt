@@ -1,4 +1,4 @@
-//! Blocks of routes one after the other, in the order of their prefixes.
+//! A list of blocks of routes, in the order of their prefixes.
 
 ghost use Rattle.std.specs.Prelude.{◌≡◌, ◌+◌, ◌<◌, ◌≤◌, ◌++◌, length, IfOk, IfSome, OnOk, OnErr, All, IsSome, IsTrue, [], ◌∷◌, false, None, Some, option_map, vec_len, vec_capacity};
 ghost use Rattle.std.specs.declared.cmp.Ordering.TheVariants.{Less};
@@ -17,10 +17,10 @@ use crate::wanted::Wanted;
 use prefix6::Prefix;
 use std::alloc::{AllocError, Global};
 
-/// A block, and a place in it.
+/// The index of a block, and an index in it.
 pub type Place = (usize, usize);
 
-/// The block in which a prefix is, or into which it would go. The last is looked at first, since routes are learned in order.
+/// The index of the block that has a prefix, or would get it. The last is looked at first, since routes are learned in order.
 fn home(blocks: &[Block], prefix: &Prefix) -> usize
     requires ordered { AreBlocks blocks.now }
     requires some { 0 < length blocks.now }
@@ -56,7 +56,7 @@ fn locate(blocks: &[Block], prefix: &Prefix) -> Option<Place>
     }
 }
 
-/// The same, where a place is looked at first.
+/// The same, but one place is looked at first.
 fn locate_from(blocks: &[Block], first: Place, prefix: &Prefix) -> Option<Place>
     requires { AreBlocks blocks.now }
     ensures found { IfSome result (IsPlaced blocks.now prefix.now) }
@@ -68,7 +68,7 @@ fn locate_from(blocks: &[Block], first: Place, prefix: &Prefix) -> Option<Place>
     locate(blocks, prefix)
 }
 
-/// The place behind another.
+/// The place after another.
 fn behind(blocks: &[Block], place: Place) -> Place {
     let next = place.1.saturating_add(1);
     if place.0 < blocks.len() && next < blocks[place.0].len() {
@@ -89,7 +89,7 @@ pub fn get(blocks: &[Block], prefix: &Prefix) -> Option<Route>
     blocks[home(blocks, prefix)].get(prefix)
 }
 
-/// The block from which on routes lie past a prefix.
+/// The index of the first block with routes past a prefix.
 fn start(blocks: &[Block], after: &Option<Prefix>) -> usize
     requires { AreBlocks blocks.now }
     ensures { IsStart blocks.now after.now result }
@@ -118,7 +118,7 @@ pub fn first_wanted(
     None
 }
 
-/// The least deadline of the routes that age, in milliseconds.
+/// The least deadline of the routes, in milliseconds.
 pub fn due_ms(blocks: &[Block]) -> Option<u64>
     ensures { result ≡ least_deadline (joined blocks.now) }
 {
@@ -129,7 +129,7 @@ pub fn due_ms(blocks: &[Block]) -> Option<u64>
     due
 }
 
-/// Appends all routes in their order, into room that is there.
+/// Appends all routes in their order. The vector must have room for them.
 pub fn list(blocks: &[Block], out: &mut Vec<(Prefix, Route)>)
     requires room { vec_len out.old + length (joined blocks.now) ≤ vec_capacity out.old }
     ensures { out.new.items ≡ out.old.items ++ joined blocks.now }
@@ -139,8 +139,8 @@ pub fn list(blocks: &[Block], out: &mut Vec<(Prefix, Route)>)
     }
 }
 
-/// Puts what is made of the route to a prefix in its place, and hands out both, if there is one. The place where it looks first
-/// becomes the one behind it.
+/// Replaces the route to a prefix by what `make` returns for it: the route before and after, if there is one. The place to look at
+/// first becomes the one after it.
 pub fn update<F: FnOnce(Route) -> Route>(
     blocks: &mut Vec<Block>,
     next: &mut Place,
@@ -162,7 +162,7 @@ pub fn update<F: FnOnce(Route) -> Route>(
     Some(made)
 }
 
-/// Takes the marks of all routes.
+/// Clears all route change flags.
 pub fn unmark(blocks: &mut Vec<Block>)
     requires { AreFilled blocks.old.items }
     ensures unmarked { joined blocks.new.items ≡ map_entries without_mark (joined blocks.old.items) }
@@ -173,7 +173,7 @@ pub fn unmark(blocks: &mut Vec<Block>)
     }
 }
 
-/// Takes the route to a prefix out, and its block where that is left empty.
+/// Removes the route to a prefix, and its block if that is left empty.
 pub fn remove(blocks: &mut Vec<Block>, prefix: &Prefix)
     requires ordered { AreBlocks blocks.old.items }
     requires present { IsSome (find prefix_cmp prefix.now (joined blocks.old.items)) }
@@ -189,8 +189,8 @@ pub fn remove(blocks: &mut Vec<Block>, prefix: &Prefix)
     }
 }
 
-/// Whether a prefix that has no route is to begin a block behind all others: where the last block is full, so that routes that
-/// are learned in order fill their blocks.
+/// Whether a prefix that has no route is to begin a block after all others. It does so if the last block is full, so that routes
+/// that are learned in order fill their blocks.
 fn begins_block(blocks: &[Block], prefix: &Prefix) -> bool
     requires { AreBlocks blocks.now }
     ensures behind { IsTrue result → All (λ e. prefix_cmp e.0 prefix.now ≡ Less) (joined blocks.now) }
@@ -207,7 +207,7 @@ fn begins_block(blocks: &[Block], prefix: &Prefix) -> bool
     last.ends_before(prefix)
 }
 
-/// Adds a block of one route behind all others.
+/// Adds a block of one route after all others.
 fn append(
     blocks: &mut Vec<Block>,
     alloc: Global,
@@ -226,7 +226,7 @@ fn append(
     Ok(())
 }
 
-/// Parts a full block in two, and says into which of them a prefix goes.
+/// Splits a full block in two: the index of the one into which a prefix goes.
 fn part(blocks: &mut Vec<Block>, at: usize, prefix: &Prefix) -> Result<usize, AllocError>
     requires ordered { AreBlocks blocks.old.items }
     requires home { IsHome blocks.old.items prefix.now at }
@@ -244,7 +244,7 @@ fn part(blocks: &mut Vec<Block>, at: usize, prefix: &Prefix) -> Result<usize, Al
     Ok(if *prefix < first { at } else { at + 1 })
 }
 
-/// The block into which a prefix goes, where there is room for it.
+/// The index of the block into which a prefix goes, with room for it.
 fn home_with_room(blocks: &mut Vec<Block>, prefix: &Prefix) -> Result<usize, AllocError>
     requires ordered { AreBlocks blocks.old.items }
     requires some { 0 < length blocks.old.items }
@@ -259,10 +259,10 @@ fn home_with_room(blocks: &mut Vec<Block>, prefix: &Prefix) -> Result<usize, All
     Ok(at)
 }
 
-/// Puts a route to a prefix that has none into its place.
+/// Inserts the route to a prefix that has none.
 ///
 /// # Errors
-/// Only want of memory.
+/// Only out of memory.
 pub fn insert(
     blocks: &mut Vec<Block>,
     alloc: Global,

@@ -1,4 +1,4 @@
-//! What `next_due` says of the routes that are due.
+//! A lemma on `next_due`: when the next timer ends.
 
 ghost use Rattle.std.specs.Prelude.{◌≡◌, ℕ, false, Option, Some, None, option_map};
 ghost use Rattle.std.specs.FinMap.{entries};
@@ -6,8 +6,8 @@ ghost use Rattle.prefix6.specs.Prefix.{Prefix6};
 ghost use Rattle.route_table.specs.Due.{deadline_at, first_due, is_reached, least_deadline, next_due, IsFirstDue};
 ghost use Rattle.route_table.specs.Table.{Table};
 
-/// The deadline that `next_due` gives is the least of all, and until it is reached no route is due.
-/// The prefix is the least of those whose routes have it, and there is none only where no route ages.
+/// The deadline that `next_due` gives is the least of all, and no timer ends before it. The prefix is the least of those whose
+/// routes have it. It gives `None` only if no route has a timer.
 pub fn next_due_is_the_least()
     ensures least { (table : Table) → option_map (λ (n : ℕ × Prefix6). n.0) (next_due table) ≡ least_deadline (entries table) }
     ensures idle { (table : Table) (now : ℕ) → is_reached now (least_deadline (entries table)) ≡ false → (after : Option Prefix6) → first_due now after table ≡ None }

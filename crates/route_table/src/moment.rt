@@ -1,4 +1,4 @@
-//! Moments in milliseconds, and deadlines that lie past them.
+//! Moments and deadlines, in milliseconds.
 
 ghost use Rattle.std.specs.Prelude.{◌≡◌, ℕ, ◌≤◌, ◌<◌, ◌+◌, ◌^◌, ◌↔◌, IsTrue, SomeIff};
 
@@ -6,8 +6,8 @@ use std::marker::Model;
 
 const LAST_MS: u64 = 1 << 60;
 
-/// A moment: whole milliseconds, at most 2^60, since a start that the caller chooses. Contracts
-/// see it as that number.
+/// A moment: milliseconds since a start that the caller chooses, at most 2^60. Contracts see it as
+/// that number.
 #[derive(Clone, Copy, Debug, PartialEq, Eq, PartialOrd, Ord)]
 pub struct Moment {
     ms: u64,
@@ -24,8 +24,8 @@ impl Model for Moment {
 }
 
 impl Moment {
-    /// The moment of so many milliseconds. `None` exactly above 2^60, so that a deadline, at most
-    /// 2^32 - 1 milliseconds later, always fits a `u64`.
+    /// The moment `ms` milliseconds after the start. `None` exactly above 2^60, so that a deadline, at
+    /// most 2^32 - 1 milliseconds later, always fits a `u64`.
     pub fn new(ms: u64) -> Option<Moment>
         ensures { SomeIff result (ms ≤ 2 ^ 60) ms }
     {
@@ -44,7 +44,7 @@ impl Moment {
         self.ms
     }
 
-    /// The deadline so many milliseconds after this moment.
+    /// The deadline `by_ms` milliseconds after this moment.
     pub fn later(self, by_ms: u32) -> Deadline
         ensures sum { result ≡ self + by_ms }
         ensures bound { result < 2 ^ 60 + 2 ^ 32 }
@@ -55,7 +55,7 @@ impl Moment {
     }
 }
 
-/// A moment at which something is due, below 2^60 + 2^32 milliseconds: it may lie past the last
+/// A moment at which a timer ends, below 2^60 + 2^32 milliseconds: it may be later than any
 /// `Moment`. Contracts see it as its milliseconds.
 #[derive(Clone, Copy, Debug, PartialEq, Eq, PartialOrd, Ord)]
 pub struct Deadline {
@@ -73,7 +73,7 @@ impl Model for Deadline {
 }
 
 impl Deadline {
-    /// The deadline that stands where there is none.
+    /// The deadline 0, which is kept for a route without a timer.
     pub(crate) fn zero() -> Deadline
         ensures { result ≡ 0 }
     {
@@ -88,7 +88,7 @@ impl Deadline {
         self.ms
     }
 
-    /// Whether the moment is at the deadline or past it.
+    /// Whether the moment is at the deadline or after it.
     pub fn reached(self, now: Moment) -> bool
         ensures { IsTrue result ↔ (self ≤ now) }
     {

@@ -1,4 +1,4 @@
-//! Routes, and what may become of them (RFC 2080, sections 2.2 and 2.3).
+//! Routes and their timers (RFC 2080, sections 2.2 and 2.3).
 
 ghost use Rattle.std.specs.Prelude.{◌≡◌, ◌≤◌, ◌<◌, true, false};
 ghost use Rattle.route_table.specs.Route.{IsRoute, infinity, is_own, deadline};
@@ -13,34 +13,33 @@ pub const INFINITY: u8 = 16;
 /// Where a route comes from.
 #[derive(Clone, Copy, Debug, PartialEq, Eq)]
 pub enum Origin {
-    /// The router's own prefix.
+    /// A prefix of the router itself: the route is local.
     Own,
-    /// A Response. Interface and sender together are the route's gateway.
+    /// A Response. Its interface and its sender together are the route's gateway.
     Learned {
-        /// The interface on which the Response came.
+        /// The number of the interface on which the Response came, from 0.
         iface: usize,
-        /// The router that sent it.
+        /// The link-local address of the router that sent it.
         from: Addr6,
         /// Where packets go, on that interface.
         next_hop: Addr6,
     },
 }
 
-/// Whether and when a route ages.
+/// The timer of a route (RFC 2080, section 2.3).
 #[derive(Clone, Copy, Debug, PartialEq, Eq)]
 pub enum Clock {
-    /// It never ages.
+    /// No timer: the route is local and valid.
     Fixed,
-    /// It is usable, and is lost at the deadline unless it is heard of again before.
+    /// The timeout: the route is valid, and is withdrawn at the deadline unless its gateway advertises it again.
     Live(Deadline),
-    /// It is unreachable, and is deleted at the deadline.
+    /// The garbage-collection timer: the route is unreachable, and is deleted at the deadline.
     Dying(Deadline),
 }
 
-/// A route to a prefix. Its metric is 1 to 15 hops, or 16 for unreachable exactly while it is
-/// dying. One that never ages is exactly a router's own route of metric 1; an own route never ages
-/// or, once the router has given its prefix up, is dying. So origin and metric say which clock it
-/// is, and only its deadline is kept; the fields stand in an order that leaves no gaps.
+/// A route to a prefix (RFC 2080, section 2.2). Its metric is 1 to 15 hops, or 16 while it is garbage-collected. A local route has
+/// metric 1 and no timer; once the router no longer owns the prefix, it is garbage-collected too. So origin and metric tell which
+/// timer runs, and only its deadline is kept. The order of the fields leaves no gaps in memory.
 #[derive(Clone, Copy, Debug, PartialEq, Eq)]
 pub struct Route {
     metric: u8,
@@ -93,7 +92,7 @@ impl Model for Route {
 }
 
 impl Route {
-    /// The unmarked route to a prefix of the router's own: metric 1, and it never ages.
+    /// The local route to a prefix of the router: metric 1, no timer, and its route change flag not set.
     pub fn own(tag: u16) -> Route
         ensures { result ≡ record {
           metric = 1;
@@ -112,7 +111,7 @@ impl Route {
         }
     }
 
-    /// A learned route of a usable metric, 1 to 15 hops, until a deadline. It is marked as changed.
+    /// A learned route of a usable metric, 1 to 15 hops, valid until a deadline. Its route change flag is set.
     pub fn live(metric: u8, tag: u16, origin: Origin, until: Deadline) -> Route
         requires positive { 1 ≤ metric }
         requires usable { metric < infinity }
@@ -134,8 +133,8 @@ impl Route {
         }
     }
 
-    /// The same route, now unreachable and to be deleted at a deadline. It is marked as changed; its
-    /// tag and origin stay.
+    /// The same route, withdrawn: unreachable, to be deleted at a deadline, and with its route change flag set. Its tag and origin
+    /// stay (RFC 2080, section 2.3).
     pub fn lost(self, until: Deadline) -> Route
         ensures { result ≡ record self {
           metric = infinity;
@@ -151,7 +150,7 @@ impl Route {
         }
     }
 
-    /// The same route, marked as changed or not.
+    /// The same route, with its route change flag set or not.
     pub fn with_mark(self, changed: bool) -> Route
         ensures { result ≡ record self { changed = changed } }
     {
@@ -166,7 +165,7 @@ impl Route {
         self.metric
     }
 
-    /// The route tag, which routers carry along (RFC 2080, section 2.1).
+    /// The route tag, which routers keep and advertise unchanged (RFC 2080, section 2.1).
     pub fn tag(&self) -> u16
         ensures { result ≡ self.now.tag }
     {
@@ -181,7 +180,7 @@ impl Route {
         self.origin
     }
 
-    /// Whether and when the route ages.
+    /// The timer of the route.
     pub fn clock(&self) -> Clock
         ensures value { result ≡ self.now.clock }
         ensures lawful { IsRoute self.now }
@@ -195,7 +194,7 @@ impl Route {
         }
     }
 
-    /// The deadline of a route that ages.
+    /// The deadline of the route's timer, if it has one.
     pub fn deadline(&self) -> Option<Deadline>
         ensures { result ≡ deadline self.now }
     {
@@ -206,7 +205,7 @@ impl Route {
         }
     }
 
-    /// Whether the next triggered update is to tell the route (RFC 2080, section 2.5.1).
+    /// The route change flag: whether the next triggered update advertises the route (RFC 2080, section 2.5.1).
     pub fn is_changed(&self) -> bool
         ensures { result ≡ self.now.changed }
     {

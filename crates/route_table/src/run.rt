@@ -1,4 +1,4 @@
-//! Routes side by side in the order of their prefixes, searched by bisection.
+//! A slice of routes in the order of their prefixes, searched by bisection.
 
 ghost use Rattle.std.specs.Prelude.{◌≡◌, T, IfOk, IfErr};
 ghost use Rattle.std.specs.FinMap.{is_sorted};
@@ -14,7 +14,7 @@ use crate::summary::Summary;
 use crate::wanted::Wanted;
 use prefix6::Prefix;
 
-/// Where the prefix is, or where it would go.
+/// The index of the prefix, or the one where it would go.
 pub fn search(routes: &[(Prefix, Route)], prefix: &Prefix) -> Result<usize, usize>
     requires { T (is_sorted prefix_cmp routes.now) }
     ensures found { IfOk result (IsAt routes.now prefix.now) }
@@ -23,7 +23,7 @@ pub fn search(routes: &[(Prefix, Route)], prefix: &Prefix) -> Result<usize, usiz
     routes.binary_search_by_key(prefix, |&(p, _)| p)
 }
 
-/// The same, where the end is looked at first, since routes are learned in the order of their prefixes.
+/// The same, but the end is looked at first, since routes are learned in the order of their prefixes.
 pub fn search_from_end(routes: &[(Prefix, Route)], prefix: &Prefix) -> Result<usize, usize>
     requires { T (is_sorted prefix_cmp routes.now) }
     ensures found { IfOk result (IsAt routes.now prefix.now) }
@@ -36,7 +36,7 @@ pub fn search_from_end(routes: &[(Prefix, Route)], prefix: &Prefix) -> Result<us
     search(routes, prefix)
 }
 
-/// Where the routes past the prefix begin, or past none.
+/// The index of the first route past the prefix, or 0 without a prefix.
 fn place_past(routes: &[(Prefix, Route)], after: Option<Prefix>) -> usize
     requires { T (is_sorted prefix_cmp routes.now) }
     ensures { IsStartPast routes.now after result }
@@ -50,7 +50,7 @@ fn place_past(routes: &[(Prefix, Route)], after: Option<Prefix>) -> usize
     }
 }
 
-/// What is known of these routes together.
+/// The summary of these routes.
 pub fn sum_up(routes: &[(Prefix, Route)]) -> Summary
     ensures { result ≡ summary_of routes.now }
 {
@@ -79,7 +79,7 @@ pub fn first_wanted(
     None
 }
 
-/// Takes the marks of all routes.
+/// Clears all route change flags.
 pub fn unmark(routes: &mut [(Prefix, Route)])
     ensures { routes.new ≡ map_entries without_mark routes.old }
 {

@@ -1,4 +1,4 @@
-//! A table as a sorted vector of sorted blocks of routes.
+//! A table as a sorted vector of sorted blocks of routes: the store of the program.
 
 ghost use Rattle.std.specs.Prelude.{◌≡◌};
 ghost use Rattle.std.specs.FinMap.{entries};
@@ -15,15 +15,15 @@ use prefix6::Prefix;
 use std::alloc::Global;
 use std::marker::Model;
 
-/// A table of routes in the order of their prefixes, in blocks that are not empty. To add or to remove one moves what is behind it
-/// in its block, and not the whole table, and a search for what is due or marked looks at the bounds of the blocks first.
+/// A table of routes in the order of their prefixes, in blocks that are not empty. Adding or removing a route moves only what
+/// follows it in its block. A search for ended timers or route change flags looks at the bounds of the blocks first.
 #[derive(Drop)]
 pub struct SortedRoutes {
     alloc: Global,
     count: usize,
     blocks: Vec<Block>,
-    /// The place behind the route that was updated last, where the next update looks first: neighbors tell routes in the order
-    /// of their prefixes. It is no part of the value, and another route or none may stand there.
+    /// The place after the route that was updated last. The next update looks there first, since neighbors advertise routes in the
+    /// order of their prefixes. It is not part of the value, and any route or none may stand there.
     next: Place,
 }
 
@@ -46,7 +46,7 @@ impl Model for SortedRoutes {
 }
 
 impl SortedRoutes {
-    /// The least deadline of the routes that age, in milliseconds.
+    /// The least deadline of the routes, in milliseconds.
     fn due_ms(&self) -> Option<u64>
         ensures { result ≡ least_deadline (entries self.now) }
     {

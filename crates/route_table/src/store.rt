@@ -1,4 +1,4 @@
-//! What a table of routes is, whatever it is made of.
+//! What a table of routes does, however it is stored.
 
 ghost use Rattle.std.specs.Prelude.{◌≡◌, ◌≤◌, ◌+◌, ◌++◌, ◌↔◌, None, IsTrue, IsSome, IfSome, option_map, OnOk, OnErr, vec_len, vec_capacity};
 ghost use Rattle.std.specs.FinMap as map;
@@ -11,17 +11,17 @@ use prefix6::Prefix;
 use std::alloc::Global;
 use thiserror::Error;
 
-/// The most routes that a table holds.
+/// The most routes of a table: this project's choice.
 pub const TABLE_LIMIT: usize = 65_536;
 
-/// Why a route was not added. The table is then as it was.
+/// Why a route was not added. The table is then unchanged.
 #[derive(Clone, Copy, Debug, PartialEq, Eq, Error)]
 pub enum AddRefused {
-    /// The table holds as many routes as it may.
+    /// The table holds `TABLE_LIMIT` routes.
     #[error("the table of routes is full")]
     Full = 1,
 
-    /// Memory for the route was refused.
+    /// Out of memory.
     #[error("no memory for another route")]
     NoMemory = 2,
 }
@@ -45,10 +45,10 @@ impl AddRefused {
     }
 }
 
-/// A table of routes: a finite map from prefix to route, of at most `TABLE_LIMIT` routes. No call
-/// but `add` takes memory.
+/// A table of routes: a finite map from prefix to route, of at most `TABLE_LIMIT` routes (RFC 2080, section 2.2). Only `add` takes
+/// memory.
 pub trait RouteStore: Drop {
-    /// The map.
+    /// The map from prefix to route that contracts see.
     ghost table: { Self → Table };
 
     /// A table without a route.
@@ -76,37 +76,40 @@ pub trait RouteStore: Drop {
     fn walk(&self, after: Option<Prefix>) -> Option<(Prefix, Route)>
         ensures { result ≡ first_past after (table self.now) };
 
-    /// The same for routes that age and whose deadline is reached.
+    /// The same among routes whose timer has ended: their deadline is reached (RFC 2080, section 2.3).
     fn walk_due(&self, after: Option<Prefix>, now: Moment) -> Option<(Prefix, Route)>
         ensures { result ≡ first_due now after (table self.now) };
 
-    /// The same for routes that are marked as changed.
+    /// The same among routes whose route change flag is set (RFC 2080, section 2.5.1).
     fn walk_changed(&self, after: Option<Prefix>) -> Option<(Prefix, Route)>
         ensures { result ≡ first_changed after (table self.now) };
 
-    /// The least deadline of the routes that age, with the first prefix whose route has it.
+    /// The least deadline of all timers, with the first prefix whose route has it.
     fn next_due(&self) -> Option<(Deadline, Prefix)>
         ensures { result ≡ next_due (table self.now) };
 
-    /// Appends all routes in the order of their prefixes, into room that is there.
+    /// Appends all routes in the order of their prefixes. The vector must have room for them, so no memory is taken.
     fn list(&self, out: &mut Vec<(Prefix, Route)>)
         requires room { vec_len out.old + map.len (table self.now) ≤ vec_capacity out.old }
         ensures { out.new.items ≡ out.old.items ++ map.entries (table self.now) };
 
-    /// Adds a route to a prefix that has none. That the table is full is tested first.
+    /// Adds a route to a prefix that has none.
+    ///
+    /// # Errors
+    /// `Full` is tested first, then `NoMemory`. The table is then unchanged.
     fn add(&mut self, prefix: Prefix, route: Route) -> Result<(), AddRefused>
         requires absent { map.get (table self.old) prefix ≡ None }
         ensures ok { OnOk result (table self.new ≡ map.insert (table self.old) prefix route) }
         ensures full { (result ≡ Err AddRefused.Full) ↔ (table_limit ≤ map.len (table self.old)) }
         ensures err { OnErr result (table self.new ≡ table self.old) };
 
-    /// Puts another route in the place of the one to this prefix.
+    /// Replaces the route to this prefix.
     fn replace(&mut self, prefix: &Prefix, route: Route)
         requires present { IsSome (map.get (table self.old) prefix.now) }
         ensures { table self.new ≡ map.insert (table self.old) prefix.now route };
 
-    /// Puts what is made of the route to this prefix in its place, as `get` and `replace` would with one search more: the routes
-    /// before and after. Where there is no route, nothing is made.
+    /// Replaces the route to this prefix by what `make` returns for it, in one search. The result is the route before and after.
+    /// `None` if there is no route; `make` is not called then.
     fn update<F: FnOnce(Route) -> Route>(
         &mut self,
         prefix: &Prefix,
@@ -117,11 +120,11 @@ pub trait RouteStore: Drop {
         ensures by { IfSome result (λ made. F.post make made.0 made.1) }
         ensures after { table self.new ≡ table_with prefix.now result (table self.old) };
 
-    /// Takes the marks of all routes that are marked as changed.
+    /// Clears all route change flags (RFC 2080, section 2.5.1).
     fn unmark(&mut self)
         ensures { table self.new ≡ unmarked (table self.old) };
 
-    /// Takes out the route to this prefix.
+    /// Removes the route to this prefix.
     fn remove(&mut self, prefix: &Prefix)
         requires present { IsSome (map.get (table self.old) prefix.now) }
         ensures { table self.new ≡ map.remove (table self.old) prefix.now };

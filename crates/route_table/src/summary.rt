@@ -1,4 +1,4 @@
-//! What a fork of the trie knows of the routes below it without looking at them.
+//! What is known of several routes without a look at them, so that a search can skip them.
 
 ghost use Rattle.std.specs.Prelude.{◌≡◌, ◌↔◌, false, IsTrue, Option};
 ghost use Rattle.route_table.specs.Due.{earlier, is_reached};
@@ -8,9 +8,8 @@ use crate::moment::Deadline;
 use crate::route::Route;
 use std::marker::Model;
 
-/// The least deadline of the routes that age, and whether a route is marked as changed. The
-/// deadline, in milliseconds, and the word that there is one stand apart, so that the whole takes
-/// two words of memory.
+/// The least deadline of some routes, and whether the route change flag of one is set. The deadline, in milliseconds, and whether
+/// there is one are two fields, so that the whole takes 16 bytes.
 #[derive(Clone, Copy)]
 pub struct Summary {
     due_ms: u64,
@@ -38,7 +37,7 @@ impl Model for Summary {
     } };
 }
 
-/// The earlier of two deadlines, of those that there are.
+/// The earlier of two deadlines, or the only one, if there is one.
 pub fn earlier(one: Option<u64>, other: Option<u64>) -> Option<u64>
     ensures { result ≡ earlier one other }
 {
@@ -96,7 +95,7 @@ impl Summary {
         }
     }
 
-    /// The summary of the same routes without their marks.
+    /// The summary of the same routes with their route change flags cleared.
     pub fn without_mark(self) -> Summary
         ensures { result ≡ record self { changed = false } }
     {
@@ -106,14 +105,14 @@ impl Summary {
         }
     }
 
-    /// Whether both say the same.
+    /// Whether both are equal.
     pub fn is_same(&self, other: &Summary) -> bool
         ensures { IsTrue result ↔ (self.now ≡ other.now) }
     {
         self.due_ms == other.due_ms && self.ages == other.ages && self.changed == other.changed
     }
 
-    /// Becomes another summary, and says whether that says something else. Where it does not, nothing is written.
+    /// Becomes another summary. The result says whether that is a change; if not, nothing is written.
     pub fn set(&mut self, other: Summary) -> bool
         ensures value { self.new ≡ other }
         ensures kept { result ≡ false → self.new ≡ self.old }
@@ -125,21 +124,21 @@ impl Summary {
         true
     }
 
-    /// Whether a route is due by then.
+    /// Whether the least deadline is at most `by` milliseconds.
     pub fn is_reached(&self, by: u64) -> bool
         ensures { result ≡ is_reached by self.now.due }
     {
         self.ages && self.due_ms <= by
     }
 
-    /// Whether a route is marked as changed.
+    /// Whether a route change flag is set.
     pub fn has_changed(&self) -> bool
         ensures { result ≡ self.now.changed }
     {
         self.changed
     }
 
-    /// Whether a route is due before a deadline, if there is one.
+    /// Whether the least deadline is earlier than another, if there is another.
     pub fn is_due_before(&self, due: Option<u64>) -> bool
         ensures { result ≡ false → earlier due self.now.due ≡ due }
     {
@@ -149,7 +148,7 @@ impl Summary {
         }
     }
 
-    /// The least deadline of the routes that age, in milliseconds.
+    /// The least deadline of the routes, in milliseconds.
     pub fn due_ms(&self) -> Option<u64>
         ensures { result ≡ self.now.due }
     {

@@ -1,9 +1,9 @@
-//! A binary trie of routes whose paths are compressed: a fork stands only where prefixes part, or
-//! where one that has a route lies above others.
+//! A binary trie of routes with compressed paths: a fork stands only where prefixes part, or where a
+//! prefix that has a route lies above others.
 //!
 //! Each route has a leaf of its own, a box that it keeps from `add` to `remove`. A fork has a
-//! prefix, the leaf of that very prefix if there is one, and what lies under the next bit 0 and 1.
-//! With each of n routes come one leaf and, but for the first, at most one fork.
+//! prefix, the leaf of exactly that prefix if there is one, and the nodes under the next bit 0 and 1.
+//! A trie of n routes has n leaves and at most n - 1 forks.
 
 ghost use Rattle.std.specs.Prelude.{◌≡◌, ◌↔◌, false, ◌+◌, ◌≤◌, [], ◌∷◌, ◌++◌, length, None, Some, option_map, IsSome, IsTrue, vec_len, vec_capacity};
 ghost use Rattle.std.specs.Option.{option_copied};
@@ -29,10 +29,10 @@ pub use updating::{unmark, update};
 /// A prefix and its route.
 pub type Entry = (Prefix, Route);
 
-/// What hangs at a place of the trie.
+/// A node of the trie.
 #[cycle(trie)]
 #[derive(Drop)]
-pub enum Link {
+pub enum Node {
     Empty,
     Leaf(Box<Entry>),
     Fork(Box<Fork>),
@@ -44,8 +44,8 @@ pub enum Link {
 pub struct Fork {
     prefix: Prefix,
     summary: Summary,
-    low: Link,
-    high: Link,
+    low: Node,
+    high: Node,
     own: Option<Box<Entry>>,
 }
 
@@ -74,21 +74,21 @@ impl Model for Fork {
 }
 
 impl Fork {
-    /// A fork with nothing at it: one that is to be filled, or to be freed.
-    fn hollow(prefix: Prefix) -> Fork
+    /// An empty fork: one that is to be filled, or to be freed.
+    fn empty(prefix: Prefix) -> Fork
         ensures { result ≡ [] }
     {
         Fork {
             prefix,
             summary: Summary::nothing(),
             own: None,
-            low: Link::Empty,
-            high: Link::Empty,
+            low: Node::Empty,
+            high: Node::Empty,
         }
     }
 
     /// A fork of these parts.
-    fn of(prefix: Prefix, own: Option<Box<Entry>>, low: Link, high: Link) -> Fork
+    fn of(prefix: Prefix, own: Option<Box<Entry>>, low: Node, high: Node) -> Fork
         requires parts { AreParts prefix (owned own) (linked low) (linked high) }
         requires shared { AreShared (owned own) (linked low) (linked high) }
         requires low_some { HasEntries low }
@@ -105,7 +105,7 @@ impl Fork {
         }
     }
 
-    /// What the fork knows of the routes below it.
+    /// The summary of the routes below the fork.
     fn summary(&self) -> Summary
         ensures { result ≡ summary_of self.now }
     {
@@ -113,29 +113,29 @@ impl Fork {
     }
 }
 
-impl Link {
-    /// Whether nothing hangs there.
+impl Node {
+    /// Whether there is no route below the node.
     fn is_empty(&self) -> bool
         requires { HasEntries self.now }
         ensures { IsTrue result ↔ (length (linked self.now) ≡ 0) }
     {
-        matches!(self, Link::Empty)
+        matches!(self, Node::Empty)
     }
 
-    /// What is known of the routes below the link without looking at them.
+    /// The summary of the routes below the node.
     fn summary(&self) -> Summary
         ensures { result ≡ summary_of (linked self.now) }
     {
         match self {
-            Link::Empty => Summary::nothing(),
-            Link::Leaf(leaf) => Summary::of(&leaf.1),
-            Link::Fork(fork) => fork.summary(),
+            Node::Empty => Summary::nothing(),
+            Node::Leaf(leaf) => Summary::of(&leaf.1),
+            Node::Fork(fork) => fork.summary(),
         }
     }
 }
 
 /// The summary of a fork of these parts.
-fn summary_of_parts(own: &Option<Box<Entry>>, low: &Link, high: &Link) -> Summary
+fn summary_of_parts(own: &Option<Box<Entry>>, low: &Node, high: &Node) -> Summary
     ensures { result ≡ summary_of (fork_entries own.now low.now high.now) }
 {
     let below = low.summary().and(high.summary());
@@ -145,30 +145,30 @@ fn summary_of_parts(own: &Option<Box<Entry>>, low: &Link, high: &Link) -> Summar
     }
 }
 
-/// The least deadline of the routes below a link, in milliseconds.
-pub fn due_ms(link: &Link) -> Option<u64>
-    ensures { result ≡ least_deadline (linked link.now) }
+/// The least deadline of the routes below a node, in milliseconds.
+pub fn due_ms(node: &Node) -> Option<u64>
+    ensures { result ≡ least_deadline (linked node.now) }
 {
-    link.summary().due_ms()
+    node.summary().due_ms()
 }
 
-/// The route to a prefix below a link.
-pub fn get(link: &Link, key: &Prefix) -> Option<Route>
-    ensures { result ≡ find prefix_cmp key.now (linked link.now) }
+/// The route to a prefix below a node.
+pub fn get(node: &Node, key: &Prefix) -> Option<Route>
+    ensures { result ≡ find prefix_cmp key.now (linked node.now) }
 {
-    let entry = seek(link, key)?;
+    let entry = seek(node, key)?;
     Some(entry.1)
 }
 
-/// The entry of a prefix below a link. A loop would be compiled to a choice between two addresses in place of a branch,
-/// and then takes longer, since prefixes are mostly looked for in their order and the branch is foreseen.
-fn seek<'a>(link: &'a Link, key: &Prefix) -> Option<&'a Entry>
-    ensures { option_map (λ (e : Prefix6 × RouteValue). e.1) (option_copied result) ≡ find prefix_cmp key.now (linked link.now) }
+/// The entry of a prefix below a node. This is a recursion since a loop is slower: it is compiled to a conditional move in place
+/// of a branch, and prefixes mostly come in their order, so that the branch is predicted.
+fn seek<'a>(node: &'a Node, key: &Prefix) -> Option<&'a Entry>
+    ensures { option_map (λ (e : Prefix6 × RouteValue). e.1) (option_copied result) ≡ find prefix_cmp key.now (linked node.now) }
 {
-    match link {
-        Link::Empty => None,
-        Link::Leaf(leaf) => at_leaf(leaf, key),
-        Link::Fork(fork) => {
+    match node {
+        Node::Empty => None,
+        Node::Leaf(leaf) => at_leaf(leaf, key),
+        Node::Fork(fork) => {
             let fork: &Fork = fork;
             if key.len() <= fork.prefix.len() {
                 at_own(&fork.own, key)
@@ -219,15 +219,15 @@ fn wanted_own(own: &Option<Box<Entry>>, wanted: Wanted) -> Option<&Entry>
     }
 }
 
-/// The first entry below a link that is wanted. Where the summary says that there is none, nothing
+/// The first entry below a node that is wanted. Where the summary says that there is none, nothing
 /// below is looked at.
-pub fn first(link: &Link, wanted: Wanted) -> Option<&Entry>
-    ensures { option_copied result ≡ first_where (meets wanted) None (linked link.now) }
+pub fn first(node: &Node, wanted: Wanted) -> Option<&Entry>
+    ensures { option_copied result ≡ first_where (meets wanted) None (linked node.now) }
 {
-    match link {
-        Link::Empty => None,
-        Link::Leaf(leaf) => wanted_leaf(leaf, wanted),
-        Link::Fork(fork) => {
+    match node {
+        Node::Empty => None,
+        Node::Leaf(leaf) => wanted_leaf(leaf, wanted),
+        Node::Fork(fork) => {
             let fork: &Fork = fork;
             if !wanted.may_be_in(&fork.summary) {
                 return None;
@@ -243,26 +243,26 @@ pub fn first(link: &Link, wanted: Wanted) -> Option<&Entry>
     }
 }
 
-/// The first entry below a link that is past a prefix and wanted.
-pub fn first_past<'a>(link: &'a Link, after: &Prefix, wanted: Wanted) -> Option<&'a Entry>
-    ensures { option_copied result ≡ first_where (meets wanted) (Some after.now) (linked link.now) }
+/// The first entry below a node that is past a prefix and wanted.
+pub fn first_past<'a>(node: &'a Node, after: &Prefix, wanted: Wanted) -> Option<&'a Entry>
+    ensures { option_copied result ≡ first_where (meets wanted) (Some after.now) (linked node.now) }
 {
-    match link {
-        Link::Empty => None,
-        Link::Leaf(leaf) => {
+    match node {
+        Node::Empty => None,
+        Node::Leaf(leaf) => {
             if *after < leaf.0 {
                 wanted_leaf(leaf, wanted)
             } else {
                 None
             }
         }
-        Link::Fork(fork) => {
+        Node::Fork(fork) => {
             let fork: &Fork = fork;
             if !wanted.may_be_in(&fork.summary) {
                 return None;
             }
             if *after < fork.prefix {
-                return first(link, wanted);
+                return first(node, wanted);
             }
             if !fork.prefix.is_before_middle(after) {
                 return first_past(&fork.high, after, wanted);
@@ -275,17 +275,17 @@ pub fn first_past<'a>(link: &'a Link, after: &Prefix, wanted: Wanted) -> Option<
     }
 }
 
-/// Appends the entries below a link in their order, into room that is there.
-pub fn list(link: &Link, out: &mut Vec<Entry>)
-    requires { vec_len out.old + length (linked link.now) ≤ vec_capacity out.old }
-    ensures items { out.new.items ≡ out.old.items ++ linked link.now }
-    ensures len { vec_len out.new ≡ vec_len out.old + length (linked link.now) }
+/// Appends the entries below a node in their order. The vector must have room for them.
+pub fn list(node: &Node, out: &mut Vec<Entry>)
+    requires { vec_len out.old + length (linked node.now) ≤ vec_capacity out.old }
+    ensures items { out.new.items ≡ out.old.items ++ linked node.now }
+    ensures len { vec_len out.new ≡ vec_len out.old + length (linked node.now) }
     ensures capacity { vec_capacity out.new ≡ vec_capacity out.old }
 {
-    match link {
-        Link::Empty => {}
-        Link::Leaf(leaf) => out.push_reserved(**leaf),
-        Link::Fork(fork) => {
+    match node {
+        Node::Empty => {}
+        Node::Leaf(leaf) => out.push_reserved(**leaf),
+        Node::Fork(fork) => {
             let fork: &Fork = fork;
             if let Some(leaf) = &fork.own {
                 out.push_reserved(**leaf);

@@ -8,7 +8,7 @@ ghost use Rattle.route_table.specs.Summary.{meets};
 use crate::moment::{Deadline, Moment};
 use crate::route::Route;
 use crate::store::{AddRefused, RouteStore, TABLE_LIMIT};
-use crate::trie::{self, Link};
+use crate::trie::{self, Node};
 use crate::wanted::Wanted;
 use prefix6::Prefix;
 use std::alloc::Global;
@@ -20,7 +20,7 @@ use std::mem;
 pub struct TrieRoutes {
     alloc: Global,
     count: usize,
-    root: Link,
+    root: Node,
 }
 
 impl Model for TrieRoutes {
@@ -42,7 +42,7 @@ impl Model for TrieRoutes {
 }
 
 impl TrieRoutes {
-    /// The least deadline of the routes that age, in milliseconds.
+    /// The least deadline of the routes, in milliseconds.
     fn due_ms(&self) -> Option<u64>
         ensures { result ≡ least_deadline (entries self.now) }
     {
@@ -67,7 +67,7 @@ impl RouteStore for TrieRoutes {
         TrieRoutes {
             alloc,
             count: 0,
-            root: Link::Empty,
+            root: Node::Empty,
         }
     }
 
@@ -115,7 +115,7 @@ impl RouteStore for TrieRoutes {
         let Ok((leaf, spare)) = trie::boxes(self.alloc, prefix, route) else {
             return Err(AddRefused::NoMemory);
         };
-        let root = mem::replace(&mut self.root, Link::Empty);
+        let root = mem::replace(&mut self.root, Node::Empty);
         self.root = trie::add(root, leaf, spare);
         self.count += 1;
         Ok(())
@@ -140,7 +140,7 @@ impl RouteStore for TrieRoutes {
     }
 
     fn remove(&mut self, prefix: &Prefix) {
-        let root = mem::replace(&mut self.root, Link::Empty);
+        let root = mem::replace(&mut self.root, Node::Empty);
         self.root = trie::remove(root, prefix);
         self.count -= 1;
     }

@@ -1,4 +1,4 @@
-//! What a search for routes looks for.
+//! Which routes a search looks for.
 
 ghost use Rattle.std.specs.Prelude.{◌≡◌};
 ghost use Rattle.route_table.specs.Due.{is_reached};
@@ -11,15 +11,15 @@ use crate::summary::Summary;
 /// Which routes a search looks for.
 #[derive(Clone, Copy, Debug, PartialEq, Eq)]
 pub enum Wanted {
-    /// All of them.
+    /// All routes.
     Any,
-    /// Those that age and whose deadline is at most so many milliseconds.
+    /// Those with a timer whose deadline is at most this many milliseconds.
     Due(u64),
-    /// Those that are marked as changed.
+    /// Those whose route change flag is set.
     Changed,
 }
 
-/// Whether there is a deadline of at most so many milliseconds.
+/// Whether there is a deadline of at most `by` milliseconds.
 fn is_reached(deadline: Option<Deadline>, by: u64) -> bool
     ensures { result ≡ is_reached by deadline }
 {

@@ -1,4 +1,4 @@
--- What a router is configured with, and which configurations are lawful. The reasons, their order and their names are this
+-- The configuration of a router, and which configurations are accepted. The reasons, their order and their names are this
 -- project's choice; the ranges are those of RFC 2080, 2.1 and 2.4.2.
 use Rattle.std.specs.Prelude.{◌≡◌, ℕ, ◌==◌, ◌&&◌, not, nat_lt, nat_le, Bool, List, [], ◌∷◌, ◌++◌, length, take, flat_map, Option, None, All, unwrap_or, option_map, slice_get, codes}
 use Rattle.std.specs.List.{list_any, enumerate_from}
@@ -16,27 +16,27 @@ pub record Config : Type 0 where
   pub prefixes : List (Prefix6 × ℕ)  -- with their tags
   pub quiet : Bool
 
--- a configuration of these parts
+-- a configuration of these parts; a quiet router is passive
 abbrev pub config : List Interface → List (Prefix6 × ℕ) → Bool → Config
 config interfaces prefixes quiet = record { interfaces = interfaces; prefixes = prefixes; quiet = quiet }
 
--- the cost of an interface; one that is not there reaches nothing
+-- the cost of an interface in hops; over one that is not there nothing is reachable
 abbrev pub cost_at : Config → ℕ → ℕ
 cost_at config iface = unwrap_or (option_map (λ i. i.cost) (slice_get config.interfaces iface)) infinity
 
--- the MTU of an interface, or the least one of IPv6
+-- the MTU of an interface in bytes, or the least MTU of IPv6
 abbrev pub mtu_at : Config → ℕ → ℕ
 mtu_at config iface = unwrap_or (option_map (λ i. i.mtu) (slice_get config.interfaces iface)) 1280
 
--- an interface has the address
+-- whether an interface has the address
 abbrev pub has_address : List Interface → ℕ → Bool
 has_address interfaces a = list_any (λ i. i.addr == a) interfaces
 
--- the prefix is owned
+-- whether the prefix is owned, with any tag
 abbrev pub has_prefix : List (Prefix6 × ℕ) → Prefix6 → Bool
 has_prefix owned p = list_any (λ t. same_prefix t.0 p) owned
 
--- an address of one of the router's interfaces
+-- whether the address is that of one of the router's interfaces
 abbrev pub is_own_address : Config → ℕ → Bool
 is_own_address config a = has_address config.interfaces a
 
@@ -48,17 +48,17 @@ interface_limit = 16
 abbrev pub owned_limit : ℕ
 owned_limit = 1_024
 
--- ---- which configurations are lawful: each reason stands with whether it applies
+-- ---- which configurations are accepted: each reason stands with whether it applies
 
--- 1 to 15 hops
+-- a cost of 1 to 15 hops (RFC 2080, 2.1)
 abbrev pub is_usable_cost : ℕ → Bool
 is_usable_cost cost = nat_le 1 cost && nat_lt cost infinity
 
--- from the least MTU of IPv6 to the longest datagram of UDP
+-- from the least MTU of IPv6 (RFC 8200, 5) to the longest datagram of UDP (RFC 768)
 abbrev pub is_usable_mtu : ℕ → Bool
 is_usable_mtu mtu = nat_le 1280 mtu && nat_le mtu 65535
 
--- the reasons to refuse an interface behind earlier ones
+-- the reasons to refuse an interface that follows earlier ones
 abbrev pub interface_reasons : List Interface → Interface → List (Bool × ConfigRefused)
 interface_reasons earlier i =
     (not (is_link_local i.addr), AddressNotLinkLocal)
@@ -67,14 +67,14 @@ interface_reasons earlier i =
     ∷ (not (is_usable_mtu i.mtu), BadMtu)
     ∷ []
 
--- the reasons to refuse an owned prefix behind earlier ones
+-- the reasons to refuse an owned prefix that follows earlier ones
 abbrev pub prefix_reasons : List (Prefix6 × ℕ) → Prefix6 × ℕ → List (Bool × ConfigRefused)
 prefix_reasons earlier t =
     (has_prefix earlier t.0, PrefixTwice)
     ∷ (not (is_routable t.0), PrefixNotAllowed)
     ∷ []
 
--- the reasons to refuse each member of a list behind the earlier ones, in order
+-- the reasons to refuse each member of a list that follows the earlier ones, in order
 abbrev pub reasons_of_each : {X F : Type 0} → (List X → X → List (Bool × F)) → List X → List (Bool × F)
 reasons_of_each reasons xs = flat_map (λ t. reasons (take t.0 xs) t.1) (enumerate_from 0 xs)
 
@@ -87,35 +87,23 @@ config_reasons c =
     ++ (nat_lt owned_limit (length c.prefixes), TooManyPrefixes)
     ∷ reasons_of_each prefix_reasons c.prefixes
 
--- the first reason that applies
+-- why a configuration is refused, if it is: the first reason that applies
 abbrev pub config_fault : Config → Option ConfigRefused
 config_fault c = first_reason (config_reasons c)
 
--- a configuration that there is no reason to refuse, of prefixes that are prefixes
+-- an accepted configuration: there is no reason to refuse it, and its prefixes are prefixes
 pub record IsConfig (c : Config) : Type 0 where
   pub passes : config_fault c ≡ None
   pub prefixes : All (λ t. IsPrefix t.0) c.prefixes
 
--- the number of a refusal
-abbrev pub config_refused_number : ConfigRefused → ℕ
-config_refused_number NoInterface = 1
-config_refused_number TooManyInterfaces = 2
-config_refused_number AddressNotLinkLocal = 3
-config_refused_number AddressTwice = 4
-config_refused_number BadCost = 5
-config_refused_number BadMtu = 6
-config_refused_number TooManyPrefixes = 7
-config_refused_number PrefixTwice = 8
-config_refused_number PrefixNotAllowed = 9
-
--- the name of a refusal
-abbrev pub config_refused_name : ConfigRefused → List ℕ
-config_refused_name NoInterface = codes "NoInterface"
-config_refused_name TooManyInterfaces = codes "TooManyInterfaces"
-config_refused_name AddressNotLinkLocal = codes "AddressNotLinkLocal"
-config_refused_name AddressTwice = codes "AddressTwice"
-config_refused_name BadCost = codes "BadCost"
-config_refused_name BadMtu = codes "BadMtu"
-config_refused_name TooManyPrefixes = codes "TooManyPrefixes"
-config_refused_name PrefixTwice = codes "PrefixTwice"
-config_refused_name PrefixNotAllowed = codes "PrefixNotAllowed"
+-- a refusal as it is printed: `NUMBER NAME`
+abbrev pub config_refused_text : ConfigRefused → List ℕ
+config_refused_text NoInterface = codes "1 NoInterface"
+config_refused_text TooManyInterfaces = codes "2 TooManyInterfaces"
+config_refused_text AddressNotLinkLocal = codes "3 AddressNotLinkLocal"
+config_refused_text AddressTwice = codes "4 AddressTwice"
+config_refused_text BadCost = codes "5 BadCost"
+config_refused_text BadMtu = codes "6 BadMtu"
+config_refused_text TooManyPrefixes = codes "7 TooManyPrefixes"
+config_refused_text PrefixTwice = codes "8 PrefixTwice"
+config_refused_text PrefixNotAllowed = codes "9 PrefixNotAllowed"

@@ -1,4 +1,4 @@
--- What a Response makes of a table: each prefix is judged by itself, on the entries that name it (RFC 2080, 2.4.2).
+-- What a Response does to a table: each prefix by itself, from the entries that name it (RFC 2080, 2.4.2).
 use Rattle.std.specs.Prelude.{◌≡◌, ℕ, ◌+◌, ◌<◌, ◌==◌, ◌&&◌, not, nat_lt, nat_le, Bool, true, false, if◌then◌else◌, List, [], ◌∷◌, map, length, take, filter, find, fold, count_by, All, Contains, Option, Some, None, is_some, is_none, option_map, slice_get}
 use Rattle.std.specs.List.{enumerate_from}
 use Rattle.std.specs.List.Sorted.{IsStrictlyIncreasing}
@@ -15,8 +15,8 @@ use Rattle.router_core.specs.declared.answer.Note.{Note}
 use Rattle.router_core.specs.declared.answer.NoteKind.{NoteKind}
 use Rattle.router_core.specs.declared.answer.NoteKind.TheVariants.{TableFull, NoMemory}
 
--- the entries of a Response from a gateway, the table that they meet, and the notes that were made. The notes result from the
--- hearing, and are part of it since nothing else tells for which new routes memory was wanting; `Heard` says which notes may be
+-- the processing of a Response: its entries and gateway, the table before, and the notes that were made. The notes are part of
+-- this since nothing else says for which new routes memory ran out; `Heard` says which notes are allowed
 pub record Hearing : Type 0 where
   pub config : Config
   pub gateway : Gateway
@@ -24,57 +24,57 @@ pub record Hearing : Type 0 where
   pub before : Table
   pub notes : List Note
 
--- a hearing of these parts
+-- the processing of a Response with these parts
 abbrev pub hearing : Config → Gateway → List Rte → Table → List Note → Hearing
 hearing config gateway entries before notes =
     record { config = config; gateway = gateway; entries = entries; before = before; notes = notes }
 
--- a note of a new route that had no room
+-- the note says that a new route had no room
 abbrev pub is_refusal : Option NoteKind → Bool
 is_refusal (Some TableFull) = true
 is_refusal (Some NoMemory) = true
 is_refusal _ = false
 
--- the note at an entry
+-- the note on the entry at a place
 abbrev pub note_at : Hearing → ℕ → Option NoteKind
 note_at h place = option_map (λ n. n.kind) (find (λ n. n.entry == place) h.notes)
 
--- a new route had no room
+-- the new route of the entry at a place had no room
 abbrev pub is_refused : Hearing → ℕ → Bool
 is_refused h place = is_refusal (note_at h place)
 
--- the route to a prefix after the entries before a place
+-- the route to a prefix once the entries before a place are processed
 abbrev pub route_after : Hearing → ℕ → Prefix6 → Option RouteValue
 route_after h place p =
     fold (adopted h.gateway) (map_of.get h.before p)
     (filter (λ o. nat_lt o.place place && not (is_refused h o.place)) (offers h.config h.gateway.from h.entries p))
 
--- the entry offers a first route to its prefix
+-- the entry would add a first route to its prefix
 abbrev pub would_add : Hearing → ℕ → Rte → Bool
 would_add h place e =
     is_offer e && is_none (route_after h place (prefix_named e))
     && is_some (adopted h.gateway None (offer_at h.config h.gateway.from h.entries place e))
 
--- how many routes the table holds after the entries before a place
+-- how many routes the table holds once the entries before a place are processed
 abbrev pub held_after : Hearing → ℕ → ℕ
 held_after h place =
     map_of.len h.before
     + count_by (λ t. would_add h t.0 t.1 && not (is_refused h t.0)) (take place (enumerate_from 0 h.entries))
 
--- the notes that a new route may get
+-- the notes that are allowed on a new route
 abbrev pub notes_of_new : Hearing → ℕ → List (Option NoteKind)
 notes_of_new h place = if nat_le table_limit (held_after h place) then Some TableFull ∷ [] else None ∷ Some NoMemory ∷ []
 
--- the notes that an offer may get, by its flaw
+-- the notes that are allowed on an offer, by the reason to skip it
 abbrev pub notes_of_offer : Hearing → ℕ → Rte → Option NoteKind → List (Option NoteKind)
 notes_of_offer h place e (Some kind) = Some kind ∷ []
 notes_of_offer h place e None = if would_add h place e then notes_of_new h place else None ∷ []
 
--- the notes that an entry may get
+-- the notes that are allowed on an entry
 abbrev pub allowed_notes : Hearing → ℕ → Rte → List (Option NoteKind)
 allowed_notes h place e = if is_next_hop e then None ∷ [] else notes_of_offer h place e (flaw e)
 
--- the table after all entries, with the notes on the way
+-- the table after all entries, with allowed notes in the order of entries
 pub record Heard (h : Hearing) (after : Table) : Type 0 where
   pub routes : (p : Prefix6) → map_of.get after p ≡ route_after h (length h.entries) p
   pub noted : (place : ℕ) (e : Rte) → slice_get h.entries place ≡ Some e → Contains (allowed_notes h place e) (note_at h place)

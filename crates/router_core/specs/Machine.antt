@@ -27,15 +27,15 @@ use Rattle.router_core.specs.declared.answer.Note.{Note}
 use Rattle.router_core.specs.declared.reconfiguring.Change.{Change}
 use Rattle.fib.specs.declared.change.RouteChange.{RouteChange}
 
--- what a router is between two steps
+-- the state of a router between two steps
 pub record State : Type 0 where
   pub config : Config
   pub table : Table
   pub last : ℕ  -- the moment of the last step
-  pub regular : ℕ  -- when the next regular update is due
-  pub hold : ℕ  -- until when triggered updates are held
+  pub regular : ℕ  -- when the next regular update is due (RFC 2080, 2.3)
+  pub hold : ℕ  -- until when triggered updates are delayed (RFC 2080, 2.5.1)
 
--- what may happen to a router that runs
+-- what may happen to a running router
 pub data Happening : Type 0 where
   Arrives : Received → Happening
   Ticks : (now word : ℕ) → Happening
@@ -44,27 +44,27 @@ pub data Happening : Type 0 where
   ShutsDown : (now : ℕ) → Happening
   LinkGoesDown : (now iface : ℕ) → Happening
 
--- an answer with no fault, of these messages, changes and notes
+-- an answer without a fault, of these messages, changes and notes
 pub record IsAnswer (messages : List Message) (changes : List RouteChange) (notes : List Note) (answer : Answer) : Type 0 where
   pub fault : answer.fault ≡ None
   pub sends : AreSpelled messages answer.sends
   pub changes_are : answer.changes ≡ changes
   pub notes_are : answer.notes ≡ notes
 
--- the table of a router that comes up: its owned prefixes
+-- the table of a router that starts: its own prefixes
 abbrev pub owned_table : Config → Table
 owned_table config = map_of.from_entries (map (λ t. (t.0, owned_route t.1)) config.prefixes)
 
--- a router that comes up
+-- the state of a router that starts
 abbrev pub started : Config → ℕ → State
 started config now = record { config = config; table = owned_table config; last = now; regular = now; hold = now }
 
--- the router comes up, and asks its neighbors for their routes
+-- a router starts, and asks its neighbors for their tables (RFC 2080, 2.4.1)
 pub record Starts (config : Config) (now : ℕ) (answer : Answer) (new : State) : Type 0 where
   pub state : new ≡ started config now
   pub answer_is : IsAnswer (start_messages config) (changes_of_start (owned_table config)) [] answer
 
--- a refused arrival is answered by its fault alone
+-- an arrival is refused: the answer is the fault alone, and no route changes
 pub record Refuses (old : State) (now : ℕ) (why : Fault) (answer : Answer) (new : State) : Type 0 where
   pub state : new ≡ record old { last = now }
   pub answer_is : answer ≡ record { fault = Some why; sends = []; changes = []; notes = [] }
@@ -73,11 +73,11 @@ pub record Refuses (old : State) (now : ℕ) (why : Fault) (answer : Answer) (ne
 abbrev pub gateway_of : State → ℕ → Received → Gateway
 gateway_of old now x = record { iface = x.iface; cost = cost_at old.config x.iface; from = x.source; moment = now }
 
--- the arrival's entries, heard from that gateway
+-- the processing of the arrival's entries, from that gateway
 abbrev pub hearing_of : State → ℕ → Received → List Rte → List Note → Hearing
 hearing_of old now x entries notes = hearing old.config (gateway_of old now x) entries old.table notes
 
--- a Response is heard
+-- a Response is processed (RFC 2080, 2.4.2)
 pub record Hears (old : State) (now : ℕ) (x : Received) (answer : Answer) (new : State) : Type 0 where
   pub entries : List Rte
   pub read : Spells Response entries x.bytes
@@ -86,22 +86,22 @@ pub record Hears (old : State) (now : ℕ) (x : Received) (answer : Answer) (new
   pub state : new ≡ record old { table = table; last = now }
   pub answer_is : IsAnswer [] (changes_of_hearing (hearing_of old now x entries answer.notes)) answer.notes answer
 
--- a Request is answered
+-- a Request gets its reply (RFC 2080, 2.4.1)
 pub record Replies (old : State) (now : ℕ) (x : Received) (answer : Answer) (new : State) : Type 0 where
   pub entries : List Rte
   pub read : Spells Request entries x.bytes
   pub state : new ≡ record old { last = now }
   pub answer_is : IsAnswer (reply_messages old.config old.table x entries) [] [] answer
 
--- an arrival that is not refused is heard or answered
+-- an arrival that is not refused is processed as a Response, or gets a reply as a Request
 abbrev pub Accepts : State → ℕ → Received → Answer → State → Type 0
 Accepts old now x answer new = MatchBool (is_response x.bytes) (Hears old now x answer new) (Replies old now x answer new)
 
--- the time of the regular update has come
+-- the regular update is due (RFC 2080, 2.3)
 abbrev pub is_regular_due : State → ℕ → Bool
 is_regular_due old now = nat_le old.regular now
 
--- nothing holds a triggered update, and a route has changed
+-- the delay of triggered updates is over, and a route change flag is set (RFC 2080, 2.5.1)
 abbrev pub is_triggered_due : State → ℕ → Bool
 is_triggered_due old now = nat_le old.hold now && list_any (λ t. t.1.changed) (map_of.entries (aged_table now old.table))
 
@@ -112,7 +112,7 @@ tick_messages old now =
     else if is_triggered_due old now then update_messages old.config is_changed (aged_table now old.table)
     else []
 
--- the state after a tick: routes age, and what was told is no longer marked
+-- the state after a tick: routes time out or are deleted, and after an update all route change flags are cleared
 abbrev pub ticked : State → ℕ → ℕ → State
 ticked old now word =
     if is_regular_due old now
@@ -121,7 +121,7 @@ ticked old now word =
     then record old { table = unmarked (aged_table now old.table); last = now; hold = next_hold now word }
     else record old { table = aged_table now old.table; last = now }
 
--- a tick ages the routes, and sends the update that is due
+-- a tick: routes time out or are deleted, and the update that is due is sent (RFC 2080, 2.3 and 2.5.1)
 pub record Updates (old : State) (now word : ℕ) (answer : Answer) (new : State) : Type 0 where
   pub state : new ≡ ticked old now word
   pub answer_is : IsAnswer (tick_messages old now) (changes_of_ageing now old.table) [] answer
@@ -138,17 +138,17 @@ pub record Obeys (old : State) (now : ℕ) (c : Change) (answer : Answer) (new :
   pub state : new ≡ reconfigured old now c
   pub answer_is : IsAnswer [] (changes_of_reconfiguring now old.table c) [] answer
 
--- the router shuts down: its last update poisons every route, and it holds all that it held
+-- the router shuts down: its last update poisons every route, and its state stays
 pub record PoisonsAll (old : State) (now : ℕ) (answer : Answer) (new : State) : Type 0 where
   pub state : new ≡ record old { last = now }
   pub answer_is : IsAnswer (shutdown_messages old.config now old.table) [] [] answer
 
--- the link of an interface goes down: what was learned there ends, and is told by the next tick
+-- the link of an interface goes down: what was learned there is withdrawn, and the next tick advertises that (RFC 2080, 2.3)
 pub record LosesRoutes (old : State) (now iface : ℕ) (answer : Answer) (new : State) : Type 0 where
   pub state : new ≡ record old { table = table_after_link_down iface now old.table; last = now }
   pub answer_is : IsAnswer [] (changes_of_link_down iface now old.table) [] answer
 
--- the router may answer so, and is then so. Time does not go back, but at a restart
+-- a step: the answers and the states after it that are allowed. Time does not go back, except at a restart
 abbrev pub Moves : State → Happening → Answer → State → Type 0
 Moves old (Restarts now) answer new = Starts old.config now answer new
 Moves old (Ticks now word) answer new = Updates old (max old.last now) word answer new
@@ -160,7 +160,7 @@ Moves old (Arrives x) answer new =
     (Accepts old (max old.last x.now) x answer new)
     (λ why. Refuses old (max old.last x.now) why answer new)
 
--- the forwarding table that the changes of an answer are for: a restart forgets it
+-- the forwarding table that the changes of an answer apply to: it is empty at a restart
 abbrev pub forwards_before : State → Happening → Forwarding
 forwards_before old (Restarts now) = map_of.empty
 forwards_before old (Ticks now word) = forwards old.table

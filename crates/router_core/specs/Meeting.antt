@@ -1,4 +1,4 @@
--- What one offer does to a table.
+-- What one offer does to a table (RFC 2080, 2.4.2).
 use Rattle.std.specs.Prelude.{ℕ, nat_le, Bool, ◌&&◌, if◌then◌else◌, Option, is_none, is_some}
 use Rattle.std.specs.FinMap as map_of
 use Rattle.prefix6.specs.Prefix.{Prefix6}
@@ -12,7 +12,7 @@ use Rattle.router_core.specs.Offers.{Offer, prefix_named}
 use Rattle.router_core.specs.declared.answer.NoteKind.{NoteKind}
 use Rattle.router_core.specs.declared.answer.NoteKind.TheVariants.{TableFull, NoMemory}
 
--- an offer for a prefix comes from a gateway to a table
+-- an offer for a prefix, from a gateway, and the table before it
 pub record Meeting : Type 0 where
   pub gateway : Gateway
   pub offer : Offer
@@ -23,24 +23,24 @@ pub record Meeting : Type 0 where
 abbrev pub meeting : Gateway → Offer → Prefix6 → Table → Meeting
 meeting g o p table = record { gateway = g; offer = o; prefix = p; table = table }
 
--- that of an entry at its place, by the next hop that is set there
+-- the meeting of an entry at its place, with the next hop that is set there
 abbrev pub entry_meeting : Gateway → Rte → ℕ → ℕ → Table → Meeting
 entry_meeting g e next_hop place table =
     meeting g (record { metric = e.metric; tag = e.tag; next_hop = next_hop; place = place }) (prefix_named e) table
 
--- the routes to the prefix before and after
+-- the route to the prefix before the offer
 abbrev pub held : Meeting → Option RouteValue
 held m = map_of.get m.table m.prefix
 
--- the route after it
+-- the route to the prefix after the offer
 abbrev pub met : Meeting → Option RouteValue
 met m = adopted m.gateway (held m) m.offer
 
--- the table after it
+-- the table after the offer
 abbrev pub table_met : Meeting → Table
 table_met m = with_value m.table m.prefix (met m)
 
--- what it changes in the forwarding table
+-- the change of the forwarding entry
 abbrev pub change_met : Meeting → Option RouteChange
 change_met m = change m.prefix (held m) (met m)
 
@@ -48,6 +48,6 @@ change_met m = change m.prefix (held m) (met m)
 abbrev pub adds : Meeting → Bool
 adds m = is_none (held m) && is_some (met m)
 
--- why a first route is refused: the table is full, or else memory was wanting
+-- why a first route cannot be added: the table is full, or memory ran out
 abbrev pub refusal_of_new : Table → NoteKind
 refusal_of_new table = if nat_le table_limit (map_of.len table) then TableFull else NoMemory

@@ -1,4 +1,4 @@
--- The offers that an arrival brings, each from its gateway and for its prefix.
+-- The offers that an arrival brings (RFC 2080, 2.4.2).
 use Rattle.std.specs.Prelude.{◌≡◌, ℕ, max, MatchBool, MatchOption, List, [], map, filter}
 use Rattle.std.specs.List.{enumerate_from}
 use Rattle.prefix6.specs.Prefix.{Prefix6}
@@ -19,20 +19,20 @@ pub record Offered : Type 0 where
   pub prefix : Prefix6
   pub offer : Offer
 
--- what the entry at a place offers
+-- the offer of the entry at a place
 abbrev pub offered_at : Config → Gateway → List Rte → ℕ → Rte → Offered
 offered_at config g entries place e =
     record { gateway = g; prefix = prefix_named e; offer = offer_at config g.from entries place e }
 
--- what some entries, each with its place, offer
+-- the offers of some entries, each with its place
 abbrev pub offered_by : Config → Gateway → List Rte → List (ℕ × Rte) → List Offered
 offered_by config g entries ts = map (λ t. offered_at config g entries t.0 t.1) (filter (λ t. is_offer t.1) ts)
 
--- what all entries offer, in their order
+-- the offers of all entries, in their order
 abbrev pub all_offered : Config → Gateway → List Rte → List Offered
 all_offered config g entries = offered_by config g entries (enumerate_from 0 entries)
 
--- the offers of a Response
+-- the offers of an arrival that is a Response
 pub record BringsOffers (s : State) (x : Received) (all : List Offered) : Type 0 where
   pub entries : List Rte
   pub read : Spells Response entries x.bytes

@@ -1,4 +1,4 @@
--- What a router tells of its table (RFC 2080, 2.4.1, 2.5 and 2.6).
+-- What a router sends: updates, Requests and replies (RFC 2080, 2.4.1, 2.5 and 2.6).
 use Rattle.std.specs.Prelude.{◌≡◌, ℕ, suc, zero, ◌+◌, ◌-◌, ◌*◌, ◌/◌, ◌==◌, ◌&&◌, nat_le, Bool, true, false, if◌then◌else◌, List, [], ◌∷◌, ◌++◌, map, length, filter, flat_map, slice_range, Option, Some, None}
 use Rattle.std.specs.List.{enumerate_from}
 use Rattle.std.specs.FinMap as map_of
@@ -20,12 +20,12 @@ use Rattle.router_core.specs.declared.answer.Outgoing.{Outgoing}
 use Rattle.router_core.specs.declared.tell.Selection.{Selection}
 use Rattle.router_core.specs.declared.tell.Selection.TheVariants.{Every, Changed}
 
--- the route came from that interface
+-- the route was learned on that interface
 abbrev pub is_learned_on : ℕ → Origin → Bool
 is_learned_on iface Own = false
 is_learned_on iface (Learned on from next_hop) = on == iface
 
--- split horizon with poisoned reverse: a route is told as unreachable where it was learned
+-- split horizon with poisoned reverse: a route is advertised as unreachable where it was learned (RFC 2080, 2.6)
 abbrev pub told_entry : ℕ → Prefix6 × RouteValue → Rte
 told_entry iface t =
     record {
@@ -35,23 +35,23 @@ told_entry iface t =
       metric = if is_learned_on iface t.1.origin then infinity else t.1.metric;
     }
 
--- what is told on an interface of those routes of a list
+-- the entries that advertise those routes of a list on an interface
 abbrev pub told_of : ℕ → (RouteValue → Bool) → List (Prefix6 × RouteValue) → List Rte
 told_of iface which routes = map (told_entry iface) (filter (λ t. which t.1) routes)
 
--- what is told on an interface of those routes of a table
+-- the entries that advertise those routes of a table on an interface, in the order of prefixes
 abbrev pub told : ℕ → (RouteValue → Bool) → Table → List Rte
 told iface which table = told_of iface which (map_of.entries table)
 
--- all routes
+-- all routes: those of a regular update (RFC 2080, 2.5)
 abbrev pub every_route : RouteValue → Bool
 every_route r = true
 
--- only those that are marked
+-- the routes whose route change flag is set: those of a triggered update (RFC 2080, 2.5.1)
 abbrev pub is_changed : RouteValue → Bool
 is_changed r = r.changed
 
--- the routes that an update tells
+-- the routes that an update advertises
 abbrev pub selected : Selection → RouteValue → Bool
 selected Every = every_route
 selected Changed = is_changed
@@ -65,12 +65,12 @@ numbers_below (suc n) = numbers_below n ++ n ∷ []
 abbrev pub pieces : {X : Type 0} → ℕ → List X → List (List X)
 pieces n xs = map (λ k. slice_range xs (n * k) (n * k + n)) (numbers_below ((length xs + (n - 1)) / n))
 
--- the answer to a request for one entry
+-- the reply to one entry, by the route to its prefix (RFC 2080, 2.4.1)
 abbrev pub filled : Rte → Option RouteValue → Rte
 filled e None = record e { metric = infinity }
 filled e (Some r) = record e { metric = r.metric; tag = r.tag }
 
--- an entry that was asked for, with what is known of its prefix
+-- the reply to one entry, by the table
 abbrev pub reply_entry : Table → Rte → Rte
 reply_entry table e = filled e (if nat_le e.len 128 then map_of.get table (cleared e.addr e.len) else None)
 
@@ -78,64 +78,64 @@ reply_entry table e = filled e (if nat_le e.len 128 then map_of.get table (clear
 abbrev pub whole_table_request : Rte
 whole_table_request = record { addr = 0; tag = 0; len = 0; metric = infinity }
 
--- a request for the whole table, whatever its tag
+-- a Request for the whole table, with any tag (RFC 2080, 2.4.1)
 abbrev pub asks_for_all : List Rte → Bool
 asks_for_all (e ∷ []) = e.addr == 0 && e.len == 0 && e.metric == infinity
 asks_for_all _ = false
 
--- the entries that answer a Request
+-- the entries of the reply to a Request: the whole table with split horizon, or entry by entry (RFC 2080, 2.4.1)
 abbrev pub reply : ℕ → Table → List Rte → List Rte
 reply iface table asked = if asks_for_all asked then told iface every_route table else map (reply_entry table) asked
 
--- a datagram before it is spelled
+-- a datagram before it is written as bytes
 pub record Message : Type 0 where
   pub iface : ℕ
   pub to : Destination
   pub command : Command
   pub entries : List Rte
 
--- a list as Responses, each of what the MTU of an interface leaves room for
+-- the Responses that carry a list of entries, as many in each as the MTU allows (RFC 2080, 2.1)
 abbrev pub responses_at : ℕ → ℕ → Destination → List Rte → List Message
 responses_at mtu iface to entries =
     map (λ piece. record { iface = iface; to = to; command = Response; entries = piece })
     (pieces (entries_for_mtu mtu) entries)
 
--- a list as Responses of an interface
+-- the Responses that carry a list of entries on an interface
 abbrev pub responses : Config → ℕ → Destination → List Rte → List Message
 responses config iface to entries = responses_at (mtu_at config iface) iface to entries
 
--- the Requests of a router that comes up
+-- the Requests of a router that starts (RFC 2080, 2.4.1); a passive one sends none (this project's choice)
 abbrev pub start_messages : Config → List Message
 start_messages config =
     if config.quiet then []
     else map (λ t. record { iface = t.0; to = Group; command = Request; entries = whole_table_request ∷ [] }) (enumerate_from 0 config.interfaces)
 
--- an update on each interface
+-- an update on each interface (RFC 2080, 2.5); a passive router sends none (this project's choice)
 abbrev pub update_messages : Config → (RouteValue → Bool) → Table → List Message
 update_messages config which table =
     if config.quiet then []
     else flat_map (λ t. responses config t.0 Group (told t.0 which table)) (enumerate_from 0 config.interfaces)
 
--- the answer to a Request; a quiet router gives none to a router
+-- the reply to a Request (RFC 2080, 2.4.1); a passive router does not reply to routers (this project's choice)
 abbrev pub reply_messages : Config → Table → Received → List Rte → List Message
 reply_messages config table x asked =
     if config.quiet && x.source_port == ripng_port then []
     else responses config x.iface (Peer x.source x.source_port) (reply x.iface table asked)
 
--- the datagram spells the message
+-- the datagram is the message, written as bytes
 pub record IsSpelled (m : Message) (o : Outgoing) : Type 0 where
   pub iface : o.iface ≡ m.iface
   pub to : o.to ≡ m.to
   pub bytes : Spells m.command m.entries o.bytes
 
--- the datagrams spell the messages, one after another
+-- the datagrams are the messages, one after another
 abbrev pub AreSpelled : List Message → List Outgoing → Type 0
 AreSpelled [] [] = Unit {0}
 AreSpelled (m ∷ ms) (o ∷ os) = IsSpelled m o × AreSpelled ms os
 AreSpelled [] (o ∷ os) = ⊥
 AreSpelled (m ∷ ms) [] = ⊥
 
--- datagrams that spell the messages stand behind the old ones
+-- the datagrams of the messages are appended to the old ones
 pub record AddsSpelled (messages : List Message) (old new : List Outgoing) : Type 0 where
   pub added : List Outgoing
   pub behind : new ≡ old ++ added

@@ -1,5 +1,5 @@
--- Changes of the configuration of a router that runs. The reasons, their order and their names are this project's choice.
-use Rattle.std.specs.Prelude.{ℕ, ◌<◌, ◌&&◌, not, nat_le, Bool, true, List, [], ◌∷◌, ◌++◌, length, filter, Option, Some, is_none, unwrap_or, option_map, slice_get, slice_set, codes, ⊤}
+-- Changes of the configuration of a running router. The reasons, their order and their names are this project's choice.
+use Rattle.std.specs.Prelude.{ℕ, ◌<◌, ◌&&◌, not, nat_le, Bool, true, List, [], ◌∷◌, ◌++◌, length, filter, Option, Some, is_none, unwrap_or, option_map, slice_get, slice_set, codes, decimal, ⊤}
 use Rattle.std.specs.List.{cons_option}
 use Rattle.std.specs.FinMap as map_of
 use Rattle.prefix6.specs.Prefix.{Prefix6, IsPrefix, is_routable, same_prefix}
@@ -23,7 +23,7 @@ abbrev pub NamesInterface : Config → Change → Type 0
 NamesInterface config (Cost iface cost) = iface < length config.interfaces
 NamesInterface config _ = ⊤
 
--- so it does, and the others name a prefix
+-- a change of cost names an interface of the router, and the others name a prefix
 abbrev pub IsNamed : Config → Change → Type 0
 IsNamed config (Cost iface cost) = iface < length config.interfaces
 IsNamed config (Own p tag) = IsPrefix p
@@ -31,7 +31,7 @@ IsNamed config (Disown p) = IsPrefix p
 
 -- ---- which changes are refused: each reason stands with whether it applies
 
--- why a change is refused, in order
+-- the reasons to refuse a change, in order
 abbrev pub reconfigure_reasons : Config → Table → Change → List (Bool × ReconfigureRefused)
 reconfigure_reasons config table (Cost iface cost) = (not (is_usable_cost cost), BadCost) ∷ []
 reconfigure_reasons config table (Own p tag) =
@@ -42,18 +42,18 @@ reconfigure_reasons config table (Own p tag) =
     ∷ []
 reconfigure_reasons config table (Disown p) = (not (has_prefix config.prefixes p), NotOwned) ∷ []
 
--- the first reason that applies
+-- why a change is refused, if it is: the first reason that applies
 abbrev pub reconfigure_fault : Config → Table → Change → Option ReconfigureRefused
 reconfigure_fault config table c = first_reason (reconfigure_reasons config table c)
 
 -- ---- what a change does
 
--- one interface costs another amount
+-- the interfaces with another cost of one of them
 abbrev pub with_cost : List Interface → ℕ → ℕ → List Interface
 with_cost interfaces iface cost =
     unwrap_or (option_map (λ i. slice_set interfaces iface (record i { cost = cost })) (slice_get interfaces iface)) interfaces
 
--- the owned prefixes but that one
+-- the owned prefixes except this one
 abbrev pub without_prefix : List (Prefix6 × ℕ) → Prefix6 → List (Prefix6 × ℕ)
 without_prefix owned p = filter (λ t. not (same_prefix t.0 p)) owned
 
@@ -63,21 +63,21 @@ reconfigured_config config (Cost iface cost) = record config { interfaces = with
 reconfigured_config config (Own p tag) = record config { prefixes = config.prefixes ++ (p, tag) ∷ [] }
 reconfigured_config config (Disown p) = record config { prefixes = without_prefix config.prefixes p }
 
--- the route to a prefix that is owned from now on
+-- the local route to a prefix that is owned from now on; its route change flag is set (RFC 2080, 2.5.1)
 abbrev pub newly_owned : ℕ → RouteValue
 newly_owned tag = record (owned_route tag) { changed = true }
 
--- the route, if any, to a prefix that is owned no longer
+-- the route, if any, to a prefix that is no longer owned: it is withdrawn (RFC 2080, 2.3)
 abbrev pub disowned : ℕ → Option RouteValue → Option RouteValue
 disowned now old = option_map (lost now) old
 
--- a new cost holds for later offers alone
+-- the table after a change; a new cost applies only to later offers
 abbrev pub reconfigured_table : ℕ → Table → Change → Table
 reconfigured_table now table (Cost iface cost) = table
 reconfigured_table now table (Own p tag) = with_value table p (Some (newly_owned tag))
 reconfigured_table now table (Disown p) = with_value table p (disowned now (map_of.get table p))
 
--- the changes of forwarding
+-- the changes of forwarding entries
 abbrev pub changes_of_reconfiguring : ℕ → Table → Change → List RouteChange
 changes_of_reconfiguring now table (Cost iface cost) = []
 changes_of_reconfiguring now table (Own p tag) = cons_option (change p (map_of.get table p) (Some (newly_owned tag))) []
@@ -85,7 +85,7 @@ changes_of_reconfiguring now table (Disown p) = cons_option (change p (map_of.ge
 
 -- ---- refusals as numbers and names
 
--- the number of a refusal
+-- the number of a refusal, as it is printed
 abbrev pub reconfigure_number : ReconfigureRefused → ℕ
 reconfigure_number BadCost = 31
 reconfigure_number PrefixNotAllowed = 32
@@ -95,7 +95,7 @@ reconfigure_number NotOwned = 35
 reconfigure_number TableFull = 36
 reconfigure_number OutOfMemory = 37
 
--- the name of a refusal
+-- the name of a refusal, as the variant is spelled
 abbrev pub reconfigure_name : ReconfigureRefused → List ℕ
 reconfigure_name BadCost = codes "BadCost"
 reconfigure_name PrefixNotAllowed = codes "PrefixNotAllowed"
@@ -104,3 +104,7 @@ reconfigure_name OwnedFull = codes "OwnedFull"
 reconfigure_name NotOwned = codes "NotOwned"
 reconfigure_name TableFull = codes "TableFull"
 reconfigure_name OutOfMemory = codes "OutOfMemory"
+
+-- a refusal as it is printed: `NUMBER NAME`
+abbrev pub reconfigure_text : ReconfigureRefused → List ℕ
+reconfigure_text why = decimal (reconfigure_number why) ++ (codes " " ++ reconfigure_name why)

@@ -1,4 +1,5 @@
--- What a router tells as it shuts down: every route of its table, own or learned, as unreachable (route poisoning).
+-- The last update of a router that shuts down: every route of its table, local or learned, as unreachable (route
+-- poisoning). RFC 2080 has no such update; it is this project's choice.
 use Rattle.std.specs.Prelude.{ℕ, List, Some}
 use Rattle.route_table.specs.Table.{Table, map_values}
 use Rattle.router_core.specs.Config.{Config}

@@ -1,4 +1,5 @@
-//! What an offer makes of the route to its prefix: the rules of adoption (RFC 2080, section 2.4.2).
+//! What an offer does to the route to its prefix: the rules of adoption (RFC 2080, section 2.4.2). The row of the table of
+//! adoption that applies is [`crate::Reason`], and the lemma [`crate::adopted_by_row`] joins the two.
 
 ghost use Rattle.std.specs.Prelude.{◌≡◌, ◌≤◌, ◌<◌, None};
 ghost use Rattle.route_table.specs.Route.{infinity};
@@ -10,15 +11,16 @@ use prefix6::Addr6;
 use route_table::{Clock, Deadline, INFINITY, Moment, Origin, Route};
 use std::marker::Model;
 
-/// From where offers come, what the way there costs, and when they come.
+/// The neighbor that sends offers, as a route sees it: interface, cost and address, and the moment of arrival.
 #[derive(Clone, Copy)]
 pub struct Gateway {
-    /// The interface of arrival.
+    /// The number of the interface of arrival, from 0.
     pub iface: usize,
     /// The cost of that interface, below 16 hops.
     pub cost: u8,
-    /// The sender's address.
+    /// The sender's link-local address.
     pub from: Addr6,
+    /// When the offers came.
     pub moment: Moment,
 }
 
@@ -36,14 +38,16 @@ impl Model for Gateway {
     ghost inverse = { λ v. record { iface = v.iface; cost = v.cost; from = v.from; moment = v.moment } };
 }
 
-/// A route that a neighbor offers.
+/// A route that a neighbor advertises.
 #[derive(Drop)]
 pub struct Offer {
-    /// 1 to 16 hops, without the cost of the way to the neighbor.
+    /// 1 to 16 hops, without the cost of the interface.
     pub metric: u8,
+    /// The route tag, which is kept as it comes (RFC 2080, section 2.1).
     pub tag: u16,
+    /// Where packets would go, on the interface of arrival.
     pub next_hop: Addr6,
-    /// The number of the entry that offers it.
+    /// The place of the entry in the Response, from 0.
     pub place: usize,
 }
 
@@ -60,7 +64,7 @@ impl Model for Offer {
 }
 
 impl Gateway {
-    /// The metric of the offer here.
+    /// The metric of the offer here: the cost of the interface is added, up to 16 (RFC 2080, section 2.4.2).
     pub fn metric_through(&self, offer: &Offer) -> u8
         ensures value { result ≡ metric_through self.now offer.now }
         ensures positive { 1 ≤ result }
@@ -69,7 +73,7 @@ impl Gateway {
         (offer.metric + self.cost).min(INFINITY)
     }
 
-    /// The route through this gateway.
+    /// The route through this gateway: its timeout starts, and its route change flag is set (RFC 2080, section 2.4.2).
     fn take(&self, offer: &Offer) -> Route
         requires { metric_through self.now offer.now < infinity }
         ensures { result ≡ taken self.now offer.now }
@@ -87,7 +91,7 @@ impl Gateway {
         )
     }
 
-    /// Whether a route is through this gateway.
+    /// Whether a route was learned from this gateway: same interface and same sender.
     pub fn is_through(&self, origin: Origin) -> bool
         ensures { result ≡ is_through self.now origin }
     {
@@ -97,7 +101,7 @@ impl Gateway {
         }
     }
 
-    /// Whether the offer says what the route says.
+    /// Whether the offer repeats the route: same metric, tag and next hop.
     fn is_repeated(&self, offer: &Offer, route: Route) -> bool
         ensures { result ≡ is_repeated self.now offer.now route }
     {
@@ -108,10 +112,12 @@ impl Gateway {
         route.metric() == self.metric_through(offer) && route.tag() == offer.tag && has_next_hop
     }
 
-    /// A live route whose own gateway speaks.
+    /// A valid route after its own gateway has advertised the prefix again.
     fn refresh(&self, offer: &Offer, route: Route) -> Route
         ensures { result ≡ refreshed self.now offer.now route }
     {
+        // News from the gateway of a route is taken whether better or worse, and restarts the timeout. The route change flag is
+        // set if something differs. With metric 16 garbage collection begins (RFC 2080, section 2.4.2).
         if self.metric_through(offer) < INFINITY {
             let is_changed = route.is_changed() || !self.is_repeated(offer, route);
             self.take(offer).with_mark(is_changed)
@@ -120,15 +126,17 @@ impl Gateway {
         }
     }
 
-    /// Whether the offer is better than a live route of another gateway.
+    /// Whether the offer is preferred to a valid route of another gateway.
     fn is_preferred(&self, offer: &Offer, metric: u8, until: Deadline) -> bool
         ensures { result ≡ is_preferred self.now offer.now metric until }
     {
+        // A lower metric wins at once. An equal one wins only if the route is at least halfway to its timeout: the optional
+        // heuristic of RFC 2080, section 2.4.2. So a gateway that may have failed is left before the timeout.
         let offered = self.metric_through(offer);
         offered < metric || (offered == metric && until <= self.moment.later(HALF_TIMEOUT_MS))
     }
 
-    /// A learned route that is live until a deadline.
+    /// A valid route, learned and not timed out, after the offer.
     fn adopt_live(&self, offer: &Offer, route: Route, until: Deadline) -> Route
         requires { route.clock ≡ Live until }
         ensures { result ≡ adopted_by_clock self.now offer.now route (Live until) }
@@ -138,18 +146,22 @@ impl Gateway {
         } else if self.is_preferred(offer, route.metric(), until) {
             self.take(offer)
         } else {
+            // An offer that is no better than the route is ignored (section 2.4.2).
             route
         }
     }
 
-    /// The route after the offer, where there was one.
+    /// The route after the offer, where one is held.
     pub fn adopt_by_clock(&self, offer: &Offer, route: Route) -> Route
         ensures { result ≡ adopted_by_clock self.now offer.now route route.clock }
     {
         let clock = route.clock();
         match clock {
+            // A local route is never replaced by a learned one.
             Clock::Fixed => route,
             Clock::Live(until) => self.adopt_live(offer, route, until),
+            // A usable offer replaces a route that is being garbage-collected, from any gateway (section 2.3). Metric 16 once
+            // more does not restart the garbage-collection timer (section 2.4.2).
             Clock::Dying(_) => {
                 if self.metric_through(offer) < INFINITY {
                     self.take(offer)
@@ -160,7 +172,7 @@ impl Gateway {
         }
     }
 
-    /// The first route to a prefix, if the offer makes one.
+    /// The first route to a prefix, if the offer gives one. An unreachable prefix is not added (section 2.4.2).
     pub fn adopt_first(&self, offer: &Offer) -> Option<Route>
         ensures { result ≡ adopted self.now None offer.now }
     {

@@ -1,19 +1,20 @@
-//! What a call of a router answers: a fault, datagrams to be sent, changes of routes, and notes.
+//! The output of a step: a fault, datagrams to be sent, changes of forwarding entries, and notes on skipped entries.
 
-ghost use Rattle.std.specs.Prelude.{◌≡◌};
-ghost use Rattle.router_core.specs.Offers.{note_name, note_number};
+ghost use Rattle.std.specs.Prelude.{◌≡◌, Some};
+ghost use Rattle.router_core.specs.Offers.{note_name, note_number, note_text};
 
 use crate::arrival::Fault;
 use crate::listed::Listed;
 use fib::RouteChange;
 use prefix6::Addr6;
+use std::fmt::{self, Display};
 
 /// To whom a datagram goes.
 #[derive(Clone, Copy, Debug, PartialEq, Eq)]
 pub enum Destination {
-    /// All RIPng routers of the link, FF02::9 at port 521.
+    /// All RIPng routers of the link, FF02::9 at port 521 (RFC 2080, section 2.5.2).
     Group,
-    /// One asker.
+    /// The sender of a Request, at the port that it asked from (RFC 2080, section 2.4.1).
     Peer {
         addr: Addr6,
         /// Its UDP port.
@@ -24,24 +25,26 @@ pub enum Destination {
 /// A datagram to be sent.
 #[derive(Drop)]
 pub struct Outgoing {
-    /// The number of the interface to send it on.
+    /// The number of the interface to send it on, from 0.
     pub iface: usize,
+    /// To whom. A datagram to the group is to be sent with hop limit 255 (RFC 2080, section 2.5.2).
     pub to: Destination,
+    /// What it holds: one datagram of RIPng, without the headers of UDP and IPv6.
     pub bytes: Listed<u8>,
 }
 
-/// Why an entry of a Response was skipped.
+/// Why an entry of a Response was skipped. The other entries are processed all the same (RFC 2080, section 2.4.2).
 #[derive(Clone, Copy, Debug, PartialEq, Eq)]
 pub enum NoteKind {
-    /// A length above 128 bits.
+    /// The prefix length is above 128 bits: the neighbor is faulty, or speaks another protocol.
     BadLength = 20,
-    /// A multicast or link-local prefix.
+    /// The prefix is multicast or link-local, which no router may advertise. Mend the neighbor's configuration.
     BadPrefix = 21,
-    /// A metric that is not 1 to 16.
+    /// The metric is not 1 to 16. A neighbor that sends 0 has usually not added its own cost.
     BadMetric = 22,
-    /// A new route, and the table holds as many as it may.
+    /// A new prefix, and the table holds `TABLE_LIMIT` routes. Advertise aggregates, or look for a neighbor that leaks routes.
     TableFull = 23,
-    /// A new route, and memory for it was refused.
+    /// A new prefix, and memory for its route ran out. The next update offers it again.
     NoMemory = 24,
 }
 
@@ -67,23 +70,33 @@ impl NoteKind {
     }
 }
 
-/// A note that an entry of a Response was skipped.
+/// `NUMBER NAME`, as it is printed.
+impl Display for NoteKind {
+    ghost output = { λ kind. Some (note_text kind) };
+
+    fn fmt<W: fmt::Write>(&self, f: &mut fmt::Formatter<W>) -> fmt::Result {
+        write!(f, "{} {}", self.number(), self.name())
+    }
+}
+
+/// A note that an entry of a Response was skipped, and why.
 #[derive(Clone, Copy, Debug, PartialEq, Eq)]
 pub struct Note {
-    /// The number of the entry, from 0.
+    /// The place of the entry in the Response, from 0.
     pub entry: usize,
+    /// Why it was skipped.
     pub kind: NoteKind,
 }
 
-/// What a call of a router answers.
+/// The output of a step of a router.
 #[derive(Drop)]
 pub struct Answer {
-    /// Why an arrival was refused; then all else is empty.
+    /// Why an arrival was refused. The rest of the answer is empty then.
     pub fault: Option<Fault>,
-    /// In the order of interfaces, and the pieces of one list in order.
+    /// Datagrams to be sent, in the order of interfaces; the parts of one update or reply in order.
     pub sends: Listed<Outgoing>,
-    /// In the order of entries, or of prefixes.
+    /// Changes of forwarding entries, in the order of the Response's entries, or of prefixes.
     pub changes: Listed<RouteChange>,
-    /// In the order of entries.
+    /// Skipped entries of a Response, in the order of entries.
     pub notes: Listed<Note>,
 }

@@ -1,14 +1,15 @@
-//! Datagrams that come to a router, and why one may change nothing.
+//! Datagrams that come to a router, and why one is refused.
 
-ghost use Rattle.std.specs.Prelude.{◌≡◌};
-ghost use Rattle.router_core.specs.Faults.{fault_name, fault_number};
+ghost use Rattle.std.specs.Prelude.{◌≡◌, Some};
+ghost use Rattle.router_core.specs.Faults.{fault_name, fault_number, fault_text};
 
 use prefix6::Addr6;
 use ripng_wire::WireError;
 use route_table::Moment;
+use std::fmt::{self, Display};
 use std::marker::Model;
 
-/// The UDP port of RIPng (RFC 2080, section 2).
+/// The UDP port of RIPng (RFC 2080, section 2.1).
 pub const RIPNG_PORT: u16 = 521;
 
 /// The hop limit of a datagram that no router has forwarded (RFC 2080, sections 2.4.2 and 2.5.2).
@@ -19,7 +20,7 @@ pub const MAX_HOP_LIMIT: u8 = 255;
 pub struct Arrival<'a> {
     /// When it came.
     pub now: Moment,
-    /// The number of the interface.
+    /// The number of the interface, from 0.
     pub iface: usize,
     /// The address that it came from.
     pub source: Addr6,
@@ -27,9 +28,9 @@ pub struct Arrival<'a> {
     pub source_port: u16,
     /// The hop limit that was left, 255 if no router forwarded it.
     pub hop_limit: u8,
-    /// Whether it was sent to the group of all RIPng routers, FF02::9, and not to this router.
+    /// Whether it was sent to the group of all RIPng routers, FF02::9, rather than to an address of this router.
     pub to_group: bool,
-    /// What it holds.
+    /// What it holds, without the headers of UDP and IPv6.
     pub bytes: &'a [u8],
 }
 
@@ -49,22 +50,24 @@ impl<'a> Model for Arrival<'a> {
     } };
 }
 
-/// Why an arrival changes nothing: the first reason to refuse it (RFC 2080, sections 2.4.1 and 2.4.2).
+/// Why an arrival is refused: the first reason that applies (RFC 2080, sections 2.4.1 and 2.4.2). No route changes then, and
+/// nothing is sent.
 #[derive(Clone, Copy, Debug, PartialEq, Eq)]
 pub enum Fault {
-    /// Its bytes are no datagram: faults 1 to 6.
+    /// 1 to 6: the bytes are malformed. A usual cause is another protocol at port 521: look at the sender.
     Wire(WireError),
-    /// 7: a Response that is not from port 521.
+    /// 7: a Response that is not from port 521. A RIPng router sends from there; a test tool may not.
     NotRipngPort,
-    /// 8: the source is not link-local.
+    /// 8: the source is not link-local. A neighbor uses a global address, or somebody outside the link sends.
     NotLinkLocal,
-    /// 9: the source is an address of this router.
+    /// 9: the source is an address of this router. It receives its own multicasts, which is harmless, or a neighbor has the
+    /// same link-local address: give one of the two another.
     OwnAddress,
-    /// 10: it came to the group with a hop limit other than 255.
+    /// 10: it came to the group with a hop limit other than 255. It was forwarded, or the neighbor does not set 255.
     HopLimit,
-    /// 11: a Request without entries.
+    /// 11: a Request without entries asks for nothing, and gets no reply.
     EmptyRequest,
-    /// 12: a Request from no unicast address, or from port 0.
+    /// 12: a Request from a multicast address, from `::` or from port 0: a reply could reach nobody.
     BadSource,
 }
 
@@ -97,5 +100,14 @@ impl Fault {
             Fault::EmptyRequest => "EmptyRequest",
             Fault::BadSource => "BadSource",
         }
+    }
+}
+
+/// `NUMBER NAME`, as it is printed.
+impl Display for Fault {
+    ghost output = { λ why. Some (fault_text why) };
+
+    fn fmt<W: fmt::Write>(&self, f: &mut fmt::Formatter<W>) -> fmt::Result {
+        write!(f, "{} {}", self.number(), self.name())
     }
 }

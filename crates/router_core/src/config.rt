@@ -1,26 +1,27 @@
-//! What a router is configured with: its interfaces, the prefixes that it owns, and whether it keeps quiet.
+//! The configuration of a router: its interfaces, the prefixes that it owns, and whether it is passive.
 
-ghost use Rattle.std.specs.Prelude.{◌≡◌, ◌<◌, true, false, not, All, Bool, IfOk, OnErr, OnOk, length};
+ghost use Rattle.std.specs.Prelude.{◌≡◌, ◌<◌, true, false, not, All, Bool, IfOk, OnErr, OnOk, Some, length};
 ghost use Rattle.std.specs.Result.{result_err};
 ghost use Rattle.prefix6.specs.Prefix.{IsPrefix, is_routable, same_prefix};
 ghost use Rattle.ripng_wire.specs.Wire.{first_reason};
-ghost use Rattle.router_core.specs.Config.{IsConfig, config, config_fault, reasons_of_each, interface_reasons, prefix_reasons, is_own_address, has_address, has_prefix, is_usable_cost, is_usable_mtu, config_refused_name, config_refused_number};
+ghost use Rattle.router_core.specs.Config.{IsConfig, config, config_fault, reasons_of_each, interface_reasons, prefix_reasons, is_own_address, has_address, has_prefix, is_usable_cost, is_usable_mtu, config_refused_text};
 ghost use Rattle.router_core.specs.Reconfiguring.{reconfigured_config};
 
 use crate::reconfiguring::Change;
 use prefix6::{Addr6, Prefix};
 use route_table::INFINITY;
 use std::alloc::AllocError;
+use std::fmt::{self, Display};
 use std::marker::Model;
 
 /// An interface of a router.
 #[derive(Clone, Copy, Debug, PartialEq, Eq)]
 pub struct Interface {
-    /// Its link-local address.
+    /// Its link-local address, from which it sends (RFC 2080, section 2.5.2).
     pub addr: Addr6,
-    /// What a route costs over it, 1 to 15 hops.
+    /// Its cost, 1 to 15 hops: it is added to each metric that comes in (RFC 2080, section 2.4.2).
     pub cost: u8,
-    /// The largest packet of its link, 1,280 to 65,535 bytes.
+    /// The MTU of its link, 1,280 to 65,535 bytes: it limits the entries of a datagram (RFC 2080, section 2.1).
     pub mtu: u32,
 }
 
@@ -33,61 +34,54 @@ pub const LEAST_MTU: u32 = 1_280;
 /// The greatest MTU of an interface, in bytes: the length of a UDP datagram is given in 16 bits (RFC 768).
 pub const MOST_MTU: u32 = 65_535;
 
-/// The most prefixes that a router owns. Each fits its table.
+/// The most prefixes that a router owns. Its table has room for all of them.
 pub const OWNED_LIMIT: usize = 1_024;
 
 const _: () = prove!(OWNED_LIMIT <= route_table::TABLE_LIMIT);
 
-/// Why a configuration is refused: the first reason to refuse it, in this order.
+/// Why a configuration is refused: the first reason that applies, in this order.
 #[derive(Clone, Copy, Debug, PartialEq, Eq)]
 pub enum ConfigRefused {
-    /// It has no interface.
-    NoInterface = 1,
-    /// It has more than `INTERFACE_LIMIT` interfaces.
-    TooManyInterfaces = 2,
-    /// The address of an interface is not link-local.
-    AddressNotLinkLocal = 3,
-    /// The address of an interface is that of an earlier one.
-    AddressTwice = 4,
-    /// The cost of an interface is not 1 to 15 hops.
-    BadCost = 5,
-    /// The MTU of an interface is not 1,280 to 65,535 bytes.
-    BadMtu = 6,
-    /// It has more than `OWNED_LIMIT` prefixes.
-    TooManyPrefixes = 7,
-    /// A prefix is an earlier one.
-    PrefixTwice = 8,
-    /// A prefix is multicast or link-local.
-    PrefixNotAllowed = 9,
+    /// It has no interface: a router needs at least one.
+    NoInterface,
+    /// It has more than `INTERFACE_LIMIT` interfaces. Divide them among routers.
+    TooManyInterfaces,
+    /// The address of an interface is not link-local: give the interface's own address of FE80::/10, not a global one.
+    AddressNotLinkLocal,
+    /// The address of an interface is that of an earlier one. VLANs of one card often share theirs: give one another.
+    AddressTwice,
+    /// The cost of an interface is not 1 to 15 hops: at 16 nothing would be reachable over it.
+    BadCost,
+    /// The MTU of an interface is not 1,280 to 65,535 bytes, as IPv6 and UDP require.
+    BadMtu,
+    /// It has more than `OWNED_LIMIT` prefixes. Own an aggregate in place of many.
+    TooManyPrefixes,
+    /// A prefix is an earlier one. Bits past the length do not make two prefixes differ.
+    PrefixTwice,
+    /// A prefix is multicast or link-local, which no router may advertise (RFC 2080, section 2.4.2).
+    PrefixNotAllowed,
 }
 
-impl ConfigRefused {
-    /// The number of the refusal, 1 to 9.
-    pub fn number(self) -> u8
-        ensures { result ≡ config_refused_number self }
-    {
-        self as u8
-    }
+/// `NUMBER NAME`, as it is printed.
+impl Display for ConfigRefused {
+    ghost output = { λ why. Some (config_refused_text why) };
 
-    /// The name of the refusal, one word.
-    pub fn name(self) -> &'static str
-        ensures { result.now ≡ config_refused_name self }
-    {
+    fn fmt<W: fmt::Write>(&self, f: &mut fmt::Formatter<W>) -> fmt::Result {
         match self {
-            ConfigRefused::NoInterface => "NoInterface",
-            ConfigRefused::TooManyInterfaces => "TooManyInterfaces",
-            ConfigRefused::AddressNotLinkLocal => "AddressNotLinkLocal",
-            ConfigRefused::AddressTwice => "AddressTwice",
-            ConfigRefused::BadCost => "BadCost",
-            ConfigRefused::BadMtu => "BadMtu",
-            ConfigRefused::TooManyPrefixes => "TooManyPrefixes",
-            ConfigRefused::PrefixTwice => "PrefixTwice",
-            ConfigRefused::PrefixNotAllowed => "PrefixNotAllowed",
+            ConfigRefused::NoInterface => write!(f, "1 NoInterface"),
+            ConfigRefused::TooManyInterfaces => write!(f, "2 TooManyInterfaces"),
+            ConfigRefused::AddressNotLinkLocal => write!(f, "3 AddressNotLinkLocal"),
+            ConfigRefused::AddressTwice => write!(f, "4 AddressTwice"),
+            ConfigRefused::BadCost => write!(f, "5 BadCost"),
+            ConfigRefused::BadMtu => write!(f, "6 BadMtu"),
+            ConfigRefused::TooManyPrefixes => write!(f, "7 TooManyPrefixes"),
+            ConfigRefused::PrefixTwice => write!(f, "8 PrefixTwice"),
+            ConfigRefused::PrefixNotAllowed => write!(f, "9 PrefixNotAllowed"),
         }
     }
 }
 
-/// A lawful configuration.
+/// A configuration that has passed [`RouterConfig::check`].
 #[derive(Drop)]
 pub struct RouterConfig {
     interfaces: Vec<Interface>,
@@ -131,38 +125,42 @@ fn has_prefix(owned: &[(Prefix, u16)], prefix: Prefix) -> bool
         .any(|(p, _)| p.addr() == addr && p.len() == len)
 }
 
-/// Whether a route over it may be usable.
+/// Whether a route over an interface of this cost may be usable: 1 to 15 hops (RFC 2080, section 2.4.2).
 pub fn is_usable_cost(cost: u8) -> bool
     ensures { result ≡ is_usable_cost cost }
 {
     1 <= cost && cost < INFINITY
 }
 
-/// Whether packets of IPv6 fit, and lengths their fields.
+/// Whether packets of IPv6 fit the MTU, and the length of a UDP datagram its field.
 fn is_usable_mtu(mtu: u32) -> bool
     ensures { result ≡ is_usable_mtu mtu }
 {
     LEAST_MTU <= mtu && mtu <= MOST_MTU
 }
 
-/// The first reason to refuse an interface behind earlier ones.
+/// The first reason to refuse an interface that follows earlier ones.
 fn check_interface(earlier: &[Interface], interface: &Interface) -> Result<(), ConfigRefused>
     ensures { result_err result ≡ first_reason (interface_reasons earlier.now interface.now) }
 {
+    // Updates and Requests are sent from a link-local address (RFC 2080, section 2.5.2).
     if !interface.addr.is_link_local() {
         Err(ConfigRefused::AddressNotLinkLocal)
     } else if has_address(earlier, interface.addr) {
+        // One address on two interfaces would make a neighbor's datagram look like the router's own (section 2.4.2).
         Err(ConfigRefused::AddressTwice)
     } else if !is_usable_cost(interface.cost) {
+        // A cost is a metric, below infinity (section 2.1). With 0 a loop would not count up.
         Err(ConfigRefused::BadCost)
     } else if !is_usable_mtu(interface.mtu) {
+        // The MTU limits the entries of a datagram (section 2.1).
         Err(ConfigRefused::BadMtu)
     } else {
         Ok(())
     }
 }
 
-/// The first reason to refuse an interface.
+/// The first reason to refuse the interfaces, each after those before it.
 fn check_interfaces(interfaces: &[Interface]) -> Result<(), ConfigRefused>
     ensures { result_err result ≡ first_reason (reasons_of_each interface_reasons interfaces.now) }
 {
@@ -172,21 +170,23 @@ fn check_interfaces(interfaces: &[Interface]) -> Result<(), ConfigRefused>
     Ok(())
 }
 
-/// The first reason to refuse an owned prefix behind earlier ones.
+/// The first reason to refuse an owned prefix that follows earlier ones.
 fn check_prefix(earlier: &[(Prefix, u16)], owned: &(Prefix, u16)) -> Result<(), ConfigRefused>
     ensures fault { result_err result ≡ first_reason (prefix_reasons earlier.now owned.now) }
     ensures prefix { OnOk result (IsPrefix owned.now.0) }
 {
+    // A table has one route to each prefix (RFC 2080, section 2.2).
     if has_prefix(earlier, owned.0) {
         Err(ConfigRefused::PrefixTwice)
     } else if !owned.0.is_routable() {
+        // Neighbors would skip a multicast or link-local prefix (section 2.4.2).
         Err(ConfigRefused::PrefixNotAllowed)
     } else {
         Ok(())
     }
 }
 
-/// The first reason to refuse an owned prefix.
+/// The first reason to refuse the owned prefixes, each after those before it.
 fn check_prefixes(prefixes: &[(Prefix, u16)]) -> Result<(), ConfigRefused>
     ensures fault { result_err result ≡ first_reason (reasons_of_each prefix_reasons prefixes.now) }
     ensures prefixes { OnOk result (All (λ t. IsPrefix t.0) prefixes.now) }
@@ -202,6 +202,7 @@ fn check_lists(interfaces: &[Interface], prefixes: &[(Prefix, u16)]) -> Result<(
     ensures fault { (quiet : Bool) → result_err result ≡ config_fault (config interfaces.now prefixes.now quiet) }
     ensures prefixes { OnOk result (All (λ t. IsPrefix t.0) prefixes.now) }
 {
+    // RFC 2080 sets no limits on these numbers. They are this project's choice, so that sizes are known in advance.
     if interfaces.is_empty() {
         return Err(ConfigRefused::NoInterface);
     }
@@ -216,11 +217,11 @@ fn check_lists(interfaces: &[Interface], prefixes: &[(Prefix, u16)]) -> Result<(
 }
 
 impl RouterConfig {
-    /// A configuration of these interfaces and owned prefixes, each with its route tag; a quiet router only listens, and
-    /// answers askers that are no routers. Takes no memory.
+    /// A configuration of these interfaces and owned prefixes, each with its route tag. A quiet router is passive: it listens,
+    /// and replies only to Requests from other ports than 521. Takes no memory.
     ///
     /// # Errors
-    /// The first reason that applies; what was given is dropped.
+    /// The first reason that applies. What was given is dropped.
     pub fn check(
         interfaces: Vec<Interface>,
         prefixes: Vec<(Prefix, u16)>,
@@ -254,20 +255,21 @@ impl RouterConfig {
         &self.prefixes
     }
 
-    /// Whether the router only listens, and answers askers that are no routers.
+    /// Whether the router is passive: it listens, and replies only to Requests from other ports than 521.
     pub fn is_quiet(&self) -> bool
         ensures { result ≡ self.now.quiet }
     {
         self.quiet
     }
 
-    /// Whether the address is one of the router's interfaces.
+    /// Whether the address is that of one of the router's interfaces.
     pub fn is_own_address(&self, addr: Addr6) -> bool
         ensures { result ≡ is_own_address self.now addr }
     {
         has_address(&self.interfaces, addr)
     }
-    /// Whether the prefix is owned, with whatever tag.
+
+    /// Whether the prefix is owned, with any tag.
     pub fn owns(&self, prefix: Prefix) -> bool
         ensures value { result ≡ has_prefix self.now.prefixes prefix }
         ensures lawful { IsPrefix prefix }
@@ -275,7 +277,7 @@ impl RouterConfig {
         has_prefix(&self.prefixes, prefix)
     }
 
-    /// An interface costs another amount.
+    /// Sets the cost of an interface, in hops.
     pub(crate) fn set_cost(&mut self, iface: usize, cost: u8)
         requires there { iface < length self.old.interfaces }
         requires usable { is_usable_cost cost ≡ true }
@@ -284,10 +286,10 @@ impl RouterConfig {
         self.interfaces[iface].cost = cost;
     }
 
-    /// One more prefix is owned.
+    /// Adds an owned prefix.
     ///
     /// # Errors
-    /// Only want of memory; the configuration is then as it was.
+    /// Only out of memory. The configuration is then unchanged.
     pub(crate) fn own(&mut self, prefix: Prefix, tag: u16) -> Result<(), AllocError>
         requires prefix { IsPrefix prefix }
         requires routable { is_routable prefix ≡ true }
@@ -300,7 +302,7 @@ impl RouterConfig {
         Ok(())
     }
 
-    /// A prefix is owned no longer.
+    /// Removes an owned prefix.
     pub(crate) fn disown(&mut self, prefix: Prefix)
         ensures { self.new ≡ reconfigured_config self.old (Change.Disown prefix) }
     {

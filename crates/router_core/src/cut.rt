@@ -1,4 +1,4 @@
-//! A list of entries is cut into datagrams, each of what the link's MTU leaves room for (RFC 2080, section 2.1).
+//! A list of entries is divided into datagrams, as many entries in each as the MTU of the link allows (RFC 2080, section 2.1).
 
 ghost use Rattle.std.specs.Prelude.{◌≡◌, ◌≤◌, ◌+◌, length, OnOk};
 ghost use Rattle.router_core.specs.Output.{responses_at, AddsSpelled};
@@ -8,10 +8,10 @@ use crate::listed::Listed;
 use ripng_wire::{Command, Rte, encode, entries_for_mtu};
 use std::alloc::{AllocError, Global};
 
-/// Adds a list of entries as Responses on an interface of this MTU, in bytes.
+/// Adds the Responses that carry these entries, in order, on an interface whose MTU is `mtu` bytes.
 ///
 /// # Errors
-/// Only want of memory; some of the Responses may have been added.
+/// Only out of memory. Some of the Responses may have been added.
 pub fn push_responses(
     alloc: Global,
     sends: &mut Vec<Outgoing>,
@@ -25,6 +25,7 @@ pub fn push_responses(
     ensures spelled { OnOk result (AddsSpelled (responses_at mtu iface to entries.now) sends.old.items sends.new.items) }
     ensures few { OnOk result (length sends.new.items ≤ length sends.old.items + length entries.now) }
 {
+    // Entries that find no room go into further datagrams; each datagram is processed by itself (RFC 2080, section 2.1).
     let room = entries_for_mtu(mtu);
     let mut rest = entries;
     while !rest.is_empty() {

@@ -1,4 +1,4 @@
-//! What the forwarding table is told of a router's routes: the changes of its entries.
+//! The changes of forwarding entries that follow from changes of routes.
 
 ghost use Rattle.std.specs.Prelude.{◌≡◌, option_map, option_and_then};
 ghost use Rattle.router_core.specs.Changes.{hop_of, forward, change};
@@ -7,7 +7,7 @@ use fib::{Hop, RouteChange};
 use prefix6::Prefix;
 use route_table::{INFINITY, Origin, Route};
 
-/// Where packets go by a route.
+/// Where packets go by a route of this origin.
 fn hop_of(origin: Origin) -> Hop
     ensures { result ≡ hop_of origin }
 {
@@ -21,7 +21,7 @@ fn hop_of(origin: Origin) -> Hop
     }
 }
 
-/// Hop and metric of a route that is not unreachable.
+/// Hop and metric of a route, if it is reachable. An unreachable one is advertised still, but not used (RFC 2080, section 2.3).
 fn forward(route: Option<Route>) -> Option<(Hop, u8)>
     ensures { result ≡ option_map (λ f. (f.hop, f.metric)) (option_and_then forward route) }
 {
@@ -37,6 +37,7 @@ fn forward(route: Option<Route>) -> Option<(Hop, u8)>
 pub fn change(prefix: Prefix, old: Option<Route>, new: Option<Route>) -> Option<RouteChange>
     ensures { result ≡ change prefix old new }
 {
+    // A refreshed route that goes the same way at the same metric changes no entry.
     let before = forward(old);
     let after = forward(new);
     if before == after {

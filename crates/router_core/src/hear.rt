@@ -1,5 +1,5 @@
-//! A Response is heard: its entries in order, each meeting the routes that those before it left (RFC 2080, section
-//! 2.4.2).
+//! A Response is processed: its entries in order, each against the routes that the entries before it left (RFC 2080,
+//! section 2.4.2). A bad entry is skipped and noted, and the next one is processed.
 
 ghost use Rattle.std.specs.Prelude.{◌≡◌, ◌<◌, ◌≤◌, ◌↔◌, [], IsTrue, IsSome, None, false, unwrap_or, IfOk, IfErr, OnOk, OnErr, length};
 ghost use Rattle.std.specs.Vec.{vec_capacity};
@@ -20,7 +20,10 @@ use prefix6::{Addr6, Prefix};
 use ripng_wire::{NEXT_HOP_METRIC, Rte, Rtes};
 use route_table::{AddRefused, Route, RouteStore};
 
-/// Adds a route where there is none.
+/// Adds a route to a prefix that has none.
+///
+/// # Errors
+/// `TableFull` or `NoMemory`. The store is then unchanged.
 fn add<S: RouteStore>(store: &mut S, prefix: Prefix, route: Route) -> Result<(), NoteKind>
     requires absent { map_of.get (S.table store.old) prefix ≡ None }
     ensures placed { OnOk result (S.table store.new ≡ map_of.insert (S.table store.old) prefix route) }
@@ -30,12 +33,16 @@ fn add<S: RouteStore>(store: &mut S, prefix: Prefix, route: Route) -> Result<(),
 {
     match store.add(prefix, route) {
         Ok(()) => Ok(()),
+        // RFC 2080 sets no limit on a table. A route without room is skipped like a bad entry, and later updates offer it again.
         Err(AddRefused::Full) => Err(NoteKind::TableFull),
         Err(AddRefused::NoMemory) => Err(NoteKind::NoMemory),
     }
 }
 
-/// Puts a route where the old one was, or adds it where there is none.
+/// Replaces the route to a prefix, or adds the first one.
+///
+/// # Errors
+/// `TableFull` or `NoMemory`, and only for a first route. The store is then unchanged.
 pub fn put<S: RouteStore>(
     store: &mut S,
     prefix: Prefix,
@@ -56,7 +63,7 @@ pub fn put<S: RouteStore>(
     add(store, prefix, route)
 }
 
-/// An offer meets no route to its prefix: the change that it makes, or why the first route is refused.
+/// An offer is for a prefix without a route: the change of the forwarding entry, or why the route cannot be added.
 fn meet_first<S: RouteStore>(
     store: &mut S,
     gateway: &Gateway,
@@ -72,6 +79,7 @@ fn meet_first<S: RouteStore>(
     ensures new { OnErr result (IsTrue (adds (meeting gateway.now offer.now prefix (S.table store.old)))) }
     ensures refusal { IfErr result (λ kind. kind ≡ refusal_of_new (S.table store.old)) }
 {
+    // There is no point in adding a route that cannot be used (RFC 2080, section 2.4.2).
     let Some(first) = gateway.adopt_first(offer) else {
         return Ok(None);
     };
@@ -79,8 +87,8 @@ fn meet_first<S: RouteStore>(
     Ok(change(prefix, None, Some(first)))
 }
 
-/// One offer meets the routes: the change that it makes, or why its first route to a prefix is refused. The store is searched once
-/// where it has a route to the prefix.
+/// One offer is processed: the change of the forwarding entry, or why its first route to a prefix cannot be added. The store is
+/// searched once where it has a route to the prefix.
 fn meet<S: RouteStore>(
     store: &mut S,
     gateway: &Gateway,
@@ -101,7 +109,7 @@ fn meet<S: RouteStore>(
     }
 }
 
-/// One entry that is no next hop entry: the change that its offer makes, or why it is skipped.
+/// One route entry is processed: the change of the forwarding entry, or why the entry is skipped.
 fn hear_entry<S: RouteStore>(
     store: &mut S,
     gateway: &Gateway,
@@ -128,7 +136,8 @@ fn hear_entry<S: RouteStore>(
     meet(store, gateway, prefix, &offer)
 }
 
-/// All entries of a Response, in order. There is room for a note and for a change for each.
+/// Processes all entries of a Response, in order. The two vectors have room for a note and for a change of each, so no memory is
+/// taken for them on the way.
 pub fn hear<S: RouteStore>(
     store: &mut S,
     gateway: &Gateway,
@@ -146,6 +155,7 @@ pub fn hear<S: RouteStore>(
 {
     let mut next_hop = gateway.from;
     for (place, entry) in entries.enumerate() {
+        // Metric 255 sets the next hop of the entries that follow, up to the next such entry (RFC 2080, section 2.1.1).
         if entry.metric == NEXT_HOP_METRIC {
             next_hop = usable_hop(config, gateway.from, &entry);
             continue;
@@ -153,6 +163,7 @@ pub fn hear<S: RouteStore>(
         match hear_entry(store, gateway, &entry, next_hop, place) {
             Ok(None) => {}
             Ok(Some(change)) => changes.push_reserved(change),
+            // An entry that fails a test is ignored, and the next one is processed (section 2.4.2).
             Err(kind) => notes.push_reserved(Note { entry: place, kind }),
         }
     }

@@ -1,4 +1,4 @@
-//! Laws of the step, each the contract of a function with nothing to do: what follows from the definitions alone.
+//! Lemmas on the steps of a router. Each is the contract of an empty function: it follows from the definitions alone.
 
 ghost use Rattle.std.specs.Prelude.{◌≡◌, ℕ, ◌+◌, ◌<◌, ◌≤◌, List, Option, length, flat_map, slice_get, Some};
 ghost use Rattle.std.specs.FinMap as map_of;
@@ -23,25 +23,25 @@ pub fn changes_replay()
         → Replays (forwards_before old happening) answer.changes (forwards new.table) }
 {}
 
-/// What an offer makes of the route to its prefix is what the row of the table of adoption says that it falls under.
+/// What an offer does to the route to its prefix is what its row of the table of adoption says.
 pub fn adopted_by_row()
     ensures { (gateway : Gateway) (held : Option RouteValue) (offer : Offer)
         → adopted gateway held offer ≡ by_reason (reason gateway held offer) gateway held offer }
 {}
 
-/// A table that is as heard so far holds as many routes as are said to be held.
+/// A table that agrees with a Response processed up to some entry has as many routes as `held_after` counts.
 pub fn held_is_size()
     ensures { (h : Hearing) (place : ℕ) → place ≤ length h.entries
         → (t : Table) → ((p : Prefix6) → map_of.get t p ≡ route_after h place p) → map_of.len t ≡ held_after h place }
 {}
 
-/// The changes of a start, replayed onto nothing, give the forwarding table.
+/// The changes of a start, replayed onto an empty forwarding table, give that of the router.
 pub fn start_replays()
     ensures { (config : Config) (now : ℕ) (answer : Answer) (new : State) → Starts config now answer new
         → Replays map_of.empty answer.changes (forwards new.table) }
 {}
 
-/// The pieces of a list join to it; all but the last are full, and the last has one element at least.
+/// The pieces of a list, joined, are the list. All but the last are full, and the last has at least one element.
 pub fn pieces_join()
     ensures joined { (size : ℕ) (xs : List Rte) → 0 < size → flat_map (λ p. p) (pieces size xs) ≡ xs }
     ensures full { (size place : ℕ) (xs piece : List Rte) → 0 < size → place + 1 < length (pieces size xs)
@@ -50,8 +50,7 @@ pub fn pieces_join()
         → (0 < length piece) × (length piece ≤ size) }
 {}
 
-/// A router that started has its own route to each owned prefix, and so has one that moved on, whatever it heard or was
-/// changed to.
+/// A router has a local route to each prefix that it owns, from its start on and after every step.
 pub fn owned_routes_stay()
     ensures starts { (config : Config) (now : ℕ) (answer : Answer) (new : State)
         → OwnsOnce config.prefixes → Starts config now answer new → HoldsOwned new.config new.table }

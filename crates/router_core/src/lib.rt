@@ -1,5 +1,33 @@
-//! The step of a RIPng router, without sockets or clock (RFC 2080, sections 2.1 to 2.6): datagrams, ticks and
-//! restarts go in; datagrams, route changes and notes on what was refused come out.
+//! One router of RIPng as a state machine, without sockets or a clock (RFC 2080, sections 2.1 to 2.6).
+//!
+//! **In** go the calls of a [`Router`]: `arrive` with a datagram, `tick` with a moment and a random number, `reconfigure`,
+//! `link_down`, `shutdown` and `restart`. **Out** comes one [`Answer`] for each: datagrams to send, changes of forwarding entries,
+//! and why a datagram was refused or an entry of it skipped. The caller has the sockets, the clock and the random numbers. A call
+//! fails only when memory runs out, or at a change that is refused, and the router is then unchanged.
+//!
+//! The state between two calls is small: the configuration, the table of routes, and three moments, namely the last call, the
+//! next regular update, and the end of the delay of triggered updates. What happens to a route in time is in its
+//! [`Clock`](route_table::Clock):
+//!
+//! ```text
+//!              offer              timeout, metric 16 or link down
+//!   (none) ------------> Live --------------------------------------> Dying ------------> (none)
+//!                       | ^  ^                                         |  ^    120 s later
+//!    its gateway again: | |  |        usable offer, any gateway        |  |
+//!    180 s from now     +-+  +-----------------------------------------+  |
+//!                                                                         |
+//!   (any)  ------------> Fixed -------------------------------------------+
+//!               own                          disown
+//! ```
+//!
+//! A `Fixed` route is local and has no timer. A `Live` one is valid until its timeout, 180 s after the last offer of its gateway,
+//! unless a better offer of another gateway replaces it. A `Dying` one is advertised with metric 16 until garbage collection
+//! deletes it.
+//!
+//! `Moves` in specs/Machine.antt judges every call: which answers and which states after it are allowed. It stands on `fault`
+//! (specs/Faults.antt), the rules of adoption (specs/Adoption.antt), `aged` (specs/Ageing.antt) and the messages of
+//! specs/Output.antt. Begin with `arrive` in src/router.rt, then src/faults.rt, hear.rt and adopt.rt; then `tick`, age.rt and
+//! tell.rt. Lemmas on the whole are in src/laws.rt.
 #![tactic(auto)]
 
 mod adopt;

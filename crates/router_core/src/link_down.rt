@@ -1,4 +1,5 @@
-//! What becomes of routes when the link goes down on which they were learned (RFC 2080, section 2.3).
+//! A link goes down: routes that were learned on it are withdrawn at once. RFC 2080 leaves them to their timeout; this is sooner,
+//! and a choice of this project.
 
 ghost use Rattle.std.specs.Prelude.{◌≡◌, IfOk, Some};
 ghost use Rattle.std.specs.FinMap.{get};
@@ -12,7 +13,7 @@ use prefix6::Prefix;
 use route_table::{INFINITY, Moment, Origin, Route, RouteStore};
 use std::alloc::{AllocError, Global};
 
-/// Whether a route was learned on that interface, and is not unreachable.
+/// Whether a route was learned on that interface, and is reachable.
 fn is_live_on(iface: usize, route: Route) -> bool
     ensures { result ≡ is_live_on iface route }
 {
@@ -29,6 +30,7 @@ fn is_live_on(iface: usize, route: Route) -> bool
 fn lose_on(route: Route, iface: usize, now: Moment) -> Route
     ensures { result ≡ after_link_down iface now route }
 {
+    // The end of a route is the same as at its timeout: metric 16, the route change flag, and garbage collection (section 2.3).
     if is_live_on(iface, route) {
         route.lost(now.later(GARBAGE_TIME_MS))
     } else {
@@ -48,10 +50,10 @@ fn change_of_link_down(
     change(prefix, Some(route), Some(lose_on(route, iface, now)))
 }
 
-/// The changes of the routes that end, in the order of prefixes. Takes no memory where none does.
+/// The changes of forwarding entries, in the order of prefixes. Takes no memory where there are none.
 ///
 /// # Errors
-/// Only want of memory.
+/// Only out of memory.
 pub fn changes_of_link_down<S: RouteStore>(
     alloc: Global,
     store: &S,
@@ -74,7 +76,7 @@ pub fn changes_of_link_down<S: RouteStore>(
     Ok(changes)
 }
 
-/// Every route that was learned on the interface ends.
+/// Withdraws every route that was learned on the interface.
 pub fn lose_all_on<S: RouteStore>(store: &mut S, iface: usize, now: Moment)
     ensures { S.table store.new ≡ table_after_link_down iface now (S.table store.old) }
 {

@@ -1,10 +1,10 @@
-//! Lists in the types of this crate: a vector that contracts see as the list of what it holds.
+//! Lists in the public types of this crate: a `Vec` that contracts see as the list of its elements.
 
 ghost use Rattle.std.specs.Prelude.{◌≡◌};
 
 use std::marker::Model;
 
-/// A vector that contracts see as a list.
+/// A `Vec` that contracts see as the list of its elements. A plain `Vec` shows its capacity too, which no caller needs.
 #[derive(Drop)]
 pub struct Listed<T> {
     items: Vec<T>,
@@ -19,21 +19,21 @@ impl<T> Model for Listed<T> {
 }
 
 impl<T> Listed<T> {
-    /// The list that a vector holds. Takes no memory.
+    /// The list of a vector's elements. Takes no memory.
     pub fn from_vec(items: Vec<T>) -> Listed<T>
         ensures { result ≡ items.items }
     {
         Listed { items }
     }
 
-    /// The vector again. Takes no memory.
+    /// The vector that was given. Takes no memory.
     pub fn into_vec(self) -> Vec<T>
         ensures { result.items ≡ self }
     {
         self.items
     }
 
-    /// What it holds, in order.
+    /// Its elements, in order.
     pub fn as_slice(&self) -> &[T]
         ensures { result.now ≡ self.now }
     {

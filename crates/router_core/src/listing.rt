@@ -1,4 +1,4 @@
-//! The routes that an update tells, found without a look at the others (RFC 2080, section 2.5).
+//! The routes that an update advertises, found without a look at the others (RFC 2080, section 2.5).
 
 ghost use Rattle.std.specs.Prelude.{◌≡◌, ◌||◌, option_map, IfOk};
 ghost use Rattle.std.specs.List.{list_any};
@@ -15,7 +15,7 @@ use prefix6::Prefix;
 use route_table::{Moment, Route, RouteStore};
 use std::alloc::{AllocError, Global};
 
-/// The first route past the prefix that is due or marked as changed.
+/// The first route past the prefix whose timer has ended or whose route change flag is set.
 fn walk_due_or_changed<S: RouteStore>(
     store: &S,
     after: Option<Prefix>,
@@ -37,7 +37,7 @@ fn walk_due_or_changed<S: RouteStore>(
     }
 }
 
-/// The first route past the prefix that the update may tell: a triggered one only what is due or marked.
+/// The first route past the prefix that the update may advertise.
 fn walk_told<S: RouteStore>(
     store: &S,
     which: Selection,
@@ -47,12 +47,14 @@ fn walk_told<S: RouteStore>(
     ensures { result ≡ first_where (may_be_told now which) after (entries (S.table store.now)) }
 {
     match which {
+        // A regular update has all routes (RFC 2080, section 2.5).
         Selection::Every => store.walk(after),
+        // A triggered one has those with the route change flag, which a timer that has ended sets too (2.3 and 2.5.1).
         Selection::Changed => walk_due_or_changed(store, after, now),
     }
 }
 
-/// A route as an update tells it once it has aged, if the update tells it.
+/// A route as an update advertises it after its timers are looked at, if the update advertises it.
 fn told_route(route: Route, which: Selection, now: Moment) -> Option<Route>
     ensures { result ≡ told_route now which route }
 {
@@ -64,7 +66,7 @@ fn told_route(route: Route, which: Selection, now: Moment) -> Option<Route>
     }
 }
 
-/// Whether there is a route to be told once all have aged.
+/// Whether an update has a route to advertise, once the timers of all are looked at.
 pub fn has_told<S: RouteStore>(store: &S, which: Selection, now: Moment) -> bool
     ensures { result ≡ list_any (λ t. selected which t.1) (entries (aged_table now (S.table store.now))) }
 {
@@ -99,14 +101,14 @@ fn every_at<S: RouteStore>(
         .collect(alloc)
 }
 
-/// A prefix and its route as a triggered update tells it once it has aged, if the update tells it.
+/// A prefix and its route as a triggered update advertises it after its timers are looked at, if it does.
 fn left_to_tell(prefix: Prefix, route: Route, now: Moment) -> Option<(Prefix, Route)>
     ensures { result ≡ option_map (λ left. (prefix, left)) (told_route now Selection.Changed route) }
 {
     told_route(route, Selection::Changed, now).map(|left| (prefix, left))
 }
 
-/// The routes that a triggered update tells, in the order of prefixes.
+/// The routes that a triggered update advertises, in the order of prefixes.
 fn changed_at<S: RouteStore>(
     alloc: Global,
     store: &S,
@@ -128,10 +130,10 @@ fn changed_at<S: RouteStore>(
     Ok(routes)
 }
 
-/// The routes that an update tells, as they are at a moment, in the order of prefixes.
+/// The routes that an update advertises, as they are at a moment, in the order of prefixes.
 ///
 /// # Errors
-/// Only want of memory.
+/// Only out of memory.
 pub fn told_at<S: RouteStore>(
     alloc: Global,
     store: &S,

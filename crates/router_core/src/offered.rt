@@ -1,4 +1,4 @@
-//! The offers of a Response, for whoever tells why a router adopts what it adopts (RFC 2080, section 2.4.2).
+//! The offers of a Response, for a caller that explains why a router adopts what it adopts (RFC 2080, section 2.4.2).
 
 ghost use Rattle.std.specs.Prelude.{◌≡◌, IfOk};
 ghost use Rattle.router_core.specs.Adoption.{adopted, metric_through, reason};
@@ -31,7 +31,7 @@ impl Model for Offered {
 }
 
 impl Offered {
-    /// The number of the entry that offers it, from 0.
+    /// The place of the entry in the Response, from 0.
     pub fn place(&self) -> usize
         ensures { result ≡ self.now.offer.place }
     {
@@ -45,33 +45,35 @@ impl Offered {
         self.prefix
     }
 
-    /// Its metric here, with the cost of the interface that it came on.
+    /// Its metric here, 1 to 16 hops, with the cost of the interface that it came on.
     pub fn metric(&self) -> u8
         ensures { result ≡ metric_through self.now.gateway self.now.offer }
     {
         self.gateway.metric_through(&self.offer)
     }
 
+    /// Its route tag.
     pub fn tag(&self) -> u16
         ensures { result ≡ self.now.offer.tag }
     {
         self.offer.tag
     }
 
+    /// Where packets would go, on the interface that it came on.
     pub fn next_hop(&self) -> Addr6
         ensures { result ≡ self.now.offer.next_hop }
     {
         self.offer.next_hop
     }
 
-    /// The row of the table of adoption that it falls under, by the route to its prefix that is held when it comes.
+    /// The row of the table of adoption that it falls under, given the route to its prefix that is held when it comes.
     pub fn reason_of(&self, held: Option<Route>) -> Reason
         ensures { result ≡ reason self.now.gateway held self.now.offer }
     {
         self.gateway.reason(held, &self.offer)
     }
 
-    /// What is held then, if there is room for a first route: what the next offer for the same prefix meets.
+    /// The route that is held afterwards, if there is room for a first route: the next offer for the prefix meets it.
     pub fn adopted(&self, held: Option<Route>) -> Option<Route>
         ensures { result ≡ adopted self.now.gateway held self.now.offer }
     {
@@ -82,10 +84,10 @@ impl Offered {
     }
 }
 
-/// What the entries of a Response offer, in their order.
+/// The offers of a Response, in the order of its entries. Skipped entries offer nothing.
 ///
 /// # Errors
-/// Only want of memory.
+/// Only out of memory.
 pub fn all_offered(
     alloc: Global,
     config: &RouterConfig,
@@ -97,10 +99,12 @@ pub fn all_offered(
     let mut all = Vec::with_capacity(alloc, entries.len())?;
     let mut next_hop = gateway.from;
     for (place, entry) in entries.enumerate() {
+        // Metric 255 sets the next hop of the entries that follow (RFC 2080, section 2.1.1).
         if entry.metric == NEXT_HOP_METRIC {
             next_hop = usable_hop(config, gateway.from, &entry);
             continue;
         }
+        // An entry that fails a test is ignored, and the next one is processed (section 2.4.2).
         let Ok(prefix) = judge(&entry) else {
             continue;
         };

@@ -1,47 +1,40 @@
-//! Why an offer makes of a route what it makes of it: the rows of the table of adoption (RFC 2080, section 2.4.2).
+//! Why an offer does what it does to a route: the rows of the table of adoption (RFC 2080, section 2.4.2).
 
 ghost use Rattle.std.specs.Prelude.{◌≡◌};
-ghost use Rattle.router_core.specs.Adoption.{reason, reason_by_clock, reason_name, reason_number, reason_of_other};
+ghost use Rattle.router_core.specs.Adoption.{reason, reason_by_clock, reason_name, reason_of_other};
 
 use crate::adopt::{Gateway, Offer};
 use crate::timers::HALF_TIMEOUT_MS;
 use route_table::{Clock, Deadline, INFINITY, Route};
 
-/// The row of the table of adoption that an offer falls under, by the route that is held when it comes.
+/// The row of the table of adoption that an offer falls under, given the route that is held when it comes.
 #[derive(Clone, Copy, Debug, PartialEq, Eq)]
 pub enum Reason {
-    /// There is no route, and the offer is unreachable: none is held then.
-    Nothing = 1,
-    /// There is no route: the offer is taken.
-    Added = 2,
-    /// The router owns the prefix: its own route stays.
-    Owned = 3,
-    /// The gateway of the live route says that the prefix is unreachable: the route is lost.
-    GivenUp = 4,
-    /// The gateway of the live route tells it again: it is refreshed.
-    Refreshed = 5,
-    /// Another gateway has a lower metric: the offer is taken.
-    Cheaper = 6,
-    /// Another gateway has an equal metric, and half of the timeout has passed: the offer is taken.
-    Older = 7,
-    /// Another gateway has a higher metric: the route stays.
-    Dearer = 8,
-    /// Another gateway has an equal metric, and half of the timeout has not passed: the route stays.
-    Young = 9,
-    /// The route is dying, and the offer is reachable: the offer is taken.
-    Revived = 10,
-    /// The route is dying, and the offer is unreachable: the route stays.
-    Gone = 11,
+    /// Row 1. No route is held, and the offer is unreachable: nothing is added.
+    Nothing,
+    /// Row 2. No route is held: the offer is adopted.
+    Added,
+    /// Row 3. The prefix is the router's own: its local route stays.
+    Owned,
+    /// Row 4. The gateway of the valid route withdraws it: garbage collection begins.
+    GivenUp,
+    /// Row 5. The gateway of the valid route advertises it again: the route is refreshed.
+    Refreshed,
+    /// Row 6. Another gateway has a lower metric: the offer is adopted.
+    Cheaper,
+    /// Row 7. Another gateway has an equal metric, and half of the timeout has passed: the offer is adopted.
+    Older,
+    /// Row 8. Another gateway has a higher metric: the route stays.
+    Dearer,
+    /// Row 9. Another gateway has an equal metric, and half of the timeout has not passed: the route stays.
+    Young,
+    /// Row 10. The route is being garbage-collected, and the offer is reachable: the offer is adopted.
+    Revived,
+    /// Row 11. The route is being garbage-collected, and the offer is unreachable: the route stays.
+    Gone,
 }
 
 impl Reason {
-    /// The number of the row, 1 to 11.
-    pub fn number(self) -> u8
-        ensures { result ≡ reason_number self }
-    {
-        self as u8
-    }
-
     /// The name of the row, one word.
     pub fn name(self) -> &'static str
         ensures { result.now ≡ reason_name self }
@@ -63,10 +56,12 @@ impl Reason {
 }
 
 impl Gateway {
-    /// The row of an offer of another gateway than that of a live route.
+    /// The row of an offer whose gateway is not that of the valid route.
     fn reason_of_other(&self, offer: &Offer, metric: u8, until: Deadline) -> Reason
         ensures { result ≡ reason_of_other self.now offer.now metric until }
     {
+        // A lower metric is adopted at once. An equal one is adopted only once half of the timeout has passed: the heuristic
+        // that RFC 2080, section 2.4.2, recommends, since the old gateway may have failed.
         let offered = self.metric_through(offer);
         if offered < metric {
             Reason::Cheaper
@@ -79,25 +74,28 @@ impl Gateway {
         }
     }
 
-    /// The row of an offer where there is a route.
+    /// The row of an offer where a route is held.
     fn reason_by_clock(&self, offer: &Offer, route: Route) -> Reason
         ensures { result ≡ reason_by_clock self.now offer.now route route.clock }
     {
         let is_reachable = self.metric_through(offer) < INFINITY;
         let clock = route.clock();
         match clock {
+            // A router's own prefix has metric 1 for it, and no neighbor can do better.
             Clock::Fixed => Reason::Owned,
             Clock::Live(until) if !self.is_through(route.origin()) => {
                 self.reason_of_other(offer, route.metric(), until)
             }
+            // Only the gateway of a route may worsen or withdraw it (section 2.4.2).
             Clock::Live(_) if is_reachable => Reason::Refreshed,
             Clock::Live(_) => Reason::GivenUp,
+            // A new route may replace one that is being garbage-collected (section 2.3).
             Clock::Dying(_) if is_reachable => Reason::Revived,
             Clock::Dying(_) => Reason::Gone,
         }
     }
 
-    /// The row that an offer falls under.
+    /// The row that an offer falls under, given the route that is held, if one is.
     pub fn reason(&self, held: Option<Route>, offer: &Offer) -> Reason
         ensures { result ≡ reason self.now held offer.now }
     {

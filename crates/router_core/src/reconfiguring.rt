@@ -1,52 +1,54 @@
-//! Changes of the configuration of a router that runs, and why one is refused.
+//! Changes of the configuration of a running router, and why one is refused.
 
-ghost use Rattle.std.specs.Prelude.{◌≡◌, OnOk};
+ghost use Rattle.std.specs.Prelude.{◌≡◌, OnOk, Some};
 ghost use Rattle.std.specs.Result.{result_err};
 ghost use Rattle.prefix6.specs.Prefix.{IsPrefix};
-ghost use Rattle.router_core.specs.Reconfiguring.{IsNamed, NamesInterface, reconfigure_fault, reconfigure_name, reconfigure_number};
+ghost use Rattle.router_core.specs.Reconfiguring.{IsNamed, NamesInterface, reconfigure_fault, reconfigure_name, reconfigure_number, reconfigure_text};
 
 use crate::config::{OWNED_LIMIT, RouterConfig, is_usable_cost};
 use prefix6::Prefix;
 use route_table::{RouteStore, TABLE_LIMIT};
 use std::alloc::AllocError;
+use std::fmt::{self, Display};
 
-/// A change of the configuration of a router that runs.
+/// A change of the configuration of a running router.
 #[derive(Clone, Copy, Debug, PartialEq, Eq)]
 pub enum Change {
-    /// An interface costs another amount. What is held stays; what is offered later costs so.
+    /// Another cost of an interface. Routes keep their metrics; later offers are counted with the new cost.
     Cost {
         /// The number of the interface.
         iface: usize,
         /// 1 to 15 hops.
         cost: u8,
     },
-    /// The router owns a prefix from now on.
+    /// The router owns a prefix from now on: a local route replaces the learned one.
     Own {
         prefix: Prefix,
+        /// The route tag that it is advertised with (RFC 2080, section 2.1).
         tag: u16,
     },
-    /// The router owns a prefix no longer.
+    /// The router no longer owns a prefix: its route is withdrawn, and deleted after garbage collection.
     Disown {
         prefix: Prefix,
     },
 }
 
-/// Why a change is refused: the first reason of its kind to refuse it, in this order.
+/// Why a change is refused: the first reason that applies, in the order below. Nothing is changed then.
 #[derive(Clone, Copy, Debug, PartialEq, Eq)]
 pub enum ReconfigureRefused {
-    /// The cost is not 1 to 15 hops.
+    /// The cost is not 1 to 15 hops: at 16 nothing would be reachable.
     BadCost = 31,
-    /// The prefix is multicast or link-local.
+    /// The prefix is multicast or link-local, which no router may advertise (RFC 2080, section 2.4.2).
     PrefixNotAllowed = 32,
-    /// The prefix is owned already, with whatever tag.
+    /// The prefix is owned already, with any tag. To change its tag, disown it first.
     AlreadyOwned = 33,
-    /// The router owns `OWNED_LIMIT` prefixes.
+    /// The router owns `OWNED_LIMIT` prefixes. Disown one, or own an aggregate.
     OwnedFull = 34,
-    /// There is no route to the prefix, and no room for one. Tested last of those for a prefix to own.
+    /// The table is full and has no route to the prefix. This is tested after the other reasons to refuse a prefix to own.
     TableFull = 36,
-    /// The prefix is not owned.
+    /// The prefix is not owned. Look at its length too.
     NotOwned = 35,
-    /// Memory was refused.
+    /// Out of memory: try again later.
     OutOfMemory = 37,
 }
 
@@ -74,6 +76,15 @@ impl ReconfigureRefused {
     }
 }
 
+/// `NUMBER NAME`, as it is printed.
+impl Display for ReconfigureRefused {
+    ghost output = { λ why. Some (reconfigure_text why) };
+
+    fn fmt<W: fmt::Write>(&self, f: &mut fmt::Formatter<W>) -> fmt::Result {
+        write!(f, "{} {}", self.number(), self.name())
+    }
+}
+
 impl From<AllocError> for ReconfigureRefused {
     ghost use Rattle.router_core.specs.declared.reconfiguring.ReconfigureRefused.TheVariants.{OutOfMemory};
 
@@ -84,7 +95,7 @@ impl From<AllocError> for ReconfigureRefused {
     }
 }
 
-/// The first reason to refuse a prefix to be owned.
+/// The first reason to refuse a prefix to own. The order is this project's choice.
 fn check_own<S: RouteStore>(
     config: &RouterConfig,
     store: &S,
@@ -94,20 +105,24 @@ fn check_own<S: RouteStore>(
     ensures fault { result_err result ≡ reconfigure_fault config.now (S.table store.now) (Change.Own prefix tag) }
     ensures prefix { OnOk result (IsPrefix prefix) }
 {
+    // Neighbors would skip a multicast or link-local prefix (RFC 2080, section 2.4.2).
     if !prefix.is_routable() {
         Err(ReconfigureRefused::PrefixNotAllowed)
     } else if config.owns(prefix) {
+        // A table has one route to each prefix (RFC 2080, section 2.2).
         Err(ReconfigureRefused::AlreadyOwned)
     } else if config.prefixes().len() >= OWNED_LIMIT {
+        // The limit is that of a configuration at the start.
         Err(ReconfigureRefused::OwnedFull)
     } else if store.get(&prefix).is_none() && store.len() >= TABLE_LIMIT {
+        // A learned route to the prefix makes room for the local one, so the table needs room only where there is none.
         Err(ReconfigureRefused::TableFull)
     } else {
         Ok(())
     }
 }
 
-/// The first reason to refuse a change.
+/// The first reason to refuse a change, if there is one. Takes no memory.
 pub fn check<S: RouteStore>(
     config: &RouterConfig,
     store: &S,
@@ -118,6 +133,7 @@ pub fn check<S: RouteStore>(
 {
     match *change {
         Change::Cost { cost, .. } => {
+            // A cost is a metric below infinity (RFC 2080, section 2.1).
             if is_usable_cost(cost) {
                 Ok(())
             } else {
@@ -129,6 +145,7 @@ pub fn check<S: RouteStore>(
             if config.owns(prefix) {
                 Ok(())
             } else {
+                // A learned route is withdrawn by its gateway or its timeout, and not by hand (section 2.3).
                 Err(ReconfigureRefused::NotOwned)
             }
         }

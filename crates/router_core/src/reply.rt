@@ -1,4 +1,4 @@
-//! A Request is answered: with the whole table, or entry by entry (RFC 2080, section 2.4.1).
+//! The reply to a Request: the whole table, or entry by entry (RFC 2080, section 2.4.1).
 
 ghost use Rattle.std.specs.Prelude.{◌≡◌, ◌≤◌, max, true, length, IsOk, IfOk};
 ghost use Rattle.std.specs.FinMap as map_of;
@@ -16,7 +16,8 @@ use ripng_wire::{Datagram, Rte};
 use route_table::{INFINITY, RouteStore};
 use std::alloc::{AllocError, Global};
 
-/// Whether the entries ask for the whole table: one entry of `::`, length 0 and metric 16, whatever its tag.
+/// Whether the entries ask for the whole table: exactly one entry, of prefix `::`, length 0 and metric 16. Its tag is not looked
+/// at (RFC 2080, section 2.4.1).
 fn asks_for_all(request: &Datagram<'_>) -> bool
     ensures { result ≡ asks_for_all request.now.entries }
 {
@@ -27,7 +28,7 @@ fn asks_for_all(request: &Datagram<'_>) -> bool
     }
 }
 
-/// What is answered to one entry: what was asked, with the metric and tag of the route to exactly its prefix.
+/// The reply to one entry: the entry itself, with the metric and tag of the route to exactly its prefix.
 fn reply_entry<S: RouteStore>(store: &S, asked: Rte) -> Rte
     ensures { result ≡ reply_entry (S.table store.now) asked }
 {
@@ -36,11 +37,13 @@ fn reply_entry<S: RouteStore>(store: &S, asked: Rte) -> Rte
         Err(_) => None,
     };
     match found {
+        // A query for single prefixes is for diagnosis, so it gets the metric as it is, without split horizon (section 2.4.1).
         Some(route) => Rte {
             metric: route.metric(),
             tag: route.tag(),
             ..asked
         },
+        // Infinity stands for a prefix without a route (section 2.4.1).
         None => Rte {
             metric: INFINITY,
             ..asked
@@ -48,7 +51,7 @@ fn reply_entry<S: RouteStore>(store: &S, asked: Rte) -> Rte
     }
 }
 
-/// What is answered on an interface to the entries of a Request.
+/// The entries of the reply to a Request that came on an interface.
 fn entries<S: RouteStore>(
     alloc: Global,
     store: &S,
@@ -58,6 +61,7 @@ fn entries<S: RouteStore>(
     ensures value { IfOk result (λ v. v.items ≡ reply iface (S.table store.now) request.now.entries) }
     ensures few { IfOk result (λ v. length v.items ≤ max (map_of.len (S.table store.now)) (length request.now.entries)) }
 {
+    // The whole table goes through normal output processing, split horizon included: a neighbor will use it (section 2.4.1).
     if asks_for_all(request) {
         return told_on(alloc, iface, &listed(alloc, store)?);
     }
@@ -79,10 +83,10 @@ fn mtu_at(config: &RouterConfig, iface: usize) -> u32
     }
 }
 
-/// The Responses to an arrival that is this Request, to the asker. A quiet router answers no router: none to port 521.
+/// The Responses that reply to a Request, to its sender. A passive router does not reply to port 521, that is, to routers.
 ///
 /// # Errors
-/// Only want of memory, and never where nothing is answered.
+/// Only out of memory, and never where there is no reply.
 pub fn reply<S: RouteStore>(
     alloc: Global,
     store: &S,
@@ -95,6 +99,8 @@ pub fn reply<S: RouteStore>(
     ensures quiet { config.now.quiet ≡ true → arrival.entry.now.source_port ≡ ripng_port → IsOk result }
 {
     let mut sends = Vec::new(alloc);
+    // This project's choice: a passive router keeps silent towards routers. A query from another port is for diagnosis, and gets
+    // its reply (section 2.1).
     if config.is_quiet() && arrival.source_port == RIPNG_PORT {
         return Ok(sends);
     }

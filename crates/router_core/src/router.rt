@@ -1,4 +1,4 @@
-//! A router over any store of routes: the step of RIPng (RFC 2080, sections 2.3 to 2.5).
+//! A router over any store of routes, and its main steps: start, arrival and tick (RFC 2080, sections 2.3 to 2.5).
 
 ghost use Rattle.std.specs.Prelude.{◌≡◌, ◌<◌, ◌≤◌, ◌*◌, ◌↔◌, max, [], IsTrue, None, Some, IsSome, IsOk, IfOk, OnErr, length};
 ghost use Rattle.std.specs.FinMap as map_of;
@@ -37,7 +37,7 @@ use route_table::{Deadline, Moment, RouteStore};
 use std::alloc::{AllocError, Global};
 use std::marker::Model;
 
-/// A router over a store of routes.
+/// A router over a store of routes. It changes only by its steps, and each step is one call.
 #[derive(Drop)]
 pub struct Router<S: RouteStore> {
     config: RouterConfig,
@@ -69,7 +69,7 @@ impl<S: RouteStore> Model for Router<S> {
     } };
 }
 
-/// An answer with no fault.
+/// An answer without a fault.
 fn answer_of(sends: Vec<Outgoing>, changes: Vec<RouteChange>, notes: Vec<Note>) -> Answer
     ensures { result ≡ record { fault = None; sends = sends.items; changes = changes.items; notes = notes.items } }
 {
@@ -90,7 +90,7 @@ fn cost_at(config: &RouterConfig, iface: usize) -> u8
     config.interfaces()[iface].cost
 }
 
-/// The routes of a router that comes up, and what it answers.
+/// The routes of a router that starts, and its answer.
 fn come_up<S: RouteStore>(alloc: Global, config: &RouterConfig) -> Result<(S, Answer), AllocError>
     ensures owned { IfOk result (λ r. S.table r.0 ≡ owned_table config.now) }
     ensures fault { IfOk result (λ r. r.1.fault ≡ None) }
@@ -106,11 +106,11 @@ fn come_up<S: RouteStore>(alloc: Global, config: &RouterConfig) -> Result<(S, An
 }
 
 impl<S: RouteStore> Router<S> {
-    /// A router comes up: it owns its prefixes alone, has its first regular update due and no triggered one held, and
-    /// asks its neighbors for their tables unless it is quiet.
+    /// A router starts: its table has its own prefixes alone, its first regular update is due at once, and no delay holds a
+    /// triggered one. Unless it is passive, it asks its neighbors for their tables (RFC 2080, section 2.4.1).
     ///
     /// # Errors
-    /// Only want of memory.
+    /// Only out of memory.
     pub fn start(
         alloc: Global,
         config: RouterConfig,
@@ -132,11 +132,10 @@ impl<S: RouteStore> Router<S> {
         Ok((router, answer))
     }
 
-    /// The router comes up again, as a start with its own configuration would leave it: what it has learned is gone, and
-    /// time may go back.
+    /// The router starts again with its present configuration: what it has learned is gone, and time may go back.
     ///
     /// # Errors
-    /// Only want of memory; the router is then as it was.
+    /// Only out of memory. The router is then unchanged.
     pub fn restart(&mut self, now: Moment) -> Result<Answer, AllocError>
         ensures moves { IfOk result (λ answer. Moves self.old (Happening.Restarts now) answer self.new) }
         ensures err { OnErr result (self.new ≡ self.old) }
@@ -152,59 +151,61 @@ impl<S: RouteStore> Router<S> {
         Ok(answer)
     }
 
-    /// Its routes.
+    /// The table of routes.
     pub fn routes(&self) -> &S
         ensures { S.table result.now ≡ self.now.table }
     {
         &self.store
     }
 
-    /// What it is configured with.
+    /// The present configuration.
     pub fn config(&self) -> &RouterConfig
         ensures { result.now ≡ self.now.config }
     {
         &self.config
     }
 
-    /// The moment of its last step.
+    /// The moment of the last step.
     pub fn last(&self) -> Moment
         ensures { result ≡ self.now.last }
     {
         self.last
     }
 
-    /// When its next regular update is due.
+    /// When the next regular update is due (RFC 2080, section 2.3).
     pub fn regular(&self) -> Deadline
         ensures { result ≡ self.now.regular }
     {
         self.regular
     }
 
-    /// Until when it holds triggered updates.
+    /// Until when triggered updates are delayed (RFC 2080, section 2.5.1).
     pub fn hold(&self) -> Deadline
         ensures { result ≡ self.now.hold }
     {
         self.hold
     }
 
-    /// The fault that `arrive` would answer.
+    /// The fault that [`Router::arrive`] would answer with.
     pub fn fault_of(&self, arrival: &Arrival<'_>) -> Option<Fault>
         ensures { result ≡ fault self.now.config arrival.entry.now }
     {
         fault_of(&self.config, arrival)
     }
 
-    /// A moment before the last one counts as that.
+    /// The moment of a step. Time does not go back: an earlier moment counts as that of the last step.
     fn effective(&self, now: Moment) -> Moment
         ensures { result ≡ max self.now.last now }
     {
         self.last.max(now)
     }
 
-    /// The update that is due.
+    /// The update that is due, if one is.
     fn update_due(&self, now: Moment) -> Option<Selection>
         ensures { result ≡ update_due self.now now }
     {
+        // Every 30 seconds or so all routes are sent (RFC 2080, section 2.3). A triggered update waits for its delay, and is
+        // not sent when a regular one is due, since that has the changed routes too (section 2.5.1).
         if self.regular.reached(now) {
             Some(Selection::Every)
         } else if self.hold.reached(now) && has_told(&self.store, Selection::Changed, now) {
@@ -214,7 +215,7 @@ impl<S: RouteStore> Router<S> {
         }
     }
 
-    /// Whether an update has no datagram.
+    /// Whether an update has no datagram: the router is passive, or there is no route to send.
     fn is_silent(&self, which: Selection, now: Moment) -> bool
         ensures { IsTrue result ↔ (update_of self.now now (Some which) ≡ []) }
     {
@@ -249,7 +250,7 @@ impl<S: RouteStore> Router<S> {
         }
     }
 
-    /// Until when triggered updates are held, after an update.
+    /// Until when triggered updates are delayed, after an update.
     fn next_hold(&self, due: Option<Selection>, now: Moment, word: u32) -> Deadline
         ensures { result ≡ hold_after self.now now word due }
     {
@@ -259,11 +260,11 @@ impl<S: RouteStore> Router<S> {
         }
     }
 
-    /// Time passes: the routes age, and the update that is due, if one is, is sent. A random word says when the next is
-    /// due, 15 to 45 seconds after a regular one, or until when triggered ones are held, 1 to 5 seconds.
+    /// Time passes: routes time out or are deleted, and the update that is due, if one is, is sent. A random number sets the next
+    /// regular update, 15 to 45 seconds later, or the delay of triggered ones, 1 to 5 seconds.
     ///
     /// # Errors
-    /// Only want of memory; the router is then as it was. Takes none where no route expires and nothing is sent.
+    /// Only out of memory. The router is then unchanged. No memory is taken where no route times out and nothing is sent.
     pub fn tick(&mut self, now: Moment, word: u32) -> Result<Answer, AllocError>
         ensures moves { IfOk result (λ answer. Moves self.old (Happening.Ticks now word) answer self.new) }
         ensures err { OnErr result (self.new ≡ self.old) }
@@ -286,7 +287,7 @@ impl<S: RouteStore> Router<S> {
         Ok(answer_of(sends, changes, Vec::new(self.alloc)))
     }
 
-    /// The gateway that an arrival came through.
+    /// The sender of an arrival, as the gateway of the routes that it offers.
     fn gateway(&self, arrival: &Arrival<'_>, now: Moment) -> Gateway
         requires { arrival.now.iface < length self.now.config.interfaces }
         ensures { result ≡ gateway_of self.now now arrival.entry.now }
@@ -299,7 +300,7 @@ impl<S: RouteStore> Router<S> {
         }
     }
 
-    /// A Response is heard. Room for a note and a change of each entry is made first.
+    /// Processes a Response. Room for a note and a change of each entry comes first, so that a failed allocation changes nothing.
     fn hear(
         &mut self,
         arrival: &Arrival<'_>,
@@ -329,11 +330,11 @@ impl<S: RouteStore> Router<S> {
         Ok(answer_of(Vec::new(self.alloc), changes, notes))
     }
 
-    /// A datagram comes to one of the router's interfaces. Where there is a reason to refuse it, the fault is answered and no route
-    /// changes; a Response is heard, and a Request is answered.
+    /// A datagram comes to one of the router's interfaces. If there is a reason to refuse it, the answer is the fault and no route
+    /// changes. Otherwise a Response is processed, and a Request gets its reply.
     ///
     /// # Errors
-    /// Only want of memory; the router is then as it was. Takes none at a fault, or at a Response without entries.
+    /// Only out of memory. The router is then unchanged. No memory is taken at a fault, or for a Response without entries.
     pub fn arrive(&mut self, arrival: Arrival<'_>) -> Result<Answer, AllocError>
         requires { arrival.iface < length self.old.config.interfaces }
         ensures moves { IfOk result (λ answer. Moves self.old (Happening.Arrives arrival.entry) answer self.new) }
@@ -358,7 +359,7 @@ impl<S: RouteStore> Router<S> {
         }
     }
 
-    /// A refused arrival is answered by its fault alone.
+    /// The answer to a refused arrival is its fault alone.
     fn refuse(&mut self, now: Moment, fault: Fault) -> Answer
         ensures answer { result ≡ record { fault = Some fault; sends = []; changes = []; notes = [] } }
         ensures state { self.new ≡ record self.old { last = now } }
@@ -372,7 +373,7 @@ impl<S: RouteStore> Router<S> {
         }
     }
 
-    /// A Request is answered.
+    /// Replies to a Request.
     fn reply(
         &mut self,
         arrival: &Arrival<'_>,

@@ -1,4 +1,4 @@
-//! A router comes up: it owns its prefixes, and asks its neighbors for their tables (RFC 2080, section 2.4.1).
+//! A router starts: its table has its own prefixes, and it asks its neighbors for their tables (RFC 2080, section 2.4.1).
 
 ghost use Rattle.std.specs.Prelude.{◌≡◌, ◌≤◌, true, length, IsOk, IfOk};
 ghost use Rattle.router_core.specs.Changes.{changes_of_start};
@@ -15,7 +15,7 @@ use ripng_wire::{Command, Rte, encode};
 use route_table::{AddRefused, INFINITY, Route, RouteStore};
 use std::alloc::{AllocError, Global};
 
-/// What asks for a whole table.
+/// The entry that asks for a whole table: prefix `::`, length 0 and metric 16 (RFC 2080, section 2.4.1).
 const WHOLE_TABLE: Rte = Rte {
     addr: 0,
     tag: 0,
@@ -23,10 +23,10 @@ const WHOLE_TABLE: Rte = Rte {
     metric: INFINITY,
 };
 
-/// A Request for the whole table on each interface, to the group. A quiet router sends none.
+/// A Request for the whole table on each interface, to the group. A passive router sends none.
 ///
 /// # Errors
-/// Only want of memory, and never of a quiet router.
+/// Only out of memory, and never for a passive router.
 pub fn requests(alloc: Global, config: &RouterConfig) -> Result<Vec<Outgoing>, AllocError>
     ensures spelled { IfOk result (λ sends. AreSpelled (start_messages config.now) sends.items) }
     ensures few { IfOk result (λ sends. length sends.items ≤ length config.now.interfaces) }
@@ -47,10 +47,10 @@ pub fn requests(alloc: Global, config: &RouterConfig) -> Result<Vec<Outgoing>, A
     Ok(sends)
 }
 
-/// A store of the owned prefixes alone, each with its tag.
+/// A store with a local route to each owned prefix, and no other routes.
 ///
 /// # Errors
-/// Only want of memory.
+/// Only out of memory.
 pub fn owned_routes<S: RouteStore>(alloc: Global, config: &RouterConfig) -> Result<S, AllocError>
     ensures { IfOk result (λ s. S.table s ≡ owned_table config.now) }
 {
@@ -65,10 +65,10 @@ pub fn owned_routes<S: RouteStore>(alloc: Global, config: &RouterConfig) -> Resu
     Ok(store)
 }
 
-/// What the forwarding table is told of the routes of a router that comes up, in the order of prefixes.
+/// The forwarding entries to install when a router starts, in the order of prefixes.
 ///
 /// # Errors
-/// Only want of memory.
+/// Only out of memory.
 pub fn changes_of_start<S: RouteStore>(
     alloc: Global,
     store: &S,

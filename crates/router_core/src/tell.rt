@@ -1,5 +1,5 @@
-//! What a router tells of its routes: updates of all or of the changed ones, with poisoned reverse (RFC 2080, sections
-//! 2.5 and 2.6).
+//! What a router advertises: updates of all routes or of the changed ones, by split horizon with poisoned reverse (RFC 2080,
+//! sections 2.5 and 2.6).
 
 ghost use Rattle.std.specs.Prelude.{◌≡◌, ◌≤◌, ◌+◌, ◌*◌, Bool, true, length, map, filter, IsOk, IfOk, OnOk};
 ghost use Rattle.std.specs.FinMap.{entries};
@@ -16,17 +16,17 @@ use ripng_wire::{Command, Rte, encode, entries_for_mtu};
 use route_table::{INFINITY, Origin, Route, RouteStore};
 use std::alloc::{AllocError, Global};
 
-/// Which routes an update tells.
+/// Which routes an update advertises.
 #[derive(Clone, Copy, Debug, PartialEq, Eq)]
 pub enum Selection {
-    /// All of them.
+    /// All of them: a regular update (RFC 2080, section 2.5).
     Every,
-    /// Those that are marked as changed.
+    /// Those whose route change flag is set: a triggered update (RFC 2080, section 2.5.1).
     Changed,
 }
 
 impl Selection {
-    /// Whether an update of this kind tells the route.
+    /// Whether an update of this kind advertises the route.
     pub fn selects(self, route: &Route) -> bool
         ensures { result ≡ selected self route.now }
     {
@@ -37,10 +37,12 @@ impl Selection {
     }
 }
 
-/// A route as it is told on an interface: unreachable where it was learned.
+/// A route as it is advertised on an interface: unreachable where it was learned.
 fn told_entry(iface: usize, prefix: Prefix, route: Route) -> Rte
     ensures { result ≡ told_entry iface (prefix, route) }
 {
+    // Split horizon with poisoned reverse: a route goes out with metric 16 on the interface that it was learned on, so that two
+    // neighbors never forward to each other (RFC 2080, section 2.6).
     let is_learned_there = match route.origin() {
         Origin::Own => false,
         Origin::Learned {
@@ -63,7 +65,7 @@ fn told_entry(iface: usize, prefix: Prefix, route: Route) -> Rte
 /// All routes of a store, in the order of prefixes.
 ///
 /// # Errors
-/// Only want of memory.
+/// Only out of memory.
 pub fn listed<S: RouteStore>(alloc: Global, store: &S) -> Result<Vec<(Prefix, Route)>, AllocError>
     ensures { IfOk result (λ v. v.items ≡ entries (S.table store.now)) }
 {
@@ -72,10 +74,10 @@ pub fn listed<S: RouteStore>(alloc: Global, store: &S) -> Result<Vec<(Prefix, Ro
     Ok(routes)
 }
 
-/// What is told on an interface of these routes.
+/// The entries that advertise these routes on an interface.
 ///
 /// # Errors
-/// Only want of memory.
+/// Only out of memory.
 pub fn told_on(
     alloc: Global,
     iface: usize,
@@ -90,11 +92,11 @@ pub fn told_on(
         .collect(alloc)
 }
 
-/// Adds what is told on an interface of these routes as Responses to the group. The entries of a datagram are made as it is
-/// cut off, so no more than a datagram of them is there at once.
+/// Adds the Responses that advertise these routes on an interface, to the group. Entries are made for one datagram at a time, so
+/// no more memory is taken for them at once.
 ///
 /// # Errors
-/// Only want of memory; some of the Responses may have been added.
+/// Only out of memory. Some of the Responses may have been added.
 fn push_told(
     alloc: Global,
     sends: &mut Vec<Outgoing>,
@@ -107,6 +109,7 @@ fn push_told(
     ensures spelled { OnOk result (AddsSpelled (responses_at mtu iface Group (map (told_entry iface) routes.now)) sends.old.items sends.new.items) }
     ensures few { OnOk result (length sends.new.items ≤ length sends.old.items + length routes.now) }
 {
+    // A datagram holds as many entries as the MTU of the link allows; the rest go into further datagrams (section 2.1).
     let room = entries_for_mtu(mtu);
     let mut rest = routes;
     while !rest.is_empty() {
@@ -120,10 +123,10 @@ fn push_told(
     Ok(())
 }
 
-/// An update of these routes on each interface, to the group. A quiet router sends none.
+/// An update of these routes on each interface, to the group. A passive router sends none.
 ///
 /// # Errors
-/// Only want of memory, and never of a quiet router.
+/// Only out of memory, and never for a passive router.
 pub fn updates(
     alloc: Global,
     config: &RouterConfig,

@@ -1,4 +1,5 @@
-//! What a tick makes of the routes: they age, and what was told is no longer marked (RFC 2080, sections 2.3 and 2.5).
+//! What a tick does to the routes: timeout and garbage collection, and route change flags that are cleared once they were
+//! advertised (RFC 2080, sections 2.3 and 2.5.1).
 
 ghost use Rattle.std.specs.Prelude.{◌≡◌, [], IsOk, IfOk, if◌then◌else◌, Some};
 ghost use Rattle.std.specs.FinMap.{get};
@@ -13,7 +14,7 @@ use prefix6::Prefix;
 use route_table::{Moment, Route, RouteStore};
 use std::alloc::{AllocError, Global};
 
-/// The change of a prefix's forwarding entry as its route ages, if the entry differs.
+/// The change of a prefix's forwarding entry as its route times out, if the entry differs.
 fn change_of_ageing(prefix: Prefix, route: Route, now: Moment) -> Option<RouteChange>
     ensures { result ≡ change prefix (Some route) (aged now route) }
 {
@@ -23,7 +24,7 @@ fn change_of_ageing(prefix: Prefix, route: Route, now: Moment) -> Option<RouteCh
 /// The changes of the routes that expire, in the order of prefixes. Takes no memory where none does.
 ///
 /// # Errors
-/// Only want of memory.
+/// Only out of memory.
 pub fn changes_of_ageing<S: RouteStore>(
     alloc: Global,
     store: &S,
@@ -46,7 +47,7 @@ pub fn changes_of_ageing<S: RouteStore>(
     Ok(changes)
 }
 
-/// Puts what is left of a route in its place.
+/// Replaces a route by what is left of it, or deletes it.
 fn put<S: RouteStore>(store: &mut S, prefix: Prefix, route: Route, left: Option<Route>)
     requires { get (S.table store.old) prefix ≡ Some route }
     ensures { S.table store.new ≡ with_value (S.table store.old) prefix left }
@@ -57,7 +58,7 @@ fn put<S: RouteStore>(store: &mut S, prefix: Prefix, route: Route, left: Option<
     }
 }
 
-/// Every route ages. Only those that are due are looked at.
+/// Every route whose timer has ended times out or is deleted. Only those are looked at.
 fn age_all<S: RouteStore>(store: &mut S, now: Moment)
     ensures { S.table store.new ≡ aged_table now (S.table store.old) }
 {
@@ -71,11 +72,12 @@ fn age_all<S: RouteStore>(store: &mut S, now: Moment)
     }
 }
 
-/// Every route ages, and loses its mark if it was told.
+/// Every route whose timer has ended times out or is deleted. After an update all route change flags are cleared.
 pub fn settle_all<S: RouteStore>(store: &mut S, now: Moment, was_told: bool)
     ensures { S.table store.new ≡ (if was_told then unmarked (aged_table now (S.table store.old)) else aged_table now (S.table store.old)) }
 {
     age_all(store, now);
+    // Once an update was sent, all route change flags are cleared (RFC 2080, section 2.5.1); a regular one has sent them too.
     if was_told {
         store.unmark();
     }

@@ -1,22 +1,22 @@
 //! The timers of the protocol, in milliseconds (RFC 2080, sections 2.3 and 2.5.1).
 
-/// For so long a route is usable after it was last heard of.
+/// Route timeout (RFC 2080, section 2.3).
 pub const TIMEOUT_MS: u32 = 180_000;
 
-/// When half of the timeout has passed, an equal metric from another gateway wins.
+/// Half of the route timeout: after it an equal metric of another gateway is adopted (RFC 2080, section 2.4.2).
 pub const HALF_TIMEOUT_MS: u32 = TIMEOUT_MS / 2;
 
-/// For so long an unreachable route is told before it is deleted.
+/// Garbage-collection time: how long a withdrawn route is advertised with metric 16 (RFC 2080, section 2.3).
 pub const GARBAGE_TIME_MS: u32 = 120_000;
 
-/// The least time from a regular update to the next.
+/// Least time between two regular updates. With the spread below it is 30 s, give or take 15 s (RFC 2080, section 2.3).
 pub const REGULAR_LEAST_MS: u32 = 15_000;
 
-/// A random word makes that time longer by less than this.
+/// The random part of that time is less than this (RFC 2080, section 2.3: routers must not fall into step).
 pub const REGULAR_SPREAD_MS: u32 = 30_001;
 
-/// The least time for which a triggered update holds the next.
+/// Least delay from a triggered update to the next: 1 to 5 s with the spread below (RFC 2080, section 2.5.1).
 pub const HOLD_LEAST_MS: u32 = 1_000;
 
-/// A random word makes that time longer by less than this.
+/// The random part of that delay is less than this (RFC 2080, section 2.5.1).
 pub const HOLD_SPREAD_MS: u32 = 4_001;

@@ -1,4 +1,5 @@
-//! The routes of a router that shuts down, as it tells them.
+//! The routes of a router that shuts down, as its last update advertises them: all unreachable. RFC 2080 has no such update; it
+//! is a choice of this project.
 
 ghost use Rattle.std.specs.Prelude.{◌≡◌, map, IfOk};
 ghost use Rattle.std.specs.FinMap.{entries};
@@ -11,7 +12,7 @@ use prefix6::Prefix;
 use route_table::{Moment, Route, RouteStore};
 use std::alloc::{AllocError, Global};
 
-/// A route, lost at a moment.
+/// A route, withdrawn at a moment.
 fn lose(route: Route, now: Moment) -> Route
     ensures { result ≡ lost now route }
 {
@@ -21,7 +22,7 @@ fn lose(route: Route, now: Moment) -> Route
 /// These routes, all unreachable.
 ///
 /// # Errors
-/// Only want of memory.
+/// Only out of memory.
 fn all_lost(
     alloc: Global,
     routes: &[(Prefix, Route)],
@@ -38,7 +39,7 @@ fn all_lost(
 /// All routes of a store, unreachable, in the order of prefixes.
 ///
 /// # Errors
-/// Only want of memory.
+/// Only out of memory.
 pub fn unreachable_routes<S: RouteStore>(
     alloc: Global,
     store: &S,

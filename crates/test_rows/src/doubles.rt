@@ -8,7 +8,7 @@ use crate::row::{Row, moment};
 use crate::writing::write_send;
 use rand_core::utils::NextWord;
 use rand_core::{Rng, utils};
-use ripngd_engine::{Arrived, Link, LinkFault, Received, TimeSource, Watch};
+use ripngd_engine::{Arrived, Link, LinkFault, Received, TimeSource, TrafficObserver};
 use route_table::Moment;
 use router_core::{Arrival, Fault, Note, Outgoing};
 use std::alloc::{AllocError, Global};
@@ -174,10 +174,10 @@ impl<'a> Link for Doubles<'a> {
     }
 }
 
-impl<'a> Watch for Doubles<'a> {
+impl<'a> TrafficObserver for Doubles<'a> {
     ghost takes = { λ _ _ _. ⊤ };
 
-    fn heard(&mut self, arrived: Arrived, _bytes: &[u8], fault: Option<Fault>, notes: &[Note]) {
+    fn processed(&mut self, arrived: Arrived, _bytes: &[u8], fault: Option<Fault>, notes: &[Note]) {
         if let Some(mut script) = self.script() {
             let (iface, port) = (arrived.iface, arrived.source_port);
             let _ = writeln!(script.told, "heard {iface} {port} {fault:?} {notes:?}");

@@ -160,7 +160,7 @@ impl<'a, S: RouteStore> Rig<'a, S> {
         let count = row.read(0);
         let ended = self
             .engine
-            .turns_watched(count, &mut self.doubles, &mut watch);
+            .turns_observed(count, &mut self.doubles, &mut watch);
         let (text, _) = self.doubles.take(row)?;
         let lost = self.engine.report().lost_memory;
         if lost > 0 || text.as_str().contains("NoMemory") {
@@ -170,7 +170,7 @@ impl<'a, S: RouteStore> Rig<'a, S> {
         match ended {
             Ok(()) => Ok(()),
             Err(EngineFault::OutOfMemory) => self.end(row, &before),
-            Err(fault) => writeln!(row.text, "fault {} {fault:?}", fault.number()),
+            Err(fault) => writeln!(row.text, "fault {fault}"),
         }
     }
 

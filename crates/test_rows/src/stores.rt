@@ -136,7 +136,7 @@ fn write_encoded(row: &mut Row<'_>) -> Done {
     let bytes = row.bytes()?;
     let datagram = match decode(bytes.as_slice()) {
         Ok(datagram) => datagram,
-        Err(why) => return writeln!(row.text, "refused {} {}: {why}", why.number(), why.name()),
+        Err(why) => return writeln!(row.text, "refused {why}"),
     };
     let entries: Vec<Rte> = datagram.entries().collect(row.alloc)?;
     if entries.len() > MAX_ENTRIES {

@@ -1,22 +1,22 @@
-//! Deliveries of a lab: what its routers sent comes to the other interfaces of its links.
+//! Deliveries in a lab: what its routers sent comes to the other interfaces of the link.
 
-ghost use Rattle.std.specs.Prelude.{◌≡◌, ◌≢◌, ℕ, ◌<◌, ◌∷◌, [], IsFalse, IsTrue, All, IfErr, IfOk, OnErr, OnOk, false, length, map, slice_index_or, vec_len};
+ghost use Rattle.std.specs.Prelude.{◌≡◌, ◌≢◌, ℕ, ◌<◌, ◌∷◌, [], IsFalse, IsTrue, All, IfErr, IfOk, OnErr, OnOk, false, length, slice_index_or, vec_len};
 ghost use Rattle.std.specs.List.{Any};
 ghost use Rattle.router_core.specs.declared.answer.NoteKind.TheVariants.{NoMemory};
-ghost use Rattle.ripng_world.specs.AskedRounds.{delivery, is_picked, other_deliveries, pair_at, picked_deliveries};
+ghost use Rattle.ripng_world.specs.AskedRounds.{deliveries_of, delivery, is_picked, other_deliveries, pairs_since, picked_deliveries};
 ghost use Rattle.ripng_world.specs.Delivering.{StopAt, StopForMemory, deliveries_since};
-ghost use Rattle.ripng_world.specs.Labs.{AreRoutesBackedSince, HaveNoneBelowLeastSince, AreDatagramsSoundSince, HoldsFixed};
+ghost use Rattle.ripng_world.specs.Labs.{Keeps};
 ghost use Rattle.ripng_world.specs.Watching.{HeardInPart, WatchedInPart, WatchedRun, failures, heard};
 ghost use Rattle.ripng_world.specs.World.{WorldRun};
 
 use super::Lab;
-use crate::pairs::{Pair, interfaces, other_interfaces};
-use crate::watch::{Stopped, Unwatched, Watch};
+use crate::pairs::{Pair, pairs_since};
+use crate::watch::{Observer, Stopped, Unwatched};
 use route_table::{Moment, RouteStore};
 use router_core::{Note, NoteKind};
 use std::alloc::AllocError;
 
-/// Whether a new route wants for memory.
+/// Whether memory ran out for a new route.
 fn wants_memory(notes: &[Note]) -> bool
     ensures absent { IsFalse result → All (λ n. n.kind ≢ NoMemory) notes.now }
     ensures found { IsTrue result → Any (λ n. n.kind ≡ NoMemory) notes.now }
@@ -26,7 +26,7 @@ fn wants_memory(notes: &[Note]) -> bool
 
 impl<S: RouteStore> Lab<S> {
     /// A datagram comes to an interface of its link.
-    fn deliver<V: Watch<S>>(
+    fn deliver<V: Observer<S>>(
         &mut self,
         pair: &Pair,
         now: Moment,
@@ -38,7 +38,7 @@ impl<S: RouteStore> Lab<S> {
     {
         let answer = match self.step_watched(&pair.delivery(now), watch) {
             Ok(answer) => answer,
-            // The datagram is there, and so is the interface, on its link: only memory can have been wanting.
+            // The datagram exists, and so does the interface on its link: only memory can have run out.
             Err(stopped) => return Err(stopped.refused_as(AllocError)),
         };
         if wants_memory(answer.notes.as_slice()) {
@@ -47,55 +47,8 @@ impl<S: RouteStore> Lab<S> {
         Ok(())
     }
 
-    /// A datagram comes to these interfaces, each given behind its router.
-    fn deliver_to<V: Watch<S>>(
-        &mut self,
-        datagram: usize,
-        interfaces: &[(usize, usize)],
-        now: Moment,
-        watch: &mut V,
-    ) -> Result<(), Stopped<AllocError, V::Fault>>
-        ensures network { self.new.network ≡ self.old.network }
-        ensures delivered { OnOk result (WatchedRun V.takes heard self.old.network (self.old.world, watch.old) (map (λ p. delivery p now) (map (pair_at datagram) interfaces.now)) (self.new.world, watch.new)) }
-        ensures stopped { IfErr result (λ why. HeardInPart V.takes V.fails why self.old.network (self.old.world, watch.old) (map (λ p. delivery p now) (map (pair_at datagram) interfaces.now)) (self.new.world, watch.new)) }
-    {
-        for &(router, iface) in interfaces {
-            let pair = Pair {
-                datagram,
-                router,
-                iface,
-            };
-            self.deliver(&pair, now, watch)?;
-        }
-        Ok(())
-    }
-
-    /// Each datagram from a number on, of those that are sent already, comes to each other interface of its link.
-    pub(super) fn deliver_each<V: Watch<S>>(
-        &mut self,
-        first: usize,
-        now: Moment,
-        watch: &mut V,
-    ) -> Result<(), Stopped<AllocError, V::Fault>>
-        ensures network { self.new.network ≡ self.old.network }
-        ensures delivered { OnOk result (WatchedRun V.takes heard self.old.network (self.old.world, watch.old) (deliveries_since self.old.network first self.old.world.sent now) (self.new.world, watch.new)) }
-        ensures stopped { IfErr result (λ why. HeardInPart V.takes V.fails why self.old.network (self.old.world, watch.old) (deliveries_since self.old.network first self.old.world.sent now) (self.new.world, watch.new)) }
-    {
-        let interfaces = interfaces(self.running.alloc, &self.running.stations)?;
-        for datagram in first..self.running.sent.len() {
-            let others = other_interfaces(
-                self.running.alloc,
-                &self.running.stations,
-                &interfaces,
-                &self.running.sent[datagram],
-            )?;
-            self.deliver_to(datagram, &others, now, watch)?;
-        }
-        Ok(())
-    }
-
-    /// The pairs that are picked are delivered, in order. Says of each pair whether it is among them.
-    pub(super) fn deliver_picked<V: Watch<S>>(
+    /// The pairs that are picked are delivered, in order. Returns of each pair whether it was picked.
+    fn deliver_picked<V: Observer<S>>(
         &mut self,
         pairs: &[Pair],
         picks: &[(u32, Moment)],
@@ -120,7 +73,7 @@ impl<S: RouteStore> Lab<S> {
     }
 
     /// The pairs that were not picked are delivered, in order.
-    pub(super) fn deliver_others<V: Watch<S>>(
+    fn deliver_others<V: Observer<S>>(
         &mut self,
         pairs: &[Pair],
         picked: &[bool],
@@ -140,21 +93,40 @@ impl<S: RouteStore> Lab<S> {
         Ok(())
     }
 
-    /// Each datagram from a number on, of those that are sent already, comes once to each other interface of its link, in
-    /// the order of datagrams, then of routers, then of interfaces. What they are answered is sent, and not delivered.
+    /// Each datagram from a number on that is sent already comes to each other interface of its link: first the pairs that are
+    /// picked, and then each pair that was not.
+    pub(super) fn deliver_asked<V: Observer<S>>(
+        &mut self,
+        first: usize,
+        picks: &[(u32, Moment)],
+        rest: Moment,
+        watch: &mut V,
+    ) -> Result<(), Stopped<AllocError, V::Fault>>
+        ensures network { self.new.network ≡ self.old.network }
+        ensures delivered { OnOk result (WatchedRun V.takes heard self.old.network (self.old.world, watch.old) (deliveries_of (pairs_since self.old.network first self.old.world.sent) picks.now rest) (self.new.world, watch.new)) }
+        ensures stopped { IfErr result (λ why. HeardInPart V.takes V.fails why self.old.network (self.old.world, watch.old) (deliveries_of (pairs_since self.old.network first self.old.world.sent) picks.now rest) (self.new.world, watch.new)) }
+    {
+        let pairs = pairs_since(
+            self.running.alloc,
+            &self.running.stations,
+            &self.running.sent,
+            first,
+        )?;
+        let picked = self.deliver_picked(&pairs, picks, watch)?;
+        self.deliver_others(&pairs, &picked, rest, watch)
+    }
+
+    /// Each datagram from a number on that is sent already comes once to each other interface of its link, in the order of
+    /// datagrams, then of routers, then of interfaces. What routers send in answer is not delivered.
     ///
     /// # Errors
-    /// Only want of memory, also where a router skipped an entry for it. Some of these deliveries are done then, in that
-    /// order from the first on.
+    /// Out of memory, also where a router skipped an entry for that reason. The deliveries before it are done, in that order.
     pub fn deliver_since(&mut self, first: usize, now: Moment) -> Result<(), AllocError>
         ensures network { self.new.network ≡ self.old.network }
         ensures reconfigurations { self.new.world.reconfigurations ≡ self.old.world.reconfigurations }
         ensures delivered { OnOk result (WorldRun self.old.network self.old.world (deliveries_since self.old.network first self.old.world.sent now) self.new.world) }
         ensures stopped { OnErr result (StopForMemory self.old.network self.old.world (deliveries_since self.old.network first self.old.world.sent now) self.new.world) }
-        ensures backed { AreRoutesBackedSince self.new.network self.new.world }
-        ensures least { HaveNoneBelowLeastSince self.new.network self.new.world }
-        ensures truth { AreDatagramsSoundSince self.new.network self.new.world }
-        ensures fixed { HoldsFixed self.new.network self.new.world }
+        ensures keeps { Keeps self.new }
     {
         match self.deliver_since_watched(first, now, &mut Unwatched) {
             Ok(()) => Ok(()),
@@ -162,11 +134,11 @@ impl<S: RouteStore> Lab<S> {
         }
     }
 
-    /// Datagrams are delivered as `deliver_since` does it, and a watcher is told of each delivery.
+    /// As `deliver_since`, and an observer is notified of each delivery.
     ///
     /// # Errors
-    /// As `deliver_since`; or the watcher's, and then the delivery that it failed at is the last one that was done.
-    pub fn deliver_since_watched<V: Watch<S>>(
+    /// As `deliver_since`; or the observer's, and then it failed at the last delivery that was done.
+    pub fn deliver_since_watched<V: Observer<S>>(
         &mut self,
         first: usize,
         now: Moment,
@@ -178,12 +150,9 @@ impl<S: RouteStore> Lab<S> {
         ensures reconfigurations { self.new.world.reconfigurations ≡ self.old.world.reconfigurations }
         ensures delivered { OnOk result (WorldRun self.old.network self.old.world (deliveries_since self.old.network first self.old.world.sent now) self.new.world) }
         ensures stopped { IfErr result (λ why. StopAt self.old.network self.old.world (deliveries_since self.old.network first self.old.world.sent now) why self.new.world) }
-        ensures backed { AreRoutesBackedSince self.new.network self.new.world }
-        ensures least { HaveNoneBelowLeastSince self.new.network self.new.world }
-        ensures truth { AreDatagramsSoundSince self.new.network self.new.world }
-        ensures fixed { HoldsFixed self.new.network self.new.world }
+        ensures keeps { Keeps self.new }
     {
-        let outcome = self.deliver_each(first, now, watch);
+        let outcome = self.deliver_asked(first, &[], now, watch);
         // The lab is opened, so that what holds of it is known.
         let _ = &self.running;
         outcome

@@ -1,21 +1,19 @@
-//! Rounds of a lab: every router tells all that it has, and all of it arrives.
+//! Rounds of a lab: every router advertises its whole table, and all of it arrives.
 
 ghost use Rattle.std.specs.Prelude.{◌≡◌, ◌<◌, ◌≤◌, ◌↔◌, max, IsTrue, All, IfErr, OnOk, Some, length, slice_get};
 ghost use Rattle.router_core.specs.Machine.{State};
-ghost use Rattle.ripng_world.specs.AskedRounds.{AreAllMade, Converges, deliveries_of, pairs_since, ticks_of};
+ghost use Rattle.ripng_world.specs.AskedRounds.{AreAllMade, Converges, ticks_of};
 ghost use Rattle.ripng_world.specs.Healing.{Heals};
 ghost use Rattle.ripng_world.specs.Packets.{LetsArrive};
-ghost use Rattle.ripng_world.specs.Labs.{AreRoutesBackedSince, HaveNoneBelowLeastSince, AreDatagramsSoundSince, HoldsFixed};
+ghost use Rattle.ripng_world.specs.Labs.{Keeps};
 ghost use Rattle.ripng_world.specs.Stopping.{HaveStopped, RoundStops, RoundsStop, round_in};
-ghost use Rattle.ripng_world.specs.Watching.{AreMadeTold, HeardInPart, IfRefused, IsMadeTold, RoundToldInPart, RoundsToldInPart, WatchedInPart, WatchedRun, due, failures, heard};
+ghost use Rattle.ripng_world.specs.Watching.{AreMadeTold, IfRefused, IsMadeTold, RoundToldInPart, RoundsToldInPart, WatchedInPart, WatchedRun, due, failures};
 
 use super::Lab;
 use crate::event::Event;
-use crate::pairs::pairs_since;
 use crate::rounds::{Round, RoundsRefused};
-use crate::watch::{Stopped, Unwatched, Watch};
+use crate::watch::{Observer, Stopped, Unwatched};
 use route_table::{Moment, RouteStore};
-use std::alloc::AllocError;
 
 /// A moment before the last one counts as that.
 fn later(last: Moment, now: Moment) -> Moment
@@ -25,7 +23,7 @@ fn later(last: Moment, now: Moment) -> Moment
 }
 
 impl<S: RouteStore> Lab<S> {
-    /// Whether the regular update of a router is due, at a moment or at the last one that it was told.
+    /// Whether the regular update of a router is due at a moment, or at its last moment if that is later.
     fn is_due(&self, router: usize, now: Moment) -> bool
         requires { router < length self.now.network }
         ensures { (state : State) × (slice_get self.now.world.states router ≡ Some state) × (IsTrue result ↔ (state.regular ≤ max state.last now)) }
@@ -36,7 +34,7 @@ impl<S: RouteStore> Lab<S> {
     }
 
     /// Each router ticks, in order, each when its regular update is due.
-    fn tick_all<V: Watch<S>>(
+    fn tick_all<V: Observer<S>>(
         &mut self,
         number: usize,
         round: &Round<'_>,
@@ -64,33 +62,8 @@ impl<S: RouteStore> Lab<S> {
         Ok(())
     }
 
-    /// The deliveries of a round, once its routers have ticked: those that are picked, and then each pair that was not.
-    fn deliver_asked<V: Watch<S>>(
-        &mut self,
-        first: usize,
-        round: &Round<'_>,
-        watch: &mut V,
-    ) -> Result<(), Stopped<AllocError, V::Fault>>
-        requires { first ≤ length self.old.world.sent }
-        ensures network { self.new.network ≡ self.old.network }
-        ensures delivered { OnOk result (WatchedRun V.takes heard self.old.network (self.old.world, watch.old) (deliveries_of (pairs_since self.old.network first self.old.world.sent) round.entry.now.picks round.entry.now.rest) (self.new.world, watch.new)) }
-        ensures stopped { IfErr result (λ why. HeardInPart V.takes V.fails why self.old.network (self.old.world, watch.old) (deliveries_of (pairs_since self.old.network first self.old.world.sent) round.entry.now.picks round.entry.now.rest) (self.new.world, watch.new)) }
-    {
-        if round.picks.is_empty() {
-            return self.deliver_each(first, round.rest, watch);
-        }
-        let pairs = pairs_since(
-            self.running.alloc,
-            &self.running.stations,
-            &self.running.sent,
-            first,
-        )?;
-        let picked = self.deliver_picked(&pairs, round.picks, watch)?;
-        self.deliver_others(&pairs, &picked, round.rest, watch)
-    }
-
     /// A round is made as it is asked for.
-    fn make_round<V: Watch<S>>(
+    fn make_round<V: Observer<S>>(
         &mut self,
         number: usize,
         round: &Round<'_>,
@@ -105,14 +78,14 @@ impl<S: RouteStore> Lab<S> {
     {
         let first = self.sent().len();
         self.tick_all(number, round, watch)?;
-        match self.deliver_asked(first, round, watch) {
+        match self.deliver_asked(first, round.picks, round.rest, watch) {
             Ok(()) => Ok(()),
             Err(stopped) => Err(stopped.refused_as(RoundsRefused::OutOfMemory { round: number })),
         }
     }
 
     /// Rounds are made one after another, until one is refused.
-    fn make_rounds<V: Watch<S>>(
+    fn make_rounds<V: Observer<S>>(
         &mut self,
         rounds: &[Round<'_>],
         watch: &mut V,
@@ -129,14 +102,14 @@ impl<S: RouteStore> Lab<S> {
         Ok(())
     }
 
-    /// Rounds are made one after another, each as it is asked for. From a cold start, where no router is quiet, so many
-    /// rounds find the least costs of walks with so many hops. From any lab, whatever happened in it, 26 rounds that follow
-    /// one another closely leave each table with the least costs of now, and nothing else below 16 hops; and packets arrive, from
-    /// every router that has a route to their address.
+    /// Rounds are made one after another, each as it is asked for. No router may be passive. From a cold start k rounds find the
+    /// least costs of walks of k hops. From any lab, whatever happened in it, 26 rounds that follow one another closely leave each
+    /// table with the least costs of now, and nothing else below 16. Packets then arrive, from every router that has a route to
+    /// their address.
     ///
     /// # Errors
-    /// A tick at which the regular update is not due, before it is done; or want of memory, also where a router skipped an
-    /// entry for it. All events before are done, and nothing else.
+    /// A tick at which the regular update is not due, before it is done; or out of memory, also where a router skipped an entry
+    /// for that reason. All earlier events are done, and nothing else.
     pub fn run_rounds(&mut self, rounds: &[Round<'_>]) -> Result<(), RoundsRefused>
         requires { All (λ r. length r.ticks ≡ length self.old.network) rounds.now }
         ensures network { self.new.network ≡ self.old.network }
@@ -146,10 +119,7 @@ impl<S: RouteStore> Lab<S> {
         ensures heals { OnOk result (Heals self.old.network self.old.world rounds.entry.now self.new.world) }
         ensures arrives { OnOk result (LetsArrive self.old.network self.old.world rounds.entry.now self.new.world) }
         ensures refused { IfErr result (λ why. HaveStopped self.old.network self.old.world rounds.entry.now why self.new.world) }
-        ensures backed { AreRoutesBackedSince self.new.network self.new.world }
-        ensures least { HaveNoneBelowLeastSince self.new.network self.new.world }
-        ensures truth { AreDatagramsSoundSince self.new.network self.new.world }
-        ensures fixed { HoldsFixed self.new.network self.new.world }
+        ensures keeps { Keeps self.new }
     {
         match self.run_rounds_watched(rounds, &mut Unwatched) {
             Ok(()) => Ok(()),
@@ -157,11 +127,11 @@ impl<S: RouteStore> Lab<S> {
         }
     }
 
-    /// Rounds are made as `run_rounds` makes them, and a watcher is told of each event.
+    /// As `run_rounds`, and an observer is notified of each event.
     ///
     /// # Errors
-    /// As `run_rounds`; or the watcher's, and then the event that it failed at is the last one that was done.
-    pub fn run_rounds_watched<V: Watch<S>>(
+    /// As `run_rounds`; or the observer's, and then it failed at the last event that was done.
+    pub fn run_rounds_watched<V: Observer<S>>(
         &mut self,
         rounds: &[Round<'_>],
         watch: &mut V,
@@ -176,10 +146,7 @@ impl<S: RouteStore> Lab<S> {
         ensures told { OnOk result (AreMadeTold V.takes self.old.network (self.old.world, watch.old) rounds.entry.now (self.new.world, watch.new)) }
         ensures told_in_part { IfErr result (λ why. RoundsToldInPart V.takes V.fails (failures why) self.old.network (self.old.world, watch.old) rounds.entry.now (self.new.world, watch.new)) }
         ensures refused { IfErr result (λ why. RoundsStop self.old.network self.old.world rounds.entry.now why self.new.world) }
-        ensures backed { AreRoutesBackedSince self.new.network self.new.world }
-        ensures least { HaveNoneBelowLeastSince self.new.network self.new.world }
-        ensures truth { AreDatagramsSoundSince self.new.network self.new.world }
-        ensures fixed { HoldsFixed self.new.network self.new.world }
+        ensures keeps { Keeps self.new }
     {
         // The lab is opened, so that what holds of it is known before the first round.
         let _ = &self.running;

@@ -1,4 +1,4 @@
-//! Hanging a route into a trie, and taking one out.
+//! Adding a route to a trie, and removing one.
 
 ghost use Rattle.std.specs.Prelude.{◌≡◌, ◌≢◌, [], ◌∷◌, IfOk};
 ghost use Rattle.std.specs.FinMap.Entries.{put};
@@ -6,16 +6,16 @@ ghost use Rattle.prefix6.specs.Prefix.{prefix_cmp};
 ghost use Rattle.prefix6.specs.Halves.{IsUnder};
 ghost use Rattle.route_table.specs.Trie.{linked, owned, fork_entries, without, AreParts, HasEntries, AreIn};
 
-use super::{Entry, Fork, Link};
+use super::{Entry, Fork, Node};
 use crate::route::Route;
 use prefix6::Prefix;
 use std::alloc::{AllocError, Global};
 use std::mem;
 
-/// The boxes that one more route may need: its leaf, and a fork to hang it at.
+/// The boxes that one more route may need: its leaf, and a fork above it.
 ///
 /// # Errors
-/// Only want of memory.
+/// Only out of memory.
 pub fn boxes(
     alloc: Global,
     key: Prefix,
@@ -24,28 +24,28 @@ pub fn boxes(
     ensures { IfOk result (λ pair. pair.0.value ≡ (key, route)) }
 {
     let leaf = Box::new(alloc, (key, route))?;
-    let spare = Box::new(alloc, Fork::hollow(key))?;
+    let spare = Box::new(alloc, Fork::empty(key))?;
     Ok((leaf, spare))
 }
 
-/// Hangs a leaf below a link. The spare fork is used if the leaf's place wants one, and else freed.
-pub fn add(link: Link, leaf: Box<Entry>, spare: Box<Fork>) -> Link
-    requires { HasEntries link }
+/// Adds a leaf below a node. The spare fork is used if the leaf needs one above it, and otherwise freed.
+pub fn add(node: Node, leaf: Box<Entry>, spare: Box<Fork>) -> Node
+    requires { HasEntries node }
     ensures some { HasEntries result }
-    ensures put { linked result ≡ put prefix_cmp leaf.value.0 leaf.value.1 (linked link) }
+    ensures put { linked result ≡ put prefix_cmp leaf.value.0 leaf.value.1 (linked node) }
 {
     let key = leaf.0;
-    match link {
-        Link::Empty => Link::Leaf(leaf),
-        Link::Leaf(old) => add_to_leaf(old, leaf, spare),
-        Link::Fork(mut fork) => {
+    match node {
+        Node::Empty => Node::Leaf(leaf),
+        Node::Leaf(old) => add_to_leaf(old, leaf, spare),
+        Node::Fork(mut fork) => {
             let Fork {
                 prefix,
                 own,
                 low,
                 high,
                 ..
-            } = mem::replace(&mut *fork, Fork::hollow(key));
+            } = mem::replace(&mut *fork, Fork::empty(key));
             if key == prefix {
                 closed(fork, prefix, Some(leaf), low, high)
             } else if !prefix.is_above(&key) {
@@ -60,26 +60,26 @@ pub fn add(link: Link, leaf: Box<Entry>, spare: Box<Fork>) -> Link
     }
 }
 
-/// Hangs a leaf where there is one: in its place, below it, or above or beside it.
-fn add_to_leaf(old: Box<Entry>, leaf: Box<Entry>, spare: Box<Fork>) -> Link
+/// Adds a leaf where there is another: in its place, below it, above it or beside it.
+fn add_to_leaf(old: Box<Entry>, leaf: Box<Entry>, spare: Box<Fork>) -> Node
     ensures some { HasEntries result }
     ensures put { linked result ≡ put prefix_cmp leaf.value.0 leaf.value.1 (old.value ∷ []) }
 {
     let prefix = old.0;
     let key = leaf.0;
     if key == prefix {
-        Link::Leaf(leaf)
+        Node::Leaf(leaf)
     } else if !prefix.is_above(&key) {
-        add_over(Link::Leaf(old), &prefix, leaf, spare)
+        add_over(Node::Leaf(old), &prefix, leaf, spare)
     } else if prefix.is_before_middle(&key) {
-        closed(spare, prefix, Some(old), Link::Leaf(leaf), Link::Empty)
+        closed(spare, prefix, Some(old), Node::Leaf(leaf), Node::Empty)
     } else {
-        closed(spare, prefix, Some(old), Link::Empty, Link::Leaf(leaf))
+        closed(spare, prefix, Some(old), Node::Empty, Node::Leaf(leaf))
     }
 }
 
-/// Hangs a leaf above or beside what lies in a prefix, where the leaf does not lie below that prefix.
-fn add_over(below: Link, prefix: &Prefix, leaf: Box<Entry>, spare: Box<Fork>) -> Link
+/// Adds a leaf above or beside the node of a prefix, where the leaf does not lie below that prefix.
+fn add_over(below: Node, prefix: &Prefix, leaf: Box<Entry>, spare: Box<Fork>) -> Node
     requires entries { AreIn prefix.now (linked below) }
     requires some { HasEntries below }
     requires other { prefix.now ≢ leaf.value.0 }
@@ -91,40 +91,40 @@ fn add_over(below: Link, prefix: &Prefix, leaf: Box<Entry>, spare: Box<Fork>) ->
     let meet = prefix.meet(&key);
     if meet == key {
         if meet.is_before_middle(prefix) {
-            closed(spare, meet, Some(leaf), below, Link::Empty)
+            closed(spare, meet, Some(leaf), below, Node::Empty)
         } else {
-            closed(spare, meet, Some(leaf), Link::Empty, below)
+            closed(spare, meet, Some(leaf), Node::Empty, below)
         }
     } else if meet.is_before_middle(&key) {
-        closed(spare, meet, None, Link::Leaf(leaf), below)
+        closed(spare, meet, None, Node::Leaf(leaf), below)
     } else {
-        closed(spare, meet, None, below, Link::Leaf(leaf))
+        closed(spare, meet, None, below, Node::Leaf(leaf))
     }
 }
 
-/// Takes the route to a prefix out of what hangs at a link, and joins a fork that is no longer needed.
-pub fn remove(link: Link, key: &Prefix) -> Link
-    requires { HasEntries link }
+/// Removes the route to a prefix below a node, and a fork that is no longer needed.
+pub fn remove(node: Node, key: &Prefix) -> Node
+    requires { HasEntries node }
     ensures some { HasEntries result }
-    ensures kept { linked result ≡ without key.now (linked link) }
+    ensures kept { linked result ≡ without key.now (linked node) }
 {
-    match link {
-        Link::Empty => Link::Empty,
-        Link::Leaf(leaf) => {
+    match node {
+        Node::Empty => Node::Empty,
+        Node::Leaf(leaf) => {
             if *key == leaf.0 {
-                Link::Empty
+                Node::Empty
             } else {
-                Link::Leaf(leaf)
+                Node::Leaf(leaf)
             }
         }
-        Link::Fork(mut fork) => {
+        Node::Fork(mut fork) => {
             let Fork {
                 prefix,
                 own,
                 low,
                 high,
                 ..
-            } = mem::replace(&mut *fork, Fork::hollow(*key));
+            } = mem::replace(&mut *fork, Fork::empty(*key));
             if *key == prefix {
                 closed(fork, prefix, None, low, high)
             } else if prefix.is_before_middle(key) {
@@ -136,14 +136,14 @@ pub fn remove(link: Link, key: &Prefix) -> Link
     }
 }
 
-/// What these parts make: a fork in a box that is there, or the one part that has no need of it.
+/// The node of these parts: a fork, in the box that is given, or the one part that is not empty.
 fn closed(
     mut fork: Box<Fork>,
     prefix: Prefix,
     own: Option<Box<Entry>>,
-    low: Link,
-    high: Link,
-) -> Link
+    low: Node,
+    high: Node,
+) -> Node
     requires parts { AreParts prefix (owned own) (linked low) (linked high) }
     requires low_some { HasEntries low }
     requires high_some { HasEntries high }
@@ -152,8 +152,8 @@ fn closed(
 {
     if low.is_empty() && high.is_empty() {
         return match own {
-            Some(leaf) => Link::Leaf(leaf),
-            None => Link::Empty,
+            Some(leaf) => Node::Leaf(leaf),
+            None => Node::Empty,
         };
     }
     if own.is_none() {
@@ -165,5 +165,5 @@ fn closed(
         }
     }
     *fork = Fork::of(prefix, own, low, high);
-    Link::Fork(fork)
+    Node::Fork(fork)
 }

@@ -1,4 +1,4 @@
-//! Other routes in the places of those that are there.
+//! Replacing routes of a trie.
 
 ghost use Rattle.std.specs.Prelude.{◌≡◌, false, [], ◌∷◌, None, option_map, IfSome};
 ghost use Rattle.std.specs.FinMap.{find};
@@ -8,7 +8,7 @@ ghost use Rattle.route_table.specs.Summary.{summary_of};
 ghost use Rattle.route_table.specs.Table.{map_entries};
 ghost use Rattle.route_table.specs.Trie.{linked, owned, fork_entries, entries_with, HasEntries};
 
-use super::{Entry, Fork, Link, summary_of_parts};
+use super::{Entry, Fork, Node, summary_of_parts};
 use crate::route::Route;
 use crate::summary::Summary;
 use prefix6::Prefix;
@@ -16,27 +16,27 @@ use prefix6::Prefix;
 /// The route to a prefix before and after an update.
 pub type Made = Option<(Route, Route)>;
 
-/// Puts what is made of the route to a prefix below a link in its place, and tells both, if there is one. Says whether the
-/// summary of the link may have changed: where it has not, no summary above it is looked at.
+/// Replaces the route to a prefix below a node by what `make` returns for it: the route before and after, if there is one. The
+/// flag says whether the summary of the node may have changed; if not, no summary above it is looked at.
 pub fn update<F: FnOnce(Route) -> Route>(
-    link: &mut Link,
+    node: &mut Node,
     key: &Prefix,
     make: F,
     made: &mut Made,
 ) -> bool
     requires callable { F.IsAlwaysCallable make }
     requires untold { made.old ≡ None }
-    requires some { HasEntries link.old }
-    ensures some { HasEntries link.new }
-    ensures before { option_map (λ m. m.0) made.new ≡ find prefix_cmp key.now (linked link.old) }
+    requires some { HasEntries node.old }
+    ensures some { HasEntries node.new }
+    ensures before { option_map (λ m. m.0) made.new ≡ find prefix_cmp key.now (linked node.old) }
     ensures by { IfSome made.new (λ m. F.post make m.0 m.1) }
-    ensures after { linked link.new ≡ entries_with key.now made.new (linked link.old) }
-    ensures kept { result ≡ false → summary_of (linked link.new) ≡ summary_of (linked link.old) }
+    ensures after { linked node.new ≡ entries_with key.now made.new (linked node.old) }
+    ensures kept { result ≡ false → summary_of (linked node.new) ≡ summary_of (linked node.old) }
 {
-    match link {
-        Link::Empty => false,
-        Link::Leaf(leaf) => update_leaf(leaf, key, make, made),
-        Link::Fork(fork) => {
+    match node {
+        Node::Empty => false,
+        Node::Leaf(leaf) => update_leaf(leaf, key, make, made),
+        Node::Fork(fork) => {
             let fork: &mut Fork = fork;
             if key.len() <= fork.prefix.len() {
                 let changed = update_own(&mut fork.own, key, make, made);
@@ -97,13 +97,13 @@ fn update_own<F: FnOnce(Route) -> Route>(
     }
 }
 
-/// Sums a fork of these parts up anew if the summary of one of them may have changed. Says whether its own is another now.
+/// Computes the summary of a fork anew if that of one of its parts may have changed. The flag says whether it is another now.
 fn renew(
     summary: &mut Summary,
     changed: bool,
     own: &Option<Box<Entry>>,
-    low: &Link,
-    high: &Link,
+    low: &Node,
+    high: &Node,
 ) -> bool
     requires { changed ≡ false → summary.old ≡ summary_of (fork_entries own.now low.now high.now) }
     ensures summed { summary.new ≡ summary_of (fork_entries own.now low.now high.now) }
@@ -116,25 +116,25 @@ fn renew(
     }
 }
 
-/// Sums a fork of these parts up anew, which few forks on the way up need. Says whether its summary is another now.
+/// Computes the summary of a fork anew, which few forks on the way up need. The flag says whether it is another now.
 #[inline(never)]
-fn sum_up(summary: &mut Summary, own: &Option<Box<Entry>>, low: &Link, high: &Link) -> bool
+fn sum_up(summary: &mut Summary, own: &Option<Box<Entry>>, low: &Node, high: &Node) -> bool
     ensures summed { summary.new ≡ summary_of (fork_entries own.now low.now high.now) }
     ensures kept { result ≡ false → summary.new ≡ summary.old }
 {
     summary.set(summary_of_parts(own, low, high))
 }
 
-/// Takes the marks of the routes below a link. Where the summary says that there is none, nothing below is looked at.
-pub fn unmark(link: &mut Link)
-    requires { HasEntries link.old }
-    ensures some { HasEntries link.new }
-    ensures unmarked { linked link.new ≡ map_entries without_mark (linked link.old) }
+/// Clears the route change flags below a node. Where the summary says that none is set, nothing below is looked at.
+pub fn unmark(node: &mut Node)
+    requires { HasEntries node.old }
+    ensures some { HasEntries node.new }
+    ensures unmarked { linked node.new ≡ map_entries without_mark (linked node.old) }
 {
-    match link {
-        Link::Empty => {}
-        Link::Leaf(leaf) => unmark_leaf(leaf),
-        Link::Fork(fork) => {
+    match node {
+        Node::Empty => {}
+        Node::Leaf(leaf) => unmark_leaf(leaf),
+        Node::Fork(fork) => {
             let fork: &mut Fork = fork;
             if fork.summary.has_changed() {
                 unmark_own(&mut fork.own);

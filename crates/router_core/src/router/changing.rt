@@ -1,4 +1,4 @@
-//! Changes of a router's configuration while it runs.
+//! A step of a router: its configuration changes while it runs.
 
 ghost use Rattle.std.specs.Prelude.{◌≡◌, ℕ, ◌≤◌, max, None, IsOk, IfErr, IfOk, OnErr, OnOk, [], length, unwrap_or};
 ghost use Rattle.std.specs.List.{cons_option};
@@ -20,7 +20,7 @@ use route_table::{Moment, Route, RouteStore};
 use std::alloc::AllocError;
 
 impl<S: RouteStore> Router<S> {
-    /// The change of one prefix, as a list of one or none.
+    /// The change of one forwarding entry, as a list of one or none.
     fn changes_at(
         &self,
         prefix: Prefix,
@@ -36,7 +36,7 @@ impl<S: RouteStore> Router<S> {
         Ok(changes)
     }
 
-    /// The prefix is owned from now on: the changes of forwarding.
+    /// The prefix is owned from now on: the changes of forwarding entries.
     fn own(&mut self, prefix: Prefix, tag: u16) -> Result<Vec<RouteChange>, AllocError>
         requires prefix { IsPrefix prefix }
         requires allowed { reconfigure_fault self.old.config self.old.table (Change.Own prefix tag) ≡ None }
@@ -53,7 +53,7 @@ impl<S: RouteStore> Router<S> {
         self.config.own(prefix, tag)?;
         match put(&mut self.store, prefix, old.is_some(), route) {
             Ok(()) => Ok(changes),
-            // The table was seen to have room, so only memory can have been wanting.
+            // The table was tested for room, so this can only be out of memory.
             Err(_) => {
                 self.config.disown(prefix);
                 Err(AllocError)
@@ -61,7 +61,8 @@ impl<S: RouteStore> Router<S> {
         }
     }
 
-    /// The prefix is owned no longer: the changes of forwarding.
+    /// The prefix is no longer owned: the changes of forwarding entries. Its route is withdrawn as at a timeout, so that the
+    /// neighbors learn of it (RFC 2080, section 2.3).
     fn disown(&mut self, prefix: Prefix, now: Moment) -> Result<Vec<RouteChange>, AllocError>
         ensures done { OnOk result (self.new ≡ record self.old {
           config = reconfigured_config self.old.config (Change.Disown prefix);
@@ -81,7 +82,7 @@ impl<S: RouteStore> Router<S> {
         Ok(changes)
     }
 
-    /// What a change that is not refused does: the changes of forwarding.
+    /// Makes a change that is not refused: the changes of forwarding entries.
     fn obey(&mut self, change: Change, now: Moment) -> Result<Vec<RouteChange>, AllocError>
         requires named { IsNamed self.old.config change }
         requires allowed { reconfigure_fault self.old.config self.old.table change ≡ None }
@@ -103,11 +104,11 @@ impl<S: RouteStore> Router<S> {
         }
     }
 
-    /// The configuration is changed while the router runs. Nothing is sent; what changes is marked, and told by the next
-    /// tick.
+    /// The configuration is changed while the router runs. Nothing is sent: the changed route gets its route change flag, and the
+    /// next tick advertises it.
     ///
     /// # Errors
-    /// The first reason to refuse the change, else want of memory; the router is then as it was. A cost takes no memory.
+    /// The first reason to refuse the change, or out of memory. The router is then unchanged. A cost takes no memory.
     pub fn reconfigure(&mut self, now: Moment, change: Change) -> Result<Answer, ReconfigureRefused>
         requires { NamesInterface self.old.config change }
         ensures moves { IfOk result (λ answer. Moves self.old (Happening.Reconfigures now change) answer self.new) }

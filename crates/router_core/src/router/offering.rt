@@ -1,4 +1,4 @@
-//! The offers of an arrival, as a router meets them.
+//! The offers of an arrival, as a router processes them.
 
 ghost use Rattle.std.specs.Prelude.{◌<◌, IfOk, length};
 ghost use Rattle.router_core.specs.Offering.{Brings};
@@ -13,11 +13,11 @@ use route_table::RouteStore;
 use std::alloc::AllocError;
 
 impl<S: RouteStore> Router<S> {
-    /// The offers of an arrival, in the order of its entries: those that `arrive` meets, or that it met where the arrival was the
-    /// last step. There are none where it is refused or is a Request.
+    /// The offers of an arrival, in the order of its entries: those that [`Router::arrive`] processes, or has processed if that was
+    /// the last step. A refused arrival and a Request have none.
     ///
     /// # Errors
-    /// Only want of memory.
+    /// Only out of memory.
     pub fn offers(&self, arrival: &Arrival<'_>) -> Result<Listed<Offered>, AllocError>
         requires { arrival.now.iface < length self.now.config.interfaces }
         ensures { IfOk result (λ all. Brings self.now arrival.entry.now all) }

@@ -1,4 +1,4 @@
-//! Steps after which routes are told as unreachable: a router shuts down, or a link of it goes down.
+//! Steps after which routes are advertised as unreachable: a router shuts down, or a link of it goes down.
 
 ghost use Rattle.std.specs.Prelude.{◌≡◌, ◌≤◌, ◌*◌, max, IfOk, OnErr, [], length};
 ghost use Rattle.std.specs.FinMap as map_of;
@@ -26,11 +26,11 @@ impl<S: RouteStore> Router<S> {
         updates(self.alloc, &self.config, &routes)
     }
 
-    /// The router shuts down: an update on each interface poisons every route, that is tells it with metric 16, unless the router
-    /// is quiet. What it is configured with, its routes and its timers stay.
+    /// The router shuts down: unless it is passive, an update on each interface advertises every route with metric 16. So
+    /// neighbors look for other ways at once, and not at their timeout. Its configuration, routes and timers stay.
     ///
     /// # Errors
-    /// Only want of memory; the router is then as it was.
+    /// Only out of memory. The router is then unchanged.
     pub fn shutdown(&mut self, now: Moment) -> Result<Answer, AllocError>
         ensures moves { IfOk result (λ answer. Moves self.old (Happening.ShutsDown now) answer self.new) }
         ensures err { OnErr result (self.new ≡ self.old) }
@@ -45,11 +45,11 @@ impl<S: RouteStore> Router<S> {
         Ok(answer_of(sends, Vec::new(self.alloc), Vec::new(self.alloc)))
     }
 
-    /// The link of an interface goes down: each route that was learned there is unreachable at once, and told so by the next
-    /// tick. Nothing is sent.
+    /// The link of an interface goes down: each route that was learned there is withdrawn at once, as at its timeout, and the
+    /// next tick advertises that (RFC 2080, sections 2.3 and 2.5.1). Nothing is sent.
     ///
     /// # Errors
-    /// Only want of memory; the router is then as it was.
+    /// Only out of memory. The router is then unchanged.
     pub fn link_down(&mut self, now: Moment, iface: usize) -> Result<Answer, AllocError>
         ensures moves { IfOk result (λ answer. Moves self.old (Happening.LinkGoesDown now iface) answer self.new) }
         ensures err { OnErr result (self.new ≡ self.old) }

@@ -1,4 +1,4 @@
-//! When a router has something to do without a datagram.
+//! When a router next has something to do without a datagram.
 
 ghost use Rattle.std.specs.Prelude.{◌≡◌, ℕ, ◌<◌, ◌↔◌, max};
 ghost use Rattle.std.specs.FinMap.{entries};
@@ -22,15 +22,15 @@ fn or_earlier(deadline: Deadline, other: Option<Deadline>) -> Deadline
 }
 
 impl<S: RouteStore> Router<S> {
-    /// When the next route is due to be lost or deleted, and the first prefix whose route is due then. Before that a tick
-    /// ages nothing.
+    /// When the next timeout or garbage collection of a route ends, and the first prefix whose route it is. Until then a tick
+    /// withdraws and deletes no route.
     pub fn next_due(&self) -> Option<(Deadline, Prefix)>
         ensures { result ≡ next_due self.now.table }
     {
         self.store.next_due()
     }
 
-    /// When a triggered update may tell what is marked, if a route is.
+    /// When a triggered update may be sent, if a route has its route change flag set (RFC 2080, section 2.5.1).
     fn triggered_at(&self) -> Option<Deadline>
         ensures { result ≡ triggered_at self.now }
     {
@@ -40,7 +40,7 @@ impl<S: RouteStore> Router<S> {
         }
     }
 
-    /// The deadline of the next route that is due.
+    /// The least deadline of a route (RFC 2080, section 2.3).
     fn ages_at(&self) -> Option<Deadline>
         ensures { result ≡ least_deadline (entries self.now.table) }
     {
@@ -50,11 +50,11 @@ impl<S: RouteStore> Router<S> {
         }
     }
 
-    /// When a tick next has something to do: the regular update is due, the hold of a triggered one ends while a route is
-    /// marked, or a route expires or is deleted. A tick at an earlier moment answers nothing, and changes nothing but the
-    /// moment of the last step; one at this moment or later does more. A moment that is not past the last step means at once.
+    /// When a tick next has something to do: the regular update is due, the delay of a triggered one ends while a route change
+    /// flag is set, or a route times out or is deleted. A tick at an earlier moment answers nothing, and changes only the moment
+    /// of the last step. One at this moment or later does more. A moment that is not past the last step means at once.
     ///
-    /// A quiet router has its regular updates too: nothing is sent at them, but marks go and the next one is set.
+    /// A passive router has regular updates too: nothing is sent, but flags are cleared and the next one is set.
     pub fn wakes_at(&self) -> Deadline
         ensures value { result ≡ wakes_at self.now }
         ensures idle { (now word : ℕ) (answer : Answer) (new : State) → Moves self.now (Happening.Ticks now word) answer new

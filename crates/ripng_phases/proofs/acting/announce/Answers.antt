@@ -7,12 +7,12 @@ use Rattle.ripng_phases.proofs.acting.announce.Goals as goal
 pub returns-in_err-happen-clause-goes : goal.returns-in_err-happen-clause-goes
 returns-in_err-happen-clause-goes g c =
     let why = c.in_err-happen.field-0.0 in
-    goes_handed g.V.Watch.takes g.V.Watch.fails c.from_residual.result why (c.args.lab.now, c.args.watch.now) (c.happen.new.lab, c.happen.new.watch) c.args.course.now c.args.course.now c.args.course.now c.from_residual.ensures.1
-    (goes_nudged g.V.Watch.takes g.V.Watch.fails (Err why) (c.args.lab.now, c.args.watch.now) (c.happen.new.lab, c.happen.new.watch) c.args.course.now c.args.router c.args.word c.in_err-happen.ensures.network tt
+    goes_handed g.V.Observer.takes g.V.Observer.fails c.from_residual.result why (c.args.lab.now, c.args.watch.now) (c.happen.new.lab, c.happen.new.watch) c.args.course.now c.args.course.now c.args.course.now c.from_residual.ensures.1
+    (goes_nudged g.V.Observer.takes g.V.Observer.fails (Err why) (c.args.lab.now, c.args.watch.now) (c.happen.new.lab, c.happen.new.watch) c.args.course.now c.args.router c.args.word c.in_err-happen.ensures.network tt
     c.in_err-happen.ensures.stopped c.in_err-happen.ensures.memory)
 
 pub returns-clause-goes : goal.returns-clause-goes
 returns-clause-goes g c = λ s first begin u.
     let update : Update = record { first = length c.sent-first.result.now; end = length c.sent-end.result.now } in
-    announced g.V.Watch.takes s first begin c.args.course.now (c.args.lab.now, c.args.watch.now) (c.happen.new.lab, c.happen.new.watch) u c.args.router c.args.word c.in_ok-happen.ensures.network c.in_ok-happen.ensures.done
+    announced g.V.Observer.takes s first begin c.args.course.now (c.args.lab.now, c.args.watch.now) (c.happen.new.lab, c.happen.new.watch) u c.args.router c.args.word c.in_ok-happen.ensures.network c.in_ok-happen.ensures.done
     c.requires update (ap length c.sent-first.ensures.value) (ap length c.sent-end.ensures.value) c.add.new.self c.add.ensures.same c.add.ensures.told

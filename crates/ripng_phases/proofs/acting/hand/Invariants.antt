@@ -5,5 +5,5 @@ use Rattle.ripng_phases.proofs.acting.hand.Given as goal
 abbrev pub invariant-loop-router : goal.invariant-loop-router
 invariant-loop-router g l = record {
   network : l.lab.network ≡ l.fn.lab.network;
-  handed : IsHanded g.V.Watch.takes l.fn.lab.network (l.fn.lab.world, l.fn.watch) l.datagram l.now l.keeps (take l.router-index l.receivers) (l.lab.world, l.watch);
+  handed : IsHanded g.V.Observer.takes l.fn.lab.network (l.fn.lab.world, l.fn.watch) l.datagram l.now l.keeps (take l.router-index l.receivers) (l.lab.world, l.watch);
 }

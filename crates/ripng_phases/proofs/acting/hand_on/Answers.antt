@@ -7,15 +7,15 @@ use Rattle.ripng_phases.proofs.acting.hand_on.Goals as goal
 
 pub returns-in-Err-clause-goes : goal.returns-in-Err-clause-goes
 returns-in-Err-clause-goes g c =
-    stops_here g.V.Watch.takes g.V.Watch.fails ⊤ OutOfMemory (c.args.lab.now, c.args.watch.now) c.args.course.now c.args.course.now (λ begin ends inside. tt)
+    stops_here g.V.Observer.takes g.V.Observer.fails ⊤ OutOfMemory (c.args.lab.now, c.args.watch.now) c.args.course.now c.args.course.now (λ begin ends inside. tt)
 
 pub returns-in_err-hand-clause-goes : goal.returns-in_err-hand-clause-goes
 returns-in_err-hand-clause-goes g c =
     let why = c.in_err-hand.field-0.0 in
-    goes_handed g.V.Watch.takes g.V.Watch.fails c.from_residual.result why (c.args.lab.now, c.args.watch.now) (c.hand.new.lab, c.hand.new.watch) c.args.course.now c.args.course.now c.args.course.now c.from_residual.ensures.1
-    (λ s first begin u. handed_in_part g.V.Watch.takes g.V.Watch.fails s first begin c.args.course.now (c.args.lab.now, c.args.watch.now) (c.hand.new.lab, c.hand.new.watch) why u c.in_err-hand.ensures.network c.in_err-hand.ensures.stopped)
+    goes_handed g.V.Observer.takes g.V.Observer.fails c.from_residual.result why (c.args.lab.now, c.args.watch.now) (c.hand.new.lab, c.hand.new.watch) c.args.course.now c.args.course.now c.args.course.now c.from_residual.ensures.1
+    (λ s first begin u. handed_in_part g.V.Observer.takes g.V.Observer.fails s first begin c.args.course.now (c.args.lab.now, c.args.watch.now) (c.hand.new.lab, c.hand.new.watch) why u c.in_err-hand.ensures.network c.in_err-hand.ensures.stopped)
 
 pub returns-clause-goes : goal.returns-clause-goes
 returns-clause-goes g c = λ s first begin u.
-    handed g.V.Watch.takes s first begin c.args.course.now (c.args.lab.now, c.args.watch.now) (c.hand.new.lab, c.hand.new.watch) u c.in_ok-hand.ensures.network c.keeps-keeps.result c.in-Ok.receivers.items
+    handed g.V.Observer.takes s first begin c.args.course.now (c.args.lab.now, c.args.watch.now) (c.hand.new.lab, c.hand.new.watch) u c.in_ok-hand.ensures.network c.keeps-keeps.result c.in-Ok.receivers.items
     (rw c.deref.ensures.value at c.in_ok-hand.ensures.handed) _ c.keeps-keeps.ensures c.in-Ok.ensures c.requires.next refl

@@ -20,7 +20,7 @@ returns-then-wants_memory-clause-stopped g c =
     let e = event_of c.args.event.now in
     let wants : WantsMemory h.0 =
     subst (λ (ns : List Note). Any (λ n. n.kind ≡ NoMemory) ns) (c.as_slice.ensures ∙ ap (λ (a : Answer). a.notes) h.2) (c.wants_memory.ensures.found c.if-wants_memory.true) in
-    (e ∷ [], (le_refl 1, watched_one g.V.Watch.takes wanting net e h.0 before after wants h.1 (given_told g.V.Watch.takes c.args.lab.now c.step_watched.new.self e c.in-Ok.answer _ c.args.watch.now c.step_watched.new.watch h c.in-Ok.ensures.network refl c.in-Ok.ensures.told)))
+    (e ∷ [], (le_refl 1, watched_one g.V.Observer.takes wanting net e h.0 before after wants h.1 (given_told g.V.Observer.takes c.args.lab.now c.step_watched.new.self e c.in-Ok.answer _ c.args.watch.now c.step_watched.new.watch h c.in-Ok.ensures.network refl c.in-Ok.ensures.told)))
 
 pub returns-in-Err-clause-stopped : goal.returns-in-Err-clause-stopped
 returns-in-Err-clause-stopped g c =
@@ -28,8 +28,8 @@ returns-in-Err-clause-stopped g c =
     let before : World × _ = (c.args.lab.now.world, c.args.watch.now) in
     let after : World × _ = (c.step_watched.new.self.world, c.step_watched.new.watch) in
     rw (c.refused_as.ensures)
-    (stopped_at g.V.Watch.takes g.V.Watch.fails why _ c.args.lab.now.network (event_of c.args.event.now) before after c.in-Err.ensures.stopped
-    (both_still why c.args.lab.now c.step_watched.new.self c.args.watch.now c.step_watched.new.watch c.in-Err.ensures.err c.in-Err.ensures.untold))
+    (stopped_at g.V.Observer.takes g.V.Observer.fails why _ c.args.lab.now.network (event_of c.args.event.now) before after c.in-Err.ensures.stopped
+    (both_still why c.args.lab.now c.step_watched.new.self c.args.watch.now c.step_watched.new.watch c.in-Err.ensures.ends.unchanged c.in-Err.ensures.untold))
 
 pub returns-clause-done : goal.returns-clause-done
 returns-clause-done g c =
@@ -40,4 +40,4 @@ returns-clause-done g c =
     let e = event_of c.args.event.now in
     let fit : heard c.args.lab.now.world e h.0 =
     subst (λ (ns : List Note). All (λ n. n.kind ≢ NoMemory) ns) (c.as_slice.ensures ∙ ap (λ (a : Answer). a.notes) h.2) (c.wants_memory.ensures.absent c.if-wants_memory.false) in
-    watched_one g.V.Watch.takes heard net e h.0 before after fit h.1 (given_told g.V.Watch.takes c.args.lab.now c.step_watched.new.self e c.in-Ok.answer _ c.args.watch.now c.step_watched.new.watch h c.in-Ok.ensures.network refl c.in-Ok.ensures.told)
+    watched_one g.V.Observer.takes heard net e h.0 before after fit h.1 (given_told g.V.Observer.takes c.args.lab.now c.step_watched.new.self e c.in-Ok.answer _ c.args.watch.now c.step_watched.new.watch h c.in-Ok.ensures.network refl c.in-Ok.ensures.told)

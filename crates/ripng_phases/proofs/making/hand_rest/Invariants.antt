@@ -6,7 +6,7 @@ use Rattle.ripng_phases.proofs.making.hand_rest.Given as goal
 abbrev pub invariant-loop-course : goal.invariant-loop-course
 invariant-loop-course g l = record {
   network : l.lab.network ≡ l.fn.lab.network;
-  goes : GoesOn {X = ⊤} {F = ⊤} g.V.Watch.takes g.V.Watch.fails (Ok tt) (l.fn.lab, l.fn.watch) l.fn.course (l.lab, l.watch) l.course;
+  goes : GoesOn {X = ⊤} {F = ⊤} g.V.Observer.takes g.V.Observer.fails (Ok tt) (l.fn.lab, l.fn.watch) l.fn.course (l.lab, l.watch) l.course;
   told : l.course.told.items ≡ l.fn.course.told.items;
 }
 

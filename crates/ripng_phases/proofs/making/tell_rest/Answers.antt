@@ -12,7 +12,7 @@ loop-router-init g c = record { network = refl; goes = λ s first begin u. u; ro
 
 pub returns-in_err-tell-clause-goes : goal.returns-in_err-tell-clause-goes
 returns-in_err-tell-clause-goes g c =
-    goes_handed g.V.Watch.takes g.V.Watch.fails c.from_residual.result c.in_err-tell.field-0.0 (c.args.lab.now, c.args.watch.now) (c.tell.new.lab, c.tell.new.watch) c.args.course.now c.tell.new.course c.tell.new.course
+    goes_handed g.V.Observer.takes g.V.Observer.fails c.from_residual.result c.in_err-tell.field-0.0 (c.args.lab.now, c.args.watch.now) (c.tell.new.lab, c.tell.new.watch) c.args.course.now c.tell.new.course c.tell.new.course
     c.from_residual.ensures.1 (λ s first begin u. c.in_err-tell.ensures.goes s first begin (c.loop-router.invariant.goes s first begin u))
 
 pub loop-router-preserved : goal.loop-router-preserved

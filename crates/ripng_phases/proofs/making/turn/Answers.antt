@@ -4,14 +4,14 @@ use Rattle.ripng_phases.proofs.making.turn.Goals as goal
 
 pub returns-in_err-tick-clause-goes : goal.returns-in_err-tick-clause-goes
 returns-in_err-tick-clause-goes g c =
-    goes_handed g.V.Watch.takes g.V.Watch.fails c.from_residual.result c.in_err-tick.field-0.0 (c.args.lab.now, c.args.watch.now) (c.tick.new.lab, c.tick.new.watch) c.args.course.now c.tick.new.course c.tick.new.course
+    goes_handed g.V.Observer.takes g.V.Observer.fails c.from_residual.result c.in_err-tick.field-0.0 (c.args.lab.now, c.args.watch.now) (c.tick.new.lab, c.tick.new.watch) c.args.course.now c.tick.new.course c.tick.new.course
     c.from_residual.ensures.1
     (λ s first begin u. c.in_err-tick.ensures.goes s first begin
-    (waits g.V.Watch.takes s first begin c.args.course.now c.pass.new.self (c.args.lab.now, c.args.watch.now) u c.pass.ensures.same c.pass.ensures.later c.pass.ensures.inside))
+    (waits g.V.Observer.takes s first begin c.args.course.now c.pass.new.self (c.args.lab.now, c.args.watch.now) u c.pass.ensures.same c.pass.ensures.later c.pass.ensures.inside))
 
 pub returns-clause-goes : goal.returns-clause-goes
 returns-clause-goes g c =
-    goes_then g.V.Watch.takes g.V.Watch.fails c.hand_some.result (c.args.lab.now, c.args.watch.now) (c.tick.new.lab, c.tick.new.watch) (c.hand_some.new.lab, c.hand_some.new.watch) c.args.course.now c.tick.new.course c.hand_some.new.course
+    goes_then g.V.Observer.takes g.V.Observer.fails c.hand_some.result (c.args.lab.now, c.args.watch.now) (c.tick.new.lab, c.tick.new.watch) (c.hand_some.new.lab, c.hand_some.new.watch) c.args.course.now c.tick.new.course c.hand_some.new.course
     (λ s first begin u. c.in_ok-tick.ensures.goes s first begin
-    (waits g.V.Watch.takes s first begin c.args.course.now c.pass.new.self (c.args.lab.now, c.args.watch.now) u c.pass.ensures.same c.pass.ensures.later c.pass.ensures.inside))
+    (waits g.V.Observer.takes s first begin c.args.course.now c.pass.new.self (c.args.lab.now, c.args.watch.now) u c.pass.ensures.same c.pass.ensures.later c.pass.ensures.inside))
     c.hand_some.ensures.goes

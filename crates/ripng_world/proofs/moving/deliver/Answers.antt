@@ -17,8 +17,8 @@ returns-clause-moves g c =
     ∙ ap Some (sym (c.index-2.ensures ∙ ap (λ ds. get_or ds c.args.datagram d) c.reserve.ensures.items)) in
     let linked = delivery_linked stations sent c.args.datagram router c.args.iface c.args.now d c.requires d_is in
     let here = slice_get-get_or stations router c.index-stations-router-2.result (within stations router c.args.iface linked.there linked.there_is) in
-    delivered stations sent c.args.datagram router c.args.iface c.args.now d old c.arrive.new.self c.in_ok-answer.answer c.requires d_is here c.arrive.ensures.node
-    (subst (λ x. Moves old.state (Arrives x) c.in_ok-answer.answer c.arrive.new.self.state) c.arrival_of-arrival.ensures c.in_ok-answer.ensures.moves)
+    delivered stations sent c.args.datagram router c.args.iface c.args.now d old c.happen.new.self c.in_ok-answer.answer c.requires d_is here c.happen.ensures.node
+    (subst (λ x. Moves old.state (Arrives x) c.in_ok-answer.answer c.happen.new.self.state) c.arrival_of-arrival.ensures c.in_ok-answer.ensures.moves)
 
 pub returns-clause-room : goal.returns-clause-room
 returns-clause-room g c =
@@ -57,8 +57,8 @@ offset_bounds-stations-router-2 g c = scaled_Fits c.args.router (length c.args.s
 pub bounds-stations-router-2 : goal.bounds-stations-router-2
 bounds-stations-router-2 g c = delivery_within c.args.stations.now c.args.sent.now.items c.args.datagram c.args.router c.args.iface c.args.now c.requires
 
-pub arrive-requires : goal.arrive-requires
-arrive-requires g c =
+pub happen-requires : goal.happen-requires
+happen-requires g c =
     let stations = c.args.stations.now in
     let sent = c.args.sent.now.items in
     let router = c.args.router in

@@ -1,5 +1,6 @@
-use Rattle.std.proofs.Common.{ℕ, ◌+◌, ◌-◌, ◌++◌, List, map, take, drop, filter, ap, ◌∙◌, arith}
+use Rattle.std.proofs.Common.{ℕ, ◌+◌, ◌-◌, ◌≤◌, ◌++◌, List, map, take, drop, filter, flat_map, length, ap, ◌∙◌, arith}
 use Rattle.std.specs.List.{enumerate_from}
+use Rattle.std.proofs.lemmas.List.{length-drop, take_all}
 use Rattle.ripng_world.specs.AskedRounds.{is_other, pair_at, interfaces_of}
 use Rattle.ripng_world.specs.Network.{Network}
 use Rattle.ripng_world.specs.Stations.{network_of}
@@ -22,3 +23,11 @@ loop-number-preserved g c =
     (enumerate_from c.args.first (take (n + 1 - c.args.first) (drop c.args.first c.args.sent.now))) (n, d) c.loop-number.pairs.items c.add_pairs.new.pairs.items c.loop-number.invariant
     (c.in_ok-add_pairs.ensures ∙ ap (λ (ps : List (ℕ × ℕ)). c.loop-number.pairs.items ++ map (pair_at n) (filter (is_other net d) ps)) places_are)
     (numbered_more c.args.sent.now c.args.first n d (omega (arith, c.loop-number.auto.number)) (omega (arith, c.loop-number-test.true, c.loop-number.auto.number-end)) c.index-sent-number.is)
+
+pub returns : goal.returns
+unfolding of_datagram
+returns g c =
+    let sent = c.args.sent.now in
+    let rest = c.loop-number.number - c.args.first in
+    let long : length (drop c.args.first sent) ≤ rest = omega (arith, c.loop-number-test.false, length-drop c.args.first sent) in
+    c.loop-number.invariant ∙ ap (λ (ds : List Sent). flat_map (of_datagram (network_of c.args.stations.now)) (enumerate_from c.args.first ds)) (take_all rest (drop c.args.first sent) long)

@@ -8,14 +8,14 @@ use Rattle.ripngd_config.proofs.twice.peer_twice.Goals as goal
 pub loop-index-preserved : goal.loop-index-preserved
 loop-index-preserved c =
     pairs_more AreApart peers_clash peers_apart c.args.peers.now c.loop-index.index c.index-peers-index.result c.loop-index-test.true c.index-peers-index.is
-    (sym c.has_same.ensures ∙ c.if-has_same.false) c.loop-index.invariant
+    (sym c.has_clash.ensures ∙ c.if-has_clash.false) c.loop-index.invariant
 
 pub returns : goal.returns
 returns c = pairs_all AreApart c.args.peers.now c.loop-index.index c.loop-index-test.false c.loop-index.invariant
 
-pub returns-then-has_same : goal.returns-then-has_same
-returns-then-has_same c = record {
+pub returns-then-has_clash : goal.returns-then-has_clash
+returns-then-has_clash c = record {
   peer = c.index-peers-index.result;
   there = slice_get_read c.args.peers.now _ c.loop-index.index c.index-peers-index.result refl c.loop-index-test.true c.index-peers-index.is;
-  twice = sym c.has_same.ensures ∙ c.if-has_same.true;
+  twice = sym c.has_clash.ensures ∙ c.if-has_clash.true;
 }

@@ -5,6 +5,7 @@ use Rattle.ripngd_daemon.proofs.run_command.run_monitored.Goals as goal
 pub returns-clause-ran : goal.returns-clause-ran
 returns-clause-ran g c =
     let known = c.close.ensures.calls in
-    shows_outcome c.args.order c.args.ready.router c.args.ready.rng c.close.new.self _ c.args.ready.link.calls known.0 c.args.ready.log.written.bytes
+    shows_outcome c.args.order c.args.ready.router c.args.ready.rng c.close.new.self _ c.args.ready.link.calls known.0 c.args.ready.log.written.past.bytes
     _ _ _ _ c.show_turns-outcome.result c.close.ensures.clients c.requires.uncalled c.requires.begun c.in_ok-engine.ensures.ok
-    c.show_turns-outcome.ensures.lasts known.1 known.2 (ap (λ w. Some w.bytes) (sym c.close.ensures.log)) c.show_turns-outcome.ensures.shown
+    c.show_turns-outcome.ensures.lasts known.1 known.2 (ap (λ w. Some w.past.bytes) (sym c.close.ensures.log))
+    c.close.ensures.lost c.show_turns-outcome.ensures.shown

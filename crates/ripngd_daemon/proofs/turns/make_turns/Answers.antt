@@ -11,23 +11,23 @@ loop-done-init g c = record {
 
 pub loop-done-preserved : goal.loop-done-preserved
 loop-done-preserved g c = record {
-  going = (rw c.in-Ok-GoOn.field-0-is at c.in-Ok-GoOn.ensures.goes_on) (λ e. cc e);
+  going = (rw c.in-Ok-Running.field-0-is at c.in-Ok-Running.ensures.goes_on) (λ e. cc e);
   alone = λ is. c.turn.ensures.alone (c.loop-done.invariant.alone is);
   has_done =
       turns_more c.args.order.seconds c.loop-done.done _ _ _ _ _ c.loop-done.invariant.has_done
-      (c.is_over.ensures.in_time c.if-is_over.false) c.in-Ok-GoOn.ensures.does;
+      (c.is_over.ensures.in_time c.if-is_over.false) c.in-Ok-Running.ensures.does;
 }
 
-pub returns-in-Ok-Stop-clause-lasts : goal.returns-in-Ok-Stop-clause-lasts
-returns-in-Ok-Stop-clause-lasts g c =
+pub returns-in-Ok-Stopped-clause-lasts : goal.returns-in-Ok-Stopped-clause-lasts
+returns-in-Ok-Stopped-clause-lasts g c =
     let test = c.loop-done-test.true in
     record {
       count = c.loop-done.done + 1;
       within = omega arith;
       has_done =
           turns_more c.args.order.seconds c.loop-done.done _ _ _ _ _ c.loop-done.invariant.has_done
-          (c.is_over.ensures.in_time c.if-is_over.false) c.in-Ok-Stop.ensures.does;
-      ends = inr (inr (c.in-Ok-Stop.ensures.stops c.in-Ok-Stop.field-0-is));
+          (c.is_over.ensures.in_time c.if-is_over.false) c.in-Ok-Stopped.ensures.does;
+      ends = inr (inr (c.in-Ok-Stopped.ensures.stops c.in-Ok-Stopped.field-0-is));
     }
 
 pub returns-then-is_over-clause-lasts : goal.returns-then-is_over-clause-lasts

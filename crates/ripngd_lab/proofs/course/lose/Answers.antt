@@ -6,20 +6,20 @@ use Rattle.ripngd_lab.proofs.course.lose.Goals as goal
 
 pub returns-in_err-check_datagram : goal.returns-in_err-check_datagram
 returns-in_err-check_datagram g c =
-    has_told g.V.Watch-1.starts g.V.Watch-2.takes g.V.Watch-2.fails g.V.Watch-1.notes c.from_residual.result (Some c.args.lab.now, c.args.watch.now) (Some c.args.lab.now, c.args.watch.now) (untold g.V.Watch-1.starts g.V.Watch-2.takes g.V.Watch-2.fails g.V.Watch-1.notes (Some c.args.lab.now, c.args.watch.now))
+    has_told g.V.Watch.starts g.V.Observer.takes g.V.Observer.fails g.V.Watch.notes c.from_residual.result (Some c.args.lab.now, c.args.watch.now) (Some c.args.lab.now, c.args.watch.now) (untold g.V.Watch.starts g.V.Observer.takes g.V.Observer.fails g.V.Watch.notes (Some c.args.lab.now, c.args.watch.now))
 
 pub returns-then-is_lost : goal.returns-then-is_lost
 returns-then-is_lost g c =
-    has_told g.V.Watch-1.starts g.V.Watch-2.takes g.V.Watch-2.fails g.V.Watch-1.notes (Err (Refused DatagramLost)) (Some c.args.lab.now, c.args.watch.now) (Some c.args.lab.now, c.args.watch.now) (untold g.V.Watch-1.starts g.V.Watch-2.takes g.V.Watch-2.fails g.V.Watch-1.notes (Some c.args.lab.now, c.args.watch.now))
+    has_told g.V.Watch.starts g.V.Observer.takes g.V.Observer.fails g.V.Watch.notes (Err (Refused DatagramLost)) (Some c.args.lab.now, c.args.watch.now) (Some c.args.lab.now, c.args.watch.now) (untold g.V.Watch.starts g.V.Observer.takes g.V.Observer.fails g.V.Watch.notes (Some c.args.lab.now, c.args.watch.now))
 
 pub returns-in_err-lose : goal.returns-in_err-lose
 returns-in_err-lose g c =
-    has_told g.V.Watch-1.starts g.V.Watch-2.takes g.V.Watch-2.fails g.V.Watch-1.notes c.from_residual-in_err-lose.result (Some c.args.lab.now, c.args.watch.now) (Some c.args.lab.now, c.args.watch.now) (untold g.V.Watch-1.starts g.V.Watch-2.takes g.V.Watch-2.fails g.V.Watch-1.notes (Some c.args.lab.now, c.args.watch.now))
+    has_told g.V.Watch.starts g.V.Observer.takes g.V.Observer.fails g.V.Watch.notes c.from_residual-in_err-lose.result (Some c.args.lab.now, c.args.watch.now) (Some c.args.lab.now, c.args.watch.now) (untold g.V.Watch.starts g.V.Observer.takes g.V.Observer.fails g.V.Watch.notes (Some c.args.lab.now, c.args.watch.now))
 
 pub returns-in_err-lost : goal.returns-in_err-lost
 returns-in_err-lost g c =
-    fault_told g.V.Watch-1.starts g.V.Watch-2.takes g.V.Watch-2.fails g.V.Watch-1.notes c.from_residual-in_err-lost.result c.in_err-lost.field-0.0 (Some c.args.lab.now) c.args.watch.now c.lost.new.self c.from_residual-in_err-lost.ensures.1 c.in_err-lost.ensures.broken
+    fault_told g.V.Watch.starts g.V.Observer.takes g.V.Observer.fails g.V.Watch.notes c.from_residual-in_err-lost.result c.in_err-lost.field-0.0 (Some c.args.lab.now) c.args.watch.now c.lost.new.self c.from_residual-in_err-lost.ensures.1 c.in_err-lost.ensures.broken
 
 pub returns : goal.returns
 returns g c =
-    noted g.V.Watch-1.starts g.V.Watch-2.takes g.V.Watch-2.fails g.V.Watch-1.notes (Some c.args.lab.now) c.args.watch.now c.lost.new.self c.in_ok-lost.ensures.notes
+    noted g.V.Watch.starts g.V.Observer.takes g.V.Observer.fails g.V.Watch.notes (Some c.args.lab.now) c.args.watch.now c.lost.new.self c.in_ok-lost.ensures.notes

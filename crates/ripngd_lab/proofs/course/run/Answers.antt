@@ -4,12 +4,12 @@ use Rattle.ripngd_lab.proofs.course.run.Goals as goal
 
 pub returns-in_err-said-in-Say : goal.returns-in_err-said-in-Say
 returns-in_err-said-in-Say g c =
-    fault_told g.V.Watch-1.starts g.V.Watch-2.takes g.V.Watch-2.fails g.V.Watch-1.notes c.from_residual.result c.in_err-said-in-Say.field-0.0 (Some c.args.lab.now) c.args.watch.now c.said.new.self c.from_residual.ensures.1 c.in_err-said-in-Say.ensures.broken
+    fault_told g.V.Watch.starts g.V.Observer.takes g.V.Observer.fails g.V.Watch.notes c.from_residual.result c.in_err-said-in-Say.field-0.0 (Some c.args.lab.now) c.args.watch.now c.said.new.self c.from_residual.ensures.1 c.in_err-said-in-Say.ensures.broken
 
 pub returns-in_ok-said-in-Say : goal.returns-in_ok-said-in-Say
 returns-in_ok-said-in-Say g c =
-    noted g.V.Watch-1.starts g.V.Watch-2.takes g.V.Watch-2.fails g.V.Watch-1.notes (Some c.args.lab.now) c.args.watch.now c.said.new.self c.in_ok-said-in-Say.ensures.notes
+    noted g.V.Watch.starts g.V.Observer.takes g.V.Observer.fails g.V.Watch.notes (Some c.args.lab.now) c.args.watch.now c.said.new.self c.in_ok-said-in-Say.ensures.notes
 
 pub returns-in-Expect : goal.returns-in-Expect
 returns-in-Expect g c =
-    has_told g.V.Watch-1.starts g.V.Watch-2.takes g.V.Watch-2.fails g.V.Watch-1.notes c.expect.result (Some c.args.lab.now, c.args.watch.now) (Some c.args.lab.now, c.args.watch.now) (untold g.V.Watch-1.starts g.V.Watch-2.takes g.V.Watch-2.fails g.V.Watch-1.notes (Some c.args.lab.now, c.args.watch.now))
+    has_told g.V.Watch.starts g.V.Observer.takes g.V.Observer.fails g.V.Watch.notes c.expect.result (Some c.args.lab.now, c.args.watch.now) (Some c.args.lab.now, c.args.watch.now) (untold g.V.Watch.starts g.V.Observer.takes g.V.Observer.fails g.V.Watch.notes (Some c.args.lab.now, c.args.watch.now))

@@ -4,12 +4,12 @@ use Rattle.ripngd_lab.proofs.course.show_routes.Goals as goal
 
 pub returns-in_err-check_router : goal.returns-in_err-check_router
 returns-in_err-check_router g c =
-    has_told g.V.Watch-1.starts g.V.Watch-2.takes g.V.Watch-2.fails g.V.Watch-1.notes c.from_residual.result (Some c.args.lab.now, c.args.watch.now) (Some c.args.lab.now, c.args.watch.now) (untold g.V.Watch-1.starts g.V.Watch-2.takes g.V.Watch-2.fails g.V.Watch-1.notes (Some c.args.lab.now, c.args.watch.now))
+    has_told g.V.Watch.starts g.V.Observer.takes g.V.Observer.fails g.V.Watch.notes c.from_residual.result (Some c.args.lab.now, c.args.watch.now) (Some c.args.lab.now, c.args.watch.now) (untold g.V.Watch.starts g.V.Observer.takes g.V.Observer.fails g.V.Watch.notes (Some c.args.lab.now, c.args.watch.now))
 
 pub returns-in_err-routes_asked : goal.returns-in_err-routes_asked
 returns-in_err-routes_asked g c =
-    fault_told g.V.Watch-1.starts g.V.Watch-2.takes g.V.Watch-2.fails g.V.Watch-1.notes c.from_residual-in_err-routes_asked.result c.in_err-routes_asked.field-0.0 (Some c.args.lab.now) c.args.watch.now c.routes_asked.new.self c.from_residual-in_err-routes_asked.ensures.1 c.in_err-routes_asked.ensures.broken
+    fault_told g.V.Watch.starts g.V.Observer.takes g.V.Observer.fails g.V.Watch.notes c.from_residual-in_err-routes_asked.result c.in_err-routes_asked.field-0.0 (Some c.args.lab.now) c.args.watch.now c.routes_asked.new.self c.from_residual-in_err-routes_asked.ensures.1 c.in_err-routes_asked.ensures.broken
 
 pub returns : goal.returns
 returns g c =
-    noted g.V.Watch-1.starts g.V.Watch-2.takes g.V.Watch-2.fails g.V.Watch-1.notes (Some c.args.lab.now) c.args.watch.now c.routes_asked.new.self c.in_ok-routes_asked.ensures.notes
+    noted g.V.Watch.starts g.V.Observer.takes g.V.Observer.fails g.V.Watch.notes (Some c.args.lab.now) c.args.watch.now c.routes_asked.new.self c.in_ok-routes_asked.ensures.notes

@@ -6,18 +6,18 @@ use Rattle.ripngd_lab.proofs.doing.run_phases.Goals as goal
 
 pub returns-in-Ok-clause-told : goal.returns-in-Ok-clause-told
 returns-in-Ok-clause-told g c =
-    phases_told g.V.Watch-1.starts g.V.Watch-2.takes g.V.Watch-2.fails g.V.Watch-1.notes c.args.lab.now c.run_phases-phase.new.lab c.args.watch.now c.run_phases-phase.new.watch c.run_phases-phase.result.0 c.in-Ok.last c.run_phases-phase.ensures.network
-    (IfOk-at_ok (λ last. AreMadePhases g.V.Watch-2.takes c.args.lab.now.network (c.args.lab.now.world, c.args.watch.now) c.run_phases-phase.result.0 last (c.run_phases-phase.new.lab.world, c.run_phases-phase.new.watch)) c.in-Ok.is c.run_phases-phase.ensures.made)
+    phases_told g.V.Watch.starts g.V.Observer.takes g.V.Observer.fails g.V.Watch.notes c.args.lab.now c.run_phases-phase.new.lab c.args.watch.now c.run_phases-phase.new.watch c.run_phases-phase.result.0 c.in-Ok.last c.run_phases-phase.ensures.network
+    (IfOk-at_ok (λ last. AreMadePhases g.V.Observer.takes c.args.lab.now.network (c.args.lab.now.world, c.args.watch.now) c.run_phases-phase.result.0 last (c.run_phases-phase.new.lab.world, c.run_phases-phase.new.watch)) c.in-Ok.is c.run_phases-phase.ensures.made)
 
 pub returns-in-Err-clause-told : goal.returns-in-Err-clause-told
 returns-in-Err-clause-told g c =
-    phases_stopped g.V.Watch-1.starts g.V.Watch-2.takes g.V.Watch-2.fails g.V.Watch-1.notes c.args.lab.now c.run_phases-phase.new.lab c.args.watch.now c.run_phases-phase.new.watch c.run_phases-phase.result.0 c.in-Err.why c.stop_at.result c.run_phases-phase.ensures.network c.stop_at.ensures
-    (IfErr-at_err (λ e. AreMadeInPart g.V.Watch-2.takes g.V.Watch-2.fails c.args.lab.now.network (c.args.lab.now.world, c.args.watch.now) c.run_phases-phase.result.0 e (c.run_phases-phase.new.lab.world, c.run_phases-phase.new.watch)) c.in-Err.is c.run_phases-phase.ensures.stopped)
+    phases_stopped g.V.Watch.starts g.V.Observer.takes g.V.Observer.fails g.V.Watch.notes c.args.lab.now c.run_phases-phase.new.lab c.args.watch.now c.run_phases-phase.new.watch c.run_phases-phase.result.0 c.in-Err.why c.stop_at.result c.run_phases-phase.ensures.network c.stop_at.ensures
+    (IfErr-at_err (λ e. AreMadeInPart g.V.Observer.takes g.V.Observer.fails c.args.lab.now.network (c.args.lab.now.world, c.args.watch.now) c.run_phases-phase.result.0 e (c.run_phases-phase.new.lab.world, c.run_phases-phase.new.watch)) c.in-Err.is c.run_phases-phase.ensures.stopped)
 
 pub returns-in-Err-clause-stopped : goal.returns-in-Err-clause-stopped
 returns-in-Err-clause-stopped g c =
-    stops_in g.V.Watch-2.takes g.V.Watch-2.fails (c.args.lab.now, c.args.watch.now) (c.run_phases-phase.new.lab, c.run_phases-phase.new.watch) c.run_phases-phase.result.0 c.in-Err.why c.stop_at.result c.stop_at.ensures
-    (IfErr-at_err (λ e. AreMadeInPart g.V.Watch-2.takes g.V.Watch-2.fails c.args.lab.now.network (c.args.lab.now.world, c.args.watch.now) c.run_phases-phase.result.0 e (c.run_phases-phase.new.lab.world, c.run_phases-phase.new.watch)) c.in-Err.is c.run_phases-phase.ensures.stopped)
+    stops_in g.V.Observer.takes g.V.Observer.fails (c.args.lab.now, c.args.watch.now) (c.run_phases-phase.new.lab, c.run_phases-phase.new.watch) c.run_phases-phase.result.0 c.in-Err.why c.stop_at.result c.stop_at.ensures
+    (IfErr-at_err (λ e. AreMadeInPart g.V.Observer.takes g.V.Observer.fails c.args.lab.now.network (c.args.lab.now.world, c.args.watch.now) c.run_phases-phase.result.0 e (c.run_phases-phase.new.lab.world, c.run_phases-phase.new.watch)) c.in-Err.is c.run_phases-phase.ensures.stopped)
 
 pub returns-in-Ok-clause-heals : goal.returns-in-Ok-clause-heals
 returns-in-Ok-clause-heals g c =

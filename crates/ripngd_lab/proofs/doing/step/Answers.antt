@@ -10,10 +10,10 @@ use Rattle.ripngd_lab.proofs.doing.step.Goals as goal
 pub returns : goal.returns
 returns g c =
     elim c.match-step_watched.branch [
-      | in-Ok w ↦ has_told g.V.Watch-1.starts g.V.Watch-2.takes g.V.Watch-2.fails g.V.Watch-1.notes c.match-step_watched.result (Some c.args.lab.now, c.args.watch.now) (Some c.step_watched.new.self, c.step_watched.new.watch)
-          (step_told g.V.Watch-1.starts g.V.Watch-2.takes g.V.Watch-2.fails g.V.Watch-1.notes c.args.lab.now c.step_watched.new.self (event_of c.args.event.now) _ _ c.args.watch.now c.step_watched.new.watch w.in-Ok.ensures.happens w.in-Ok.ensures.network refl w.in-Ok.ensures.told)
-      | in-Err-Refused w ↦ has_told g.V.Watch-1.starts g.V.Watch-2.takes g.V.Watch-2.fails g.V.Watch-1.notes c.match-step_watched.result (Some c.args.lab.now, c.args.watch.now) (Some c.step_watched.new.self, c.step_watched.new.watch)
-          (part_none g.V.Watch-1.starts g.V.Watch-2.takes g.V.Watch-2.fails g.V.Watch-1.notes c.args.lab.now c.step_watched.new.self (event_of c.args.event.now ∷ []) c.args.watch.now c.step_watched.new.watch _ (ap failures w.in-Err-Refused.field-0-is) w.in-Err-Refused.ensures.network w.in-Err-Refused.ensures.stopped)
-      | in-Err-Failed w ↦ subst (λ (r : Result _ Stop). HasTold r g.V.Watch-1.starts g.V.Watch-2.takes g.V.Watch-2.fails g.V.Watch-1.notes (Some c.args.lab.now, c.args.watch.now) (Some c.step_watched.new.self, c.step_watched.new.watch)) (sym w.result-is)
-          (part_one g.V.Watch-1.starts g.V.Watch-2.takes g.V.Watch-2.fails g.V.Watch-1.notes c.args.lab.now c.step_watched.new.self (event_of c.args.event.now ∷ []) c.args.watch.now c.step_watched.new.watch _ (ap failures w.in-Err-Failed.field-0-is) w.in-Err-Failed.ensures.network w.in-Err-Failed.ensures.stopped)
+      | in-Ok w ↦ has_told g.V.Watch.starts g.V.Observer.takes g.V.Observer.fails g.V.Watch.notes c.match-step_watched.result (Some c.args.lab.now, c.args.watch.now) (Some c.step_watched.new.self, c.step_watched.new.watch)
+          (step_told g.V.Watch.starts g.V.Observer.takes g.V.Observer.fails g.V.Watch.notes c.args.lab.now c.step_watched.new.self (event_of c.args.event.now) _ _ c.args.watch.now c.step_watched.new.watch w.in-Ok.ensures.happens w.in-Ok.ensures.network refl w.in-Ok.ensures.told)
+      | in-Err-Refused w ↦ has_told g.V.Watch.starts g.V.Observer.takes g.V.Observer.fails g.V.Watch.notes c.match-step_watched.result (Some c.args.lab.now, c.args.watch.now) (Some c.step_watched.new.self, c.step_watched.new.watch)
+          (part_none g.V.Watch.starts g.V.Observer.takes g.V.Observer.fails g.V.Watch.notes c.args.lab.now c.step_watched.new.self (event_of c.args.event.now ∷ []) c.args.watch.now c.step_watched.new.watch _ (ap failures w.in-Err-Refused.field-0-is) w.in-Err-Refused.ensures.network w.in-Err-Refused.ensures.stopped)
+      | in-Err-Failed w ↦ subst (λ (r : Result _ Stop). HasTold r g.V.Watch.starts g.V.Observer.takes g.V.Observer.fails g.V.Watch.notes (Some c.args.lab.now, c.args.watch.now) (Some c.step_watched.new.self, c.step_watched.new.watch)) (sym w.result-is)
+          (part_one g.V.Watch.starts g.V.Observer.takes g.V.Observer.fails g.V.Watch.notes c.args.lab.now c.step_watched.new.self (event_of c.args.event.now ∷ []) c.args.watch.now c.step_watched.new.watch _ (ap failures w.in-Err-Failed.field-0-is) w.in-Err-Failed.ensures.network w.in-Err-Failed.ensures.stopped)
     ]

@@ -3,4 +3,4 @@ use Rattle.ripngd_lab.specs.ScriptWatching.{IsToldOfLab}
 use Rattle.ripngd_lab.proofs.round.make_partial_rounds.Given as goal
 
 abbrev pub invariant-loop-round : goal.invariant-loop-round
-invariant-loop-round g l = IsToldOfLab g.V.Watch-1.starts g.V.Watch-2.takes g.V.Watch-1.notes (Some l.fn.lab, l.fn.watch) (Some l.lab, l.watch)
+invariant-loop-round g l = IsToldOfLab g.V.Watch.starts g.V.Observer.takes g.V.Watch.notes (Some l.fn.lab, l.fn.watch) (Some l.lab, l.watch)

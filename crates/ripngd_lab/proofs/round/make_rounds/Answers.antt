@@ -11,10 +11,10 @@ run_rounds-requires g c =
 
 pub returns-in_err-ticks : goal.returns-in_err-ticks
 returns-in_err-ticks g c =
-    has_told g.V.Watch-1.starts g.V.Watch-2.takes g.V.Watch-2.fails g.V.Watch-1.notes c.from_residual.result (Some c.args.lab.now, c.args.watch.now) (Some c.args.lab.now, c.args.watch.now)
-    (untold g.V.Watch-1.starts g.V.Watch-2.takes g.V.Watch-2.fails g.V.Watch-1.notes (Some c.args.lab.now, c.args.watch.now))
+    has_told g.V.Watch.starts g.V.Observer.takes g.V.Observer.fails g.V.Watch.notes c.from_residual.result (Some c.args.lab.now, c.args.watch.now) (Some c.args.lab.now, c.args.watch.now)
+    (untold g.V.Watch.starts g.V.Observer.takes g.V.Observer.fails g.V.Watch.notes (Some c.args.lab.now, c.args.watch.now))
 
 pub returns-in_err-rounds : goal.returns-in_err-rounds
 returns-in_err-rounds g c =
-    has_told g.V.Watch-1.starts g.V.Watch-2.takes g.V.Watch-2.fails g.V.Watch-1.notes c.from_residual-in_err-rounds.result (Some c.args.lab.now, c.args.watch.now) (Some c.args.lab.now, c.args.watch.now)
-    (untold g.V.Watch-1.starts g.V.Watch-2.takes g.V.Watch-2.fails g.V.Watch-1.notes (Some c.args.lab.now, c.args.watch.now))
+    has_told g.V.Watch.starts g.V.Observer.takes g.V.Observer.fails g.V.Watch.notes c.from_residual-in_err-rounds.result (Some c.args.lab.now, c.args.watch.now) (Some c.args.lab.now, c.args.watch.now)
+    (untold g.V.Watch.starts g.V.Observer.takes g.V.Observer.fails g.V.Watch.notes (Some c.args.lab.now, c.args.watch.now))

@@ -3,4 +3,4 @@ use Rattle.ripngd_lab.specs.ScriptWatching.{IsToldOfLab}
 use Rattle.ripngd_lab.proofs.round.tick_due.Given as goal
 
 abbrev pub invariant-loop-router : goal.invariant-loop-router
-invariant-loop-router g l = IsToldOfLab g.V.Watch-1.starts g.V.Watch-2.takes g.V.Watch-1.notes (Some l.fn.lab, l.fn.watch) (Some l.lab, l.watch)
+invariant-loop-router g l = IsToldOfLab g.V.Watch.starts g.V.Observer.takes g.V.Watch.notes (Some l.fn.lab, l.fn.watch) (Some l.lab, l.watch)

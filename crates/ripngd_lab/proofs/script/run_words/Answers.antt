@@ -5,8 +5,8 @@ use Rattle.ripngd_lab.proofs.script.run_words.Goals as goal
 
 pub returns-in_err-line : goal.returns-in_err-line
 returns-in_err-line g c =
-    untold_as g.V.Watch-1.starts g.V.Watch-2.takes g.V.Watch-2.fails g.V.Watch-1.notes c.from_residual.result (lab_in c.args.session.now.stage) (lab_in c.read.new.self.stage) c.args.watch.now (ap lab_in c.read.ensures)
+    untold_as g.V.Watch.starts g.V.Observer.takes g.V.Observer.fails g.V.Watch.notes c.from_residual.result (lab_in c.args.session.now.stage) (lab_in c.read.new.self.stage) c.args.watch.now (ap lab_in c.read.ensures)
 
 pub returns : goal.returns
 returns g c =
-    told_from g.V.Watch-1.starts g.V.Watch-2.takes g.V.Watch-2.fails g.V.Watch-1.notes c.obey.result (lab_in c.args.session.now.stage) (lab_in c.read.new.self.stage) c.args.watch.now (lab_in c.obey.new.self.stage, c.obey.new.watch) (ap lab_in (sym c.read.ensures)) c.obey.ensures
+    told_from g.V.Watch.starts g.V.Observer.takes g.V.Observer.fails g.V.Watch.notes c.obey.result (lab_in c.args.session.now.stage) (lab_in c.read.new.self.stage) c.args.watch.now (lab_in c.obey.new.self.stage, c.obey.new.watch) (ap lab_in (sym c.read.ensures)) c.obey.ensures

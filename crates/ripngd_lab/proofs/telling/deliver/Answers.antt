@@ -4,19 +4,19 @@ use Rattle.ripngd_lab.proofs.telling.deliver.Goals as goal
 
 pub returns-in_err-router-items : goal.returns-in_err-router-items
 returns-in_err-router-items g c =
-    has_told g.V.Watch-1.starts g.V.Watch-2.takes g.V.Watch-2.fails g.V.Watch-1.notes c.from_residual.result (Some c.args.lab.now, c.args.watch.now) (Some c.args.lab.now, c.args.watch.now) (untold g.V.Watch-1.starts g.V.Watch-2.takes g.V.Watch-2.fails g.V.Watch-1.notes (Some c.args.lab.now, c.args.watch.now))
+    has_told g.V.Watch.starts g.V.Observer.takes g.V.Observer.fails g.V.Watch.notes c.from_residual.result (Some c.args.lab.now, c.args.watch.now) (Some c.args.lab.now, c.args.watch.now) (untold g.V.Watch.starts g.V.Observer.takes g.V.Observer.fails g.V.Watch.notes (Some c.args.lab.now, c.args.watch.now))
 
 pub loop-router-init : goal.loop-router-init
 loop-router-init g c =
-    untold g.V.Watch-1.starts g.V.Watch-2.takes g.V.Watch-2.fails g.V.Watch-1.notes (Some c.args.lab.now, c.args.watch.now)
+    untold g.V.Watch.starts g.V.Observer.takes g.V.Observer.fails g.V.Watch.notes (Some c.args.lab.now, c.args.watch.now)
 
 pub returns-in_err-step : goal.returns-in_err-step
 returns-in_err-step g c =
-    handed_on g.V.Watch-1.starts g.V.Watch-2.takes g.V.Watch-2.fails g.V.Watch-1.notes c.from_residual-in_err-step.result c.in_err-step.field-0.0 (Some c.args.lab.now, c.args.watch.now) (Some c.loop-router.lab, c.loop-router.watch) (Some c.step.new.lab, c.step.new.watch) c.from_residual-in_err-step.ensures.1 c.loop-router.invariant c.in_err-step.ensures
+    handed_on g.V.Watch.starts g.V.Observer.takes g.V.Observer.fails g.V.Watch.notes c.from_residual-in_err-step.result c.in_err-step.field-0.0 (Some c.args.lab.now, c.args.watch.now) (Some c.loop-router.lab, c.loop-router.watch) (Some c.step.new.lab, c.step.new.watch) c.from_residual-in_err-step.ensures.1 c.loop-router.invariant c.in_err-step.ensures
 
 pub loop-router-preserved : goal.loop-router-preserved
 loop-router-preserved g c =
-    told_on g.V.Watch-1.starts g.V.Watch-2.takes g.V.Watch-2.fails g.V.Watch-1.notes (Some c.args.lab.now, c.args.watch.now) (Some c.loop-router.lab, c.loop-router.watch) (Some c.step.new.lab, c.step.new.watch) c.loop-router.invariant c.in_ok-step.ensures
+    told_on g.V.Watch.starts g.V.Observer.takes g.V.Observer.fails g.V.Watch.notes (Some c.args.lab.now, c.args.watch.now) (Some c.loop-router.lab, c.loop-router.watch) (Some c.step.new.lab, c.step.new.watch) c.loop-router.invariant c.in_ok-step.ensures
 
 pub returns : goal.returns
 returns g c =

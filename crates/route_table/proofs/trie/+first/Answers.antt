@@ -11,7 +11,7 @@ pub returns-then-not-may_be_in : goal.returns-then-not-may_be_in
 returns-then-not-may_be_in t c =
     let f = c.fork.inside in
     let w = c.args.wanted in
-    let whole : fork_entries f.own f.low f.high ≡ linked c.args.link.now = c.fork.view_is ∙ c.deref-fork.ensures ∙ sym (ap linked c.in-Fork.is) in
+    let whole : fork_entries f.own f.low f.high ≡ linked c.args.node.now = c.fork.view_is ∙ c.deref-fork.ensures ∙ sym (ap linked c.in-Fork.is) in
     sym (nothing_wanted w None (fork_entries f.own f.low f.high) (ap (may_meet w) (sym c.fork.invariant.summed) ∙ sym c.may_be_in.ensures ∙ c.if-not-may_be_in.true))
     ∙ ap (first_where (meets w) None) whole
 
@@ -19,7 +19,7 @@ pub returns-in-Some-first : goal.returns-in-Some-first
 returns-in-Some-first t c =
     let f = c.fork.inside in
     let w = c.args.wanted in
-    let whole : fork_entries f.own f.low f.high ≡ linked c.args.link.now = c.fork.view_is ∙ c.deref-fork.ensures ∙ sym (ap linked c.in-Fork.is) in
+    let whole : fork_entries f.own f.low f.high ≡ linked c.args.node.now = c.fork.view_is ∙ c.deref-fork.ensures ∙ sym (ap linked c.in-Fork.is) in
     in_first (meets w) None (linked f.low) (linked f.high) c.in-Some-first.entry.now (sym (ap option_copied c.in-Some-first.is) ∙ c.first.ensures)
     ∙ in_second (meets w) None (owned f.own) (linked f.low ++ linked f.high) (sym (ap option_copied c.in_default.is) ∙ c.wanted_own.ensures)
     ∙ ap (first_where (meets w) None) whole
@@ -28,7 +28,7 @@ pub returns-in-None : goal.returns-in-None
 returns-in-None t c =
     let f = c.fork.inside in
     let w = c.args.wanted in
-    let whole : fork_entries f.own f.low f.high ≡ linked c.args.link.now = c.fork.view_is ∙ c.deref-fork.ensures ∙ sym (ap linked c.in-Fork.is) in
+    let whole : fork_entries f.own f.low f.high ≡ linked c.args.node.now = c.fork.view_is ∙ c.deref-fork.ensures ∙ sym (ap linked c.in-Fork.is) in
     c.first-in-None.ensures
     ∙ in_second (meets w) None (linked f.low) (linked f.high) (sym (ap option_copied c.in-None.is) ∙ c.first.ensures)
     ∙ in_second (meets w) None (owned f.own) (linked f.low ++ linked f.high) (sym (ap option_copied c.in_default.is) ∙ c.wanted_own.ensures)

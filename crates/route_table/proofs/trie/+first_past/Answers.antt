@@ -13,7 +13,7 @@ pub returns-then-not-may_be_in : goal.returns-then-not-may_be_in
 returns-then-not-may_be_in t c =
     let f = c.fork.inside in
     let w = c.args.wanted in
-    let whole : fork_entries f.own f.low f.high ≡ linked c.args.link.now = c.fork.view_is ∙ c.deref-fork.ensures ∙ sym (ap linked c.in-Fork.is) in
+    let whole : fork_entries f.own f.low f.high ≡ linked c.args.node.now = c.fork.view_is ∙ c.deref-fork.ensures ∙ sym (ap linked c.in-Fork.is) in
     sym (nothing_wanted w (Some c.args.after.now) (fork_entries f.own f.low f.high) (ap (may_meet w) (sym c.fork.invariant.summed) ∙ sym c.may_be_in.ensures ∙ c.if-not-may_be_in.true))
     ∙ ap (first_where (meets w) (Some c.args.after.now)) whole
 
@@ -22,7 +22,7 @@ returns-then-lt-2 t c =
     let f = c.fork.inside in
     let w = c.args.wanted in
     let a = c.args.after.now in
-    let whole : fork_entries f.own f.low f.high ≡ linked c.args.link.now = c.fork.view_is ∙ c.deref-fork.ensures ∙ sym (ap linked c.in-Fork.is) in
+    let whole : fork_entries f.own f.low f.high ≡ linked c.args.node.now = c.fork.view_is ∙ c.deref-fork.ensures ∙ sym (ap linked c.in-Fork.is) in
     c.first.ensures
     ∙ ap (first_where (meets w) None) (sym whole)
     ∙ past_none (meets w) f.prefix (owned f.own) (linked f.low) (linked f.high) c.fork.invariant.parts a (sym (less_is a f.prefix) ∙ sym c.lt-in-Fork.ensures ∙ c.if-lt-2.true)
@@ -33,7 +33,7 @@ returns-then-not-is_before_middle t c =
     let f = c.fork.inside in
     let w = c.args.wanted in
     let a = c.args.after.now in
-    let whole : fork_entries f.own f.low f.high ≡ linked c.args.link.now = c.fork.view_is ∙ c.deref-fork.ensures ∙ sym (ap linked c.in-Fork.is) in
+    let whole : fork_entries f.own f.low f.high ≡ linked c.args.node.now = c.fork.view_is ∙ c.deref-fork.ensures ∙ sym (ap linked c.in-Fork.is) in
     let not_before : is_past (Some a) f.prefix ≡ false = sym (less_is a f.prefix) ∙ sym c.lt-in-Fork.ensures ∙ c.if-lt-2.false in
     c.first_past.ensures
     ∙ past_lower (meets w) f.prefix (owned f.own) (linked f.low) (linked f.high) c.fork.invariant.parts a not_before (not_lower c.is_before_middle.result _ _ c.if-not-is_before_middle.true c.is_before_middle.ensures.1)
@@ -44,7 +44,7 @@ returns-in-Some t c =
     let f = c.fork.inside in
     let w = c.args.wanted in
     let a = c.args.after.now in
-    let whole : fork_entries f.own f.low f.high ≡ linked c.args.link.now = c.fork.view_is ∙ c.deref-fork.ensures ∙ sym (ap linked c.in-Fork.is) in
+    let whole : fork_entries f.own f.low f.high ≡ linked c.args.node.now = c.fork.view_is ∙ c.deref-fork.ensures ∙ sym (ap linked c.in-Fork.is) in
     let not_before : is_past (Some a) f.prefix ≡ false = sym (less_is a f.prefix) ∙ sym c.lt-in-Fork.ensures ∙ c.if-lt-2.false in
     in_lower (meets w) f.prefix (owned f.own) (linked f.low) (linked f.high) c.fork.invariant.parts a not_before c.in-Some.entry.now (sym (ap option_copied c.in-Some.is) ∙ c.first_past-in-Fork.ensures)
     ∙ ap (first_where (meets w) (Some a)) whole
@@ -54,7 +54,7 @@ returns-in-None t c =
     let f = c.fork.inside in
     let w = c.args.wanted in
     let a = c.args.after.now in
-    let whole : fork_entries f.own f.low f.high ≡ linked c.args.link.now = c.fork.view_is ∙ c.deref-fork.ensures ∙ sym (ap linked c.in-Fork.is) in
+    let whole : fork_entries f.own f.low f.high ≡ linked c.args.node.now = c.fork.view_is ∙ c.deref-fork.ensures ∙ sym (ap linked c.in-Fork.is) in
     let not_before : is_past (Some a) f.prefix ≡ false = sym (less_is a f.prefix) ∙ sym c.lt-in-Fork.ensures ∙ c.if-lt-2.false in
     c.first-in-None.ensures
     ∙ past_lower_half (meets w) f.prefix (owned f.own) (linked f.low) (linked f.high) c.fork.invariant.parts a not_before (c.is_before_middle.ensures.0 c.if-not-is_before_middle.false) (sym (ap option_copied c.in-None.is) ∙ c.first_past-in-Fork.ensures)

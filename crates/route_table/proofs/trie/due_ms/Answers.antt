@@ -5,4 +5,4 @@ use Rattle.route_table.proofs.TrieSummary.{due_of}
 use Rattle.route_table.proofs.trie.due_ms.Goals as goal
 
 pub returns : goal.returns
-returns c = c.due_ms.ensures ∙ ap (λ (s : SummaryValue). s.due) c.summary.ensures ∙ due_of (linked c.args.link.now)
+returns c = c.due_ms.ensures ∙ ap (λ (s : SummaryValue). s.due) c.summary.ensures ∙ due_of (linked c.args.node.now)

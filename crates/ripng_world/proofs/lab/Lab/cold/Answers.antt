@@ -4,7 +4,7 @@ use Rattle.ripng_world.specs.Labs.{HasRun}
 use Rattle.ripng_world.specs.Network.{Network, IsNetwork}
 use Rattle.ripng_world.specs.Stations.{network_of, world_of}
 use Rattle.ripng_world.specs.World.{IsCold}
-use Rattle.ripng_world.proofs.LabRuns.{backed, least, truth, fixed}
+use Rattle.ripng_world.proofs.LabRuns.{keeps}
 use Rattle.ripng_world.proofs.lab.Lab.cold.Goals as goal
 
 -- the run of no events
@@ -22,14 +22,5 @@ module _ (g : _) (c : goal.After-new g) where
         run = refl;
       }
 
-pub returns-clause-backed : goal.returns-clause-backed
-returns-clause-backed g c = backed _ _ (has_run g c)
-
-pub returns-clause-least : goal.returns-clause-least
-returns-clause-least g c = least _ _ (has_run g c)
-
-pub returns-clause-truth : goal.returns-clause-truth
-returns-clause-truth g c = truth _ _ (has_run g c)
-
-pub returns-clause-fixed : goal.returns-clause-fixed
-returns-clause-fixed g c = fixed _ _ (has_run g c)
+pub returns-clause-keeps : goal.returns-clause-keeps
+returns-clause-keeps g c = keeps _ (has_run g c)

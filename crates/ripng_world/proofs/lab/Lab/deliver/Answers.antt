@@ -20,8 +20,8 @@ returns-then-wants_memory-clause-stopped g c =
     let e = event_of c.delivery.result in
     let wants : WantsMemory h.0 =
     subst (λ (ns : List Note). Any (λ n. n.kind ≡ NoMemory) ns) (c.as_slice.ensures ∙ ap (λ (a : Answer). a.notes) h.2) (c.wants_memory.ensures.found c.if-wants_memory.true) in
-    wanting_one g.V.Watch.takes g.V.Watch.fails _ net e _ before after c.delivery.ensures
-    (watched_one g.V.Watch.takes wanting net e h.0 before after wants h.1 (given_told g.V.Watch.takes c.args.self.now c.step_watched.new.self e c.in-Ok.answer _ c.args.watch.now c.step_watched.new.watch h c.in-Ok.ensures.network refl c.in-Ok.ensures.told))
+    wanting_one g.V.Observer.takes g.V.Observer.fails _ net e _ before after c.delivery.ensures
+    (watched_one g.V.Observer.takes wanting net e h.0 before after wants h.1 (given_told g.V.Observer.takes c.args.self.now c.step_watched.new.self e c.in-Ok.answer _ c.args.watch.now c.step_watched.new.watch h c.in-Ok.ensures.network refl c.in-Ok.ensures.told))
 
 pub returns-in-Err-clause-stopped : goal.returns-in-Err-clause-stopped
 returns-in-Err-clause-stopped g c =
@@ -29,8 +29,8 @@ returns-in-Err-clause-stopped g c =
     let before : World × _ = (c.args.self.now.world, c.args.watch.now) in
     let after : World × _ = (c.step_watched.new.self.world, c.step_watched.new.watch) in
     rw (c.refused_as.ensures)
-    (stopped_one g.V.Watch.takes g.V.Watch.fails why _ c.args.self.now.network (event_of c.delivery.result) _ before after c.delivery.ensures c.in-Err.ensures.stopped
-    (both_still why c.args.self.now c.step_watched.new.self c.args.watch.now c.step_watched.new.watch c.in-Err.ensures.err c.in-Err.ensures.untold))
+    (stopped_one g.V.Observer.takes g.V.Observer.fails why _ c.args.self.now.network (event_of c.delivery.result) _ before after c.delivery.ensures c.in-Err.ensures.stopped
+    (both_still why c.args.self.now c.step_watched.new.self c.args.watch.now c.step_watched.new.watch c.in-Err.ensures.ends.unchanged c.in-Err.ensures.untold))
 
 pub returns-clause-delivered : goal.returns-clause-delivered
 returns-clause-delivered g c =
@@ -41,5 +41,5 @@ returns-clause-delivered g c =
     let e = event_of c.delivery.result in
     let fit : heard c.args.self.now.world e h.0 =
     subst (λ (ns : List Note). All (λ n. n.kind ≢ NoMemory) ns) (c.as_slice.ensures ∙ ap (λ (a : Answer). a.notes) h.2) (c.wants_memory.ensures.absent c.if-wants_memory.false) in
-    subst (λ (x : Event). WatchedRun g.V.Watch.takes heard net before (x ∷ []) after) c.delivery.ensures
-    (watched_one g.V.Watch.takes heard net e h.0 before after fit h.1 (given_told g.V.Watch.takes c.args.self.now c.step_watched.new.self e c.in-Ok.answer _ c.args.watch.now c.step_watched.new.watch h c.in-Ok.ensures.network refl c.in-Ok.ensures.told))
+    subst (λ (x : Event). WatchedRun g.V.Observer.takes heard net before (x ∷ []) after) c.delivery.ensures
+    (watched_one g.V.Observer.takes heard net e h.0 before after fit h.1 (given_told g.V.Observer.takes c.args.self.now c.step_watched.new.self e c.in-Ok.answer _ c.args.watch.now c.step_watched.new.watch h c.in-Ok.ensures.network refl c.in-Ok.ensures.told))

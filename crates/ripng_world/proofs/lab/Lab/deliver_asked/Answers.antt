@@ -1,47 +1,22 @@
-use Rattle.std.proofs.Common.{◌≡◌, ◌<◌, ℕ, List, [], IfErr, OnOk, false, get_or, length, refl, sym, subst, ◌∙◌, ap, ap₂}
-use Rattle.std.proofs.lemmas.Bool.{eqb-true}
-use Rattle.std.proofs.lemmas.List.{nil_from_length}
-use Rattle.ripng_world.specs.Asked.{Asked}
+use Rattle.std.proofs.Common.{◌≡◌, ◌<◌, ℕ, List, IfErr, OnOk, false, get_or, length, refl, subst, ◌∙◌, ap, ap₂}
 use Rattle.ripng_world.specs.AskedRounds.{deliveries_of, is_picked, other_deliveries, pairs_since, picked_deliveries}
 use Rattle.ripng_world.specs.Watching.{HeardInPart, WatchedRun, heard}
 use Rattle.ripng_world.specs.Labs.{LabValue}
 use Rattle.ripng_world.specs.Stations.{StationValue, network_of}
-use Rattle.ripng_world.specs.World.{World, Event}
+use Rattle.ripng_world.specs.World.{World}
 use Rattle.ripng_world.specs.declared.pairs.Pair.{Pair}
 use Rattle.ripng_world.specs.declared.sent.Sent.{Sent}
 use Rattle.ripng_world.specs.declared.watch.Stopped.TheVariants.{Refused}
 use Rattle.ripng_world.proofs.AskedSynchronous.{on_ok}
-use Rattle.ripng_world.proofs.Delivered.{asked_all, asked_stop, none_asked, none_heard, part_more}
+use Rattle.ripng_world.proofs.Delivered.{asked_all, asked_stop, none_heard, part_more}
 use Rattle.ripng_world.proofs.Watched.{handed_on, map_err}
-use Rattle.ripng_world.proofs.lab.Lab.deliver_asked.Goals.{After-deliver_each, After-drop-pairs-2}
+use Rattle.ripng_world.proofs.lab.Lab.deliver_asked.Goals.{After-drop-pairs-2}
 use Rattle.ripng_world.proofs.lab.Lab.deliver_asked.Goals as goal
-
--- nothing is picked
-module _ (g : _) (c : After-deliver_each g) where
-  pairs : List Pair
-  pairs = pairs_since c.args.self.now.network c.args.first c.args.self.now.world.sent
-
-  unpicked : deliveries_of pairs c.args.round.now.picks c.args.round.now.rest ≡ deliveries_of pairs [] c.round.inside.rest
-  unpicked =
-      sym (ap (λ (a : Asked). deliveries_of pairs a.picks a.rest) c.round.view_is)
-      ∙ ap (λ (ps : List (ℕ × ℕ)). deliveries_of pairs ps c.round.inside.rest) (nil_from_length c.round.inside.picks.now (eqb-true _ _ (sym c.is_empty.ensures ∙ c.if-is_empty.true)))
-
-pub returns-then-is_empty-clause-delivered : goal.returns-then-is_empty-clause-delivered
-unfolding pairs
-returns-then-is_empty-clause-delivered g c =
-    subst (λ (es : List Event). OnOk c.deliver_each.result (WatchedRun g.V.Watch.takes heard c.args.self.now.network (c.args.self.now.world, c.args.watch.now) es (c.deliver_each.new.self.world, c.deliver_each.new.watch)))
-    (sym (unpicked g c ∙ none_asked (pairs g c) c.round.inside.rest)) c.deliver_each.ensures.delivered
-
-pub returns-then-is_empty-clause-stopped : goal.returns-then-is_empty-clause-stopped
-unfolding pairs
-returns-then-is_empty-clause-stopped g c =
-    subst (λ (es : List Event). IfErr c.deliver_each.result (λ why. HeardInPart g.V.Watch.takes g.V.Watch.fails why c.args.self.now.network (c.args.self.now.world, c.args.watch.now) es (c.deliver_each.new.self.world, c.deliver_each.new.watch)))
-    (sym (unpicked g c ∙ none_asked (pairs g c) c.round.inside.rest)) c.deliver_each.ensures.stopped
 
 pub returns-in_err-pairs-clause-stopped : goal.returns-in_err-pairs-clause-stopped
 returns-in_err-pairs-clause-stopped g c =
     handed_on c.from_residual.result (Refused c.in_err-pairs.field-0.0) _ c.from_residual.ensures.1
-    (none_heard g.V.Watch.takes g.V.Watch.fails c.in_err-pairs.field-0.0 c.args.self.now.network _ (c.args.self.now.world, c.args.watch.now) (c.args.self.now.world, c.args.watch.now) refl)
+    (none_heard g.V.Observer.takes g.V.Observer.fails c.in_err-pairs.field-0.0 c.args.self.now.network _ (c.args.self.now.world, c.args.watch.now) (c.args.self.now.world, c.args.watch.now) refl)
 
 pub returns-in_err-picked-clause-stopped : goal.returns-in_err-picked-clause-stopped
 returns-in_err-picked-clause-stopped g c =
@@ -51,15 +26,14 @@ returns-in_err-picked-clause-stopped g c =
     let after : World × _ = (c.deliver_picked.new.self.world, c.deliver_picked.new.watch) in
     let why = c.in_err-picked.field-0.0 in
     let ps = c.deref-3.result.now in
-    let picks = c.round.inside.picks.now in
+    let picks = c.args.picks.now in
     let pairs_are : ps ≡ pairs_since net c.args.first w.sent =
     c.deref-3.ensures.value ∙ c.in_ok-pairs.ensures
     ∙ ap₂ (λ (ss : List StationValue) (ds : List Sent). pairs_since (network_of ss) c.args.first ds) c.deref.ensures.value c.deref-2.ensures.value
     ∙ ap (λ (l : LabValue). pairs_since l.network c.args.first l.world.sent) (ap (λ i. i.running) c.self-inside.view_is ∙ c.self.view_is) in
     handed_on c.from_residual-in_err-picked.result c.in_err-picked.field-0.0 _ c.from_residual-in_err-picked.ensures.1
-    (subst (λ (qs : List Pair). HeardInPart g.V.Watch.takes g.V.Watch.fails why net start (deliveries_of qs c.args.round.now.picks c.args.round.now.rest) after) pairs_are
-    (subst (λ (a : Asked). HeardInPart g.V.Watch.takes g.V.Watch.fails why net start (deliveries_of ps a.picks a.rest) after) c.round.view_is
-    (part_more g.V.Watch.takes g.V.Watch.fails why net (picked_deliveries ps picks) (other_deliveries (is_picked (length ps) picks) ps c.round.inside.rest) start after c.in_err-picked.ensures.stopped)))
+    (subst (λ (qs : List Pair). HeardInPart g.V.Observer.takes g.V.Observer.fails why net start (deliveries_of qs c.args.picks.now c.args.rest) after) pairs_are
+    (part_more g.V.Observer.takes g.V.Observer.fails why net (picked_deliveries ps picks) (other_deliveries (is_picked (length ps) picks) ps c.args.rest) start after c.in_err-picked.ensures.stopped))
 
 -- the picks are delivered
 module _ (g : _) (c : After-drop-pairs-2 g) where
@@ -73,16 +47,16 @@ module _ (g : _) (c : After-drop-pairs-2 g) where
       ∙ ap₂ (λ (ss : List StationValue) (ds : List Sent). pairs_since (network_of ss) c.args.first ds) c.deref.ensures.value c.deref-2.ensures.value
       ∙ ap (λ (l : LabValue). pairs_since l.network c.args.first l.world.sent) (ap (λ i. i.running) c.self-inside.view_is ∙ c.self.view_is)
 
-  flags_are : (k : ℕ) → k < length items → get_or c.deref-5.result.now k false ≡ is_picked (length items) c.round.inside.picks.now k
+  flags_are : (k : ℕ) → k < length items → get_or c.deref-5.result.now k false ≡ is_picked (length items) c.args.picks.now k
   unfolding items
   flags_are k h =
       ap (λ (fs : List _). get_or fs k false) c.deref-5.ensures.value
-      ∙ subst (λ (ps : List Pair). (j : ℕ) → j < length ps → get_or c.in_ok-picked.picked.items j false ≡ is_picked (length ps) c.round.inside.picks.now j) c.deref-3.ensures.value c.in_ok-picked.ensures.picked k h
+      ∙ subst (λ (ps : List Pair). (j : ℕ) → j < length ps → get_or c.in_ok-picked.picked.items j false ≡ is_picked (length ps) c.args.picks.now j) c.deref-3.ensures.value c.in_ok-picked.ensures.picked k h
 
-  picked_first : WatchedRun g.V.Watch.takes heard c.args.self.now.network (c.args.self.now.world, c.args.watch.now) (picked_deliveries items c.round.inside.picks.now) (c.deliver_picked.new.self.world, c.deliver_picked.new.watch)
+  picked_first : WatchedRun g.V.Observer.takes heard c.args.self.now.network (c.args.self.now.world, c.args.watch.now) (picked_deliveries items c.args.picks.now) (c.deliver_picked.new.self.world, c.deliver_picked.new.watch)
   unfolding items
   picked_first =
-      subst (λ (ps : List Pair). WatchedRun g.V.Watch.takes heard c.args.self.now.network (c.args.self.now.world, c.args.watch.now) (picked_deliveries ps c.round.inside.picks.now) (c.deliver_picked.new.self.world, c.deliver_picked.new.watch)) c.deref-3.ensures.value
+      subst (λ (ps : List Pair). WatchedRun g.V.Observer.takes heard c.args.self.now.network (c.args.self.now.world, c.args.watch.now) (picked_deliveries ps c.args.picks.now) (c.deliver_picked.new.self.world, c.deliver_picked.new.watch)) c.deref-3.ensures.value
       c.in_ok-picked.ensures.delivered
 
 pub returns-clause-delivered : goal.returns-clause-delivered
@@ -92,13 +66,12 @@ returns-clause-delivered g c =
     let w : World × _ = (c.args.self.now.world, c.args.watch.now) in
     let w' : World × _ = (c.deliver_others.new.self.world, c.deliver_others.new.watch) in
     let mid : World × _ = (c.deliver_picked.new.self.world, c.deliver_picked.new.watch) in
-    subst (λ (qs : List Pair). OnOk c.deliver_others.result (WatchedRun g.V.Watch.takes heard net w (deliveries_of qs c.args.round.now.picks c.args.round.now.rest) w')) (items_are g c)
-    (subst (λ (a : Asked). OnOk c.deliver_others.result (WatchedRun g.V.Watch.takes heard net w (deliveries_of (items g c) a.picks a.rest) w')) c.round.view_is
-    (on_ok c.deliver_others.result _ (WatchedRun g.V.Watch.takes heard net w (deliveries_of (items g c) c.round.inside.picks.now c.round.inside.rest) w')
-    (asked_all g.V.Watch.takes net c.deliver_picked.new.self.network w mid w' c.deliver_picked.ensures.network (items g c) c.round.inside.picks.now c.round.inside.rest c.deref-5.result.now (flags_are g c)
+    subst (λ (qs : List Pair). OnOk c.deliver_others.result (WatchedRun g.V.Observer.takes heard net w (deliveries_of qs c.args.picks.now c.args.rest) w')) (items_are g c)
+    (on_ok c.deliver_others.result _ (WatchedRun g.V.Observer.takes heard net w (deliveries_of (items g c) c.args.picks.now c.args.rest) w')
+    (asked_all g.V.Observer.takes net c.deliver_picked.new.self.network w mid w' c.deliver_picked.ensures.network (items g c) c.args.picks.now c.args.rest c.deref-5.result.now (flags_are g c)
     (picked_first g c))
-    (subst (λ (ps : List Pair). OnOk c.deliver_others.result (WatchedRun g.V.Watch.takes heard c.deliver_picked.new.self.network mid (other_deliveries (λ k. get_or c.deref-5.result.now k false) ps c.round.inside.rest) w'))
-    c.deref-4.ensures.value c.deliver_others.ensures.delivered)))
+    (subst (λ (ps : List Pair). OnOk c.deliver_others.result (WatchedRun g.V.Observer.takes heard c.deliver_picked.new.self.network mid (other_deliveries (λ k. get_or c.deref-5.result.now k false) ps c.args.rest) w'))
+    c.deref-4.ensures.value c.deliver_others.ensures.delivered))
 
 pub returns-clause-stopped : goal.returns-clause-stopped
 unfolding items
@@ -107,10 +80,9 @@ returns-clause-stopped g c =
     let w : World × _ = (c.args.self.now.world, c.args.watch.now) in
     let w' : World × _ = (c.deliver_others.new.self.world, c.deliver_others.new.watch) in
     let mid : World × _ = (c.deliver_picked.new.self.world, c.deliver_picked.new.watch) in
-    subst (λ (qs : List Pair). IfErr c.deliver_others.result (λ why. HeardInPart g.V.Watch.takes g.V.Watch.fails why net w (deliveries_of qs c.args.round.now.picks c.args.round.now.rest) w')) (items_are g c)
-    (subst (λ (a : Asked). IfErr c.deliver_others.result (λ why. HeardInPart g.V.Watch.takes g.V.Watch.fails why net w (deliveries_of (items g c) a.picks a.rest) w')) c.round.view_is
-    (map_err c.deliver_others.result _ (λ why. HeardInPart g.V.Watch.takes g.V.Watch.fails why net w (deliveries_of (items g c) c.round.inside.picks.now c.round.inside.rest) w')
-    (λ why. asked_stop g.V.Watch.takes net c.deliver_picked.new.self.network w mid w' c.deliver_picked.ensures.network (items g c) c.round.inside.picks.now c.round.inside.rest c.deref-5.result.now (flags_are g c)
-    (picked_first g c) g.V.Watch.fails why)
-    (subst (λ (ps : List Pair). IfErr c.deliver_others.result (λ why. HeardInPart g.V.Watch.takes g.V.Watch.fails why c.deliver_picked.new.self.network mid (other_deliveries (λ k. get_or c.deref-5.result.now k false) ps c.round.inside.rest) w'))
-    c.deref-4.ensures.value c.deliver_others.ensures.stopped)))
+    subst (λ (qs : List Pair). IfErr c.deliver_others.result (λ why. HeardInPart g.V.Observer.takes g.V.Observer.fails why net w (deliveries_of qs c.args.picks.now c.args.rest) w')) (items_are g c)
+    (map_err c.deliver_others.result _ (λ why. HeardInPart g.V.Observer.takes g.V.Observer.fails why net w (deliveries_of (items g c) c.args.picks.now c.args.rest) w')
+    (λ why. asked_stop g.V.Observer.takes net c.deliver_picked.new.self.network w mid w' c.deliver_picked.ensures.network (items g c) c.args.picks.now c.args.rest c.deref-5.result.now (flags_are g c)
+    (picked_first g c) g.V.Observer.fails why)
+    (subst (λ (ps : List Pair). IfErr c.deliver_others.result (λ why. HeardInPart g.V.Observer.takes g.V.Observer.fails why c.deliver_picked.new.self.network mid (other_deliveries (λ k. get_or c.deref-5.result.now k false) ps c.args.rest) w'))
+    c.deref-4.ensures.value c.deliver_others.ensures.stopped))

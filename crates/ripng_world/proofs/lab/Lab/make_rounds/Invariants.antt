@@ -5,5 +5,5 @@ use Rattle.ripng_world.proofs.lab.Lab.make_rounds.Given as goal
 abbrev pub invariant-loop-number : goal.invariant-loop-number
 invariant-loop-number g l = record {
   network : l.self.network ≡ l.fn.self.network;
-  made : AreMadeTold g.V.Watch.takes l.fn.self.network (l.fn.self.world, l.fn.watch) (take l.number l.rounds) (l.self.world, l.watch);
+  made : AreMadeTold g.V.Observer.takes l.fn.self.network (l.fn.self.world, l.fn.watch) (take l.number l.rounds) (l.self.world, l.watch);
 }

@@ -1,21 +1,17 @@
-use Rattle.std.proofs.Common.{[], ◌∷◌, ap, length, subst}
 use Rattle.ripng_world.specs.Events.{event_of}
-use Rattle.ripng_world.specs.Labs.{LabValue}
-use Rattle.ripng_world.specs.World.{World}
-use Rattle.ripng_world.proofs.Watched.{failed_one, given_told, in_whole, none_yet}
+use Rattle.ripng_world.specs.Labs.{HasRun}
+use Rattle.ripng_world.proofs.LabRuns.{keeps, step_watched_on}
 use Rattle.ripng_world.proofs.lab.Lab.step_watched.Goals as goal
 
-pub returns-in-Err-clause-stopped : goal.returns-in-Err-clause-stopped
-returns-in-Err-clause-stopped g c =
-    none_yet g.V.Watch.takes g.V.Watch.fails c.args.self.now.network (event_of c.args.event.now ∷ []) (c.args.self.now.world, c.args.watch.now) (c.step.new.self.world, c.args.watch.now)
-    (ap (λ (l : LabValue). (l.world, c.args.watch.now)) c.in-Err.ensures.err)
+-- the lab goes on
+module _ (g : _) (c : goal.After-step_watched g) where
+  has_run : HasRun c.step_watched.new.self.network c.step_watched.new.self.world
+  has_run =
+      step_watched_on g.V.Observer.takes g.V.Observer.fails c.self.inside.running c.step_watched.new.self (event_of c.args.event.now) c.args.watch.now c.step_watched.new.watch c.step_watched.result
+      c.step_watched.ensures.happens c.step_watched.ensures.stopped c.step_watched.ensures.network c.self.invariant
 
-pub returns-in-Err-happened-clause-stopped : goal.returns-in-Err-happened-clause-stopped
-returns-in-Err-happened-clause-stopped g c =
-    let e = event_of c.args.event.now in
-    let h = c.in-Ok.ensures.happens in
-    let before : World × _ = (c.args.self.now.world, c.args.watch.now) in
-    let after : World × _ = (c.step.new.self.world, c.happened.new.self) in
-    in_whole g.V.Watch.takes g.V.Watch.fails 1 c.args.self.now.network (e ∷ []) before after
-    (failed_one g.V.Watch.takes g.V.Watch.fails c.args.self.now.network e h.0 before after h.1
-    (given_told g.V.Watch.fails c.args.self.now c.step.new.self e c.in-Ok.answer _ c.args.watch.now c.happened.new.self h c.in-Ok.ensures.network (ap length c.sent-first.ensures.value) (subst (λ (l : LabValue). g.V.Watch.fails c.args.watch.now (record { lab = l; event = e; answer = c.in-Ok.answer; first = length c.sent-first.result.now }) c.happened.new.self) c.running.ensures c.in-Err-happened.ensures.fails)))
+pub invariant_of-self : goal.invariant_of-self
+invariant_of-self g c = has_run g c
+
+pub returns-clause-keeps : goal.returns-clause-keeps
+returns-clause-keeps g c = keeps _ (has_run g c)

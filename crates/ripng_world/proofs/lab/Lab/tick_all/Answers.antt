@@ -19,7 +19,7 @@ returns-then-not-is_due-clause-refused g c =
     let t = c.tick-item.result in
     let d = c.is_due.ensures in
     record {
-      before = watched_ticks g.V.Watch.takes c.args.self.now.network (take r (ticks_of c.args.round.now.ticks)) (c.args.self.now.world, c.args.watch.now) (c.loop-router.self.world, c.loop-router.watch) c.loop-router.invariant.ticked;
+      before = watched_ticks g.V.Observer.takes c.args.self.now.network (take r (ticks_of c.args.round.now.ticks)) (c.args.self.now.world, c.args.watch.now) (c.loop-router.self.world, c.loop-router.watch) c.loop-router.invariant.ticked;
       tick = t;
       tick_is = ap (λ (a : Asked). slice_get a.ticks r) (sym c.round.view_is) ∙ slice_get-get_or c.round.inside.ticks.now r t c.loop-router-test.true ∙ ap Some (sym c.tick-item.is);
       state = d.0;
@@ -29,7 +29,7 @@ returns-then-not-is_due-clause-refused g c =
 
 pub returns-then-not-is_due-clause-told : goal.returns-then-not-is_due-clause-told
 returns-then-not-is_due-clause-told g c =
-    some_ticks g.V.Watch.takes g.V.Watch.fails c.args.self.now.network (ticks_of c.args.round.now.ticks) c.loop-router.router (c.args.self.now.world, c.args.watch.now) (c.loop-router.self.world, c.loop-router.watch)
+    some_ticks g.V.Observer.takes g.V.Observer.fails c.args.self.now.network (ticks_of c.args.round.now.ticks) c.loop-router.router (c.args.self.now.world, c.args.watch.now) (c.loop-router.self.world, c.loop-router.watch)
     c.loop-router.invariant.ticked
 
 -- one more tick
@@ -41,7 +41,7 @@ at_next a b r t same here is = subst (λ (x : Asked). slice_get (ticks_of x.tick
 
 pub returns-in-Err-clause-told : goal.returns-in-Err-clause-told
 returns-in-Err-clause-told g c =
-    let stop = ticks_stop g.V.Watch.takes g.V.Watch.fails c.args.self.now.network c.loop-router.self.network c.args.round.now c.loop-router.router
+    let stop = ticks_stop g.V.Observer.takes g.V.Observer.fails c.args.self.now.network c.loop-router.self.network c.args.round.now c.loop-router.router
     (Tick c.loop-router.router c.tick-item.result.0 c.tick-item.result.1) (c.args.self.now.world, c.args.watch.now) (c.loop-router.self.world, c.loop-router.watch) (c.step_watched.new.self.world, c.step_watched.new.watch)
     (next _ c.args.round.now c.loop-router.router c.tick-item.result c.round.view_is c.loop-router-test.true c.tick-item.is) c.loop-router.invariant.ticked c.loop-router.invariant.network (failures c.in-Err.stopped) c.in-Err.ensures.stopped in
     rw (c.refused_as.ensures, as_many_failed c.in-Err.stopped (OutOfMemory c.args.number)) stop
@@ -52,11 +52,11 @@ returns-in-Err-clause-number g c = rw (c.refused_as.ensures) (same_round c.args.
 pub returns-in-Err-clause-refused : goal.returns-in-Err-clause-refused
 returns-in-Err-clause-refused g c =
     let d = c.is_due.ensures in
-    let stops = ticks_end g.V.Watch.takes g.V.Watch.fails c.args.self.now.network c.loop-router.self.network c.args.round.now c.loop-router.router
+    let stops = ticks_end g.V.Observer.takes g.V.Observer.fails c.args.self.now.network c.loop-router.self.network c.args.round.now c.loop-router.router
     (Tick c.loop-router.router c.tick-item.result.0 c.tick-item.result.1) (c.args.self.now.world, c.args.watch.now) (c.loop-router.self.world, c.loop-router.watch) (c.step_watched.new.self.world, c.step_watched.new.watch)
     (next _ c.args.round.now c.loop-router.router c.tick-item.result c.round.view_is c.loop-router-test.true c.tick-item.is) c.loop-router.invariant.ticked c.loop-router.invariant.network c.args.number c.in-Err.stopped
     (at_next _ c.args.round.now c.loop-router.router c.tick-item.result c.round.view_is c.loop-router-test.true c.tick-item.is) c.in-Err.ensures.stopped
-    (both_still c.in-Err.stopped c.loop-router.self c.step_watched.new.self c.loop-router.watch c.step_watched.new.watch c.in-Err.ensures.err c.in-Err.ensures.untold)
+    (both_still c.in-Err.stopped c.loop-router.self c.step_watched.new.self c.loop-router.watch c.step_watched.new.watch c.in-Err.ensures.ends.unchanged c.in-Err.ensures.untold)
     (d.0, d.1, d.2.0 c.if-not-is_due.false) in
     rw (c.refused_as.ensures) stops
 
@@ -68,14 +68,14 @@ loop-router-preserved g c =
     let h = c.in_default.ensures.happens in
     record {
       network = c.in_default.ensures.network ∙ c.loop-router.invariant.network;
-      ticked = told_tick g.V.Watch.takes g.V.Watch.fails c.args.self.now.network c.loop-router.self.network c.args.round.now r (Tick r t.0 t.1) (c.args.self.now.world, c.args.watch.now)
+      ticked = told_tick g.V.Observer.takes g.V.Observer.fails c.args.self.now.network c.loop-router.self.network c.args.round.now r (Tick r t.0 t.1) (c.args.self.now.world, c.args.watch.now)
           (c.loop-router.self.world, c.loop-router.watch) (c.step_watched.new.self.world, c.step_watched.new.watch) (next _ c.args.round.now c.loop-router.router c.tick-item.result c.round.view_is c.loop-router-test.true c.tick-item.is) c.loop-router.invariant.ticked c.loop-router.invariant.network h.0 (d.0, d.1, d.2.0 c.if-not-is_due.false) h.1
-          (given_told g.V.Watch.takes c.loop-router.self c.step_watched.new.self (Tick r t.0 t.1) _ _ c.loop-router.watch c.step_watched.new.watch h c.in_default.ensures.network refl c.in_default.ensures.told);
+          (given_told g.V.Observer.takes c.loop-router.self c.step_watched.new.self (Tick r t.0 t.1) _ _ c.loop-router.watch c.step_watched.new.watch h c.in_default.ensures.network refl c.in_default.ensures.told);
     }
 
 pub returns-clause-ticked : goal.returns-clause-ticked
 returns-clause-ticked g c =
     let ticks = c.args.round.now.ticks in
     let all : length (ticks_of ticks) ≡ length ticks = length-map (enumerate_from 0 ticks) _ ∙ length-enumerate_from 0 ticks in
-    subst (λ (es : List Event). WatchedRun g.V.Watch.takes due c.args.self.now.network (c.args.self.now.world, c.args.watch.now) es (c.loop-router.self.world, c.loop-router.watch))
+    subst (λ (es : List Event). WatchedRun g.V.Observer.takes due c.args.self.now.network (c.args.self.now.world, c.args.watch.now) es (c.loop-router.self.world, c.loop-router.watch))
     (take_all c.loop-router.router (ticks_of ticks) (omega (arith, c.loop-router-test.false, all, ap (λ (a : Asked). length a.ticks) c.round.view_is))) c.loop-router.invariant.ticked

@@ -6,5 +6,5 @@ use Rattle.ripng_world.proofs.lab.Lab.tick_all.Given as goal
 abbrev pub invariant-loop-router : goal.invariant-loop-router
 invariant-loop-router g l = record {
   network : l.self.network ≡ l.fn.self.network;
-  ticked : WatchedRun g.V.Watch.takes due l.fn.self.network (l.fn.self.world, l.fn.watch) (take l.router (ticks_of l.round.ticks)) (l.self.world, l.watch);
+  ticked : WatchedRun g.V.Observer.takes due l.fn.self.network (l.fn.self.world, l.fn.watch) (take l.router (ticks_of l.round.ticks)) (l.self.world, l.watch);
 }

@@ -1,4 +1,5 @@
-use Rattle.std.proofs.Common.{◌≡◌, ℕ, List, [], ◌∷◌, ◌++◌, map, take, drop, length, sym, subst, ◌∙◌, ap, ap₂}
+use Rattle.std.proofs.Common.{◌≡◌, ℕ, List, [], ◌∷◌, ◌++◌, map, take, drop, length, refl, sym, subst, ◌∙◌, ap, ap₂}
+use Rattle.router_core.specs.declared.reconfiguring.Change.{Change}
 use Rattle.ripng_world.specs.Events.{event_of}
 use Rattle.ripng_world.specs.Labs.{IsRefusal, event_fault, lab_of}
 use Rattle.ripng_world.specs.Rounds.{router_of}
@@ -6,7 +7,7 @@ use Rattle.ripng_world.specs.Stations.{StationValue, MoveStations, network_of, w
 use Rattle.ripng_world.specs.World.{Happens, reconfigurations_in, sent_by}
 use Rattle.ripng_world.specs.declared.sent.Sent.{Sent}
 use Rattle.ripng_world.proofs.LabRuns.{stepped, written_back}
-use Rattle.ripng_world.proofs.StationMoves.{err_is, happened_passes, refused_first}
+use Rattle.ripng_world.proofs.StationMoves.{happened_passes, refused_first, step_refused}
 use Rattle.ripng_world.proofs.running.Running.step.Goals as goal
 
 -- what the move left
@@ -40,20 +41,21 @@ returns-clause-happens g c =
       c.handed_out.ensures,
     )
 
-pub returns-clause-passes : goal.returns-clause-passes
-returns-clause-passes g c =
-    let reconfigurations = c.self.inside.reconfigurations.items in
-    let none = sym (c.in_ok-check.ensures reconfigurations
-    ∙ ap₂ (λ (ss : List StationValue) (ds : List Sent). event_fault (lab_of ss ds reconfigurations) (event_of c.args.event.now)) c.deref.ensures.value c.deref-2.ensures.value) in
-    rw (← c.self.view_is)
-    (happened_passes (lab_of c.self.inside.stations.items c.self.inside.sent.items c.self.inside.reconfigurations.items) (event_of c.args.event.now) c.in_ok-answer.answer
-    (world_of c.happen.new.stations c.file.new.sent.items c.happen.new.reconfigurations.items) none (happens g c))
-
 pub returns-clause-network : goal.returns-clause-network
 returns-clause-network g c = rw (← c.self.view_is, stations g c) (moves g c).network
 
-pub returns-clause-reconfigurations : goal.returns-clause-reconfigurations
-returns-clause-reconfigurations g c = rw (← c.self.view_is) (done g c)
+pub returns-clause-ends : goal.returns-clause-ends
+returns-clause-ends g c =
+    let reconfigurations = c.self.inside.reconfigurations.items in
+    let none = sym (c.in_ok-check.ensures reconfigurations
+    ∙ ap₂ (λ (ss : List StationValue) (ds : List Sent). event_fault (lab_of ss ds reconfigurations) (event_of c.args.event.now)) c.deref.ensures.value c.deref-2.ensures.value) in
+    rw (← c.self.view_is) (record {
+      reconfigurations = done g c;
+      passes = happened_passes (lab_of c.self.inside.stations.items c.self.inside.sent.items reconfigurations) (event_of c.args.event.now) c.in_ok-answer.answer
+          (world_of c.happen.new.stations c.file.new.sent.items c.happen.new.reconfigurations.items) none (happens g c);
+      refused = tt;
+      unchanged = tt;
+    })
 
 -- what the parts ask, and why the event is refused
 pub happen-requires : goal.happen-requires
@@ -67,19 +69,22 @@ happen-requires g c =
 pub file-requires : goal.file-requires
 file-requires g c = c.in_ok-answer.ensures.room
 
-pub returns-in_err-check-clause-refused : goal.returns-in_err-check-clause-refused
-returns-in_err-check-clause-refused g c =
+pub returns-in_err-check-clause-ends : goal.returns-in_err-check-clause-ends
+returns-in_err-check-clause-ends g c =
     let reconfigurations = c.self.inside.reconfigurations.items in
     let lab = lab_of c.self.inside.stations.items c.self.inside.sent.items reconfigurations in
     let e = event_of c.args.event.now in
     let fault = sym (c.in_err-check.ensures reconfigurations ∙ ap₂ (λ (ss : List StationValue) (ds : List Sent). event_fault (lab_of ss ds reconfigurations) e) c.deref.ensures.value c.deref-2.ensures.value) in
-    rw (← c.self.view_is) (err_is c.from_residual.result _ _ (λ why is. subst (IsRefusal lab e) (sym is) (refused_first lab e c.in_err-check.field-0.0 fault)) c.from_residual.ensures.1)
+    rw (← c.self.view_is) (step_refused lab lab e c.from_residual.result c.in_err-check.field-0.0 c.from_residual.ensures.1 (refused_first lab e c.in_err-check.field-0.0 fault) refl)
 
-pub returns-in_err-answer-clause-refused : goal.returns-in_err-answer-clause-refused
-returns-in_err-answer-clause-refused g c =
+pub returns-in_err-answer-clause-ends : goal.returns-in_err-answer-clause-ends
+returns-in_err-answer-clause-ends g c =
     let sent = c.self.inside.sent.items in
     let reconfigurations = c.self.inside.reconfigurations.items in
     let e = event_of c.args.event.now in
     let refused = subst (λ (ss : List StationValue). IsRefusal (lab_of ss sent reconfigurations) e c.in_err-answer.field-0.0) c.deref_mut.ensures.value c.in_err-answer.ensures.refused in
+    let back = written_back c.self.inside.stations.len c.happen.new.stations c.self.inside.stations.items (c.happen.auto.stations ∙ ap length c.deref_mut.ensures.value) c.self.inside.stations.ok.0 in
+    let same = ap (λ (ss : List StationValue). lab_of ss c.happen.new.sent.items c.happen.new.reconfigurations.items) (back ∙ c.in_err-answer.ensures.err ∙ c.deref_mut.ensures.value)
+    ∙ ap₂ (λ (ds : List Sent) (cs : List (ℕ × Change)). lab_of c.self.inside.stations.items ds cs) c.happen.ensures.sent c.in_err-answer.ensures.kept in
     rw (← c.self.view_is)
-    (err_is c.from_residual-in_err-answer.result _ _ (λ why is. subst (IsRefusal (lab_of c.self.inside.stations.items sent reconfigurations) e) (sym is) refused) c.from_residual-in_err-answer.ensures.1)
+    (step_refused (lab_of c.self.inside.stations.items sent reconfigurations) _ e c.from_residual-in_err-answer.result c.in_err-answer.field-0.0 c.from_residual-in_err-answer.ensures.1 refused same)

@@ -7,8 +7,8 @@ use Rattle.ripng_world.proofs.running.Running.step_watched.Goals as goal
 
 pub returns-in-Err-clause-stopped : goal.returns-in-Err-clause-stopped
 returns-in-Err-clause-stopped g c =
-    none_yet g.V.Watch.takes g.V.Watch.fails c.args.self.now.network (event_of c.args.event.now ∷ []) (c.args.self.now.world, c.args.watch.now) (c.step.new.self.world, c.args.watch.now)
-    (ap (λ (l : LabValue). (l.world, c.args.watch.now)) c.in-Err.ensures.err)
+    none_yet g.V.Observer.takes g.V.Observer.fails c.args.self.now.network (event_of c.args.event.now ∷ []) (c.args.self.now.world, c.args.watch.now) (c.step.new.self.world, c.args.watch.now)
+    (ap (λ (l : LabValue). (l.world, c.args.watch.now)) c.in-Err.ensures.ends.unchanged)
 
 pub returns-in-Err-happened-clause-stopped : goal.returns-in-Err-happened-clause-stopped
 returns-in-Err-happened-clause-stopped g c =
@@ -16,6 +16,6 @@ returns-in-Err-happened-clause-stopped g c =
     let h = c.in-Ok.ensures.happens in
     let before : World × _ = (c.args.self.now.world, c.args.watch.now) in
     let after : World × _ = (c.step.new.self.world, c.happened.new.self) in
-    in_whole g.V.Watch.takes g.V.Watch.fails 1 c.args.self.now.network (e ∷ []) before after
-    (failed_one g.V.Watch.takes g.V.Watch.fails c.args.self.now.network e h.0 before after h.1
-    (given_told g.V.Watch.fails c.args.self.now c.step.new.self e c.in-Ok.answer _ c.args.watch.now c.happened.new.self h c.in-Ok.ensures.network (ap length c.sent-first.ensures) c.in-Err-happened.ensures.fails))
+    in_whole g.V.Observer.takes g.V.Observer.fails 1 c.args.self.now.network (e ∷ []) before after
+    (failed_one g.V.Observer.takes g.V.Observer.fails c.args.self.now.network e h.0 before after h.1
+    (given_told g.V.Observer.fails c.args.self.now c.step.new.self e c.in-Ok.answer _ c.args.watch.now c.happened.new.self h c.in-Ok.ensures.network (ap length c.sent-first.ensures) c.in-Err-happened.ensures.fails))

@@ -3,4 +3,4 @@ use Rattle.ripngd_udp.specs.Counting.{Grows}
 use Rattle.ripngd_udp.proofs.sockets.Sockets.recv.Given as goal
 
 abbrev pub invariant-loop : goal.invariant-loop
-invariant-loop g l = (l.self.neighborhoods ≡ l.initial.self.neighborhoods) × Grows l.initial.self.counts l.self.counts
+invariant-loop g l = (l.self.peer_tables ≡ l.initial.self.peer_tables) × Grows l.initial.self.counts l.self.counts

@@ -47,7 +47,7 @@ returns-then-eq-clause-put t c =
     let k = c.args.leaf.value.0 in
     let v = c.args.leaf.value.1 in
     let e = c.deref.ensures in
-    let whole : fork_entries f.own f.low f.high ≡ linked c.args.link = c.prefix.view_is ∙ c.replace.ensures.value ∙ c.deref_mut.ensures.value ∙ sym (ap linked c.in-Fork.is) in
+    let whole : fork_entries f.own f.low f.high ≡ linked c.args.node = c.prefix.view_is ∙ c.replace.ensures.value ∙ c.deref_mut.ensures.value ∙ sym (ap linked c.in-Fork.is) in
     c.closed.ensures.kept ∙ put_own f.prefix f.own (linked f.low) (linked f.high) c.prefix.invariant.parts k v (sym (ap (λ (x : Entry). x.0) e) ∙ same_prefix f.prefix c.deref.result.now.0 c.if-eq.ensures) ∙ ap (put prefix_cmp k v) whole
 
 pub returns-then-is_before_middle-clause-put : goal.returns-then-is_before_middle-clause-put
@@ -56,7 +56,7 @@ returns-then-is_before_middle-clause-put t c =
     let k = c.args.leaf.value.0 in
     let v = c.args.leaf.value.1 in
     let e = c.deref.ensures in
-    let whole : fork_entries f.own f.low f.high ≡ linked c.args.link = c.prefix.view_is ∙ c.replace.ensures.value ∙ c.deref_mut.ensures.value ∙ sym (ap linked c.in-Fork.is) in
+    let whole : fork_entries f.own f.low f.high ≡ linked c.args.node = c.prefix.view_is ∙ c.replace.ensures.value ∙ c.deref_mut.ensures.value ∙ sym (ap linked c.in-Fork.is) in
     c.closed-then-is_before_middle.ensures.kept ∙ ap (λ l. owned f.own ++ (l ++ linked f.high)) c.add.ensures.put ∙ put_low f.prefix (owned f.own) (linked f.low) (linked f.high) c.prefix.invariant.parts k v (under_low f.prefix k (subst (λ (x : Entry). IsUnder f.prefix x.0) e (c.is_above.ensures.0 c.if-not-is_above.false)) (subst (λ (x : Entry). x.0.addr < middle f.prefix) e (c.is_before_middle.ensures.0 c.if-is_before_middle.true))) ∙ ap (put prefix_cmp k v) whole
 
 pub returns-else-is_before_middle-clause-put : goal.returns-else-is_before_middle-clause-put
@@ -65,5 +65,5 @@ returns-else-is_before_middle-clause-put t c =
     let k = c.args.leaf.value.0 in
     let v = c.args.leaf.value.1 in
     let e = c.deref.ensures in
-    let whole : fork_entries f.own f.low f.high ≡ linked c.args.link = c.prefix.view_is ∙ c.replace.ensures.value ∙ c.deref_mut.ensures.value ∙ sym (ap linked c.in-Fork.is) in
+    let whole : fork_entries f.own f.low f.high ≡ linked c.args.node = c.prefix.view_is ∙ c.replace.ensures.value ∙ c.deref_mut.ensures.value ∙ sym (ap linked c.in-Fork.is) in
     c.closed-else-is_before_middle.ensures.kept ∙ ap (λ l. owned f.own ++ (linked f.low ++ l)) c.add-else-is_before_middle.ensures.put ∙ put_high f.prefix (owned f.own) (linked f.low) (linked f.high) c.prefix.invariant.parts k v (under_high f.prefix k (subst (λ (x : Entry). IsUnder f.prefix x.0) e (c.is_above.ensures.0 c.if-not-is_above.false)) (subst (λ (x : Entry). middle f.prefix ≤ x.0.addr) e (not_lower c.is_before_middle.result _ _ c.if-is_before_middle.false c.is_before_middle.ensures.1))) ∙ ap (put prefix_cmp k v) whole

@@ -7,7 +7,7 @@ use Rattle.route_table.proofs.trie_routes.TrieRoutesRouteStore.unmark.Goals as g
 pub invariant_of-self : goal.invariant_of-self
 invariant_of-self c =
     let n = c.self.inside in
-    unmarked_trie n.count n.root c.self.invariant c.args.self.now c.self.view_is c.unmark.new.link c.unmark.ensures.some c.unmark.ensures.unmarked
+    unmarked_trie n.count n.root c.self.invariant c.args.self.now c.self.view_is c.unmark.new.node c.unmark.ensures.some c.unmark.ensures.unmarked
 
 pub returns : goal.returns
 returns c =

@@ -7,7 +7,7 @@ use Rattle.route_table.proofs.trie_routes.TrieRoutesRouteStore.update.Goals as g
 pub invariant_of-self : goal.invariant_of-self
 invariant_of-self g c =
     let n = c.self.inside in
-    updated n.count n.root c.self.invariant c.args.self.now c.self.view_is c.args.prefix.now c.update.new.link c.update.ensures.some c.update.new.made c.update.ensures.before c.update.ensures.after
+    updated n.count n.root c.self.invariant c.args.self.now c.self.view_is c.args.prefix.now c.update.new.node c.update.ensures.some c.update.new.made c.update.ensures.before c.update.ensures.after
 
 pub returns-clause-before : goal.returns-clause-before
 returns-clause-before g c =
@@ -17,4 +17,4 @@ returns-clause-before g c =
 pub returns-clause-after : goal.returns-clause-after
 returns-clause-after g c =
     let n = c.self.inside in
-    table_updated n.count n.root c.self.invariant c.args.self.now c.self.view_is c.args.prefix.now c.update.new.link c.update.ensures.some c.update.new.made c.update.ensures.after
+    table_updated n.count n.root c.self.invariant c.args.self.now c.self.view_is c.args.prefix.now c.update.new.node c.update.ensures.some c.update.new.made c.update.ensures.after

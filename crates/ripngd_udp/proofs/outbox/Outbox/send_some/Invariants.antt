@@ -1,6 +1,0 @@
-use Rattle.std.proofs.Common.{◌≡◌, drop}
-use Rattle.ripngd_udp.proofs.outbox.Outbox.send_some.Given as goal
-
--- as many as so far are no longer there
-abbrev pub invariant-loop : goal.invariant-loop
-invariant-loop l = (l.self.waiting.items ≡ drop l.counter l.initial.self.waiting.items) × (l.self.pace ≡ l.initial.self.pace)
