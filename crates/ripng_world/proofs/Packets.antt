@@ -55,7 +55,7 @@ interface_positive net usable router iface here is =
     subst (λ (o : Option NetInterface). 1 ≤ unwrap_or (option_map (λ i. i.interface.cost) o) infinity) (sym is) (usable.costs router iface here is).0
 
 -- a router with an interface is one of the network
-node_of : (net : Network) (router iface : ℕ) (here : NetInterface) → interface_at net router iface ≡ Some here → (node : Node) × (slice_get net router ≡ Some node)
+pub node_of : (net : Network) (router iface : ℕ) (here : NetInterface) → interface_at net router iface ≡ Some here → (node : Node) × (slice_get net router ≡ Some node)
 node_of net router iface here is = by_value (slice_get net router) refl
   where
     by_value : (o : Option Node) → slice_get net router ≡ o → (node : Node) × (slice_get net router ≡ Some node)
@@ -68,7 +68,7 @@ node_from_walk net router p metric tag (h ∷ walk) reach = let l = reach.is_wal
 
 -- ---- distinct numbers below a bound are no more than that
 
-few_below : (bound : ℕ) (xs : List ℕ) → AllByRecursion (λ x. x < bound) xs → IsDistinct nat_eq xs → length xs ≤ bound
+pub few_below : (bound : ℕ) (xs : List ℕ) → AllByRecursion (λ x. x < bound) xs → IsDistinct nat_eq xs → length xs ≤ bound
 few_below bound xs all distinct =
     subst (λ n. length xs ≤ n) (length-range_with_len 0 bound)
     (length-le_from_is_member nat_eq_equiv xs (range_with_len 0 bound) distinct (λ q is. let a = to_below bound q (low xs all q is) in any_passes_from_place (nat_eq q) (range_with_len 0 bound) a.0 q a.1 (eq-eqb q q refl)))

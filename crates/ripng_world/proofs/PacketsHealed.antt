@@ -88,33 +88,33 @@ module _ (net : Network) (w : World) (is_net : IsNetwork net) (there : AreThere 
 
 -- ---- there is one way at most
 
-module _ (net : Network) (distinct : HasDistinctAddresses net) (fibs : Forwardings) (addr : ℕ) where
-  one_hop : (router : ℕ) (h k : FibHop) → ForwardsBy fibs addr router h → ForwardsBy fibs addr router k → h ≡ k
-  one_hop router h k a b =
-      one_longest b.table addr h k (subst (λ (t : Forwarding). IsLongestMatch t addr h) (Some-same a.table b.table (sym a.table_is ∙ b.table_is)) a.longest) b.longest
+pub one_hop : (fibs : Forwardings) (addr router : ℕ) (h k : FibHop) → ForwardsBy fibs addr router h → ForwardsBy fibs addr router k → h ≡ k
+one_hop fibs addr router h k a b =
+    one_longest b.table addr h k (subst (λ (t : Forwarding). IsLongestMatch t addr h) (Some-same a.table b.table (sym a.table_is ∙ b.table_is)) a.longest) b.longest
 
-  one_next : (router : ℕ) (h k : Hop) → HandsOn net fibs addr router h → HandsOn net fibs addr router k → h ≡ k
+pub same_iface : (i h j k : ℕ) → Via i h ≡ Via j k → i ≡ j
+same_iface i h j k e = cc
+
+pub same_next_hop : (i h j k : ℕ) → Via i h ≡ Via j k → h ≡ k
+same_next_hop i h j k e = cc
+
+pub not_both : (iface next_hop : ℕ) → Via iface next_hop ≡ Direct → ⊥
+not_both iface next_hop e = cc
+
+module _ (net : Network) (distinct : HasDistinctAddresses net) (fibs : Forwardings) (addr : ℕ) where
+  pub one_next : (router : ℕ) (h k : Hop) → HandsOn net fibs addr router h → HandsOn net fibs addr router k → h ≡ k
   one_next router h k x y =
-      let e : Via h.iface x.next_hop ≡ Via k.iface y.next_hop = one_hop router _ _ x.by y.by in
-      let i : h.iface ≡ k.iface = first h.iface x.next_hop k.iface y.next_hop e in
+      let e : Via h.iface x.next_hop ≡ Via k.iface y.next_hop = one_hop fibs addr router _ _ x.by y.by in
+      let i : h.iface ≡ k.iface = same_iface h.iface x.next_hop k.iface y.next_hop e in
       let s = one_sender net distinct router k.iface y.next_hop h.router h.router_iface k.router k.router_iface
       (subst (λ (n : ℕ). AreLinked net router n h.router h.router_iface) i x.is_hop.1) y.is_hop.1
-      (x.address ∙ ap (λ (n : ℕ). Some n) (second h.iface x.next_hop k.iface y.next_hop e)) y.address in
+      (x.address ∙ ap (λ (n : ℕ). Some n) (same_next_hop h.iface x.next_hop k.iface y.next_hop e)) y.address in
       λ t. record { iface = i t; router = s.0 t; router_iface = s.1 t }
-    where
-      first : (i h j k : ℕ) → Via i h ≡ Via j k → i ≡ j
-      first i h j k e = cc
-
-      second : (i h j k : ℕ) → Via i h ≡ Via j k → h ≡ k
-      second i h j k e = cc
-
-  not_both : (iface next_hop : ℕ) → Via iface next_hop ≡ Direct → ⊥
-  not_both iface next_hop e = cc
 
   pub one_way : (router : ℕ) (way other : List Hop) → ArriveBy net fibs addr router way → ArriveBy net fibs addr router other → way ≡ other
   one_way router [] [] a b = refl
-  one_way router [] (y ∷ other) a b = absurd (not_both y.iface b.0.next_hop (one_hop router _ _ b.0.by a))
-  one_way router (x ∷ way) [] a b = absurd (not_both x.iface a.0.next_hop (one_hop router _ _ a.0.by b))
+  one_way router [] (y ∷ other) a b = absurd (not_both y.iface b.0.next_hop (one_hop fibs addr router _ _ b.0.by a))
+  one_way router (x ∷ way) [] a b = absurd (not_both x.iface a.0.next_hop (one_hop fibs addr router _ _ a.0.by b))
   one_way router (x ∷ way) (y ∷ other) a b =
       let e : x ≡ y = one_next router x y a.0 b.0 in
       ap₂ (λ (n : Hop) (ns : List Hop). n ∷ ns) e (one_way y.router way other (subst (λ (n : Hop). ArriveBy net fibs addr n.router way) e a.1) b.1)

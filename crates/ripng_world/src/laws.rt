@@ -1,9 +1,10 @@
 //! Laws of networks. Each is the contract of an empty function: it follows from the definitions alone.
 
-ghost use Rattle.std.specs.Prelude.{◌≡◌, ℕ, ◌<◌, ◌≤◌, List, [], ◌∷◌, ◌++◌, length, Some, slice_get};
-ghost use Rattle.std.specs.List.{AllByRecursion};
+ghost use Rattle.std.specs.Prelude.{◌≡◌, ℕ, ◌<◌, ◌≤◌, nat_eq, List, [], ◌∷◌, ◌++◌, length, Some, slice_get};
+ghost use Rattle.std.specs.List.{AllByRecursion, IsDistinct};
 ghost use Rattle.std.specs.FinMap as map_of;
 ghost use Rattle.prefix6.specs.Prefix.{Prefix6};
+ghost use Rattle.fib.specs.declared.change.Hop.{Hop as FibHop};
 ghost use Rattle.route_table.specs.Route.{RouteValue, infinity};
 ghost use Rattle.route_table.specs.Table.{Table};
 ghost use Rattle.ripng_wire.specs.Layout.{Spells};
@@ -18,7 +19,9 @@ ghost use Rattle.router_core.specs.Reconfiguring.{IsNamed, reconfigured_table};
 ghost use Rattle.router_core.specs.declared.answer.Answer.{Answer};
 ghost use Rattle.router_core.specs.declared.reconfiguring.Change.{Change};
 ghost use Rattle.ripng_world.specs.Network.{Network, HasDistinctAddresses, IsNetwork, OwnsPrefixes};
-ghost use Rattle.ripng_world.specs.Packets.{Forwardings, ArriveBy, AreThere, PacketsArrive};
+ghost use Rattle.ripng_world.specs.Packets.{Forwardings, ForwardsBy, ArriveBy, AreThere, PacketsArrive, forwardings_of, routers_of};
+ghost use Rattle.ripng_world.specs.Path.{IsPath, PathValue};
+ghost use Rattle.ripng_world.specs.declared.path.PathEnd.TheVariants.{Delivered};
 ghost use Rattle.ripng_world.specs.Walks.{Hop, IsWalk, BeginsAs, Reaches, cost, IsTableBacked, IsLeast};
 ghost use Rattle.ripng_world.specs.Past.{Past, ReachesSince, IsTableBackedSince, IsLeastSince};
 ghost use Rattle.ripng_world.specs.Convergence.{IsNeverQuiet, FitsTables, AreConverged};
@@ -153,6 +156,21 @@ pub fn packets_arrive()
         → IsNetwork net → IsNeverQuiet net → IsCold net moments cold → WorldRun net cold events w → FitsTablesSince (past_of net w)
         → SynchronousRounds net w rounds end → AreWithinGarbageTime rounds → 26 ≤ length rounds
         → PacketsArrive (network_now (past_of net end)) end }
+{}
+
+/// Where no two interfaces of a link have one address, the way of packets for an address from a router is one, and so is its end.
+pub fn path_is_one()
+    ensures { (net : Network) (fibs : Forwardings) (addr router : ℕ) (path other : PathValue) → HasDistinctAddresses net
+        → IsPath net fibs addr router path → IsPath net fibs addr router other → path ≡ other }
+{}
+
+/// Where packets arrive, as in a network that has healed, their way from every router that forwards them ends at an owner. It
+/// passes no router twice.
+pub fn path_arrives()
+    ensures delivered { (net : Network) (w : World) (addr router : ℕ) (hop : FibHop) (path : PathValue) → HasDistinctAddresses net → PacketsArrive net w
+        → ForwardsBy (forwardings_of w) addr router hop → IsPath net (forwardings_of w) addr router path → path.end ≡ Delivered }
+    ensures once { (net : Network) (w : World) (addr router : ℕ) (hop : FibHop) (path : PathValue) → HasDistinctAddresses net → PacketsArrive net w
+        → ForwardsBy (forwardings_of w) addr router hop → IsPath net (forwardings_of w) addr router path → IsDistinct nat_eq (routers_of router path.hops) }
 {}
 
 /// Synchronous rounds are a run of exactly their events.

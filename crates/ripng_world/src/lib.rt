@@ -17,8 +17,8 @@
 //! [`Running`] is for routers that receive forged Responses: nothing of this holds of them, only what each step does.
 //!
 //! Read the definitions in `specs/` in this order: Network, Walks, World (states and events), Past (costs and owners since the
-//! start), Labs (what a call keeps, and why it refuses); then Rounds, Healing and Packets. Begin in the code with `lab.rt`: a step
-//! is refused by `refusing.rt`, or done by `running.rt`, `moving.rt` and `station.rt`.
+//! start), Labs (what a call keeps, and why it refuses); then Rounds, Healing, Packets and Path. Begin in the code with `lab.rt`: a step
+//! is refused by `refusing.rt`, or done by `running.rt`, `moving.rt` and `station.rt`. Where packets go is in `path.rt`.
 #![tactic(auto)]
 
 mod event;
@@ -27,6 +27,7 @@ mod laws;
 mod moving;
 mod network;
 mod pairs;
+mod path;
 mod refusing;
 mod rounds;
 mod running;
@@ -39,9 +40,11 @@ pub use lab::Lab;
 pub use laws::{
     converges_in_rounds, generalises_walks, heals_in_rounds, invents_no_distance,
     invents_no_distance_unchanged, keeps_routes_backed, names_one_gateway, packets_arrive,
-    rounds_are_run, rounds_go_on, runs_go_on, shutdown_tells_losses, tells_only_walks,
+    path_arrives, path_is_one, rounds_are_run, rounds_go_on, runs_go_on, shutdown_tells_losses,
+    tells_only_walks,
 };
 pub use network::{NetConfig, NetInterface, NetRefused, Node, ROUTER_LIMIT};
+pub use path::{Path, PathEnd, PathHop};
 pub use rounds::{Round, RoundsRefused};
 pub use running::Running;
 pub use sent::Sent;
