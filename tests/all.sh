@@ -15,7 +15,7 @@ trap 'rm -rf "$folder"' EXIT
 
 # The longest first. What stands behind a colon is given to the suite, too.
 suites="links.sh page.py:chromium page.py:firefox lab_file.py page.py:modules sending.py neighbors.py control.py sockets.py watching.py
-growth.py growth_of_calls.py mutated.py cases.py scripts.py hints.py"
+growth.py growth_of_calls.py mutated.py cases.py scripts.py paths.py hints.py"
 
 # `arguments SUITE`: which of the two programs a suite is given, and its word.
 arguments() {

@@ -12,7 +12,7 @@ pub fn lab<W: Write>(alloc: Global, script: &[u8], out: &mut W) -> Result<bool, 
     Ok(ripngd_lab::lab(alloc, script, out)?)
 }
 
-/// Runs a script as [`lab`] does; `err` gets a hint for a refused line, as [`ripngd_hints::lab_hinted`] gives it.
+/// Runs a script as [`lab`] does; `err` gets a hint for a refused line, as [`ripngd_lab::lab_hinted`] gives it.
 ///
 /// # Errors
 /// Those of [`lab`].
@@ -22,7 +22,7 @@ pub(crate) fn lab_hinted<W: Write, E: Write>(
     out: &mut W,
     err: &mut E,
 ) -> Result<bool, PrintFault> {
-    Ok(ripngd_hints::lab_hinted(alloc, script, out, err)?)
+    Ok(ripngd_lab::lab_hinted(alloc, script, out, err)?)
 }
 
 /// Runs a script, as [`ripngd_trace::trace`] does, and returns whether every line was done.

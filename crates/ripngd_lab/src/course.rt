@@ -1,31 +1,33 @@
-//! Lines about routers that run.
+//! Lines about a network that runs.
 
-ghost use Rattle.std.specs.Prelude.{Some};
+ghost use Rattle.std.specs.Prelude.{◌≡◌, ◌<◌, ◌++◌, ◌∷◌, [], IfSome, OnOk, Some, length};
+ghost use Rattle.ripngd_lab.specs.Plans.{with_member};
 ghost use Rattle.ripngd_lab.specs.ScriptWatching.{HasTold};
 
-use crate::doing::step;
 use crate::expecting::{Expected, Missed, meet};
+use crate::forms::Action;
 use crate::line::Line;
+use crate::moving::{make_rounds, make_wave, step};
 use crate::outages::Outages;
 use crate::phase::make_phases;
-use crate::printing::Choice;
-use crate::refusal_name::RefusalName;
-use crate::round::{make_partial_rounds, make_round, make_rounds};
-use crate::site::{Held, Routes, Site};
-use crate::stop::{Refusal, Stop, Unmet};
-use crate::telling::{Hearing, hear};
+use crate::plan::Ticking;
+use crate::printer::Choice;
+use crate::site::{Held, Network, Site};
+use crate::stop::{Outcome, Refusal, RefusalName, Stop, Unmet};
 use crate::watching::Watch;
-use crate::words::BadLine;
-use ripng_world::{Event, LabError, Running};
-use route_table::Moment;
-use std::alloc::Global;
+use crate::ways::Way;
+use prefix6::Prefix;
+use ripng_world::{Event, LabError};
+use router_core::INTERFACE_LIMIT;
+use std::alloc::{AllocError, Global};
 
 /// What a script keeps of its lines, beside the network.
 #[derive(Drop)]
 pub struct Course {
-    /// The number of the first datagram that the next line `hear` delivers.
-    unheard: usize,
-    outages: Outages,
+    pub alloc: Global,
+    /// The number of the first datagram that was not passed by: the next line `hear` delivers from there on.
+    pub unheard: usize,
+    pub outages: Outages,
     /// The name that the next line is to be refused by.
     pub awaited: Option<RefusalName>,
 }
@@ -34,6 +36,7 @@ impl Course {
     /// As it is at the start.
     pub fn new(alloc: Global) -> Course {
         Course {
+            alloc,
             unheard: 0,
             outages: Outages::new(alloc),
             awaited: None,
@@ -41,114 +44,114 @@ impl Course {
     }
 }
 
-/// A line about routers that run. What a router answers is for the watcher alone.
-pub fn run<V: Watch>(
-    alloc: Global,
-    lab: &mut Site,
+/// Does what a line says of a network that runs. What a router answers is for the watcher alone.
+///
+/// # Errors
+/// Why the script ends here. What was done before it stays done.
+pub fn act<V: Watch>(
+    site: &mut Site,
     course: &mut Course,
-    line: Line,
+    action: Action,
+    line: &Line<'_>,
     watch: &mut V,
-) -> Result<(), Stop>
-    ensures { HasTold result V.starts V.takes V.fails V.notes (Some lab.old, watch.old) (Some lab.new, watch.new) }
+) -> Outcome
+    ensures { HasTold result V.starts V.takes V.fails V.notes (Some site.old, watch.old) (Some site.new, watch.new) }
 {
-    match line {
-        Line::Event(event) => happen(lab, course, &event, watch),
-        Line::Stranger { router, datagram } => {
-            let arrival = datagram.arrival();
-            step(lab, &Event::Stranger { router, arrival }, watch)
-        }
-        Line::Print(choice) => show_routes(lab.running(), &choice, watch),
-        Line::Sent { asked } => show_sent(lab.running(), asked, watch),
-        Line::Say(text) => Ok(watch.said(&text)?),
-        Line::Expect(expected) => expect(lab.running(), expected),
-        line => steer(alloc, lab, course, line, watch),
-    }
-}
-
-/// A line about many routers or datagrams at once, or about none.
-fn steer<V: Watch>(
-    alloc: Global,
-    lab: &mut Site,
-    course: &mut Course,
-    line: Line,
-    watch: &mut V,
-) -> Result<(), Stop>
-    ensures { HasTold result V.starts V.takes V.fails V.notes (Some lab.old, watch.old) (Some lab.new, watch.new) }
-{
-    match line {
-        Line::Hear { now, lost } => {
-            let first = course.unheard;
-            course.unheard = lab.sent().len();
-            hear_but(alloc, lab, (first, now), &lost, &course.outages, watch)
-        }
-        Line::Tell {
-            router,
-            now,
-            word,
-            lost,
-        } => {
-            let tick = Event::Tick { router, now, word };
-            let first = lab.sent().len();
-            step(lab, &tick, watch)?;
-            course.unheard = lab.sent().len();
-            hear_but(alloc, lab, (first, now), &lost, &course.outages, watch)
-        }
-        Line::Lose { datagram } => lose(lab.running(), course, datagram, watch),
-        line => advance(alloc, lab, course, line, watch),
-    }
-}
-
-/// A line of rounds or phases, or one that nobody moves at. What rounds and phases sent is passed by.
-fn advance<V: Watch>(
-    alloc: Global,
-    lab: &mut Site,
-    course: &mut Course,
-    line: Line,
-    watch: &mut V,
-) -> Result<(), Stop>
-    ensures { HasTold result V.starts V.takes V.fails V.notes (Some lab.old, watch.old) (Some lab.new, watch.new) }
-{
-    match line {
-        Line::Round { now } => {
-            make_round(alloc, lab, now, &course.outages, watch)?;
-            course.unheard = lab.sent().len();
+    let lab = site.running();
+    match action {
+        Action::Step(kind) => happen(site, course, &line.event(kind), watch),
+        Action::Arrive => arrive(site, line, line.bytes(course.alloc), watch),
+        Action::Ask => arrive(site, line, line.request(course.alloc), watch),
+        Action::Tell => make_wave(site, course, &line.wave(line.ticking()), watch),
+        Action::Hear => make_wave(site, course, &line.wave(Ticking::Nobody), watch),
+        Action::Round => make_wave(site, course, &line.wave(Ticking::All), watch),
+        Action::Rounds => go_round(site, course, line, watch),
+        Action::Phases => go_on(site, course, line, watch),
+        Action::Lose => lose(lab, course, line.datagram, watch),
+        Action::Silence => set_silent(lab, course, line.router, true),
+        Action::Speak => set_silent(lab, course, line.router, false),
+        Action::Cut => set_cut(lab, course, line.link, true),
+        Action::Mend => set_cut(lab, course, line.link, false),
+        Action::PrintAll => show_routes(lab, None, None, watch),
+        Action::PrintRouter => show_routes(lab, Some(line.router), None, watch),
+        Action::PrintRoute => show_routes(lab, Some(line.router), Some(line.prefix), watch),
+        Action::PrintAllSent => show_sent(lab, None, watch),
+        Action::PrintSent => show_sent(lab, Some(line.datagram), watch),
+        Action::Say => Ok(watch.said(line.text)?),
+        Action::Expect => expect(lab, line),
+        Action::Path => show_way(lab, course, line, watch),
+        Action::ExpectPath => expect_fate(lab, course, line),
+        Action::Refuse => {
+            course.awaited = line.refusal;
             Ok(())
         }
-        Line::Rounds { moments } => {
-            go_round(alloc, lab, &moments, &course.outages, watch)?;
-            course.unheard = lab.sent().len();
-            Ok(())
-        }
-        Line::Phases { phases, seed } => {
-            go_on(alloc, lab, (phases, seed), &course.outages, watch)?;
-            course.unheard = lab.sent().len();
-            Ok(())
-        }
-        line => settle(lab.running(), course, line),
     }
 }
 
 /// An event happens, if it does not bring what is lost.
-fn happen<V: Watch>(
-    lab: &mut Site,
-    course: &Course,
-    event: &Event<'_>,
-    watch: &mut V,
-) -> Result<(), Stop>
-    ensures { HasTold result V.starts V.takes V.fails V.notes (Some lab.old, watch.old) (Some lab.new, watch.new) }
+fn happen<V: Watch>(site: &mut Site, course: &Course, event: &Event<'_>, watch: &mut V) -> Outcome
+    ensures { HasTold result V.starts V.takes V.fails V.notes (Some site.old, watch.old) (Some site.new, watch.new) }
 {
     course.outages.check_event(event)?;
-    step(lab, event, watch)
+    step(site, event, watch)
+}
+
+/// A datagram of an outside host, with these bytes, arrives.
+fn arrive<V: Watch>(
+    site: &mut Site,
+    line: &Line<'_>,
+    bytes: Result<Vec<u8>, AllocError>,
+    watch: &mut V,
+) -> Outcome
+    ensures { HasTold result V.starts V.takes V.fails V.notes (Some site.old, watch.old) (Some site.new, watch.new) }
+{
+    let bytes = bytes?;
+    let stranger = Event::Stranger {
+        router: line.router,
+        arrival: line.arrival(&bytes),
+    };
+    step(site, &stranger, watch)
+}
+
+/// Rounds are made, and what they sent is passed by.
+fn go_round<V: Watch>(
+    site: &mut Site,
+    course: &mut Course,
+    line: &Line<'_>,
+    watch: &mut V,
+) -> Outcome
+    ensures { HasTold result V.starts V.takes V.fails V.notes (Some site.old, watch.old) (Some site.new, watch.new) }
+{
+    let moments = line.moments(course.alloc)?;
+    make_rounds(site, course, &moments, watch)?;
+    course.unheard = site.sent().len();
+    Ok(())
+}
+
+/// Phases are made in a verified network, and what they sent is passed by. After a forged Response there are none.
+fn go_on<V: Watch>(site: &mut Site, course: &mut Course, line: &Line<'_>, watch: &mut V) -> Outcome
+    ensures { HasTold result V.starts V.takes V.fails V.notes (Some site.old, watch.old) (Some site.new, watch.new) }
+{
+    let Held::Lawful(lab) = &mut site.held else {
+        return Err(Stop::Refused(Refusal::LiedTo));
+    };
+    make_phases(
+        course.alloc,
+        lab,
+        line.count,
+        line.seed,
+        &course.outages,
+        watch,
+    )?;
+    course.unheard = site.sent().len();
+    Ok(())
 }
 
 /// A datagram is lost, unless it is already.
-fn lose<V: Watch>(
-    lab: &Running<Routes>,
-    course: &mut Course,
-    datagram: usize,
-    watch: &mut V,
-) -> Result<(), Stop>
-    ensures { HasTold result V.starts V.takes V.fails V.notes (Some lab.now, watch.old) (Some lab.now, watch.new) }
+fn lose<V: Watch>(lab: &Network, course: &mut Course, datagram: usize, watch: &mut V) -> Outcome
+    ensures told { HasTold result V.starts V.takes V.fails V.notes (Some lab.now, watch.old) (Some lab.now, watch.new) }
+    ensures there { OnOk result (datagram < length lab.now.world.sent) }
+    ensures lost { OnOk result (course.new.outages.lost.items ≡ course.old.outages.lost.items ++ datagram ∷ []) }
 {
     check_datagram(lab, Some(datagram))?;
     if course.outages.is_lost(datagram) {
@@ -158,82 +161,36 @@ fn lose<V: Watch>(
     Ok(watch.lost(datagram)?)
 }
 
-/// Rounds, with or without outages. Behind a lie they are made tick by tick, and nothing is promised of them.
-fn go_round<V: Watch>(
-    alloc: Global,
-    lab: &mut Site,
-    moments: &[Moment],
-    outages: &Outages,
+/// A line that prints routes.
+fn show_routes<V: Watch>(
+    lab: &Network,
+    router: Option<usize>,
+    prefix: Option<Prefix>,
     watch: &mut V,
-) -> Result<(), Stop>
-    ensures { HasTold result V.starts V.takes V.fails V.notes (Some lab.old, watch.old) (Some lab.new, watch.new) }
+) -> Outcome
+    ensures told { HasTold result V.starts V.takes V.fails V.notes (Some lab.now, watch.old) (Some lab.now, watch.new) }
+    ensures there { OnOk result (IfSome router (λ r. r < length lab.now.network)) }
 {
-    if outages.are_none()
-        && let Held::Lawful(lab) = &mut lab.held
-    {
-        return make_rounds(alloc, lab, moments, watch);
-    }
-    make_partial_rounds(alloc, lab, moments, outages, watch)
+    check_router(lab, router)?;
+    Ok(watch.routes_asked(lab, &Choice { router, prefix })?)
 }
 
-/// Phases, so many by such a seed, of a lab: behind a lie there are none.
-fn go_on<V: Watch>(
-    alloc: Global,
-    lab: &mut Site,
-    asked: (usize, u64),
-    outages: &Outages,
-    watch: &mut V,
-) -> Result<(), Stop>
-    ensures { HasTold result V.starts V.takes V.fails V.notes (Some lab.old, watch.old) (Some lab.new, watch.new) }
+/// A line that prints datagrams.
+fn show_sent<V: Watch>(lab: &Network, asked: Option<usize>, watch: &mut V) -> Outcome
+    ensures told { HasTold result V.starts V.takes V.fails V.notes (Some lab.now, watch.old) (Some lab.now, watch.new) }
+    ensures there { OnOk result (IfSome asked (λ datagram. datagram < length lab.now.world.sent)) }
 {
-    let (phases, seed) = asked;
-    match &mut lab.held {
-        Held::Lawful(lab) => make_phases(alloc, lab, phases, seed, outages, watch),
-        Held::Lied(_) => Err(Stop::Refused(Refusal::LiedTo)),
-    }
-}
-
-/// What was sent from a number on is heard at a moment, but for what is lost.
-fn hear_but<V: Watch>(
-    alloc: Global,
-    lab: &mut Site,
-    from: (usize, Moment),
-    lost: &[usize],
-    outages: &Outages,
-    watch: &mut V,
-) -> Result<(), Stop>
-    ensures { HasTold result V.starts V.takes V.fails V.notes (Some lab.old, watch.old) (Some lab.new, watch.new) }
-{
-    let hearing = Hearing {
-        first: from.0,
-        now: from.1,
-        lost,
-        outages,
-    };
-    hear(alloc, lab, &hearing, watch)
-}
-
-/// A line that nobody moves at.
-fn settle(lab: &Running<Routes>, course: &mut Course, line: Line) -> Result<(), Stop> {
-    match line {
-        Line::Silence { router, silent } => {
-            check_router(lab, Some(router))?;
-            Ok(course.outages.set_silent(router, silent)?)
-        }
-        Line::Cut { link, cut } => {
-            check_link(lab, link)?;
-            Ok(course.outages.set_cut(link, cut)?)
-        }
-        Line::Refused { name } => {
-            course.awaited = Some(name);
-            Ok(())
-        }
-        _ => Err(Stop::from(BadLine)),
-    }
+    check_datagram(lab, asked)?;
+    Ok(watch.datagrams_asked(lab, asked)?)
 }
 
 /// A line that expects something of a table.
-fn expect(lab: &Running<Routes>, expected: Expected) -> Result<(), Stop> {
+fn expect(lab: &Network, line: &Line<'_>) -> Outcome {
+    let expected = Expected {
+        router: line.router,
+        prefix: line.prefix,
+        metric: line.metric,
+    };
     match meet(lab, &expected) {
         Ok(()) => Ok(()),
         Err(Missed::NoSuchRouter) => Err(Stop::from(LabError::NoSuchRouter)),
@@ -241,28 +198,59 @@ fn expect(lab: &Running<Routes>, expected: Expected) -> Result<(), Stop> {
     }
 }
 
-/// A line that prints routes.
-fn show_routes<V: Watch>(lab: &Running<Routes>, choice: &Choice, watch: &mut V) -> Result<(), Stop>
+/// A line that prints where packets go.
+fn show_way<V: Watch>(lab: &Network, course: &Course, line: &Line<'_>, watch: &mut V) -> Outcome
     ensures { HasTold result V.starts V.takes V.fails V.notes (Some lab.now, watch.old) (Some lab.now, watch.new) }
 {
-    check_router(lab, choice.router)?;
-    Ok(watch.routes_asked(lab, choice)?)
+    let way = Way::of(lab, &course.outages, line.router, line.addr)?;
+    Ok(watch.way_asked(&way)?)
 }
 
-/// A line that prints datagrams.
-fn show_sent<V: Watch>(
-    lab: &Running<Routes>,
-    asked: Option<usize>,
-    watch: &mut V,
-) -> Result<(), Stop>
-    ensures { HasTold result V.starts V.takes V.fails V.notes (Some lab.now, watch.old) (Some lab.now, watch.new) }
+/// A line that expects what becomes of packets.
+fn expect_fate(lab: &Network, course: &Course, line: &Line<'_>) -> Outcome {
+    let way = Way::of(lab, &course.outages, line.router, line.addr)?;
+    if way.fate() == line.fate {
+        return Ok(());
+    }
+    Err(Stop::Unmet(Unmet::Fate {
+        router: line.router,
+        addr: line.addr,
+        expected: line.fate,
+        found: way.fate(),
+    }))
+}
+
+/// A router is silent from now on, or no longer.
+fn set_silent(lab: &Network, course: &mut Course, router: usize, silent: bool) -> Outcome
+    ensures there { OnOk result (router < length lab.now.network) }
+    ensures set { OnOk result (course.new.outages.silent.items ≡ with_member silent router course.old.outages.silent.items) }
 {
-    check_datagram(lab, asked)?;
-    Ok(watch.datagrams_asked(lab, asked)?)
+    if router >= lab.routers() {
+        return Err(Stop::from(LabError::NoSuchRouter));
+    }
+    match course.outages.set_silent(router, silent) {
+        Ok(()) => Ok(()),
+        Err(error) => Err(Stop::from(error)),
+    }
+}
+
+/// A link is cut from now on, or no longer.
+fn set_cut(lab: &Network, course: &mut Course, link: u16, cut: bool) -> Outcome
+    ensures { OnOk result (course.new.outages.cut.items ≡ with_member cut link course.old.outages.cut.items) }
+{
+    if !has_link(lab, link) {
+        return Err(Stop::Refused(Refusal::NoSuchLink));
+    }
+    match course.outages.set_cut(link, cut) {
+        Ok(()) => Ok(()),
+        Err(error) => Err(Stop::from(error)),
+    }
 }
 
 /// There is such a router, if one is named.
-fn check_router(lab: &Running<Routes>, router: Option<usize>) -> Result<(), Stop> {
+fn check_router(lab: &Network, router: Option<usize>) -> Outcome
+    ensures { OnOk result (IfSome router (λ r. r < length lab.now.network)) }
+{
     match router {
         Some(router) if router >= lab.routers() => Err(Stop::from(LabError::NoSuchRouter)),
         _ => Ok(()),
@@ -270,7 +258,9 @@ fn check_router(lab: &Running<Routes>, router: Option<usize>) -> Result<(), Stop
 }
 
 /// Such a datagram was sent, if one is named.
-fn check_datagram(lab: &Running<Routes>, datagram: Option<usize>) -> Result<(), Stop> {
+fn check_datagram(lab: &Network, datagram: Option<usize>) -> Outcome
+    ensures { OnOk result (IfSome datagram (λ d. d < length lab.now.world.sent)) }
+{
     match datagram {
         Some(datagram) if datagram >= lab.sent().len() => {
             Err(Stop::from(LabError::NoSuchDatagram))
@@ -279,23 +269,12 @@ fn check_datagram(lab: &Running<Routes>, datagram: Option<usize>) -> Result<(), 
     }
 }
 
-/// An interface is on the link.
-fn check_link(lab: &Running<Routes>, link: u16) -> Result<(), Stop> {
+/// Whether an interface is on the link.
+fn has_link(lab: &Network, link: u16) -> bool {
     for router in 0..lab.routers() {
-        if has_link(lab, router, link) {
-            return Ok(());
+        if (0..INTERFACE_LIMIT).any(|iface| lab.link(router, iface) == Some(link)) {
+            return true;
         }
     }
-    Err(Stop::Refused(Refusal::NoSuchLink))
-}
-
-/// Whether an interface of a router is on a link.
-fn has_link(lab: &Running<Routes>, number: usize, link: u16) -> bool {
-    match lab.router(number) {
-        Some(router) => {
-            let interfaces = router.config().interfaces().len();
-            (0..interfaces).any(|iface| lab.link(number, iface) == Some(link))
-        }
-        None => false,
-    }
+    false
 }

@@ -1,374 +1,367 @@
-//! Lines of a script: what each says, by its words.
+//! A line of a script: what it does, and what its words stand for.
 
-use crate::context::Context;
-use crate::expecting::Expected;
-use crate::foreign::{Foreign, read_foreign, read_lie, read_request};
-use crate::names::is_name;
-use crate::phase::phase_count;
-use crate::printing::Choice;
-use crate::refusal_name::{RefusalName, refusal_name};
-use crate::round::moments_from;
-use crate::stop::Stop;
-use crate::words::{BadLine, addr, count, metric, number, prefix};
-use prefix6::Prefix;
+use crate::context::{Context, is_name, moment_after, number};
+use crate::forms::{BadLine, FORMS, Listed, Step, Verb, Wrong};
+use crate::listing::Listing;
+use crate::phase::{PHASES_LIMIT, end_of_phases};
+use crate::plan::{Ticking, Wave};
+use crate::stop::{RefusalName, refusal_name};
+use crate::ways::Fate;
+use crate::words::{are_bytes, fate, hops, if_so, metric, prefix, split_off, up_to};
+use prefix6::{Addr6, Prefix, parse_addr};
+use ripng_wire::{Command, Rte, encode};
 use ripng_world::{Event, NetInterface};
-use route_table::Moment;
-use router_core::{Change, Interface};
-use std::alloc::Global;
+use route_table::{INFINITY, Moment};
+use router_core::{Arrival, Change, Interface, MAX_HOP_LIMIT, OWNED_LIMIT, RIPNG_PORT};
+use std::alloc::{AllocError, Global};
 
-/// What a line says. Routers, interfaces and datagrams are numbered from 0.
+/// The most rounds of one line.
+const ROUNDS_LIMIT: usize = 1000;
+
+/// The MTU of an interface whose line has none, in bytes: that of an Ethernet.
+const MTU: u32 = 1500;
+
+/// What asks for the whole table.
+const WHOLE_TABLE: Rte = Rte {
+    addr: 0,
+    tag: 0,
+    len: 0,
+    metric: INFINITY,
+};
+
+/// A line, with a field for each part of the forms. A part that its form lacks is as it is in a new line.
 #[derive(Drop)]
-pub enum Line {
-    /// `router` or `router quiet`, and a name behind it or none: the next router begins.
-    Router {
-        quiet: bool,
-        name: Option<String>,
-    },
-    /// `iface ADDR COST MTU LINK`: an interface of that router.
-    Iface(NetInterface),
-    /// `own PREFIX TAG`: a prefix that it owns. With `times N` it owns a row of so many prefixes of that length.
-    Own {
-        prefix: Prefix,
-        tag: u16,
-        times: usize,
-    },
-    /// `cold NOW`: the network is checked, and all its routers start.
-    Cold {
-        now: Moment,
-    },
-    /// `deliver N R I NOW`, a datagram comes to an interface of its link; `tick R NOW WORD`, time passes at a router;
-    /// `restart R NOW`, a router comes up again; `cost R I NOW COST`, an interface costs another amount;
-    /// `gain R NOW PREFIX TAG`, a router owns a prefix from now on; `drop R NOW PREFIX`, it owns it no longer.
-    Event(Event<'static>),
-    /// `stranger R I NOW SOURCE PORT HOP group HEX`, or `peer` for `group`: a datagram of no router comes.
-    /// `ask R I NOW SOURCE PORT PREFIX`, or `all` for the prefix: a Request does.
-    Stranger {
-        router: usize,
-        datagram: Foreign,
-    },
-    /// `liar R I NOW SOURCE HEX`: a Response comes that the router takes for one of its link, and that nobody of the network has sent.
-    Liar {
-        router: usize,
-        datagram: Foreign,
-    },
-    /// `tell R NOW WORD`, and `but N ..` or nothing behind it: a router ticks, and what it sends then is delivered, but for
-    /// what is lost, counted from its first.
-    Tell {
-        router: usize,
-        now: Moment,
-        word: u32,
-        lost: Vec<usize>,
-    },
-    /// `hear`, and `but N ..` or nothing behind it: what was sent and not heard yet is delivered, but for what is lost,
-    /// counted from the first.
-    Hear {
-        now: Moment,
-        lost: Vec<usize>,
-    },
-    /// `round NOW`: all routers tick, and what they send then is delivered.
-    Round {
-        now: Moment,
-    },
-    /// `rounds K NOW GAP`: so many rounds, at NOW and then each GAP milliseconds after the one before, where each router
-    /// ticks when its regular update is due. These are their moments.
-    Rounds {
-        moments: Vec<Moment>,
-    },
-    /// `phases K SEED`: so many phases by chance, whose generator starts from that seed.
-    Phases {
-        phases: usize,
-        seed: u64,
-    },
-    /// `silent R` and `speaks R`: whether a router takes part in rounds, and in what is told and heard.
-    Silence {
-        router: usize,
-        silent: bool,
-    },
-    /// `cut LINK` and `mend LINK`: whether a link does.
-    Cut {
-        link: u16,
-        cut: bool,
-    },
-    /// `lose N`: a datagram is lost.
-    Lose {
-        datagram: usize,
-    },
-    /// `print`, `print R`, `print R PREFIX`: routes are printed.
-    Print(Choice),
-    /// `sent`, `sent N`: all datagrams are printed, or this one.
-    Sent {
-        asked: Option<usize>,
-    },
-    /// `say TEXT`: the text is printed.
-    Say(String),
-    /// `expect R PREFIX METRIC`, or `none` for the metric: a router's table is to have just that.
-    Expect(Expected),
-    /// `refused NAME`: the next line is to be refused by that name.
-    Refused {
-        name: RefusalName,
-    },
+pub struct Line<'a> {
+    pub verb: Verb,
+    /// NAME, HEX, TEXT, or all K.
+    pub text: &'a str,
+    /// ADDR or SOURCE.
+    pub addr: Addr6,
+    cost: u8,
+    mtu: u32,
+    pub link: u16,
+    pub prefix: Prefix,
+    /// Whether ASKED is not a prefix, but the whole table.
+    asks_all: bool,
+    tag: u16,
+    /// TIMES, ROUNDS or PHASES.
+    pub count: usize,
+    pub now: Moment,
+    pub datagram: usize,
+    pub router: usize,
+    pub iface: usize,
+    port: u16,
+    hop_limit: u8,
+    to_group: bool,
+    word: u32,
+    gap: u64,
+    pub seed: u64,
+    pub metric: Option<u8>,
+    pub fate: Fate,
+    pub refusal: Option<RefusalName>,
+    /// The time that this line, or one before it, has named last.
+    last: Option<Moment>,
+    /// How many words were read.
+    place: usize,
 }
 
-/// Reads a line, whose words stand one space apart.
-///
-/// # Errors
-/// `BadLine` where it is none, or want of memory.
-pub fn read_line(alloc: Global, text: &str, context: &mut Context) -> Result<Line, Stop> {
-    if let Some(text) = text.strip_prefix("say ") {
-        return Ok(Line::Say(format!(in alloc; "{text}")?));
-    }
-    let words: Vec<&str> = text.split(' ').collect(alloc)?;
-    match words.as_slice() {
-        ["router", words @ ..] => read_router(alloc, words),
-        ["stranger", router, datagram @ ..] => Ok(Line::Stranger {
-            router: context.router(router)?,
-            datagram: read_foreign(alloc, datagram, context)?,
-        }),
-        ["ask", router, request @ ..] => Ok(Line::Stranger {
-            router: context.router(router)?,
-            datagram: read_request(alloc, request, context)?,
-        }),
-        ["liar", router, lie @ ..] => Ok(Line::Liar {
-            router: context.router(router)?,
-            datagram: read_lie(alloc, lie, context)?,
-        }),
-        words => read_many(alloc, words, context),
-    }
-}
-
-/// A line about many datagrams, rounds or phases, or a plain one.
-fn read_many(alloc: Global, words: &[&str], context: &mut Context) -> Result<Line, Stop> {
-    match words {
-        ["rounds", count, now, gap] => read_rounds(alloc, count, now, gap, context),
-        ["phases", count, seed] => Ok(read_phases(count, seed, context)?),
-        ["tell", router, now, word, lost @ ..] => Ok(Line::Tell {
-            router: context.router(router)?,
-            now: context.moment(now)?,
-            word: number(word)?,
-            lost: read_lost(alloc, lost)?,
-        }),
-        ["hear", lost @ ..] => Ok(Line::Hear {
-            now: context.last.ok_or(BadLine)?,
-            lost: read_lost(alloc, lost)?,
-        }),
-        words => Ok(plain_line(words, context)?),
-    }
-}
-
-/// `K NOW GAP`. The last moment is then that of the last round.
-fn read_rounds(
-    alloc: Global,
-    count: &str,
-    now: &str,
-    gap: &str,
-    context: &mut Context,
-) -> Result<Line, Stop> {
-    let now = context.moment(now)?;
-    let moments = moments_from(alloc, number(count)?, now, number(gap)?)?;
-    if let Some(last) = moments.last() {
-        context.last = Some(*last);
-    }
-    Ok(Line::Rounds { moments })
-}
-
-/// `K SEED`. The last moment is then that at which the last phase is over, or the last that there is.
-fn read_phases(count: &str, seed: &str, context: &mut Context) -> Result<Line, BadLine> {
-    let phases = phase_count(count)?;
-    let seed = number(seed)?;
-    context.pass_phases(phases);
-    Ok(Line::Phases { phases, seed })
-}
-
-/// Nothing, or `but N ..`.
-fn read_lost(alloc: Global, words: &[&str]) -> Result<Vec<usize>, Stop> {
-    let mut lost = Vec::new(alloc);
-    match words {
-        [] => Ok(lost),
-        ["but", first, more @ ..] => {
-            lost.push(number(first)?)?;
-            for word in more {
-                lost.push(number(word)?)?;
+/// Reads a line, whose words are one space apart; or says where it leaves the form that it follows longest. The last time is then the
+/// one that it names.
+pub fn read_line<'a>(text: &'a str, context: &mut Context) -> Result<Line<'a>, BadLine> {
+    let mut farthest = 0;
+    let mut bad = BadLine::Unknown;
+    let mut last = context.last;
+    for (form, (words, verb)) in FORMS.iter().enumerate() {
+        let mut line = Line::new(*verb, context.last);
+        match line.follow(words, text, context) {
+            Ok(()) => {
+                context.last = line.last;
+                return Ok(line);
             }
-            Ok(lost)
+            Err(wrong) if line.place > farthest => {
+                let place = line.place;
+                bad = BadLine::Word { form, place, wrong };
+                farthest = place;
+                last = line.last;
+            }
+            Err(_) => {}
         }
-        _ => Err(Stop::from(BadLine)),
     }
+    context.last = last;
+    Err(bad)
 }
 
-/// What stands behind `router`: `quiet`, a name, both in this order, or nothing.
-fn read_router(alloc: Global, words: &[&str]) -> Result<Line, Stop> {
-    match words {
-        [] => Ok(Line::Router {
-            quiet: false,
-            name: None,
-        }),
-        ["quiet"] => Ok(Line::Router {
-            quiet: true,
-            name: None,
-        }),
-        ["quiet", name] => read_named(alloc, true, name),
-        [name] => read_named(alloc, false, name),
-        _ => Err(Stop::from(BadLine)),
+impl<'a> Line<'a> {
+    /// No word was read yet.
+    fn new(verb: Verb, last: Option<Moment>) -> Line<'a> {
+        let zero = Moment::new(0).unwrap();
+        let now = match last {
+            Some(last) => last,
+            None => zero,
+        };
+        Line {
+            verb,
+            text: "",
+            addr: Addr6::from_bits(0),
+            cost: 0,
+            mtu: MTU,
+            link: 0,
+            prefix: Prefix::new(Addr6::from_bits(0), 0).unwrap(),
+            asks_all: false,
+            tag: 0,
+            count: 1,
+            now,
+            datagram: 0,
+            router: 0,
+            iface: 0,
+            port: RIPNG_PORT,
+            hop_limit: MAX_HOP_LIMIT,
+            to_group: true,
+            word: 0,
+            gap: 0,
+            seed: 0,
+            metric: None,
+            fate: Fate::Arrives,
+            refusal: None,
+            last,
+            place: 0,
+        }
     }
-}
 
-fn read_named(alloc: Global, quiet: bool, name: &str) -> Result<Line, Stop> {
-    if name == "quiet" || !is_name(name) {
-        return Err(Stop::from(BadLine));
+    /// Reads the words of a line by those of a form, up to the first that does not fit.
+    fn follow(&mut self, form: &str, text: &'a str, context: &Context) -> Result<(), Wrong> {
+        let mut rest = Some(text);
+        for part in form.split(' ') {
+            if part == ".." {
+                break;
+            }
+            let left = rest.ok_or(Wrong::Missing)?;
+            let (word, more) = split_off(part, left);
+            self.take(part, word, context)?;
+            rest = more;
+            self.place = self.place.saturating_add(1);
+        }
+        match rest {
+            Some(_) => Err(Wrong::TooMany),
+            None => Ok(()),
+        }
     }
-    Ok(Line::Router {
-        quiet,
-        name: Some(format!(in alloc; "{name}")?),
-    })
-}
 
-/// A line that holds no bytes.
-fn plain_line(words: &[&str], context: &mut Context) -> Result<Line, BadLine> {
-    match words {
-        ["iface", words @ ..] => Ok(Line::Iface(read_interface(words)?)),
-        ["own", owned, tag] => read_own(owned, tag, "1"),
-        ["own", owned, tag, "times", times] => read_own(owned, tag, times),
-        ["cold", now] => Ok(Line::Cold {
-            now: context.moment(now)?,
-        }),
-        ["round", now] => Ok(Line::Round {
-            now: context.moment(now)?,
-        }),
-        ["print", words @ ..] => Ok(Line::Print(read_choice(words, context)?)),
-        ["sent"] => Ok(Line::Sent { asked: None }),
-        ["sent", datagram] => Ok(Line::Sent {
-            asked: Some(context.datagram(datagram)?),
-        }),
-        ["expect", router, expected, found] => Ok(Line::Expect(Expected {
-            router: context.router(router)?,
-            prefix: prefix(expected)?,
-            metric: metric(found)?,
-        })),
-        ["refused", name] => Ok(Line::Refused {
-            name: refusal_name(name).ok_or(BadLine)?,
-        }),
-        words => read_outage(words, context),
+    /// Reads a word, or for K and TEXT all that are left, as a part of the form.
+    fn take(&mut self, part: &str, word: &'a str, context: &Context) -> Result<(), Wrong> {
+        match part {
+            "R" => self.router = context.router(word)?,
+            "I" => self.iface = number(word)?,
+            "N" => self.datagram = context.datagram(word)?,
+            "NOW" => {
+                self.now = context.moment(word)?;
+                self.last = Some(self.now);
+            }
+            "WORD" => self.word = number(word)?,
+            "COST" => self.cost = number(word)?,
+            "MTU" => self.mtu = number(word)?,
+            "LINK" => self.link = number(word)?,
+            "TAG" => self.tag = number(word)?,
+            "PORT" => self.port = number(word)?,
+            "HOP" => self.hop_limit = number(word)?,
+            "TIMES" => self.count = up_to(word, OWNED_LIMIT)?,
+            "ROUNDS" => self.count = up_to(word, ROUNDS_LIMIT)?,
+            "GAP" => self.take_gap(number(word)?)?,
+            "PHASES" => self.take_phases(up_to(word, PHASES_LIMIT)?, context.latest),
+            "SEED" => self.seed = number(word)?,
+            part => self.take_other(part, word)?,
+        }
+        Ok(())
     }
-}
 
-/// A line about what takes part or is lost, or an event.
-fn read_outage(words: &[&str], context: &mut Context) -> Result<Line, BadLine> {
-    match words {
-        ["lose", datagram] => Ok(Line::Lose {
-            datagram: context.datagram(datagram)?,
-        }),
-        ["silent", router] => Ok(Line::Silence {
-            router: context.router(router)?,
-            silent: true,
-        }),
-        ["speaks", router] => Ok(Line::Silence {
-            router: context.router(router)?,
-            silent: false,
-        }),
-        ["cut", link] => Ok(Line::Cut {
-            link: number(link)?,
-            cut: true,
-        }),
-        ["mend", link] => Ok(Line::Cut {
-            link: number(link)?,
-            cut: false,
-        }),
-        words => Ok(Line::Event(read_event(words, context)?)),
+    /// Reads a word as a part that is no number, or as itself.
+    fn take_other(&mut self, part: &str, word: &'a str) -> Result<(), Wrong> {
+        match part {
+            "NAME" => self.text = if_so(word, is_name(word) && word != "quiet")?,
+            "ADDR" | "SOURCE" => self.addr = parse_addr(word).map_err(|_| Wrong::Differs)?,
+            "PREFIX" => self.prefix = prefix(word)?,
+            "ASKED" => {
+                self.to_group = false;
+                self.asks_all = word == "all";
+                if !self.asks_all {
+                    self.prefix = prefix(word)?;
+                }
+            }
+            "TO" => {
+                self.to_group = word == "group";
+                let _ = if_so(word, self.to_group || word == "peer")?;
+            }
+            "HEX" => self.text = if_so(word, word == "-" || are_bytes(word.as_bytes()))?,
+            "K" => self.take_places(word)?,
+            "TEXT" => self.text = word,
+            "METRIC" => self.metric = metric(word)?,
+            "HOPS" => self.metric = Some(hops(word)?),
+            "FATE" => self.fate = fate(word)?,
+            "REFUSAL" => self.refusal = Some(refusal_name(word).ok_or(Wrong::Differs)?),
+            literal => {
+                let _ = if_so(word, word == literal)?;
+            }
+        }
+        Ok(())
     }
-}
 
-/// `ADDR COST MTU LINK`
-fn read_interface(words: &[&str]) -> Result<NetInterface, BadLine> {
-    let [address, cost, mtu, link] = words else {
-        return Err(BadLine);
-    };
-    let interface = Interface {
-        addr: addr(address)?,
-        cost: number(cost)?,
-        mtu: number(mtu)?,
-    };
-    Ok(NetInterface {
-        interface,
-        link: number(link)?,
-    })
-}
-
-/// `PREFIX TAG`, and how many prefixes there are in the row.
-fn read_own(owned: &str, tag: &str, times: &str) -> Result<Line, BadLine> {
-    Ok(Line::Own {
-        prefix: prefix(owned)?,
-        tag: number(tag)?,
-        times: count(times)?,
-    })
-}
-
-/// Nothing, `R`, or `R PREFIX`.
-fn read_choice(words: &[&str], context: &Context) -> Result<Choice, BadLine> {
-    match words {
-        [] => Ok(Choice {
-            router: None,
-            prefix: None,
-        }),
-        [router] => Ok(Choice {
-            router: Some(context.router(router)?),
-            prefix: None,
-        }),
-        [router, asked] => Ok(Choice {
-            router: Some(context.router(router)?),
-            prefix: Some(prefix(asked)?),
-        }),
-        _ => Err(BadLine),
+    /// The time between rounds. The last time is then that of the last round.
+    fn take_gap(&mut self, gap: u64) -> Result<(), Wrong> {
+        self.gap = gap;
+        let gaps = self.count.saturating_sub(1) as u64;
+        self.last = Some(moment_after(self.now, gap, gaps).ok_or(Wrong::TooLate)?);
+        Ok(())
     }
-}
 
-/// What happens to one router, but for a stranger's datagram.
-fn read_event(words: &[&str], context: &mut Context) -> Result<Event<'static>, BadLine> {
-    match words {
-        ["deliver", datagram, router, iface, now] => Ok(Event::Deliver {
-            datagram: context.datagram(datagram)?,
-            router: context.router(router)?,
-            iface: number(iface)?,
-            now: context.moment(now)?,
-        }),
-        ["tick", router, now, word] => Ok(Event::Tick {
-            router: context.router(router)?,
-            now: context.moment(now)?,
-            word: number(word)?,
-        }),
-        ["restart", router, now] => Ok(Event::Restart {
-            router: context.router(router)?,
-            now: context.moment(now)?,
-        }),
-        words => read_change(words, context),
+    /// How many phases there are. The last time, if routers have started, is then the end of the last one.
+    fn take_phases(&mut self, phases: usize, latest: Option<Moment>) {
+        self.count = phases;
+        if let Some(latest) = latest {
+            self.last = end_of_phases(latest, phases);
+        }
     }
-}
 
-/// The configuration of a router that runs is changed.
-fn read_change(words: &[&str], context: &mut Context) -> Result<Event<'static>, BadLine> {
-    match words {
-        ["cost", router, iface, now, cost] => Ok(Event::Reconfigure {
-            router: context.router(router)?,
-            now: context.moment(now)?,
-            change: Change::Cost {
-                iface: number(iface)?,
-                cost: number(cost)?,
+    /// The numbers of datagrams that are lost.
+    fn take_places(&mut self, words: &'a str) -> Result<(), Wrong> {
+        for word in words.split(' ') {
+            let _: usize = number(word)?;
+            self.place = self.place.saturating_add(1);
+        }
+        self.text = words;
+        Ok(())
+    }
+
+    /// What the line lists.
+    pub fn listing(&self, listed: Listed) -> Listing {
+        match listed {
+            Listed::Router => Listing::Router { quiet: false },
+            Listed::QuietRouter => Listing::Router { quiet: true },
+            Listed::Interface => Listing::Interface(NetInterface {
+                interface: Interface {
+                    addr: self.addr,
+                    cost: self.cost,
+                    mtu: self.mtu,
+                },
+                link: self.link,
+            }),
+            Listed::Prefixes => Listing::Prefixes {
+                first: self.prefix,
+                tag: self.tag,
+                count: self.count,
             },
-        }),
-        ["gain", router, now, gained, tag] => Ok(Event::Reconfigure {
-            router: context.router(router)?,
-            now: context.moment(now)?,
-            change: Change::Own {
-                prefix: prefix(gained)?,
-                tag: number(tag)?,
+        }
+    }
+
+    /// The event that the line makes happen.
+    pub fn event(&self, step: Step) -> Event<'static> {
+        let router = self.router;
+        let now = self.now;
+        match step {
+            Step::Deliver => Event::Deliver {
+                datagram: self.datagram,
+                router,
+                iface: self.iface,
+                now,
             },
-        }),
-        ["drop", router, now, dropped] => Ok(Event::Reconfigure {
-            router: context.router(router)?,
-            now: context.moment(now)?,
-            change: Change::Disown {
-                prefix: prefix(dropped)?,
+            Step::Tick => Event::Tick {
+                router,
+                now,
+                word: self.word,
             },
-        }),
-        _ => Err(BadLine),
+            Step::Restart => Event::Restart { router, now },
+            Step::Shutdown => Event::Shutdown { router, now },
+            Step::Cost => self.change(Change::Cost {
+                iface: self.iface,
+                cost: self.cost,
+            }),
+            Step::Gain => self.change(Change::Own {
+                prefix: self.prefix,
+                tag: self.tag,
+            }),
+            Step::Drop => self.change(Change::Disown {
+                prefix: self.prefix,
+            }),
+        }
+    }
+
+    fn change(&self, change: Change) -> Event<'static> {
+        Event::Reconfigure {
+            router: self.router,
+            now: self.now,
+            change,
+        }
+    }
+
+    /// The router of the line ticks.
+    pub fn ticking(&self) -> Ticking {
+        Ticking::One {
+            router: self.router,
+            word: self.word,
+        }
+    }
+
+    /// What a line of many events makes happen.
+    pub fn wave(&self, ticking: Ticking) -> Wave<'a> {
+        Wave {
+            ticking,
+            moment: self.now,
+            lost: self.text,
+        }
+    }
+
+    /// The times of rounds.
+    pub fn moments(&self, alloc: Global) -> Result<Vec<Moment>, AllocError> {
+        let mut moments = Vec::new(alloc);
+        for round in 0..self.count as u64 {
+            moments.push(moment_after(self.now, self.gap, round).unwrap_or(self.now))?;
+        }
+        Ok(moments)
+    }
+
+    /// A datagram of an outside host, with these bytes, as it arrives. If the line does not say otherwise, it comes as a Response of
+    /// the link does.
+    pub fn arrival<'b>(&self, bytes: &'b [u8]) -> Arrival<'b> {
+        Arrival {
+            now: self.now,
+            iface: self.iface,
+            source: self.addr,
+            source_port: self.port,
+            hop_limit: self.hop_limit,
+            to_group: self.to_group,
+            bytes,
+        }
+    }
+
+    /// HEX, or without it a Response with one entry, for PREFIX with the tag 0 and the metric HOPS.
+    pub fn bytes(&self, alloc: Global) -> Result<Vec<u8>, AllocError> {
+        match self.text {
+            "" => encode(
+                alloc,
+                Command::Response,
+                &[self.entry(self.metric.unwrap_or(INFINITY))],
+            ),
+            "-" => Ok(Vec::new(alloc)),
+            digits => hex::decode(alloc, digits).map_err(|_| AllocError),
+        }
+    }
+
+    /// An entry for PREFIX with the tag 0.
+    fn entry(&self, metric: u8) -> Rte {
+        Rte {
+            addr: self.prefix.addr().bits(),
+            tag: 0,
+            len: self.prefix.len(),
+            metric,
+        }
+    }
+
+    /// A Request for the whole table, or for a prefix (RFC 2080, section 2.4.1).
+    pub fn request(&self, alloc: Global) -> Result<Vec<u8>, AllocError> {
+        let entry = if self.asks_all {
+            WHOLE_TABLE
+        } else {
+            self.entry(0)
+        };
+        encode(alloc, Command::Request, &[entry])
     }
 }

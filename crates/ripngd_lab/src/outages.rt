@@ -6,8 +6,9 @@ ghost use Rattle.std.specs.Prelude.{◌≡◌, ◌++◌, ◌∷◌, [], false, t
 ghost use Rattle.ripng_world.specs.Events.{event_of};
 ghost use Rattle.ripngd_lab.specs.Losing.{brings_lost, is_lost};
 ghost use Rattle.ripngd_lab.specs.Phasing.{AllTakePart};
+ghost use Rattle.ripngd_lab.specs.Plans.{is_cut, is_silent, with_member};
 
-use crate::stop::Refusal;
+use crate::stop::{Outcome, Refusal, Stop};
 use ripng_world::Event;
 use std::alloc::{AllocError, Global};
 
@@ -41,35 +42,39 @@ impl Outages {
     }
 
     /// Whether a router takes no part.
-    pub fn is_silent(&self, router: usize) -> bool {
-        self.silent.contains(&router)
+    pub fn is_silent(&self, router: usize) -> bool
+        ensures { result ≡ is_silent self.now router }
+    {
+        self.silent.iter().any(|silent| *silent == router)
     }
 
     /// Whether nothing crosses a link.
-    pub fn is_cut(&self, link: u16) -> bool {
-        self.cut.contains(&link)
+    pub fn is_cut(&self, link: u16) -> bool
+        ensures { result ≡ is_cut self.now link }
+    {
+        self.cut.iter().any(|cut| *cut == link)
     }
 
     /// A router takes no part from now on, or takes part again.
-    ///
-    /// # Errors
-    /// Want of memory.
-    pub fn set_silent(&mut self, router: usize, silent: bool) -> Result<(), AllocError> {
+    pub fn set_silent(&mut self, router: usize, silent: bool) -> Result<(), AllocError>
+        ensures { OnOk result (self.new.silent.items ≡ with_member silent router self.old.silent.items) }
+    {
         self.silent.retain(|other| *other != router);
         if silent {
             self.silent.push(router)?;
+            return Ok(());
         }
         Ok(())
     }
 
     /// Nothing crosses a link from now on, or all does again.
-    ///
-    /// # Errors
-    /// Want of memory.
-    pub fn set_cut(&mut self, link: u16, cut: bool) -> Result<(), AllocError> {
+    pub fn set_cut(&mut self, link: u16, cut: bool) -> Result<(), AllocError>
+        ensures { OnOk result (self.new.cut.items ≡ with_member cut link self.old.cut.items) }
+    {
         self.cut.retain(|other| *other != link);
         if cut {
             self.cut.push(link)?;
+            return Ok(());
         }
         Ok(())
     }
@@ -82,9 +87,6 @@ impl Outages {
     }
 
     /// A datagram is lost from now on.
-    ///
-    /// # Errors
-    /// Want of memory.
     pub fn lose(&mut self, datagram: usize) -> Result<(), AllocError>
         ensures { OnOk result (self.new.lost.items ≡ self.old.lost.items ++ datagram ∷ []) }
     {
@@ -92,18 +94,15 @@ impl Outages {
         Ok(())
     }
 
-    /// An event brings no datagram that is lost.
-    ///
-    /// # Errors
-    /// `DatagramLost` where it does.
-    pub fn check_event(&self, event: &Event<'_>) -> Result<(), Refusal>
+    /// An event brings no datagram that is lost, else `DatagramLost`.
+    pub fn check_event(&self, event: &Event<'_>) -> Outcome
         ensures passed { OnOk result (brings_lost self.now.lost.items (event_of event.now) ≡ false) }
         ensures refused { OnErr result (brings_lost self.now.lost.items (event_of event.now) ≡ true) }
     {
         match event {
-            Event::Deliver { datagram, .. } if self.is_lost(*datagram) => Err(
-                Refusal::DatagramLost,
-            ),
+            Event::Deliver { datagram, .. } if self.is_lost(*datagram) => {
+                Err(Stop::Refused(Refusal::DatagramLost))
+            }
             _ => Ok(()),
         }
     }

@@ -5,22 +5,21 @@ ghost use Rattle.ripng_phases.specs.Making.{HealsIn};
 ghost use Rattle.ripngd_lab.specs.Phasing.{AllTakePart, AreMadeAndCounted, StopsPhases};
 ghost use Rattle.ripngd_lab.specs.ScriptWatching.{HasTold};
 
-use crate::doing::run_phases;
+use crate::context::moment_after;
+use crate::moving::run_phases;
 use crate::outages::Outages;
-use crate::round::moment_after;
-use crate::site::Routes;
-use crate::stop::{Refusal, Stop};
+use crate::site::{Network, Routes};
+use crate::stop::{Outcome, Refusal, Stop};
 use crate::watching::Watch;
-use crate::words::{BadLine, number};
 use rand_core::SeedableRng;
 use rand_pcg::Pcg32;
-use ripng_world::{Lab, Running};
+use ripng_world::Lab;
 use route_table::Moment;
 use std::alloc::Global;
 use std::fmt;
 
 /// The most phases of one line.
-const PHASES_LIMIT: usize = 1000;
+pub const PHASES_LIMIT: usize = 1000;
 
 /// How long a phase takes, in milliseconds.
 const PHASE_MS: u64 = 60_000;
@@ -47,22 +46,13 @@ impl fmt::Display for MadePhases {
     }
 }
 
-/// How many phases there are: a number from 1 to 1,000.
-pub fn phase_count(word: &str) -> Result<usize, BadLine> {
-    let count: usize = number(word)?;
-    if count == 0 || count > PHASES_LIMIT {
-        return Err(BadLine);
-    }
-    Ok(count)
-}
-
 /// When so many phases are over of which the first begins at a moment, or the last moment that there is.
 pub fn end_of_phases(begin: Moment, phases: usize) -> Option<Moment> {
     moment_after(begin, PHASE_MS, phases as u64).or(Moment::new(LAST_MS))
 }
 
 /// The last moment of all routers, if there is one.
-pub fn latest_moment(lab: &Running<Routes>) -> Option<Moment> {
+pub fn latest_moment(lab: &Network) -> Option<Moment> {
     let mut latest = None;
     for number in 0..lab.routers() {
         if let Some(router) = lab.router(number) {
@@ -78,7 +68,7 @@ pub fn latest_moment(lab: &Running<Routes>) -> Option<Moment> {
 ///
 /// # Errors
 /// `Outage` where a router is silent or a link is cut: nothing is then done. A router whose regular update is not due in time, a
-/// phase past the last moment, want of memory, or of the watcher. What was done before it stays done.
+/// phase past the last moment, out of memory, or the watcher fails. What was done before it stays done.
 pub fn make_phases<V: Watch>(
     alloc: Global,
     lab: &mut Lab<Routes>,
@@ -86,7 +76,7 @@ pub fn make_phases<V: Watch>(
     seed: u64,
     outages: &Outages,
     watch: &mut V,
-) -> Result<(), Stop>
+) -> Outcome
     ensures told { HasTold result V.starts V.takes V.fails V.notes (Some lab.old, watch.old) (Some lab.new, watch.new) }
     ensures all { OnOk result (AllTakePart outages.now) }
     ensures made { OnOk result (AreMadeAndCounted V.takes V.notes (lab.old, watch.old) phases (lab.new, watch.new)) }

@@ -4,12 +4,11 @@ ghost use Rattle.std.specs.Prelude.{◌<◌, ◌≡◌, IfSome, None, OnErr, OnO
 ghost use Rattle.ripng_world.specs.Labs.{LabValue};
 ghost use Rattle.ripngd_lab.specs.ScriptWatching.{HasTold, IsToldOfLab, IsToldUntil, has_failed, lab_in};
 
+use crate::forms::BadLine;
 use crate::printer::Printer;
-use crate::refusal_name::RefusalName;
 use crate::session::Session;
-use crate::stop::{Stop, Unmet};
+use crate::stop::{Outcome, RefusalName, Stop, Unmet};
 use crate::watching::Watch;
-use crate::words::BadLine;
 use std::alloc::Global;
 use std::io::{self, Write};
 use std::str;
@@ -83,18 +82,13 @@ pub fn words_of(text: &str) -> &str {
     }
 }
 
-fn run_line<V: Watch>(
-    alloc: Global,
-    session: &mut Session,
-    line: &[u8],
-    watch: &mut V,
-) -> Result<(), Stop>
+fn run_line<V: Watch>(alloc: Global, session: &mut Session, line: &[u8], watch: &mut V) -> Outcome
     ensures { HasTold result V.starts V.takes V.fails V.notes (lab_in session.old.stage, watch.old) (lab_in session.new.stage, watch.new) }
 {
     if is_skipped(line) {
         return Ok(());
     }
-    let text = str::from_utf8(line).map_err(|_| BadLine)?;
+    let text = str::from_utf8(line).map_err(|_| BadLine::NoText)?;
     let words = words_of(text);
     if words.is_empty() {
         return Ok(());
@@ -107,20 +101,17 @@ fn run_line<V: Watch>(
     }
 }
 
-fn run_words<V: Watch>(
-    alloc: Global,
-    session: &mut Session,
-    words: &str,
-    watch: &mut V,
-) -> Result<(), Stop>
+fn run_words<V: Watch>(alloc: Global, session: &mut Session, words: &str, watch: &mut V) -> Outcome
     ensures { HasTold result V.starts V.takes V.fails V.notes (lab_in session.old.stage, watch.old) (lab_in session.new.stage, watch.new) }
 {
-    let line = session.read(alloc, words)?;
-    session.obey(alloc, line, watch)
+    match session.read(words) {
+        Ok(line) => session.obey(alloc, &line, watch),
+        Err(bad) => Err(Stop::from(bad)),
+    }
 }
 
 /// What becomes of a line that is to be refused by a name: it is as it should be where it is.
-fn await_refusal(name: RefusalName, outcome: Result<(), Stop>) -> Result<(), Stop>
+fn await_refusal(name: RefusalName, outcome: Outcome) -> Outcome
     ensures { has_failed result ≡ has_failed outcome }
 {
     match outcome {

@@ -5,17 +5,15 @@ ghost use Rattle.ripngd_lab.specs.Asides.{Broken};
 ghost use Rattle.ripngd_lab.specs.ScriptWatching.{HasTold, StartsAt, has_failed, lab_in};
 
 use crate::context::Context;
-use crate::course::{Course, run};
-use crate::doing::lie_at;
-use crate::foreign::Foreign;
+use crate::course::{Course, act};
+use crate::forms::{Action, BadLine, Listed, Verb};
 use crate::line::{Line, read_line};
+use crate::listing::list;
+use crate::moving::lie_at;
 use crate::phase::latest_moment;
-use crate::refusal_name::RefusalName;
 use crate::site::{Routes, Site};
-use crate::stop::Stop;
+use crate::stop::{Outcome, RefusalName, Stop};
 use crate::watching::Watch;
-use crate::words::{BadLine, next_prefix};
-use prefix6::Prefix;
 use ripng_world::{Lab, NetConfig, Node};
 use route_table::Moment;
 use router_core::Arrival;
@@ -65,17 +63,14 @@ impl Session {
     }
 
     /// Reads the words of the next line.
-    ///
-    /// # Errors
-    /// What the words are refused for; want of memory.
-    pub fn read(&mut self, alloc: Global, words: &str) -> Result<Line, Stop>
+    pub fn read<'a>(&mut self, words: &'a str) -> Result<Line<'a>, BadLine>
         ensures { self.new.stage ≡ self.old.stage }
     {
         if let Stage::Running(lab) = &self.stage {
             self.context.sent = lab.sent().len();
             self.context.latest = latest_moment(lab.running());
         }
-        read_line(alloc, words, &mut self.context)
+        read_line(words, &mut self.context)
     }
 
     /// The name that the next line is to be refused by, if the line before has said so. It counts once.
@@ -89,69 +84,88 @@ impl Session {
     ///
     /// # Errors
     /// Why the script ends here. What was done before it stays done.
-    pub fn obey<V: Watch>(&mut self, alloc: Global, line: Line, watch: &mut V) -> Result<(), Stop>
+    pub fn obey<V: Watch>(&mut self, alloc: Global, line: &Line<'_>, watch: &mut V) -> Outcome
         ensures { HasTold result V.starts V.takes V.fails V.notes (lab_in self.old.stage, watch.old) (lab_in self.new.stage, watch.new) }
     {
-        match line {
-            Line::Liar { router, datagram } => self.deceive(alloc, router, &datagram, watch),
-            line => self.go_on(alloc, line, watch),
+        match line.verb {
+            Verb::List(listed) => self.list(alloc, listed, line),
+            Verb::Start => self.start(alloc, line.now, watch),
+            Verb::Forge => self.deceive(alloc, line, watch),
+            Verb::Act(action) => self.act(action, line, watch),
         }
     }
 
-    /// Whether a lie may come: the routers run, and this one takes it for a Response of its link.
-    fn check_lie(&self, router: usize, arrival: &Arrival<'_>) -> Result<(), Stop> {
+    /// A line that lists a router, or what one has.
+    fn list(&mut self, alloc: Global, listed: Listed, line: &Line<'_>) -> Outcome
+        ensures { lab_in self.new.stage ≡ lab_in self.old.stage }
+    {
+        match &mut self.stage {
+            Stage::Listing(nodes) => {
+                if !line.text.is_empty() {
+                    self.context.give_name(alloc, line.text, nodes.len())?;
+                }
+                list(alloc, nodes, &line.listing(listed))
+            }
+            Stage::Running(_) => Err(Stop::from(BadLine::AfterStart)),
+        }
+    }
+
+    /// The routers start.
+    fn start<V: Watch>(&mut self, alloc: Global, now: Moment, watch: &mut V) -> Outcome
+        ensures { HasTold result V.starts V.takes V.fails V.notes (lab_in self.old.stage, watch.old) (lab_in self.new.stage, watch.new) }
+    {
+        match &mut self.stage {
+            Stage::Listing(nodes) => {
+                let nodes = mem::replace(nodes, Vec::new(alloc));
+                self.stage = Stage::Running(Site::lawful(begin_lab(alloc, nodes, now, watch)?));
+                Ok(())
+            }
+            Stage::Running(_) => Err(Stop::from(BadLine::SecondStart)),
+        }
+    }
+
+    /// A line about routers that run.
+    fn act<V: Watch>(&mut self, action: Action, line: &Line<'_>, watch: &mut V) -> Outcome
+        ensures { HasTold result V.starts V.takes V.fails V.notes (lab_in self.old.stage, watch.old) (lab_in self.new.stage, watch.new) }
+    {
+        match &mut self.stage {
+            Stage::Running(site) => act(site, &mut self.course, action, line, watch),
+            Stage::Listing(_) => Err(Stop::from(BadLine::BeforeStart)),
+        }
+    }
+
+    /// A forged Response arrives. If it is refused, the network stays verified.
+    fn deceive<V: Watch>(&mut self, alloc: Global, line: &Line<'_>, watch: &mut V) -> Outcome
+        ensures { HasTold result V.starts V.takes V.fails V.notes (lab_in self.old.stage, watch.old) (lab_in self.new.stage, watch.new) }
+    {
+        let bytes = line.bytes(alloc)?;
+        let arrival = line.arrival(&bytes);
+        self.check_lie(line.router, &arrival)?;
+        self.give_up(alloc);
+        match &mut self.stage {
+            Stage::Running(site) => lie_at(site, line.router, &arrival, watch),
+            Stage::Listing(_) => Err(Stop::from(BadLine::BeforeStart)),
+        }
+    }
+
+    /// Whether a forged Response may arrive: the routers run, and this one accepts it.
+    fn check_lie(&self, router: usize, arrival: &Arrival<'_>) -> Outcome {
         match &self.stage {
             Stage::Running(site) => Ok(site.running().check_lie(router, arrival)?),
-            Stage::Listing(_) => Err(Stop::from(BadLine)),
+            Stage::Listing(_) => Err(Stop::from(BadLine::BeforeStart)),
         }
     }
 
-    /// The routers are a lab no longer, if they were: from now on nothing is promised of them but each step.
+    /// The network is verified no longer: from now on nothing is promised of it but each step.
     fn give_up(&mut self, alloc: Global)
         ensures { lab_in self.new.stage ≡ lab_in self.old.stage }
     {
         let stage = mem::replace(&mut self.stage, Stage::Listing(Vec::new(alloc)));
         self.stage = stage.lied();
     }
-
-    /// Somebody lies to a router. A lie that is refused leaves the lab one.
-    fn deceive<V: Watch>(
-        &mut self,
-        alloc: Global,
-        router: usize,
-        datagram: &Foreign,
-        watch: &mut V,
-    ) -> Result<(), Stop>
-        ensures { HasTold result V.starts V.takes V.fails V.notes (lab_in self.old.stage, watch.old) (lab_in self.new.stage, watch.new) }
-    {
-        let arrival = datagram.arrival();
-        self.check_lie(router, &arrival)?;
-        self.give_up(alloc);
-        match &mut self.stage {
-            Stage::Running(site) => lie_at(site, router, &arrival, watch),
-            Stage::Listing(_) => Err(Stop::from(BadLine)),
-        }
-    }
-
-    /// A line of no lie.
-    fn go_on<V: Watch>(&mut self, alloc: Global, line: Line, watch: &mut V) -> Result<(), Stop>
-        ensures { HasTold result V.starts V.takes V.fails V.notes (lab_in self.old.stage, watch.old) (lab_in self.new.stage, watch.new) }
-    {
-        match &mut self.stage {
-            Stage::Running(lab) => run(alloc, lab, &mut self.course, line, watch),
-            Stage::Listing(nodes) => match line {
-                Line::Cold { now } => {
-                    let nodes = mem::replace(nodes, Vec::new(alloc));
-                    self.stage = Stage::Running(Site::lawful(begin_lab(alloc, nodes, now, watch)?));
-                    Ok(())
-                }
-                line => list(alloc, nodes, &mut self.context, line),
-            },
-        }
-    }
 }
 
-/// The routers of a network start at one moment, and the watcher is told.
+/// The routers of a network start at one time, and the watcher is told.
 fn begin_lab<V: Watch>(
     alloc: Global,
     nodes: Vec<Node>,
@@ -166,59 +180,7 @@ fn begin_lab<V: Watch>(
     Ok(lab)
 }
 
-/// A line that lists a router, or what one has.
-fn list(
-    alloc: Global,
-    nodes: &mut Vec<Node>,
-    context: &mut Context,
-    line: Line,
-) -> Result<(), Stop> {
-    match line {
-        Line::Router { quiet, name } => {
-            give_name(context, name, nodes.len())?;
-            begin(alloc, nodes, quiet)
-        }
-        Line::Iface(interface) => Ok(newest(nodes)?.interfaces.push(interface)?),
-        Line::Own { prefix, tag, times } => own(newest(nodes)?, prefix, tag, times),
-        _ => Err(Stop::from(BadLine)),
-    }
-}
-
-/// The next router begins.
-fn begin(alloc: Global, nodes: &mut Vec<Node>, quiet: bool) -> Result<(), Stop> {
-    nodes.push(Node {
-        interfaces: Vec::new(alloc),
-        prefixes: Vec::new(alloc),
-        quiet,
-    })?;
-    Ok(())
-}
-
-/// A router gets its name, if it has one.
-fn give_name(context: &mut Context, name: Option<String>, router: usize) -> Result<(), Stop> {
-    match name {
-        Some(name) => context.names.add(name, router),
-        None => Ok(()),
-    }
-}
-
-/// A router owns a row of so many prefixes.
-fn own(node: &mut Node, first: Prefix, tag: u16, times: usize) -> Result<(), Stop> {
-    let mut next = Some(first);
-    for _ in 0..times {
-        let prefix = next.ok_or(BadLine)?;
-        node.prefixes.push((prefix, tag))?;
-        next = next_prefix(prefix);
-    }
-    Ok(())
-}
-
-/// The router that is being listed.
-fn newest(nodes: &mut [Node]) -> Result<&mut Node, BadLine> {
-    nodes.last_mut().ok_or(BadLine)
-}
-
-/// Checks the network and starts its routers at one moment.
+/// Checks the network and starts its routers at one time.
 fn start(alloc: Global, nodes: Vec<Node>, now: Moment) -> Result<Lab<Routes>, Stop>
     ensures { IfOk result (λ lab. StartsAt lab now) }
 {

@@ -13,13 +13,16 @@ use std::marker::Model;
 /// The tables of a script's routers.
 pub type Routes = SortedRoutes;
 
+/// The routers of a script as they run.
+pub type Network = Running<Routes>;
+
 /// What runs there.
 #[derive(Drop)]
 pub enum Held {
     /// A lab, of which all is promised.
     Lawful(Lab<Routes>),
     /// Routers of which one was lied to.
-    Lied(Running<Routes>),
+    Lied(Network),
 }
 
 /// Where a script's routers run.
@@ -69,7 +72,7 @@ impl Site {
     }
 
     /// The routers as they run.
-    pub fn running(&self) -> &Running<Routes>
+    pub fn running(&self) -> &Network
         ensures { result.now ≡ self.now }
     {
         match &self.held {
@@ -95,7 +98,7 @@ impl Site {
     /// An event happens, and a watcher is told of it with its answer.
     ///
     /// # Errors
-    /// The first reason to refuse the event, or want of memory, and then nobody is told; or the watcher's, and then the event is done.
+    /// The first reason to refuse the event, or out of memory, and then nobody is told; or the watcher's, and then the event is done.
     pub fn step_watched<V: Observer<Routes>>(
         &mut self,
         event: &Event<'_>,

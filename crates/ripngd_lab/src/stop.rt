@@ -1,8 +1,9 @@
 //! Why a script ends before its last line.
 
 use crate::expecting::Expected;
-use crate::refusal_name::RefusalName;
-use crate::words::BadLine;
+use crate::forms::BadLine;
+use crate::ways::Fate;
+use prefix6::Addr6;
 use ripng_phases::PhaseRefused;
 use ripng_world::{LabError, NetRefused, RoundsRefused};
 use std::alloc::{AllocError, AllocFailed};
@@ -12,7 +13,7 @@ use std::{fmt, io};
 #[derive(Clone, Copy, Debug, PartialEq, Eq)]
 pub enum Refusal {
     /// The line is malformed, or out of place.
-    BadLine,
+    BadLine(BadLine),
     /// Two routers get one name.
     NameTwice,
     /// No interface is on the link.
@@ -21,7 +22,7 @@ pub enum Refusal {
     DatagramLost,
     /// Phases are asked for while a router is silent or a link is cut.
     Outage,
-    /// There are no phases behind a lie.
+    /// There are no phases after a forged Response.
     LiedTo,
     /// The routers make no network.
     Network(NetRefused),
@@ -41,52 +42,18 @@ pub enum Unmet {
         expected: Expected,
         found: Option<u8>,
     },
+    /// Something else becomes of packets.
+    Fate {
+        router: usize,
+        addr: Addr6,
+        expected: Fate,
+        found: Fate,
+    },
     /// The line was to be refused by this name, and is done, or refused for another reason.
     Refusal {
         name: RefusalName,
         found: Option<Refusal>,
     },
-}
-
-impl fmt::Display for Unmet {
-    fn fmt<W: fmt::Write>(&self, f: &mut fmt::Formatter<W>) -> fmt::Result {
-        match self {
-            Unmet::Metric { expected, found } => write_unmet_metric(expected, *found, f),
-            Unmet::Refusal { name, found } => write_unmet_refusal(*name, *found, f),
-        }
-    }
-}
-
-fn write_unmet_refusal<W: fmt::Write>(
-    name: RefusalName,
-    found: Option<Refusal>,
-    f: &mut fmt::Formatter<W>,
-) -> fmt::Result {
-    write!(f, "expected refused {} found ", name.word())?;
-    match found {
-        Some(found) => write!(f, "refused {found}"),
-        None => write!(f, "done"),
-    }
-}
-
-fn write_unmet_metric<W: fmt::Write>(
-    expected: &Expected,
-    found: Option<u8>,
-    f: &mut fmt::Formatter<W>,
-) -> fmt::Result {
-    let Expected { router, prefix, .. } = expected;
-    write!(f, "expected {router} {prefix} ")?;
-    write_metric(expected.metric, f)?;
-    write!(f, " found ")?;
-    write_metric(found, f)
-}
-
-/// A metric, or `none`.
-fn write_metric<W: fmt::Write>(metric: Option<u8>, f: &mut fmt::Formatter<W>) -> fmt::Result {
-    match metric {
-        Some(metric) => write!(f, "{metric}"),
-        None => write!(f, "none"),
-    }
 }
 
 /// Why a script ends before its last line.
@@ -100,41 +67,150 @@ pub enum Stop {
     Failed(io::Error),
 }
 
+/// How a line ends: done, or as the script ends there.
+pub type Outcome = Result<(), Stop>;
+
+/// The names that `refused NAME` may have: of refusals that a line after `cold` may meet, and of a router's reasons to refuse a change.
+const NAMES: [&str; 21] = [
+    "BadLine",
+    "NoSuchLink",
+    "DatagramLost",
+    "Outage",
+    "LiedTo",
+    "NoSuchRouter",
+    "NoSuchInterface",
+    "NoSuchDatagram",
+    "OtherLink",
+    "NotAStranger",
+    "NotALiar",
+    "ReconfigureRefused",
+    "NoRegularUpdate",
+    "NoUpdateInTime",
+    "PastLastMoment",
+    "BadCost",
+    "PrefixNotAllowed",
+    "AlreadyOwned",
+    "OwnedFull",
+    "NotOwned",
+    "TableFull",
+];
+
+/// The name of a refusal, by its place among all.
+#[derive(Clone, Copy, Debug, PartialEq, Eq)]
+pub struct RefusalName {
+    place: usize,
+}
+
+impl RefusalName {
+    /// The name, one word.
+    pub fn word(self) -> &'static str {
+        NAMES.get(self.place).copied().unwrap_or("")
+    }
+}
+
+/// The name that a word is, if it is one.
+pub fn refusal_name(word: &str) -> Option<RefusalName> {
+    let place = NAMES.iter().position(|name| *name == word)?;
+    Some(RefusalName { place })
+}
+
 impl Refusal {
+    fn name(&self) -> &'static str {
+        match self {
+            Refusal::BadLine(_) => "BadLine",
+            Refusal::NameTwice => "NameTwice",
+            Refusal::NoSuchLink => "NoSuchLink",
+            Refusal::DatagramLost => "DatagramLost",
+            Refusal::Outage => "Outage",
+            Refusal::LiedTo => "LiedTo",
+            Refusal::Network(refused) => refused.name(),
+            Refusal::Event(error) => error.name(),
+            Refusal::Rounds(refused) => refused.name(),
+            Refusal::Phases { refused, .. } => refused.name(),
+        }
+    }
+
+    fn number(&self) -> Option<u8> {
+        match self {
+            Refusal::Network(refused) => Some(refused.number()),
+            Refusal::Event(error) => Some(error.number()),
+            Refusal::Rounds(refused) => Some(refused.number()),
+            Refusal::Phases { refused, .. } => Some(refused.number()),
+            _ => None,
+        }
+    }
+
     /// Whether this is the name of the refusal, or of a router's reason for it.
     pub fn is_named(&self, name: &str) -> bool {
         match self {
-            Refusal::BadLine => name == "BadLine",
-            Refusal::NameTwice => name == "NameTwice",
-            Refusal::NoSuchLink => name == "NoSuchLink",
-            Refusal::DatagramLost => name == "DatagramLost",
-            Refusal::Outage => name == "Outage",
-            Refusal::LiedTo => name == "LiedTo",
-            Refusal::Network(refused) => refused.name() == name,
-            Refusal::Event(error) => error.name() == name || is_reason(*error, name),
-            Refusal::Rounds(refused) => refused.name() == name,
-            Refusal::Phases { refused, .. } => refused.name() == name,
+            Refusal::Event(LabError::ReconfigureRefused(why)) if why.name() == name => true,
+            _ => self.name() == name,
         }
     }
 }
 
-/// Whether this is the name of a router's reason to refuse a change.
-fn is_reason(error: LabError, name: &str) -> bool {
-    match error {
-        LabError::ReconfigureRefused(why) => why.name() == name,
-        _ => false,
+impl fmt::Display for Refusal {
+    fn fmt<W: fmt::Write>(&self, f: &mut fmt::Formatter<W>) -> fmt::Result {
+        if let Some(number) = self.number() {
+            write!(f, "{number} ")?;
+        }
+        write!(f, "{}", self.name())?;
+        match self {
+            Refusal::Network(NetRefused::BadRouter { router, refusal }) => {
+                write!(f, " {router} {refusal}")
+            }
+            Refusal::Event(LabError::ReconfigureRefused(why)) => write!(f, " {why}"),
+            Refusal::Rounds(RoundsRefused::NoRegularUpdate { round, router }) => {
+                write!(f, " {round} {router}")
+            }
+            Refusal::Phases {
+                phase,
+                refused: PhaseRefused::NoUpdateInTime { router },
+            } => { write!(f, " {phase} {router}") }
+            Refusal::Phases { phase, .. } => write!(f, " {phase}"),
+            _ => Ok(()),
+        }
+    }
+}
+
+impl fmt::Display for Unmet {
+    fn fmt<W: fmt::Write>(&self, f: &mut fmt::Formatter<W>) -> fmt::Result {
+        match self {
+            Unmet::Metric { expected, found } => {
+                let Expected { router, prefix, .. } = expected;
+                write!(f, "expected {router} {prefix} ")?;
+                write_metric(expected.metric, f)?;
+                write!(f, " found ")?;
+                write_metric(*found, f)
+            }
+            Unmet::Fate {
+                router,
+                addr,
+                expected,
+                found,
+            } => write!(f, "expected path {router} {addr} {expected} found {found}"),
+            Unmet::Refusal { name, found } => {
+                write!(f, "expected refused {} found ", name.word())?;
+                match found {
+                    Some(found) => write!(f, "refused {found}"),
+                    None => write!(f, "done"),
+                }
+            }
+        }
+    }
+}
+
+/// A metric, or `none`.
+fn write_metric<W: fmt::Write>(metric: Option<u8>, f: &mut fmt::Formatter<W>) -> fmt::Result {
+    match metric {
+        Some(metric) => write!(f, "{metric}"),
+        None => write!(f, "none"),
     }
 }
 
 impl From<BadLine> for Stop {
-    fn from(_: BadLine) -> Stop {
-        Stop::Refused(Refusal::BadLine)
-    }
-}
-
-impl From<Refusal> for Stop {
-    fn from(refusal: Refusal) -> Stop {
-        Stop::Refused(refusal)
+    fn from(bad: BadLine) -> Stop {
+        Stop::Refused(Refusal::BadLine(bad))
     }
 }
 
@@ -185,62 +261,5 @@ impl From<RoundsRefused> for Stop {
             RoundsRefused::OutOfMemory { .. } => Stop::from(AllocError),
             RoundsRefused::NoRegularUpdate { .. } => Stop::Refused(Refusal::Rounds(refused)),
         }
-    }
-}
-
-impl fmt::Display for Refusal {
-    fn fmt<W: fmt::Write>(&self, f: &mut fmt::Formatter<W>) -> fmt::Result {
-        match self {
-            Refusal::BadLine => write!(f, "BadLine"),
-            Refusal::NameTwice => write!(f, "NameTwice"),
-            Refusal::NoSuchLink => write!(f, "NoSuchLink"),
-            Refusal::DatagramLost => write!(f, "DatagramLost"),
-            Refusal::Outage => write!(f, "Outage"),
-            Refusal::LiedTo => write!(f, "LiedTo"),
-            Refusal::Network(refused) => write_network(*refused, f),
-            Refusal::Event(error) => write_event(*error, f),
-            Refusal::Rounds(refused) => write_rounds(*refused, f),
-            Refusal::Phases { phase, refused } => write_phases(*phase, *refused, f),
-        }
-    }
-}
-
-/// An event is refused, and if by a router that is to be changed, why.
-fn write_event<W: fmt::Write>(error: LabError, f: &mut fmt::Formatter<W>) -> fmt::Result {
-    write!(f, "{} {}", error.number(), error.name())?;
-    match error {
-        LabError::ReconfigureRefused(why) => write!(f, " {} {}", why.number(), why.name()),
-        _ => Ok(()),
-    }
-}
-
-/// Rounds stop, and if before a tick, in which round and at which router.
-fn write_rounds<W: fmt::Write>(refused: RoundsRefused, f: &mut fmt::Formatter<W>) -> fmt::Result {
-    write!(f, "{} {}", refused.number(), refused.name())?;
-    match refused {
-        RoundsRefused::NoRegularUpdate { round, router } => write!(f, " {round} {router}"),
-        RoundsRefused::OutOfMemory { round } => write!(f, " {round}"),
-    }
-}
-
-/// Phases stop in one of them, and if for a regular update, at which router.
-fn write_phases<W: fmt::Write>(
-    phase: usize,
-    refused: PhaseRefused,
-    f: &mut fmt::Formatter<W>,
-) -> fmt::Result {
-    write!(f, "{} {} {phase}", refused.number(), refused.name())?;
-    match refused {
-        PhaseRefused::NoUpdateInTime { router } => write!(f, " {router}"),
-        PhaseRefused::PastLastMoment | PhaseRefused::OutOfMemory => Ok(()),
-    }
-}
-
-/// A network is refused, and if for a router, for which one and why.
-fn write_network<W: fmt::Write>(refused: NetRefused, f: &mut fmt::Formatter<W>) -> fmt::Result {
-    write!(f, "{} {}", refused.number(), refused.name())?;
-    match refused {
-        NetRefused::BadRouter { router, refusal } => write!(f, " {router} {refusal}"),
-        _ => Ok(()),
     }
 }

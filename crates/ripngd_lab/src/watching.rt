@@ -6,10 +6,10 @@ ghost use Rattle.ripng_world.specs.World.{Stranger};
 ghost use Rattle.ripngd_lab.specs.Asides.{Aside, Broken, CountsPhases, Lie, NextLine, Prints};
 
 use crate::phase::MadePhases;
-use crate::printing::Choice;
-use crate::site::Routes;
+use crate::printer::Choice;
+use crate::site::{Network, Routes};
 use crate::stop::{Refusal, Unmet};
-use ripng_world::Running;
+use crate::ways::Way;
 use route_table::Moment;
 use router_core::{Answer, Arrival};
 use std::io;
@@ -30,7 +30,7 @@ pub trait Watch: ripng_world::Observer<Routes, Fault = io::Error> {
     ///
     /// # Errors
     /// Of what the watcher writes to, or want of memory; so are those below.
-    fn started(&mut self, lab: &Running<Routes>, now: Moment) -> io::Result<()>
+    fn started(&mut self, lab: &Network, now: Moment) -> io::Result<()>
         ensures starts { OnOk result (starts self.old lab.now now self.new) }
         ensures broken { OnErr result (notes self.old Broken self.new) };
 
@@ -38,7 +38,7 @@ pub trait Watch: ripng_world::Observer<Routes, Fault = io::Error> {
     /// datagrams from the number `first` on, and are not in the answer.
     fn lied(
         &mut self,
-        running: &Running<Routes>,
+        running: &Network,
         router: usize,
         arrival: &Arrival<'_>,
         answer: &Answer,
@@ -48,12 +48,17 @@ pub trait Watch: ripng_world::Observer<Routes, Fault = io::Error> {
         ensures broken { OnErr result (notes self.old Broken self.new) };
 
     /// The line `print`: which routes it asks for.
-    fn routes_asked(&mut self, lab: &Running<Routes>, choice: &Choice) -> io::Result<()>
+    fn routes_asked(&mut self, lab: &Network, choice: &Choice) -> io::Result<()>
         ensures notes { OnOk result (notes self.old Prints self.new) }
         ensures broken { OnErr result (notes self.old Broken self.new) };
 
     /// The line `sent`: the number of the datagram that it asks for, if not for all.
-    fn datagrams_asked(&mut self, lab: &Running<Routes>, asked: Option<usize>) -> io::Result<()>
+    fn datagrams_asked(&mut self, lab: &Network, asked: Option<usize>) -> io::Result<()>
+        ensures notes { OnOk result (notes self.old Prints self.new) }
+        ensures broken { OnErr result (notes self.old Broken self.new) };
+
+    /// The line `path`: where packets go.
+    fn way_asked(&mut self, way: &Way) -> io::Result<()>
         ensures notes { OnOk result (notes self.old Prints self.new) }
         ensures broken { OnErr result (notes self.old Broken self.new) };
 

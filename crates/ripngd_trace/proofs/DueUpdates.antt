@@ -15,8 +15,8 @@ use Rattle.ripng_world.specs.Network.{Network}
 use Rattle.ripng_world.specs.World.{World, Event, Deliver, Stranger, Tick, Restart, Shutdown, LinkDown, Reconfigure, Happens}
 use Rattle.ripng_world.proofs.WorldRuns.{get_map}
 use Rattle.ripngd_trace.proofs.Getting.{get_here}
-use Rattle.ripngd_trace.specs.Reading.{all_timers}
-use Rattle.ripngd_trace.specs.Records.{timers_in}
+use Rattle.ripngd_trace.specs.Reading.{known_of}
+use Rattle.ripngd_trace.specs.Records.{known_as, timers_in}
 use Rattle.ripngd_trace.specs.Updates.{TellsUpdate, due_at, due_update, update_by}
 use Rattle.ripngd_trace.specs.declared.records.UpdateRecord.{UpdateRecord}
 use Rattle.ripngd_trace.specs.declared.records.UpdateRecord.TheVariants.{Regular, Triggered, Held}
@@ -81,7 +81,7 @@ module _ (s : State) (now word : ℕ) where
 
 -- so they say it of an event
 pub update_told : (net : Network) (w : World) (e : Event) (answer : Answer) (mid : World) → Happens net w e answer mid → (update : Option UpdateRecord)
-    → TellsUpdate (all_timers w) (record { network = net; world = mid }) e update → update ≡ due_at (record { network = net; world = w }) e
+    → TellsUpdate (known_of w) (record { network = net; world = mid }) e update → update ≡ due_at (record { network = net; world = w }) e
 update_told net w (Deliver datagram router iface now) answer mid happens update tells = tells
 update_told net w (Stranger router x) answer mid happens update tells = tells
 update_told net w (Restart router now) answer mid happens update tells = tells
@@ -89,8 +89,8 @@ update_told net w (Shutdown router now) answer mid happens update tells = tells
 update_told net w (LinkDown router now iface) answer mid happens update tells = tells
 update_told net w (Reconfigure router now c) answer mid happens update tells = tells
 update_told net w (Tick router now word) answer mid happens update tells =
-    tells (timers_in happens.old) happens.new
-    (get_map timers_in w.states router ∙ ap (option_map timers_in) happens.old_is)
+    tells (known_as happens.old) happens.new
+    (get_map known_as w.states router ∙ ap (option_map known_as) happens.old_is)
     (ap (λ (ss : List State). slice_get ss router) happens.states ∙ get_here w.states router happens.old happens.new happens.old_is)
     ∙ ap (update_by (timers_in happens.old)) happens.moves.state
     ∙ ticked_tells happens.old (max happens.old.last now) word

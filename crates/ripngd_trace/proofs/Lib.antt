@@ -4,7 +4,7 @@ pub mod Growing
 pub mod Lines
 pub mod Listing
 pub mod Reading
-pub mod Showing
+pub mod Routes
 pub mod Starting
 pub mod Telling
 pub mod Told

@@ -1,5 +1,5 @@
 -- Lines that are written.
-use Rattle.std.proofs.Common.{◌≡◌, ◌≢◌, ◌<◌, ◌≤◌, ◌+◌, ◌-◌, ◌∙◌, ℕ, drop, sym, List, [], ◌∷◌, ◌++◌, OnErr, OnOk, Option, Result, Ok, Err, ap, arith, inr, length, subst, take}
+use Rattle.std.proofs.Common.{◌≡◌, ◌≢◌, ◌<◌, ◌≤◌, ◌+◌, ◌-◌, ◌∙◌, ℕ, drop, sym, List, [], ◌∷◌, ◌++◌, OnErr, OnOk, Option, None, Result, Ok, Err, ap, arith, inl, inr, length, refl, subst, take}
 use Rattle.std.specs.Io.KnownBytes.{Appends}
 use Rattle.std.proofs.KnownBytes.{Appends-trans}
 use Rattle.std.proofs.Math.Arith.{lt_of_le-ne}
@@ -7,7 +7,9 @@ use Rattle.std.proofs.Math.Seq.{take-add}
 use Rattle.std.proofs.lemmas.List.{length-drop, take-append-le, take_rest}
 use Rattle.json.specs.Json.{Json}
 use Rattle.ripngd_trace.specs.Json.{text_of}
-use Rattle.ripngd_trace.specs.Lines.{WritesLess, WritesRecord}
+use Rattle.ripngd_trace.specs.Lines.{WritesLess, WritesRecord, written_as}
+use Rattle.ripngd_trace.specs.declared.writing.Form.{Form}
+use Rattle.ripngd_trace.specs.declared.writing.Form.TheVariants as form
 use Rattle.ripngd_trace.proofs.Starting.{length_push}
 
 module _ {X E : Type 0} (result : Result X E) (json : Json) (bytes : List ℕ) (old new : Option (List ℕ)) (is : bytes ≡ text_of json ++ 10 ∷ []) where
@@ -43,8 +45,26 @@ module _ (bytes : List ℕ) (at count next : ℕ) (before : at < length bytes) (
       (subst (Appends old new) (ap (λ (bs : List ℕ). take at bytes ++ take count bs) (take_rest bytes at) ∙ sym (take-add at count bytes))
       (Appends-trans old mid new (take at bytes) (take count (take (length bytes - at) (drop at bytes))) first rest))
 
--- of a record with this word
-pub under_word : {X E R : Type 0} (result : Result X E) (word_of : R → List ℕ) (json : R → Json) (word : List ℕ) (r : R) (old new : Option (List ℕ)) → word_of r ≡ word
-    → OnOk result (WritesRecord (json r) old new) → OnOk result ((x : R) × (word_of x ≡ word) × WritesRecord (json x) old new)
-under_word (Ok x) word_of json word r old new is writes = (r, is, writes)
-under_word (Err e) word_of json word r old new is writes = tt
+-- a record that is written as JSON is so in that form
+module _ {X E : Type 0} (result : Result X E) (json : Json) (f : Form) (old new : Option (List ℕ)) (is : f ≡ form.Json) where
+  pub whole_as : OnOk result (WritesRecord json old new) → OnOk result (WritesRecord json (written_as f old) (written_as f new))
+  whole_as whole = subst (λ (g : Form). OnOk result (WritesRecord json (written_as g old) (written_as g new))) (sym is) whole
+
+  pub broken_as : OnErr result (WritesLess old new) → OnErr result (WritesLess (written_as f old) (written_as f new))
+  broken_as broken = subst (λ (g : Form). OnErr result (WritesLess (written_as g old) (written_as g new))) (sym is) broken
+
+-- of English nothing is claimed
+module _ {X E : Type 0} (result : Result X E) (json : Json) (f : Form) (old new : Option (List ℕ)) (is : f ≡ form.English) where
+  pub whole_unclaimed : OnOk result (WritesRecord json (written_as f old) (written_as f new))
+  whole_unclaimed = subst (λ (g : Form). OnOk result (WritesRecord json (written_as g old) (written_as g new))) (sym is) (by result)
+    where
+      by : (q : Result X E) → OnOk q (WritesRecord json None None)
+      by (Ok x) = record { appends = tt }
+      by (Err e) = tt
+
+  pub broken_unclaimed : OnErr result (WritesLess (written_as f old) (written_as f new))
+  broken_unclaimed = subst (λ (g : Form). OnErr result (WritesLess (written_as g old) (written_as g new))) (sym is) (by result)
+    where
+      by : (q : Result X E) → OnErr q (WritesLess None None)
+      by (Ok x) = tt
+      by (Err e) = inl refl

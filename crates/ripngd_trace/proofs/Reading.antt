@@ -1,6 +1,6 @@
 -- Who reads the lines of a trace has each router's table after each.
-use Rattle.std.proofs.Common.{◌≡◌, ◌⊎◌, inl, inr, ℕ, refl, ap, sym, subst, subst₂, ◌∙◌, List, [], ◌∷◌, ◌++◌, map, Option, None, Some, IfSome, OnErr, OnOk, Result, Ok, Err, option_map, slice_get, slice_set}
-use Rattle.std.specs.List.{AllZip}
+use Rattle.std.proofs.Common.{◌≡◌, ◌⊎◌, inl, inr, ℕ, Bool, true, false, refl, ap, sym, subst, subst₂, ◌∙◌, List, [], ◌∷◌, ◌++◌, map, Option, None, Some, IfSome, OnErr, OnOk, Result, Ok, Err, option_map, get_or, slice_get, slice_set}
+use Rattle.std.specs.FinMap as map_of
 use Rattle.std.proofs.lemmas.List.{map-set}
 use Rattle.route_table.specs.Table.{Table}
 use Rattle.router_core.specs.Machine.{State, Happening, Arrives, Ticks, Restarts, ShutsDown, LinkGoesDown, Reconfigures}
@@ -13,18 +13,20 @@ use Rattle.ripng_world.specs.World.{World, Event, Deliver, Stranger, Tick, Resta
 use Rattle.ripng_world.proofs.WorldRuns.{get_map}
 use Rattle.ripngd_lab.specs.Asides.{Aside, NextLine, Prints, CountsPhases, Lie, Broken}
 use Rattle.ripngd_lab.specs.ScriptWatching.{Telling, Starts, Does, Turns, Notes, Counts, Deceives, TellsAll, FailsAtRest, FailsAtEvent, FailsAtLie, IsToldUntil, StartsAt}
-use Rattle.ripngd_trace.specs.Events.{RecordTells, TellsLie}
-use Rattle.ripngd_trace.specs.Reading.{AreWritten, IsTracedUntil, IsWritten, Line, StartLine, EventLine, LieLine, Explains, PrintLine, RefusedLine, LostLine, PhasesLine, Shown, ShowsTable, TellsOf, TellsScript, all_timers, read_line, tables_in, tables_of, timers_of}
+use Rattle.ripngd_trace.specs.Events.{RecordTells}
 use Rattle.ripngd_trace.specs.Offers.{TellsOffers}
-use Rattle.ripngd_trace.specs.Records.{LeadsTo, timers_in}
-use Rattle.ripngd_trace.specs.Saying.{BreaksOff, Said, SaysAside, SaysEvent, SaysLie, SaysLost, SaysPhases, SaysPrint, SaysRefused, SaysStart}
+use Rattle.ripngd_trace.specs.Reading.{AreWritten, IsTracedUntil, IsWritten, Line, StartLine, EventLine, AsideLine, Explains, HasWord, TellsMove, TellsOf, TellsScript, known_in, known_of, read_line, tables_in, tables_of}
+use Rattle.ripngd_trace.specs.Records.{LeadsTo, known_as, taken_out, with_routes}
+use Rattle.ripngd_trace.specs.Saying.{BreaksOff, EventIsTold, IsPrinted, Knows, Said, SaysAlone, SaysAside, SaysEvent, SaysMove, SaysStart}
 use Rattle.ripngd_trace.specs.Starting.{TellsStart}
-use Rattle.ripngd_trace.specs.declared.records.EventRecord.{EventRecord}
 use Rattle.ripngd_trace.specs.Updates.{TellsUpdate}
+use Rattle.ripngd_trace.specs.declared.known.KnownRouter.{KnownRouter}
+use Rattle.ripngd_trace.specs.declared.records.Action.{Action}
+use Rattle.ripngd_trace.specs.declared.records.Action.TheVariants as action
+use Rattle.ripngd_trace.specs.declared.records.EventRecord.{EventRecord}
 use Rattle.ripngd_trace.specs.declared.records.StartRecord.{StartRecord}
-use Rattle.ripngd_trace.specs.declared.records.Timers.{Timers}
-use Rattle.ripngd_trace.proofs.Getting.{get_here}
-use Rattle.ripngd_trace.proofs.Showing.{shows_set, shows_started}
+use Rattle.ripngd_trace.proofs.Getting.{get_here, get_some}
+use Rattle.ripngd_trace.proofs.Starting.{started}
 use Rattle.ripngd_trace.proofs.DueUpdates.{update_told}
 
 -- ---- one event
@@ -51,82 +53,83 @@ on_err (Ok x) p leads = tt
 on_err (Err e) p leads = leads p
 
 -- the router that moved, and what its record leads to
-module _ (w : World) (router : ℕ) (what : Happening) (answer : Answer) (mid : World) (move : RouterMoves w router what answer mid) (said said' : Said) (is : said.known ≡ tables_of w) (clocks : said.timers ≡ all_timers w)
-    (r : EventRecord) (router_is : r.router ≡ router)
-    (listed : IfSome (slice_get said.known r.router) (λ before. IfSome (slice_get mid.states r.router) (λ state. LeadsTo before r.routes.items r.gone.items state.table)))
-    (known_is : IfSome (slice_get mid.states r.router) (λ state. said'.known ≡ slice_set said.known r.router state.table))
-    (timers_are : IfSome (slice_get mid.states r.router) (λ state. said'.timers ≡ slice_set said.timers r.router (timers_in state))) where
-  was : slice_get said.known r.router ≡ Some move.old.table
+module _ (is_forged : Bool) (l l1 : LabValue) (e : Event) (answer : Answer) (what : Happening) (move : RouterMoves l.world (router_of e) what answer l1.world)
+    (known known' : Knows) (is : known.routers ≡ known_of l.world)
+    (r : EventRecord) (told : EventIsTold is_forged known (telling l.network l.world e answer l1.world) r known') where
+  was : slice_get known.routers r.router ≡ Some (known_as move.old)
   was =
-      ap (slice_get said.known) router_is ∙ ap (λ (ts : List Table). slice_get ts router) is ∙ get_map (λ (s : State). s.table) w.states router
-      ∙ ap (option_map (λ (s : State). s.table)) move.old_is
+      ap (slice_get known.routers) told.tells.router_is ∙ ap (λ (ks : List KnownRouter). slice_get ks (router_of e)) is
+      ∙ get_map known_as l.world.states (router_of e) ∙ ap (option_map known_as) move.old_is
 
-  is_now : slice_get mid.states r.router ≡ Some move.new
+  is_now : slice_get l1.world.states r.router ≡ Some move.new
   is_now =
-      ap (slice_get mid.states) router_is ∙ ap (λ (ss : List State). slice_get ss router) move.states
-      ∙ get_here w.states router move.old move.new move.old_is
+      ap (slice_get l1.world.states) told.tells.router_is ∙ ap (λ (ss : List State). slice_get ss (router_of e)) move.states
+      ∙ get_here l.world.states (router_of e) move.old move.new move.old_is
 
-  -- then the table of each router is known
-  known_after : said'.known ≡ tables_of mid
+  -- then each router is known
+  known_after : known'.routers ≡ known_of l1.world
   known_after =
-      of_some (slice_get mid.states r.router) move.new (λ (s : State). said'.known ≡ slice_set said.known r.router s.table) is_now known_is
-      ∙ ap (λ (i : ℕ). slice_set said.known i move.new.table) router_is ∙ ap (λ (ts : List Table). slice_set ts router move.new.table) is
-      ∙ sym (map-set (λ (s : State). s.table) w.states router move.new) ∙ ap (map (λ (s : State). s.table)) (sym move.states)
-
-  -- and its timers
-  timers_after : said'.timers ≡ all_timers mid
-  timers_after =
-      of_some (slice_get mid.states r.router) move.new (λ (s : State). said'.timers ≡ slice_set said.timers r.router (timers_in s)) is_now timers_are
-      ∙ ap (λ (i : ℕ). slice_set said.timers i (timers_in move.new)) router_is ∙ ap (λ (ts : List Timers). slice_set ts router (timers_in move.new)) clocks
-      ∙ sym (map-set timers_in w.states router move.new) ∙ ap (map timers_in) (sym move.states)
+      of_some (slice_get l1.world.states r.router) move.new (λ (s : State). known'.routers ≡ slice_set known.routers r.router (known_as s)) is_now told.routers_are
+      ∙ ap (λ (i : ℕ). slice_set known.routers i (known_as move.new)) told.tells.router_is ∙ ap (λ (ks : List KnownRouter). slice_set ks (router_of e) (known_as move.new)) is
+      ∙ sym (map-set known_as l.world.states (router_of e) move.new) ∙ ap (map known_as) (sym move.states)
 
   leads : LeadsTo move.old.table r.routes.items r.gone.items move.new.table
-  leads = of_some (slice_get mid.states r.router) move.new _ is_now (of_some (slice_get said.known r.router) move.old.table _ was listed)
+  leads =
+      of_some (slice_get l1.world.states r.router) move.new (λ (s : State). LeadsTo move.old.table r.routes.items r.gone.items s.table) is_now
+      (of_some (slice_get known.routers r.router) (known_as move.old)
+      (λ (k : KnownRouter). IfSome (slice_get l1.world.states r.router) (λ (s : State). LeadsTo k.table r.routes.items r.gone.items s.table)) was told.listed)
 
-  led : tables_of mid ≡ slice_set (tables_of w) r.router move.new.table
-  led =
-      sym known_after ∙ of_some (slice_get mid.states r.router) move.new (λ (s : State). said'.known ≡ slice_set said.known r.router s.table) is_now known_is
-      ∙ ap (λ (ts : List Table). slice_set ts r.router move.new.table) is
+  table_was : slice_get (tables_of l.world) (router_of e) ≡ Some move.old.table
+  table_was = get_map (λ (s : State). s.table) l.world.states (router_of e) ∙ ap (option_map (λ (s : State). s.table)) move.old_is
 
-  -- and shown
-  shown_after : (shown : List Shown) → AllZip ShowsTable shown (tables_of w) → AllZip ShowsTable (read_line shown (EventLine r)) (tables_of mid)
+  -- and a reader has its table
+  shown_after : (shown : List Table) → shown ≡ tables_of l.world → read_line shown (EventLine is_forged r) ≡ tables_of l1.world
   shown_after shown shows =
-      subst (AllZip ShowsTable (read_line shown (EventLine r))) (sym led)
-      (shows_set shown (tables_of w) r.router move.old.table move.new.table r.routes.items r.gone.items shows
-      (ap (λ (ts : List Table). slice_get ts r.router) (sym is) ∙ was) leads)
+      ap (λ (i : ℕ). slice_set shown i (with_routes (taken_out (get_or shown i map_of.empty) r.gone.items) r.routes.items)) told.tells.router_is
+      ∙ ap (λ (ts : List Table). slice_set ts (router_of e) (with_routes (taken_out (get_or ts (router_of e) map_of.empty) r.gone.items) r.routes.items)) shows
+      ∙ ap (λ (t : Table). slice_set (tables_of l.world) (router_of e) (with_routes (taken_out t r.gone.items) r.routes.items))
+      (get_some (tables_of l.world) (router_of e) move.old.table map_of.empty table_was)
+      ∙ ap (slice_set (tables_of l.world) (router_of e)) leads
+      ∙ sym (map-set (λ (s : State). s.table) l.world.states (router_of e) move.new) ∙ ap (map (λ (s : State). s.table)) (sym move.states)
 
 -- the record explains the event
-module _ (net : Network) (w : World) (e : Event) (answer : Answer) (mid : World) (happens : Happens net w e answer mid) (said said' : Said) (is : said.known ≡ tables_of w) (clocks : said.timers ≡ all_timers w)
-    (takes : SaysEvent said (telling net w e answer mid) said') where
-  explains_it : Explains (record { network = net; world = w }) e answer (record { network = net; world = mid }) takes.r
+module _ (net : Network) (w : World) (e : Event) (answer : Answer) (mid : World) (happens : Happens net w e answer mid) (known known' : Knows) (is : known.routers ≡ known_of w)
+    (r : EventRecord) (told : EventIsTold false known (telling net w e answer mid) r known') where
+  explains_it : Explains (record { network = net; world = w }) e answer (record { network = net; world = mid }) r
   explains_it = record {
-    offers = subst (λ (ts : List Table). TellsOffers ts (record { network = net; world = mid }) e answer.notes takes.r.offers.items) is takes.offers;
-    update = update_told net w e answer mid happens takes.r.update
-        (subst (λ (ts : List Timers). TellsUpdate ts (record { network = net; world = mid }) e takes.r.update) clocks takes.update);
+    offers = subst (λ (ks : List KnownRouter). TellsOffers ks (record { network = net; world = mid }) e answer.notes r.offers.items) is told.offers;
+    update = update_told net w e answer mid happens r.update
+        (subst (λ (ks : List KnownRouter). TellsUpdate ks (record { network = net; world = mid }) e r.update) is told.update);
   }
 
-  explains : (l l1 : LabValue) → record { network = net; world = w } ≡ l → record { network = net; world = mid } ≡ l1 → Explains l e answer l1 takes.r
-  explains l l1 is_l is_l1 = subst₂ (λ (a b : LabValue). Explains a e answer b takes.r) is_l is_l1 explains_it
+  explains : (l l1 : LabValue) → record { network = net; world = w } ≡ l → record { network = net; world = mid } ≡ l1 → Explains l e answer l1 r
+  explains l l1 is_l is_l1 = subst₂ (λ (a b : LabValue). Explains a e answer b r) is_l is_l1 explains_it
 
 -- ---- one line
 
 -- a record that tells of a line tells of its own
-told_itself : (line : ℕ) (what : Told) (r : EventRecord) → RecordTells line what r → RecordTells r.line what r
-told_itself line what r t = subst (λ (n : ℕ). RecordTells n what r) (sym t.at_line) t
-
-lied_itself : (line : ℕ) (what : Told) (r : EventRecord) → TellsLie line what r → TellsLie r.line what r
-lied_itself line what r t = subst (λ (n : ℕ). TellsLie n what r) (sym t.tells.at_line) t
+told_itself : (is_forged : Bool) (line : ℕ) (what : Told) (r : EventRecord) → RecordTells is_forged line what r → RecordTells is_forged r.line what r
+told_itself is_forged line what r t = subst (λ (n : ℕ). RecordTells is_forged n what r) (sym t.at_line) t
 
 started_itself : (line : ℕ) (lab : LabValue) (now : ℕ) (r : StartRecord) → TellsStart line lab now r → TellsStart r.line lab r.now r
 started_itself line lab now r t =
     subst (λ (n : ℕ). TellsStart r.line lab n r) (sym t.moment_is) (subst (λ (n : ℕ). TellsStart n lab now r) (sym t.at_line) t)
 
+printed_words : (a : Action) → IsPrinted a → HasWord a
+printed_words (action.Prints word lines text) is = is
+printed_words (action.Loses datagram) is = tt
+printed_words (action.Makes phases last) is = tt
+printed_words (action.Ends how why hint) is = tt
+
+pub printed : {a : Action} {said said' : Said} → SaysAlone a said said' → IsPrinted a → SaysAside said Prints said'
+printed {a} says is = (a, is, says)
+
 -- what is left to be read
-abbrev pub LinesFrom : Option LabValue → List Shown → Said → Option LabValue → Said → Type 0
+abbrev pub LinesFrom : Option LabValue → List Table → Said → Option LabValue → Said → Type 0
 LinesFrom lab shown said end said' = (lines : List Line) × TellsScript lab shown lines end × AreWritten lines said.written said'.written
 
-module _ (lab mid end : Option LabValue) (shown : List Shown) (said said1 said' : Said) where
-  line_on : (line : Line) → TellsOf line lab mid → AllZip ShowsTable (read_line shown line) (tables_in mid) → IsWritten line said.written said1.written
+module _ (lab mid end : Option LabValue) (shown : List Table) (said said1 said' : Said) where
+  line_on : (line : Line) → TellsOf line lab mid → (read_line shown line ≡ tables_in mid) → IsWritten line said.written said1.written
       → LinesFrom mid (read_line shown line) said1 end said' → LinesFrom lab shown said end said'
   line_on line tells shows writes rest = (line ∷ rest.0, (mid, tells, shows, rest.1), (said1.written, writes, rest.2))
 
@@ -138,48 +141,53 @@ module _ (lab mid end : Option LabValue) (shown : List Shown) (said said1 said' 
     subst (λ (o : Option (List ℕ)). AreWritten rest.0 o said'.written) unwritten rest.2,
   )
 
-  -- what a line prints or loses, or why it ends the script
-  aside_on : mid ≡ lab → AllZip ShowsTable shown (tables_in mid) → SaysPrint said said1 ⊎ (SaysRefused said said1 ⊎ SaysLost said said1) → LinesFrom mid shown said1 end said' → LinesFrom lab shown said end said'
-  aside_on same shows (inl p) rest = line_on (PrintLine p.r) (same, p.word_is) shows p.writes rest
-  aside_on same shows (inr (inl p)) rest = line_on (RefusedLine p.r) (same, p.word_is) shows p.writes rest
-  aside_on same shows (inr (inr p)) rest = line_on (LostLine p.r) (same, p.word_is) shows p.writes rest
+  -- what a line does beside events
+  aside_on : (a : Action) → HasWord a → mid ≡ lab → said.known.routers ≡ known_in lab → shown ≡ tables_in lab → SaysAlone a said said1
+      → (shown ≡ tables_in mid → said1.known.routers ≡ known_in mid → LinesFrom mid shown said1 end said')
+      → LinesFrom lab shown said end said'
+  aside_on a worded same known shows says rest =
+      let shows1 : shown ≡ tables_in mid = shows ∙ sym (ap tables_in same) in
+      line_on (AsideLine (record { line = said.known.line; action = a })) (same, worded) shows1 says.writes
+      (rest shows1 (ap (λ (k : Knows). k.routers) says.known_is ∙ known ∙ sym (ap known_in same)))
 
-aside_known : (said said' : Said) → SaysPrint said said' ⊎ (SaysRefused said said' ⊎ SaysLost said said') → said'.known ≡ said.known
-aside_known said said' (inl p) = p.known_is
-aside_known said said' (inr (inl p)) = p.known_is
-aside_known said said' (inr (inr p)) = p.known_is
-
-aside_timers : (said said' : Said) → SaysPrint said said' ⊎ (SaysRefused said said' ⊎ SaysLost said said') → said'.timers ≡ said.timers
-aside_timers said said' (inl p) = p.timers_are
-aside_timers said said' (inr (inl p)) = p.timers_are
-aside_timers said said' (inr (inr p)) = p.timers_are
+  -- an event, or a lie
+  move_on : (is_forged : Bool) (l l1 : LabValue) → lab ≡ Some l → mid ≡ Some l1 → (e : Event) (answer : Answer) (what : Happening) → RouterMoves l.world (router_of e) what answer l1.world
+      → said.known.routers ≡ known_of l.world → shown ≡ tables_in lab
+      → (says : SaysMove is_forged said (telling l.network l.world e answer l1.world) said1) → TellsMove is_forged l l1 says.0
+      → ((read_line shown (EventLine is_forged says.0) ≡ tables_in mid) → said1.known.routers ≡ known_in mid
+      → LinesFrom mid (read_line shown (EventLine is_forged says.0)) said1 end said')
+      → LinesFrom lab shown said end said'
+  move_on is_forged l l1 before after e answer what move is shows says tells rest =
+      let r = says.0 in
+      let shows1 : read_line shown (EventLine is_forged r) ≡ tables_in mid =
+      shown_after is_forged l l1 e answer what move said.known said1.known is r says.1 shown (shows ∙ ap tables_in before) ∙ sym (ap tables_in after) in
+      line_on (EventLine is_forged r) (l, before, l1, after, tells) shows1 says.2
+      (rest shows1 (known_after is_forged l l1 e answer what move said.known said1.known is r says.1 ∙ sym (ap known_in after)))
 
 -- ---- a script, as one is told of it who makes of each telling what the tracer makes of it
 
 module _ {V : Type 0} (f : V → Said) (st : V → LabValue → ℕ → V → Type 0) (t fl : V → Told → V → Type 0) (n : V → Aside → V → Type 0)
     (starts : (a : V) (lab : LabValue) (now : ℕ) (b : V) → st a lab now b → SaysStart (f a) lab now (f b)) (takes : (a : V) (what : Told) (b : V) → t a what b → SaysEvent (f a) what (f b))
     (fails : (a : V) (what : Told) (b : V) → fl a what b → BreaksOff (f a) what (f b)) (notes : (a : V) (what : Aside) (b : V) → n a what b → SaysAside (f a) what (f b)) where
-  pub lines_told : (ts : List Telling) (lab : Option LabValue) (v : V) (end : Option LabValue) (v' : V) (shown : List Shown)
-      → AllZip ShowsTable shown (tables_in lab) → (f v).known ≡ tables_in lab → (f v).timers ≡ timers_of lab → TellsAll st t n (lab, v) ts (end, v') → LinesFrom lab shown (f v) end (f v')
-  lines_told [] lab v end v' shown shows known clocks same =
+  pub lines_told : (ts : List Telling) (lab : Option LabValue) (v : V) (end : Option LabValue) (v' : V) (shown : List Table)
+      → shown ≡ tables_in lab → (f v).known.routers ≡ known_in lab → TellsAll st t n (lab, v) ts (end, v') → LinesFrom lab shown (f v) end (f v')
+  lines_told [] lab v end v' shown shows known same =
       ([], ap (λ (s : Option LabValue × V). s.0) same, ap (λ (s : Option LabValue × V). (f s.1).written) same)
-  lines_told (Starts now ∷ ts) lab v end v' shown shows known clocks told =
+  lines_told (Starts now ∷ ts) lab v end v' shown shows known told =
       let mid = told.0 in
       let begins = told.1 in
       let l = begins.1 in
       let says : SaysStart (f v) l now (f mid.1) = starts v l now mid.1 begins.4 in
-      let routers = says.tells.routers in
-      let shows1 : AllZip ShowsTable (read_line shown (StartLine says.r)) (tables_in mid.0) =
-      subst (λ (o : Option LabValue). AllZip ShowsTable (read_line shown (StartLine says.r)) (tables_in o)) (sym begins.2)
-      (shows_started says.r.routers.items l.world.states routers.as_many (λ k r is. ((routers.each k r is).state, (routers.each k r is).state_is, (routers.each k r is).routes_lead))) in
-      let known1 : (f mid.1).known ≡ tables_in mid.0 =
-      says.known_is ∙ ap (λ (ts : List Table). ts ++ tables_of l.world) (known ∙ ap tables_in begins.0) ∙ sym (ap tables_in begins.2) in
-      let clocks1 : (f mid.1).timers ≡ timers_of mid.0 =
-      says.timers_are ∙ ap (λ (ts : List Timers). ts ++ all_timers l.world) (clocks ∙ ap timers_of begins.0) ∙ sym (ap timers_of begins.2) in
-      line_on lab mid.0 end shown (f v) (f mid.1) (f v') (StartLine says.r)
-      (begins.0, l, begins.2, subst (StartsAt l) (sym says.tells.moment_is) begins.3, started_itself (f v).line l now says.r says.tells)
-      shows1 says.writes (lines_told ts mid.0 mid.1 end v' (read_line shown (StartLine says.r)) shows1 known1 clocks1 told.2)
-  lines_told (Does e answer ∷ ts) lab v end v' shown shows known clocks told =
+      let r = says.0 in
+      let routers = says.1.tells.routers in
+      let shows1 : read_line shown (StartLine r) ≡ tables_in mid.0 =
+      started r.routers.items l.world.states routers.as_many (λ k r is. ((routers.each k r is).state, (routers.each k r is).state_is, (routers.each k r is).routes_lead)) ∙ sym (ap tables_in begins.2) in
+      let known1 : (f mid.1).known.routers ≡ known_in mid.0 =
+      says.1.routers_are ∙ ap (λ (ks : List KnownRouter). ks ++ known_of l.world) (known ∙ ap known_in begins.0) ∙ sym (ap known_in begins.2) in
+      line_on lab mid.0 end shown (f v) (f mid.1) (f v') (StartLine r)
+      (begins.0, l, begins.2, subst (StartsAt l) (sym says.1.tells.moment_is) begins.3, started_itself (f v).known.line l now r says.1.tells)
+      shows1 says.2 (lines_told ts mid.0 mid.1 end v' (read_line shown (StartLine r)) shows1 known1 told.2)
+  lines_told (Does e answer ∷ ts) lab v end v' shown shows known told =
       let mid = told.0 in
       let done = told.1 in
       let l = done.0 in
@@ -187,78 +195,50 @@ module _ {V : Type 0} (f : V → Said) (st : V → LabValue → ℕ → V → Ty
       let what = telling l.network l.world e answer l1.world in
       let says : SaysEvent (f v) what (f mid.1) = takes v what mid.1 done.6 in
       let move = moved l.network l.world e answer l1.world done.5 in
-      let known0 : (f v).known ≡ tables_of l.world = known ∙ ap tables_in done.1 in
-      let clocks0 : (f v).timers ≡ all_timers l.world = clocks ∙ ap timers_of done.1 in
-      let shows0 : AllZip ShowsTable shown (tables_of l.world) = subst (λ (o : Option LabValue). AllZip ShowsTable shown (tables_in o)) done.1 shows in
-      let shows1 : AllZip ShowsTable (read_line shown (EventLine says.r)) (tables_in mid.0) =
-      subst (λ (o : Option LabValue). AllZip ShowsTable (read_line shown (EventLine says.r)) (tables_in o)) (sym done.3)
-      (shown_after l.world (router_of e) move.0 answer l1.world move.1 (f v) (f mid.1) known0 clocks0 says.r says.tells.router_is says.listed says.known_is says.timers_are shown shows0) in
-      let known1 : (f mid.1).known ≡ tables_in mid.0 =
-      known_after l.world (router_of e) move.0 answer l1.world move.1 (f v) (f mid.1) known0 clocks0 says.r says.tells.router_is says.listed says.known_is says.timers_are ∙ sym (ap tables_in done.3) in
-      let clocks1 : (f mid.1).timers ≡ timers_of mid.0 =
-      timers_after l.world (router_of e) move.0 answer l1.world move.1 (f v) (f mid.1) known0 clocks0 says.r says.tells.router_is says.listed says.known_is says.timers_are ∙ sym (ap timers_of done.3) in
-      line_on lab mid.0 end shown (f v) (f mid.1) (f v') (EventLine says.r) (
-        l,
-        done.1,
-        l1,
-        done.3,
+      let known0 : (f v).known.routers ≡ known_of l.world = known ∙ ap known_in done.1 in
+      move_on lab mid.0 end shown (f v) (f mid.1) (f v') false l l1 done.1 done.3 e answer move.0 move.1 known0 shows says (
         e,
         answer,
         (done.4, done.5),
-        told_itself (f v).line what says.r says.tells,
-        explains l.network l.world e answer l1.world done.5 (f v) (f mid.1) known0 clocks0 says l l1 refl (ap (λ (n : Network). record { network = n; world = l1.world }) (sym done.4)),
+        told_itself false (f v).known.line what says.0 says.1.tells,
+        explains l.network l.world e answer l1.world done.5 (f v).known (f mid.1).known known0 says.0 says.1 l l1 refl (ap (λ (n : Network). record { network = n; world = l1.world }) (sym done.4)),
       )
-      shows1 says.writes (lines_told ts mid.0 mid.1 end v' (read_line shown (EventLine says.r)) shows1 known1 clocks1 told.2)
-  lines_told (Turns number ∷ ts) lab v end v' shown shows known clocks told =
+      (λ shows1 known1. lines_told ts mid.0 mid.1 end v' (read_line shown (EventLine false says.0)) shows1 known1 told.2)
+  lines_told (Turns number ∷ ts) lab v end v' shown shows known told =
       let mid = told.0 in
       let turns = told.1 in
       let turned : SaysAside (f v) (NextLine number) (f mid.1) = notes v (NextLine number) mid.1 turns.1 in
       none_on lab mid.0 end shown (f v) (f mid.1) (f v') turns.0 (ap (λ (s : Said). s.written) turned)
-      (lines_told ts mid.0 mid.1 end v' shown (subst (λ (o : Option LabValue). AllZip ShowsTable shown (tables_in o)) (sym turns.0) shows)
-      (ap (λ (s : Said). s.known) turned ∙ known ∙ sym (ap tables_in turns.0))
-      (ap (λ (s : Said). s.timers) turned ∙ clocks ∙ sym (ap timers_of turns.0)) told.2)
-  lines_told (Notes ∷ ts) lab v end v' shown shows known clocks told =
+      (lines_told ts mid.0 mid.1 end v' shown (shows ∙ sym (ap tables_in turns.0))
+      (ap (λ (s : Said). s.known.routers) turned ∙ known ∙ sym (ap known_in turns.0)) told.2)
+  lines_told (Notes ∷ ts) lab v end v' shown shows known told =
       let mid = told.0 in
-      let notes1 = told.1 in
-      let prints : SaysAside (f v) Prints (f mid.1) = notes v Prints mid.1 notes1.1 in
-      let shows1 = subst (λ (o : Option LabValue). AllZip ShowsTable shown (tables_in o)) (sym notes1.0) shows in
-      aside_on lab mid.0 end shown (f v) (f mid.1) (f v') notes1.0 shows1 prints
-      (lines_told ts mid.0 mid.1 end v' shown shows1 (aside_known (f v) (f mid.1) prints ∙ known ∙ sym (ap tables_in notes1.0))
-      (aside_timers (f v) (f mid.1) prints ∙ clocks ∙ sym (ap timers_of notes1.0)) told.2)
-  lines_told (Counts phases last ∷ ts) lab v end v' shown shows known clocks told =
+      let says : SaysAside (f v) Prints (f mid.1) = notes v Prints mid.1 told.1.1 in
+      aside_on lab mid.0 end shown (f v) (f mid.1) (f v') says.0 (printed_words says.0 says.1) told.1.0 known shows says.2
+      (λ shows1 known1. lines_told ts mid.0 mid.1 end v' shown shows1 known1 told.2)
+  lines_told (Counts phases last ∷ ts) lab v end v' shown shows known told =
       let mid = told.0 in
-      let counts = told.1 in
-      let says : SaysPhases (f v) phases last (f mid.1) = notes v (CountsPhases phases last) mid.1 counts.1 in
-      let shows1 = subst (λ (o : Option LabValue). AllZip ShowsTable shown (tables_in o)) (sym counts.0) shows in
-      line_on lab mid.0 end shown (f v) (f mid.1) (f v') (PhasesLine says.r) (counts.0, says.word_is) shows1 says.writes
-      (lines_told ts mid.0 mid.1 end v' shown shows1 (says.known_is ∙ known ∙ sym (ap tables_in counts.0)) (says.timers_are ∙ clocks ∙ sym (ap timers_of counts.0)) told.2)
-  lines_told (Deceives router x answer ∷ ts) lab v end v' shown shows known clocks told =
+      let says : SaysAside (f v) (CountsPhases phases last) (f mid.1) = notes v (CountsPhases phases last) mid.1 told.1.1 in
+      aside_on lab mid.0 end shown (f v) (f mid.1) (f v') (action.Makes phases last) tt told.1.0 known shows says
+      (λ shows1 known1. lines_told ts mid.0 mid.1 end v' shown shows1 known1 told.2)
+  lines_told (Deceives router x answer ∷ ts) lab v end v' shown shows known told =
       let mid = told.0 in
       let lied = told.1 in
       let l = lied.0 in
       let l1 = lied.2 in
-      let lies = lied.5 in
       let what = telling l.network l.world (Stranger router x) answer l1.world in
-      let says : SaysLie (f v) what (f mid.1) = notes v (Lie what) mid.1 lied.6 in
-      let known0 : (f v).known ≡ tables_of l.world = known ∙ ap tables_in lied.1 in
-      let clocks0 : (f v).timers ≡ all_timers l.world = clocks ∙ ap timers_of lied.1 in
-      let shows0 : AllZip ShowsTable shown (tables_of l.world) = subst (λ (o : Option LabValue). AllZip ShowsTable shown (tables_in o)) lied.1 shows in
-      let shows1 : AllZip ShowsTable (read_line shown (LieLine says.r)) (tables_in mid.0) =
-      subst (λ (o : Option LabValue). AllZip ShowsTable (read_line shown (LieLine says.r)) (tables_in o)) (sym lied.3)
-      (shown_after l.world router (Arrives x) answer l1.world lies.moves (f v) (f mid.1) known0 clocks0 says.r says.tells.tells.router_is says.listed says.known_is says.timers_are shown shows0) in
-      let known1 : (f mid.1).known ≡ tables_in mid.0 = known_after l.world router (Arrives x) answer l1.world lies.moves (f v) (f mid.1) known0 clocks0 says.r says.tells.tells.router_is says.listed says.known_is says.timers_are ∙ sym (ap tables_in lied.3) in
-      let clocks1 : (f mid.1).timers ≡ timers_of mid.0 = timers_after l.world router (Arrives x) answer l1.world lies.moves (f v) (f mid.1) known0 clocks0 says.r says.tells.tells.router_is says.listed says.known_is says.timers_are ∙ sym (ap timers_of lied.3) in
-      line_on lab mid.0 end shown (f v) (f mid.1) (f v') (LieLine says.r)
-      (l, lied.1, l1, lied.3, lied.4, router, x, answer, lies, lied_itself (f v).line what says.r says.tells)
-      shows1 says.writes (lines_told ts mid.0 mid.1 end v' (read_line shown (LieLine says.r)) shows1 known1 clocks1 told.2)
+      let says : SaysMove true (f v) what (f mid.1) = notes v (Lie what) mid.1 lied.6 in
+      move_on lab mid.0 end shown (f v) (f mid.1) (f v') true l l1 lied.1 lied.3 (Stranger router x) answer (Arrives x) lied.5.moves (known ∙ ap known_in lied.1) shows says
+      (router, x, answer, lied.4, lied.5, told_itself true (f v).known.line what says.0 says.1.tells)
+      (λ shows1 known1. lines_told ts mid.0 mid.1 end v' (read_line shown (EventLine true says.0)) shows1 known1 told.2)
 
   -- up to where memory or the tracer failed
-  pub until_told : (v : V) (end : Option LabValue) (v' : V) → (f v).known ≡ [] → (f v).timers ≡ [] → IsToldUntil st t fl n (None, v) (end, v')
+  pub until_told : (v : V) (end : Option LabValue) (v' : V) → (f v).known.routers ≡ [] → IsToldUntil st t fl n (None, v) (end, v')
       → IsTracedUntil (f v).written end (f v').written
-  until_told v end v' known clocks until = by_why until.2
+  until_told v end v' known until = by_why until.2
     where
       traced : LinesFrom None [] (f v) until.0.0 (f until.0.1)
-      traced = lines_told until.1.0 None v until.0.0 until.0.1 [] tt known clocks until.1.1
+      traced = lines_told until.1.0 None v until.0.0 until.0.1 [] refl known until.1.1
 
       by_why : FailsAtRest n until.0 (end, v') ⊎ (FailsAtEvent fl until.0 (end, v') ⊎ FailsAtLie n until.0 (end, v')) → IsTracedUntil (f v).written end (f v').written
       by_why (inl (same, inl unsaid)) = (until.0.0, (f until.0.1).written, traced, inl same, inl (ap (λ (x : V). (f x).written) unsaid))

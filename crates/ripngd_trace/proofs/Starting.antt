@@ -1,10 +1,14 @@
 -- Routers that have started, one more after another, and their tables.
-use Rattle.std.proofs.Common.{◌≡◌, ◌≤◌, ℕ, zero, suc, refl, ap, sym, arith, ◌∙◌, List, [], ◌∷◌, ◌++◌, map, take, length, option_map, Some, None, slice_get}
-use Rattle.route_table.proofs.TableLaws.{None-Some}
+use Rattle.std.proofs.Common.{◌≡◌, ◌≤◌, ℕ, zero, suc, refl, ap, ap₂, sym, arith, ◌∙◌, List, [], ◌∷◌, ◌++◌, map, take, length, option_map, Some, None, slice_get}
+use Rattle.std.specs.FinMap as map_of
+use Rattle.route_table.specs.Table.{Table}
+use Rattle.route_table.proofs.TableLaws.{None-Some, Some-same}
 use Rattle.router_core.specs.Machine.{State}
 use Rattle.router_core.proofs.HearingSteps.{take_push}
 use Rattle.ripng_world.specs.World.{World}
 use Rattle.ripng_world.proofs.WorldRuns.{get_map}
+use Rattle.ripngd_trace.specs.Records.{LeadsTo, with_routes}
+use Rattle.ripngd_trace.specs.declared.records.RouterRecord.{RouterRecord}
 
 pub length_push : {X : Type 0} (xs : List X) (x : X) → length (xs ++ x ∷ []) ≡ suc (length xs)
 length_push [] x = refl
@@ -24,3 +28,15 @@ all_there (x ∷ xs) zero none = absurd (None-Some x (sym none))
 all_there (x ∷ xs) (suc n) none =
     let rest = all_there xs n none in
     omega (arith, rest)
+
+-- the routes of all records are the tables
+pub started : (records : List RouterRecord) (states : List State) → length records ≡ length states
+    → ((k : ℕ) (r : RouterRecord) → slice_get records k ≡ Some r → (s : State) × (slice_get states k ≡ Some s) × LeadsTo map_of.empty r.routes.items [] s.table)
+    → map (λ r. with_routes map_of.empty r.routes.items) records ≡ map (λ s. s.table) states
+started [] [] same each = refl
+started [] (s ∷ states) same each = absurd (omega (arith, same))
+started (r ∷ records) [] same each = absurd (omega (arith, same))
+started (r ∷ records) (s ∷ states) same each =
+    let first = each 0 r refl in
+    ap₂ (λ (t : Table) (ts : List Table). t ∷ ts) (first.2 ∙ ap (λ (x : State). x.table) (sym (Some-same s first.0 first.1)))
+    (started records states (omega (arith, same)) (λ k x is. each (suc k) x is))

@@ -11,7 +11,6 @@ use Rattle.route_table.specs.Route.{RouteValue}
 use Rattle.route_table.specs.Table.{Table}
 use Rattle.route_table.proofs.TableLaws.{all_entries, None-Some}
 use Rattle.ripngd_trace.specs.Records.{LeadsTo, with_routes, taken_out}
-use Rattle.ripngd_trace.specs.declared.records.RouteRecord.{RouteRecord}
 
 -- ---- one after another
 
@@ -108,5 +107,5 @@ told_news t k k' es es' p r put pushed before =
     put ∙ ap (λ m. map_of.insert m p r) before ∙ sym (with_routes-push t es p r) ∙ ap (with_routes t) (sym pushed)
 
 -- who knows nothing is told of nothing that is gone
-pub leads_from_nothing : (records : List RouteRecord) (gone : List Prefix6) (t : Table) → LeadsTo map_of.empty records gone t → LeadsTo map_of.empty records [] t
-leads_from_nothing records gone t leads = (leads.0, leads.1, ap (λ m. with_routes m leads.0) (sym (without_nothing gone)) ∙ leads.2)
+pub leads_from_nothing : (routes : List (Prefix6 × RouteValue)) (gone : List Prefix6) (t : Table) → LeadsTo map_of.empty routes gone t → LeadsTo map_of.empty routes [] t
+leads_from_nothing routes gone t leads = ap (λ m. with_routes m routes) (sym (without_nothing gone)) ∙ leads

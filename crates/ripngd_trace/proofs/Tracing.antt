@@ -1,49 +1,64 @@
 -- What the tracer has written of a script.
-use Rattle.std.proofs.Common.{◌≡◌, ℕ, List, [], Option, None, subst₂, sym}
+use Rattle.std.proofs.Common.{◌≡◌, ◌∙◌, ℕ, List, [], Option, None, ap, refl, subst₂, sym}
 use Rattle.ripng_world.specs.Labs.{LabValue}
 use Rattle.ripng_world.specs.Watching.{Told}
 use Rattle.ripngd_lab.specs.Asides.{Aside}
 use Rattle.ripngd_lab.specs.ScriptWatching.{IsToldOfLab, IsToldUntil}
+use Rattle.ripngd_trace.specs.Lines.{written_as}
 use Rattle.ripngd_trace.specs.Reading.{IsTraced, IsTracedUntil}
-use Rattle.ripngd_trace.specs.Saying.{BreaksOff, Said, SaysAside, SaysEvent, SaysStart}
+use Rattle.ripngd_trace.specs.Saying.{BreaksOff, SameOutput, SaysAside, SaysEvent, SaysStart, said_by}
 use Rattle.ripngd_trace.specs.declared.tracer.Tracer.{Tracer}
+use Rattle.ripngd_trace.specs.declared.writing.Form.{Form}
+use Rattle.ripngd_trace.specs.declared.writing.Form.TheVariants as form
 use Rattle.ripngd_trace.proofs.Reading.{kept, kept_until, lines_told, until_told}
 
 module _ {W : Type 0} (contents : W → Option (List ℕ)) where
-  abbrev said_by : Tracer W → Said
-  said_by t = record { line = t.line; known = t.known.items; timers = t.timers.items; written = contents t.out.now }
-
   -- its ghost members
   abbrev starts_by : Tracer W → LabValue → ℕ → Tracer W → Type 0
-  starts_by old lab now new = SaysStart (said_by old) lab now (said_by new) × (new.out.ghost_name ≡ old.out.ghost_name)
+  starts_by old lab now new = SaysStart (said_by contents old) lab now (said_by contents new) × SameOutput old new
 
   abbrev takes_by : Tracer W → Told → Tracer W → Type 0
-  takes_by old what new = SaysEvent (said_by old) what (said_by new) × (new.out.ghost_name ≡ old.out.ghost_name)
+  takes_by old what new = SaysEvent (said_by contents old) what (said_by contents new) × SameOutput old new
 
   abbrev fails_by : Tracer W → Told → Tracer W → Type 0
-  fails_by old what new = BreaksOff (said_by old) what (said_by new) × (new.out.ghost_name ≡ old.out.ghost_name)
+  fails_by old what new = BreaksOff (said_by contents old) what (said_by contents new) × SameOutput old new
 
   abbrev notes_by : Tracer W → Aside → Tracer W → Type 0
-  notes_by old what new = SaysAside (said_by old) what (said_by new) × (new.out.ghost_name ≡ old.out.ghost_name)
+  notes_by old what new = SaysAside (said_by contents old) what (said_by contents new) × SameOutput old new
 
   module _ (v v' : Tracer W) (end : Option LabValue) where
-    -- it holds the same reference to its writer
+    -- it holds the same reference to what it writes to
     pub told_same : IsToldOfLab starts_by takes_by notes_by (None, v) (end, v') → v.out.ghost_name ≡ v'.out.ghost_name
     told_same told =
-        sym (kept (λ (t : Tracer W). t.out.ghost_name) starts_by takes_by fails_by notes_by (λ a l now b h. h.1) (λ a what b h. h.1) (λ a what b h. h.1) (λ a what b h. h.1) told.0 (None, v) (end, v') told.1)
+        sym (kept (λ (t : Tracer W). t.out.ghost_name) starts_by takes_by fails_by notes_by (λ a l now b h. h.1.1) (λ a what b h. h.1.1) (λ a what b h. h.1.1) (λ a what b h. h.1.1) told.0 (None, v) (end, v') told.1)
 
     pub until_same : IsToldUntil starts_by takes_by fails_by notes_by (None, v) (end, v') → v.out.ghost_name ≡ v'.out.ghost_name
     until_same until =
-        sym (kept_until (λ (t : Tracer W). t.out.ghost_name) starts_by takes_by fails_by notes_by (λ a l now b h. h.1) (λ a what b h. h.1) (λ a what b h. h.1) (λ a what b h. h.1) (None, v) (end, v') until)
+        sym (kept_until (λ (t : Tracer W). t.out.ghost_name) starts_by takes_by fails_by notes_by (λ a l now b h. h.1.1) (λ a what b h. h.1.1) (λ a what b h. h.1.1) (λ a what b h. h.1.1) (None, v) (end, v') until)
 
-    module _ (old out : W) (nothing : v.known.items ≡ []) (untimed : v.timers.items ≡ []) (first : v.out.now ≡ old) (last : out ≡ v'.out.now) where
-      -- the writer has the lines
+    -- and writes in the same form
+    told_form : IsToldOfLab starts_by takes_by notes_by (None, v) (end, v') → v'.form ≡ v.form
+    told_form told =
+        kept (λ (t : Tracer W). t.form) starts_by takes_by fails_by notes_by (λ a l now b h. h.1.0) (λ a what b h. h.1.0) (λ a what b h. h.1.0) (λ a what b h. h.1.0) told.0 (None, v) (end, v') told.1
+
+    until_form : IsToldUntil starts_by takes_by fails_by notes_by (None, v) (end, v') → v'.form ≡ v.form
+    until_form until =
+        kept_until (λ (t : Tracer W). t.form) starts_by takes_by fails_by notes_by (λ a l now b h. h.1.0) (λ a what b h. h.1.0) (λ a what b h. h.1.0) (λ a what b h. h.1.0) (None, v) (end, v') until
+
+    module _ (old out : W) (nothing : v.known.routers.items ≡ []) (json : v.form ≡ form.Json) (first : v.out.now ≡ old) (last : out ≡ v'.out.now) where
+      begins : (said_by contents v).written ≡ contents old
+      begins = ap (λ (f : Form). written_as f (contents v.out.now)) json ∙ ap contents first
+
+      ends : v'.form ≡ v.form → (said_by contents v').written ≡ contents out
+      ends same = ap (λ (f : Form). written_as f (contents v'.out.now)) (same ∙ json) ∙ ap contents (sym last)
+
+      -- what it writes to has the lines
       pub traced : IsToldOfLab starts_by takes_by notes_by (None, v) (end, v') → IsTraced (contents old) end (contents out)
       traced told =
-          subst₂ (λ (a b : W). IsTraced (contents a) end (contents b)) first (sym last)
-          (lines_told said_by starts_by takes_by fails_by notes_by (λ a l now b h. h.0) (λ a what b h. h.0) (λ a what b h. h.0) (λ a what b h. h.0) told.0 None v end v' [] tt nothing untimed told.1)
+          subst₂ (λ (a b : Option (List ℕ)). IsTraced a end b) begins (ends (told_form told))
+          (lines_told (said_by contents) starts_by takes_by fails_by notes_by (λ a l now b h. h.0) (λ a what b h. h.0) (λ a what b h. h.0) (λ a what b h. h.0) told.0 None v end v' [] refl nothing told.1)
 
       pub traced_until : IsToldUntil starts_by takes_by fails_by notes_by (None, v) (end, v') → IsTracedUntil (contents old) end (contents out)
       traced_until until =
-          subst₂ (λ (a b : W). IsTracedUntil (contents a) end (contents b)) first (sym last)
-          (until_told said_by starts_by takes_by fails_by notes_by (λ a l now b h. h.0) (λ a what b h. h.0) (λ a what b h. h.0) (λ a what b h. h.0) v end v' nothing untimed until)
+          subst₂ (λ (a b : Option (List ℕ)). IsTracedUntil a end b) begins (ends (until_form until))
+          (until_told (said_by contents) starts_by takes_by fails_by notes_by (λ a l now b h. h.0) (λ a what b h. h.0) (λ a what b h. h.0) (λ a what b h. h.0) v end v' nothing until)

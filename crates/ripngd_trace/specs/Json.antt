@@ -1,31 +1,38 @@
 -- The JSON of each record (RFC 8259): an object that has a member for each field, in order; and its text.
-use Rattle.std.specs.Prelude.{ℕ, List, [], ◌∷◌, Option, Some, None, map, codes, decimal, string_bytes}
+use Rattle.std.specs.Prelude.{ℕ, List, [], ◌∷◌, Option, Some, None, Bool, true, false, map, codes, decimal, string_bytes}
+use Rattle.hex.specs.Hex.{encode_lower}
 use Rattle.json.specs.Json.{Json, null, boolean, number, string, array, object, Items, no_items, item, Members, no_members, member}
 use Rattle.json.specs.Print.{print}
 use Rattle.json.specs.Tree.{json_tokens}
 use Rattle.prefix6.specs.Prefix.{Prefix6}
 use Rattle.prefix6.specs.Written.{written_addr, written_prefix}
+use Rattle.fib.specs.declared.change.Hop.{Hop}
+use Rattle.fib.specs.declared.change.Hop.TheVariants.{Direct, Via}
+use Rattle.fib.specs.declared.change.RouteChange.{RouteChange}
+use Rattle.fib.specs.declared.change.RouteChange.TheVariants.{Install, Withdraw}
+use Rattle.route_table.specs.Route.{RouteValue, deadline}
+use Rattle.route_table.specs.declared.route.Origin.{Origin}
+use Rattle.route_table.specs.declared.route.Origin.TheVariants as origin
 use Rattle.router_core.specs.Adoption.{reason_name}
-use Rattle.ripngd_trace.specs.declared.records.ChangeRecord.{ChangeRecord}
-use Rattle.ripngd_trace.specs.declared.records.ChangeRecord.TheVariants as change
-use Rattle.ripngd_trace.specs.declared.records.DueRecord.{DueRecord}
+use Rattle.router_core.specs.Faults.{fault_name, fault_number}
+use Rattle.router_core.specs.Offers.{note_name, note_number}
+use Rattle.router_core.specs.Received.{Received}
+use Rattle.router_core.specs.declared.answer.Destination.{Destination}
+use Rattle.router_core.specs.declared.answer.Destination.TheVariants.{Group, Peer}
+use Rattle.router_core.specs.declared.answer.Note.{Note}
+use Rattle.router_core.specs.declared.arrival.Fault.{Fault}
+use Rattle.router_core.specs.declared.reconfiguring.Change.{Change}
+use Rattle.router_core.specs.declared.reconfiguring.Change.TheVariants.{Cost, Own, Disown}
+use Rattle.ripng_world.specs.Events.{event_of}
+use Rattle.ripng_world.specs.World.{Event, Deliver, Stranger, Tick, Restart, Shutdown, LinkDown, Reconfigure}
+use Rattle.ripngd_trace.specs.declared.records.Action.{Action}
+use Rattle.ripngd_trace.specs.declared.records.Action.TheVariants as action
+use Rattle.ripngd_trace.specs.declared.records.AsideRecord.{AsideRecord}
 use Rattle.ripngd_trace.specs.declared.records.EventRecord.{EventRecord}
-use Rattle.ripngd_trace.specs.declared.records.FaultRecord.{FaultRecord}
-use Rattle.ripngd_trace.specs.declared.records.GatewayRecord.{GatewayRecord}
 use Rattle.ripngd_trace.specs.declared.records.Happened.{Happened}
-use Rattle.ripngd_trace.specs.declared.records.Happened.TheVariants as told
 use Rattle.ripngd_trace.specs.declared.records.HintRecord.{HintRecord}
-use Rattle.ripngd_trace.specs.declared.records.HopRecord.{HopRecord}
 use Rattle.ripngd_trace.specs.declared.records.InterfaceRecord.{InterfaceRecord}
-use Rattle.ripngd_trace.specs.declared.records.LostRecord.{LostRecord}
-use Rattle.ripngd_trace.specs.declared.records.NoteRecord.{NoteRecord}
 use Rattle.ripngd_trace.specs.declared.records.OfferRecord.{OfferRecord}
-use Rattle.ripngd_trace.specs.declared.records.OwnedRecord.{OwnedRecord}
-use Rattle.ripngd_trace.specs.declared.records.PeerRecord.{PeerRecord}
-use Rattle.ripngd_trace.specs.declared.records.PhasesRecord.{PhasesRecord}
-use Rattle.ripngd_trace.specs.declared.records.PrintRecord.{PrintRecord}
-use Rattle.ripngd_trace.specs.declared.records.RefusedRecord.{RefusedRecord}
-use Rattle.ripngd_trace.specs.declared.records.RouteRecord.{RouteRecord}
 use Rattle.ripngd_trace.specs.declared.records.RouterRecord.{RouterRecord}
 use Rattle.ripngd_trace.specs.declared.records.SenderRecord.{SenderRecord}
 use Rattle.ripngd_trace.specs.declared.records.SentRecord.{SentRecord}
@@ -48,6 +55,10 @@ address_of a = string (written_addr a)
 
 abbrev pub prefix_of : Prefix6 → Json
 prefix_of p = string (written_prefix p)
+
+-- bytes, in hexadecimal digits
+abbrev pub hex_of : List ℕ → Json
+hex_of bytes = string (encode_lower bytes)
 
 -- what is not there is null
 abbrev pub option_of : {X : Type 0} → (X → Json) → Option X → Json
@@ -81,19 +92,11 @@ json_of_interface r =
     ∷ (codes "link", option_of number_of r.link)
     ∷ [])
 
-unfoldable pub json_of_owned : OwnedRecord → Json
-json_of_owned r =
-    object_of
-    ((codes "prefix", prefix_of r.prefix)
-    ∷ (codes "tag", number_of r.tag)
-    ∷ [])
+unfoldable pub json_of_owned : Prefix6 × ℕ → Json
+json_of_owned t = object_of ((codes "prefix", prefix_of t.0) ∷ (codes "tag", number_of t.1) ∷ [])
 
-unfoldable pub json_of_due : DueRecord → Json
-json_of_due r =
-    object_of
-    ((codes "until", number_of r.until)
-    ∷ (codes "prefix", prefix_of r.prefix)
-    ∷ [])
+unfoldable pub json_of_due : ℕ × Prefix6 → Json
+json_of_due d = object_of ((codes "until", number_of d.0) ∷ (codes "prefix", prefix_of d.1) ∷ [])
 
 unfoldable pub json_of_timers : Timers → Json
 json_of_timers r =
@@ -104,23 +107,26 @@ json_of_timers r =
     ∷ (codes "due", option_of json_of_due r.due)
     ∷ [])
 
-unfoldable pub json_of_gateway : GatewayRecord → Json
-json_of_gateway r =
+-- from where a route was learned, if it is not the router's own
+unfoldable pub json_of_origin : Origin → Json
+json_of_origin origin.Own = null
+json_of_origin (origin.Learned iface from next_hop) =
     object_of
-    ((codes "iface", number_of r.iface)
-    ∷ (codes "from", address_of r.from)
-    ∷ (codes "next_hop", address_of r.next_hop)
+    ((codes "iface", number_of iface)
+    ∷ (codes "from", address_of from)
+    ∷ (codes "next_hop", address_of next_hop)
     ∷ [])
 
-unfoldable pub json_of_route : RouteRecord → Json
-json_of_route r =
+-- a route to a prefix: which clock it has follows from its origin and its metric
+unfoldable pub json_of_route : Prefix6 × RouteValue → Json
+json_of_route e =
     object_of
-    ((codes "prefix", prefix_of r.prefix)
-    ∷ (codes "metric", number_of r.metric)
-    ∷ (codes "tag", number_of r.tag)
-    ∷ (codes "gateway", option_of json_of_gateway r.gateway)
-    ∷ (codes "until", option_of number_of r.until)
-    ∷ (codes "marked", boolean r.marked)
+    ((codes "prefix", prefix_of e.0)
+    ∷ (codes "metric", number_of e.1.metric)
+    ∷ (codes "tag", number_of e.1.tag)
+    ∷ (codes "gateway", json_of_origin e.1.origin)
+    ∷ (codes "until", option_of number_of (deadline e.1))
+    ∷ (codes "marked", boolean e.1.changed)
     ∷ [])
 
 unfoldable pub json_of_router : RouterRecord → Json
@@ -129,7 +135,7 @@ json_of_router r =
     ((codes "quiet", boolean r.quiet)
     ∷ (codes "interfaces", list_of json_of_interface r.interfaces.items)
     ∷ (codes "prefixes", list_of json_of_owned r.prefixes.items)
-    ∷ (codes "timers", option_of json_of_timers r.timers)
+    ∷ (codes "timers", json_of_timers r.timers)
     ∷ (codes "routes", list_of json_of_route r.routes.items)
     ∷ [])
 
@@ -147,59 +153,58 @@ json_of_sender r =
 abbrev pub happened_as : List ℕ → List (List ℕ × Json) → Json
 happened_as kind members = object_of ((codes "kind", string kind) ∷ members)
 
-unfoldable pub json_of_happened : Happened → Json
-json_of_happened (told.Deliver datagram iface sender) =
+-- a datagram of no router; of a lie the port, the hop limit and the destination are those of every lie
+unfoldable pub json_of_stranger : Bool → Received → Json
+json_of_stranger false x =
+    happened_as (codes "stranger")
+    ((codes "iface", number_of x.iface)
+    ∷ (codes "source", address_of x.source)
+    ∷ (codes "port", number_of x.source_port)
+    ∷ (codes "hop_limit", number_of x.hop_limit)
+    ∷ (codes "group", boolean x.to_group)
+    ∷ (codes "bytes", hex_of x.bytes)
+    ∷ [])
+json_of_stranger true x =
+    happened_as (codes "liar")
+    ((codes "iface", number_of x.iface)
+    ∷ (codes "source", address_of x.source)
+    ∷ (codes "bytes", hex_of x.bytes)
+    ∷ [])
+
+unfoldable pub json_of_reconfigured : Change → Json
+json_of_reconfigured (Cost iface cost) = happened_as (codes "cost") ((codes "iface", number_of iface) ∷ (codes "cost", number_of cost) ∷ [])
+json_of_reconfigured (Own p tag) = happened_as (codes "gain") ((codes "prefix", prefix_of p) ∷ (codes "tag", number_of tag) ∷ [])
+json_of_reconfigured (Disown p) = happened_as (codes "drop") ((codes "prefix", prefix_of p) ∷ [])
+
+-- an event, whether its stranger lies, and who sent the datagram of a delivery
+abbrev pub json_by_event : Event → Bool → Option SenderRecord → Json
+json_by_event (Deliver datagram router iface now) is_forged sender =
     happened_as (codes "deliver")
     ((codes "datagram", number_of datagram)
     ∷ (codes "iface", number_of iface)
     ∷ (codes "sender", option_of json_of_sender sender)
     ∷ [])
-json_of_happened (told.Stranger iface source port hop_limit group bytes) =
-    happened_as (codes "stranger")
-    ((codes "iface", number_of iface)
-    ∷ (codes "source", address_of source)
-    ∷ (codes "port", number_of port)
-    ∷ (codes "hop_limit", number_of hop_limit)
-    ∷ (codes "group", boolean group)
-    ∷ (codes "bytes", string (string_bytes bytes))
-    ∷ [])
-json_of_happened (told.Liar iface source bytes) =
-    happened_as (codes "liar")
-    ((codes "iface", number_of iface)
-    ∷ (codes "source", address_of source)
-    ∷ (codes "bytes", string (string_bytes bytes))
-    ∷ [])
-json_of_happened (told.Tick word) = happened_as (codes "tick") ((codes "word", number_of word) ∷ [])
-json_of_happened told.Restart = happened_as (codes "restart") []
-json_of_happened told.Shutdown = happened_as (codes "shutdown") []
-json_of_happened (told.LinkDown iface) = happened_as (codes "link_down") ((codes "iface", number_of iface) ∷ [])
-json_of_happened (told.Cost iface cost) =
-    happened_as (codes "cost")
-    ((codes "iface", number_of iface)
-    ∷ (codes "cost", number_of cost)
-    ∷ [])
-json_of_happened (told.Gain prefix tag) =
-    happened_as (codes "gain")
-    ((codes "prefix", prefix_of prefix)
-    ∷ (codes "tag", number_of tag)
-    ∷ [])
-json_of_happened (told.Disown prefix) = happened_as (codes "drop") ((codes "prefix", prefix_of prefix) ∷ [])
+json_by_event (Stranger router x) is_forged sender = json_of_stranger is_forged x
+json_by_event (Tick router now word) is_forged sender = happened_as (codes "tick") ((codes "word", number_of word) ∷ [])
+json_by_event (Restart router now) is_forged sender = happened_as (codes "restart") []
+json_by_event (Shutdown router now) is_forged sender = happened_as (codes "shutdown") []
+json_by_event (LinkDown router now iface) is_forged sender = happened_as (codes "link_down") ((codes "iface", number_of iface) ∷ [])
+json_by_event (Reconfigure router now c) is_forged sender = json_of_reconfigured c
+
+unfoldable pub json_of_happened : Happened → Json
+json_of_happened h = json_by_event (event_of h.event.now) h.is_forged h.sender
 
 -- ---- the answer
 
-unfoldable pub json_of_fault : FaultRecord → Json
-json_of_fault r =
-    object_of
-    ((codes "number", number_of r.number)
-    ∷ (codes "name", string r.name.now)
-    ∷ [])
+unfoldable pub json_of_fault : Fault → Json
+json_of_fault fault = object_of ((codes "number", number_of (fault_number fault)) ∷ (codes "name", string (fault_name fault)) ∷ [])
 
-unfoldable pub json_of_note : NoteRecord → Json
-json_of_note r =
+unfoldable pub json_of_note : Note → Json
+json_of_note n =
     object_of
-    ((codes "entry", number_of r.entry)
-    ∷ (codes "number", number_of r.number)
-    ∷ (codes "name", string r.name.now)
+    ((codes "entry", number_of n.entry)
+    ∷ (codes "number", number_of (note_number n.kind))
+    ∷ (codes "name", string (note_name n.kind))
     ∷ [])
 
 unfoldable pub json_of_offer : OfferRecord → Json
@@ -221,112 +226,75 @@ update_name Held = codes "held"
 abbrev pub json_of_update : UpdateRecord → Json
 json_of_update update = string (update_name update)
 
-unfoldable pub json_of_hop : HopRecord → Json
-json_of_hop r =
-    object_of
-    ((codes "iface", number_of r.iface)
-    ∷ (codes "next_hop", address_of r.next_hop)
-    ∷ [])
+-- where packets go, if not to a prefix of the router's own
+unfoldable pub json_of_hop : Hop → Json
+json_of_hop Direct = null
+json_of_hop (Via iface next_hop) = object_of ((codes "iface", number_of iface) ∷ (codes "next_hop", address_of next_hop) ∷ [])
 
-unfoldable pub json_of_change : ChangeRecord → Json
-json_of_change (change.Add prefix metric via) =
+unfoldable pub json_of_change : RouteChange → Json
+json_of_change (Install p hop metric) =
     object_of
     ((codes "change", string (codes "add"))
-    ∷ (codes "prefix", prefix_of prefix)
+    ∷ (codes "prefix", prefix_of p)
     ∷ (codes "metric", number_of metric)
-    ∷ (codes "via", option_of json_of_hop via)
+    ∷ (codes "via", json_of_hop hop)
     ∷ [])
-json_of_change (change.Del prefix) =
-    object_of
-    ((codes "change", string (codes "del"))
-    ∷ (codes "prefix", prefix_of prefix)
-    ∷ [])
+json_of_change (Withdraw p) = object_of ((codes "change", string (codes "del")) ∷ (codes "prefix", prefix_of p) ∷ [])
 
-unfoldable pub json_of_peer : PeerRecord → Json
-json_of_peer r =
-    object_of
-    ((codes "addr", address_of r.addr)
-    ∷ (codes "port", number_of r.port)
-    ∷ [])
+-- to whom, if not to the group
+unfoldable pub json_of_peer : Destination → Json
+json_of_peer Group = null
+json_of_peer (Peer addr port) = object_of ((codes "addr", address_of addr) ∷ (codes "port", number_of port) ∷ [])
 
 unfoldable pub json_of_sent : SentRecord → Json
 json_of_sent r =
     object_of
     ((codes "datagram", number_of r.datagram)
-    ∷ (codes "router", number_of r.router)
-    ∷ (codes "iface", number_of r.iface)
-    ∷ (codes "peer", option_of json_of_peer r.peer)
-    ∷ (codes "bytes", string (string_bytes r.bytes))
+    ∷ (codes "router", number_of r.sent.now.router)
+    ∷ (codes "iface", number_of r.sent.now.iface)
+    ∷ (codes "peer", json_of_peer r.sent.now.to)
+    ∷ (codes "bytes", hex_of r.sent.now.bytes)
     ∷ [])
 
 -- ---- the records of lines
 
+-- the line of the script, the record's name, and what there is to say
+abbrev pub record_as : ℕ → List ℕ → List (List ℕ × Json) → Json
+record_as line name members = object_of ((codes "line", number_of line) ∷ (codes "record", string name) ∷ members)
+
 unfoldable pub json_of_start : StartRecord → Json
 json_of_start r =
-    object_of
-    ((codes "line", number_of r.line)
-    ∷ (codes "record", string r.word.now)
-    ∷ (codes "now", number_of r.now)
+    record_as r.line (codes "start")
+    ((codes "now", number_of r.now)
     ∷ (codes "routers", list_of json_of_router r.routers.items)
     ∷ (codes "sent", list_of json_of_sent r.sent.items)
     ∷ [])
 
 unfoldable pub json_of_event : EventRecord → Json
 json_of_event r =
-    object_of
-    ((codes "line", number_of r.line)
-    ∷ (codes "record", string r.word.now)
-    ∷ (codes "router", number_of r.router)
+    record_as r.line (codes "event")
+    ((codes "router", number_of r.router)
     ∷ (codes "now", number_of r.now)
-    ∷ (codes "event", json_of_happened r.event)
-    ∷ (codes "fault", option_of json_of_fault r.fault)
-    ∷ (codes "notes", list_of json_of_note r.notes.items)
+    ∷ (codes "event", json_of_happened r.happened)
+    ∷ (codes "fault", option_of json_of_fault r.answer.now.fault)
+    ∷ (codes "notes", list_of json_of_note r.answer.now.notes)
     ∷ (codes "offers", list_of json_of_offer r.offers.items)
     ∷ (codes "update", option_of json_of_update r.update)
-    ∷ (codes "changes", list_of json_of_change r.changes.items)
+    ∷ (codes "changes", list_of json_of_change r.answer.now.changes)
     ∷ (codes "sent", list_of json_of_sent r.sent.items)
     ∷ (codes "timers", option_of json_of_timers r.timers)
     ∷ (codes "routes", list_of json_of_route r.routes.items)
     ∷ (codes "gone", list_of prefix_of r.gone.items)
     ∷ [])
 
-unfoldable pub json_of_print : PrintRecord → Json
-json_of_print r =
-    object_of
-    ((codes "line", number_of r.line)
-    ∷ (codes "record", string r.word.now)
-    ∷ (codes "prints", list_of (λ text. string text.now) r.prints.items)
-    ∷ [])
-
-unfoldable pub json_of_lost : LostRecord → Json
-json_of_lost r =
-    object_of
-    ((codes "line", number_of r.line)
-    ∷ (codes "record", string r.word.now)
-    ∷ (codes "datagram", number_of r.datagram)
-    ∷ [])
-
-unfoldable pub json_of_phases : PhasesRecord → Json
-json_of_phases r =
-    object_of
-    ((codes "line", number_of r.line)
-    ∷ (codes "record", string r.word.now)
-    ∷ (codes "phases", number_of r.phases)
-    ∷ (codes "last", option_of number_of r.last)
-    ∷ [])
-
 unfoldable pub json_of_hint : HintRecord → Json
-json_of_hint r =
-    object_of
-    ((codes "line", number_of r.line)
-    ∷ (codes "text", string (string_bytes r.text))
-    ∷ [])
+json_of_hint r = object_of ((codes "line", number_of r.line) ∷ (codes "text", string (string_bytes r.text)) ∷ [])
 
-unfoldable pub json_of_refused : RefusedRecord → Json
-json_of_refused r =
-    object_of
-    ((codes "line", number_of r.line)
-    ∷ (codes "record", string r.word.now)
-    ∷ (codes "why", string r.why.now)
-    ∷ (codes "hint", option_of json_of_hint r.hint)
-    ∷ [])
+abbrev pub json_by_action : ℕ → Action → Json
+json_by_action line (action.Prints word lines text) = record_as line word.now ((codes "prints", list_of (λ text. string text.now) lines.items) ∷ [])
+json_by_action line (action.Loses datagram) = record_as line (codes "lost") ((codes "datagram", number_of datagram) ∷ [])
+json_by_action line (action.Makes phases last) = record_as line (codes "phases") ((codes "phases", number_of phases) ∷ (codes "last", option_of number_of last) ∷ [])
+json_by_action line (action.Ends how why hint) = record_as line (codes "refused") ((codes "why", string why.now) ∷ (codes "hint", option_of json_of_hint hint) ∷ [])
+
+unfoldable pub json_of_aside : AsideRecord → Json
+json_of_aside r = json_by_action r.line r.action

@@ -1,8 +1,15 @@
 -- What is written of a record.
-use Rattle.std.specs.Prelude.{◌≡◌, ◌⊎◌, ℕ, List, [], ◌∷◌, ◌++◌, Option, take}
+use Rattle.std.specs.Prelude.{◌≡◌, ◌⊎◌, ℕ, List, [], ◌∷◌, ◌++◌, Option, None, take}
 use Rattle.std.specs.Io.KnownBytes.{Appends}
 use Rattle.json.specs.Json.{Json}
 use Rattle.ripngd_trace.specs.Json.{text_of}
+use Rattle.ripngd_trace.specs.declared.writing.Form.{Form}
+use Rattle.ripngd_trace.specs.declared.writing.Form.TheVariants as form
+
+-- what a writer has of records in this form, where that is known: of English nothing is claimed
+abbrev pub written_as : Form → Option (List ℕ) → Option (List ℕ)
+written_as form.Json contents = contents
+written_as form.English contents = None
 
 -- a record with this JSON is written, as one line: the text of it, and a line feed (10)
 pub record WritesRecord (json : Json) (old new : Option (List ℕ)) : Type 0 where

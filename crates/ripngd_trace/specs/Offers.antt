@@ -15,6 +15,7 @@ use Rattle.ripng_world.specs.Labs.{LabValue}
 use Rattle.ripng_world.specs.World.{Event, Deliver, is_to_group}
 use Rattle.ripng_world.specs.declared.sent.Sent.{Sent}
 use Rattle.ripngd_trace.specs.Events.{addr_at}
+use Rattle.ripngd_trace.specs.declared.known.KnownRouter.{KnownRouter}
 use Rattle.ripngd_trace.specs.declared.records.OfferRecord.{OfferRecord}
 
 -- a datagram of the network as it comes to an interface of its link
@@ -35,12 +36,12 @@ abbrev pub is_noted : List Note → ℕ → Bool
 is_noted notes place = list_any (λ n. n.entry == place) notes
 
 -- what an offer makes of the route to a prefix, if it is for this one and its entry has no note
-abbrev pub behind : List Note → Prefix6 → Option RouteValue → Offered → Option RouteValue
-behind notes p held o = if same_prefix o.prefix p && not (is_noted notes o.offer.place) then adopted o.gateway held o.offer else held
+abbrev pub with_offer : List Note → Prefix6 → Option RouteValue → Offered → Option RouteValue
+with_offer notes p held o = if same_prefix o.prefix p && not (is_noted notes o.offer.place) then adopted o.gateway held o.offer else held
 
--- the route to a prefix behind some offers, one after another
-abbrev pub route_behind : Table → List Note → List Offered → Prefix6 → Option RouteValue
-route_behind table notes offers p = fold (behind notes p) (map_of.get table p) offers
+-- the route to a prefix after some offers, one after another
+abbrev pub route_after : Table → List Note → List Offered → Prefix6 → Option RouteValue
+route_after table notes offers p = fold (with_offer notes p) (map_of.get table p) offers
 
 -- an offer, and its row of the table of adoption
 abbrev pub offer_record : Offered → Option RouteValue → OfferRecord
@@ -54,11 +55,11 @@ offer_record o held =
       why = reason o.gateway held o.offer;
     }
 
--- some of all offers, numbered from this one on, but for those whose entry has a note: each by what the table and all offers in
--- front of it left
+-- some of all offers, numbered from this one on, except those whose entry has a note: each by what the table and all offers before
+-- it left
 abbrev pub records_from : Table → List Note → List Offered → ℕ → List Offered → List OfferRecord
 records_from table notes all number some =
-    map (λ t. offer_record t.1 (route_behind table notes (take t.0 all) t.1.prefix)) (filter (λ t. not (is_noted notes t.1.offer.place)) (enumerate_from number some))
+    map (λ t. offer_record t.1 (route_after table notes (take t.0 all) t.1.prefix)) (filter (λ t. not (is_noted notes t.1.offer.place)) (enumerate_from number some))
 
 -- all of them
 abbrev pub offer_records : Table → List Note → List Offered → List OfferRecord
@@ -69,9 +70,9 @@ abbrev pub TellsArrival : Table → State → Received → List Note → List Of
 TellsArrival table s x notes records =
     x.iface < length s.config.interfaces → (offers : List Offered) × Brings s x offers × (records ≡ offer_records table notes offers)
 
--- the records tell of all offers of an event, by the tables before; of none where no datagram of the network comes
-abbrev pub TellsOffers : List Table → LabValue → Event → List Note → List OfferRecord → Type 0
-TellsOffers tables lab (Deliver datagram router iface now) notes records =
-    (table : Table) (s : State) (sent : Sent) → slice_get tables router ≡ Some table → slice_get lab.world.states router ≡ Some s → slice_get lab.world.sent datagram ≡ Some sent
-    → TellsArrival table s (came lab sent iface now) notes records
-TellsOffers tables lab _ notes records = records ≡ []
+-- the records tell of all offers of an event, by the routers as they were known; of none where no datagram of the network comes
+abbrev pub TellsOffers : List KnownRouter → LabValue → Event → List Note → List OfferRecord → Type 0
+TellsOffers routers lab (Deliver datagram router iface now) notes records =
+    (known : KnownRouter) (s : State) (sent : Sent) → slice_get routers router ≡ Some known → slice_get lab.world.states router ≡ Some s → slice_get lab.world.sent datagram ≡ Some sent
+    → TellsArrival known.table s (came lab sent iface now) notes records
+TellsOffers routers lab _ notes records = records ≡ []

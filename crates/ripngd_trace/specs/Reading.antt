@@ -1,9 +1,7 @@
--- What a reader of a trace has, who goes through its records from the first one on: each router's table, as records of routes.
-use Rattle.std.specs.Prelude.{◌≡◌, ◌⊎◌, ℕ, List, [], ◌∷◌, map, Option, Some, None, option_map, codes, get_or, slice_set}
+-- What a reader of a trace has, who goes through its records from the first one on: each router's table.
+use Rattle.std.specs.Prelude.{◌≡◌, ◌⊎◌, ℕ, Bool, true, false, ⊤, List, [], ◌∷◌, map, Option, Some, None, option_map, codes, get_or, slice_set}
 use Rattle.std.specs.FinMap as map_of
-use Rattle.std.specs.List.{AllZip}
-use Rattle.prefix6.specs.Prefix.{Prefix6}
-use Rattle.route_table.specs.Table.{ByPrefix, Table}
+use Rattle.route_table.specs.Table.{Table}
 use Rattle.router_core.specs.declared.answer.Answer.{Answer}
 use Rattle.json.specs.Json.{Json}
 use Rattle.ripng_world.specs.Labs.{LabValue}
@@ -12,58 +10,35 @@ use Rattle.router_core.specs.Received.{Received}
 use Rattle.ripng_world.specs.Lying.{Lies}
 use Rattle.ripng_world.specs.World.{World, Event, Stranger, Happens}
 use Rattle.ripngd_lab.specs.ScriptWatching.{StartsAt}
-use Rattle.ripngd_trace.specs.Events.{RecordTells, TellsLie}
-use Rattle.ripngd_trace.specs.Json.{json_of_event, json_of_lost, json_of_phases, json_of_print, json_of_refused, json_of_start}
+use Rattle.ripngd_trace.specs.Events.{RecordTells}
+use Rattle.ripngd_trace.specs.Json.{json_of_aside, json_of_event, json_of_start}
 use Rattle.ripngd_trace.specs.Lines.{WritesLess, WritesRecord}
 use Rattle.ripngd_trace.specs.Offers.{TellsOffers}
-use Rattle.ripngd_trace.specs.Records.{route_record, taken_out, timers_in}
+use Rattle.ripngd_trace.specs.Records.{known_as, taken_out, with_routes}
 use Rattle.ripngd_trace.specs.Starting.{TellsStart}
 use Rattle.ripngd_trace.specs.Updates.{due_at}
+use Rattle.ripngd_trace.specs.declared.known.KnownRouter.{KnownRouter}
+use Rattle.ripngd_trace.specs.declared.records.Action.{Action}
+use Rattle.ripngd_trace.specs.declared.records.Action.TheVariants.{Prints, Loses, Makes, Ends}
+use Rattle.ripngd_trace.specs.declared.records.AsideRecord.{AsideRecord}
 use Rattle.ripngd_trace.specs.declared.records.EventRecord.{EventRecord}
-use Rattle.ripngd_trace.specs.declared.records.PrintRecord.{PrintRecord}
-use Rattle.ripngd_trace.specs.declared.records.LostRecord.{LostRecord}
-use Rattle.ripngd_trace.specs.declared.records.PhasesRecord.{PhasesRecord}
-use Rattle.ripngd_trace.specs.declared.records.RefusedRecord.{RefusedRecord}
-use Rattle.ripngd_trace.specs.declared.records.RouteRecord.{RouteRecord}
 use Rattle.ripngd_trace.specs.declared.records.StartRecord.{StartRecord}
-use Rattle.ripngd_trace.specs.declared.records.Timers.{Timers}
 
 -- ---- what a reader has
 
--- of one router: the record of its route to each prefix
-abbrev pub Shown : Type 0
-Shown = ByPrefix RouteRecord
-
--- it shows a table: to each prefix there is the record of the route, or none where there is none
-abbrev pub ShowsTable : Shown → Table → Type 0
-ShowsTable shown table = (p : Prefix6) → map_of.get shown p ≡ option_map (route_record p) (map_of.get table p)
-
--- once these routes are put in, one after another
-abbrev pub with_records : Shown → List RouteRecord → Shown
-with_records shown [] = shown
-with_records shown (r ∷ records) = with_records (map_of.insert shown r.prefix r) records
-
--- a line of a trace: the record of a start, of an event, of what a line of the script prints, loses or has made, or of why it ends the
--- script
+-- a line of a trace: the record of a start, of an event or a lie, of what a line of the script prints, loses or has made, or of why it
+-- ends the script
 pub data Line : Type 0 where
   StartLine : StartRecord → Line
-  EventLine : EventRecord → Line
-  LieLine : EventRecord → Line
-  PrintLine : PrintRecord → Line
-  RefusedLine : RefusedRecord → Line
-  LostLine : LostRecord → Line
-  PhasesLine : PhasesRecord → Line
+  EventLine : (is_forged : Bool) → EventRecord → Line
+  AsideLine : AsideRecord → Line
 
 -- what a reader has of each router once it has read a line: of a start each router's routes; of an event what it had, but of the
 -- router that moved without what is gone and with the routes that are told; else what it had
-abbrev pub read_line : List Shown → Line → List Shown
-read_line shown (StartLine r) = map (λ router. with_records map_of.empty router.routes.items) r.routers.items
-read_line shown (EventLine r) = slice_set shown r.router (with_records (taken_out (get_or shown r.router map_of.empty) r.gone.items) r.routes.items)
-read_line shown (LieLine r) = slice_set shown r.router (with_records (taken_out (get_or shown r.router map_of.empty) r.gone.items) r.routes.items)
-read_line shown (PrintLine r) = shown
-read_line shown (RefusedLine r) = shown
-read_line shown (LostLine r) = shown
-read_line shown (PhasesLine r) = shown
+abbrev pub read_line : List Table → Line → List Table
+read_line shown (StartLine r) = map (λ router. with_routes map_of.empty router.routes.items) r.routers.items
+read_line shown (EventLine is_forged r) = slice_set shown r.router (with_routes (taken_out (get_or shown r.router map_of.empty) r.gone.items) r.routes.items)
+read_line shown (AsideLine r) = shown
 
 -- ---- what there is to know
 
@@ -71,18 +46,18 @@ read_line shown (PhasesLine r) = shown
 abbrev pub tables_of : World → List Table
 tables_of w = map (λ s. s.table) w.states
 
--- the timers of each router
-abbrev pub all_timers : World → List Timers
-all_timers w = map timers_in w.states
+-- each router as it is
+abbrev pub known_of : World → List KnownRouter
+known_of w = map known_as w.states
 
 -- the same of a script's lab, which has no routers before its start
 abbrev pub tables_in : Option LabValue → List Table
 tables_in None = []
 tables_in (Some lab) = tables_of lab.world
 
-abbrev pub timers_of : Option LabValue → List Timers
-timers_of None = []
-timers_of (Some lab) = all_timers lab.world
+abbrev pub known_in : Option LabValue → List KnownRouter
+known_in None = []
+known_in (Some lab) = known_of lab.world
 
 -- an event happens in a lab, with this answer
 abbrev pub HappensIn : LabValue → Event → Answer → LabValue → Type 0
@@ -90,44 +65,46 @@ HappensIn lab e answer lab' = (lab'.network ≡ lab.network) × Happens lab.netw
 
 -- the word of a record of what a line prints
 abbrev pub IsPrintWord : List ℕ → Type 0
-IsPrintWord word = (word ≡ codes "print") ⊎ ((word ≡ codes "sent") ⊎ (word ≡ codes "say"))
+IsPrintWord word = (word ≡ codes "print") ⊎ ((word ≡ codes "sent") ⊎ ((word ≡ codes "say") ⊎ (word ≡ codes "path")))
+
+abbrev pub HasWord : Action → Type 0
+HasWord (Prints word lines text) = IsPrintWord word.now
+HasWord (Loses datagram) = ⊤
+HasWord (Makes phases last) = ⊤
+HasWord (Ends how why hint) = ⊤
 
 -- a record of an event has the offers and the update of it, by the lab before and the lab after
 pub record Explains (lab : LabValue) (e : Event) (answer : Answer) (lab' : LabValue) (r : EventRecord) : Type 0 where
-  pub offers : TellsOffers (tables_of lab.world) lab' e answer.notes r.offers.items
+  pub offers : TellsOffers (known_of lab.world) lab' e answer.notes r.offers.items
   pub update : r.update ≡ due_at lab e
 
--- a line tells what becomes of a script's lab: it starts; an event happens in it; or nothing does, as the line's word says
+-- a record tells of an event that happens in a lab, or of a lie
+abbrev pub TellsMove : Bool → LabValue → LabValue → EventRecord → Type 0
+TellsMove false lab lab' r =
+    (e : Event) × (answer : Answer) × HappensIn lab e answer lab' × RecordTells false r.line (telling lab.network lab.world e answer lab'.world) r × Explains lab e answer lab' r
+TellsMove true lab lab' r =
+    (router : ℕ) × (x : Received) × (answer : Answer) × (lab'.network ≡ lab.network) × Lies lab.world router x answer lab'.world
+    × RecordTells true r.line (telling lab.network lab.world (Stranger router x) answer lab'.world) r
+
+-- a line tells what becomes of a script's lab: it starts; an event or a lie happens in it; or nothing does
 abbrev pub TellsOf : Line → Option LabValue → Option LabValue → Type 0
 TellsOf (StartLine r) before after = (before ≡ None) × (lab : LabValue) × (after ≡ Some lab) × StartsAt lab r.now × TellsStart r.line lab r.now r
-TellsOf (EventLine r) before after =
-    (lab : LabValue) × (before ≡ Some lab) × (lab' : LabValue) × (after ≡ Some lab')
-    × (e : Event) × (answer : Answer) × HappensIn lab e answer lab' × RecordTells r.line (telling lab.network lab.world e answer lab'.world) r × Explains lab e answer lab' r
-TellsOf (LieLine r) before after =
-    (lab : LabValue) × (before ≡ Some lab) × (lab' : LabValue) × (after ≡ Some lab') × (lab'.network ≡ lab.network)
-    × (router : ℕ) × (x : Received) × (answer : Answer) × Lies lab.world router x answer lab'.world × TellsLie r.line (telling lab.network lab.world (Stranger router x) answer lab'.world) r
-TellsOf (PrintLine r) before after = (after ≡ before) × IsPrintWord r.word.now
-TellsOf (RefusedLine r) before after = (after ≡ before) × (r.word.now ≡ codes "refused")
-TellsOf (LostLine r) before after = (after ≡ before) × (r.word.now ≡ codes "lost")
-TellsOf (PhasesLine r) before after = (after ≡ before) × (r.word.now ≡ codes "phases")
+TellsOf (EventLine is_forged r) before after = (lab : LabValue) × (before ≡ Some lab) × (lab' : LabValue) × (after ≡ Some lab') × TellsMove is_forged lab lab' r
+TellsOf (AsideLine r) before after = (after ≡ before) × HasWord r.action
 
 -- ---- a trace
 
 -- these lines tell all that becomes of a script's lab, one after another; and after each of them a reader has each router's table
-abbrev pub TellsScript : Option LabValue → List Shown → List Line → Option LabValue → Type 0
+abbrev pub TellsScript : Option LabValue → List Table → List Line → Option LabValue → Type 0
 TellsScript lab shown [] end = end ≡ lab
 TellsScript lab shown (line ∷ lines) end =
-    (mid : Option LabValue) × TellsOf line lab mid × AllZip ShowsTable (read_line shown line) (tables_in mid) × TellsScript mid (read_line shown line) lines end
+    (mid : Option LabValue) × TellsOf line lab mid × (read_line shown line ≡ tables_in mid) × TellsScript mid (read_line shown line) lines end
 
 -- the JSON of its record
 abbrev pub json_of : Line → Json
 json_of (StartLine r) = json_of_start r
-json_of (EventLine r) = json_of_event r
-json_of (LieLine r) = json_of_event r
-json_of (PrintLine r) = json_of_print r
-json_of (RefusedLine r) = json_of_refused r
-json_of (LostLine r) = json_of_lost r
-json_of (PhasesLine r) = json_of_phases r
+json_of (EventLine is_forged r) = json_of_event r
+json_of (AsideLine r) = json_of_aside r
 
 -- its record is written, as one line
 abbrev pub IsWritten : Line → Option (List ℕ) → Option (List ℕ) → Type 0

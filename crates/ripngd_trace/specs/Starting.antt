@@ -1,15 +1,13 @@
 -- What the record of the start says of each router.
-use Rattle.std.specs.Prelude.{◌≡◌, ℕ, List, [], map, length, Some, slice_get, codes}
+use Rattle.std.specs.Prelude.{◌≡◌, ℕ, List, [], map, length, Some, slice_get}
 use Rattle.std.specs.FinMap as map_of
 use Rattle.std.specs.List.{enumerate_from}
-use Rattle.prefix6.specs.Prefix.{Prefix6}
 use Rattle.router_core.specs.Machine.{State}
 use Rattle.router_core.specs.declared.config.Interface.{Interface}
 use Rattle.ripng_world.specs.Labs.{LabValue, link_at}
-use Rattle.ripngd_trace.specs.Events.{sent_from, sent_said, sent_words}
+use Rattle.ripngd_trace.specs.Events.{sent_from, sent_said}
 use Rattle.ripngd_trace.specs.Records.{LeadsTo, timers_in}
 use Rattle.ripngd_trace.specs.declared.records.InterfaceRecord.{InterfaceRecord}
-use Rattle.ripngd_trace.specs.declared.records.OwnedRecord.{OwnedRecord}
 use Rattle.ripngd_trace.specs.declared.records.RouterRecord.{RouterRecord}
 use Rattle.ripngd_trace.specs.declared.records.StartRecord.{StartRecord}
 
@@ -17,18 +15,14 @@ use Rattle.ripngd_trace.specs.declared.records.StartRecord.{StartRecord}
 abbrev pub interface_record : LabValue → ℕ → ℕ × Interface → InterfaceRecord
 interface_record lab router i = record { addr = i.1.addr; cost = i.1.cost; mtu = i.1.mtu; link = link_at lab.network router i.0 }
 
--- an owned prefix, with its tag
-abbrev pub owned_record : Prefix6 × ℕ → OwnedRecord
-owned_record t = record { prefix = t.0; tag = t.1 }
-
 -- what a router was asked to be, its timers, and all its routes
 pub record TellsRouter (lab : LabValue) (router : ℕ) (r : RouterRecord) : Type 0 where
   pub state : State
   pub state_is : slice_get lab.world.states router ≡ Some state
   pub quiet_is : r.quiet ≡ state.config.quiet
   pub interfaces_are : r.interfaces.items ≡ map (interface_record lab router) (enumerate_from 0 state.config.interfaces)
-  pub prefixes_are : r.prefixes.items ≡ map owned_record state.config.prefixes
-  pub timers_are : r.timers ≡ Some (timers_in state)
+  pub prefixes_are : r.prefixes.items ≡ state.config.prefixes
+  pub timers_are : r.timers ≡ timers_in state
   pub routes_lead : LeadsTo map_of.empty r.routes.items [] state.table
 
 -- there is a record for each router of the lab, in order
@@ -38,8 +32,7 @@ pub record AreTold (lab : LabValue) (records : List RouterRecord) : Type 0 where
 
 -- the start, at this moment, with all routers and all that they sent
 pub record TellsStart (line : ℕ) (lab : LabValue) (now : ℕ) (r : StartRecord) : Type 0 where
-  pub word_is : r.word.now ≡ codes "start"
   pub at_line : r.line ≡ line
   pub moment_is : r.now ≡ now
   pub routers : AreTold lab r.routers.items
-  pub sent_are : map sent_said r.sent.items ≡ map sent_words (sent_from 0 lab.world.sent)
+  pub sent_are : map sent_said r.sent.items ≡ sent_from 0 lab.world.sent

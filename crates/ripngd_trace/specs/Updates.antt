@@ -7,6 +7,7 @@ use Rattle.router_core.specs.Ageing.{aged_table}
 use Rattle.router_core.specs.Machine.{State, is_regular_due, is_triggered_due}
 use Rattle.ripng_world.specs.Labs.{LabValue}
 use Rattle.ripng_world.specs.World.{Event, Tick}
+use Rattle.ripngd_trace.specs.declared.known.KnownRouter.{KnownRouter}
 use Rattle.ripngd_trace.specs.declared.records.Timers.{Timers}
 use Rattle.ripngd_trace.specs.declared.records.UpdateRecord.{UpdateRecord}
 use Rattle.ripngd_trace.specs.declared.records.UpdateRecord.TheVariants.{Regular, Triggered, Held}
@@ -32,8 +33,8 @@ update_by before s =
     else if is_some (first_changed None s.table) then Some Held
     else None
 
--- and by the timers of all routers before
-abbrev pub TellsUpdate : List Timers → LabValue → Event → Option UpdateRecord → Type 0
-TellsUpdate timers lab (Tick router now word) update =
-    (before : Timers) (s : State) → slice_get timers router ≡ Some before → slice_get lab.world.states router ≡ Some s → update ≡ update_by before s
-TellsUpdate timers lab _ update = update ≡ None
+-- and by the routers as they were known
+abbrev pub TellsUpdate : List KnownRouter → LabValue → Event → Option UpdateRecord → Type 0
+TellsUpdate routers lab (Tick router now word) update =
+    (before : KnownRouter) (s : State) → slice_get routers router ≡ Some before → slice_get lab.world.states router ≡ Some s → update ≡ update_by before.timers s
+TellsUpdate routers lab _ update = update ≡ None

@@ -1,15 +1,20 @@
-//! Records of what happened.
+//! Parts of records: of an event its router, its moment, the sender of its datagram, what was sent and which update was due; of a
+//! router its configuration.
 
-ghost use Rattle.std.specs.Prelude.{◌≡◌, IfOk};
+ghost use Rattle.std.specs.Prelude.{◌≡◌, IfOk, map};
+ghost use Rattle.std.specs.List.{enumerate_from};
 ghost use Rattle.ripng_world.specs.Events.{event_of};
 ghost use Rattle.ripng_world.specs.Rounds.{moment_of, router_of};
-ghost use Rattle.ripngd_trace.specs.Events.{SaysArrival, SaysHappened, SaysLieOf, change_told, sender_of};
+ghost use Rattle.ripngd_trace.specs.Events.{addr_at, sender_at, sent_from, sent_said};
+ghost use Rattle.ripngd_trace.specs.Starting.{interface_record};
+ghost use Rattle.ripngd_trace.specs.Updates.{TellsUpdate, update_by};
 
-use crate::network::addr_of;
-use crate::records::{Happened, SenderRecord};
+use crate::known::KnownRouter;
+use crate::records::{InterfaceRecord, SenderRecord, SentRecord, Timers, UpdateRecord};
+use prefix6::{Addr6, Prefix};
 use ripng_world::{Event, Running};
 use route_table::{Moment, RouteStore};
-use router_core::{Arrival, Change};
+use router_core::{Arrival, Router, RouterConfig};
 use std::alloc::{AllocError, Global};
 
 /// The router that moves at an event.
@@ -42,49 +47,7 @@ pub fn moment_of(event: &Event<'_>) -> Moment
     }
 }
 
-/// The router that sent a datagram, if it was sent.
-fn sender_of<S: RouteStore>(lab: &Running<S>, datagram: usize) -> Option<SenderRecord>
-    ensures { result ≡ sender_of lab.now datagram }
-{
-    match lab.sent().get(datagram) {
-        Some(sent) => Some(SenderRecord {
-            router: sent.router,
-            iface: sent.iface,
-            addr: addr_of(lab, sent.router, sent.iface),
-        }),
-        None => None,
-    }
-}
-
-/// A datagram of no router.
-fn stranger(alloc: Global, arrival: &Arrival<'_>) -> Result<Happened, AllocError>
-    ensures { IfOk result (SaysArrival arrival.entry.now) }
-{
-    Ok(Happened::Stranger {
-        iface: arrival.iface,
-        source: arrival.source,
-        port: arrival.source_port,
-        hop_limit: arrival.hop_limit,
-        group: arrival.to_group,
-        bytes: hex::encode(alloc, arrival.bytes)?,
-    })
-}
-
-/// A lie.
-///
-/// # Errors
-/// Want of memory.
-pub fn lie_told(alloc: Global, arrival: &Arrival<'_>) -> Result<Happened, AllocError>
-    ensures { IfOk result (SaysLieOf arrival.entry.now) }
-{
-    Ok(Happened::Liar {
-        iface: arrival.iface,
-        source: arrival.source,
-        bytes: hex::encode(alloc, arrival.bytes)?,
-    })
-}
-
-/// An arrival as a stranger's, but for who it is of.
+/// A copy of an arrival.
 pub fn again<'a>(arrival: &Arrival<'a>) -> Arrival<'a>
     ensures { result ≡ arrival.entry.now }
 {
@@ -99,43 +62,121 @@ pub fn again<'a>(arrival: &Arrival<'a>) -> Arrival<'a>
     }
 }
 
-/// A change of a router's configuration.
-fn change_told(change: &Change) -> Happened
-    ensures { result ≡ change_told change.now }
+/// The address of an interface, if the network has it.
+pub fn addr_of<S: RouteStore>(lab: &Running<S>, router: usize, iface: usize) -> Option<Addr6>
+    ensures { result ≡ addr_at lab.now router iface }
 {
-    match *change {
-        Change::Cost { iface, cost } => Happened::Cost { iface, cost },
-        Change::Own { prefix, tag } => Happened::Gain { prefix, tag },
-        Change::Disown { prefix } => Happened::Disown { prefix },
+    match lab.router(router)?.config().interfaces().get(iface) {
+        Some(interface) => Some(interface.addr),
+        None => None,
     }
 }
 
-/// An event, but for its router and its moment.
+/// The router that sent the datagram of a delivery, if it was sent.
+pub fn sender_at<S: RouteStore>(lab: &Running<S>, event: &Event<'_>) -> Option<SenderRecord>
+    ensures { result ≡ sender_at lab.now (event_of event.entry.now) }
+{
+    let &Event::Deliver { datagram, .. } = event else {
+        return None;
+    };
+    match lab.sent().get(datagram) {
+        Some(sent) => Some(SenderRecord {
+            router: sent.router,
+            iface: sent.iface,
+            addr: addr_of(lab, sent.router, sent.iface),
+        }),
+        None => None,
+    }
+}
+
+/// The datagrams that were sent from a number on, in order.
 ///
 /// # Errors
-/// Want of memory.
-pub fn happened<S: RouteStore>(
+/// Out of memory.
+pub fn sent_since<S: RouteStore>(
     alloc: Global,
     lab: &Running<S>,
-    event: &Event<'_>,
-) -> Result<Happened, AllocError>
-    ensures { IfOk result (SaysHappened lab.now (event_of event.entry.now)) }
+    first: usize,
+) -> Result<Vec<SentRecord<'_>>, AllocError>
+    ensures { IfOk result (λ records. map sent_said records.items ≡ sent_from first lab.now.world.sent) }
 {
-    match event {
-        Event::Deliver {
-            datagram,
-            iface,
-            ..
-        } => Ok(Happened::Deliver {
-            datagram: *datagram,
-            iface: *iface,
-            sender: sender_of(lab, *datagram),
-        }),
-        Event::Stranger { arrival, .. } => stranger(alloc, arrival),
-        Event::Tick { word, .. } => Ok(Happened::Tick { word: *word }),
-        Event::Restart { .. } => Ok(Happened::Restart),
-        Event::Shutdown { .. } => Ok(Happened::Shutdown),
-        Event::LinkDown { iface, .. } => Ok(Happened::LinkDown { iface: *iface }),
-        Event::Reconfigure { change, .. } => Ok(change_told(change)),
+    let sent = lab.sent();
+    let mut records = Vec::new(alloc);
+    for number in first..sent.len() {
+        records.push(SentRecord {
+            datagram: number,
+            sent: &sent[number],
+        })?;
     }
+    Ok(records)
+}
+
+/// Which update was due, by the timers before and by the router as it is now: each update moves its own timer.
+fn update_by<S: RouteStore>(before: &Timers, router: &Router<S>) -> Option<UpdateRecord>
+    ensures { result ≡ update_by before.now router.now }
+{
+    if router.regular().ms() != before.regular {
+        Some(UpdateRecord::Regular)
+    } else if router.hold().ms() != before.hold {
+        Some(UpdateRecord::Triggered)
+    } else if router.routes().walk_changed(None).is_some() {
+        Some(UpdateRecord::Held)
+    } else {
+        None
+    }
+}
+
+/// Which update was due at an event, by the timers of the routers as they were known (RFC 2080, sections 2.3 and 2.5.1).
+pub fn update_of<S: RouteStore>(
+    lab: &Running<S>,
+    known: &[KnownRouter],
+    event: &Event<'_>,
+) -> Option<UpdateRecord>
+    ensures { TellsUpdate known.now lab.now (event_of event.entry.now) result }
+{
+    let &Event::Tick { router, .. } = event else {
+        return None;
+    };
+    match (known.get(router), lab.router(router)) {
+        (Some(before), Some(moved)) => update_by(&before.timers, moved),
+        _ => None,
+    }
+}
+
+/// The interfaces of a router, in order.
+///
+/// # Errors
+/// Out of memory.
+pub fn interface_records<S: RouteStore>(
+    alloc: Global,
+    lab: &Running<S>,
+    router: usize,
+    config: &RouterConfig,
+) -> Result<Vec<InterfaceRecord>, AllocError>
+    ensures { IfOk result (λ records. records.items ≡ map (interface_record lab.now router) (enumerate_from 0 config.now.interfaces)) }
+{
+    let mut records = Vec::new(alloc);
+    for (number, interface) in config.interfaces().iter().enumerate() {
+        records.push(InterfaceRecord {
+            addr: interface.addr,
+            cost: interface.cost,
+            mtu: interface.mtu,
+            link: lab.link(router, number),
+        })?;
+    }
+    Ok(records)
+}
+
+/// The prefixes that a router owns, each with its tag, in order.
+///
+/// # Errors
+/// Out of memory.
+pub fn owned_by(alloc: Global, config: &RouterConfig) -> Result<Vec<(Prefix, u16)>, AllocError>
+    ensures { IfOk result (λ records. records.items ≡ config.now.prefixes) }
+{
+    let mut records = Vec::new(alloc);
+    for (prefix, tag) in config.prefixes() {
+        records.push((*prefix, *tag))?;
+    }
+    Ok(records)
 }

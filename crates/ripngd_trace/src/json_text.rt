@@ -1,23 +1,25 @@
 //! A text of JSON (RFC 8259) that grows, token by token.
 
 ghost use Rattle.std.specs.Prelude.{◌≡◌, [], ◌∷◌, ◌++◌, false, IfOk, IfSome, decimal};
+ghost use Rattle.hex.specs.Hex.{encode_lower};
+ghost use Rattle.json.specs.Json.{object};
 ghost use Rattle.json.specs.Print.{IsPrintable, print};
 ghost use Rattle.json.specs.Reads.{token_of};
 ghost use Rattle.json.specs.Token.{key, number, string};
 ghost use Rattle.json.specs.Tree.{json_tokens};
 ghost use Rattle.ripngd_trace.specs.Growing.{Grows};
 
-use crate::to_json::ToJson;
+use crate::to_json::{Members, ToJson};
 use json::{Token, Writer};
 use std::alloc::{AllocError, Global};
 use std::fmt::Display;
 
-/// A text that grows, until memory is refused for it. Whoever writes it asks only at its end whether that was so.
+/// A text that grows until memory runs out. Its writer asks only at its end whether it did.
 #[derive(Drop)]
 pub struct JsonText {
     alloc: Global,
     writer: Writer,
-    /// Whether memory was refused.
+    /// Whether memory ran out.
     refused: bool,
 }
 
@@ -37,7 +39,7 @@ impl JsonText {
     /// The whole text.
     ///
     /// # Errors
-    /// Where memory was refused.
+    /// Where memory ran out.
     pub fn into_bytes(self) -> Result<Vec<u8>, AllocError>
         ensures { IfOk result (λ bytes. (self.refused ≡ false) × (bytes.items ≡ self.writer.before ++ print self.writer.tokens)) }
     {
@@ -81,6 +83,24 @@ impl JsonText {
             Ok(text) => self.token(Token::String(text.as_str())),
             Err(_) => self.refused = true,
         }
+    }
+
+    /// Writes a string: bytes in hexadecimal digits.
+    pub fn hex(&mut self, bytes: &[u8])
+        ensures { Grows self.old self.new (string (encode_lower bytes.now) ∷ []) }
+    {
+        match hex::encode(self.alloc, bytes) {
+            Ok(text) => self.token(Token::String(text.as_str())),
+            Err(_) => self.refused = true,
+        }
+    }
+
+    /// Writes an object.
+    pub fn object<M: Members>(&mut self, members: &M)
+        ensures { Grows self.old self.new (json_tokens (object (M.members members.now))) }
+    {
+        self.token(Token::BeginObject);
+        members.write_members(self);
     }
 
     /// Writes a member of an object.

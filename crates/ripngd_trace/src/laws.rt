@@ -6,11 +6,11 @@ ghost use Rattle.ripngd_lab.specs.ScriptWatching.{IsToldOfLab, IsToldUntil};
 ghost use Rattle.ripngd_trace.specs.Reading.{IsTraced, IsTracedUntil};
 ghost use Rattle.ripngd_trace.specs.Saying.{BreaksOff, Said, SaysAside, SaysEvent, SaysStart};
 
-/// Whoever is told all that happens in a script's lab, knows no table before, and makes of each telling what the tracer makes of
-/// it, has traced the script: who reads the lines has each router's table after each of them.
+/// An observer that is notified of all that happens in a script's lab, knows no table before, and makes of each notice what the
+/// tracer makes of it, has traced the script: a reader of the lines has each router's table after each of them.
 pub fn readers_know_each_table()
-    ensures told { (said said' : Said) (lab : Option LabValue) → said.known ≡ [] → said.timers ≡ [] → IsToldOfLab SaysStart SaysEvent SaysAside (None, said) (lab, said')
+    ensures told { (said said' : Said) (lab : Option LabValue) → said.known.routers ≡ [] → IsToldOfLab SaysStart SaysEvent SaysAside (None, said) (lab, said')
         → IsTraced said.written lab said'.written }
-    ensures told_until { (said said' : Said) (lab : Option LabValue) → said.known ≡ [] → said.timers ≡ [] → IsToldUntil SaysStart SaysEvent BreaksOff SaysAside (None, said) (lab, said')
+    ensures told_until { (said said' : Said) (lab : Option LabValue) → said.known.routers ≡ [] → IsToldUntil SaysStart SaysEvent BreaksOff SaysAside (None, said) (lab, said')
         → IsTracedUntil said.written lab said'.written }
 {}

@@ -1,21 +1,17 @@
-//! A script of a laboratory, traced: a line of JSON for all that happens in it.
+//! A script of a laboratory, traced: a line of JSON for all that happens in it; or explained: a line of English.
 #![tactic(auto)]
 
-mod answers;
 mod events;
-mod explaining;
 mod json_text;
+mod known;
 mod laws;
-mod network;
 mod offers;
 mod records;
 mod sentences;
 mod tables;
 mod to_json;
 mod tracer;
-mod updates;
 mod writing;
 
-pub use explaining::explain;
 pub use laws::readers_know_each_table;
-pub use tracer::trace;
+pub use tracer::{explain, trace};

@@ -1,10 +1,11 @@
-//! Records of what a Response offers, and of why each offer is adopted or is not (RFC 2080, section 2.4.2).
+//! Records of what a Response offers, and of why each offer is adopted or not (RFC 2080, section 2.4.2).
 
 ghost use Rattle.std.specs.Prelude.{◌≡◌, IfOk, map};
 ghost use Rattle.ripng_world.specs.Events.{event_of};
-ghost use Rattle.ripngd_trace.specs.Offers.{TellsArrival, TellsOffers, came, is_noted, offer_record, offer_records, route_behind};
+ghost use Rattle.ripngd_trace.specs.Offers.{TellsArrival, TellsOffers, came, is_noted, offer_record, offer_records, route_after};
 
-use crate::network::addr_of;
+use crate::events::addr_of;
+use crate::known::KnownRouter;
 use crate::records::OfferRecord;
 use prefix6::{Addr6, Prefix};
 use ripng_world::{Event, Running, Sent};
@@ -40,14 +41,14 @@ fn is_noted(notes: &[Note], place: usize) -> bool
     notes.iter().any(|note| note.entry == place)
 }
 
-/// The route to a prefix that some offers leave, one after another, but for those of noted entries.
-fn route_behind<S: RouteStore>(
+/// The route to a prefix after some offers, one after another, except those of noted entries.
+fn route_after<S: RouteStore>(
     known: &S,
     notes: &[Note],
     offers: &[Offered],
     prefix: Prefix,
 ) -> Option<Route>
-    ensures { result ≡ route_behind (S.table known.now) notes.now offers.now prefix }
+    ensures { result ≡ route_after (S.table known.now) notes.now offers.now prefix }
 {
     let mut held = known.get(&prefix);
     for offered in offers {
@@ -72,7 +73,7 @@ fn offer_record(offered: &Offered, held: Option<Route>) -> OfferRecord
     }
 }
 
-/// The offers of a Response in order, each by what the table and those in front of it left, but for those of noted entries.
+/// The offers of a Response in order, each by what the table and those before it left, except those of noted entries.
 fn offer_records<S: RouteStore>(
     alloc: Global,
     known: &S,
@@ -85,7 +86,7 @@ fn offer_records<S: RouteStore>(
     for number in 0..offers.len() {
         let offered = &offers[number];
         if !is_noted(notes, offered.place()) {
-            let held = route_behind(known, notes, &offers[..number], offered.prefix());
+            let held = route_after(known, notes, &offers[..number], offered.prefix());
             records.push(offer_record(offered, held))?;
         }
     }
@@ -109,15 +110,15 @@ fn delivered(
     offer_records(alloc, known, notes, offers.as_slice())
 }
 
-/// What an event offered to the router that moved, by the tables that are known of all routers. Only a delivery offers
+/// What an event offered to the router that moved, by the tables of the routers as they were known. Only a delivery offers
 /// anything: a datagram of no router brings no Response that is heard.
 ///
 /// # Errors
-/// Want of memory.
+/// Out of memory.
 pub fn offers_of(
     alloc: Global,
     lab: &Running<Routes>,
-    known: &[Routes],
+    known: &[KnownRouter],
     event: &Event<'_>,
     answer: &Answer,
 ) -> Result<Vec<OfferRecord>, AllocError>
@@ -139,7 +140,13 @@ pub fn offers_of(
     ) {
         (Some(known), Some(moved), Some(sent)) => {
             let arrival = came(lab, sent, iface, now);
-            delivered(alloc, moved, known, &arrival, answer.notes.as_slice())
+            delivered(
+                alloc,
+                moved,
+                &known.table,
+                &arrival,
+                answer.notes.as_slice(),
+            )
         }
         _ => Ok(Vec::new(alloc)),
     }

@@ -1,19 +1,19 @@
-//! The records of a trace. Each is a line of JSON, whose members have the names of the fields and stand in their order; `word` is
-//! there under the name `record`.
-//! Moments and deadlines are in milliseconds, metrics and costs in hops; all numbers count from 0, but for lines.
+//! The records of a trace. Each is a line of JSON, whose members stand in the order of the fields, after the record's name.
+//! Moments and deadlines are in milliseconds, metrics and costs in hops; all numbers count from 0, except those of lines.
 
 use prefix6::{Addr6, Prefix};
-use router_core::Reason;
+use ripng_world::{Event, Sent};
+use route_table::{Deadline, Route};
+use router_core::{Answer, Reason};
 
 /// The routers have started: the network, each router's first state, and what they sent.
 #[derive(Drop)]
-pub struct StartRecord {
+pub struct StartRecord<'a> {
     pub line: usize,
-    pub word: &'static str,
     /// The moment of the cold start.
     pub now: u64,
     pub routers: Vec<RouterRecord>,
-    pub sent: Vec<SentRecord>,
+    pub sent: Vec<SentRecord<'a>>,
 }
 
 /// A router that has started.
@@ -22,10 +22,10 @@ pub struct RouterRecord {
     /// Whether it only listens.
     pub quiet: bool,
     pub interfaces: Vec<InterfaceRecord>,
-    pub prefixes: Vec<OwnedRecord>,
-    /// None only where the network has no such router.
-    pub timers: Option<Timers>,
-    pub routes: Vec<RouteRecord>,
+    /// Those that it owns, each with its tag.
+    pub prefixes: Vec<(Prefix, u16)>,
+    pub timers: Timers,
+    pub routes: Vec<(Prefix, Route)>,
 }
 
 /// An interface of a router.
@@ -38,86 +38,37 @@ pub struct InterfaceRecord {
     pub link: Option<u16>,
 }
 
-/// A prefix that a router owns.
-#[derive(Clone, Copy)]
-pub struct OwnedRecord {
-    pub prefix: Prefix,
-    pub tag: u16,
-}
-
 /// An event was done: what a router was given, what it answered, and what it then was.
 #[derive(Drop)]
-pub struct EventRecord {
+pub struct EventRecord<'a, 'b> {
     pub line: usize,
-    pub word: &'static str,
     /// The router that moves.
     pub router: usize,
     /// The moment of the event; a router takes a moment before its last one for that.
     pub now: u64,
-    pub event: Happened,
-    /// Why an arrival was refused; then all lists are empty.
-    pub fault: Option<FaultRecord>,
-    pub notes: Vec<NoteRecord>,
-    /// What a delivered Response offered, but for entries that have a note.
+    pub happened: Happened<'a, 'b>,
+    /// The fault, the notes and the changes of the forwarding table.
+    pub answer: &'a Answer,
+    /// What a delivered Response offered, except entries that have a note.
     pub offers: Vec<OfferRecord>,
     /// Which update was due at a tick.
     pub update: Option<UpdateRecord>,
-    pub changes: Vec<ChangeRecord>,
-    pub sent: Vec<SentRecord>,
+    pub sent: Vec<SentRecord<'a>>,
     pub timers: Option<Timers>,
-    /// The routes that were not there before, or are not as they were.
-    pub routes: Vec<RouteRecord>,
+    /// The routes that are new or have changed.
+    pub routes: Vec<(Prefix, Route)>,
     /// The prefixes that had a route and have none.
     pub gone: Vec<Prefix>,
 }
 
 /// What happened, and from where.
-#[derive(Drop)]
-pub enum Happened {
-    /// A datagram of the network came.
-    Deliver {
-        datagram: usize,
-        iface: usize,
-        /// The router that sent it.
-        sender: Option<SenderRecord>,
-    },
-    /// A datagram of no router came.
-    Stranger {
-        iface: usize,
-        source: Addr6,
-        port: u16,
-        hop_limit: u8,
-        /// Whether it came to the group of all routers.
-        group: bool,
-        /// In hexadecimal digits.
-        bytes: String,
-    },
-    /// A lie came: a Response that the router took for one of its link.
-    Liar {
-        iface: usize,
-        source: Addr6,
-        /// In hexadecimal digits.
-        bytes: String,
-    },
-    Tick {
-        word: u32,
-    },
-    Restart,
-    Shutdown,
-    LinkDown {
-        iface: usize,
-    },
-    Cost {
-        iface: usize,
-        cost: u8,
-    },
-    Gain {
-        prefix: Prefix,
-        tag: u16,
-    },
-    Disown {
-        prefix: Prefix,
-    },
+#[derive(Clone, Copy)]
+pub struct Happened<'a, 'b> {
+    pub event: &'a Event<'b>,
+    /// Whether the outside host of the event forges a Response, which the router takes for a neighbor's.
+    pub is_forged: bool,
+    /// The router that sent the datagram of a delivery.
+    pub sender: Option<SenderRecord>,
 }
 
 /// From where a datagram of the network came.
@@ -127,21 +78,6 @@ pub struct SenderRecord {
     pub iface: usize,
     /// The address of that interface.
     pub addr: Option<Addr6>,
-}
-
-/// The fault of an arrival, by the tables of docs/PROTOCOL.md.
-#[derive(Clone, Copy)]
-pub struct FaultRecord {
-    pub number: u8,
-    pub name: &'static str,
-}
-
-/// Why an entry of a Response was skipped.
-#[derive(Clone, Copy)]
-pub struct NoteRecord {
-    pub entry: usize,
-    pub number: u8,
-    pub name: &'static str,
 }
 
 /// An offer, and the row of the table of adoption that it fell under (RFC 2080, section 2.4.2).
@@ -161,55 +97,20 @@ pub struct OfferRecord {
 /// Which update was due at a tick (RFC 2080, sections 2.3 and 2.5.1).
 #[derive(Clone, Copy)]
 pub enum UpdateRecord {
-    /// It told all routes.
+    /// It advertises all routes.
     Regular,
-    /// It told those that were marked.
+    /// It advertises those whose route change flag is set.
     Triggered,
-    /// A route is marked, and the pause behind the last triggered update is not over.
+    /// A route change flag is set, and the delay after the last triggered update is not over.
     Held,
 }
 
-/// A change of the forwarding table.
-#[derive(Clone, Copy)]
-pub enum ChangeRecord {
-    /// The prefix has this entry from now on.
-    Add {
-        prefix: Prefix,
-        metric: u8,
-        /// None for a prefix of the router's own.
-        via: Option<HopRecord>,
-    },
-    /// The prefix has no entry from now on.
-    Del {
-        prefix: Prefix,
-    },
-}
-
-/// Where packets go.
-#[derive(Clone, Copy)]
-pub struct HopRecord {
-    pub iface: usize,
-    pub next_hop: Addr6,
-}
-
 /// A datagram that was sent.
-#[derive(Drop)]
-pub struct SentRecord {
+#[derive(Clone, Copy)]
+pub struct SentRecord<'a> {
     /// Its number among all that were ever sent.
     pub datagram: usize,
-    pub router: usize,
-    pub iface: usize,
-    /// To whom; none if to the group of all routers.
-    pub peer: Option<PeerRecord>,
-    /// In hexadecimal digits.
-    pub bytes: String,
-}
-
-/// One asker.
-#[derive(Clone, Copy)]
-pub struct PeerRecord {
-    pub addr: Addr6,
-    pub port: u16,
+    pub sent: &'a Sent,
 }
 
 /// The timers of a router.
@@ -219,80 +120,49 @@ pub struct Timers {
     pub last: u64,
     /// When its next regular update is due.
     pub regular: u64,
-    /// Until when it holds triggered updates.
+    /// Until when it delays triggered updates.
     pub hold: u64,
-    /// When the next route is lost or deleted, if one ages.
-    pub due: Option<DueRecord>,
+    /// When the next route expires or is deleted, if one has a timer, and the first prefix whose route does.
+    pub due: Option<(Deadline, Prefix)>,
 }
 
-/// When a route is due to be lost or deleted.
-#[derive(Clone, Copy)]
-pub struct DueRecord {
-    pub until: u64,
-    /// The first prefix whose route is due then.
-    pub prefix: Prefix,
-}
-
-/// A route of a router.
-#[derive(Clone, Copy)]
-pub struct RouteRecord {
-    pub prefix: Prefix,
-    /// 1 to 15, or 16 for unreachable.
-    pub metric: u8,
-    pub tag: u16,
-    /// None for a route of the router's own.
-    pub gateway: Option<GatewayRecord>,
-    /// When the route is lost, or at metric 16 deleted; none for one that never ages.
-    pub until: Option<u64>,
-    /// Whether the next triggered update is to tell it.
-    pub marked: bool,
-}
-
-/// Where a route was learned.
-#[derive(Clone, Copy)]
-pub struct GatewayRecord {
-    pub iface: usize,
-    /// The router that told it.
-    pub from: Addr6,
-    /// Where packets go.
-    pub next_hop: Addr6,
-}
-
-/// What a line of `print` or `sent` prints.
+/// What a line did beside events.
 #[derive(Drop)]
-pub struct PrintRecord<'a> {
+pub struct AsideRecord<'a> {
     pub line: usize,
-    pub word: &'static str,
-    pub prints: Vec<&'a str>,
+    pub action: Action<'a>,
 }
 
-/// A line said that a datagram is lost.
-#[derive(Clone, Copy)]
-pub struct LostRecord {
-    pub line: usize,
-    pub word: &'static str,
-    pub datagram: usize,
-}
-
-/// A line has made so many phases.
-#[derive(Clone, Copy)]
-pub struct PhasesRecord {
-    pub line: usize,
-    pub word: &'static str,
-    pub phases: usize,
-    /// In which of them, numbered from 0, the table of some router last changed, but for how long a route lives on.
-    pub last: Option<usize>,
-}
-
-/// A line was refused, or expected what is not so, and ended the script.
+/// What a line of a script does beside events.
 #[derive(Drop)]
-pub struct RefusedRecord<'a> {
-    pub line: usize,
-    pub word: &'static str,
-    /// What stands behind `line L refused ` where the script is run, or behind `line L ` of what is not as expected.
-    pub why: &'a str,
-    /// What is told of it beside that, as where the script is run.
-    pub hint: Option<HintRecord>,
+pub enum Action<'a> {
+    /// It prints something: a line `print`, `sent` or `say`.
+    Prints {
+        /// The first word of the line.
+        word: &'static str,
+        lines: Vec<&'a str>,
+        /// The same as it is printed.
+        text: &'a str,
+    },
+    /// The datagram is lost from now on.
+    Loses {
+        datagram: usize,
+    },
+    /// So many phases were made.
+    Makes {
+        phases: usize,
+        /// In which of them, numbered from 0, the table of some router last changed, apart from its timers.
+        last: Option<usize>,
+    },
+    /// It is refused, or expects what is not so, and ends the script.
+    Ends {
+        /// What stands between `line L ` and `why` where the script is run.
+        how: &'static str,
+        /// What stands after `line L refused ` where the script is run, or after `line L ` of what is not as expected.
+        why: &'a str,
+        /// The hint that standard error has where the script is run.
+        hint: Option<HintRecord>,
+    },
 }
 
 /// What a line should have been.

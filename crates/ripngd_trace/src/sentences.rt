@@ -1,14 +1,18 @@
-//! What the record of an event says, in English: a line, of which each part is one of the record's members.
+//! What the records say, in English: lines, of which each part is one of a record's members.
 
 use crate::records::{
-    ChangeRecord, EventRecord, FaultRecord, Happened, NoteRecord, OfferRecord, UpdateRecord,
+    Action, AsideRecord, EventRecord, Happened, OfferRecord, StartRecord, UpdateRecord,
 };
-use router_core::Reason;
+use fib::{Hop, RouteChange};
+use prefix6::Prefix;
+use ripng_world::Event;
+use ripngd_lab::MadePhases;
+use router_core::{Change, Note, Reason};
 use std::fmt::{self, Display, Formatter, Write};
 
 /// A moment, in seconds.
 #[derive(Clone, Copy)]
-pub struct Seconds(pub u64);
+struct Seconds(u64);
 
 impl Display for Seconds {
     fn fmt<W: Write>(&self, f: &mut Formatter<W>) -> fmt::Result {
@@ -16,37 +20,59 @@ impl Display for Seconds {
     }
 }
 
-impl Display for Happened {
+impl<'a> Display for StartRecord<'a> {
     fn fmt<W: Write>(&self, f: &mut Formatter<W>) -> fmt::Result {
-        match self {
-            Happened::Deliver {
-                datagram,
-                iface,
-                sender: Some(sender),
-            } => write!(
-                f,
-                "hears datagram {datagram} of R{} on interface {iface}",
-                sender.router
-            ),
-            Happened::Deliver {
+        let (begin, routers, sent) = (Seconds(self.now), self.routers.len(), self.sent.len());
+        writeln!(
+            f,
+            "{begin} {routers} routers start; {sent} datagrams are sent"
+        )
+    }
+}
+
+impl<'a, 'b> Display for Happened<'a, 'b> {
+    fn fmt<W: Write>(&self, f: &mut Formatter<W>) -> fmt::Result {
+        match self.event {
+            Event::Deliver {
                 datagram,
                 iface,
                 ..
-            } => write!(f, "hears datagram {datagram} on interface {iface}"),
-            Happened::Stranger { iface, source, .. } => {
-                write!(f, "hears the stranger {source} on interface {iface}")
+            } => {
+                write!(f, "hears datagram {datagram}")?;
+                if let Some(sender) = self.sender {
+                    write!(f, " of R{}", sender.router)?;
+                }
+                write!(f, " on interface {iface}")
             }
-            Happened::Liar { iface, source, .. } => {
-                write!(f, "believes a lie of {source} on interface {iface}")
+            Event::Stranger { arrival, .. } => {
+                let hears = if self.is_forged {
+                    "believes a lie of"
+                } else {
+                    "hears the stranger"
+                };
+                write!(
+                    f,
+                    "{hears} {} on interface {}",
+                    arrival.source, arrival.iface
+                )
             }
-            Happened::Tick { .. } => f.write_str("looks at its timers"),
-            Happened::Restart => f.write_str("starts again"),
-            Happened::Shutdown => f.write_str("shuts down"),
-            Happened::LinkDown { iface } => write!(f, "sees the link of interface {iface} go down"),
-            Happened::Cost { iface, cost } => write!(f, "has cost {cost} on interface {iface}"),
-            Happened::Gain { prefix, tag } => write!(f, "owns {prefix} with tag {tag}"),
-            Happened::Disown { prefix } => write!(f, "owns {prefix} no longer"),
+            Event::Tick { .. } => f.write_str("looks at its timers"),
+            Event::Restart { .. } => f.write_str("starts again"),
+            Event::Shutdown { .. } => f.write_str("shuts down"),
+            Event::LinkDown { iface, .. } => write!(
+                f,
+                "sees the link of interface {iface} go down"
+            ),
+            Event::Reconfigure { change, .. } => write_reconfigured(change, f),
         }
+    }
+}
+
+fn write_reconfigured<W: Write>(change: &Change, f: &mut Formatter<W>) -> fmt::Result {
+    match change {
+        Change::Cost { iface, cost } => write!(f, "has cost {cost} on interface {iface}"),
+        Change::Own { prefix, tag } => write!(f, "owns {prefix} with tag {tag}"),
+        Change::Disown { prefix } => write!(f, "owns {prefix} no longer"),
     }
 }
 
@@ -67,83 +93,98 @@ fn outcome(row: Reason) -> &'static str {
     }
 }
 
-impl Display for OfferRecord {
-    fn fmt<W: Write>(&self, f: &mut Formatter<W>) -> fmt::Result {
-        let OfferRecord { prefix, metric, .. } = self;
-        write!(f, "{prefix} at {metric}, {}", outcome(self.why))
+/// Which update was due.
+fn due(update: UpdateRecord) -> &'static str {
+    match update {
+        UpdateRecord::Regular => "a regular update is due",
+        UpdateRecord::Triggered => "a triggered update is due",
+        UpdateRecord::Held => "a triggered update is held",
     }
 }
 
-impl Display for NoteRecord {
-    fn fmt<W: Write>(&self, f: &mut Formatter<W>) -> fmt::Result {
-        let NoteRecord {
-            entry,
-            number,
-            name,
-        } = self;
-        write!(f, "entry {entry} is skipped, {number} {name}")
-    }
-}
-
-impl Display for FaultRecord {
-    fn fmt<W: Write>(&self, f: &mut Formatter<W>) -> fmt::Result {
-        write!(f, "it is refused, {} {}", self.number, self.name)
-    }
-}
-
-impl Display for UpdateRecord {
-    fn fmt<W: Write>(&self, f: &mut Formatter<W>) -> fmt::Result {
-        f.write_str(match self {
-            UpdateRecord::Regular => "a regular update is due",
-            UpdateRecord::Triggered => "a triggered update is due",
-            UpdateRecord::Held => "a triggered update is held",
-        })
-    }
-}
-
-impl Display for ChangeRecord {
-    fn fmt<W: Write>(&self, f: &mut Formatter<W>) -> fmt::Result {
-        match self {
-            ChangeRecord::Add {
-                prefix,
-                via: Some(via),
-                ..
-            } => write!(f, "{prefix} is forwarded to {}", via.next_hop),
-            ChangeRecord::Add { prefix, .. } => write!(f, "{prefix} is forwarded directly"),
-            ChangeRecord::Del { prefix } => write!(f, "{prefix} is forwarded no more"),
-        }
-    }
-}
-
-/// Each of these, behind a semicolon.
-fn each<T: Display, W: Write>(parts: &[T], f: &mut Formatter<W>) -> fmt::Result {
-    for part in parts {
-        write!(f, "; {part}")?;
+fn write_offers<W: Write>(offers: &[OfferRecord], f: &mut Formatter<W>) -> fmt::Result {
+    for OfferRecord {
+        prefix,
+        metric,
+        why,
+        ..
+    } in offers {
+        write!(f, "; {prefix} at {metric}, {}", outcome(*why))?;
     }
     Ok(())
 }
 
-/// Each of the prefixes that had a route and have none.
-fn each_gone<W: Write>(record: &EventRecord, f: &mut Formatter<W>) -> fmt::Result {
-    for prefix in &record.gone {
+fn write_notes<W: Write>(notes: &[Note], f: &mut Formatter<W>) -> fmt::Result {
+    for Note { entry, kind } in notes {
+        write!(f, "; entry {entry} is skipped, {kind}")?;
+    }
+    Ok(())
+}
+
+fn write_changes<W: Write>(changes: &[RouteChange], f: &mut Formatter<W>) -> fmt::Result {
+    for change in changes {
+        match change {
+            RouteChange::Install {
+                prefix,
+                hop: Hop::Via { next_hop, .. },
+                ..
+            } => write!(f, "; {prefix} is forwarded to {next_hop}")?,
+            RouteChange::Install { prefix, .. } => write!(f, "; {prefix} is forwarded directly")?,
+            RouteChange::Withdraw { prefix } => write!(f, "; {prefix} is forwarded no more")?,
+        }
+    }
+    Ok(())
+}
+
+/// The prefixes that had a route and have none.
+fn write_gone<W: Write>(gone: &[Prefix], f: &mut Formatter<W>) -> fmt::Result {
+    for prefix in gone {
         write!(f, "; the route to {prefix} is deleted")?;
     }
     Ok(())
 }
 
-impl Display for EventRecord {
+impl<'a, 'b> Display for EventRecord<'a, 'b> {
     fn fmt<W: Write>(&self, f: &mut Formatter<W>) -> fmt::Result {
-        write!(f, "{} R{} {}", Seconds(self.now), self.router, self.event)?;
-        each(self.fault.as_slice(), f)?;
-        each(self.update.as_slice(), f)?;
-        each(&self.offers, f)?;
-        each(&self.notes, f)?;
-        each(&self.changes, f)?;
-        each_gone(self, f)?;
+        write!(
+            f,
+            "{} R{} {}",
+            Seconds(self.now),
+            self.router,
+            self.happened
+        )?;
+        if let Some(fault) = self.answer.fault {
+            write!(f, "; it is refused, {fault}")?;
+        }
+        if let Some(update) = self.update {
+            write!(f, "; {}", due(update))?;
+        }
+        write_offers(&self.offers, f)?;
+        write_notes(self.answer.notes.as_slice(), f)?;
+        write_changes(self.answer.changes.as_slice(), f)?;
+        write_gone(&self.gone, f)?;
         match self.sent.len() {
-            0 => Ok(()),
-            1 => f.write_str("; 1 datagram is sent"),
-            many => write!(f, "; {many} datagrams are sent"),
+            0 => {}
+            1 => f.write_str("; 1 datagram is sent")?,
+            many => write!(f, "; {many} datagrams are sent")?,
+        }
+        if self.happened.is_forged {
+            f.write_str("; from here on nothing is promised")?;
+        }
+        f.write_str("\n")
+    }
+}
+
+impl<'a> Display for AsideRecord<'a> {
+    fn fmt<W: Write>(&self, f: &mut Formatter<W>) -> fmt::Result {
+        match &self.action {
+            Action::Prints { text, .. } => f.write_str(*text),
+            Action::Loses { datagram } => writeln!(f, "datagram {datagram} is lost"),
+            Action::Makes { phases, last } => {
+                let (phases, last) = (*phases, *last);
+                writeln!(f, "{}", MadePhases { phases, last })
+            }
+            Action::Ends { how, why, .. } => writeln!(f, "line {} {how}{why}", self.line),
         }
     }
 }

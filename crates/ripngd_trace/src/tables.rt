@@ -1,74 +1,17 @@
 //! Records of routers: their timers, and those of their routes that a reader does not know yet.
 
-ghost use Rattle.std.specs.Prelude.{◌≡◌, None, IfOk, IsTrue, OnOk, map, option_map, slice_get};
+ghost use Rattle.std.specs.Prelude.{◌≡◌, None, IfOk, IsTrue, OnOk, option_map, slice_get};
 ghost use Rattle.std.specs.FinMap as map_of;
 ghost use Rattle.prefix6.specs.Prefix.{Prefix6};
-ghost use Rattle.route_table.specs.Due.{next_due};
-ghost use Rattle.route_table.specs.Route.{deadline};
 ghost use Rattle.route_table.specs.Table.{Table};
-ghost use Rattle.ripngd_trace.specs.Records.{LeadsTo, due_in, gateway_record, route_record, timers_in, with_routes, taken_out};
+ghost use Rattle.ripngd_trace.specs.Records.{LeadsTo, timers_in, with_routes, taken_out};
 
-use crate::records::{DueRecord, GatewayRecord, RouteRecord, Timers};
+use crate::records::Timers;
 use prefix6::Prefix;
 use ripng_world::Running;
-use route_table::{Origin, Route, RouteStore};
+use route_table::{Route, RouteStore};
 use router_core::Router;
 use std::alloc::{AllocError, Global};
-
-/// Where a route was learned, if it is not the router's own.
-fn gateway_of(origin: Origin) -> Option<GatewayRecord>
-    ensures { result ≡ gateway_record origin }
-{
-    match origin {
-        Origin::Own => None,
-        Origin::Learned {
-            iface,
-            from,
-            next_hop,
-        } => Some(GatewayRecord {
-            iface,
-            from,
-            next_hop,
-        }),
-    }
-}
-
-/// The deadline of a route that ages.
-fn until_of(route: &Route) -> Option<u64>
-    ensures { result ≡ deadline route.now }
-{
-    match route.deadline() {
-        Some(until) => Some(until.ms()),
-        None => None,
-    }
-}
-
-/// A route as a record.
-pub fn route_record(prefix: Prefix, route: &Route) -> RouteRecord
-    ensures { result ≡ route_record prefix route.now }
-{
-    RouteRecord {
-        prefix,
-        metric: route.metric(),
-        tag: route.tag(),
-        gateway: gateway_of(route.origin()),
-        until: until_of(route),
-        marked: route.is_changed(),
-    }
-}
-
-/// What is due next.
-fn due_of<S: RouteStore>(router: &Router<S>) -> Option<DueRecord>
-    ensures { result ≡ due_in router.now }
-{
-    match router.next_due() {
-        Some((until, prefix)) => Some(DueRecord {
-            until: until.ms(),
-            prefix,
-        }),
-        None => None,
-    }
-}
 
 /// The timers of a router.
 pub fn timers_in<S: RouteStore>(router: &Router<S>) -> Timers
@@ -78,7 +21,7 @@ pub fn timers_in<S: RouteStore>(router: &Router<S>) -> Timers
         last: router.last().ms(),
         regular: router.regular().ms(),
         hold: router.hold().ms(),
-        due: due_of(router),
+        due: router.next_due(),
     }
 }
 
@@ -202,21 +145,11 @@ fn learn_all<S: RouteStore>(
     Ok(news)
 }
 
-/// Routes as records.
-fn route_records(alloc: Global, routes: &[(Prefix, Route)]) -> Result<Vec<RouteRecord>, AllocError>
-    ensures { IfOk result (λ records. records.items ≡ map (λ e. route_record e.0 e.1) routes.now) }
-{
-    routes
-        .iter()
-        .map(|entry| route_record(entry.0, &entry.1))
-        .collect(alloc)
-}
-
-/// What a reader that knows a table has to be told of what it is now.
+/// What a reader who knows a table has to learn of what it is now.
 #[derive(Drop)]
 pub struct News {
     /// The routes to put into it, once the prefixes are taken out.
-    pub routes: Vec<RouteRecord>,
+    pub routes: Vec<(Prefix, Route)>,
     pub gone: Vec<Prefix>,
 }
 
@@ -230,16 +163,15 @@ impl News {
     }
 }
 
-/// What a reader that knows a table has to be told of what it is now. Then the table is known.
+/// What a reader who knows a table has to learn of what it is now. Then the table is known.
 ///
 /// # Errors
-/// Want of memory.
+/// Out of memory.
 pub fn news_of<S: RouteStore>(alloc: Global, known: &mut S, table: &S) -> Result<News, AllocError>
     ensures known { OnOk result (S.table known.new ≡ S.table table.now) }
     ensures listed { IfOk result (λ news. LeadsTo (S.table known.old) news.routes.items news.gone.items (S.table table.now)) }
 {
     let gone = forget_all(alloc, known, table)?;
-    let learned = learn_all(alloc, known, table)?;
-    let routes = route_records(alloc, &learned)?;
+    let routes = learn_all(alloc, known, table)?;
     Ok(News { routes, gone })
 }

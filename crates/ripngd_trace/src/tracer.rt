@@ -1,56 +1,45 @@
-//! A script, traced.
+//! A script, traced or explained: one observer, which writes a record of each thing that happens.
 
-ghost use Rattle.std.specs.Prelude.{◌≡◌, [], ◌∷◌, ◌++◌, IfOk, IfSome, OnErr, OnOk, Option, Some, option_map, slice_get, slice_set};
+ghost use Rattle.std.specs.Prelude.{◌≡◌, [], OnErr, OnOk, Option};
 ghost use Rattle.ripng_world.specs.Events.{event_of};
 ghost use Rattle.ripng_world.specs.Labs.{LabValue};
-ghost use Rattle.ripng_world.specs.World.{Stranger};
-ghost use Rattle.ripngd_trace.specs.Events.{RecordTells, TellsLie};
-ghost use Rattle.ripngd_trace.specs.Offers.{TellsOffers};
-ghost use Rattle.ripngd_trace.specs.Reading.{IsTraced, IsTracedUntil, all_timers, tables_of};
-ghost use Rattle.ripngd_trace.specs.Records.{LeadsTo, timers_in};
-ghost use Rattle.ripngd_trace.specs.Saying.{BreaksOff, SaysAside, SaysEvent, SaysStart};
-ghost use Rattle.ripngd_trace.specs.Starting.{AreTold, TellsRouter, TellsStart};
-ghost use Rattle.ripngd_trace.specs.Updates.{TellsUpdate};
+ghost use Rattle.ripngd_lab.specs.Asides.{Broken, Prints};
+ghost use Rattle.ripngd_trace.specs.Reading.{IsPrintWord, IsTraced, IsTracedUntil};
+ghost use Rattle.ripngd_trace.specs.Saying.{BreaksOff, SameOutput, SaysAlone, SaysAside, SaysEvent, SaysMove, SaysStart, said_by};
 
-mod saying;
-
-use crate::answers::{change_records, fault_record, note_records, sent_since};
-use crate::events::{again, happened, lie_told, moment_of, router_of};
-use crate::network::{interface_records, owned_records};
-use crate::offers::offers_of;
-use crate::records::{EventRecord, RouterRecord, StartRecord, Timers};
-use crate::tables::{News, news_of, timers_in, timers_of};
-use crate::updates::update_of;
-use crate::writing::write_record;
+use crate::events::again;
+use crate::known::Known;
+use crate::records::{Action, AsideRecord, HintRecord};
+use crate::writing::{Form, write_record};
 use ripng_world::{Event, Running};
 use ripngd_lab::{
-    Choice, MadePhases, Refusal, Routes, Unmet, Watch, print_routes, print_sent, watched,
+    Choice, Ending, MadePhases, Refusal, Routes, Unmet, Watch, Way, hint_of, print_routes,
+    print_sent, watched,
 };
-use route_table::{Moment, RouteStore};
-use router_core::{Answer, Arrival, Router};
+use route_table::Moment;
+use router_core::{Answer, Arrival};
 use std::alloc::{AllocError, Global};
 use std::io::{self, Write};
+use std::str;
 
-/// Runs a script as [`ripngd_lab::lab`] does, and answers whether every line was done. In place of what its lines print, a
+/// Runs a script as [`ripngd_lab::lab`] does, and returns whether every line was done. In place of what its lines print, a
 /// line of JSON is written to `out` for the cold start, for each event, for each line that prints, and for the line that is
 /// refused, which ends the script. docs/TRACE.md has the records.
 ///
 /// # Errors
-/// `OutOfMemory` where memory was refused, else the fault of `out`. Earlier records were written, and less than one more.
+/// `OutOfMemory` where memory ran out, else the error of `out`. Earlier records were written, and less than one more.
 pub fn trace<W: Write>(alloc: Global, script: &[u8], out: &mut W) -> io::Result<bool>
     ensures traced { OnOk result ((lab : Option LabValue) × IsTraced (W.contents out.old) lab (W.contents out.new)) }
     ensures traced_until { OnErr result ((lab : Option LabValue) × IsTracedUntil (W.contents out.old) lab (W.contents out.new)) }
 {
-    let mut tracer = Tracer::new(alloc, script, out);
+    let mut tracer = Tracer::new(alloc, script, Form::Json, out);
     let outcome = watched(alloc, script, &mut tracer);
     let Tracer {
-        alloc: _,
         script: _,
-        line: _,
         sent: _,
         sent_before: _,
         known: _known,
-        timers: _timers,
+        form: _,
         out: written,
     } = tracer;
     // No effect at run time. The proof reads what `out` holds from this use of the reference.
@@ -58,244 +47,113 @@ pub fn trace<W: Write>(alloc: Global, script: &[u8], out: &mut W) -> io::Result<
     outcome
 }
 
-/// The watcher that writes the records.
+/// Runs a script as [`ripngd_lab::lab`] does, and returns whether every line was done. Beside what its lines print, a line of
+/// English is written to `out` for the cold start and for each event: what a router received, what it did, and why.
+/// docs/SCRIPTS.md has its parts. They say what [`trace`] has in its records.
+///
+/// # Errors
+/// `OutOfMemory` where memory ran out, else the error of `out`.
+pub fn explain<W: Write>(alloc: Global, script: &[u8], out: &mut W) -> io::Result<bool> {
+    let mut tracer = Tracer::new(alloc, script, Form::English, out);
+    watched(alloc, script, &mut tracer)
+}
+
+/// The observer that writes the records.
 #[derive(Drop)]
 pub struct Tracer<'a, W: Write> {
-    pub alloc: Global,
     /// The script that is traced.
     script: &'a [u8],
-    /// The number of its line.
-    line: usize,
     /// How many datagrams were sent, once the routers have started.
     sent: Option<usize>,
     /// How many were sent before the line.
     sent_before: usize,
-    /// The table of each router, as a reader of the records knows it.
-    known: Vec<Routes>,
-    /// The timers of each router, as the last record of it has them.
-    timers: Vec<Timers>,
-    pub out: &'a mut W,
-}
-
-/// What a reader has to be told of one of the tables that are known. Then it is known, and all others are as they were.
-fn news_in(
-    alloc: Global,
-    known: &mut [Routes],
-    router: usize,
-    table: &Routes,
-) -> Result<News, AllocError>
-    ensures listed { IfOk result (λ news. IfSome (slice_get known.old router) (λ before. LeadsTo before news.routes.items news.gone.items table.now)) }
-    ensures known { OnOk result (known.new ≡ slice_set known.old router table.now) }
-{
-    if router >= known.len() {
-        return Ok(News::none(alloc));
-    }
-    news_of(alloc, &mut known[router], table)
-}
-
-/// These are the timers of a router from now on, if there is such a router.
-fn know(known: &mut [Timers], router: usize, timers: Timers)
-    ensures { known.new ≡ slice_set known.old router timers }
-{
-    if router < known.len() {
-        known[router] = timers;
-    }
+    known: Known,
+    form: Form,
+    out: &'a mut W,
 }
 
 impl<'a, W: Write> Tracer<'a, W> {
     /// It is at no line yet, and knows no table.
-    pub fn new(alloc: Global, script: &'a [u8], out: &'a mut W) -> Tracer<'a, W>
-        ensures known { result.known.items ≡ [] }
-        ensures timers { result.timers.items ≡ [] }
+    fn new(alloc: Global, script: &'a [u8], form: Form, out: &'a mut W) -> Tracer<'a, W>
+        ensures known { result.known.routers.items ≡ [] }
+        ensures form { result.form ≡ form }
         ensures out { result.out.now ≡ out.old }
         ensures same_reference { result.out.ghost_name ≡ out.entry.ghost_name }
     {
         Tracer {
-            alloc,
             script,
-            line: 0,
             sent: None,
             sent_before: 0,
-            known: Vec::new(alloc),
-            timers: Vec::new(alloc),
+            known: Known::new(alloc),
+            form,
             out,
         }
     }
 
-    /// A router that has started. Its table is known from now on.
-    fn router_record(
-        &mut self,
-        lab: &Running<Routes>,
-        number: usize,
-        router: &Router<Routes>,
-    ) -> Result<RouterRecord, AllocError>
-        ensures tells { IfOk result (λ r. slice_get lab.now.world.states number ≡ Some router.now → TellsRouter lab.now number r) }
-        ensures known { OnOk result (self.new.known.items ≡ self.old.known.items ++ router.now.table ∷ []) }
-        ensures timers { OnOk result (self.new.timers.items ≡ self.old.timers.items ++ timers_in router.now ∷ []) }
-        ensures line { self.new.line ≡ self.old.line }
-        ensures out { self.new.out ≡ self.old.out }
-    {
-        let mut known = Routes::empty(self.alloc);
-        let news = news_of(self.alloc, &mut known, router.routes())?;
-        self.known.push(known)?;
-        self.timers.push(timers_in(router))?;
-        let config = router.config();
-        let interfaces = interface_records(self.alloc, lab, number, config)?;
-        let prefixes = owned_records(self.alloc, config)?;
-        Ok(RouterRecord {
-            quiet: config.is_quiet(),
-            interfaces,
-            prefixes,
-            timers: timers_of(lab, number),
-            routes: news.routes,
-        })
-    }
-
-    /// All routers that have started. Their tables are known from now on.
-    fn router_records(&mut self, lab: &Running<Routes>) -> Result<Vec<RouterRecord>, AllocError>
-        ensures tells { IfOk result (λ records. AreTold lab.now records.items) }
-        ensures known { OnOk result (self.new.known.items ≡ self.old.known.items ++ tables_of lab.now.world) }
-        ensures timers { OnOk result (self.new.timers.items ≡ self.old.timers.items ++ all_timers lab.now.world) }
-        ensures line { self.new.line ≡ self.old.line }
-        ensures out { self.new.out ≡ self.old.out }
-    {
-        let mut records = Vec::new(self.alloc);
-        while let Some(router) = lab.router(records.len()) {
-            let record = self.router_record(lab, records.len(), router)?;
-            records.push(record)?;
-        }
-        Ok(records)
-    }
-
-    /// The start of the routers.
-    pub fn start_record(
-        &mut self,
-        lab: &Running<Routes>,
-        now: Moment,
-    ) -> Result<StartRecord, AllocError>
-        ensures tells { IfOk result (TellsStart self.old.line lab.now now) }
-        ensures known { OnOk result (self.new.known.items ≡ self.old.known.items ++ tables_of lab.now.world) }
-        ensures timers { OnOk result (self.new.timers.items ≡ self.old.timers.items ++ all_timers lab.now.world) }
-        ensures line { self.new.line ≡ self.old.line }
-        ensures out { self.new.out ≡ self.old.out }
-    {
-        self.sent = Some(lab.sent().len());
-        Ok(StartRecord {
-            line: self.line,
-            word: "start",
-            now: now.ms(),
-            routers: self.router_records(lab)?,
-            sent: sent_since(self.alloc, lab, 0)?,
-        })
-    }
-
-    /// What a reader has to be told of the table of a router. Then it is known.
-    fn news_at(&mut self, lab: &Running<Routes>, router: usize) -> Result<News, AllocError>
-        ensures listed { IfOk result (λ news. IfSome (slice_get self.old.known.items router) (λ before. IfSome (slice_get lab.now.world.states router) (λ state.
-            LeadsTo before news.routes.items news.gone.items state.table))) }
-        ensures known { OnOk result (IfSome (slice_get lab.now.world.states router) (λ state. self.new.known.items ≡ slice_set self.old.known.items router state.table)) }
-        ensures timers { self.new.timers ≡ self.old.timers }
-        ensures line { self.new.line ≡ self.old.line }
-        ensures out { self.new.out ≡ self.old.out }
-    {
-        match lab.router(router) {
-            Some(moved) => news_in(self.alloc, &mut self.known, router, moved.routes()),
-            None => Ok(News::none(self.alloc)),
-        }
-    }
-
-    /// The timers of a router, as the next record has them. They are known from then on.
-    fn timers_at(&mut self, lab: &Running<Routes>, router: usize) -> Option<Timers>
-        ensures told { result ≡ option_map timers_in (slice_get lab.now.world.states router) }
-        ensures timers { IfSome (slice_get lab.now.world.states router) (λ state. self.new.timers.items ≡ slice_set self.old.timers.items router (timers_in state)) }
-        ensures known { self.new.known ≡ self.old.known }
-        ensures line { self.new.line ≡ self.old.line }
-        ensures out { self.new.out ≡ self.old.out }
-    {
-        if let Some(timers) = timers_of(lab, router) {
-            know(&mut self.timers, router, timers);
-        }
-        timers_of(lab, router)
-    }
-
-    /// An event that was done.
-    pub fn event_record(
+    /// Reports an event that was done, or a forged Response, which comes as the datagram of an outside host.
+    fn report(
         &mut self,
         lab: &Running<Routes>,
         event: &Event<'_>,
+        is_forged: bool,
         answer: &Answer,
         first: usize,
-    ) -> Result<EventRecord, AllocError>
-        ensures tells { IfOk result (RecordTells self.old.line (record { lab = lab.now; event = event_of event.entry.now; answer = answer.now; first = first })) }
-        ensures listed { IfOk result (λ r. IfSome (slice_get self.old.known.items r.router) (λ before. IfSome (slice_get lab.now.world.states r.router) (λ state.
-            LeadsTo before r.routes.items r.gone.items state.table))) }
-        ensures offers { IfOk result (λ r. TellsOffers self.old.known.items lab.now (event_of event.entry.now) answer.now.notes r.offers.items) }
-        ensures update { IfOk result (λ r. TellsUpdate self.old.timers.items lab.now (event_of event.entry.now) r.update) }
-        ensures known { IfOk result (λ r. IfSome (slice_get lab.now.world.states r.router) (λ state. self.new.known.items ≡ slice_set self.old.known.items r.router state.table)) }
-        ensures timers { IfOk result (λ r. IfSome (slice_get lab.now.world.states r.router) (λ state. self.new.timers.items ≡ slice_set self.old.timers.items r.router (timers_in state))) }
-        ensures line { self.new.line ≡ self.old.line }
-        ensures out { self.new.out ≡ self.old.out }
+    ) -> io::Result<()>
+        ensures whole { OnOk result (SaysMove is_forged (said_by W.contents self.old) (record { lab = lab.now; event = event_of event.entry.now; answer = answer.now; first = first }) (said_by W.contents self.new) × SameOutput self.old self.new) }
+        ensures broken { OnErr result (SaysAside (said_by W.contents self.old) Broken (said_by W.contents self.new) × SameOutput self.old self.new) }
     {
         self.sent = Some(lab.sent().len());
-        let router = router_of(event);
-        let offers = offers_of(self.alloc, lab, self.known.as_slice(), event, answer)?;
-        let update = update_of(lab, self.timers.as_slice(), event);
-        let news = self.news_at(lab, router)?;
-        Ok(EventRecord {
-            line: self.line,
-            word: "event",
-            router,
-            now: moment_of(event).ms(),
-            event: happened(self.alloc, lab, event)?,
-            fault: fault_record(answer.fault),
-            notes: note_records(self.alloc, answer.notes.as_slice())?,
-            offers,
-            update,
-            changes: change_records(self.alloc, answer.changes.as_slice())?,
-            sent: sent_since(self.alloc, lab, first)?,
-            timers: self.timers_at(lab, router),
-            routes: news.routes,
-            gone: news.gone,
-        })
+        let record = self
+            .known
+            .event_record(lab, event, is_forged, answer, first)?;
+        write_record(self.known.alloc, self.form, &record, self.out)
     }
 
-    /// A lie that came, as an event that was done.
-    pub fn lie_record(
-        &mut self,
-        running: &Running<Routes>,
-        router: usize,
-        arrival: &Arrival<'_>,
-        answer: &Answer,
-        first: usize,
-    ) -> Result<EventRecord, AllocError>
-        ensures tells { IfOk result (TellsLie self.old.line (record { lab = running.now; event = Stranger router arrival.entry.now; answer = answer.now; first = first })) }
-        ensures listed { IfOk result (λ r. IfSome (slice_get self.old.known.items r.router) (λ before. IfSome (slice_get running.now.world.states r.router) (λ state.
-            LeadsTo before r.routes.items r.gone.items state.table))) }
-        ensures offers { IfOk result (λ r. TellsOffers self.old.known.items running.now (Stranger router arrival.entry.now) answer.now.notes r.offers.items) }
-        ensures update { IfOk result (λ r. TellsUpdate self.old.timers.items running.now (Stranger router arrival.entry.now) r.update) }
-        ensures known { IfOk result (λ r. IfSome (slice_get running.now.world.states r.router) (λ state. self.new.known.items ≡ slice_set self.old.known.items r.router state.table)) }
-        ensures timers { IfOk result (λ r. IfSome (slice_get running.now.world.states r.router) (λ state. self.new.timers.items ≡ slice_set self.old.timers.items r.router (timers_in state))) }
-        ensures line { self.new.line ≡ self.old.line }
-        ensures out { self.new.out ≡ self.old.out }
+    /// Reports what a line does beside events.
+    fn report_action(&mut self, action: Action<'_>) -> io::Result<()>
+        ensures whole { OnOk result (SaysAlone action.entry (said_by W.contents self.old) (said_by W.contents self.new) × SameOutput self.old self.new) }
+        ensures broken { OnErr result (SaysAside (said_by W.contents self.old) Broken (said_by W.contents self.new) × SameOutput self.old self.new) }
     {
-        let event = Event::Stranger {
-            router,
-            arrival: again(arrival),
+        let record = AsideRecord {
+            line: self.known.line,
+            action,
         };
-        let mut record = self.event_record(running, &event, answer, first)?;
-        record.event = lie_told(self.alloc, arrival)?;
-        Ok(record)
+        write_record(self.known.alloc, self.form, &record, self.out)
+    }
+
+    /// Reports what a line prints.
+    fn report_prints(&mut self, word: &'static str, prints: &[u8]) -> io::Result<()>
+        requires { IsPrintWord word.now }
+        ensures whole { OnOk result (SaysAside (said_by W.contents self.old) Prints (said_by W.contents self.new) × SameOutput self.old self.new) }
+        ensures broken { OnErr result (SaysAside (said_by W.contents self.old) Broken (said_by W.contents self.new) × SameOutput self.old self.new) }
+    {
+        let text = str::from_utf8(prints).unwrap_or("");
+        let lines = text.lines().collect(self.known.alloc)?;
+        self.report_action(Action::Prints { word, lines, text })
+    }
+
+    /// What a line should have been that is refused for this, if the script shows that.
+    fn hint_of(&self, why: &Refusal) -> Result<Option<HintRecord>, AllocError> {
+        let ending = Ending {
+            line: self.known.line,
+            refusal: *why,
+            sent: self.sent,
+            sent_by_line: self.sent.unwrap_or(0).saturating_sub(self.sent_before),
+        };
+        let Some((line, hint)) = hint_of(self.known.alloc, self.script, &ending)? else {
+            return Ok(None);
+        };
+        let text = format!(in self.known.alloc; "{hint}")?;
+        Ok(Some(HintRecord { line, text }))
     }
 }
 
 impl<'a, W: Write> ripng_world::Observer<Routes> for Tracer<'a, W> {
     type Fault = io::Error;
 
-    ghost takes = { λ old what new. SaysEvent (record { line = old.line; known = old.known.items; timers = old.timers.items; written = W.contents old.out.now }) what (record { line = new.line; known = new.known.items; timers = new.timers.items; written = W.contents new.out.now })
-        × (new.out.ghost_name ≡ old.out.ghost_name) };
+    ghost takes = { λ old what new. SaysEvent (said_by W.contents old) what (said_by W.contents new) × SameOutput old new };
 
-    ghost fails = { λ old what new. BreaksOff (record { line = old.line; known = old.known.items; timers = old.timers.items; written = W.contents old.out.now }) what (record { line = new.line; known = new.known.items; timers = new.timers.items; written = W.contents new.out.now })
-        × (new.out.ghost_name ≡ old.out.ghost_name) };
+    ghost fails = { λ old what new. BreaksOff (said_by W.contents old) what (said_by W.contents new) × SameOutput old new };
 
     fn happened(
         &mut self,
@@ -304,26 +162,24 @@ impl<'a, W: Write> ripng_world::Observer<Routes> for Tracer<'a, W> {
         answer: &Answer,
         first: usize,
     ) -> io::Result<()> {
-        let record = self.event_record(lab, event, answer, first)?;
-        write_record(self.alloc, &record, self.out)
+        self.report(lab, event, false, answer, first)
     }
 }
 
 impl<'a, W: Write> Watch for Tracer<'a, W> {
-    ghost starts = { λ old lab now new. SaysStart (record { line = old.line; known = old.known.items; timers = old.timers.items; written = W.contents old.out.now }) lab now (record { line = new.line; known = new.known.items; timers = new.timers.items; written = W.contents new.out.now })
-        × (new.out.ghost_name ≡ old.out.ghost_name) };
+    ghost starts = { λ old lab now new. SaysStart (said_by W.contents old) lab now (said_by W.contents new) × SameOutput old new };
 
-    ghost notes = { λ old what new. SaysAside (record { line = old.line; known = old.known.items; timers = old.timers.items; written = W.contents old.out.now }) what (record { line = new.line; known = new.known.items; timers = new.timers.items; written = W.contents new.out.now })
-        × (new.out.ghost_name ≡ old.out.ghost_name) };
+    ghost notes = { λ old what new. SaysAside (said_by W.contents old) what (said_by W.contents new) × SameOutput old new };
 
     fn at_line(&mut self, number: usize) {
-        self.line = number;
+        self.known.line = number;
         self.sent_before = self.sent.unwrap_or(0);
     }
 
     fn started(&mut self, lab: &Running<Routes>, now: Moment) -> io::Result<()> {
-        let record = self.start_record(lab, now)?;
-        write_record(self.alloc, &record, self.out)
+        self.sent = Some(lab.sent().len());
+        let record = self.known.start_record(lab, now)?;
+        write_record(self.known.alloc, self.form, &record, self.out)
     }
 
     fn lied(
@@ -334,42 +190,68 @@ impl<'a, W: Write> Watch for Tracer<'a, W> {
         answer: &Answer,
         first: usize,
     ) -> io::Result<()> {
-        let record = self.lie_record(running, router, arrival, answer, first)?;
-        write_record(self.alloc, &record, self.out)
+        let event = Event::Stranger {
+            router,
+            arrival: again(arrival),
+        };
+        self.report(running, &event, true, answer, first)
     }
 
     fn routes_asked(&mut self, lab: &Running<Routes>, choice: &Choice) -> io::Result<()> {
-        let mut prints = Vec::new(self.alloc);
+        let mut prints = Vec::new(self.known.alloc);
         print_routes(lab, choice, &mut prints)?;
-        self.write_prints("print", &prints)
+        self.report_prints("print", &prints)
     }
 
     fn datagrams_asked(&mut self, lab: &Running<Routes>, asked: Option<usize>) -> io::Result<()> {
-        let mut prints = Vec::new(self.alloc);
-        print_sent(self.alloc, lab, asked, &mut prints)?;
-        self.write_prints("sent", &prints)
+        let mut prints = Vec::new(self.known.alloc);
+        print_sent(self.known.alloc, lab, asked, &mut prints)?;
+        self.report_prints("sent", &prints)
+    }
+
+    fn way_asked(&mut self, way: &Way) -> io::Result<()> {
+        let prints = format!(in self.known.alloc; "{way}\n")?;
+        self.report_prints("path", prints.as_bytes())
     }
 
     fn said(&mut self, text: &str) -> io::Result<()> {
-        self.write_prints("say", text.as_bytes())
+        let lines = text.lines().collect(self.known.alloc)?;
+        let printed = format!(in self.known.alloc; "{text}\n")?;
+        let text = printed.as_str();
+        self.report_action(Action::Prints {
+            word: "say",
+            lines,
+            text,
+        })
     }
 
     fn lost(&mut self, datagram: usize) -> io::Result<()> {
-        self.write_lost(datagram)
+        self.report_action(Action::Loses { datagram })
     }
 
     fn phases_made(&mut self, made: &MadePhases) -> io::Result<()> {
-        self.write_phases(made)
+        let MadePhases { phases, last } = *made;
+        self.report_action(Action::Makes { phases, last })
     }
 
     fn refused(&mut self, why: &Refusal) -> io::Result<()> {
         let hint = self.hint_of(why)?;
-        let why = format!(in self.alloc; "{why}")?;
-        self.write_refused(&why, hint)
+        let why = format!(in self.known.alloc; "{why}")?;
+        let why = why.as_str();
+        self.report_action(Action::Ends {
+            how: "refused ",
+            why,
+            hint,
+        })
     }
 
     fn unmet(&mut self, unmet: &Unmet) -> io::Result<()> {
-        let why = format!(in self.alloc; "{unmet}")?;
-        self.write_refused(&why, None)
+        let why = format!(in self.known.alloc; "{unmet}")?;
+        let why = why.as_str();
+        self.report_action(Action::Ends {
+            how: "",
+            why,
+            hint: None,
+        })
     }
 }

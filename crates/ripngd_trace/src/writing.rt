@@ -1,20 +1,46 @@
-//! Records written as lines.
+//! Records written, in one of two forms.
 
 ghost use Rattle.std.specs.Prelude.{◌≡◌, ◌<◌, ℕ, IfOk, OnErr, OnOk, length, take};
 ghost use Rattle.std.specs.Io.KnownBytes.{Appends};
 ghost use Rattle.ripngd_trace.specs.Json.{text_of};
-ghost use Rattle.ripngd_trace.specs.Lines.{WritesLess, WritesRecord};
+ghost use Rattle.ripngd_trace.specs.Lines.{WritesLess, WritesRecord, written_as};
 
 use crate::json_text::JsonText;
 use crate::to_json::ToJson;
 use std::alloc::{AllocError, Global};
+use std::fmt::Display;
 use std::io::{self, ErrorKind, Write};
 
-/// Writes a record as one line.
+/// The form of records.
+#[derive(Clone, Copy)]
+pub enum Form {
+    /// A record is a line of JSON.
+    Json,
+    /// A record is what it prints, in English.
+    English,
+}
+
+/// Writes a record.
 ///
 /// # Errors
-/// Want of memory, before anything is written; else the fault of `out`, behind a beginning of the line.
-pub fn write_record<T: ToJson, W: Write>(alloc: Global, value: &T, out: &mut W) -> io::Result<()>
+/// Out of memory, before anything is written; else the error of `out`, after a beginning of the record.
+pub fn write_record<T: ToJson + Display, W: Write>(
+    alloc: Global,
+    form: Form,
+    value: &T,
+    out: &mut W,
+) -> io::Result<()>
+    ensures whole { OnOk result (WritesRecord (T.json value.now) (written_as form (W.contents out.old)) (written_as form (W.contents out.new))) }
+    ensures broken { OnErr result (WritesLess (written_as form (W.contents out.old)) (written_as form (W.contents out.new))) }
+{
+    match form {
+        Form::Json => write_line(alloc, value, out),
+        Form::English => write!(out, "{value}"),
+    }
+}
+
+/// Writes a value as a line of JSON.
+fn write_line<T: ToJson, W: Write>(alloc: Global, value: &T, out: &mut W) -> io::Result<()>
     ensures whole { OnOk result (WritesRecord (T.json value.now) (W.contents out.old) (W.contents out.new)) }
     ensures broken { OnErr result (WritesLess (W.contents out.old) (W.contents out.new)) }
 {

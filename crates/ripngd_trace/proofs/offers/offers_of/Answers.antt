@@ -21,10 +21,10 @@ returns-in-Some-Some-Some c =
     let table = slice_get-get_or known e.router there.known.now there.ensures.lookup.3.0 ∙ ap Some (sym there.ensures.lookup.1) in
     let state = sym c.router.ensures ∙ ap option_copied there.is-1 in
     let sent = ap (λ (ds : List Sent). slice_get ds e.datagram) (sym c.sent.ensures) ∙ slice_get-get_or c.sent.result.now e.datagram there.sent.now there.ensures''.lookup.3.0 ∙ ap Some (sym there.ensures''.lookup.1) in
-    IfOk-weaker c.delivered.result (λ records. TellsArrival there.known.now there.moved.now c.came-arrival.result c.as_slice.result.now records.items)
+    IfOk-weaker c.delivered.result (λ records. TellsArrival there.known.now.table there.moved.now c.came-arrival.result c.as_slice.result.now records.items)
     (λ records. TellsOffers known lab (event_of c.args.event.now) notes records.items)
     (λ records told. subst (λ (x : Event). TellsOffers known lab x notes records.items) (sym (ap event_of e.is))
     (offers_told known lab e.datagram e.router e.iface e.now notes records.items there.known.now there.moved.now there.sent.now table state sent
-    (subst (λ (ns : List Note). TellsArrival there.known.now there.moved.now (came lab there.sent.now e.iface e.now) ns records.items) c.as_slice.ensures
-    (subst (λ (x : Received). TellsArrival there.known.now there.moved.now x c.as_slice.result.now records.items) c.came-arrival.ensures told))))
+    (subst (λ (ns : List Note). TellsArrival there.known.now.table there.moved.now (came lab there.sent.now e.iface e.now) ns records.items) c.as_slice.ensures
+    (subst (λ (x : Received). TellsArrival there.known.now.table there.moved.now x c.as_slice.result.now records.items) c.came-arrival.ensures told))))
     c.delivered.ensures

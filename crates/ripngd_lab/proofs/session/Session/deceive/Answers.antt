@@ -3,9 +3,14 @@ use Rattle.ripngd_lab.specs.ScriptWatching.{lab_in}
 use Rattle.ripngd_lab.proofs.ScriptWatching.{has_told, told_from, untold, untold_as}
 use Rattle.ripngd_lab.proofs.session.Session.deceive.Goals as goal
 
+pub returns-in_err-bytes : goal.returns-in_err-bytes
+returns-in_err-bytes g c =
+    has_told g.V.Watch.starts g.V.Observer.takes g.V.Observer.fails g.V.Watch.notes c.from_residual.result (lab_in c.args.self.now.stage, c.args.watch.now) (lab_in c.args.self.now.stage, c.args.watch.now)
+    (untold g.V.Watch.starts g.V.Observer.takes g.V.Observer.fails g.V.Watch.notes (lab_in c.args.self.now.stage, c.args.watch.now))
+
 pub returns-in_err-check_lie : goal.returns-in_err-check_lie
 returns-in_err-check_lie g c =
-    has_told g.V.Watch.starts g.V.Observer.takes g.V.Observer.fails g.V.Watch.notes c.from_residual.result (lab_in c.args.self.now.stage, c.args.watch.now) (lab_in c.args.self.now.stage, c.args.watch.now)
+    has_told g.V.Watch.starts g.V.Observer.takes g.V.Observer.fails g.V.Watch.notes c.from_residual-in_err-check_lie.result (lab_in c.args.self.now.stage, c.args.watch.now) (lab_in c.args.self.now.stage, c.args.watch.now)
     (untold g.V.Watch.starts g.V.Observer.takes g.V.Observer.fails g.V.Watch.notes (lab_in c.args.self.now.stage, c.args.watch.now))
 
 pub returns-in-Running : goal.returns-in-Running
@@ -13,6 +18,6 @@ returns-in-Running g c =
     told_from g.V.Watch.starts g.V.Observer.takes g.V.Observer.fails g.V.Watch.notes c.lie_at.result (lab_in c.args.self.now.stage) (Some c.in-Running.site) c.args.watch.now (Some c.lie_at.new.site, c.lie_at.new.watch)
     (sym c.give_up.ensures ∙ ap lab_in c.in-Running.is) c.lie_at.ensures
 
-pub returns-in-Listing : goal.returns-in-Listing
-returns-in-Listing g c =
+pub returns : goal.returns
+returns g c =
     untold_as g.V.Watch.starts g.V.Observer.takes g.V.Observer.fails g.V.Watch.notes (Err c.from.result) (lab_in c.args.self.now.stage) (lab_in c.give_up.new.self.stage) c.args.watch.now c.give_up.ensures

@@ -1,31 +1,12 @@
-use Rattle.std.proofs.Common.{ℕ, List, OnErr, OnOk, Option, ap, subst}
-use Rattle.ripngd_trace.specs.Json.{json_of_event}
-use Rattle.ripngd_trace.specs.Lines.{WritesLess, WritesRecord}
-use Rattle.ripngd_trace.proofs.Reading.{on_err, on_ok}
+use Rattle.std.proofs.Common.{OnOk, true, subst}
+use Rattle.router_core.specs.Received.{Received}
+use Rattle.ripng_world.specs.World.{Stranger}
+use Rattle.ripngd_trace.specs.Saying.{SameOutput, SaysMove, said_by}
 use Rattle.ripngd_trace.proofs.tracer.TracerWatch.lied.Goals as goal
 
 pub returns-clause-notes : goal.returns-clause-notes
 returns-clause-notes g c =
-    on_ok c.write_record.result
-    (subst (λ (o : Option (List ℕ)). OnOk c.write_record.result (WritesRecord (json_of_event c.in_ok-record.record) o (g.W.Write.contents c.write_record.new.out))) (ap (λ r. g.W.Write.contents r.now) c.in_ok-record.ensures.out)
-    c.write_record.ensures.whole)
-    (λ writes. (
-      record {
-        r = c.in_ok-record.record;
-        tells = c.in_ok-record.ensures.tells;
-        listed = c.in_ok-record.ensures.listed;
-        offers = c.in_ok-record.ensures.offers;
-        update = c.in_ok-record.ensures.update;
-        known_is = c.in_ok-record.ensures.known;
-        timers_are = c.in_ok-record.ensures.timers;
-        line_is = c.in_ok-record.ensures.line;
-        writes = writes;
-      },
-      ap (λ r. r.ghost_name) c.in_ok-record.ensures.out,
-    ))
-
-pub returns-clause-broken : goal.returns-clause-broken
-returns-clause-broken g c =
-    on_err c.write_record.result
-    (subst (λ (o : Option (List ℕ)). OnErr c.write_record.result (WritesLess o (g.W.Write.contents c.write_record.new.out))) (ap (λ r. g.W.Write.contents r.now) c.in_ok-record.ensures.out) c.write_record.ensures.broken)
-    (λ less. (less, ap (λ r. r.ghost_name) c.in_ok-record.ensures.out))
+    let contents = g.W.Write.contents in
+    subst (λ (x : Received). OnOk c.report.result
+    (SaysMove true (said_by contents c.args.self.now) (record { lab = c.args.running.now; event = Stranger c.args.router x; answer = c.args.answer.now; first = c.args.first }) (said_by contents c.report.new.self)
+    × SameOutput c.args.self.now c.report.new.self)) c.again.ensures c.report.ensures.whole

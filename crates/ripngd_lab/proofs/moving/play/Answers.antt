@@ -1,0 +1,23 @@
+use Rattle.std.proofs.Common.{Some}
+use Rattle.ripngd_lab.proofs.ScriptWatching.{untold, told_on, has_told, handed_on}
+use Rattle.ripngd_lab.proofs.moving.play.Goals as goal
+
+pub loop-event-init : goal.loop-event-init
+loop-event-init g c =
+    untold g.V.Watch.starts g.V.Observer.takes g.V.Observer.fails g.V.Watch.notes (Some c.args.site.now, c.args.watch.now)
+
+pub returns-in_err-check : goal.returns-in_err-check
+returns-in_err-check g c =
+    has_told g.V.Watch.starts g.V.Observer.takes g.V.Observer.fails g.V.Watch.notes c.from_residual.result (Some c.args.site.now, c.args.watch.now) (Some c.loop-event.site, c.loop-event.watch) c.loop-event.invariant
+
+pub returns-in_err-step : goal.returns-in_err-step
+returns-in_err-step g c =
+    handed_on g.V.Watch.starts g.V.Observer.takes g.V.Observer.fails g.V.Watch.notes c.from_residual-in_err-step.result c.in_err-step.field-0.0 (Some c.args.site.now, c.args.watch.now) (Some c.loop-event.site, c.loop-event.watch) (Some c.step.new.lab, c.step.new.watch) c.from_residual-in_err-step.ensures.1 c.loop-event.invariant c.in_err-step.ensures
+
+pub loop-event-preserved : goal.loop-event-preserved
+loop-event-preserved g c =
+    told_on g.V.Watch.starts g.V.Observer.takes g.V.Observer.fails g.V.Watch.notes (Some c.args.site.now, c.args.watch.now) (Some c.loop-event.site, c.loop-event.watch) (Some c.step.new.lab, c.step.new.watch) c.loop-event.invariant c.in_ok-step.ensures
+
+pub returns : goal.returns
+returns g c =
+    c.loop-event.invariant

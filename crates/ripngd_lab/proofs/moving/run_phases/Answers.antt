@@ -1,0 +1,26 @@
+use Rattle.std.proofs.Common.{◌≡◌, ℕ, subst}
+use Rattle.std.proofs.lemmas.Result.{IfErr-at_err, IfOk-at_ok}
+use Rattle.ripng_phases.specs.Making.{AreMadeInPart, AreMadePhases, HealsIn}
+use Rattle.ripngd_lab.proofs.ScriptWatching.{phases_told, phases_stopped, stops_in}
+use Rattle.ripngd_lab.proofs.moving.run_phases.Goals as goal
+
+pub returns-in-Ok-clause-told : goal.returns-in-Ok-clause-told
+returns-in-Ok-clause-told g c =
+    phases_told g.V.Watch.starts g.V.Observer.takes g.V.Observer.fails g.V.Watch.notes c.args.lab.now c.run_phases-phase.new.lab c.args.watch.now c.run_phases-phase.new.watch c.run_phases-phase.result.0 c.in-Ok.last c.run_phases-phase.ensures.network
+    (IfOk-at_ok (λ last. AreMadePhases g.V.Observer.takes c.args.lab.now.network (c.args.lab.now.world, c.args.watch.now) c.run_phases-phase.result.0 last (c.run_phases-phase.new.lab.world, c.run_phases-phase.new.watch)) c.in-Ok.is c.run_phases-phase.ensures.made)
+
+pub returns-in-Err-clause-told : goal.returns-in-Err-clause-told
+returns-in-Err-clause-told g c =
+    phases_stopped g.V.Watch.starts g.V.Observer.takes g.V.Observer.fails g.V.Watch.notes c.args.lab.now c.run_phases-phase.new.lab c.args.watch.now c.run_phases-phase.new.watch c.run_phases-phase.result.0 c.in-Err.why c.stop_at.result c.run_phases-phase.ensures.network c.stop_at.ensures
+    (IfErr-at_err (λ e. AreMadeInPart g.V.Observer.takes g.V.Observer.fails c.args.lab.now.network (c.args.lab.now.world, c.args.watch.now) c.run_phases-phase.result.0 e (c.run_phases-phase.new.lab.world, c.run_phases-phase.new.watch)) c.in-Err.is c.run_phases-phase.ensures.stopped)
+
+pub returns-in-Err-clause-stopped : goal.returns-in-Err-clause-stopped
+returns-in-Err-clause-stopped g c =
+    stops_in g.V.Observer.takes g.V.Observer.fails (c.args.lab.now, c.args.watch.now) (c.run_phases-phase.new.lab, c.run_phases-phase.new.watch) c.run_phases-phase.result.0 c.in-Err.why c.stop_at.result c.stop_at.ensures
+    (IfErr-at_err (λ e. AreMadeInPart g.V.Observer.takes g.V.Observer.fails c.args.lab.now.network (c.args.lab.now.world, c.args.watch.now) c.run_phases-phase.result.0 e (c.run_phases-phase.new.lab.world, c.run_phases-phase.new.watch)) c.in-Err.is c.run_phases-phase.ensures.stopped)
+
+pub returns-in-Ok-clause-heals : goal.returns-in-Ok-clause-heals
+returns-in-Ok-clause-heals g c =
+    let all : c.run_phases-phase.result.0 ≡ c.args.phases = IfOk-at_ok (λ _. c.run_phases-phase.result.0 ≡ c.args.phases) c.in-Ok.is c.run_phases-phase.ensures.all in
+    subst (λ (n : ℕ). HealsIn c.args.lab.now.network c.args.lab.now.world n c.run_phases-phase.new.lab.world) all
+    (IfOk-at_ok (λ _. HealsIn c.args.lab.now.network c.args.lab.now.world c.run_phases-phase.result.0 c.run_phases-phase.new.lab.world) c.in-Ok.is c.run_phases-phase.ensures.heals)

@@ -1,0 +1,217 @@
+//! The forms of lines, as docs/SCRIPTS.md has them: the words of each, what a line of it does, and why a line has none of them.
+
+/// What a line does.
+#[derive(Clone, Copy, Debug, PartialEq, Eq)]
+pub enum Verb {
+    /// It lists a part of the network, before the start.
+    List(Listed),
+    /// All routers start.
+    Start,
+    /// A forged Response arrives.
+    Forge,
+    /// It is about a network that runs.
+    Act(Action),
+}
+
+/// A part of a network.
+#[derive(Clone, Copy, Debug, PartialEq, Eq)]
+pub enum Listed {
+    Router,
+    QuietRouter,
+    Interface,
+    Prefixes,
+}
+
+/// What is done with a network that runs.
+#[derive(Clone, Copy, Debug, PartialEq, Eq)]
+pub enum Action {
+    Step(Step),
+    Arrive,
+    Ask,
+    Tell,
+    Hear,
+    Round,
+    Rounds,
+    Phases,
+    Lose,
+    Silence,
+    Speak,
+    Cut,
+    Mend,
+    PrintAll,
+    PrintRouter,
+    PrintRoute,
+    PrintAllSent,
+    PrintSent,
+    Say,
+    Expect,
+    Path,
+    ExpectPath,
+    Refuse,
+}
+
+/// An event of one router.
+#[derive(Clone, Copy, Debug, PartialEq, Eq)]
+pub enum Step {
+    Deliver,
+    Tick,
+    Restart,
+    Shutdown,
+    Cost,
+    Gain,
+    Drop,
+}
+
+/// The forms. A word in capitals is a part, and `..` at the end repeats K. If a line leaves several forms at the same word, the first
+/// is the one that a hint names.
+pub const FORMS: [(&str, Verb); 45] = [
+    ("router NAME", Verb::List(Listed::Router)),
+    ("router quiet NAME", Verb::List(Listed::QuietRouter)),
+    ("router quiet", Verb::List(Listed::QuietRouter)),
+    ("router", Verb::List(Listed::Router)),
+    ("iface ADDR COST MTU LINK", Verb::List(Listed::Interface)),
+    ("iface ADDR COST LINK", Verb::List(Listed::Interface)),
+    ("own PREFIX TAG times TIMES", Verb::List(Listed::Prefixes)),
+    ("own PREFIX TAG", Verb::List(Listed::Prefixes)),
+    ("cold NOW", Verb::Start),
+    ("deliver N R I NOW", Verb::Act(Action::Step(Step::Deliver))),
+    (
+        "stranger R I NOW SOURCE PORT HOP TO HEX",
+        Verb::Act(Action::Arrive),
+    ),
+    ("ask R I NOW SOURCE PORT ASKED", Verb::Act(Action::Ask)),
+    ("liar R I NOW SOURCE HEX", Verb::Forge),
+    ("liar R I NOW SOURCE PREFIX HOPS", Verb::Forge),
+    ("tick R NOW WORD", Verb::Act(Action::Step(Step::Tick))),
+    ("tick R NOW", Verb::Act(Action::Step(Step::Tick))),
+    ("tell R NOW WORD but K ..", Verb::Act(Action::Tell)),
+    ("tell R NOW WORD", Verb::Act(Action::Tell)),
+    ("tell R NOW but K ..", Verb::Act(Action::Tell)),
+    ("tell R NOW", Verb::Act(Action::Tell)),
+    ("hear but K ..", Verb::Act(Action::Hear)),
+    ("hear", Verb::Act(Action::Hear)),
+    ("restart R NOW", Verb::Act(Action::Step(Step::Restart))),
+    ("shutdown R NOW", Verb::Act(Action::Step(Step::Shutdown))),
+    ("cost R I NOW COST", Verb::Act(Action::Step(Step::Cost))),
+    ("gain R NOW PREFIX TAG", Verb::Act(Action::Step(Step::Gain))),
+    ("drop R NOW PREFIX", Verb::Act(Action::Step(Step::Drop))),
+    ("round NOW", Verb::Act(Action::Round)),
+    ("rounds ROUNDS NOW GAP", Verb::Act(Action::Rounds)),
+    ("phases PHASES SEED", Verb::Act(Action::Phases)),
+    ("silent R", Verb::Act(Action::Silence)),
+    ("speaks R", Verb::Act(Action::Speak)),
+    ("cut LINK", Verb::Act(Action::Cut)),
+    ("mend LINK", Verb::Act(Action::Mend)),
+    ("lose N", Verb::Act(Action::Lose)),
+    ("print R PREFIX", Verb::Act(Action::PrintRoute)),
+    ("print R", Verb::Act(Action::PrintRouter)),
+    ("print", Verb::Act(Action::PrintAll)),
+    ("sent N", Verb::Act(Action::PrintSent)),
+    ("sent", Verb::Act(Action::PrintAllSent)),
+    ("say TEXT", Verb::Act(Action::Say)),
+    ("expect R PREFIX METRIC", Verb::Act(Action::Expect)),
+    ("expect path R ADDR FATE", Verb::Act(Action::ExpectPath)),
+    ("path R ADDR", Verb::Act(Action::Path)),
+    ("refused REFUSAL", Verb::Act(Action::Refuse)),
+];
+
+/// Why a line is malformed, or out of place.
+#[derive(Clone, Copy, Debug, PartialEq, Eq)]
+pub enum BadLine {
+    /// It is not UTF-8.
+    NoText,
+    /// No line begins so.
+    Unknown,
+    /// A word does not fit the form of that number among all. Its place is counted from 0 for the first word.
+    Word {
+        form: usize,
+        place: usize,
+        wrong: Wrong,
+    },
+    /// It comes before `cold`, and must come after it.
+    BeforeStart,
+    /// It comes after `cold`, and must come before it.
+    AfterStart,
+    /// It is a second `cold`.
+    SecondStart,
+    /// It comes before the first router.
+    NoRouter,
+    /// A row of prefixes goes on past the last one that there is.
+    PastLastPrefix,
+}
+
+/// What is wrong with a word.
+#[derive(Clone, Copy, Debug, PartialEq, Eq)]
+pub enum Wrong {
+    /// It cannot stand for its part.
+    Differs,
+    /// The line ends before it.
+    Missing,
+    /// The form ends before it.
+    TooMany,
+    /// No router has the name.
+    NoName,
+    /// It counts from the last time, and no line has named one.
+    NoTime,
+    /// Its time is past the last one that there is.
+    TooLate,
+    /// It counts from the last datagram, and fewer were sent.
+    NotSent,
+}
+
+/// The first word of a line or of a form.
+pub fn first_word(text: &str) -> &str {
+    text.split(' ').next().unwrap_or("")
+}
+
+/// The words of a form, by its number among all.
+pub fn words_of_form(form: usize) -> &'static str {
+    match FORMS.get(form) {
+        Some((words, _)) => words,
+        None => "",
+    }
+}
+
+/// The part at a place of a form; where the form repeats its last one, that is K.
+pub fn part_at(form: usize, place: usize) -> &'static str {
+    match words_of_form(form).split(' ').nth(place) {
+        Some("..") | None => "K",
+        Some(part) => part,
+    }
+}
+
+/// What a part is, in the words after `is`; nothing of a word that stands for itself.
+pub fn meaning(part: &str) -> &'static str {
+    match part {
+        "NAME" => "a letter, and then letters, digits, - and _, but not quiet",
+        "ADDR" | "SOURCE" => "an IPv6 address, like fe80::1",
+        "COST" => "a number from 1 to 15",
+        "MTU" => "a number from 1280 to 65535",
+        "LINK" => "the number of a link, from 0 to 65535",
+        "PREFIX" => "a prefix, like 2001:db8::/32",
+        "TAG" | "PORT" => "a number from 0 to 65535",
+        "TIMES" => "a number from 1 to 1024",
+        "NOW" => {
+            "a number of milliseconds, up to 2^60, or + and such a number since the last moment"
+        }
+        "N" => "the number of a datagram, from 0, or last, or last-K",
+        "K" => "the number of a datagram that is lost, from 0 for the first",
+        "R" => "a router: its number, from 0, or its name",
+        "I" => "the number of an interface of the router, from 0",
+        "HOP" => "a hop limit, from 0 to 255",
+        "TO" => "group, or peer",
+        "HOPS" => "a metric from 1 to 16",
+        "HEX" => "bytes as pairs of hexadecimal digits, or - for none",
+        "ASKED" => "a prefix, or all",
+        "WORD" => "a number from 0 to 4294967295",
+        "ROUNDS" => "how many rounds: a number from 1 to 1000",
+        "GAP" => "a number of milliseconds, so few that the last round is not past 2^60",
+        "PHASES" => "how many phases: a number from 1 to 1000",
+        "SEED" => "a number from 0 to 18446744073709551615",
+        "METRIC" => "a number from 1 to 16, or none",
+        "FATE" => "arrives, loops or lost",
+        "REFUSAL" => "the name of a refusal, like NotOwned, or BadLine",
+        "TEXT" => "the text to print",
+        _ => "",
+    }
+}

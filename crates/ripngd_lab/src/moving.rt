@@ -1,0 +1,239 @@
+//! What moves a network while the watcher of a script is told: an event, a forged Response, the waves of plans, rounds and phases.
+
+ghost use Rattle.std.specs.Prelude.{◌≡◌, ℕ, All, IfErr, IfOk, OnOk, Some, length};
+ghost use Rattle.ripng_phases.specs.Making.{AreMadePhases, HealsIn};
+ghost use Rattle.ripngd_lab.specs.Phasing.{IsStopAt, StopsInPhase};
+ghost use Rattle.ripngd_lab.specs.ScriptWatching.{HasTold};
+
+use crate::course::Course;
+use crate::forms::BadLine;
+use crate::plan::{Ticking, Wave};
+use crate::site::{Held, Network, Routes, Site};
+use crate::stop::{Outcome, Refusal, Stop};
+use crate::watching::Watch;
+use rand_core::Rng;
+use ripng_phases::PhaseRefused;
+use ripng_world::{Event, Lab, Round, Stopped};
+use route_table::Moment;
+use router_core::Arrival;
+use std::alloc::{AllocError, Global};
+use std::io;
+
+/// The time of a round, and the time and the word of each router's tick, in order.
+type Ticks = (Moment, Vec<(Moment, u32)>);
+
+/// An event happens, if it is not refused.
+pub fn step<V: Watch>(lab: &mut Site, event: &Event<'_>, watch: &mut V) -> Outcome
+    ensures { HasTold result V.starts V.takes V.fails V.notes (Some lab.old, watch.old) (Some lab.new, watch.new) }
+{
+    match lab.step_watched(event, watch) {
+        Ok(_) => Ok(()),
+        Err(Stopped::Refused(why)) => Err(Stop::from(why)),
+        Err(Stopped::Failed(error)) => Err(Stop::Failed(error)),
+    }
+}
+
+/// A forged Response arrives, and a watcher is told of it. The router is there, and accepts it.
+fn lie<V: Watch>(
+    running: &mut Network,
+    router: usize,
+    arrival: &Arrival<'_>,
+    watch: &mut V,
+) -> Outcome
+    ensures { HasTold result V.starts V.takes V.fails V.notes (Some running.old, watch.old) (Some running.new, watch.new) }
+{
+    let first = running.sent().len();
+    let answer = running.lie(router, arrival)?;
+    Ok(watch.lied(running, router, arrival, &answer, first)?)
+}
+
+/// The same at a network that is verified no longer.
+pub fn lie_at<V: Watch>(
+    site: &mut Site,
+    router: usize,
+    arrival: &Arrival<'_>,
+    watch: &mut V,
+) -> Outcome
+    ensures { HasTold result V.starts V.takes V.fails V.notes (Some site.old, watch.old) (Some site.new, watch.new) }
+{
+    match &mut site.held {
+        Held::Lied(running) => lie(running, router, arrival, watch),
+        Held::Lawful(_) => Err(Stop::Refused(Refusal::BadLine(BadLine::BeforeStart))),
+    }
+}
+
+/// Rounds are made, up to a regular update that is not due.
+pub fn run_rounds<V: Watch>(lab: &mut Lab<Routes>, rounds: &[Round<'_>], watch: &mut V) -> Outcome
+    requires { All (λ r. length r.ticks ≡ length lab.old.network) rounds.now }
+    ensures { HasTold result V.starts V.takes V.fails V.notes (Some lab.old, watch.old) (Some lab.new, watch.new) }
+{
+    match lab.run_rounds_watched(rounds, watch) {
+        Ok(()) => Ok(()),
+        Err(Stopped::Refused(why)) => Err(Stop::from(why)),
+        Err(Stopped::Failed(error)) => Err(Stop::Failed(error)),
+    }
+}
+
+/// Phases are made at random, and heal as [`ripng_phases::run_phases`] has it. Says in which of them some table last changed.
+pub fn run_phases<V: Watch, R: Rng>(
+    alloc: Global,
+    lab: &mut Lab<Routes>,
+    phases: usize,
+    rng: &mut R,
+    watch: &mut V,
+) -> Result<Option<usize>, Stop>
+    ensures told { HasTold result V.starts V.takes V.fails V.notes (Some lab.old, watch.old) (Some lab.new, watch.new) }
+    ensures made { IfOk result (λ last. AreMadePhases V.takes lab.old.network (lab.old.world, watch.old) phases last (lab.new.world, watch.new)) }
+    ensures heals { OnOk result (HealsIn lab.old.network lab.old.world phases lab.new.world) }
+    ensures stopped { IfErr result (λ stop. StopsInPhase V.takes V.fails (lab.old, watch.old) stop (lab.new, watch.new)) }
+{
+    let (phase, outcome) = ripng_phases::run_phases(alloc, lab, phases, rng, watch);
+    match outcome {
+        Ok(last) => Ok(last),
+        Err(why) => Err(stop_at(phase, why)),
+    }
+}
+
+/// What a script says where phases stop in the one of that number.
+fn stop_at(phase: usize, why: Stopped<PhaseRefused, io::Error>) -> Stop
+    ensures { IsStopAt phase why result }
+{
+    match why {
+        Stopped::Refused(PhaseRefused::OutOfMemory) => Stop::Failed(io::Error::from(AllocError)),
+        Stopped::Refused(refused) => Stop::Refused(Refusal::Phases { phase, refused }),
+        Stopped::Failed(error) => Stop::Failed(error),
+    }
+}
+
+/// A wave is made: its ticks, and then its deliveries. What was sent before these is passed by from then on.
+///
+/// # Errors
+/// A router or a datagram is not there, a regular update is not due; out of memory, or the watcher fails. What was done before it stays
+/// done.
+pub fn make_wave<V: Watch>(
+    site: &mut Site,
+    course: &mut Course,
+    wave: &Wave<'_>,
+    watch: &mut V,
+) -> Outcome
+    ensures { HasTold result V.starts V.takes V.fails V.notes (Some site.old, watch.old) (Some site.new, watch.new) }
+{
+    let first = wave.first(course.unheard, site.sent().len());
+    let ticks = wave.ticks(course.alloc, site.routers(), &course.outages)?;
+    play(site, wave, &ticks, watch)?;
+    course.unheard = site.sent().len();
+    deliver(site, course, wave, first, watch)
+}
+
+/// What was sent from a number on is delivered, datagram by datagram.
+fn deliver<V: Watch>(
+    site: &mut Site,
+    course: &Course,
+    wave: &Wave<'_>,
+    first: usize,
+    watch: &mut V,
+) -> Outcome
+    ensures { HasTold result V.starts V.takes V.fails V.notes (Some site.old, watch.old) (Some site.new, watch.new) }
+{
+    let end = site.sent().len();
+    wave.check_lost(end.saturating_sub(first))?;
+    for datagram in first..end {
+        let events = wave.deliveries(course, site.running(), first, datagram)?;
+        play(site, wave, &events, watch)?;
+    }
+    Ok(())
+}
+
+/// Events of a wave happen, one after another.
+fn play<V: Watch>(
+    site: &mut Site,
+    wave: &Wave<'_>,
+    events: &[Event<'static>],
+    watch: &mut V,
+) -> Outcome
+    ensures { HasTold result V.starts V.takes V.fails V.notes (Some site.old, watch.old) (Some site.new, watch.new) }
+{
+    for event in events {
+        wave.check(site.running(), event)?;
+        step(site, event, watch)?;
+    }
+    Ok(())
+}
+
+/// A round at each of these times: every router ticks in order, with the word 0, when its regular update is due, and what these ticks
+/// sent is delivered as in one round alone. With outages, and after a forged Response, nothing is promised of them.
+pub fn make_rounds<V: Watch>(
+    site: &mut Site,
+    course: &mut Course,
+    moments: &[Moment],
+    watch: &mut V,
+) -> Outcome
+    ensures { HasTold result V.starts V.takes V.fails V.notes (Some site.old, watch.old) (Some site.new, watch.new) }
+{
+    if course.outages.are_none()
+        && let Held::Lawful(lab) = &mut site.held
+    {
+        return make_whole_rounds(course.alloc, lab, moments, watch);
+    }
+    make_waves(site, course, moments, watch)
+}
+
+/// The rounds of these times, a wave each.
+fn make_waves<V: Watch>(
+    site: &mut Site,
+    course: &mut Course,
+    moments: &[Moment],
+    watch: &mut V,
+) -> Outcome
+    ensures { HasTold result V.starts V.takes V.fails V.notes (Some site.old, watch.old) (Some site.new, watch.new) }
+{
+    for (round, now) in moments.iter().enumerate() {
+        let wave = Wave {
+            ticking: Ticking::Due { round },
+            moment: *now,
+            lost: "",
+        };
+        make_wave(site, course, &wave, watch)?;
+    }
+    Ok(())
+}
+
+/// The same in a verified network, where all takes part: as [`Lab::run_rounds`] promises.
+fn make_whole_rounds<V: Watch>(
+    alloc: Global,
+    lab: &mut Lab<Routes>,
+    moments: &[Moment],
+    watch: &mut V,
+) -> Outcome
+    ensures { HasTold result V.starts V.takes V.fails V.notes (Some lab.old, watch.old) (Some lab.new, watch.new) }
+{
+    let ticks = ticks_at(alloc, lab.routers(), moments)?;
+    let rounds = rounds_of(alloc, &ticks)?;
+    run_rounds(lab, &rounds, watch)
+}
+
+/// A tick of each router at each time.
+fn ticks_at(alloc: Global, routers: usize, moments: &[Moment]) -> Result<Vec<Ticks>, AllocError>
+    ensures { IfOk result (λ ticks. All (λ t. length t.1.items ≡ routers) ticks.items) }
+{
+    let mut ticks = Vec::new(alloc);
+    for now in moments {
+        ticks.push((*now, vec![in alloc; (*now, 0); routers]?))?;
+    }
+    Ok(ticks)
+}
+
+/// The rounds of these ticks, each with no picks.
+fn rounds_of<'a>(alloc: Global, ticks: &'a [Ticks]) -> Result<Vec<Round<'a>>, AllocError>
+    ensures { IfOk result (λ rounds. (routers : ℕ) → All (λ t. length t.1.items ≡ routers) ticks.now → All (λ r. length r.ticks ≡ routers) rounds.items) }
+{
+    let mut rounds = Vec::new(alloc);
+    for (now, ticks) in ticks {
+        rounds.push(Round {
+            ticks,
+            picks: &[],
+            rest: *now,
+        })?;
+    }
+    Ok(rounds)
+}

@@ -1,0 +1,252 @@
+//! What a line of many events makes happen: a wave of ticks, and then of deliveries. It is a plan: it says which events come
+//! next, where routers are silent, links are cut and datagrams are lost.
+
+ghost use Rattle.std.specs.Prelude.{◌≡◌, ◌∷◌, [], IfOk, map};
+ghost use Rattle.ripng_world.specs.AskedRounds.{is_other};
+ghost use Rattle.ripng_world.specs.Events.{event_of};
+ghost use Rattle.ripng_world.specs.World.{Tick};
+ghost use Rattle.ripngd_lab.specs.Plans.{addr_at, all_ticks, first_of, is_meant, is_on_cut, reaches, takes_part, ticks_of};
+
+use crate::context::number;
+use crate::course::Course;
+use crate::outages::Outages;
+use crate::site::Network;
+use crate::stop::{Outcome, Stop};
+use prefix6::Addr6;
+use ripng_world::{Event, LabError, RoundsRefused, Sent};
+use route_table::Moment;
+use router_core::{Destination, INTERFACE_LIMIT};
+use std::alloc::{AllocError, Global};
+
+/// Who ticks in a wave.
+#[derive(Clone, Copy, Debug, PartialEq, Eq)]
+pub enum Ticking {
+    /// Nobody: what was sent and not passed by is delivered.
+    Nobody,
+    /// This router, silent or not, with a random word.
+    One { router: usize, word: u32 },
+    /// Every router that is not silent, with the word 0.
+    All,
+    /// As many, each only when its regular update is due: the round of this number, from 0.
+    Due { round: usize },
+}
+
+/// Routers tick at a moment, and what they sent then comes once to each other interface of its link, at the same moment.
+#[derive(Drop)]
+pub struct Wave<'a> {
+    pub ticking: Ticking,
+    pub moment: Moment,
+    /// The datagrams that are lost, one space apart, counted from the first that would be delivered.
+    pub lost: &'a str,
+}
+
+impl<'a> Wave<'a> {
+    /// The ticks, in the order of routers.
+    pub fn ticks(
+        &self,
+        alloc: Global,
+        routers: usize,
+        outages: &Outages,
+    ) -> Result<Vec<Event<'static>>, AllocError>
+        ensures { IfOk result (λ ticks. map event_of ticks.items ≡ ticks_of self.now outages.now routers) }
+    {
+        match self.ticking {
+            Ticking::Nobody => Ok(Vec::new(alloc)),
+            Ticking::One { router, word } => one_tick(alloc, router, self.moment, word),
+            Ticking::All | Ticking::Due { .. } => all_ticks(alloc, routers, self.moment, outages),
+        }
+    }
+
+    /// The number of the first datagram that is delivered: the first that was not passed by, or, of a wave with ticks, the
+    /// first that they send.
+    pub fn first(&self, unheard: usize, sent: usize) -> usize
+        ensures { result ≡ first_of self.now unheard sent }
+    {
+        match self.ticking {
+            Ticking::Nobody => unheard,
+            Ticking::One { .. } | Ticking::All | Ticking::Due { .. } => sent,
+        }
+    }
+
+    /// A tick of a round comes only when the regular update of its router is due, else `NoRegularUpdate`.
+    pub fn check(&self, lab: &Network, event: &Event<'_>) -> Outcome {
+        match (self.ticking, event) {
+            (Ticking::Due { round }, Event::Tick { router, now, .. }) => {
+                if is_due(lab, *router, *now) {
+                    return Ok(());
+                }
+                let router = *router;
+                Err(Stop::from(RoundsRefused::NoRegularUpdate { round, router }))
+            }
+            _ => Ok(()),
+        }
+    }
+
+    /// The datagrams that the wave loses are among those that it would deliver, else `NoSuchDatagram`.
+    pub fn check_lost(&self, count: usize) -> Outcome {
+        for word in self.lost.split(' ') {
+            if number::<usize>(word).is_ok_and(|place| place >= count) {
+                return Err(Stop::from(LabError::NoSuchDatagram));
+            }
+        }
+        Ok(())
+    }
+
+    fn loses(&self, place: usize) -> bool {
+        self.lost.split(' ').any(|word| number(word) == Ok(place))
+    }
+
+    /// The deliveries of a datagram, in the order of routers and interfaces. The first datagram of the wave has the number
+    /// `first`.
+    pub fn deliveries(
+        &self,
+        course: &Course,
+        lab: &Network,
+        first: usize,
+        datagram: usize,
+    ) -> Result<Vec<Event<'static>>, AllocError> {
+        let mut events = Vec::new(course.alloc);
+        let place = datagram.saturating_sub(first);
+        if self.loses(place) || course.outages.is_lost(datagram) {
+            return Ok(events);
+        }
+        if let Some(sent) = lab.sent().get(datagram) {
+            for router in 0..lab.routers() {
+                let to = (datagram, sent, router);
+                add_deliveries(&mut events, lab, &course.outages, to, self.moment)?;
+            }
+        }
+        Ok(events)
+    }
+}
+
+/// One tick.
+fn one_tick(
+    alloc: Global,
+    router: usize,
+    now: Moment,
+    word: u32,
+) -> Result<Vec<Event<'static>>, AllocError>
+    ensures { IfOk result (λ ticks. map event_of ticks.items ≡ Tick router now word ∷ []) }
+{
+    let mut ticks = Vec::new(alloc);
+    ticks.push(Event::Tick { router, now, word })?;
+    Ok(ticks)
+}
+
+/// A tick of each router that is not silent, with the word 0.
+fn all_ticks(
+    alloc: Global,
+    routers: usize,
+    now: Moment,
+    outages: &Outages,
+) -> Result<Vec<Event<'static>>, AllocError>
+    ensures { IfOk result (λ ticks. map event_of ticks.items ≡ all_ticks outages.now routers now) }
+{
+    let mut ticks = Vec::new(alloc);
+    for router in 0..routers {
+        if outages.is_silent(router) {
+            continue;
+        }
+        ticks.push(Event::Tick {
+            router,
+            now,
+            word: 0,
+        })?;
+    }
+    Ok(ticks)
+}
+
+/// Adds the deliveries of a datagram of that number to the interfaces of a router.
+fn add_deliveries(
+    events: &mut Vec<Event<'static>>,
+    lab: &Network,
+    outages: &Outages,
+    to: (usize, &Sent, usize),
+    now: Moment,
+) -> Result<(), AllocError> {
+    let (datagram, sent, router) = to;
+    for iface in 0..INTERFACE_LIMIT {
+        if reaches(lab, outages, sent, router, iface) {
+            events.push(Event::Deliver {
+                datagram,
+                router,
+                iface,
+                now,
+            })?;
+        }
+    }
+    Ok(())
+}
+
+/// Whether the regular update of a router is due, at a moment or at the last one that it was told.
+fn is_due(lab: &Network, router: usize, now: Moment) -> bool {
+    match lab.router(router) {
+        Some(router) => router.regular().reached(now.max(router.last())),
+        None => false,
+    }
+}
+
+/// Whether a datagram reaches an interface: another one of its link, where all take part and it is meant.
+fn reaches(lab: &Network, outages: &Outages, sent: &Sent, router: usize, iface: usize) -> bool
+    ensures { result ≡ reaches outages.now lab.now sent.now router iface }
+{
+    is_other(lab, sent, router, iface)
+        && takes_part(lab, outages, sent, router)
+        && is_meant(lab, sent.to, router, iface)
+}
+
+/// Whether an interface is another one of the datagram's link.
+fn is_other(lab: &Network, sent: &Sent, router: usize, iface: usize) -> bool
+    ensures { result ≡ is_other lab.now.network sent.now (router, iface) }
+{
+    match (lab.link(sent.router, sent.iface), lab.link(router, iface)) {
+        (Some(own), Some(link)) => {
+            own == link && !(router == sent.router && iface == sent.iface)
+        }
+        _ => false,
+    }
+}
+
+/// Whether neither the sender nor a router is silent, and the sender's link is not cut.
+fn takes_part(lab: &Network, outages: &Outages, sent: &Sent, router: usize) -> bool
+    ensures { result ≡ takes_part outages.now lab.now sent.now router }
+{
+    !outages.is_silent(sent.router) && !outages.is_silent(router) && !is_on_cut(lab, outages, sent)
+}
+
+/// Whether the link of a datagram is cut.
+fn is_on_cut(lab: &Network, outages: &Outages, sent: &Sent) -> bool
+    ensures { result ≡ is_on_cut outages.now lab.now sent.now }
+{
+    match lab.link(sent.router, sent.iface) {
+        Some(link) => outages.is_cut(link),
+        None => false,
+    }
+}
+
+/// Whether a datagram is for an interface: one to an asker is for that of its address alone.
+fn is_meant(lab: &Network, to: Destination, router: usize, iface: usize) -> bool
+    ensures { result ≡ is_meant lab.now to router iface }
+{
+    match to {
+        Destination::Group => true,
+        Destination::Peer { addr, .. } => match addr_at(lab, router, iface) {
+            Some(own) => own == addr,
+            None => false,
+        },
+    }
+}
+
+/// The address of an interface, if the network has it.
+fn addr_at(lab: &Network, router: usize, iface: usize) -> Option<Addr6>
+    ensures { result ≡ addr_at lab.now router iface }
+{
+    match lab.router(router) {
+        Some(router) => match router.config().interfaces().get(iface).copied() {
+            Some(interface) => Some(interface.addr),
+            None => None,
+        },
+        None => None,
+    }
+}

@@ -1,0 +1,142 @@
+//! Where packets go: the path that the tables give them, and where on it they are lost for a reason that no table has.
+
+ghost use Rattle.std.specs.Prelude.{◌≡◌, IfOk};
+ghost use Rattle.ripng_world.specs.Packets.{forwardings_of};
+ghost use Rattle.ripng_world.specs.Path.{IsPath};
+ghost use Rattle.ripngd_lab.specs.Ways.{fate_of};
+
+use crate::outages::Outages;
+use crate::site::Network;
+use crate::stop::Stop;
+use prefix6::Addr6;
+use ripng_world::{Path, PathEnd};
+use std::fmt;
+
+/// What becomes of packets.
+#[derive(Clone, Copy, Debug, PartialEq, Eq)]
+pub enum Fate {
+    /// They come to an owner of their longest prefix.
+    Arrives,
+    /// They go round until their hop limit is used up.
+    Loops,
+    /// They are dropped.
+    Lost,
+}
+
+impl fmt::Display for Fate {
+    fn fmt<W: fmt::Write>(&self, f: &mut fmt::Formatter<W>) -> fmt::Result {
+        match self {
+            Fate::Arrives => write!(f, "arrives"),
+            Fate::Loops => write!(f, "loops"),
+            Fate::Lost => write!(f, "lost"),
+        }
+    }
+}
+
+/// Why packets get no further than a router, though its table forwards them.
+#[derive(Clone, Copy, Debug, PartialEq, Eq)]
+pub enum Obstacle {
+    /// The link that they would cross is cut.
+    CutLink { router: usize, link: u16 },
+    /// The router is silent.
+    SilentRouter { router: usize },
+}
+
+/// The way of packets for an address from a router.
+#[derive(Debug, Drop)]
+pub struct Way {
+    pub router: usize,
+    pub addr: Addr6,
+    /// What the tables say.
+    pub path: Path,
+    /// The first obstacle on that path, of which the tables know nothing.
+    pub obstacle: Option<Obstacle>,
+}
+
+impl Way {
+    /// The way of packets for an address from a router, as the tables and the outages are.
+    ///
+    /// # Errors
+    /// `NoSuchRouter`, or out of memory.
+    pub fn of(lab: &Network, outages: &Outages, router: usize, addr: Addr6) -> Result<Way, Stop>
+        ensures path { IfOk result (λ way. IsPath lab.now.network (forwardings_of lab.now.world) addr router way.path) }
+        ensures asked { IfOk result (λ way. (way.router ≡ router) × (way.addr ≡ addr)) }
+    {
+        let path = lab.path(router, addr)?;
+        let obstacle = obstacle_on(lab, outages, router, &path);
+        Ok(Way {
+            router,
+            addr,
+            path,
+            obstacle,
+        })
+    }
+
+    /// What becomes of the packets.
+    pub fn fate(&self) -> Fate
+        ensures { result ≡ fate_of self.now.path.end self.now.obstacle }
+    {
+        match (self.obstacle, self.path.end) {
+            (None, PathEnd::Delivered) => Fate::Arrives,
+            (None, PathEnd::Loops { .. }) => Fate::Loops,
+            _ => Fate::Lost,
+        }
+    }
+}
+
+/// The first obstacle on a path.
+fn obstacle_on(lab: &Network, outages: &Outages, from: usize, path: &Path) -> Option<Obstacle> {
+    let mut router = from;
+    for hop in path.hops.iter() {
+        let obstacle = silence_at(outages, router).or(cut_at(lab, outages, router, hop.iface));
+        if obstacle.is_some() {
+            return obstacle;
+        }
+        router = hop.router;
+    }
+    silence_at(outages, router)
+}
+
+/// The obstacle that a silent router is.
+fn silence_at(outages: &Outages, router: usize) -> Option<Obstacle> {
+    if outages.is_silent(router) {
+        Some(Obstacle::SilentRouter { router })
+    } else {
+        None
+    }
+}
+
+/// The obstacle that a cut link is, where an interface is on one.
+fn cut_at(lab: &Network, outages: &Outages, router: usize, iface: usize) -> Option<Obstacle> {
+    let link = lab.link(router, iface)?;
+    if outages.is_cut(link) {
+        Some(Obstacle::CutLink { router, link })
+    } else {
+        None
+    }
+}
+
+impl fmt::Display for Way {
+    fn fmt<W: fmt::Write>(&self, f: &mut fmt::Formatter<W>) -> fmt::Result {
+        let Way { router, addr, .. } = self;
+        write!(f, "{router} {addr} path {router}")?;
+        for hop in self.path.hops.iter() {
+            write!(f, " {}", hop.router)?;
+        }
+        match self.path.end {
+            PathEnd::Delivered => write!(f, " delivered")?,
+            PathEnd::NoRoute => write!(f, " no route")?,
+            PathEnd::NextHopIsNobodys => write!(f, " next hop is nobody's")?,
+            PathEnd::Loops { from } => write!(f, " loops from {from}")?,
+        }
+        match self.obstacle {
+            Some(Obstacle::CutLink { router: at, link }) => {
+                write!(f, "\n{router} {addr} lost at {at}: link {link} is cut")
+            }
+            Some(Obstacle::SilentRouter { router: at }) => {
+                write!(f, "\n{router} {addr} lost at {at}: silent")
+            }
+            None => Ok(()),
+        }
+    }
+}

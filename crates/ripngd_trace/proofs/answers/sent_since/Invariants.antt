@@ -1,6 +1,0 @@
-use Rattle.std.proofs.Common.{◌≡◌, ◌++◌, map}
-use Rattle.ripngd_trace.specs.Events.{sent_from, sent_said, sent_words}
-use Rattle.ripngd_trace.proofs.answers.sent_since.Given as goal
-
-abbrev pub invariant-loop-number : goal.invariant-loop-number
-invariant-loop-number g l = map sent_said l.records.items ++ map sent_words (sent_from l.number l.sent) ≡ map sent_words (sent_from l.fn.first l.sent)

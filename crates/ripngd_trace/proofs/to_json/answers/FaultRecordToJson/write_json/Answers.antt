@@ -1,8 +1,0 @@
-use Rattle.ripngd_trace.proofs.Growing.{Grows-then}
-use Rattle.ripngd_trace.specs.Json.{json_of_fault}
-use Rattle.ripngd_trace.proofs.to_json.answers.FaultRecordToJson.write_json.Goals as goal
-
-pub returns : goal.returns
-unfolding json_of_fault
-returns c =
-    Grows-then c.token.ensures (Grows-then c.member.ensures (Grows-then c.member-2.ensures c.token-2.ensures))

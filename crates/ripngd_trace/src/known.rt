@@ -1,0 +1,191 @@
+//! What a reader of the records knows, and the records that it learns it from.
+
+ghost use Rattle.std.specs.Prelude.{◌≡◌, [], ◌∷◌, ◌++◌, IfOk, IfSome, OnOk, Some, slice_get, slice_set};
+ghost use Rattle.ripng_world.specs.Events.{event_of};
+ghost use Rattle.ripngd_trace.specs.Reading.{known_of};
+ghost use Rattle.ripngd_trace.specs.Records.{LeadsTo, known_as};
+ghost use Rattle.ripngd_trace.specs.Saying.{EventIsTold, StartIsTold, knows};
+ghost use Rattle.ripngd_trace.specs.Starting.{AreTold, TellsRouter};
+
+use crate::events::{
+    interface_records, moment_of, owned_by, router_of, sender_at, sent_since, update_of,
+};
+use crate::offers::offers_of;
+use crate::records::{EventRecord, Happened, RouterRecord, StartRecord, Timers};
+use crate::tables::{News, news_of, timers_in, timers_of};
+use ripng_world::{Event, Running};
+use ripngd_lab::Routes;
+use route_table::{Moment, RouteStore};
+use router_core::{Answer, Router};
+use std::alloc::{AllocError, Global};
+
+/// A router as a reader of the records knows it.
+#[derive(Drop)]
+pub struct KnownRouter {
+    pub table: Routes,
+    /// As the last record of it has them.
+    pub timers: Timers,
+}
+
+/// The line that a script is at, and each router as a reader of the records knows it.
+#[derive(Drop)]
+pub struct Known {
+    pub alloc: Global,
+    /// The number of the line.
+    pub line: usize,
+    routers: Vec<KnownRouter>,
+}
+
+impl KnownRouter {
+    /// What a reader has to learn of the router. Then it is known.
+    fn learn(&mut self, alloc: Global, router: &Router<Routes>) -> Result<News, AllocError>
+        ensures listed { IfOk result (λ news. LeadsTo self.old.table news.routes.items news.gone.items router.now.table) }
+        ensures known { OnOk result (self.new ≡ known_as router.now) }
+    {
+        self.timers = timers_in(router);
+        news_of(alloc, &mut self.table, router.routes())
+    }
+}
+
+/// What a reader has to learn of one of the routers that are known. Then it is known, and all others are as they were.
+fn learn_of(
+    alloc: Global,
+    known: &mut [KnownRouter],
+    number: usize,
+    router: &Router<Routes>,
+) -> Result<News, AllocError>
+    ensures listed { IfOk result (λ news. IfSome (slice_get known.old number) (λ before. LeadsTo before.table news.routes.items news.gone.items router.now.table)) }
+    ensures known { OnOk result (known.new ≡ slice_set known.old number (known_as router.now)) }
+{
+    if number >= known.len() {
+        return Ok(News::none(alloc));
+    }
+    known[number].learn(alloc, router)
+}
+
+impl Known {
+    /// At no line yet, and of no router.
+    pub fn new(alloc: Global) -> Known
+        ensures { result.routers.items ≡ [] }
+    {
+        Known {
+            alloc,
+            line: 0,
+            routers: Vec::new(alloc),
+        }
+    }
+
+    /// A router that has started. It is known from now on.
+    fn router_record(
+        &mut self,
+        lab: &Running<Routes>,
+        number: usize,
+        router: &Router<Routes>,
+    ) -> Result<RouterRecord, AllocError>
+        ensures tells { IfOk result (λ r. slice_get lab.now.world.states number ≡ Some router.now → TellsRouter lab.now number r) }
+        ensures known { OnOk result (self.new.routers.items ≡ self.old.routers.items ++ known_as router.now ∷ []) }
+        ensures line { self.new.line ≡ self.old.line }
+    {
+        let table = Routes::empty(self.alloc);
+        let timers = timers_in(router);
+        let mut known = KnownRouter { table, timers };
+        let news = known.learn(self.alloc, router)?;
+        self.routers.push(known)?;
+        let config = router.config();
+        let interfaces = interface_records(self.alloc, lab, number, config)?;
+        let prefixes = owned_by(self.alloc, config)?;
+        Ok(RouterRecord {
+            quiet: config.is_quiet(),
+            interfaces,
+            prefixes,
+            timers: timers_in(router),
+            routes: news.routes,
+        })
+    }
+
+    /// All routers that have started. They are known from now on.
+    fn router_records(&mut self, lab: &Running<Routes>) -> Result<Vec<RouterRecord>, AllocError>
+        ensures tells { IfOk result (λ records. AreTold lab.now records.items) }
+        ensures known { OnOk result (self.new.routers.items ≡ self.old.routers.items ++ known_of lab.now.world) }
+        ensures line { self.new.line ≡ self.old.line }
+    {
+        let mut records = Vec::new(self.alloc);
+        while let Some(router) = lab.router(records.len()) {
+            let record = self.router_record(lab, records.len(), router)?;
+            records.push(record)?;
+        }
+        Ok(records)
+    }
+
+    /// The start of the routers.
+    ///
+    /// # Errors
+    /// Out of memory.
+    pub fn start_record<'e>(
+        &mut self,
+        lab: &'e Running<Routes>,
+        now: Moment,
+    ) -> Result<StartRecord<'e>, AllocError>
+        ensures { IfOk result (λ r. StartIsTold (knows self.old) lab.now now r (knows self.new)) }
+    {
+        let routers = self.router_records(lab)?;
+        let sent = sent_since(self.alloc, lab, 0)?;
+        Ok(StartRecord {
+            line: self.line,
+            now: now.ms(),
+            routers,
+            sent,
+        })
+    }
+
+    /// What a reader has to learn of a router. Then the router is known.
+    fn news_at(&mut self, lab: &Running<Routes>, router: usize) -> Result<News, AllocError>
+        ensures listed { IfOk result (λ news. IfSome (slice_get self.old.routers.items router) (λ before. IfSome (slice_get lab.now.world.states router) (λ state.
+            LeadsTo before.table news.routes.items news.gone.items state.table))) }
+        ensures known { OnOk result (IfSome (slice_get lab.now.world.states router) (λ state. self.new.routers.items ≡ slice_set self.old.routers.items router (known_as state))) }
+        ensures line { self.new.line ≡ self.old.line }
+    {
+        match lab.router(router) {
+            Some(moved) => learn_of(self.alloc, &mut self.routers, router, moved),
+            None => Ok(News::none(self.alloc)),
+        }
+    }
+
+    /// An event that was done; a forged Response comes as the datagram of an outside host.
+    ///
+    /// # Errors
+    /// Out of memory.
+    pub fn event_record<'e, 'b>(
+        &mut self,
+        lab: &'e Running<Routes>,
+        event: &'e Event<'b>,
+        is_forged: bool,
+        answer: &'e Answer,
+        first: usize,
+    ) -> Result<EventRecord<'e, 'b>, AllocError>
+        ensures { IfOk result (λ r. EventIsTold is_forged (knows self.old) (record { lab = lab.now; event = event_of event.entry.now; answer = answer.now; first = first }) r (knows self.new)) }
+    {
+        let router = router_of(event);
+        let offers = offers_of(self.alloc, lab, self.routers.as_slice(), event, answer)?;
+        let update = update_of(lab, self.routers.as_slice(), event);
+        let news = self.news_at(lab, router)?;
+        let sent = sent_since(self.alloc, lab, first)?;
+        Ok(EventRecord {
+            line: self.line,
+            router,
+            now: moment_of(event).ms(),
+            happened: Happened {
+                event,
+                is_forged,
+                sender: sender_at(lab, event),
+            },
+            answer,
+            offers,
+            update,
+            sent,
+            timers: timers_of(lab, router),
+            routes: news.routes,
+            gone: news.gone,
+        })
+    }
+}
