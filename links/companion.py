@@ -77,7 +77,7 @@ class Companion:
         await asyncio.wait([keeper, self.ending], return_when=asyncio.FIRST_COMPLETED)
         loop.remove_reader(watch.stdout)
         watch.kill()
-        await self.router.stop()
+        await self.router.stop("stop")
         await asyncio.wait([keeper])
         await self.send_rest()
         self.kernel.clear()

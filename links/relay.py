@@ -3,7 +3,6 @@
 import asyncio
 import collections
 import functools
-import re
 import time
 from dataclasses import dataclass, field
 from ipaddress import IPv6Address
@@ -13,10 +12,8 @@ from loopback import Inlet, Port
 from router import say, spawn
 from wire import GROUP, fault_of
 
-# Bytes of a link that wait until the router is ready, and seconds that they do; withdrawals in a datagram of 1,280 bytes.
-WAITING, WAITS, WITHDRAWALS = 1 << 21, 10, 61
-# A line of `ctl routes`.
-LEARNED = re.compile(r"(\S+)/(\d+) metric \d+ tag (\d+) via \S+ iface (\d+) from (\S+) live .*")
+# Bytes of a link that wait until the router is ready, and seconds that they do.
+WAITING, WAITS = 1 << 21, 10
 # A count.
 LOST = "lost on the way to the router"
 # Asks for a whole table (RFC 2080 section 2.4.1).
@@ -24,6 +21,8 @@ REQUEST = b"\1\1" + bytes(21) + b"\x10"
 # Seconds from one question to the next while nobody answers a link that has come up, whose neighbors may be slower; and
 # from one question to a neighbor to that to another, since neighbors may be made up.
 PATIENCE, APART = (0, 2, 3), 0.05
+# Seconds from one time to the next that the router is told that a link is down: what came before may still be on its way to it.
+DOWN = (0, 1)
 
 
 @dataclass
@@ -220,16 +219,8 @@ class Relay:
         self.said = lost
 
     async def withdraw(self):
-        """The link has no carrier: in its neighbors' stead the router is told metric 16 of each route through them."""
-        routes, _ = await self.router.tell("routes") if self.router.ready else ([], "")
-        lost = collections.defaultdict(list)
-        for found in filter(None, map(LEARNED.fullmatch, routes)):
-            prefix, length, tag, number, source = found.groups()
-            if int(number) == self.number:
-                entry = IPv6Address(prefix).packed + int(tag).to_bytes(2, "big") + bytes((int(length), 16))
-                lost[IPv6Address(source)].append(entry)
-        for source, entries in lost.items():
-            neighbor = self.neighbors.get(source)
-            for at in range(0, len(entries), WITHDRAWALS):
-                if neighbor and neighbor.known and not self.up:
-                    self.hand_over(neighbor, b"\2\1\0\0" + b"".join(entries[at : at + WITHDRAWALS]))
+        """The link has no carrier: the router withdraws what it learned there."""
+        for pause in DOWN:
+            await asyncio.sleep(pause)
+            if not self.up and self.number is not None and self.router.ready:
+                await self.router.tell(f"link down {self.number}")

@@ -88,14 +88,14 @@ class Router:
             say(f"{command}: {verdict}")
         return lines, verdict
 
-    def stop(self):
-        """Ends the process, as `ctl stop` does where it listens. From now on it is not ready."""
+    def stop(self, command="stop now"):
+        """Ends the process by that command, where it listens. From now on it is not ready."""
         was_ready, self.ready = self.ready, False
-        return self.end(self.process, was_ready)
+        return self.end(self.process, command if was_ready else None)
 
-    async def end(self, process, listens):
-        if listens:
-            await self.tell("stop")
+    async def end(self, process, command):
+        if command:
+            await self.tell(command)
         elif process and process.poll() is None:
             process.terminate()
         for _ in range(ENDS * 10):

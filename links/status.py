@@ -1,8 +1,10 @@
 """What the companion says of itself: `ripngd-links status` asks for it at a Unix socket in its folder."""
 
 import argparse
+import asyncio
 import json
 import os
+import re
 import socket
 import time
 from collections import Counter
@@ -11,8 +13,8 @@ from system import state_of
 from table import Fault
 
 SOCKET = "status"
-# Seconds that an answer may take.
-PATIENCE = 10
+# Seconds that an answer may take, and the router's part of it.
+PATIENCE, SOON = 10, 5
 
 
 def report(companion):
@@ -31,6 +33,52 @@ def report(companion):
     }
 
 
+# Lines of `ctl counts` and `ctl neighbors`: of what was refused, and of a neighbor. The words of others are in pairs.
+REFUSED = re.compile(r"(?:refused|noted) \d+ (\w+) (\d+)")
+NEIGHBOR = re.compile(r"(?:iface (\d+) from (\S+)|others) (arrivals .*)")
+
+
+def numbers(words):
+    """Pairs of a word and its number."""
+    words = words.removeprefix("lost ").split()
+    return {word: int(number) for word, number in zip(words[::2], words[1::2])}
+
+
+def of_router(lines):
+    """What the router says in these lines: in all, and by the interfaces and addresses of neighbors."""
+    whole, neighbors = {"refused": {}}, {}
+    now = whole
+    for line in lines:
+        if found := REFUSED.fullmatch(line):
+            now["refused"][found[1]] = int(found[2])
+        elif found := NEIGHBOR.fullmatch(line):
+            now = neighbors[found[1] and int(found[1]), found[2]] = numbers(found[3]) | {"refused": {}}
+        elif line == "log failed":
+            whole["log_failed"] = True
+        else:
+            words = numbers(line)
+            whole |= {f"lost_{word}": number for word, number in words.items()} if line.startswith("lost ") else words
+    return whole, neighbors
+
+
+async def said_by(router):
+    """The lines of `ctl counts` and `ctl neighbors`; none of a router that does not answer soon."""
+    try:
+        async with asyncio.timeout(SOON):
+            return (await router.tell("counts"))[0] + (await router.tell("neighbors"))[0] if router.ready else []
+    except TimeoutError:
+        return []
+
+
+def join(told, lines):
+    """Puts what the router says into a report."""
+    whole, neighbors = of_router(lines)
+    told["router"] |= whole
+    for link in told["links"]:
+        for one in link.get("neighbors", ()):
+            one |= neighbors.get((link["interface"], one["address"]), {})
+
+
 def of_relay(relay, routes):
     """What is known of a link on which RIPng is spoken. The number of an interface is the router's, or none."""
     now = time.monotonic()
@@ -45,6 +93,7 @@ def of_relay(relay, routes):
     ]
     return {
         "interface": relay.number,
+        "cost": relay.link.cost,
         "address": str(relay.device.link_local) if relay.up else None,
         "made_up_address": str(relay.made_up) if relay.up and relay.made_up else None,
         "neighbors": neighbors,
@@ -54,7 +103,10 @@ def of_relay(relay, routes):
 
 def lines(told):
     """A report as text, line by line."""
-    yield f"router is {'up' if told['router']['ready'] else 'not up'}, control socket {told['router']['control']}"
+    router = told["router"]
+    yield f"router is {'up' if router['ready'] else 'not up'}, control socket {router['control']}"
+    yield from (f"  {what.replace('_', ' ')} {number}" for what, number in router.items() if type(number) is int)
+    yield from (f"  refused {what} {number}" for what, number in router.get("refused", {}).items())
     kernel = told["kernel"]
     yield f"kernel has {kernel['routes']} routes, refused {len(kernel['refused'])}" if kernel["used"] else "kernel is left alone"
     yield from (f"  refused {prefix}" for prefix in kernel["refused"])
@@ -66,16 +118,20 @@ def lines(told):
             words.append(f"address {link['address']}")
             words += [f"to the router {link['made_up_address']}"] if link["made_up_address"] else []
             words += [f"interface {link['interface']}"] if link["interface"] is not None else []
+            words.append(f"cost {link['cost']}")
         yield ", ".join(words)
         for one in link.get("neighbors", ()):
             yield f"  neighbor {one['address']}, heard {one['heard_seconds_ago']:.0f} s ago, {one['routes']} routes"
+            yield from (f"    refused {what} {number}" for what, number in one.get("refused", {}).items())
         yield from (f"  {what} {number}" for what, number in link.get("counts", {}).items())
 
 
 async def answer(companion, _, writer):
     """A client is told all, and let go."""
     try:
-        writer.write(json.dumps(report(companion)).encode() + b"\n")
+        told = report(companion)
+        join(told, await said_by(companion.router))
+        writer.write(json.dumps(told).encode() + b"\n")
         await writer.drain()
     except OSError:  # it has gone
         pass

@@ -96,8 +96,7 @@ def a_router_is_told(case):
     refuses(east, "drop 2001:db8:1::/48", "35 NotOwned")
     refuses(east, "cost 0 16", "31 BadCost")
     refuses(east, "cost 1 5", "51 NoSuchInterface")
-    refuses(east, "cost 0", "52 NoSuchCommand")
-    refuses(east, "cost 0 +5", "52 NoSuchCommand")
+    refuses(east, "cost 0", "52 NoSuchCommand: cost INTERFACE COST")
     answers(east, "cost 0 5")
     answers(west, "gain 2001:db8:2::/48 7")
     east.logs("add 2001:db8:2::/48 metric 6 via fe80::f iface 0")
@@ -177,6 +176,39 @@ def a_router_is_stopped(case):
 
 
 @listed
+def a_router_is_stopped_now(case):
+    """It sends nothing more, where a stop sends its last update twice."""
+    for words, metrics in (("stop", [16, 16]), ("stop now", [])):
+        name = words.replace(" ", "_")
+        neighbor, port = case.neighbor(), case.port()
+        router = case.listening(name, interface(1, port, peer(2, neighbor.port)) + prefix(OWN, tag=9))
+        until("its first update", lambda: is_update(neighbor.receive()[0]))
+        neighbor.rest()
+        answers(router, words)
+        same("status", router.finish(), 0)
+        same("the table", router.out(), OWN_TABLE)
+        same(f"the metrics that {words} tells", [told[-1] for told in neighbor.rest() if is_update(told)], metrics)
+
+
+def is_update(told):
+    return told[0] == 2
+
+
+@listed
+def a_router_looks_up_an_address(case):
+    """The longest match, of a prefix in another one; or none."""
+    neighbor, port = case.neighbor(), case.port()
+    router = case.listening("looked", interface(1, port, peer(2, neighbor.port)) + prefix(OWN))
+    neighbor.send(port, response(entry("2001:db8:1::/48", 3)))
+    until("it learns", lambda: "2001:db8:1::/48" in router.ctl("table").out)
+    answers(router, "lookup 2001:DB8::1", OWN_TABLE)
+    answers(router, "lookup 2001:db8:1::1", "2001:db8:1::/48 metric 4 via fe80::2 iface 0\n")
+    answers(router, "lookup 2001:db9::1", "no route\n")
+    answers(router, "gain ::/0 7")
+    answers(router, "lookup 2001:db9::1", "::/0 metric 1 direct\n")
+
+
+@listed
 def a_router_that_is_not_told_to_listens_nowhere(case):
     router = case.start("closed", interface(1, case.port()))
     links = [os.readlink(f"/proc/{router.process.pid}/fd/{name}") for name in os.listdir(f"/proc/{router.process.pid}/fd")]
@@ -239,7 +271,7 @@ def a_socket_that_others_may_write_to_is_refused(case):
     for mask in ("000", "002", "020", "075", "057"):
         same(f"the start under {mask}", started_under(case, mask), refused)
     for mask in ("022", "077", "033"):
-        same(f"the start under {mask}", started_under(case, mask), (0, "", "ripngd: running, 1 interfaces\n"))
+        same(f"the start under {mask}", started_under(case, mask), (0, "", "ripngd: running, 1 interface\n"))
 
 
 @listed

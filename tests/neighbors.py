@@ -6,9 +6,11 @@
 A line for each case that fails, and last how many passed. ROUTES=N tells how many routes large tables have, 20,000 where it does not."""
 
 import os
+import select
 import signal
 import subprocess
 import sys
+import threading
 import time
 
 sys.dont_write_bytecode = True
@@ -96,6 +98,89 @@ def a_router_goes_on_after_it_was_stopped(case):
     east.logs(f"add {WEST} metric 2 via fe80::f iface 0")
     same("what stop answers", east.ctl("stop"), (0, "", ""))
     same("status and standard error", (east.finish(), east.said()), (0, ""))
+
+
+class Cable(threading.Thread):
+    """Carries datagrams between the ports of two routers, whose peers have the ports of its two ends. So many of those to the second
+    are lost as it is told to lose."""
+
+    def __init__(self, case, first, second):
+        super().__init__(daemon=True)
+        self.ends, self.ports, self.loses = (case.neighbor(), case.neighbor()), (second, first), 0
+        self.start()
+
+    def run(self):
+        sockets = [end.socket for end in self.ends]
+        try:
+            while True:
+                for came in select.select(sockets, [], [])[0]:
+                    at = sockets.index(came)
+                    bytes = came.recv(65_536)
+                    if at == 0 and self.loses:
+                        self.loses -= 1
+                    else:
+                        self.ends[1 - at].send(self.ports[at], bytes)
+        except (OSError, ValueError):  # the case is over
+            pass
+
+
+def ring(case):
+    """Four routers in a ring, each with a prefix: router 3 is four hops from router 2, and one from each other neighbor. From 0 to 1
+    there is a cable that loses."""
+    ports = [(case.port(), case.port()) for _ in range(4)]
+    cable = Cable(case, ports[0][0], ports[1][1])
+    routers = []
+    for number, (after, before) in enumerate(ports):
+        next_port = cable.ends[0].port if number == 0 else ports[(number + 1) % 4][1]
+        last_port = cable.ends[1].port if number == 1 else ports[(number - 1) % 4][0]
+        text = interface(f"{number}:a", after, peer(f"{(number + 1) % 4}:b", next_port), cost=4 if number == 2 else 1)
+        text += interface(f"{number}:b", before, peer(f"{(number - 1) % 4}:a", last_port), cost=4 if number == 3 else 1)
+        name = f"r{number}"
+        routers.append(case.listening(name, text + prefix(f"2001:db8:{number}::/48"), "-R", f"{name}.log"))
+    return routers, cable
+
+
+def loses(router, lost):
+    """That a router has no route to that prefix a second later."""
+    until(f"the end of {lost} at {router.name}", lambda: f"del {lost}" in router.log().splitlines(), 1)
+
+
+@listed
+def a_stop_is_seen_at_the_neighbors_within_a_second(case):
+    """Also where the next datagram to one of them is lost. What they reached that way is then reached by the other one."""
+    routers, cable = ring(case)
+    routers[1].logs("add 2001:db8:3::/48 metric 3 via fe80::a iface 1")
+    routers[3].logs("add 2001:db8::/48 metric 2 via fe80::b iface 0")
+    cable.loses = 1
+    same("what stop answers", routers[0].ctl("stop"), (0, "", ""))
+    for router, lost in ((routers[1], "2001:db8:3::/48"), (routers[1], "2001:db8::/48"), (routers[3], "2001:db8::/48")):
+        loses(router, lost)
+    same("status and whether one was lost", (routers[0].finish(), cable.loses), (0, 0))
+    routers[1].logs("add 2001:db8:3::/48 metric 6 via fe80::2:b iface 0")
+
+
+@listed
+def a_stop_now_tells_nobody(case):
+    routers, _ = ring(case)
+    routers[3].logs("add 2001:db8::/48 metric 2 via fe80::b iface 0")
+    same("what it answers", routers[0].ctl("stop", "now"), (0, "", ""))
+    same("its status", routers[0].finish(), 0)
+    time.sleep(2)
+    same("whether a neighbor has lost its prefix", "del 2001:db8::/48" in routers[3].log(), False)
+
+
+@listed
+def a_link_that_is_said_to_be_down_ends_its_routes_alone(case):
+    """What is learned there is gone at once, here and at the neighbors; what is learned elsewhere stays, and so does what is owned."""
+    routers, _ = ring(case)
+    routers[3].logs("add 2001:db8:1::/48 metric 3 via fe80::b iface 0")
+    routers[0].logs("add 2001:db8:2::/48 metric 3 via fe80::1:b iface 0")
+    routers[1].signal(signal.SIGSTOP)
+    same("what it answers", routers[0].ctl("link", "down", "0"), (0, "", ""))
+    deleted = [line for line in routers[0].log().splitlines() if line.startswith("del ")]
+    same("what has gone", set(deleted), {"del 2001:db8:1::/48", "del 2001:db8:2::/48"})
+    until("the end of the route at a neighbor", lambda: "del 2001:db8:1::/48" in routers[3].log().splitlines(), SOON)
+    same("what it answers", routers[0].ctl("link", "down", "2"), (1, "refused 51 NoSuchInterface\n", ""))
 
 
 @listed

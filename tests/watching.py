@@ -18,7 +18,7 @@ from suite import Failed, same
 
 OWN = "2001:db8::/32"
 OWN_TABLE = f"{OWN} metric 1 direct\n"
-LOST_LOG = "ripngd: lost sends 0, lost steps 0, log failed\n"
+LOST_LOG = "ripngd: the log has failed, and ends\nripngd: lost sends 0, lost steps 0, log failed\n"
 FULL = 65_536
 """How many routes a router has at most."""
 
@@ -154,7 +154,7 @@ def a_failed_write_of_standard_error_ends_its_lines_and_nothing_else(case):
         return router
     whole = run(9_999)
     said, lengths = whole.err(), [length for _, _, length, _ in whole.calls("write2")]
-    begun = len("ripngd: running, 1 interfaces\n")
+    begun = len("ripngd: running, 1 interface\n")
     counts = said[said.index("arrivals "):]
     same("the lines", [line.split(" port 521 ")[1] for line in said[begun:-len(counts)].splitlines()],
          ["refused 10 HopLimit"] + [f"entry {number} noted 22 BadMetric" for number in range(3)])

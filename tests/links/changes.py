@@ -5,12 +5,14 @@ import subprocess
 import time
 
 from edges import is_router
-from least import REGULAR, least, settle
+from least import REGULAR, TRIGGERED, least, settle
 from spaces import Bird, Ours, same, until
 
 STAYS, GOES = "2001:db8:1::/48", "2001:db8:3::/48"
 # Seconds that the kernel keeps what no router tells any longer.
 STAY = 10
+# Seconds within which what is told at once is known, on a machine that does much else.
+AT_ONCE = 3
 
 
 def two_links(net, program):
@@ -81,6 +83,46 @@ def what_is_not_told_goes(net, program):
     same("the kernel's routes at first", set(ours.kernel()), {STAYS, GOES})
     until(2 * STAY, "it goes", lambda: set(ours.kernel()) == {STAYS})
     same("whether another has left", is_deleted(ours, STAYS), False)
+
+
+def a_link_goes_and_comes(net, program):
+    """A link without a carrier is no outage of another: the router goes on, and withdraws at once what it has learned there."""
+    routers = two_links(net, program)
+    ours, far = routers["o"], routers["c"]
+    before = routers_of(ours)
+    far.space.ip("link", "set", "to-o", "down")
+    until(AT_ONCE, "its route is withdrawn", lambda: GOES not in ours.table())
+    same("whether the other one stays", STAYS in ours.table(), True)
+    until(TRIGGERED, "the other neighbor knows", lambda: GOES not in routers["b"].table())
+    far.space.ip("link", "set", "to-o", "up")
+    until(REGULAR, "its route is back", lambda: GOES in ours.table() and GOES in routers["b"].table())
+    same("the router", routers_of(ours), before)
+    same("whether the other one has left", is_deleted(ours, STAYS), False)
+
+
+def a_last_update(net, program):
+    """A companion ends in a ring: at once its neighbors do not go through it, and then the other way round."""
+    spaces = {name: net.space(name) for name in "bop"}
+    order = list(spaces.values())
+    for one, other in zip(order, order[1:] + order[:1]):
+        net.cable(one, other)
+    owned = {"b": [STAYS], "o": ["2001:db8:2::/48"], "p": [GOES]}
+    cables = [("b", 1, "o", 1), ("o", 1, "p", 1), ("p", 4, "b", 4)]
+    routers = {
+        "b": Bird(spaces["b"], {"to-o": 1, "to-p": 4}, owned["b"]),
+        "o": Ours(spaces["o"], program, {"to-b": {}, "to-p": {}}, owned["o"]),
+        "p": Ours(spaces["p"], program, {"to-o": {}, "to-b": {"cost": 4}}, owned["p"]),
+    }
+    settle(routers, least(cables, owned))
+    same("its status", routers.pop("o").end(signal.SIGTERM), 0)
+
+    def through_it():
+        """Metrics of what the others reach through it alone, or at that cost."""
+        found = [("b", GOES, 3), ("b", owned["o"][0], 2), ("p", STAYS, 3), ("p", owned["o"][0], 2)]
+        return [(name, prefix) for name, prefix, metric in found if routers[name].table().get(prefix) == metric]
+
+    until(AT_ONCE, lambda: f"nobody goes through it, but {through_it()}", lambda: not through_it())
+    settle(routers, least(cables[2:], {"b": owned["b"], "p": owned["p"]}))
 
 
 def routes_come_back(net, program):

@@ -62,6 +62,7 @@ pub(crate) const CTL: &str = "\
 The answer of the router is printed. The commands are
   routes                 print its routes, with their gateways and timers
   table                  print its forwarding table
+  lookup ADDRESS         print the longest match of an address in that table
   counts                 print what was received, sent, refused and lost
   neighbors              print what was received from each neighbor, and when
   cost INTERFACE COST    set the cost of an interface
@@ -71,7 +72,10 @@ The answer of the router is printed. The commands are
                          add a neighbor at that port of 127.0.0.1
   unpeer INTERFACE ADDRESS
                          remove a neighbor
-  stop                   exit as after its last turn; sends neighbors nothing
+  link down INTERFACE    withdraw what was learned on an interface
+  stop                   tell neighbors that its routes end, and exit as after
+                         its last turn
+  stop now               exit so, and tell nobody
 A command that is refused prints `refused NR NAME`, with exit status 1. If no
 router listens at PATH, the exit status is 3.
 

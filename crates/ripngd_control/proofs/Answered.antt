@@ -1,16 +1,21 @@
 -- What follows from how a write or a test ended.
-use Rattle.std.proofs.Common.{◌≡◌, ◌++◌, ℕ, Bool, true, false, List, [], ◌∷◌, Option, Some, Result, Ok, Err, refl, subst, sym}
+use Rattle.std.proofs.Common.{◌≡◌, ◌++◌, ℕ, Bool, true, false, List, [], ◌∷◌, Option, Some, Result, Ok, Err, refl, subst, sym, inl, inr}
 use Rattle.std.specs.Prelude.{◌==◌, IsOk, OnOk, codes, is_err}
-use Rattle.ripngd_engine.specs.Seen.{Seen}
-use Rattle.ripngd_control.specs.Answers.{AnswersCommand, GainsLines}
+use Rattle.ripngd_engine.specs.Changing.{ShutsDownOnce, StepAnswer}
+use Rattle.ripngd_engine.specs.Seen.{Acts, Seen}
+use Rattle.ripngd_engine.specs.declared.report.ChangeFault.{ChangeFault}
+use Rattle.ripngd_engine.specs.declared.report.ChangeFault.TheVariants.{Refused, Ended}
+use Rattle.ripngd_control.specs.Answers.{AnswersCommand, GainsLines, ObeysStop, step_reply}
 use Rattle.ripngd_control.specs.Printed.{counts_text, losses_text, neighbors_text, reply_line, row_lines, tally_text}
 use Rattle.ripngd_control.specs.declared.answering.Rest.{Rest}
+use Rattle.ripngd_control.specs.declared.answering.RunState.{RunState}
 use Rattle.ripngd_control.specs.declared.command.Command.{Command}
 use Rattle.ripngd_control.specs.declared.command.Command.TheVariants as commands
 use Rattle.ripngd_control.specs.declared.counts.Counts.{Counts}
 use Rattle.ripngd_control.specs.declared.counts.Losses.{Losses}
 use Rattle.ripngd_control.specs.declared.neighbors.Neighbor.{Neighbor}
 use Rattle.ripngd_control.specs.declared.neighbors.Neighbors.{Neighbors}
+use Rattle.ripngd_control.specs.declared.reply.Reply.{Reply}
 use Rattle.ripngd_control.specs.declared.reply.Reply.TheVariants as replies
 
 pub was_ok : {X E P : Type 0} (r : Result X E) → IsOk r → OnOk r P → P
@@ -38,3 +43,17 @@ module _ (command : Option Command) (counts : Counts) (heard : Neighbors) (lost 
   pub answers_neighbors : command ≡ Some commands.Neighbors → GainsLines old rest new (neighbors_text heard ++ reply_line replies.Done)
       → AnswersCommand command counts heard lost a old rest a new
   answers_neighbors is said = subst (λ c. AnswersCommand c counts heard lost a old rest a new) (sym is) (refl, said)
+
+-- ---- steps and their replies
+-- a router shut down, and then did what the second time answers
+pub stops_again : (a m b : Seen) (r : Result (Unit {0}) ChangeFault) (done : RunState) (out : Reply × RunState) → out ≡ step_reply r done
+    → (m.machine.ended ≡ false) × Acts ShutsDownOnce a m → StepAnswer ShutsDownOnce m r b → ObeysStop a out.0 b
+stops_again a m b (Ok u) done out is first again = subst (λ (o : Reply × RunState). ObeysStop a o.0 b) (sym is) (m, first, again)
+stops_again a m b (Err (Refused why)) done out is first again = subst (λ (o : Reply × RunState). ObeysStop a o.0 b) (sym is) (inr (m, first, again))
+stops_again a m b (Err Ended) done out is first again = subst (λ (o : Reply × RunState). ObeysStop a o.0 b) (sym is) (inr (m, first, again))
+
+-- the first time was refused memory
+pub stops_at_once : (a b : Seen) (e : ChangeFault) (done : RunState) (out : Reply × RunState) → out ≡ step_reply (Err e) done
+    → StepAnswer ShutsDownOnce a (Err e) b → ObeysStop a out.0 b
+stops_at_once a b (Refused why) done out is step = subst (λ (o : Reply × RunState). ObeysStop a o.0 b) (sym is) (inl step)
+stops_at_once a b Ended done out is step = subst (λ (o : Reply × RunState). ObeysStop a o.0 b) (sym is) (inl step)

@@ -103,7 +103,7 @@ shows_more table now after end count old new h many = record {
 }
 
 -- ---- entries
-at_prefix_again : (es : List (Prefix6 × Forward)) → each at_prefix (each fib_entry es) ≡ es
+pub at_prefix_again : (es : List (Prefix6 × Forward)) → each at_prefix (each fib_entry es) ≡ es
 at_prefix_again [] = refl
 at_prefix_again (e ∷ es) = ap (λ l. e ∷ l) (at_prefix_again es)
 

@@ -3,3 +3,4 @@ mod Places
 mod Following
 mod Answered
 mod Heeding
+mod LookingUp

@@ -1,21 +1,28 @@
 -- What a router does for a command and answers to it (the format is this project's choice).
-use Rattle.std.specs.Prelude.{ℕ, ◌≡◌, ◌≢◌, ◌≤◌, ◌-◌, false, true, List, [], ◌∷◌, ◌++◌, Option, None, Some, drop, length, option_map, slice_get, take}
+use Rattle.std.specs.Prelude.{ℕ, ◌≡◌, ◌≢◌, ◌≤◌, ◌-◌, ◌⊎◌, false, true, List, [], ◌∷◌, ◌++◌, Option, None, Some, Result, Ok, Err, drop, length, option_map, slice_get, take}
+use Rattle.std.specs.FinMap as map_of
 use Rattle.std.specs.Io.KnownBytes.{Appends}
 use Rattle.prefix6.specs.Prefix.{Prefix6}
-use Rattle.fib.specs.Entries.{AreAllPast, AreUpTo, listed}
-use Rattle.fib.specs.Forwarding.{Forwarding}
+use Rattle.fib.specs.Entries.{AreAllPast, AreUpTo, Entry, listed}
+use Rattle.fib.specs.Forwarding.{Forwarding, IsMatch}
 use Rattle.fib.specs.declared.change.Hop.{Hop}
 use Rattle.route_table.specs.Route.{RouteValue}
 use Rattle.route_table.specs.Table.{Table, first_past}
 use Rattle.router_core.specs.Machine.{State}
 use Rattle.router_core.specs.Reconfiguring.{NamesInterface}
 use Rattle.router_core.specs.declared.reconfiguring.Change.{Change}
-use Rattle.ripngd_engine.specs.Changing.{ReconfiguresNothing, ReconfiguresOnce, why_refused}
+use Rattle.router_core.specs.declared.reconfiguring.ReconfigureRefused.TheVariants as refusals
+use Rattle.ripngd_engine.specs.Changing.{LinkGoesDownOnce, ReconfiguresNothing, ReconfiguresOnce, ShutsDownOnce, why_refused}
 use Rattle.ripngd_engine.specs.Log.{entry_lines}
+use Rattle.ripngd_engine.specs.Run.{Machine, Trace}
 use Rattle.ripngd_engine.specs.Seen.{Acts, Seen}
-use Rattle.ripngd_control.specs.Printed.{counts_text, losses_text, neighbors_text, reply_line, status_lines}
+use Rattle.ripngd_engine.specs.declared.report.ChangeFault.{ChangeFault}
+use Rattle.ripngd_engine.specs.declared.report.ChangeFault.TheVariants.{Refused, Ended}
+use Rattle.ripngd_control.specs.Printed.{counts_text, lookup_text, losses_text, neighbors_text, reply_line, status_lines}
 use Rattle.ripngd_control.specs.declared.answering.Rest.{Rest}
 use Rattle.ripngd_control.specs.declared.answering.Rest.TheVariants as rests
+use Rattle.ripngd_control.specs.declared.answering.RunState.{RunState}
+use Rattle.ripngd_control.specs.declared.answering.RunState.TheVariants as states
 use Rattle.ripngd_control.specs.declared.command.Command.{Command}
 use Rattle.ripngd_control.specs.declared.command.Command.TheVariants as commands
 use Rattle.ripngd_control.specs.declared.counts.Counts.{Counts}
@@ -58,6 +65,18 @@ pub record ShowsEntries (table : Forwarding) (after more : Option Prefix6) (old 
   pub more_is : more ≡ last_prefix (take 256 (drop begin (listed table)))
   pub lines : Appends old new (entry_lines (take 256 (drop begin (listed table))))
 
+-- ---- the longest match
+-- this is the entry of the longest prefix of a table that contains the address
+pub record IsLongestEntry (table : Forwarding) (addr : ℕ) (e : Entry) : Type 0 where
+  pub matches : IsMatch table addr e.0
+  pub longest : (p : Prefix6) → IsMatch table addr p → p.len ≤ e.0.len
+  pub stands : map_of.get table e.0 ≡ Some (record { hop = e.1; metric = e.2 })
+
+-- it is that entry; or no prefix of the table contains the address
+abbrev pub IsLookedUp : Forwarding → ℕ → Option Entry → Type 0
+IsLookedUp table addr (Some e) = IsLongestEntry table addr e
+IsLookedUp table addr None = (p : Prefix6) → ¬ (IsMatch table addr p)
+
 -- ---- what is done for a command, and answered at once
 -- what a change did to an engine, by what is replied
 abbrev pub ObeysChange : Change → Seen → Reply → Seen → Type 0
@@ -68,11 +87,47 @@ ObeysChange c a (replies.LinkRefused why) b = ⊥
 ObeysChange c a replies.NoSuchCommand b = ⊥
 ObeysChange c a replies.Ended b = (b.machine.ended ≡ true) × Acts (ReconfiguresOnce c) a b
 
+-- what is replied to a step, and whether the router goes on, where `done` says so of one that was done or refused
+abbrev pub step_reply : Result (Unit {0}) ChangeFault → RunState → Reply × RunState
+step_reply (Ok u) done = (replies.Done, done)
+step_reply (Err (Refused why)) done = (replies.Refused why, done)
+step_reply (Err Ended) done = (replies.Ended, states.Ended)
+
+-- what a step did to an engine, by what is replied: all of it, or memory was refused for it and only the clock was read
+abbrev pub ObeysStep : (Machine → Trace → Machine → Type 0) → Seen → Reply → Seen → Type 0
+ObeysStep Does a replies.Done b = (b.machine.ended ≡ false) × Acts Does a b
+ObeysStep Does a (replies.Refused why) b = (b.machine.ended ≡ false) × (why ≡ refusals.OutOfMemory) × Acts ReconfiguresNothing a b
+ObeysStep Does a replies.NoSuchInterface b = ⊥
+ObeysStep Does a (replies.LinkRefused why) b = ⊥
+ObeysStep Does a replies.NoSuchCommand b = ⊥
+ObeysStep Does a replies.Ended b = (b.machine.ended ≡ true) × Acts Does a b
+
+-- a router shut down, and once more in case a datagram is lost; where the second was refused memory, the first was not
+abbrev pub ShutsDownAgain : Seen → Reply → Seen → Type 0
+ShutsDownAgain a reply b = (m : Seen) × ObeysStep ShutsDownOnce a replies.Done m × ObeysStep ShutsDownOnce m reply b
+
+-- what `stop` did to an engine, by what is replied: its last update was handed to the link, twice
+abbrev pub ObeysStop : Seen → Reply → Seen → Type 0
+ObeysStop a replies.Done b = ShutsDownAgain a replies.Done b
+ObeysStop a reply b = ObeysStep ShutsDownOnce a reply b ⊎ ShutsDownAgain a reply b
+
+-- what `link down` did to an engine, by what is replied
+abbrev pub ObeysLinkDown : ℕ → Seen → Reply → Seen → Type 0
+ObeysLinkDown iface a replies.NoSuchInterface b = (b ≡ a) × (length a.machine.router.config.interfaces ≤ iface)
+ObeysLinkDown iface a reply b = ObeysStep (LinkGoesDownOnce iface) a reply b
+
+-- what a command did to an engine, by what is replied: only a change, a stop and a link that goes down do something to it
+abbrev pub Obeys : Command → Seen → Reply → Seen → Type 0
+Obeys (commands.Reconfigure c) a reply b = ObeysChange c a reply b
+Obeys commands.Stop a reply b = ObeysStop a reply b
+Obeys (commands.LinkDown iface) a reply b = ObeysLinkDown iface a reply b
+Obeys _ a reply b = b ≡ a
+
 -- the writer gained this and nothing is left to write, unless the writer failed
 abbrev pub GainsLines : Option (List ℕ) → Rest → Option (List ℕ) → List ℕ → Type 0
 GainsLines old rest new text = rest ≢ rests.Lost → (rest ≡ rests.Nothing) × Appends old new text
 
--- what was done and written for a command, or for a line that is no command: only a change changes the router
+-- what was done and written for a command, or for a line that is no command
 abbrev pub AnswersCommand : Option Command → Counts → Neighbors → Losses → Seen → Option (List ℕ) → Rest → Seen → Option (List ℕ) → Type 0
 AnswersCommand None counts heard lost a old rest b new = (b ≡ a) × GainsLines old rest new (reply_line replies.NoSuchCommand)
 AnswersCommand (Some commands.Routes) counts heard lost a old rest b new = (b ≡ a) × (rest ≡ rests.Routes None) × (new ≡ old)
@@ -80,10 +135,11 @@ AnswersCommand (Some commands.Table) counts heard lost a old rest b new = (b ≡
 AnswersCommand (Some commands.Counts) counts heard lost a old rest b new =
     (b ≡ a) × GainsLines old rest new (counts_text counts ++ (10 ∷ (losses_text lost ++ (10 ∷ reply_line replies.Done))))
 AnswersCommand (Some commands.Neighbors) counts heard lost a old rest b new = (b ≡ a) × GainsLines old rest new (neighbors_text heard ++ reply_line replies.Done)
-AnswersCommand (Some commands.Stop) counts heard lost a old rest b new = (b ≡ a) × GainsLines old rest new (reply_line replies.Done)
-AnswersCommand (Some (commands.Reconfigure c)) counts heard lost a old rest b new =
-    (reply : Reply) × ObeysChange c a reply b × GainsLines old rest new (reply_line reply)
-AnswersCommand (Some (commands.Link c)) counts heard lost a old rest b new = (b ≡ a) × (reply : Reply) × GainsLines old rest new (reply_line reply)
+AnswersCommand (Some (commands.Lookup destination)) counts heard lost a old rest b new = (b ≡ a)
+    × (found : Option Entry) × IsLookedUp a.machine.fib destination.0 found × GainsLines old rest new (lookup_text found ++ (10 ∷ reply_line replies.Done))
+AnswersCommand (Some commands.StopNow) counts heard lost a old rest b new = (b ≡ a) × GainsLines old rest new (reply_line replies.Done)
+AnswersCommand (Some command) counts heard lost a old rest b new =
+    (reply : Reply) × Obeys command a reply b × GainsLines old rest new (reply_line reply)
 
 -- ---- what is answered in pieces
 -- there may be more after a prefix, and nothing more is written yet; or all was written, and then `ok`

@@ -1,13 +1,11 @@
 -- The clients of a running router: who may connect, what is received from one and sent to it, and what they make of the router.
 use Rattle.std.specs.Prelude.{◌≡◌, ◌≤◌, ◌/◌, ◌%◌, ◌⊎◌, ℕ, List, [], ◌∷◌, ◌++◌, Option, None, Some, length, take, drop}
 use Rattle.std.specs.Io.KnownBytes.{Appends, Consumes}
-use Rattle.router_core.specs.declared.reconfiguring.Change.{Change}
 use Rattle.ripngd_engine.specs.Log.{HasNoLineFeed}
 use Rattle.ripngd_engine.specs.Seen.{Seen}
-use Rattle.ripngd_control.specs.Answers.{ObeysChange}
+use Rattle.ripngd_control.specs.Answers.{Obeys}
 use Rattle.ripngd_control.specs.Commands.{control_text}
 use Rattle.ripngd_control.specs.declared.command.Command.{Command}
-use Rattle.ripngd_control.specs.declared.command.Command.TheVariants.{Reconfigure}
 use Rattle.ripngd_control.specs.declared.reply.Reply.{Reply}
 
 -- whoever may write a socket's file may connect. Of its mode: neither its group nor others may
@@ -44,9 +42,9 @@ abbrev pub TakesIn : Option Command → List ℕ → List (List ℕ) → List (L
 TakesIn None bytes old new = new ≡ old
 TakesIn (Some c) bytes old new = BeginsWith (control_text c) bytes × (new ≡ old ++ control_text c ∷ [])
 
--- a router does what the line of a client commands: a change, or nothing changes
+-- a router does what the line of a client commands
 abbrev pub ObeysLine : List ℕ → Seen → Seen → Type 0
-ObeysLine line a b = (b ≡ a) ⊎ ((c : Change) × (reply : Reply) × (line ≡ control_text (Reconfigure c)) × ObeysChange c a reply b)
+ObeysLine line a b = (c : Command) × (reply : Reply) × (line ≡ control_text c) × Obeys c a reply b
 
 -- no line was taken in and the router is as it was, or one was, and was obeyed
 abbrev pub Heeds : List (List ℕ) → Seen → List (List ℕ) → Seen → Type 0

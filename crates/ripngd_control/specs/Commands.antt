@@ -11,9 +11,12 @@ use Rattle.ripngd_control.specs.declared.command.Command.TheVariants as commands
 abbrev pub control_text : Command → List ℕ
 control_text commands.Routes = codes "routes"
 control_text commands.Table = codes "table"
+control_text (commands.Lookup destination) = codes "lookup " ++ written_addr destination.0
 control_text commands.Counts = codes "counts"
 control_text commands.Neighbors = codes "neighbors"
 control_text commands.Stop = codes "stop"
+control_text commands.StopNow = codes "stop now"
+control_text (commands.LinkDown iface) = codes "link down " ++ decimal iface
 control_text (commands.Reconfigure (Cost iface cost)) = codes "cost " ++ (decimal iface ++ (codes " " ++ decimal cost))
 control_text (commands.Reconfigure (Own p tag)) = codes "gain " ++ (written_prefix p ++ (codes " " ++ decimal tag))
 control_text (commands.Reconfigure (Disown p)) = codes "drop " ++ written_prefix p

@@ -2,6 +2,7 @@
 use Rattle.std.specs.Prelude.{ℕ, ◌-◌, ◌==◌, List, [], ◌∷◌, ◌++◌, Option, None, Some, codes, decimal, flat_map, if◌then◌else◌, slice_index_or}
 use Rattle.prefix6.specs.Prefix.{Prefix6}
 use Rattle.prefix6.specs.Written.{written_addr, written_prefix}
+use Rattle.fib.specs.Entries.{Entry as FibEntry}
 use Rattle.ripng_wire.specs.declared.error.WireError.TheVariants.{Short, TooLong, Ragged, BadCommand, BadVersion, NotZero}
 use Rattle.route_table.specs.Route.{RouteValue}
 use Rattle.route_table.specs.declared.route.Clock.{Clock}
@@ -15,6 +16,7 @@ use Rattle.router_core.specs.declared.answer.Note.{Note}
 use Rattle.router_core.specs.declared.answer.NoteKind.TheVariants.{BadLength, BadPrefix, BadMetric, TableFull, NoMemory}
 use Rattle.router_core.specs.declared.arrival.Fault.{Fault}
 use Rattle.router_core.specs.declared.arrival.Fault.TheVariants.{Wire, NotRipngPort, NotLinkLocal, OwnAddress, HopLimit, EmptyRequest, BadSource}
+use Rattle.ripngd_engine.specs.Log.{route_text}
 use Rattle.ripngd_engine.specs.Observer.{LinkReport, Processed, Sent}
 use Rattle.ripngd_engine.specs.declared.observer.Arrived.{Arrived}
 use Rattle.ripngd_control.specs.declared.counts.Counts.{Counts}
@@ -112,6 +114,11 @@ losses_text l =
     ++ (codes " arrivals " ++ (decimal l.arrivals ++ (codes "\nstrangers " ++ (decimal l.strangers ++ (if l.report.log_failed then codes "\nlog failed" else []))))))))
 
 -- ---- answers
+-- the line of an entry of a forwarding table, or `no route`
+abbrev pub lookup_text : Option FibEntry → List ℕ
+lookup_text (Some e) = route_text e.0 e.1 e.2
+lookup_text None = codes "no route"
+
 -- `own`, or `via ADDR iface I from ADDR`
 abbrev pub origin_text : Origin → List ℕ
 origin_text Own = codes "own"

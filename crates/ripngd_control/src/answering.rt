@@ -1,14 +1,15 @@
 //! What a running router does for a command, and its answer: at once, or in pieces.
 
-ghost use Rattle.std.specs.Prelude.{◌≡◌, ◌≢◌, ◌↔◌, IsOk, IsTrue, Some, false};
+ghost use Rattle.std.specs.Prelude.{◌≡◌, ◌≢◌, ◌↔◌, ◌⊎◌, ◌++◌, ◌∷◌, IsOk, IsTrue, Some, false};
 ghost use Rattle.router_core.specs.Reconfiguring.{NamesInterface};
 ghost use Rattle.ripngd_engine.specs.Seen.{seen};
-ghost use Rattle.ripngd_control.specs.Answers.{AnswersCommand, Continues, GainsLines, ObeysChange};
-ghost use Rattle.ripngd_control.specs.Printed.{reply_line};
+ghost use Rattle.ripngd_control.specs.Answers.{AnswersCommand, Continues, GainsLines, ObeysChange, ObeysLinkDown, ObeysStop, step_reply};
+ghost use Rattle.ripngd_control.specs.Printed.{lookup_text, reply_line};
 ghost use Rattle.ripngd_control.specs.declared.command.PeerChange.{PeerChange};
 
 use crate::command::Command;
 use crate::counts::Losses;
+use crate::lookup::{Lookup, look_up};
 use crate::monitor::Monitor;
 use crate::pieces::{write_routes, write_table};
 use crate::reply::{Peering, Reply};
@@ -61,6 +62,13 @@ fn write_reply<W: Write>(reply: Reply, out: &mut W) -> Rest
     all_of(writeln!(out, "{reply}"))
 }
 
+/// Writes what was looked up.
+fn write_lookup<W: Write>(found: Lookup, out: &mut W) -> Rest
+    ensures { GainsLines (W.contents out.old) result (W.contents out.new) (lookup_text found.0 ++ (10 ∷ reply_line Reply.Done)) }
+{
+    all_of(writeln!(out, "{found}\nok"))
+}
+
 /// Whether the interface of a change of cost exists.
 fn names_interface(config: &RouterConfig, change: &Change) -> bool
     ensures { IsTrue result ↔ NamesInterface config.now change.now }
@@ -86,11 +94,54 @@ fn obey<S: RouteStore, L: Link, C: TimeSource, R: Rng + Drop, W: Write>(
     if !names_interface(engine.router().config(), &change) {
         return (Reply::NoSuchInterface, RunState::Running);
     }
-    match engine.reconfigure(change, log) {
-        Ok(()) => (Reply::Done, RunState::Running),
-        Err(ChangeFault::Refused(why)) => (Reply::Refused(why), RunState::Running),
+    step_reply(engine.reconfigure(change, log), RunState::Running)
+}
+
+/// The reply to a step of an engine, and whether the router goes on. `done` says so of a step that was done, or refused.
+fn step_reply(stepped: Result<(), ChangeFault>, done: RunState) -> (Reply, RunState)
+    ensures { result ≡ step_reply stepped done }
+{
+    match stepped {
+        Ok(()) => (Reply::Done, done),
+        Err(ChangeFault::Refused(why)) => (Reply::Refused(why), done),
         Err(ChangeFault::Ended) => (Reply::Ended, RunState::Ended),
     }
+}
+
+/// Shuts an engine's router down, twice: neighbors that lose a datagram of its last update receive the other one.
+fn shut_down<S: RouteStore, L: Link, C: TimeSource, R: Rng + Drop, W: Write>(
+    engine: &mut Engine<S, L, C, R>,
+    log: &mut W,
+) -> (Reply, RunState)
+    requires { engine.old.ended ≡ false }
+    ensures obeys { ObeysStop (seen R.stream W.contents engine.old log.old) result.0
+        (seen R.stream W.contents engine.new log.new) }
+    ensures goes_on { result.1 ≢ RunState.Ended → engine.new.ended ≡ false }
+    ensures ends { result.1 ≢ RunState.Running }
+{
+    let stepped = match engine.shutdown(log) {
+        Ok(()) => engine.shutdown(log),
+        Err(fault) => Err(fault),
+    };
+    step_reply(stepped, RunState::Stopped)
+}
+
+/// Takes the link of an interface down. Returns the reply, and whether the router goes on.
+fn take_down<S: RouteStore, L: Link, C: TimeSource, R: Rng + Drop, W: Write>(
+    engine: &mut Engine<S, L, C, R>,
+    iface: usize,
+    log: &mut W,
+) -> (Reply, RunState)
+    requires { engine.old.ended ≡ false }
+    ensures obeys { ObeysLinkDown iface (seen R.stream W.contents engine.old log.old) result.0
+        (seen R.stream W.contents engine.new log.new) }
+    ensures goes_on { result.1 ≢ RunState.Ended → engine.new.ended ≡ false }
+    ensures no_stop { result.1 ≢ RunState.Stopped }
+{
+    if iface >= engine.router().config().interfaces().len() {
+        return (Reply::NoSuchInterface, RunState::Running);
+    }
+    step_reply(engine.link_down(iface, log), RunState::Running)
 }
 
 /// Does a command, or begins to answer it, where `None` is a line that is no command. Returns the rest of the answer, and whether the
@@ -117,13 +168,18 @@ pub(crate) fn respond<
     ensures answers { AnswersCommand command monitor.now.counts monitor.now.neighbors lost (seen R.stream W.contents engine.old log.old)
         (O.contents out.old) result.0 (seen R.stream W.contents engine.new log.new) (O.contents out.new) }
     ensures goes_on { result.1 ≢ RunState.Ended → engine.new.ended ≡ false }
-    ensures stops { (result.1 ≡ RunState.Stopped) ↔ (command ≡ Some Command.Stop) }
+    ensures stops { result.1 ≡ RunState.Stopped → (command ≡ Some Command.Stop) ⊎ (command ≡ Some Command.StopNow) }
+    ensures ends { (command ≡ Some Command.Stop) ⊎ (command ≡ Some Command.StopNow) → result.1 ≢ RunState.Running }
     ensures links { (c : PeerChange) → command ≡ Some (Command.Link c)
         → GainsLines (O.contents out.old) result.0 (O.contents out.new) (reply_line (P.Peering.ended peering.new)) }
 {
     match command {
         Some(Command::Routes) => (Rest::Routes(None), RunState::Running),
         Some(Command::Table) => (Rest::Table(None), RunState::Running),
+        Some(Command::Lookup(destination)) => {
+            let found = look_up(engine.fib(), destination);
+            (write_lookup(found, out), RunState::Running)
+        }
         Some(Command::Counts) => {
             let counts = monitor.counts();
             (
@@ -135,7 +191,15 @@ pub(crate) fn respond<
             let neighbors = monitor.neighbors();
             (all_of(writeln!(out, "{neighbors}ok")), RunState::Running)
         }
-        Some(Command::Stop) => (write_reply(Reply::Done, out), RunState::Stopped),
+        Some(Command::Stop) => {
+            let (reply, state) = shut_down(engine, log);
+            (write_reply(reply, out), state)
+        }
+        Some(Command::StopNow) => (write_reply(Reply::Done, out), RunState::Stopped),
+        Some(Command::LinkDown(iface)) => {
+            let (reply, state) = take_down(engine, iface, log);
+            (write_reply(reply, out), state)
+        }
         Some(Command::Reconfigure(change)) => {
             let (reply, state) = obey(engine, change, log);
             (write_reply(reply, out), state)

@@ -1,6 +1,6 @@
 //! The clients of a running router. One at a time is served, for a bounded time between two turns.
 
-ghost use Rattle.std.specs.Prelude.{◌≡◌, ◌≢◌, ◌++◌, ◌∷◌, [], IfOk, IfSome, IsNone, None, codes, false};
+ghost use Rattle.std.specs.Prelude.{◌≡◌, ◌≢◌, ◌++◌, ◌∷◌, ◌⊎◌, [], IfOk, IfSome, IsNone, None, codes, false};
 ghost use Rattle.ripngd_engine.specs.Seen.{seen};
 ghost use Rattle.ripngd_control.specs.Clients.{Heeds, TakesIn};
 
@@ -122,7 +122,8 @@ impl Clients {
         ensures heeds { Heeds self.old.lines (seen R.stream W.contents engine.old log.old)
             self.new.lines (seen R.stream W.contents engine.new log.new) }
         ensures goes_on { result ≢ RunState.Ended → engine.new.ended ≡ false }
-        ensures stops { result ≡ RunState.Stopped → self.new.lines ≡ self.old.lines ++ codes "stop" ∷ [] }
+        ensures stops { result ≡ RunState.Stopped → (self.new.lines ≡ self.old.lines ++ codes "stop" ∷ [])
+            ⊎ (self.new.lines ≡ self.old.lines ++ codes "stop now" ∷ []) }
     {
         let Some(mut connection) = self.next_connection(rt) else {
             return RunState::Running;

@@ -25,6 +25,10 @@ pub enum PeerChange {
     },
 }
 
+/// Where a packet goes.
+#[derive(Clone, Copy, Debug, PartialEq, Eq)]
+pub struct Destination(pub Addr6);
+
 /// A command to a running router.
 #[derive(Clone, Copy, Debug, PartialEq, Eq)]
 pub enum Command {
@@ -32,12 +36,18 @@ pub enum Command {
     Routes,
     /// `table`: its forwarding table.
     Table,
+    /// `lookup ADDRESS`: the longest match of an address in its forwarding table.
+    Lookup(Destination),
     /// `counts`: how many datagrams arrived, were sent, refused and lost.
     Counts,
     /// `neighbors`: what arrived from each sender.
     Neighbors,
-    /// `stop`: the router ends.
+    /// `stop`: the router tells its neighbors that its routes end, and ends.
     Stop,
+    /// `stop now`: the router ends, and tells nobody.
+    StopNow,
+    /// `link down INTERFACE`: the link of an interface is down, so routes that were learned there are withdrawn.
+    LinkDown(usize),
     /// `cost INTERFACE COST`, `gain PREFIX TAG`, `drop PREFIX`: a change of its configuration.
     Reconfigure(Change),
     /// `peer INTERFACE ADDRESS PORT`, `unpeer INTERFACE ADDRESS`: a change of its peers.
@@ -52,9 +62,12 @@ impl Display for Command {
         match *self {
             Command::Routes => write!(f, "routes"),
             Command::Table => write!(f, "table"),
+            Command::Lookup(Destination(addr)) => write!(f, "lookup {addr}"),
             Command::Counts => write!(f, "counts"),
             Command::Neighbors => write!(f, "neighbors"),
             Command::Stop => write!(f, "stop"),
+            Command::StopNow => write!(f, "stop now"),
+            Command::LinkDown(iface) => write!(f, "link down {iface}"),
             Command::Reconfigure(Change::Cost { iface, cost }) => write!(f, "cost {iface} {cost}"),
             Command::Reconfigure(Change::Own { prefix, tag }) => write!(f, "gain {prefix} {tag}"),
             Command::Reconfigure(Change::Disown { prefix }) => write!(f, "drop {prefix}"),
@@ -92,9 +105,14 @@ fn unsigned_command_in(text: &str) -> Option<Command> {
     match (words.next()?, words.next(), words.next(), words.next()) {
         ("routes", None, None, None) => Some(Command::Routes),
         ("table", None, None, None) => Some(Command::Table),
+        ("lookup", Some(addr), None, None) => {
+            Some(Command::Lookup(Destination(parse_addr(addr).ok()?)))
+        }
         ("counts", None, None, None) => Some(Command::Counts),
         ("neighbors", None, None, None) => Some(Command::Neighbors),
         ("stop", None, None, None) => Some(Command::Stop),
+        ("stop", Some("now"), None, None) => Some(Command::StopNow),
+        ("link", Some("down"), Some(iface), None) => Some(Command::LinkDown(iface.parse().ok()?)),
         ("cost", Some(iface), Some(cost), None) => Some(Command::Reconfigure(Change::Cost {
             iface: iface.parse().ok()?,
             cost: cost.parse().ok()?,

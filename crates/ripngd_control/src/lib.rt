@@ -12,6 +12,7 @@ mod command;
 mod connection;
 mod control_socket;
 mod counts;
+mod lookup;
 mod monitor;
 mod neighbors;
 mod pieces;
@@ -20,7 +21,7 @@ mod reply;
 
 pub use answering::RunState;
 pub use clients::Clients;
-pub use command::{Command, PeerChange, command_in, read_command};
+pub use command::{Command, Destination, PeerChange, command_in, read_command};
 pub use control_socket::ListenFault;
 pub use counts::{Counts, Losses, counts_are_of_all_told};
 pub use monitor::Monitor;

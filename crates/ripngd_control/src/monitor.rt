@@ -100,6 +100,17 @@ impl<W> Monitor<W> {
     }
 }
 
+impl<W: Write> Monitor<W> {
+    /// Writes a line of its own, also if it is muted. A write that fails changes nothing.
+    pub fn say(&mut self, line: &str)
+        ensures counts { self.new.counts ≡ self.old.counts }
+        ensures neighbors { self.new.neighbors ≡ self.old.neighbors }
+        ensures muted { self.new.is_muted ≡ self.old.is_muted }
+    {
+        let _ = writeln!(self.out, "ripngd: {line}");
+    }
+}
+
 impl<W: Write> TrafficObserver for Monitor<W> {
     ghost takes = { Monitors W.contents };
 

@@ -3,6 +3,7 @@ pub mod Faults
 pub mod Said
 pub mod Losses
 pub mod Checked
+pub mod Warnings
 pub mod Tabled
 pub mod Written
 pub mod Run

@@ -14,7 +14,7 @@ use Rattle.ripngd_config.specs.declared.fault.ConfigFault.{ConfigFault}
 use Rattle.ripngd_config.specs.declared.fault.ConfigFault.TheVariants as config_faults
 use Rattle.ripngd_control.specs.Clients.{ClientsState, Heeds, ObeysLine}
 use Rattle.ripngd_control.specs.Commands.{control_text}
-use Rattle.ripngd_control.specs.declared.command.Command.TheVariants.{Stop}
+use Rattle.ripngd_control.specs.declared.command.Command.TheVariants.{Stop, StopNow}
 use Rattle.ripngd_engine.specs.Link.{Call}
 use Rattle.ripngd_engine.specs.Seen.{Ran, Seen, Started, untouched}
 use Rattle.ripngd_udp.specs.Peers.{OnLink, links_at}
@@ -81,9 +81,10 @@ pub record HasDone (seconds : Option ℕ) (count : ℕ) (lines : List (List ℕ)
   pub told : lines_in steps ≡ lines
   pub are_done : AreDone seconds steps a b
 
--- the last of these lines is `stop`
+-- the last of these lines is `stop` or `stop now`
 abbrev pub IsToldToStop : List (List ℕ) → Type 0
-IsToldToStop lines = (before : List (List ℕ)) × (lines ≡ before ++ control_text Stop ∷ [])
+IsToldToStop lines =
+    (before : List (List ℕ)) × ((lines ≡ before ++ control_text Stop ∷ []) ⊎ (lines ≡ before ++ control_text StopNow ∷ []))
 
 -- a router has made all its turns, or fewer, and then its seconds had passed, or a client had stopped it
 pub record Lasts (most : ℕ) (seconds : Option ℕ) (lines : List (List ℕ)) (a b : Seen) : Type 0 where

@@ -8,6 +8,7 @@ ghost use Rattle.ripngd_daemon.specs.Checked.{IsChecked, counts_line, peers_coun
 
 use crate::failure::Failure;
 use crate::files::FileSource;
+use crate::warnings::write_warnings;
 use ripngd_config::{Config, ConfigFault, read_config};
 use ripngd_engine::Peer;
 use ripngd_show::PrintFault;
@@ -26,7 +27,8 @@ pub fn check<W: Write>(alloc: Global, text: &[u8], out: &mut W) -> Result<bool, 
     check_named(alloc, "", text, out, &mut io::sink())
 }
 
-/// `check CONFIG`: whether the file is a valid configuration. A fault that has no path gets its place on `err`.
+/// `check CONFIG`: whether the file is a valid configuration. `err` gets the place of a fault that has no path, or warnings of what
+/// cannot work.
 ///
 /// # Errors
 /// `Read` with the file, `Output` or `OutOfMemory`.
@@ -44,7 +46,8 @@ pub fn check_file<'a, F: FileSource, O: Write, E: Write>(
     Ok(check_named(alloc, file, files.read(file)?.as_slice(), out, err)?)
 }
 
-/// The same for the text of a file. A fault that has no path gets its place on `err`; a failure of `err` changes nothing else.
+/// The same for the text of a file. `err` gets the place of a fault that has no path, or warnings of what cannot work; its failure
+/// changes nothing else.
 ///
 /// # Errors
 /// Those of [`check`].
@@ -59,7 +62,7 @@ fn check_named<W: Write, E: Write>(
     ensures out_of_memory { result ≡ Err PrintFault.OutOfMemory → out.new ≡ out.old }
 {
     match read_config(alloc, text, 0, false) {
-        Ok(config) => match write_counts(&config, out) {
+        Ok(config) => match write_accepted(&config, out, err) {
             Ok(()) => Ok(true),
             Err(_) => Err(PrintFault::Write),
         },
@@ -88,6 +91,18 @@ fn write_counts<W: Write>(config: &Config, out: &mut W) -> io::Result<()>
         out,
         "ok interfaces {interfaces} prefixes {prefixes} peers {peers}"
     )
+}
+
+/// The same, and then warnings of what cannot work to `err`, whose failure changes nothing else.
+///
+/// # Errors
+/// Of `out`.
+fn write_accepted<W: Write, E: Write>(config: &Config, out: &mut W, err: &mut E) -> io::Result<()>
+    ensures { OnOk result (Appends (W.contents out.old) (W.contents out.new) (counts_line config.now)) }
+{
+    write_counts(config, out)?;
+    let _ = write_warnings(config, err);
+    Ok(())
 }
 
 /// Writes why the configuration of a file is refused, and returns that it is not accepted. The place of the fault goes to `err`, whose

@@ -102,12 +102,28 @@ fn print_answer<'a, O: Write>(
     }
 }
 
-/// Prints that words are no command, as a router does for a line that is none.
-fn refuse<'a, O: Write>(out: &mut O) -> Result<bool, Failure<'a>>
+/// How a command of this name is written, or where to read it.
+fn usage_of(command: &str) -> &'static str {
+    match command {
+        "lookup" => "lookup ADDRESS",
+        "cost" => "cost INTERFACE COST",
+        "gain" => "gain PREFIX TAG",
+        "drop" => "drop PREFIX",
+        "peer" => "peer INTERFACE ADDRESS PORT",
+        "unpeer" => "unpeer INTERFACE ADDRESS",
+        "link" => "link down INTERFACE",
+        "stop" => "stop [now]",
+        "routes" | "table" | "counts" | "neighbors" => "no word follows",
+        _ => "see `ripngd help ctl`",
+    }
+}
+
+/// Prints that words are no command, as a router does for a line that is none, and how the command of that name is written.
+fn refuse<'a, O: Write>(command: &str, out: &mut O) -> Result<bool, Failure<'a>>
     ensures answered { IfOk result (λ accepted. (answer : List ℕ) × IsAnswerWritten answer accepted (O.contents out.old) (O.contents out.new)) }
     ensures failed { IfErr result (λ f. f ≡ failures.Output) }
 {
-    match writeln!(out, "{}", Reply::NoSuchCommand) {
+    match writeln!(out, "{}: {}", Reply::NoSuchCommand, usage_of(command)) {
         Ok(()) => Ok(false),
         Err(_) => Err(Failure::Output),
     }
@@ -133,7 +149,7 @@ fn ask<'a, R: Net + AllocGlobal, O: Write>(
 }
 
 /// `ctl PATH COMMAND..`: sends a command to the router that listens at a path, and prints its answer without the last line `ok`. Returns
-/// whether the router did it. Words that are no command are refused without asking the router.
+/// whether the router did it. Words that are no command are refused without asking the router, with what is missing.
 ///
 /// # Errors
 /// `Ask` with the path, if nobody listens there; `Answer` with it, if the answer is cut off, or nothing comes for 10 seconds; `Output`
@@ -151,6 +167,6 @@ pub fn ctl<'a, R: Net + AllocGlobal, O: Write>(
     };
     match command_in(words.as_str()) {
         Some(command) => ask(rt, question.socket, command, out),
-        None => refuse(out),
+        None => refuse(question.command, out),
     }
 }

@@ -16,6 +16,7 @@ mod run_command;
 mod run_log;
 mod table_command;
 mod turns;
+mod warnings;
 
 pub use check_command::{check, check_file};
 pub use ctl_command::ctl;

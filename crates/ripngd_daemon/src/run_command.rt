@@ -12,7 +12,8 @@ use crate::failure::Failure;
 use crate::files::FileSource;
 use crate::history::History;
 use crate::run_log::{RunLog, refuse_own_config};
-use crate::turns::{UdpEngine, show_turns};
+use crate::turns::{UdpEngine, show_turns, tell_of_log};
+use crate::warnings::write_echoes;
 use rand_pcg::Pcg32;
 use ripngd_command_line::Order;
 use ripngd_config::{Config, read_config};
@@ -42,9 +43,9 @@ struct Ready<'r, R: Clock> {
 /// - The log, if one is ordered, gets a line for each change of a route. It is emptied once all ports are bound; with `--append` it gets
 ///   a line `start` instead.
 /// - With a control path the router listens there once all ports are bound, and serves its clients between turns.
-/// - `err` gets a line for each interface that is its own peer, and `ripngd: running, N interfaces` once the log is begun. With
-///   `-d` it also gets a line for each datagram and entry that is refused, and the counts at the end. A failure of `err` changes
-///   nothing else.
+/// - `err` gets a line for each interface that is its own peer, `ripngd: running, N interfaces` once the log is begun, and a line when
+///   the log fails. With `-d` it also gets a line for each datagram and entry that is refused, and the counts at the end. A failure of
+///   `err` changes nothing else.
 /// - `history` has the past of the run, also if it ended early.
 ///
 /// # Errors
@@ -78,19 +79,6 @@ pub fn run<
         }
         Err(fault) => Ok(write_refusal(order.config, &fault, out, err)?),
     }
-}
-
-/// Writes a line for each interface that has a peer at its own port, and so receives what it sends.
-///
-/// # Errors
-/// Of the writer.
-fn write_echoes<E: Write>(config: &Config, err: &mut E) -> io::Result<()> {
-    for (iface, (place, peers)) in config.places.iter().zip(config.peers.iter()).enumerate() {
-        if peers.iter().any(|peer| peer.local_port == place.local_port) {
-            writeln!(err, "ripngd: interface {iface} is its own peer")?;
-        }
-    }
-    Ok(())
 }
 
 /// Listens for clients, if a path is ordered for them.
@@ -185,7 +173,8 @@ fn run_ready<'r, 'a, R: Files<File = File> + Print + Clock + Net + AllocGlobal, 
 {
     ready.log.begin(order)?;
     let interfaces = ready.router.interfaces().len();
-    let _ = writeln!(err, "ripngd: running, {interfaces} interfaces");
+    let plural = if interfaces == 1 { "" } else { "s" };
+    let _ = writeln!(err, "ripngd: running, {interfaces} interface{plural}");
     let mut counts = Counts::new();
     let outcome = run_monitored(rt, order, ready, history, out, err, &mut counts);
     let _ = write_counts(order, &counts, err);
@@ -227,6 +216,7 @@ fn run_monitored<'r, 'a, R: Clock + Net + Print + AllocGlobal, O: Write, E: Writ
         rng,
         &mut log,
     )?;
+    tell_of_log(&engine, false, &mut monitor);
     let outcome = show_turns(
         rt,
         order,

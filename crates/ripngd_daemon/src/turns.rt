@@ -82,6 +82,17 @@ fn serve_clients<R: Clock + AllocGlobal, W: Write, E: Write>(
     clients.serve(rt, engine, monitor, lost, &mut peering, log)
 }
 
+/// Writes a line where the log of a router has failed and had not before.
+pub(crate) fn tell_of_log<R: Clock, E: Write>(
+    engine: &UdpEngine<'_, R>,
+    had_failed: bool,
+    monitor: &mut Monitor<E>,
+) {
+    if engine.report().log_failed && !had_failed {
+        monitor.say("the log has failed, and ends");
+    }
+}
+
 /// Makes a turn, and serves the clients.
 fn turn<R: Clock + AllocGlobal, W: Write, E: Write>(
     rt: &R,
@@ -97,8 +108,11 @@ fn turn<R: Clock + AllocGlobal, W: Write, E: Write>(
     ensures stops { IfOk result (λ state. state ≡ RunState.Stopped → IsToldToStop (lines_of clients.new)) }
     ensures alone { clients.old ≡ None → clients.new ≡ None }
 {
+    let had_failed = engine.report().log_failed;
     step(engine, log, monitor)?;
-    Ok(serve_clients(rt, engine, clients, log, monitor))
+    let state = serve_clients(rt, engine, clients, log, monitor);
+    tell_of_log(engine, had_failed, monitor);
+    Ok(state)
 }
 
 /// Makes turns until as many were made as ordered, or the seconds have passed, or a client stops the router.

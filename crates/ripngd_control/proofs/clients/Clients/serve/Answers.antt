@@ -12,3 +12,11 @@ returns-then-send-clause-heeds g c =
           rw (w.engine-is, w.log-is, same, ← c.next_connection.ensures)
           (heeds _ _ _ _ _ _ _ _ _ _ _ _ w.in-Some-listen.ensures.taken w.respond-rest.ensures.answers)
     ]
+
+pub returns-else-send-clause-heeds : goal.returns-else-send-clause-heeds
+returns-else-send-clause-heeds g c = elim c.match-listen.branch [
+  | in-None w ↦ inl (search rules, search rules)
+  | in-Some-listen w ↦
+      rw (w.engine-is, w.log-is, ← c.next_connection.ensures)
+      (heeds _ _ _ _ _ _ _ _ _ _ _ _ w.in-Some-listen.ensures.taken w.respond-rest.ensures.answers)
+]
