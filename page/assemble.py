@@ -20,8 +20,9 @@ import sys
 PAGE = pathlib.Path(__file__).resolve().parent
 ROOT = PAGE.parent
 # The modules in order, of the page and of its worker.
-PAGE_MODULES = ["trace", "losses", "datagrams", "walks", "building", "losing", "lessons", "layout", "markup", "texts", "tables", "acting", "detail",
-                "quiz", "marks", "drawing", "showing", "keeping", "laboratory", "playing", "editor", "giving", "acts", "keys", "page"]
+PAGE_MODULES = ["trace", "losses", "datagrams", "packets", "walks", "building", "numbering", "losing", "removing", "lessons", "layout", "markup",
+                "texts", "filtering", "tables", "acting", "forwarding", "detail", "quiz", "marks", "drawing", "showing", "keeping", "laboratory", "playing",
+                "editor", "giving", "acts", "keys", "page"]
 WORKER_MODULES = ["module", "worker"]
 FACTS = ("sources", "code", "kit", "wasm-opt", "proof")
 MADE = {"proved": "It was compiled from the proved sources", "unproved": "It was compiled from the sources without their proof"}

@@ -21,6 +21,7 @@ import sys
 sys.dont_write_bytecode = True
 import browser
 import visits
+from page_class import ClassCases, example
 from suite import Failed, named, play, same
 
 ROOT = pathlib.Path(__file__).resolve().parent.parent
@@ -68,11 +69,8 @@ drop 1 350000 ::/0
 """
 
 
-def example(name):
-    return (ROOT / "examples" / f"{name}.lab").read_text()
-
-
 LINE = example("line")
+PLACE = "  // What a class does, of tests/page_class.js, comes here.\n"
 UPDATES = {"regular": "regular update", "triggered": "triggered update", "held": "a triggered update waits", None: "its timer, nothing is due"}
 
 
@@ -82,7 +80,7 @@ def ticked(record):
     return f"R{record['router']}: {UPDATES[record['update']]}" + (f", {sent} sent" if sent else "")
 
 
-class Page:
+class Page(ClassCases):
     """The page with tests/page.js in it, in browsers that are open, and the program that it is compared with."""
 
     def __init__(self, program, kind):
@@ -127,7 +125,8 @@ class Page:
             page = film.film(page, "own.lab", script)
         page, policies = re.subn(r'<meta http-equiv="Content-Security-Policy".*?>\n', "", page, flags=re.DOTALL)
         same("how many policies the page has", policies, 1)
-        driver = (ROOT / "tests/page.js").read_text()
+        driver, plays = ((ROOT / "tests" / name).read_text() for name in ("page.js", "page_class.js"))
+        driver = driver.replace(PLACE, plays, 1)
         path = os.path.join(folder, "played.html")
         pathlib.Path(path).write_text(page.replace("</body>", f"<script>\n{driver}</script>\n</body>"))
         with self.browser() as one:
@@ -266,74 +265,6 @@ class Page:
         same("the report", said, [f"round {due} | step {steps} of {steps}", "lose 10 | true", f"tick 1 0 0 | {branch} R1: regular update, 2 sent",
                                   "123", "true", "true", "3 | true"])
 
-    # ---- What a class does ----
-    def rounds(self, folder):
-        """A ring of five, by hand: in the first round R0 alone sends, two datagrams, and R1 and R4 learn; in the second R2 and R3. The start
-        has one step, the first round five ticks and two deliveries, the second five and six."""
-        same("the report", self.report(folder, "seeRounds"),
-             ["true | 2 | R1 R4 | 1 2 2", "1,4 | 0", "R2 R3 | 1 2 3 3 2", "R1 R4 | 1 2 2 | step 8 of 19", "R2 R3 | 1 2 3 3 2 | 10"])
-
-    def updates(self, folder):
-        """A line of three: after four Requests and one update of the first round R0 sends 5, and R1 6 and 7. A second triggered update within
-        the first second waits for its end."""
-        same("the report", self.report(folder, "seeUpdates"),
-             ["link 0 6 2001:db8::/32 at 16 (poisoned reverse) | link 1 7 2001:db8::/32 at 2",
-              "Line 17: R0: a triggered update waits | It has changes to advertise, but its triggered updates are delayed until 21.000 s."])
-
-    def losing(self, folder):
-        same("the report", self.report(folder, "loseAll"),
-             ["1 2 | 1 | The round was split into its datagrams, to lose one of them.", "0", "lose 4,hear | 1", "hear | 1 2", "true"])
-
-    def forging(self, folder):
-        """The metric of the forged Response is 1, and so 2 for R2, where 3 is right."""
-        believed = "R2 believes a forged Response of fe80::66, 2001:db8::/32 at 2 | 1 2 2"
-        same("the report", self.report(folder, "forge"),
-             ["R2 receives a datagram of an outside host, fe80::66 port 521 refused: sent to the group, it has to come with hop limit 255 "
-              "(10 HopLimit) | 1 2 3", believed, believed, "Not added: this could only come from a router of the link (5 NotAStranger)",
-              "2 of 3 metrics belong to a path that is or was there. 2 of 3 routes are shortest paths. After a forged update nothing is "
-              "guaranteed. | 1"])
-
-    def cutting(self, folder):
-        """R4 has heard R0 last at 120 s. Rounds come at 135 s and each 30 s later, so its route times out in the seventh. A link from R0 to R2
-        gives R2 2, a round before R3 hears of it."""
-        same("the report", self.report(folder, "cutLinks"),
-             ["This path goes over link 4, which was cut in line 21. R4 notices at 300 s, in 180 s, unless it hears of another path before. | 1 | "
-              "A packet for 2001:db8::/32 from here, now: R4 → R0, lost on link 4, which is cut.",
-              "rounds 7 135000 30000 | A route changed in round 7 from here, 3 minutes later. | 2", "true | 1 2 3 4 5",
-              "true | mend 5 | Link 5 to R2 comes up now. In the script it stands from the start, and is cut until here.", "1 2 2 4 5", "9,9"])
-
-    def lessons(self, folder):
-        script = example("lessons/11-ring-of-three").split("\n")
-        expects = [line for line in script if line.startswith("expect")]
-        first = 1 + script.index(expects[0])
-        checks = ",".join(f"✓ R{router}, 2001:db8::/32: expected {metric}, found {metric}" for router, metric in enumerate((4, 16, 16)))
-        same("the report", self.report(folder, "takeLessons"),
-             ["Lesson 1 of 26: How routes come | true | Question: two routers are on one link, and the first has a prefix. How does the second learn "
-              "of it, with which metric, and does the first then believe its own news?",
-              "02-one-hop-a-round.lab | Lesson 2 of 26: How routes come | false",
-              f"They poison each other's route, but each has advertised it to the owner, which now believes router 1. | 4 16 16 | {checks}",
-              f"{len(expects)} | {len(expects)}", f"0 | 1 | {first} | Line {first}: expected R1 2001:db8::/32 5 found 2"])
-
-    def blanks(self, folder):
-        same("the report", self.report(folder, "fillBlanks"),
-             ["2 | false", "A metric is 1 to 16, or none.", "✗ not 2", "✓ R1, 2001:db8::/32: expected 3, found 3 | 1 | own-exercise-02-line.lab | true",
-              "2 | step 5 of 11"])
-
-    def names(self, folder):
-        same("the report", self.report(folder, "nameRouters"),
-             ["1 + 1 = 2: 1 at the owner, and the cost of each hop. 1 hop to the owner, R1 → Berlin. | Berlin | Berlin", "0"])
-
-    def quiz(self, folder):
-        same("the report", self.report(folder, "playQuiz"), [" | ? ? ?", "1 2 3 | 2 of 3 right, 1 at the first guess.", "true | 1 2 3"])
-
-    def matrix(self, folder):
-        same("the report", self.report(folder, "seeMatrix"), ["12 | 1,2,3,4,5,6,·", "Why has R3 metric 4 for 2001:db8::/32?", "6"])
-
-    def letters(self, folder):
-        same("the report", self.report(folder, "useLetters"),
-             ["round 0", "cut 4 | link 4 of R0 and R4, cut", "mend 4", "Why has R1 metric 2 for 2001:db8::/32?", "true",
-              "Choose a router or a route first.", "true", "true", "02-one-hop-a-round.lab", "01-one-hop.lab"])
-
     # ---- Visits, and times ----
     def visit(self, folder, name):
         with self.browser() as one:
@@ -354,7 +285,7 @@ def cases_of(page):
     cases = [(f"film of {file.stem}", lambda folder, name=file.stem: page.example(folder, name)) for file in (ROOT / "examples").glob("*.lab")]
     cases += [(name.replace("_", " "), getattr(page, name)) for name in (
         "called_off", "acts", "keys", "undo", "drafts", "refused_clicks", "changes", "address", "least_costs", "counting", "edit", "faults",
-        "drawing_stays", "files", "rounds", "updates", "losing", "forging", "cutting", "lessons", "blanks", "names", "quiz", "matrix", "letters")]
+        "drawing_stays", "files", "rounds", "updates", "losing", "forging", "cutting", "lessons", "blanks", "names", "quiz", "matrix", "removing", "packets", "crowds", "letters")]
     cases += [(f"visit of a {name}", lambda folder, name=name: page.visit(folder, name)) for name in visits.NAMES]
     return cases + ([("quick", page.quick)] if page.kind == "chromium" else [])
 

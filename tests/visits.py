@@ -11,52 +11,13 @@ import json
 import sys
 
 import browser
+from newcomer import BY_WIDTH, Newcomer
+from seen import CUT_OFF, FIND, METRICS, NAMES_KEPT, ROUTE, SHOWN, SMALL, STILL, TEXT_KEPT, WIDE, same, text_of
 
-NAMES = ('newcomer', 'keyboard', 'sizes', 'phone', 'room', 'drafts', 'places')
-ROUTE = '2001:db8::/32'
-# The point to click of what is named so: a button or a field by its words, a thing of the drawing by its title.
-FIND = '''(name => {
-  const nameOf = element => element.getAttribute('aria-label') ?? element.querySelector(':scope > title')?.textContent
-    ?? element.labels?.[0]?.textContent ?? element.textContent;
-  const isNamed = element => nameOf(element).trim().replace(/\\s+/g, ' ') === name;
-  const found = [...document.querySelectorAll('button, select, input, svg g')].filter(isNamed).find(element => element.checkVisibility());
-  if (!found) return null;
-  found.scrollIntoView({ block: 'nearest' });
-  const line = found.querySelector('path.wire'), box = found.getBoundingClientRect();
-  const at = part => {
-    if (!line) return [box.x + part * box.width, box.y + box.height / 2];
-    const { x, y } = line.getPointAtLength(part * line.getTotalLength()).matrixTransform(line.getScreenCTM());
-    return [x, y];
-  };
-  return [.5, .4, .6, .3, .7].map(at).find(([x, y]) => found.contains(document.elementFromPoint(x, y))) ?? null;
-})'''
-METRICS = '''[...document.querySelectorAll('#tables > div')].map(table => table.querySelector('td.metric')?.textContent ?? '-').join(' ')'''
-STILL = 'document.getElementById("drawing").getAttribute("aria-busy") !== "true"'
-# The drafts that the browser keeps, and the text of one.
-NAMES_KEPT = 'Object.keys(localStorage).filter(key => key.startsWith("ripngd draft ")).map(key => key.split(" ")[3]).sort().join()'
-TEXT_KEPT = '''(name => JSON.parse(localStorage.getItem(Object.keys(localStorage).find(key => key.endsWith(` ${name}`)))).text)'''
+NAMES = ('newcomer', 'keyboard', 'sizes', 'phone', 'room', 'drafts', 'undone', 'places', *BY_WIDTH)
 
 
-# What is wider than its place, as a window and as a cell of a table; what a finger would not hit, below 24 pixels.
-WIDE = '''[...document.querySelectorAll('#tables td:first-child .link')].filter(text => text.scrollWidth > text.clientWidth + 1)
-  .map(text => text.textContent).concat(document.documentElement.scrollWidth > innerWidth ? ['the page'] : []).join()'''
-SMALL = '''[...document.querySelectorAll('button, select, input, [role=button]:not(.link-line)')].filter(target => target.checkVisibility()).filter(target => {
-  const { width, height } = target.getBoundingClientRect();
-  return width < 23.9 || height < 23.9 && target.type !== 'range';
-}).map(target => target.getAttribute('aria-label') ?? target.textContent).join()'''
-SHOWN = '''['header button', '#left', '#acts', '#tables table', '#drawing svg'].filter(words => document.querySelector(words).checkVisibility()).join()'''
-
-
-def text_of(selector):
-    return f'(document.querySelector({json.dumps(selector)})?.textContent ?? "").trim().replace(/\\s+/g, " ")'
-
-
-def same(what, given, wanted):
-    if given != wanted:
-        raise AssertionError(f'{what} is {given!r} and not {wanted!r}')
-
-
-class Visit:
+class Visit(Newcomer):
     def __init__(self, page, url):
         self.page, self.url = page, url
         self.open(url)
@@ -81,13 +42,18 @@ class Visit:
         """Until what was run has been played."""
         self.comes('the page is still', STILL)
 
+    def happens(self, act, then=lambda: None):
+        """An act that adds steps, until they have been played; or a later act ends that."""
+        steps = self.page.value('Number(document.getElementById("slider").max)')
+        act()
+        self.comes('steps are added', f'Number(document.getElementById("slider").max) > {steps}')
+        then()
+        self.still()
+
     def rounds(self, metrics):
         """Twice five rounds, 300 seconds, longer than any timeout; and what the routers hold then."""
         for _ in range(2):
-            steps = self.page.value('Number(document.getElementById("slider").max)')
-            self.click('five rounds')
-            self.comes('five rounds happen', f'Number(document.getElementById("slider").max) > {steps}')
-            self.still()
+            self.happens(lambda: self.click('five rounds'))
         self.comes(f'the metrics are {metrics}', f'{METRICS} === {json.dumps(metrics)}')
 
     # ---- The visits ----
@@ -109,15 +75,15 @@ class Visit:
         self.rounds('1 2 3 3 2')
         self.outage('link 4 of R0 and R4', 'cut the link', '#drawing .wire.cut', '1 2 3 4 5')
 
-    def recorded(self):
+    def recorded(self, export=None, to_last=None):
         """What is sent away is opened, and has the same end."""
-        self.click('export recording')
+        (export or (lambda: self.click('export recording')))()
         film = self.page.downloaded('ring-5.html')
         where = self.read('#where')
         self.open(f'file://{film}')
         steps = where[where.index(' of '):where.index(',') + 1]
         self.comes('the film has its steps', f'{text_of("#where")}.includes({json.dumps(steps)})')
-        self.click('last')
+        (to_last or (lambda: self.click('last')))()
         self.comes('the film is at its last step', f'{text_of("#where")} === {json.dumps(where)}')
 
     def phone(self):
@@ -220,6 +186,33 @@ class Visit:
         self.reload()
         same('the first tab', value(script) == own, True)
 
+    def undone(self):
+        """Undo comes back to the step that was shown before the act, over a reload too, and redo to the step that undo left."""
+        self.click('make')
+        self.comes('there is a ring of five', 'document.querySelectorAll("#drawing .router").length === 5')
+        for _ in range(2):
+            self.happens(lambda: self.click('round'))
+        self.click('first')
+        for _ in range(3):
+            self.page.press('ArrowRight')
+        before = self.read('#where')
+        same('the step', before.split(' of ')[0], 'step 4')
+        self.happens(lambda: self.click('round'))
+        after = self.read('#where')
+        same('whether the act went on to its end', after == before, False)
+        for _ in range(2):
+            self.page.value('history.replaceState(null, "", "#step=1")')
+            self.reload()
+            same('the step after a reload', self.read('#where').split(' of ')[0], 'step 1')
+            self.page.press('End')
+            same('the last step', self.read('#where'), after)
+            self.click('undo')
+            self.comes(f'the step is {before!r} again', f'{text_of("#where")} === {json.dumps(before)}')
+            self.still()
+            self.click('redo')
+            self.comes(f'the step is {after!r} again', f'{text_of("#where")} === {json.dumps(after)}')
+            self.still()
+
     def reload(self):
         self.open(self.page.value('location.href'))
 
@@ -306,9 +299,13 @@ class Visit:
     def sizes(self):
         """Nothing is cut off on narrow windows, steps are at hand beside the tables, and targets are large enough."""
         self.page.value('document.getElementById("last").click()')
-        for width, height in ((360, 700), (500, 900), (900, 900), (1400, 900)):
+        for width, height in ((360, 700), (500, 900), (900, 900), (1400, 900), (1920, 1080)):
             self.page.size(width, height)
             same(f'what is too wide at {width}', self.page.value(WIDE), '')
+            same(f'what is cut off in lists at {width}', self.page.value(CUT_OFF) if width > 500 else '', '')
+            if width >= 1400:
+                head = self.page.value('document.querySelector("header").getBoundingClientRect().height')
+                same(f'whether the head, {head} pixels high, has one row at {width}', head < 50, True)
             self.page.value('document.getElementById("tables").scrollIntoView()')
             box = self.page.value('document.getElementById("step").getBoundingClientRect().top')
             same(f'whether one can step beside the tables at {width}', 0 <= box < height, True)
@@ -335,7 +332,11 @@ class Visit:
 
 
 def visit(page, url, name):
-    getattr(Visit(page, url), name)()
+    way, _, width = name.partition(' at ')
+    if width:
+        Visit(page, url).ring(int(width), way)
+    else:
+        getattr(Visit(page, url), name)()
 
 
 def main(kind, name, url):

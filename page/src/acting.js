@@ -1,5 +1,5 @@
 // What can be done by clicks with what was chosen: a router, a link at one end, a datagram. Each act is lines of the script.
-import { hasCome, nameOf, onTheirWay, otherEnds } from './trace.js';
+import { hasCome, nameOf, onTheirWay, otherEnds, prefixInView } from './trace.js';
 import { decode } from './datagrams.js';
 import { plural, seconds } from './texts.js';
 import { titleOf } from './tables.js';
@@ -7,9 +7,11 @@ import { html } from './markup.js';
 
 // The step behind which new lines go.
 export const stepOfNew = ({ place, trace, step }) => trace.steps.at(place === 'end' ? -1 : step);
-const choices = buttons => buttons ? html`<div class="choices">${buttons}</div>` : '';
+export const choices = buttons => buttons ? html`<div class="choices">${buttons}</div>` : '';
 // A button that puts lines into the script; `{now}` and other names stand for the fields beside it.
 const does = (label, lines, key) => html`<button data-lines="${lines}" ${key ? html`data-key="${key}"` : ''}>${label}</button> `;
+const removes = (kind, number) =>
+  html`<button data-act="remove" data-thing="${kind} ${number}" data-key="Delete">remove the ${kind}</button>`;
 const field = ({ typed }, name, label, value, kind) =>
   html`<label>${label} <input name="${name}" value="${typed[name] ?? value}" required ${kind}></label> `;
 const count = (state, name, label, value, least, most) =>
@@ -19,6 +21,11 @@ const prefixField = (state, value) => field(state, 'prefix', 'prefix', value, PR
 const moment = state => html`${count(state, 'now', 'at', stepOfNew(state).now, 0, 2 ** 53 - 1)} ms `;
 const isOut = (state, thing) => stepOfNew(state).out.has(thing);
 
+// Where packets from here go is asked with an address or a prefix.
+const TARGET_FORM = html`pattern="\\s*[0-9a-fA-F:]+(/[0-9]+)?\\s*" title="an address or a prefix of IPv6" size="20"`;
+export const packetForm = (state, target) => choices(html`${field(state, 'target', 'a packet for', target, TARGET_FORM)}
+  <button data-act="packet" data-key="g">where a packet goes</button>`);
+
 // ---- A router ----
 function routerDetail(state, { router }) {
   const { timers: { regular, due, hold }, quiet } = state.trace.steps[state.step].routers[router], { now } = state.trace.steps[state.step];
@@ -27,7 +34,8 @@ function routerDetail(state, { router }) {
     due ? `, its route to ${due.prefix} ends at ${seconds(due.until)}` : ''}.</p>
     ${choices(html`${isDown ? does('bring it up', `speaks ${router}`, 'c') : does('let it fail', `silent ${router}`, 'c')}
       <button data-act="why" data-key="w">why this metric?</button> ${moment(state)}${does('send what is due', `tick ${router} {now} 0`)}
-      ${does('restart', `restart ${router} {now}`)}`)}${ownersForm(state, router)}${linkForm(state, router)}`;
+      ${does('restart', `restart ${router} {now}`)} ${state.trace.ends.length > 1 ? removes('router', router) : ''}`)}${packetForm(state, prefixInView(state))}${ownersForm(state, router)}
+    ${linkForm(state, router)}`;
 }
 
 function ownersForm(state, router) {
@@ -58,7 +66,8 @@ function ifaceDetail(state, { router, iface }) {
     `cost ${router} ${iface} {now} {cost}\ncost ${other.router} ${other.iface} +0 {cost}`) : '';
   return html`<h2>Link ${link}${other ? ` to ${otherEnds(trace, end).map(one => nameOf(trace, one.router)).join(', ')}` : ''},
     at ${nameOf(trace, router)}'s interface ${iface}</h2><p>${addr}, cost ${cost}, MTU ${mtu}.</p>
-    ${choices(isCut ? does('mend the link', `mend ${link}`, 'c') : does('cut the link', `cut ${link}`, 'c'))}
+    ${choices(html`${isCut ? does('mend the link', `mend ${link}`, 'c') : does('cut the link', `cut ${link}`, 'c')}
+      ${removes('link', link)}`)}
     ${isCut ? '' : html`<p class="faint">A cut is silent: nobody is told, and a route over it is kept until it times out, 180 s
       after it was heard last.</p>`}
     ${choices(html`${moment(state)}${count(state, 'cost', 'cost', cost, 1, 15)}

@@ -1,9 +1,11 @@
 // What the buttons of the page do. Each act on the network is lines of the script.
 import { named, nameOf, prefixInView, readTrace } from './trace.js';
 import { oneResponse, wholeRequest } from './datagrams.js';
+import { targetIn } from './packets.js';
 import { inserted, joined, networkScript, withName, withPlaces } from './building.js';
 import { stepsByLine, turnsOf } from './losses.js';
 import { losing } from './losing.js';
+import { without } from './removing.js';
 import { metricIn, runnable, withAnswer } from './lessons.js';
 import { hasChanged, printed } from './tables.js';
 import { markGuess, reveal } from './quiz.js';
@@ -81,6 +83,16 @@ async function lose(button) {
   await change(edit, edit.goTo + 1, edit.goTo, isApart ? 'The round was split into its datagrams, to lose one of them.' : 'The datagram is lost.');
 }
 
+// ---- Removing ----
+async function remove({ dataset: { thing } }) {
+  if (!await canPutIn()) return;
+  const edit = without(view.trace, editor.text, thing), [kind, number] = thing.split(' ');
+  const what = kind === 'link' ? `Link ${number}` : nameOf(view.trace, Number(number));
+  view.chosen = null;
+  await change(edit, 0, undefined, off => `${what} is removed, and with it ${plural(edit.lost, 'line')}.${off === 0 ? ''
+    : ` ${off === 1 ? 'A line that does' : `${off} lines that do`} not hold without it: set aside as #off.`}`);
+}
+
 // ---- Quiz, and blanks ----
 function toggleQuiz(button) {
   Object.assign(view, { isQuiz: toggle(button, 'quiz'), chosen: null });
@@ -125,6 +137,21 @@ function present(button) {
   render();
 }
 
+// The drawing has so many times the room of its pane. The router that was chosen comes to its middle; else what stood there
+// stays.
+const MOST_ROOM = 8;
+function zoomTo(room) {
+  const pane = byId('drawing'), { scrollLeft, scrollTop, clientWidth, clientHeight } = pane;
+  const was = { x: (scrollLeft + clientWidth / 2) / pane.scrollWidth, y: (scrollTop + clientHeight / 2) / pane.scrollHeight };
+  view.room = Math.max(1, Math.min(MOST_ROOM, room));
+  keepFocus(() => renderDrawing(false));
+  const { router } = named(view.chosen, view.trace) ?? {}, svg = byId('network').getBoundingClientRect();
+  const box = router !== undefined && pane.querySelector(`.router[data-router="${router}"] circle`).getBoundingClientRect();
+  const at = box ? { x: box.x + box.width / 2 - svg.x, y: box.y + box.height / 2 - svg.y }
+    : { x: was.x * pane.scrollWidth, y: was.y * pane.scrollHeight };
+  pane.scrollTo(at.x - pane.clientWidth / 2, at.y - pane.clientHeight / 2);
+}
+
 // The lessons in order, and that which the draft is, or was made of.
 const lessonNames = () => [...SCRIPTS].filter(([, { isLesson }]) => isLesson).map(([name]) => name);
 const lessonOf = name => lessonNames().findIndex(lesson => lesson === name.replace(/^own-/, '').replace(/-\d+\.lab$/, '.lab') || lesson === name);
@@ -134,7 +161,7 @@ function toLesson(by) {
 }
 
 const ACTS = {
-  undo, redo, share, copyLink, present, lose, untilChange, markAll, hush, quiz: toggleQuiz, again: () => runDraft(), stop: stopRun,
+  undo, redo, share, copyLink, present, lose, remove, untilChange, markAll, hush, quiz: toggleQuiz, again: () => runDraft(), stop: stopRun,
   film: saveFilm,
   save: () => download('.lab', editor.text, 'text/plain'),
   load: () => byId('file').click(),
@@ -147,6 +174,10 @@ const ACTS = {
   help: () => byId('help').showModal(),
   close: button => button.closest('dialog').close(),
   tidy() { view.shifts = []; keepPlaces(); render(); },
+  fromAll() { view.isFromAll = !view.isFromAll; render(); },
+  zoomIn: () => zoomTo(view.room * 1.4),
+  zoomOut: () => zoomTo(view.room / 1.4),
+  zoomWhole: () => zoomTo(1),
   matrix() { view.isMatrix = !(view.isMatrix ?? view.trace.ends.length >= MANY_ROUTERS); render(); },
   why: () => choose(`route ${chosenRouter()} ${prefixInView(view)}`),
   letGo: () => choose(null),
@@ -159,6 +190,12 @@ const ACTS = {
 // Those that read the fields beside them.
 const MAKES = {
   make: ({ shape, many }) => openScript(networkScript(shape, Number(many)), `${shape}-${many}.lab`.replace(/ /g, '-')),
+  packet({ target }) {
+    const asked = targetIn(target);
+    if (!asked) return say('That is no address and no prefix of IPv6.', true);
+    Object.assign(view, { chosen: `packet ${chosenRouter()} ${asked}`, typed: {} });
+    return render();
+  },
   name: ({ name }) => change({ script: withName(editor.text, chosenRouter(), name) }, Infinity),
   async join({ other, cost }) {
     if (!await canPutIn()) return;
@@ -172,7 +209,7 @@ const MAKES = {
 
 // The drawing as a file: each element with its colors, as there is no style sheet in it.
 const STYLES = ['fill', 'stroke', 'stroke-width', 'stroke-dasharray', 'font-size', 'font-weight', 'font-family',
-  'text-anchor', 'dominant-baseline', 'paint-order', 'visibility'];
+  'text-anchor', 'dominant-baseline', 'paint-order', 'visibility', 'opacity', 'stroke-linecap'];
 function drawingAlone() {
   const drawing = byId('drawing').querySelector('svg'), alone = drawing.cloneNode(true);
   const styled = alone.querySelectorAll('*');

@@ -13,7 +13,7 @@ export const SHAPES = {
 // The script of a new network of that shape: costs are 1, and router 0 owns a prefix. Its remark says what to do next.
 export function networkScript(shape, count) {
   const links = SHAPES[shape](count);
-  const lines = [`# ${count} routers: ${shape}. R0 originates a prefix. Press "round": every router sends its update, and all arrive.`,
+  const lines = ['# R0 originates a prefix. Press "round": every router sends its update, and all arrive.',
     '# Click a link to cut it, a router to do more, and a metric to ask why.'];
   for (let router = 0; router < count; router++) {
     const own = links.flatMap((link, number) => link.includes(router) ? [number] : []);
@@ -22,6 +22,12 @@ export function networkScript(shape, count) {
   }
   return [...lines, 'cold 0', ''].join('\n');
 }
+
+// The link of a line `iface`, its last word, and the line with another.
+const ENDS_WITH_LINK = /^(iface [^#]*?)(\d+)(\s*(?:#.*)?)$/;
+export const linkIn = line => Number(ENDS_WITH_LINK.exec(line)?.[2] ?? NaN);
+export const withLink = (line, link) => line.replace(ENDS_WITH_LINK, `$1${link}$3`);
+export const linksIn = lines => lines.filter(line => line.startsWith('iface ')).map(linkIn);
 
 // For each router of a script its name, if it has one, and where its line, the end of its lines and its interfaces are.
 function sections(lines) {
@@ -60,8 +66,7 @@ export function spliced(script, changes) {
 export function joined(script, from, to, cost, line = null) {
   const lines = script.split('\n'), routers = sections(lines), isNew = to === routers.length;
   if (!routers[from] || from === to || !(routers[to] || isNew)) return null;
-  const used = lines.flatMap(text => text.startsWith('iface ') ? [Number(text.split(' ')[4])] : []);
-  const link = Math.max(-1, ...used) + 1, ifaceOf = (router, iface) => `iface ${address(router, iface)} ${cost} 1280 ${link}`;
+  const link = Math.max(-1, ...linksIn(lines)) + 1, ifaceOf = (router, iface) => `iface ${address(router, iface)} ${cost} 1280 ${link}`;
   const added = [to, from].map(router => {
     const { end, ifaces } = routers[router] ?? {};
     return ifaces ? { at: end, lines: [ifaceOf(router, ifaces.length)] }

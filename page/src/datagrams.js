@@ -1,5 +1,8 @@
 // Datagrams as bytes, and prefixes as texts: what `ripngd show` prints, and what a stranger's datagram is made of.
 
+// The metric of what cannot be reached (RFC 2080, section 2.1).
+export const UNREACHABLE = 16;
+
 // The entries of a datagram, given as hexadecimal digits.
 export function entriesOf(hex) {
   const entries = [];

@@ -1,43 +1,52 @@
 // What is told beside the drawing: events, what happened at a step, and why a metric is what it is.
-import { UNREACHABLE, nameOf, named } from './trace.js';
-import { leastCosts, metricRuns, offersOf, pathOf, updatesOf, walkOf, wayText, withoutRings } from './walks.js';
+import { nameOf, named } from './trace.js';
+import { UNREACHABLE } from './datagrams.js';
+import { leastCosts, metricRuns, offersOf, updatesOf, walkOf, wayText, withoutRings } from './walks.js';
 import { LINES, describe, hintOf, plural, refusals, seconds } from './texts.js';
 import { badIf, headsOf, isLiedTo } from './tables.js';
 import { ACTIONS, actsHere } from './acting.js';
+import { packetDetail, packetText } from './forwarding.js';
+import { hasBlank, isAsked } from './lessons.js';
 import { choice, classes, html } from './markup.js';
 
 // ---- Events, and the card of lines ----
-export const eventOf = ({ record, said }, step, names) => html`<li>
-  <button ${choice(`step ${step}`, `line ${record.line}, ${describe(record, names)}`)}><span>${record.line}</span>
-    <span><span class="${badIf(record.record === 'refused')}">${describe(record, names)}</span>
+export const eventOf = ({ record, said, earlier }, step, names, isOpen) => html`<li>
+  <button ${choice(`step ${step}`, `line ${record.line}, ${describe(record, names, isOpen)}`)}><span>${record.line}</span>
+    <span><span class="${badIf(record.record === 'refused')}">${describe(record, names, isOpen)}</span>
+    ${earlier ? html`<br><span class="bad">${earlier}</span>` : ''}
     ${refusals(record).map(text => html`<br><span class="bad">${text}</span>`)}${said.map(text => html`<br>${text}`)}
   </span></button></li>`;
 
 export const cardOf = () => LINES.map(([form, meaning]) => html`<dt><code>${form}</code></dt><dd>${meaning}</dd>`);
+
+// Of which prefixes of the router of a step a blank asks for the metric.
+export const openAt = (view, step) => prefix => isAsked(view, view.trace.steps[step].record.router, prefix, step);
 
 // ---- What happened, and what was chosen ----
 const stepLink = ({ steps }, step) =>
   html`<button class="link" data-choose="step ${step}">line ${steps[step].record.line}</button>`;
 
 export function detailOf(state) {
-  const { trace, step, chosen, wiring } = state, { record, said } = trace.steps[step] ?? {};
+  const { trace, step, chosen, wiring } = state, { record, said, earlier } = trace.steps[step] ?? {};
   const thing = wiring && named(chosen, trace), badness = badIf(record?.record === 'refused');
   if (!record) return html`<p class="faint">Nothing has happened.</p>`;
   const at = record.event ? ` at ${seconds(record.now)}` : '';
-  return html`<p class="${badness} happened"><b>Line ${record.line}: ${describe(record, trace.names)}${hintOf(record)}</b>${at}</p>
+  return html`<p class="${badness} happened"><b>Line ${record.line}: ${describe(record, trace.names, openAt(state, step))}${hintOf(record)}</b>${at}</p>
+    ${earlier ? html`<p class="bad">Time goes back: ${earlier}.</p>` : ''}
     ${said.map(text => html`<p>After it, ${text}.</p>`)}${refusals(record).map(text => html`<p class="bad">${text}</p>`)}
     ${record.prints ? html`<pre>${record.prints.join('\n')}</pre>` : ''}
     ${thing ? html`<div id="thing">${(DETAILS[thing.kind] ?? ACTIONS[thing.kind])(state, thing)}</div>`
-    : html`${offersText(trace, step)}${updatesText(trace, step)}${actsHere(state)}`}`;
+    : html`${offersText(state)}${updatesText(state)}${actsHere(state)}`}`;
 }
 
-function offersText(trace, step) {
-  const { record: { event, router } } = trace.steps[step];
+function offersText(view) {
+  const { trace, step } = view, { record: { event, router } } = trace.steps[step];
   const offers = event ? offersOf(trace, step) : [];
   const rowOfOffer = ({ prefix, told, cost, offered, before = 'none', after = 'none', outcome }) => html`<tr>
     <td>${prefix}</td><td>${told}</td>
     <td>${told} + ${cost}${told + cost > offered ? ', at most 16,' : ''} = ${offered}</td>
-    <td>${before}</td><td>${after}</td><td>${outcome}</td></tr>`;
+    <td>${isAsked(view, router, prefix, step - 1) ? '?' : before}</td>${isAsked(view, router, prefix) ? html`<td>?</td><td>?</td>`
+    : html`<td>${after}</td><td>${outcome}</td>`}</tr>`;
   return offers.length === 0 ? '' : html`<table id="offers"><caption>How ${nameOf(trace, router)} processes it</caption>
     ${headsOf(['prefix', 'advertised', 'plus link cost', 'old metric', 'new metric', 'outcome'])}
     <tbody>${offers.map(rowOfOffer)}</tbody></table>`;
@@ -45,14 +54,14 @@ function offersText(trace, step) {
 
 // What a step sent: each prefix on each link, with the poison.
 const MOST_ENTRIES = 8;
-function updatesText(trace, step) {
-  const { record: { router, update }, routers } = trace.steps[step], updates = updatesOf(trace, step);
+function updatesText(view) {
+  const { trace, step } = view, { record: { router, update }, routers } = trace.steps[step], updates = updatesOf(trace, step);
   if (update === 'held') {
     return html`<p>It has changes to advertise, but its triggered updates are delayed until
       ${seconds(routers[router].timers.hold)}.</p>`;
   }
   const entryText = ({ prefix, metric, isPoisoned }) => html`<span class="${classes(isPoisoned && 'poisoned')}">${prefix} at
-    ${metric}${isPoisoned ? ' (poisoned reverse)' : ''}</span>`;
+    ${isAsked(view, router, prefix) && !isPoisoned ? '?' : metric}${isPoisoned ? ' (poisoned reverse)' : ''}</span>`;
   const listOf = ({ isRequest, entries }) => {
     if (isRequest) return 'a Request for all routes';
     const more = entries.length > MOST_ENTRIES ? `, and ${entries.length - MOST_ENTRIES} more` : '';
@@ -66,28 +75,18 @@ function updatesText(trace, step) {
 
 // ---- Why this metric? ----
 function routeDetail(state, { router, prefix }) {
+  if (isAsked(state, router, prefix)) return html`<h2>A blank asks for this metric. Fill it in, and the page says why.</h2>`;
   const { trace, step } = state, now = trace.steps[step], entry = now.routers[router].table.get(prefix);
   const cost = leastCosts(trace, now, prefix)[router], name = nameOf(trace, router);
   const least = html`<p>${cost < UNREACHABLE ? `The shortest path, as the network is now, costs ${cost}.`
-    : 'No path leads to a router with that prefix now.'}</p>${plotOf(state, router, prefix)}`;
-  const packet = packetText(trace, now, router, prefix);
+    : 'No path leads to a router with that prefix now.'}</p>${hasBlank(state, router, prefix) ? '' : plotOf(state, router, prefix)}`;
+  const packet = html`<h3 class="of-packet">Where a packet goes</h3>${packetText(trace, now, router, prefix)}
+    <p><button data-choose="packet ${router} ${prefix}" data-key="g">hop by hop, or to another address</button></p>`;
   if (!entry) return html`<h2>${name} has no route to ${prefix}.</h2>${packet}${least}`;
-  const { metric } = entry.route;
+  const { metric } = entry.route, came = html`<h3 class="of-walk">Where this number came from</h3>`;
   return metric < UNREACHABLE
-    ? html`<h2>Why has ${name} metric ${metric} for ${prefix}?</h2>${walkText(trace, step, router, entry)}${packet}${least}`
-    : html`<h2>Why is ${prefix} unreachable for ${name}?</h2>${whyUnreachable(trace, entry)}${packet}${least}`;
-}
-
-// Where a packet would go now, which need not be where the number came from.
-function packetText(trace, now, router, prefix) {
-  const { way, hops, end } = pathOf(trace, now, router, prefix), last = nameOf(trace, way.at(-1)), link = hops.at(-1)?.from.link;
-  const ends = {
-    arrived: way.length > 1 ? 'it arrives' : 'it is here already', none: `lost: ${last} has no route`,
-    loop: 'a loop: it circles until its hop limit ends', cut: `lost on link ${link}, which is cut`,
-    down: `lost: ${last} is down`, outside: `lost: the next hop of ${last} is no router of the network`,
-  };
-  return html`<p id="packet" class="${badIf(end !== 'arrived')}">A packet for ${prefix} from here, now:
-    <b>${wayText(trace, way)}</b>, ${ends[end]}.</p>`;
+    ? html`<h2>Why has ${name} metric ${metric} for ${prefix}?</h2>${came}${walkText(trace, step, router, entry)}${packet}${least}`
+    : html`<h2>Why is ${prefix} unreachable for ${name}?</h2>${came}${whyUnreachable(trace, entry)}${packet}${least}`;
 }
 
 function walkText(trace, step, router, entry) {
@@ -98,8 +97,8 @@ function walkText(trace, step, router, entry) {
     <td>${datagram.datagram}</td><td>${stepLink(trace, datagram.sentAt)}</td><td>${stepLink(trace, cameAt)}</td></tr>`;
   return html`${sumText(trace, trace.steps[step].routers, walk, entry.route, isLiedTo(trace, step))}
     ${outagesText(trace, trace.steps[step], walk, entry.route.prefix)}
-    <table id="walk">${headsOf(['hop', 'path', 'cost', 'advertised by', 'in datagram', 'sent', 'received'])}
-    <tbody>${walk.hops.map(hopRow)}</tbody></table>`;
+    ${walk.hops.length === 0 ? '' : html`<table id="walk">${headsOf(['hop', 'path', 'cost', 'advertised by', 'in datagram', 'sent', 'received'])}
+    <tbody>${walk.hops.map(hopRow)}</tbody></table>`}`;
 }
 
 // The path as a sum, with the rings that it goes around.
@@ -160,4 +159,4 @@ function plotOf({ trace, step }, router, prefix) {
     <figcaption>Its metric over the steps, and (dashed) the cost of the shortest path.</figcaption></figure>`;
 }
 
-const DETAILS = { route: routeDetail };
+const DETAILS = { route: routeDetail, packet: packetDetail };

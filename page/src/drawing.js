@@ -1,30 +1,38 @@
 // The drawing: the network at a step, as parts of an SVG.
-import { UNREACHABLE, nameOf, named, prefixInView, routeAt } from './trace.js';
-import { pathOf, walkOf } from './walks.js';
+import { nameOf, named, prefixInView, routeAt } from './trace.js';
+import { UNREACHABLE } from './datagrams.js';
+import { walkOf } from './walks.js';
+import { pathOf, waysOf } from './packets.js';
 import { fitted } from './layout.js';
 import { hasChanged } from './tables.js';
 import { marksOf } from './marks.js';
 import { guessed } from './quiz.js';
+import { isAsked } from './lessons.js';
 import { choice, classes, html } from './markup.js';
 
-function chosenWalk({ trace, step, chosen }) {
-  const { kind, router, prefix } = named(chosen, trace) ?? {}, state = trace.steps[step];
-  if (kind !== 'route') return { hops: [], owner: null, packet: { hops: [] } };
-  const entry = state.routers[router].table.get(prefix), packet = pathOf(trace, state, router, prefix);
+// The walk behind the metric that was chosen, and where packets go: beside it, or alone.
+function chosenWalk(view) {
+  const { trace, step, chosen } = view;
+  const { kind, router, prefix, target = prefix } = named(chosen, trace) ?? {}, state = trace.steps[step];
+  const isHidden = kind === 'route' && isAsked(view, router, prefix);
+  const entry = kind === 'route' && !isHidden ? state.routers[router].table.get(prefix) : null;
+  const packet = target && !isHidden ? pathOf(trace, state, router, target) : { way: [], hops: [], end: 'delivered', lost: null };
+  if (kind === 'packet' && view.isFromAll) packet.all = waysOf(trace, state, target);
   return { ...entry ? walkOf(trace, router, entry) : { hops: [], owner: null }, packet };
 }
 
 // The state has the trace, the step and that since which changes are marked, what is chosen, the wiring, the places and
 // shifts of its spots, and the pane. Most parts are the same from one step to the next.
 export function drawingOf(state) {
-  const { trace, wiring: { wires, hubs, count }, step } = state, fit = fitted(state.spots, state.shifts, state.pane, state.isLarge);
+  const { trace, wiring: { wires, hubs, count }, step } = state, fit = fitted(state.spots, state.shifts, state.pane, state.isLarge, state.room);
   const scene = { since: step - 1, ...state, ...trace.steps[step], fit, walk: chosenWalk(state), prefix: prefixInView(state) };
   const all = draw => scene.routers.map((_, router) => draw(scene, router));
   const atEnds = draw => wires.flatMap(wire => wire.ends.map(end => draw(scene, wire, end)));
   const parts = [
     ...wires.map(wire => drawWire(scene, wire)),
     html`${hubs.map((link, hub) => drawHub(link, fit.places[count + hub]))}`,
-    html`${scene.walk.packet.hops.map(hop => drawPacket(scene, hop))}${scene.walk.hops.map((hop, index) => drawHop(scene, hop, index))}`,
+    html`${drawPackets(scene)}${drawDropped(scene)}
+      ${scene.walk.hops.map((hop, index) => drawHop(scene, hop, index))}`,
     ...all(drawRouter), ...atEnds(drawCost), ...all(drawLabel), ...all(drawMetric), ...marksOf(scene, pointBy),
   ];
   return { ...fit, parts };
@@ -77,7 +85,8 @@ function drawRouter(scene, router) {
   const is = { quiet, silent: out.has(text), moved: record.router === router, changed: !scene.isQuiz && hasChanged(scene, router, prefix),
     walked, chosen: chosen === text };
   const owns = prefixes.map(({ prefix: own, tag }) => `, originates ${own} with tag ${tag}`).join('');
-  const manner = `${quiet ? ', quiet' : ''}${is.silent ? ', down' : ''}`, isHidden = scene.isQuiz && guessed(scene, router) !== metric;
+  const manner = `${quiet ? ', quiet' : ''}${is.silent ? ', down' : ''}`;
+  const isHidden = scene.isQuiz && guessed(scene, router) !== metric || isAsked(scene, router, prefix);
   const label = `${name}${manner}${owns}${metric && !isHidden ? `, metric ${metric} for ${prefix}` : ''}`;
   return html`<g class="router ${classes(...Object.keys(is).filter(one => is[one]))}" data-router="${router}"
     ${choice(text, label, chosen)}><circle cx="${x}" cy="${y}" r="${radius}"/>
@@ -89,13 +98,16 @@ function drawRouter(scene, router) {
 function drawMetric(scene, router) {
   const { trace, fit: { places, radius, roomy }, prefix, isQuiz, isLarge, chosen } = scene, metric = routeAt(scene, router, prefix)?.metric;
   const { x, y } = places[router], size = isLarge ? 0.8 * radius : roomy ? 9 : 6.5, guess = isQuiz ? guessed(scene, router) : null;
-  if (!metric && !isQuiz) return html``;
-  const corner = `translate(${x + 0.7 * radius + 0.35 * size} ${y - 0.7 * radius - 0.35 * size})`, shown = isQuiz ? guess ?? '?' : metric;
-  const label = isQuiz ? `${prefix} at ${nameOf(trace, router)}: guess` : `${prefix} at ${nameOf(trace, router)}: why metric ${metric}?`;
+  const isOpen = !isQuiz && isAsked(scene, router, prefix);
+  if (!metric && !isQuiz && !isOpen) return html``;
+  const corner = `translate(${x + 0.7 * radius + 0.35 * size} ${y - 0.7 * radius - 0.35 * size})`;
+  const shown = isQuiz ? guess ?? '?' : isOpen ? '?' : metric;
+  const says = isQuiz ? 'guess' : isOpen ? 'a blank asks for it' : `why metric ${metric}?`;
+  const label = `${prefix} at ${nameOf(trace, router)}: ${says}`;
   const is = classes('metric', hasChanged(scene, router, prefix) && !isQuiz && 'changed', isQuiz && guess !== null && 'right');
   return html`<g class="${is}" transform="${corner}" ${roomy ? choice(`route ${router} ${prefix}`, label, chosen) : ''}>
     ${roomy ? html`<circle class="target" r="12"/>` : ''}<circle class="plate" r="${size}"/>
-    <text class="${metric >= UNREACHABLE && !isQuiz ? 'unreachable' : ''}" font-size="${1.25 * size}">${shown}</text></g>`;
+    <text class="${metric >= UNREACHABLE && !isQuiz && !isOpen ? 'unreachable' : ''}" font-size="${1.25 * size}">${shown}</text></g>`;
 }
 
 // A router's name where it is too long for its circle, and what it originates: within the pane, below it, or above it
@@ -124,18 +136,34 @@ function pointsOf({ fit, wiring: { wireOf } }, from, to, aside) {
   return [[there, from.router, gap, aside], ...atHub, [back, to.router, gap, -aside]].map(way => pointBy(fit, ...way));
 }
 
-// A hop of the walk, from the router that received to the one that advertised; a walk that passes again is drawn beside.
+// A hop of the walk, from the router that received to the one that advertised; a walk that passes again is drawn beside. Its
+// number stands past the datagrams of the router that it leaves.
 function drawHop(scene, { end, datagram }, index) {
   const { walk: { hops }, out } = scene, pass = hops.slice(0, index).filter(before => before.end === end).length;
-  const points = pointsOf(scene, end, datagram.end, 4 + 9 * pass), part = 0.35 + 0.15 * (pass % 3), [a, b] = points;
+  const points = pointsOf(scene, end, datagram.end, 4 + 9 * pass), part = [0.62, 0.5, 0.74][pass % 3], [a, b] = points;
   const isOut = out.has(`link ${end.link}`) || out.has(`router ${datagram.router}`);
   return html`<path class="hop ${isOut ? 'broken' : ''}" d="${path(points)}" marker-end="url(#arrow)"/>
     <text class="hop-name" x="${a.x + part * (b.x - a.x)}" y="${a.y + part * (b.y - a.y)}">${circled(index + 1)}</text>`;
 }
 
-// A hop of a packet, as the tables are now, on the other side of the wire.
-function drawPacket(scene, { from, to }) {
-  const { end } = scene.walk.packet;
-  return html`<path class="packet ${end === 'arrived' ? '' : 'astray'}" d="${path(pointsOf(scene, from, to, -5))}"
-    marker-end="url(#${end === 'arrived' ? 'arrow-packet' : 'arrow-astray'})"/>`;
+// The hops of a packet, as the tables are now, on the other side of the wire: red in a loop and where it is lost, and faint
+// behind that. Or the first hop of a packet from each router.
+function drawPackets(scene) {
+  const { hops, loops, lost, all } = scene.walk.packet;
+  if (all) return all.filter(({ hop }) => hop).map(({ hop, isLoop, isLost }) => drawPacket(scene, hop, { isLoop, isLost }));
+  return hops.map((hop, index) =>
+    drawPacket(scene, hop, { isLoop: index >= loops, isLost: lost?.hop === index, isBeyond: lost && index > lost.hop }));
+}
+
+function drawPacket(scene, { from, to }, { isLoop, isLost, isBeyond }) {
+  const isAstray = !isBeyond && (isLost || isLoop);
+  return html`<path class="${classes('packet', isAstray && 'astray', isLost && 'lost', isBeyond && 'beyond')}"
+    d="${path(pointsOf(scene, from, to, -5))}" marker-end="url(#${isAstray ? 'arrow-astray' : 'arrow-packet'})"/>`;
+}
+
+// A cross at the router that drops it.
+function drawDropped({ walk: { packet: { way, end, lost } }, fit: { places, radius } }) {
+  if (lost || !/^(noRoute|nobodys)$/.test(end)) return '';
+  const { x, y } = places[way.at(-1)], [left, top, size] = [x - 0.75 * radius - 12, y + 0.75 * radius, 10];
+  return html`<path class="cross" d="M${left} ${top}l${size} ${size}m0 ${-size}l${-size} ${size}"><title>dropped here</title></path>`;
 }

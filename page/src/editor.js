@@ -1,8 +1,9 @@
 // The script as it is edited. The draft is what the text field holds; nothing but the functions below writes it. Each
 // state that it was in can be gone back to, over a reload too. What was run is kept beside it (`showing.js`).
 import { describe, hintOf } from './texts.js';
-import { runnable } from './lessons.js';
-import { hasNumbers, keysOf, renumbered } from './losing.js';
+import { plainLines, runnable } from './lessons.js';
+import { hasNumbers, keysOf } from './numbering.js';
+import { settling } from './removing.js';
 import { readTrace } from './trace.js';
 import { html } from './markup.js';
 
@@ -134,7 +135,8 @@ const redo = () => travel(editor.future, editor.past);
 
 // Another script takes the place of the draft, which can be gone back to.
 function openScript(text, name, isShared = false) {
-  const lines = text.replace(/\r\n?/g, '\n');
+  const lines = plainLines(text);
+  Object.assign(view, { chosen: null, room: 1 });
   setDraft(lines, isShared || SCRIPTS.has(name) ? name : freeName(name, lines), isShared);
   return runDraft(() => 0);
 }
@@ -173,16 +175,18 @@ function runDraft(stepOf) {
   return runScript(() => traced(runnable(text)), answer => showRun(text, answer, stepOf));
 }
 
-// An edit with the trace of its script, in which lines name the datagrams that they named before.
-const MOST_TURNS = 12;
-async function settledRun({ script, origins }) {
-  const { trace: before, script: old } = view, had = keysOf(before);
-  for (let turn = 0, text = script; ; turn++) {
+// An edit with the trace of its script, once its lines name the datagrams that they named before. So many turns that takes at
+// most; where something was removed, one for each line that is set aside.
+const MOST_TURNS = { added: 12, removed: 400 };
+async function settledRun(edit) {
+  const { trace: was, script: old } = view, isPlain = !edit.origins || !edit.renamed && !hasNumbers(edit.script);
+  const most = edit.renamed ? MOST_TURNS.removed : MOST_TURNS.added, before = isPlain ? null : { old, was, had: keysOf(was, line => line, edit.renamed) };
+  for (let turn = 0, text = edit.script, off = 0; ; turn++) {
     const answer = await traced(runnable(text));
-    if (!origins || !hasNumbers(text) || turn === MOST_TURNS) return { script: text, answer };
-    const next = renumbered(had, old, { script: text, origins }, readTrace(answer, text));
-    if (next === text) return { script: text, answer };
-    text = next;
+    const next = isPlain || turn === most ? null : settling(before, { ...edit, script: text }, readTrace(answer, text));
+    if (!next) return { script: text, answer, off };
+    text = next.script;
+    off += next.off;
   }
 }
 
@@ -190,7 +194,7 @@ async function settledRun({ script, origins }) {
 // it did, up to the last step of line `goTo`.
 function change(edit, limit, goTo, said = '') {
   const { text } = editor;
-  return runScript(() => settledRun(edit), ({ script, answer }) => {
+  return runScript(() => settledRun(edit), ({ script, answer, off }) => {
     const last = JSON.parse(answer.trimEnd().split('\n').at(-1) || '{}'), isRefused = last.record === 'refused';
     if (editor.text !== text) return say('The script was changed meanwhile: nothing was added.', true);
     if (isRefused && last.line < limit) {
@@ -198,7 +202,7 @@ function change(edit, limit, goTo, said = '') {
     }
     setDraft(script);
     const isTold = !isRefused && said, shown = showRun(script, answer, goTo && (({ steps }) => stepOfLine(steps, goTo)), true);
-    if (isTold) say(said, false, html`<button data-act="undo">undo</button>`);
+    if (isTold) say(typeof said === 'function' ? said(off) : said, false, html`<button data-act="undo">undo</button>`);
     return shown;
   });
 }

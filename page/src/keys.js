@@ -32,21 +32,24 @@ const MOVES = {
 };
 const buttonOf = act => document.querySelector(`[data-act=${act}]`);
 const press = act => () => buttonOf(act).click();
-// Single letters. c, l, d and w are of what is chosen, or has the focus in the drawing.
+// Single letters. c, l, d, w and g are of what is chosen, or has the focus in the drawing.
 const LETTERS = {
   r: press('round'), f: press('rounds'), u: press('untilChange'), p: press('present'), q: press('quiz'), m: press('matrix'),
+  '+': press('zoomIn'), '-': press('zoomOut'), 0: press('zoomWhole'), '/': () => byId('filter').focus(),
   n: press('lessonAfter'), b: press('lessonBefore'), '?': press('help'),
   c: target => ofChosen('c', target), l: target => ofChosen('l', target), w: target => ofChosen('w', target),
+  g: target => ofChosen('g', target), Delete: target => ofChosen('Delete', target),
   d: target => ofChosen('d', target, press('hear')),
 };
 
 // The button of the detail that has a letter, of what has the focus where that is another thing than the chosen one.
 const WANTED = { c: 'Choose a link or a router first.', l: 'Choose a datagram first, or a step at which one comes.',
-  w: 'Choose a router or a route first.' };
+  w: 'Choose a router or a route first.', g: 'Choose a router or a route first.',
+  Delete: 'Choose a link or a router first.' };
 function ofChosen(letter, target, otherwise = () => say(WANTED[letter], true)) {
   const text = target.closest('#drawing [data-choose]')?.dataset.choose, [kind, number] = (text ?? view.chosen ?? '').split(' ');
-  if (letter === 'w' && kind === 'router') {
-    view.chosen = `route ${number} ${prefixInView(view)}`;
+  if (/[gw]/.test(letter) && kind === 'router') {
+    view.chosen = `${letter === 'w' ? 'route' : 'packet'} ${number} ${prefixInView(view)}`;
     return render();
   }
   if (text && text !== view.chosen) choose(text);
@@ -87,11 +90,12 @@ function stepWithin(target, key) {
   return next ? () => next.focus() : null;
 }
 
-// Enter marks a guess, and goes to the next; or checks a blank.
+// Enter marks a guess, and goes to the next; or checks a blank; or asks where a packet goes.
 function isAnswered(target) {
-  const { guess, blank } = target.dataset;
+  const { guess, blank } = target.dataset, isTarget = target.name === 'target';
+  if (isTarget) target.closest('.choices').querySelector('button').click();
   if (blank) answerBlank(Number(blank));
-  if (!guess) return Boolean(blank);
+  if (!guess) return isTarget || Boolean(blank);
   markGuess(view, Number(guess), target.value);
   render();
   byId('quiz').querySelector(`[data-guess="${Number(guess) + 1}"]`)?.focus();

@@ -123,12 +123,13 @@ function upright(spots, wires) {
 const MARGIN = { x: 48, y: 40 }, NEAREST = { least: 40, most: 230, roomy: 84 }, LARGE = { apart: 140, most: 4.5 };
 
 // The layout in pixels, moved by the shifts, in lengths of a wire: as large as the pane; where routers would touch so, the
-// pane scrolls. No spot leaves it. For a room all is `zoom` times as large.
-export function fitted(spots, shifts, pane, isLarge = false) {
+// pane scrolls. No spot leaves it. For a room all is `zoom` times as large. Where the pane is `room` times what is in sight,
+// routers may stand as much further apart.
+export function fitted(spots, shifts, pane, isLarge = false, room = 1) {
   const apartOf = (a, index) => spots.slice(0, index).map(b => Math.hypot(a.x - b.x, a.y - b.y));
   const nearest = Math.min(9, ...spots.flatMap(apartOf)) || 0.1, whole = wholeScale(spots, pane, 1);
   const zoom = isLarge ? zoomOf(spots, nearest, pane) : 1, shown = { width: pane.width / zoom, height: pane.height / zoom };
-  const most = isLarge ? wholeScale(spots, shown, 1) : Math.min(whole, NEAREST.most / nearest);
+  const most = isLarge ? wholeScale(spots, shown, 1) : Math.min(whole, room * NEAREST.most / nearest);
   const scale = most * nearest < NEAREST.least / 2 ? NEAREST.least / nearest : most;
   const along = (axis, pixels) => {
     const size = Math.max(pixels, extentOf(spots, axis) * scale + 2 * MARGIN[axis]);

@@ -1,12 +1,13 @@
 // Lessons: the remarks of a script as captions, and its expectations, those with a blank among them, as checked.
-import { UNREACHABLE, routeAt } from './trace.js';
+import { routeAt } from './trace.js';
 import { namesOf } from './building.js';
-import { prefixKey } from './datagrams.js';
+import { UNREACHABLE, prefixKey } from './datagrams.js';
+import { isSameTarget } from './packets.js';
 
 // A remark without its drawing: what stands behind an empty remark line and is indented, or has a link in it. A line of
-// places, which the page writes, is no remark.
+// places, which the page writes, and one that was set aside are no remarks.
 const DRAWN = /^\s|--|^[\s|/\\+-]+$/;
-const isPlaces = line => line.startsWith('#places ');
+const isOfPage = line => /^#(places|off) /.test(line);
 function proseOf(block) {
   let isBehindGap = false;
   const kept = block.filter(text => {
@@ -22,7 +23,7 @@ export function captionsOf(script) {
   let caption = '', block = [];
   for (const line of [...script.split('\n'), 'end']) {
     const isRemark = line.startsWith('#');
-    if (isRemark && !isPlaces(line)) block.push(line.replace(/^#+ ?/, ''));
+    if (isRemark && !isOfPage(line)) block.push(line.replace(/^#+ ?/, ''));
     else if (!isRemark && line !== '' && block.length > 0) {
       [caption, block] = [proseOf(block) || caption, []];
     }
@@ -30,6 +31,11 @@ export function captionsOf(script) {
   }
   return captions;
 }
+
+// The text of a file as a script: what editors put at its start and at the ends of lines goes, and a tab is a blank.
+const plainLine = line => /^(#|say )/.test(line) ? line : line.replaceAll('\t', ' ');
+export const plainLines = text =>
+  text.replace(/^\ufeff/, '').split(/\r\n?|\n/).map(line => plainLine(line.trim())).join('\n');
 
 // ---- Expectations ----
 // `expect R PREFIX ?` has a blank: the page runs the script with a remark in its place.
@@ -66,6 +72,15 @@ export function checksOf({ steps, ends }, expectations) {
     return { ...one, step, found, isBlank: one.wanted === '?', isMet: one.wanted === found };
   });
 }
+
+// Whether a blank asks for a metric where the next expectations stand, at a step or later. Until it is filled in the page does
+// not tell that metric.
+const asksFor = (router, prefix) => one => one.isBlank && one.router === router && isSameTarget(one.prefix.toLowerCase(), prefix);
+export function isAsked({ checks = [], step }, router, prefix, at = step) {
+  const next = checks.find(one => one.step >= at)?.step;
+  return checks.filter(one => one.step === next).some(asksFor(router, prefix));
+}
+export const hasBlank = ({ checks = [] }, router, prefix) => checks.some(asksFor(router, prefix));
 
 // What a text says as a metric: a number from 1 to 16, or none; else null.
 export function metricIn(text) {

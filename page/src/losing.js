@@ -54,28 +54,3 @@ function roundsApart({ trace, script, number, at, words, step }) {
   const apart = roundApart(trace, script, number, step).lines;
   return edit(script, at, 1, [...many(turn, begun), ...apart, ...many(rest, begun + (turn + 1) * gap)], rest > 0 ? 1 : 0);
 }
-
-// ---- Numbers of datagrams ----
-// Datagrams are numbered as they are sent, so lines that name them change when lines are put in before them. A datagram is
-// known by the line that sent it, its interface, and how many that line sent there before.
-export function keysOf({ datagrams, steps }, originOf = line => line) {
-  const counts = new Map();
-  return datagrams.map(({ router, iface, sentAt }) => {
-    const end = `${originOf(steps[sentAt].record.line)} ${router} ${iface}`, count = counts.get(end) ?? 0;
-    counts.set(end, count + 1);
-    return `${end} ${count}`;
-  });
-}
-
-const NAMING = /^(deliver|lose|sent) (\d+)/;
-export const hasNumbers = script => script.split('\n').some(line => NAMING.test(line));
-
-// The script as it was edited, with the numbers that its datagrams have in its trace.
-export function renumbered(had, old, { script, origins }, trace) {
-  const now = new Map(keysOf(trace, line => origins[line - 1]).map((key, number) => [key, number]));
-  const before = old.split('\n');
-  return script.split('\n').map((line, at) => {
-    const [, word, number] = NAMING.exec(before[origins[at] - 1] ?? '') ?? [], key = had[number];
-    return line.startsWith(`${word} `) && now.has(key) ? line.replace(NAMING, `${word} ${now.get(key)}`) : line;
-  }).join('\n');
-}

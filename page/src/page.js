@@ -15,6 +15,7 @@ function listen() {
     await openScript(await file.text(), file.name);
     target.value = '';
   };
+  byId('filter').oninput = ({ target }) => { view.filter = target.value; render(); };
   byId('slider').oninput = ({ target }) => go(Number(target.value));
   byId('place').onchange = ({ target }) => { view.place = target.value; render(); };
   byId('speed').onchange = () => view.timer && play(true);
@@ -28,12 +29,13 @@ function listen() {
 }
 
 // `#NAME` opens the lesson or example of that name. `step=12&router=1&prefix=2001:db8::/32` shows that step, and why that
-// router's metric is what it is; `script=` has a script itself, which is kept as one's own once it is changed.
+// router's metric is what it is, `packet=` in place of `prefix=` where its packets go; `script=` has a script itself, which is kept as one's own once it is changed.
 const addressed = () => new URLSearchParams(location.hash.slice(1));
 const scriptAsked = asked => [[...asked.keys()][0] ?? '', `${[...asked.keys()][0]}.lab`].find(name => SCRIPTS.has(name));
 async function followAddress() {
   const asked = addressed(), script = asked.get('script'), example = scriptAsked(asked);
-  const text = `route ${asked.get('router')} ${asked.get('prefix')}`, step = asked.get('step') ?? '';
+  const router = asked.get('router'), packet = asked.get('packet'), step = asked.get('step') ?? '';
+  const text = packet ? `packet ${router} ${packet}` : `route ${router} ${asked.get('prefix')}`;
   try {
     if (script) await openShared(await unpacked(script), asked.get('name') ?? 'shared.lab');
     else if (example && example !== editor.name) await openNamed(example);
@@ -52,8 +54,8 @@ async function openShared(text, name) {
 
 // The address follows the script, if it is one of this file, and the step.
 function writeAddress() {
-  const { kind, router, prefix } = named(view.chosen, view.trace) ?? {};
-  const route = kind === 'route' ? `&router=${router}&prefix=${prefix}` : '';
+  const { kind, router, prefix, target } = named(view.chosen, view.trace) ?? {};
+  const route = kind === 'route' ? `&router=${router}&prefix=${prefix}` : kind === 'packet' ? `&router=${router}&packet=${target}` : '';
   const script = SCRIPTS.has(editor.name) ? `${encodeURIComponent(editor.name.replace(/\.lab$/, ''))}&` : '';
   clearTimeout(view.address);
   const write = () => history.replaceState(null, '', `#${script}step=${view.step + 1}${route}`);

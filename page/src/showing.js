@@ -6,7 +6,7 @@ import { captionsOf, checksOf, expectationsOf } from './lessons.js';
 import { describe, hintOf, seconds } from './texts.js';
 import { html } from './markup.js';
 import { drawingOf } from './drawing.js';
-import { detailOf, eventOf } from './detail.js';
+import { detailOf, eventOf, openAt } from './detail.js';
 import { matrixOf, tablesOf, tallyOf } from './tables.js';
 import { quizOf } from './quiz.js';
 
@@ -22,7 +22,7 @@ const SCRIPTS = new Map([...document.querySelectorAll('#own > div, #scripts > di
 const view = {
   script: '', trace: readTrace(''), step: 0, since: -1, chosen: null, typed: {}, ran: null, refused: null, stale: false,
   wiring: null, spots: [], shifts: [], captions: [''], checks: [], eventsFrom: null, place: 'end',
-  isLarge: false, isQuiz: false, guesses: new Map(), isMatrix: null,
+  isLarge: false, isQuiz: false, guesses: new Map(), isMatrix: null, filter: '', room: 1, isFromAll: false,
 };
 const current = () => view.trace.steps[view.step];
 
@@ -98,7 +98,7 @@ function render(flying = false) {
   document.body.classList.toggle('chosen', view.chosen !== null);
   byId('where').textContent = record ? `step ${view.step + 1} of ${steps.length}, at ${seconds(now)}` : '';
   Object.assign(byId('slider'), { max: Math.max(0, steps.length - 1), value: view.step });
-  if (record) byId('slider').setAttribute('aria-valuetext', `line ${record.line}, ${describe(record, view.trace.names)}`);
+  if (record) byId('slider').setAttribute('aria-valuetext', `line ${record.line}, ${describe(record, view.trace.names, openAt(view, view.step))}`);
   renderCaption();
   keepFocus(() => {
     renderScript();
@@ -151,7 +151,7 @@ function replace(old, text) {
 
 function renderDrawing(flying) {
   const { clientWidth, clientHeight } = byId('drawing'), svg = byId('network');
-  const pane = { width: clientWidth, height: clientHeight }, isThere = view.wiring !== null;
+  const pane = { width: view.room * clientWidth, height: view.room * clientHeight }, isThere = view.wiring !== null;
   const { width, height, zoom = 1, scale = 1, roomy, parts } = isThere ? drawingOf({ ...view, flying, pane }) : { ...pane, parts: [] };
   const attributes = { width: width * zoom, height: height * zoom, viewBox: `0 0 ${width} ${height}`, class: roomy ? 'roomy' : '' };
   for (const [name, value] of Object.entries(attributes)) svg.setAttribute(name, value);
@@ -177,7 +177,7 @@ function renderEvents() {
   const { steps } = view.trace, list = byId('events');
   const from = steps.length > 2 * NEAR ? Math.max(0, Math.floor(view.step / NEAR) * NEAR - NEAR / 2) : 0;
   if (from !== view.eventsFrom) {
-    fill('events', html`${steps.slice(from, from + 2 * NEAR).map((state, index) => eventOf(state, from + index, view.trace.names))}`);
+    fill('events', html`${steps.slice(from, from + 2 * NEAR).map((state, index) => eventOf(state, from + index, view.trace.names, openAt(view, from + index)))}`);
     view.eventsFrom = from;
   }
   mark(list, 'now', view.step - from);

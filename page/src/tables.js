@@ -1,7 +1,9 @@
 // The tables of routes, their tally, and the matrix of all metrics.
-import { UNREACHABLE, nameOf, named, senderAt } from './trace.js';
+import { nameOf, named, senderAt } from './trace.js';
 import { leastCosts, tallyAll, walkOf } from './walks.js';
-import { prefixKey } from './datagrams.js';
+import { UNREACHABLE, prefixKey } from './datagrams.js';
+import { filterOf } from './filtering.js';
+import { isAsked } from './lessons.js';
 import { plural } from './texts.js';
 import { choice, classes, html } from './markup.js';
 
@@ -25,46 +27,53 @@ const drawnTables = new WeakMap();
 // So many routes at most have the time that is left, which changes at each step.
 const COUNTED_DOWN = 300;
 
-// The table of each router, with what has changed since another step; the same markup as before where nothing of it has.
-export function tablesOf({ trace, step, since = step - 1, chosen }) {
+// The table of each router, with what has changed since another step, as far as a filter has it; the same markup as before
+// where nothing of it has changed.
+export function tablesOf({ trace, step, since = step - 1, chosen, filter = '', checks = [] }) {
   const state = trace.steps[step], { routers, record, least, now } = state, old = trace.steps[since]?.routers ?? routers;
   const route = named(chosen, trace), count = routers.reduce((sum, { table }) => sum + table.size, 0);
-  const clock = count <= COUNTED_DOWN ? now : null;
-  return routers.map(({ table }, router) => {
+  const clock = count <= COUNTED_DOWN ? now : null, wants = filterOf(trace, filter);
+  const shown = routers.flatMap(({ table }, router) => {
+    if (!wants.hasRouter(router)) return [];
     const mine = route?.kind === 'route' && route.router === router ? route.prefix : null;
     const moved = record.router === router, before = old[router].table, name = nameOf(trace, router);
-    const wanted = [least, before, moved, mine, name, clock], kept = drawnTables.get(table);
+    const asked = checks.length === 0 ? [] : [...table.keys()].filter(prefix => isAsked({ checks, step }, router, prefix));
+    const wanted = [least, before, moved, mine, name, clock, filter, asked.join()], kept = drawnTables.get(table);
     if (kept?.wanted.every((part, index) => part === wanted[index])) return kept.markup;
-    const markup = tableOf({ trace, state, before, moved, mine, clock }, router);
+    const markup = tableOf({ trace, state, before, moved, mine, clock, wants, asked }, router);
     drawnTables.set(table, { wanted, markup });
-    return markup;
+    return markup.text ? [markup] : [];
   });
+  return shown.length > 0 ? shown : [NONE];
 }
+const NONE = html`<p class="empty">No router and no prefix is named so.</p>`;
 
 const inOrder = entries => entries.map(entry => [prefixKey(entry.route.prefix), entry])
   .sort(([a], [b]) => a < b ? -1 : 1).map(([, entry]) => entry);
 const HEADS = ['prefix', 'metric', 'shortest', 'next hop', 'tag', 'expires'];
 function tableOf(context, router) {
-  const { trace, state, before, moved } = context, { quiet, table } = state.routers[router], now = moved ? 'now' : '';
-  const gone = [...before.values()].filter(({ route }) => !table.has(route.prefix));
-  const rows = inOrder([...table.values(), ...gone]), title = titleOf(trace, router, quiet);
+  const { trace, state, before, moved, wants } = context, { quiet, table } = state.routers[router], now = moved ? 'now' : '';
+  const gone = [...before.values()].filter(({ route }) => !table.has(route.prefix)), title = titleOf(trace, router, quiet);
+  const all = [...table.values(), ...gone], rows = inOrder(all.filter(({ route }) => wants.hasPrefix(route.prefix)));
+  if (rows.length === 0 && (all.length > 0 || wants.isOfPrefixes)) return html``;
   if (rows.length === 0) return html`<p class="empty ${now}"><b>${title}</b> has no route</p>`;
   return html`<table><caption class="${now}">${title}</caption>${headsOf(HEADS)}
     <tbody>${rows.map(entry => rowOf(context, router, entry))}</tbody></table>`;
 }
 
-function rowOf({ trace, state, before, mine, clock }, router, entry) {
+function rowOf({ trace, state, before, mine, clock, asked }, router, entry) {
   const { prefix, metric, tag, until, gateway } = entry.route, text = `route ${router} ${prefix}`, had = before.get(prefix);
-  const gone = !state.routers[router].table.has(prefix), dying = metric >= UNREACHABLE;
-  const least = leastCosts(trace, state, prefix)[router], label = `${prefix} at ${nameOf(trace, router)}: why metric ${metric}?`;
+  const isOpen = asked.includes(prefix), gone = !state.routers[router].table.has(prefix), dying = metric >= UNREACHABLE && !isOpen;
+  const least = leastCosts(trace, state, prefix)[router], label = `${prefix} at ${nameOf(trace, router)}: ${
+    isOpen ? 'a blank asks for it' : `why metric ${metric}?`}`;
   const is = { gone, new: !gone && differs(entry, had), dying, chosen: mine === prefix };
-  const was = is.new && had && had.route.metric !== metric ? had.route.metric : '';
+  const was = is.new && had && had.route.metric !== metric && !isOpen ? had.route.metric : '';
   return html`<tr class="${classes(...Object.keys(is).filter(name => is[name]))}" data-choose="${text}"
     data-router="${router}" data-prefix="${prefix}">
     <td title="${prefix}"><button class="link" ${choice(text, label, mine === prefix && text)}>${prefix}</button></td>
-    <td class="metric" data-was="${was}">${metric}${walkOf(trace, router, entry).isBacked ? ''
+    <td class="metric" data-was="${was}">${isOpen ? '?' : metric}${isOpen || walkOf(trace, router, entry).isBacked ? ''
       : html`<b class="bad" title="no path has this cost">!</b>`}</td>
-    <td class="faint">${least < UNREACHABLE ? least : 'none'}</td>
+    <td class="faint">${isOpen ? '?' : least < UNREACHABLE ? least : 'none'}</td>
     <td title="${exactly(gateway)}">${gateway ? wayOf(trace, gateway) : 'own'}</td>
     <td>${tag}</td><td class="${dying ? '' : 'faint'}">${gone ? '' : untilText(until, dying, clock)}</td></tr>`;
 }
@@ -100,20 +109,21 @@ export const printed = ({ routers }) => routers.flatMap(({ table }, router) =>
 // ---- The matrix ----
 // All metrics, a row for each router and a column for each prefix.
 export function matrixOf(view) {
-  const { trace, step, chosen } = view, state = trace.steps[step];
+  const { trace, step, chosen, filter } = view, state = trace.steps[step], wants = filterOf(trace, filter);
   const all = new Map(state.routers.flatMap(({ table }) => [...table.values()]).map(entry => [entry.route.prefix, entry]));
-  const prefixes = inOrder([...all.values()]).map(({ route }) => route.prefix);
+  const prefixes = inOrder([...all.values()]).map(({ route }) => route.prefix).filter(wants.hasPrefix);
   const rowFor = ({ table }, router) => html`<tr><th scope="row">${nameOf(trace, router)}</th>${prefixes.map(prefix =>
     cellOf(view, router, prefix, table.get(prefix)?.route.metric, chosen))}</tr>`;
-  return html`<table class="matrix"><caption>Metrics: a row for each router, a column for each prefix</caption>
+  return html`<table class="matrix"><caption>Metrics, by router and prefix</caption>
     <thead><tr><td></td>${prefixes.map(prefix => html`<th scope="col"><span>${prefix}</span></th>`)}</tr></thead>
-    <tbody>${state.routers.map(rowFor)}</tbody></table>`;
+    <tbody>${state.routers.map((own, router) => wants.hasRouter(router) ? rowFor(own, router) : '')}</tbody></table>`;
 }
 
 function cellOf(view, router, prefix, metric, chosen) {
   const { trace, step } = view, text = `route ${router} ${prefix}`, least = leastCosts(trace, trace.steps[step], prefix)[router];
-  const is = classes(hasChanged(view, router, prefix) && 'new', metric >= UNREACHABLE && 'dying', metric > least && 'longer',
+  const isOpen = isAsked(view, router, prefix);
+  const is = classes(hasChanged(view, router, prefix) && 'new', !isOpen && metric >= UNREACHABLE && 'dying', !isOpen && metric > least && 'longer',
     chosen === text && 'chosen');
-  const label = `${prefix} at ${nameOf(trace, router)}: ${metric ? `why metric ${metric}?` : 'no route'}`;
-  return html`<td class="${is}"><button class="link" title="${label}" ${choice(text, label, chosen)}>${metric ?? '·'}</button></td>`;
+  const says = isOpen ? 'a blank asks for it' : metric ? `why metric ${metric}?` : 'no route', label = `${prefix} at ${nameOf(trace, router)}: ${says}`;
+  return html`<td class="${is}"><button class="link" title="${label}" ${choice(text, label, chosen)}>${isOpen ? '?' : metric ?? '·'}</button></td>`;
 }

@@ -89,8 +89,9 @@ const HAPPENED = {
 // What it means that a route leaves the forwarding table, by the event.
 const LEAVES = { tick: 'times out', deliver: 'is withdrawn by its next hop', drop: 'is no longer originated' };
 
-// What happened at a record, in words; `names` has the names of routers, by their numbers.
-export function describe(record, names = new Map()) {
+// What happened at a record, in words; `names` has the names of routers, by their numbers, and `isOpen` says of which prefix
+// of its router the metric is not told.
+export function describe(record, names = new Map(), isOpen = () => false) {
   const { record: kind, why, routers, router, event, sent, changes, prints, datagram, phases, last } = record;
   const name = number => names.get(number) ?? `R${number}`, asked = () => plural(sent.length, 'Request');
   if (kind === 'start') return `${plural(routers.length, 'router')} start${routers.length === 1 ? 's' : ''}, ${asked()} sent`;
@@ -100,7 +101,7 @@ export function describe(record, names = new Map()) {
   const ended = last === null ? 'no table changed' : `last change in ${last}`;
   if (kind === 'phases') return `${plural(phases, 'phase')}, ${ended}`;
   if (kind !== 'event') return `${kind}: ${plural(prints.length, 'line')}`;
-  const becomes = ({ change, metric }) => change === 'add' ? `at ${metric}` : LEAVES[event.kind] ?? 'is unreachable';
+  const becomes = ({ change, prefix, metric }) => isOpen(prefix) ? 'changes' : change === 'add' ? `at ${metric}` : LEAVES[event.kind] ?? 'is unreachable';
   const one = changes.filter(({ prefix }) => prefix !== event.prefix).map(change => `, ${change.prefix} ${becomes(change)}`);
   const sends = sent.length > 0 ? `, ${sent.length} sent` : '';
   return `${name(router)}${HAPPENED[event.kind](event, name, record)}${sends}${one.length > 1 ? `, ${one.length} changes` : one}`;

@@ -1,12 +1,11 @@
 // The trace of a script, read: what the network was after each step.
 import { namesOf } from './building.js';
 import { addLosses } from './losses.js';
+import { routeFor, targetIn } from './packets.js';
 
-export const UNREACHABLE = 16;
-
-// A step is a record of the trace with the network as it was after it: the routers, their latest moment, what is out
-// (`link N` that is cut, `router R` that is silent, each with the line that says so), what the script says of that, and
-// `least`, kept least costs.
+// A step is a record of the trace with the network as it was after it: the routers, their latest moment, how much `earlier`
+// it is than what came before it, what is out (`link N` that is cut, `router R` that is silent, each with the line that says
+// so), what the script says of that, and `least`, kept least costs.
 export function readTrace(text, script = '') {
   const trace = { steps: [], datagrams: [], links: new Map(), ends: [], routerAt: new Map(), names: namesOf(script) };
   for (const line of text.split('\n')) if (line) addRecord(trace, JSON.parse(line));
@@ -24,7 +23,9 @@ function addRecord(trace, record) {
   for (const sent of record.sent ?? []) addDatagram(trace, sent, step);
   if (record.event?.kind === 'deliver') addArrival(trace, record, step);
   const routers = routersAfter(trace.steps.at(-1)?.routers ?? [], record, step);
-  trace.steps.push({ record, routers, now: Math.max(0, ...routers.map(router => router.timers.last)) });
+  const now = Math.max(0, ...routers.map(router => router.timers.last)), back = (trace.steps.at(-1)?.now ?? 0) - record.now;
+  const earlier = record.event && back > 0 ? `${back / 1000} s before what came last` : null;
+  trace.steps.push({ record, routers, now, earlier });
 }
 
 // An end is an interface on its link, with what it sent.
@@ -110,7 +111,8 @@ export const hasCome = ({ arrivals }, end, by) => arrivals.some(({ end: to, step
 export const onTheirWay = ({ sent }, step) =>
   sent.filter(({ sentAt, doneAt, lostAt }) => sentAt <= step && step < Math.min(doneAt, lostAt)).reverse();
 
-// What a text names: `router R`, `iface R I`, `datagram N` or `route R PREFIX`; null where there is no such thing.
+// What a text names: `router R`, `iface R I`, `datagram N`, `route R PREFIX`, or packets of a router for an address or a
+// prefix, `packet R TARGET`; null where there is no such thing.
 export function named(text, { ends, datagrams }) {
   const [kind, ...words] = (text ?? '').split(' ');
   const [first, second] = words.map(word => /^(0|[1-9]\d{0,8})$/.test(word) ? Number(word) : -1);
@@ -118,12 +120,17 @@ export function named(text, { ends, datagrams }) {
   if (!ends[first]) return null;
   if (kind === 'router') return { kind, router: first };
   if (kind === 'iface') return ends[first][second] ? { kind, router: first, iface: second } : null;
+  if (kind === 'packet') return targetIn(words[1] ?? '') === words[1] ? { kind, router: first, target: words[1] } : null;
   return kind === 'route' && /^[0-9a-f:]+\/\d+$/.test(words[1]) ? { kind, router: first, prefix: words[1] } : null;
 }
 
-// The prefix whose metrics stand at the routers: that of the route that was chosen, else the first that was owned.
-export const prefixInView = ({ trace, chosen }) =>
-  named(chosen, trace)?.prefix ?? trace.steps[0]?.routers.flatMap(router => router.prefixes)[0]?.prefix;
+// The prefix whose metrics stand at the routers: that of the route that was chosen, or that packets take; else the first
+// that was owned.
+export function prefixInView({ trace, step, chosen }) {
+  const { kind, router, target, prefix } = named(chosen, trace) ?? {};
+  const taken = kind === 'packet' ? routeFor(trace.steps[step].routers[router].table, target)?.prefix : prefix;
+  return taken ?? trace.steps[0]?.routers.flatMap(({ prefixes }) => prefixes)[0]?.prefix;
+}
 
 // The step to go to from another, forth (1) or back (-1): by events, or to the end of a line, of a change of a route, or
 // of what a remark is about, where `captions` are those of lines. It is the last or the first where there is none.

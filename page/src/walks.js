@@ -1,6 +1,6 @@
 // Why a metric is what it is: walks, least costs, and what a datagram offered.
-import { UNREACHABLE, nameOf, routeAt } from './trace.js';
-import { covers, entriesOf } from './datagrams.js';
+import { nameOf, routeAt } from './trace.js';
+import { UNREACHABLE, entriesOf } from './datagrams.js';
 
 const walks = new WeakMap();
 
@@ -63,33 +63,6 @@ export function withoutRings(trace, routers) {
 }
 
 export const wayText = (trace, routers) => routers.map(router => nameOf(trace, router)).join(' → ');
-
-// Where a packet to a prefix goes from a router, by the tables of a step: the interfaces that it passes, each with that at
-// which it comes in, and how it ends: `arrived`, `loop`, `none` (no route), `cut`, `down`, or `outside`, at no router.
-export function pathOf(trace, { routers, out }, router, prefix) {
-  const way = [router], hops = [];
-  for (let at = router; ;) {
-    const route = usableRoute(routers[at].table, prefix);
-    if (!route?.gateway) return { way, hops, end: route ? 'arrived' : 'none' };
-    const from = trace.ends[at][route.gateway.iface], { link } = from;
-    const to = trace.links.get(link).find(({ addr }) => addr === route.gateway.next_hop);
-    if (!to) return { way, hops, end: 'outside' };
-    const isBack = way.includes(to.router), isDown = out.has(`router ${to.router}`);
-    way.push(to.router);
-    hops.push({ from, to });
-    if (out.has(`link ${link}`)) return { way, hops, end: 'cut' };
-    if (isBack || isDown) return { way, hops, end: isBack ? 'loop' : 'down' };
-    at = to.router;
-  }
-}
-
-// The route that a packet to the first address of a prefix takes: of those that can be used, the longest prefix.
-function usableRoute(table, prefix) {
-  const lengthOf = route => Number(route.prefix.split('/')[1]);
-  return [...table.values()].map(({ route }) => route)
-    .filter(route => route.metric < UNREACHABLE && covers(route.prefix, prefix))
-    .reduce((best, route) => best && lengthOf(best) >= lengthOf(route) ? best : route, null);
-}
 
 // What each row of the table of adoption makes of an offer, in words.
 const OUTCOMES = {

@@ -1,0 +1,90 @@
+// What the page shows, for tests/page.mjs: numbers and words that could mislead.
+import { filterOf } from '../page/src/filtering.js';
+import { offersOf } from '../page/src/walks.js';
+import { layOut, wiringOf } from '../page/src/layout.js';
+import { drawingOf } from '../page/src/drawing.js';
+import { detailOf, eventOf, openAt } from '../page/src/detail.js';
+import { matrixOf, tablesOf, tallyOf } from '../page/src/tables.js';
+import { checksOf, expectationsOf, plainLines, withAnswer } from '../page/src/lessons.js';
+import { joined, networkScript } from '../page/src/building.js';
+import { oneResponse } from '../page/src/datagrams.js';
+
+export function shownCases({ same, traceOf, three }) {
+  const drawn = (trace, more = {}) => {
+    const wiring = wiringOf(trace), state = { trace, wiring, spots: layOut(wiring), pane: { width: 500, height: 400 }, step: trace.steps.length - 1, shifts: [], chosen: null, ...more };
+    return drawingOf(state).parts.map(({ text }) => text).join('');
+  };
+  const told = (trace, more = {}) => detailOf({ trace, step: trace.steps.length - 1, wiring: wiringOf(trace), typed: {}, place: 'end', chosen: null, ...more }).text.replace(/\s+/g, ' ');
+  return {
+    // R2 learned the prefix of R1, and so tells R1 16: R1 holds 2, which stays.
+    'an offer that is unreachable': () => {
+      const trace = traceOf(`${three}rounds 3 0 15000\n`), step = trace.steps.findLastIndex(({ record }) => record.event?.kind === 'deliver' && record.router === 1 && trace.datagrams[record.event.datagram].router === 2);
+      same('what becomes of it', offersOf(trace, step).map(({ told: metric, before, after, outcome }) => [metric, before, after, outcome]), [[16, 2, 2, 'unreachable: ignored']]);
+      same('what is said', told(trace, { step }).includes('unreachable: ignored'), true);
+    },
+    // Before anything is owned there is no route that could be shortest; behind a forged update there is no path to show.
+    'nothing is said of nothing': () => {
+      const none = traceOf(three.replace('own 2001:db8::/32 0\n', ''));
+      same('the tally', tallyOf({ trace: none, step: 0 }).text.includes('0 of 0 route'), false);
+      const lied = traceOf(`${three}liar 1 0 10 fe80::66 ${oneResponse('2001:db8:9::/48', 0, 1)}\n`), text = told(lied, { chosen: 'route 1 2001:db8:9::/48' });
+      same('the path', [text.includes('It comes from a forged update; no such path exists.'), text.includes('<table id="walk">')], [true, false]);
+    },
+    'a remark is true of a network that grows': () => {
+      const script = joined(joined(networkScript('line', 2), 1, 2, 1).script, 2, 3, 1).script;
+      same('numbers and shapes in it', /^#.*\b(\d+ routers|line|ring)\b/m.test(script), false);
+    },
+    // Link 0 costs 1 at both ends, link 1 costs 4 at R2. R2 has 6 over both; its walk has two hops.
+    'small numbers are told apart': () => {
+      const trace = traceOf(`${three.replace('iface fe80::c0 1', 'iface fe80::c0 4')}rounds 3 0 15000\ntick 0 60000 0\n`), text = drawn(trace, { chosen: 'route 2 2001:db8::/32' });
+      const inside = pattern => [...text.matchAll(pattern)].map(([, found]) => found);
+      same('the numbers of costs', inside(/<text x="[^"]*" y="[^"]*" font-size="(?:12|8\.5)">(\d+)<\/text><title>R\d interface/g), ['1', '4']);
+      same('hops', inside(/class="hop-name"[^>]*>(.)</g), ['①', '②']);
+      same('an envelope has no number but in its title', [/class="pile[^]*?<text[^>]*>\d/.test(text), text.includes('<title>datagram')], [false, true]);
+    },
+    // A blank asks for R1's metric behind the first round, which is 2, and one for R2's behind the second, which is 3.
+    'what a blank asks for is not told': () => {
+      const script = `${three}round 0\nexpect 1 2001:db8::/32 ?\nround 15000\nexpect 2 2001:db8::/32 ?\n`, PREFIX = '2001:db8::/32';
+      const seen = (text, line, chosen = null) => {
+        const trace = traceOf(text), step = trace.steps.findLastIndex(({ record }) => record.line === line);
+        const view = { trace, step, since: step - 1, chosen, checks: checksOf(trace, expectationsOf(text)) };
+        const badges = [...drawn(trace, view).matchAll(/class="plate"[^]*?<text [^>]*>([^<]*)</g)].map(([, badge]) => badge).join(' ');
+        const cells = tablesOf(view).flatMap(({ text: table }) => [...table.matchAll(/<td class="metric"[^>]*>(.*?)</g)].map(([, cell]) => cell)).join(' ');
+        const matrix = [...matrixOf(view).text.matchAll(/aria-pressed="[^"]*">([^<]*)</g)].map(([, cell]) => cell).join(' ');
+        const learned = trace.steps.findIndex(({ record }) => record.router === 1 && record.changes?.length > 0);
+        return { badges, cells, matrix, event: /2001:db8::\/32 (changes|at \d+)/.exec(eventOf(trace.steps[learned], learned, trace.names, openAt(view, learned)).text)?.[1], view };
+      };
+      const facts = ({ badges, cells, matrix, event }) => [badges, cells, matrix, event], answered = withAnswer(script, 11, '2');
+      same('at the first', facts(seen(script, 10)), ['1 ?', '1 ?', '1 ? ·', 'changes']);
+      same('at the second', facts(seen(script, 12)), ['1 2 ?', '1 2 ?', '1 2 ?', 'changes']);
+      same('once that is filled in', facts(seen(answered, 10)), ['1 2', '1 2', '1 2 ·', 'at 2']);
+      const why = told(traceOf(script), { ...seen(script, 10).view, chosen: `route 1 ${PREFIX}`, wiring: wiringOf(traceOf(script)) });
+      same('why', [why.includes('A blank asks for this metric.'), /<h2>Why|id="plot"/.test(why)], [true, false]);
+      const later = told(traceOf(answered), { ...seen(answered, 12).view, chosen: `route 2 ${PREFIX}` });
+      same('why, of the other', later.includes('A blank asks'), true);
+    },
+    // What editors put into files goes; blanks between words and within remarks stay.
+    'files of other editors': () => {
+      const typed = '\ufeffrouter a \r\n\tiface\tfe80::1 1  1280 0\r\n  #   a\t-- b\r\nsay  a  b\t\r\ncold 0\r\n';
+      same('the lines', plainLines(typed), 'router a\niface fe80::1 1  1280 0\n#   a\t-- b\nsay  a  b\ncold 0\n');
+      same('lines of old systems', plainLines('router\rcold 0'), 'router\ncold 0');
+    },
+    'time that goes back is said': () => {
+      const trace = traceOf(`${three}tick 0 1000 0\ntick 0 500 0\ntick 1 1000 0\n`), [, , back, forth] = trace.steps;
+      same('which', trace.steps.map(({ earlier }) => earlier), [null, null, '0.5 s before what came last', null]);
+      same('in the list', [eventOf(back, 2, trace.names), eventOf(forth, 3, trace.names)].map(({ text }) => text.includes('0.5 s before')), [true, false]);
+      same('beside the drawing', told(trace, { step: 2 }).includes('Time goes back: 0.5 s before what came last.'), true);
+    },
+    // A word is the beginning of a name or a part of a prefix; several of a kind are any of them.
+    'a filter of tables': () => {
+      const script = `${three.replace('router', 'router Bonn').replace('cold', 'own 2001:db8:7::/48 0\ncold')}rounds 3 0 15000\n`, trace = traceOf(script), step = trace.steps.length - 1;
+      const shown = filter => tablesOf({ trace, step, chosen: null, filter }).map(({ text }) => [/<caption[^>]*>(.*?)</.exec(text)?.[1] ?? '', (text.match(/<tr class=/g) ?? []).length].join(' '));
+      same('all', shown(''), ['Bonn 2', 'R1 2', 'R2 2']);
+      same('a router', [shown('bonn'), shown('R2'), shown('bo r1')], [['Bonn 2'], ['R2 2'], ['Bonn 2', 'R1 2']]);
+      same('a prefix', [shown('db8:7'), shown('r1 db8:7')], [['Bonn 1', 'R1 1', 'R2 1'], ['R1 1']]);
+      same('nothing', shown('zzz'), [' 0']);
+      const cells = filter => (matrixOf({ trace, step, since: step - 1, chosen: null, filter }).text.match(/<td class=/g) ?? []).length;
+      same('cells of the matrix', [cells(''), cells('r1'), cells('db8:7'), cells('r1 db8:7')], [6, 2, 3, 1]);
+      same('R1 is not R11', [1, 11].map(filterOf(traceOf(`${networkScript('line', 12)}`), 'r1').hasRouter), [true, false]);
+    },
+  };
+}
