@@ -4,7 +4,7 @@ import { namedIn, renumbered, staleLine } from './numbering.js';
 
 // Where each kind of line names a router and an interface of it, by the number of the word.
 export const NAMES_AT = { deliver: [2, 3], cost: [1, 2], stranger: [1, 2], ask: [1, 2], liar: [1, 2], tick: [1], tell: [1], silent: [1], speaks: [1],
-  gain: [1], drop: [1], restart: [1], print: [1], expect: [1] };
+  gain: [1], drop: [1], restart: [1], shutdown: [1], print: [1], path: [1], expect: [1], 'expect path': [2] };
 
 // The script without `link N` or `router N`, as an edit. `renamed` has of a router and an interface of it their new numbers;
 // null where they are no more. An interface that would be its router's last stays, on a link of its own.
@@ -63,7 +63,8 @@ function partWithout(text, word, { place, gone, stays, left, removed, free }) {
 
 // A line that names a router, and perhaps an interface of it.
 function namedWithout(text, { names, renamed }) {
-  const words = text.split(/( +)/), [routerAt, ifaceAt] = NAMES_AT[words[0]].map(at => 2 * at), name = words[routerAt];
+  const words = text.split(/( +)/), form = /^expect path \S+ \S+ \S/.test(text) ? 'expect path' : words[0];
+  const [routerAt, ifaceAt] = NAMES_AT[form].map(at => 2 * at), name = words[routerAt];
   const router = names.get(name) ?? (/^\d+$/.test(name ?? '') ? Number(name) : null), iface = ifaceAt ? Number(words[ifaceAt]) : null;
   if (router === null) return text;
   const now = renamed(router, iface);
