@@ -29,3 +29,7 @@ returns-in-Cut g c =
 pub returns-in-Mend : goal.returns-in-Mend
 returns-in-Mend g c =
     has_told g.V.Watch.starts g.V.Observer.takes g.V.Observer.fails g.V.Watch.notes c.set_cut-in-Mend.result (Some c.args.site.now, c.args.watch.now) (Some c.args.site.now, c.args.watch.now) (untold g.V.Watch.starts g.V.Observer.takes g.V.Observer.fails g.V.Watch.notes (Some c.args.site.now, c.args.watch.now))
+
+pub returns-in-ExpectPath : goal.returns-in-ExpectPath
+returns-in-ExpectPath g c =
+    has_told g.V.Watch.starts g.V.Observer.takes g.V.Observer.fails g.V.Watch.notes c.expect_fate.result (Some c.args.site.now, c.args.watch.now) (Some c.args.site.now, c.args.watch.now) (untold g.V.Watch.starts g.V.Observer.takes g.V.Observer.fails g.V.Watch.notes (Some c.args.site.now, c.args.watch.now))
