@@ -19,12 +19,12 @@ use Rattle.ripngd_lab.specs.declared.stop.Stop.TheVariants.{Refused, Failed}
 abbrev pub AllTakePart : Outages → Type 0
 AllTakePart outages = (outages.silent.items ≡ []) × (outages.cut.items ≡ [])
 
--- so many phases are made, and then the watcher is told how many, and which of them last changed some table
+-- so many phases are made, and then the observer is notified how many, and which of them last changed some table
 abbrev pub AreMadeAndCounted : {V : Type 0} → (V → Told → V → Type 0) → (V → Aside → V → Type 0) → LabValue × V → ℕ → LabValue × V → Type 0
 AreMadeAndCounted {V} takes notes s phases s' =
     (v : V) × (last : Option ℕ) × AreMadePhases takes s.0.network (s.0.world, s.1) phases last (s'.0.world, v) × notes v (CountsPhases phases last) s'.1
 
--- what a script says where phases stop in the one of that number: the line is refused by it, unless memory or the watcher failed
+-- what a script says where phases stop in the one of that number: the line is refused by it, unless memory or the observer failed
 abbrev pub IsStopAt : ℕ → Stopped PhaseRefused Error → Stop → Type 0
 IsStopAt phase (HasFailed error) stop = is_failure stop ≡ true
 IsStopAt phase (IsRefused OutOfMemory) stop = is_failure stop ≡ true

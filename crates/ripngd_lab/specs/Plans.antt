@@ -51,7 +51,7 @@ first_by (One router word) unheard sent = sent
 first_by All unheard sent = sent
 first_by (Due round) unheard sent = sent
 
--- the first datagram of a wave: the first that was not passed by, or, behind ticks, the first of them
+-- the first datagram of a wave: the first that was not passed by, or, after ticks, the first of them
 abbrev pub first_of : Wave → ℕ → ℕ → ℕ
 first_of wave unheard sent = first_by wave.ticking unheard sent
 

@@ -44,7 +44,7 @@ impl Course {
     }
 }
 
-/// Does what a line says of a network that runs. What a router answers is for the watcher alone.
+/// Does what a line says of a network that runs. The output of a router goes to the observer alone.
 ///
 /// # Errors
 /// Why the script ends here. What was done before it stays done.

@@ -1,4 +1,4 @@
-//! What moves a network while the watcher of a script is told: an event, a forged Response, the waves of plans, rounds and phases.
+//! What moves a network, with a report to the observer of the script: an event, a forged Response, waves of plans, rounds, phases.
 
 ghost use Rattle.std.specs.Prelude.{◌≡◌, ℕ, All, IfErr, IfOk, OnOk, Some, length};
 ghost use Rattle.ripng_phases.specs.Making.{AreMadePhases, HealsIn};
@@ -33,7 +33,7 @@ pub fn step<V: Watch>(lab: &mut Site, event: &Event<'_>, watch: &mut V) -> Outco
     }
 }
 
-/// A forged Response arrives, and a watcher is told of it. The router is there, and accepts it.
+/// A forged Response arrives, and the observer is notified. The router is there, and accepts it.
 fn lie<V: Watch>(
     running: &mut Network,
     router: usize,
@@ -108,7 +108,7 @@ fn stop_at(phase: usize, why: Stopped<PhaseRefused, io::Error>) -> Stop
 /// A wave is made: its ticks, and then its deliveries. What was sent before these is passed by from then on.
 ///
 /// # Errors
-/// A router or a datagram is not there, a regular update is not due; out of memory, or the watcher fails. What was done before it stays
+/// A router or a datagram is not there, a regular update is not due; out of memory, or the observer fails. What was done before it stays
 /// done.
 pub fn make_wave<V: Watch>(
     site: &mut Site,

@@ -62,13 +62,13 @@ pub fn latest_moment(lab: &Network) -> Option<Moment> {
     latest
 }
 
-/// So many phases are made, one after another, by the chance of a generator that starts from a seed, and the watcher is told in
+/// So many phases are made, one after another, by the chance of a generator that starts from a seed, and the observer is notified in
 /// which of them some table last changed. 28 of them leave each table with the least costs of now, and nothing else below 16 hops,
 /// whatever happened before.
 ///
 /// # Errors
 /// `Outage` where a router is silent or a link is cut: nothing is then done. A router whose regular update is not due in time, a
-/// phase past the last moment, out of memory, or the watcher fails. What was done before it stays done.
+/// phase past the last moment, out of memory, or the observer fails. What was done before it stays done.
 pub fn make_phases<V: Watch>(
     alloc: Global,
     lab: &mut Lab<Routes>,

@@ -179,7 +179,7 @@ fn add_deliveries(
     Ok(())
 }
 
-/// Whether the regular update of a router is due, at a moment or at the last one that it was told.
+/// Whether the regular update of a router is due, at this time or at the last one of the router.
 fn is_due(lab: &Network, router: usize, now: Moment) -> bool {
     match lab.router(router) {
         Some(router) => router.regular().reached(now.max(router.last())),

@@ -1,4 +1,4 @@
-//! What lines print: the watcher of a script that writes it.
+//! What lines print: the observer of a script that writes it.
 
 ghost use Rattle.std.specs.Prelude.{⊤};
 
@@ -224,7 +224,7 @@ fn print_route<W: Write>(
 /// Writes the datagram of that number, or all that were ever sent, in order.
 ///
 /// # Errors
-/// Of the writer, or want of memory.
+/// Of the writer, or out of memory.
 pub fn print_sent<W: Write>(
     alloc: Global,
     lab: &Network,

@@ -23,11 +23,11 @@ pub fn lab<W: Write>(alloc: Global, script: &[u8], out: &mut W) -> io::Result<bo
     watched(alloc, script, &mut Printer::new(alloc, out))
 }
 
-/// Runs a script, line by line, and answers whether every line was done. The watcher is told of all that happens. The
+/// Runs a script, line by line, and answers whether every line was done. The observer is notified of all that happens. The
 /// first line that is refused, or expects what is not so, ends the script.
 ///
 /// # Errors
-/// `OutOfMemory` where memory was refused, else the fault of the watcher. What was told before stays told.
+/// `OutOfMemory` if memory ran out, else the error of the observer. Earlier notifications stay as they are.
 pub fn watched<V: Watch>(alloc: Global, script: &[u8], watch: &mut V) -> io::Result<bool>
     ensures told { OnOk result ((end : Option LabValue) × IsToldOfLab V.starts V.takes V.notes (None, watch.old) (end, watch.new)) }
     ensures told_until { OnErr result ((end : Option LabValue) × IsToldUntil V.starts V.takes V.fails V.notes (None, watch.old) (end, watch.new)) }
@@ -71,7 +71,7 @@ fn is_skipped(line: &[u8]) -> bool {
     line.is_empty() || line.starts_with(b"#")
 }
 
-/// A line without the remark behind its words, and without the spaces before that.
+/// A line without the remark after its words, and without the spaces before that.
 pub fn words_of(text: &str) -> &str {
     if text.starts_with("say ") {
         return text;

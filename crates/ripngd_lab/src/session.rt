@@ -165,7 +165,7 @@ impl Session {
     }
 }
 
-/// The routers of a network start at one time, and the watcher is told.
+/// The routers of a network start at one time, which the observer is notified of.
 fn begin_lab<V: Watch>(
     alloc: Global,
     nodes: Vec<Node>,

@@ -21,7 +21,7 @@ pub type Network = Running<Routes>;
 pub enum Held {
     /// A lab, of which all is promised.
     Lawful(Lab<Routes>),
-    /// Routers of which one was lied to.
+    /// Routers of which one has accepted a forged Response.
     Lied(Network),
 }
 
@@ -57,7 +57,7 @@ impl Site {
         }
     }
 
-    /// The same routers, of which one may be lied to.
+    /// The same routers, of which one may have accepted a forged Response.
     pub fn lied(self) -> Site
         ensures { result ≡ self }
     {
@@ -95,10 +95,10 @@ impl Site {
         self.running().sent()
     }
 
-    /// An event happens, and a watcher is told of it with its answer.
+    /// An event happens, and the observer is notified of it, with the router's output.
     ///
     /// # Errors
-    /// The first reason to refuse the event, or out of memory, and then nobody is told; or the watcher's, and then the event is done.
+    /// The first reason to refuse the event, or out of memory, without a notification; or the observer's, and then the event is done.
     pub fn step_watched<V: Observer<Routes>>(
         &mut self,
         event: &Event<'_>,

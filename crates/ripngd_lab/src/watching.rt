@@ -1,4 +1,4 @@
-//! Who is told what happens in a script.
+//! The observer of a script.
 
 ghost use Rattle.std.specs.Prelude.{ℕ, OnErr, OnOk};
 ghost use Rattle.ripng_world.specs.Labs.{LabValue};
@@ -14,27 +14,27 @@ use route_table::Moment;
 use router_core::{Answer, Arrival};
 use std::io;
 
-/// A watcher of a script. It is told of each thing as soon as that is done, in order; of events as a watcher of the lab.
+/// An observer of a script. It is notified of each thing as soon as that is done, in order; of events as an observer of the network.
 pub trait Watch: ripng_world::Observer<Routes, Fault = io::Error> {
     // What the start of a lab makes of it: how it was, the lab, the moment, and how it is then.
     ghost starts: { Self → LabValue → ℕ → Self → Type 0 };
-    // What a telling makes of it that is of nothing that happens in the lab: how it was, what it is told, and how it is then;
-    // and what becomes of it where such a telling, or that of a start, fails.
+    // What a notification makes of it that is of no event of the network: how it was, what it is notified of, and how it is then;
+    // and what becomes of it where such a notification, or that of a start, fails.
     ghost notes: { Self → Aside → Self → Type 0 };
 
-    /// The line of this number, from 1, is next; what is told from now on is of that line.
+    /// The line of this number, from 1, is next; notifications from now on are of that line.
     fn at_line(&mut self, number: usize)
         ensures { notes self.old (NextLine number) self.new };
 
     /// The line `cold`: all routers have started at this moment.
     ///
     /// # Errors
-    /// Of what the watcher writes to, or want of memory; so are those below.
+    /// Of what the observer writes to, or out of memory; so are those below.
     fn started(&mut self, lab: &Network, now: Moment) -> io::Result<()>
         ensures starts { OnOk result (starts self.old lab.now now self.new) }
         ensures broken { OnErr result (notes self.old Broken self.new) };
 
-    /// The line `liar`: a lie came to a router, and left the network like this. The answer is that of the router; its sends are the
+    /// The line `liar`: a forged Response came to a router, and left the network like this. The answer is that of the router; its sends are the
     /// datagrams from the number `first` on, and are not in the answer.
     fn lied(
         &mut self,

@@ -1,5 +1,5 @@
 -- What a reader of a trace has, who goes through its records from the first one on: each router's table.
-use Rattle.std.specs.Prelude.{◌≡◌, ◌⊎◌, ℕ, Bool, true, false, ⊤, List, [], ◌∷◌, map, Option, Some, None, option_map, codes, get_or, slice_set}
+use Rattle.std.specs.Prelude.{◌≡◌, ◌⊎◌, ℕ, Bool, true, false, ⊤, List, [], ◌∷◌, map, Option, Some, None, codes, get_or, slice_set}
 use Rattle.std.specs.FinMap as map_of
 use Rattle.route_table.specs.Table.{Table}
 use Rattle.router_core.specs.declared.answer.Answer.{Answer}

@@ -111,7 +111,7 @@ fn delivered(
 }
 
 /// What an event offered to the router that moved, by the tables of the routers as they were known. Only a delivery offers
-/// anything: a datagram of no router brings no Response that is heard.
+/// anything: a datagram of no router brings no Response that is accepted.
 ///
 /// # Errors
 /// Out of memory.
