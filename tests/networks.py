@@ -43,7 +43,7 @@ class Network:
             case ["router", *more]:
                 self.numbers.update({str(self.routers): self.routers, **{name: self.routers for name in more if name != "quiet"}})
                 self.routers += 1
-            case ["iface", addr, cost, _, link]:
+            case ["iface", addr, cost, link] | ["iface", addr, cost, _, link]:
                 router = self.routers - 1
                 iface = sum(port.router == router for port in self.ports)
                 self.ports.append(Port(router, iface, addr, int(cost), int(link)))

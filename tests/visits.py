@@ -75,10 +75,12 @@ class Visit(Newcomer):
         self.rounds('1 2 3 3 2')
         self.outage('link 4 of R0 and R4', 'cut the link', '#drawing .wire.cut', '1 2 3 4 5')
 
-    def recorded(self, export=None, to_last=None):
-        """What is sent away is opened, and has the same end."""
+    def recorded(self, export=None, to_last=None, is_opened=True):
+        """What is sent away is saved whole; if it is opened, it has the same end."""
         (export or (lambda: self.click('export recording')))()
         film = self.page.downloaded('ring-5.html')
+        if not is_opened:
+            return
         where = self.read('#where')
         self.open(f'file://{film}')
         steps = where[where.index(' of '):where.index(',') + 1]
