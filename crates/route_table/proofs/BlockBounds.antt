@@ -1,15 +1,19 @@
 -- Bounds of what entries know together.
-use Rattle.std.proofs.Common.{◌≡◌, ℕ, suc, Bool, true, false, ◌||◌, ◌&&◌, [], ◌∷◌, take, drop, set, Option, Some, None, refl, sym, ap, ap₂, subst, ◌∙◌, arith}
+use Rattle.std.proofs.Common.{◌≡◌, ℕ, suc, Bool, true, false, ◌||◌, ◌&&◌, [], ◌∷◌, ◌++◌, take, drop, set, Option, Some, None, refl, sym, ap, ap₂, subst, ◌∙◌, arith}
 use mathlib.Core.Bool.{false≢true}
-use Rattle.std.specs.Prelude.{slice_index_or}
+use Rattle.std.specs.Prelude.{All, not, slice_index_or}
+use Rattle.std.specs.Ordering.{eq_by_cmp}
+use Rattle.std.specs.declared.cmp.Ordering.TheVariants.{Less, Equal, Greater}
+use Rattle.std.specs.FinMap.Entries.{put, by_order}
 use Rattle.std.specs.List.{insert, remove}
-use Rattle.std.proofs.lemmas.List.Elements.{All-nil, All-cons, All-head, All-tail, All-append, All-take, All-drop, All-set, All-weaker}
-use Rattle.prefix6.specs.Prefix.{Prefix6}
+use Rattle.std.proofs.lemmas.List.Elements.{All-nil, All-cons, All-head, All-tail, All-append, All-take, All-drop, All-set, All-filter, All-weaker}
+use Rattle.prefix6.specs.Prefix.{Prefix6, prefix_cmp}
 use Rattle.route_table.specs.Route.{RouteValue}
 use Rattle.route_table.specs.Place.{Entries}
 use Rattle.route_table.specs.Table.{is_past, map_entries}
 use Rattle.route_table.specs.Due.{is_reached, earlier, first_where, without_mark}
 use Rattle.route_table.specs.Summary.{SummaryValue, both, no_routes, summary_of, summary_of_route, meets, may_meet}
+use Rattle.route_table.specs.Trie.{without}
 use Rattle.route_table.specs.Blocks.{IsUnder, Covers}
 use Rattle.route_table.specs.declared.wanted.Wanted.{Wanted}
 use Rattle.route_table.specs.declared.wanted.Wanted.TheVariants.{Any, Due, Changed}
@@ -78,6 +82,28 @@ covers_drop s es i h = All-drop (λ (e : Entry). IsUnder s e.1) i es h
 
 pub covers_remove : (s : SummaryValue) (es : Entries) (i : ℕ) → Covers s es → Covers s (remove es i)
 covers_remove s es i h = All-append (λ (e : Entry). IsUnder s e.1) (take i es) (drop (suc i) es) (covers_take s es i h) (covers_drop s es (suc i) h)
+
+pub covers_join : (s t : SummaryValue) (xs ys : Entries) → Covers s xs → Covers t ys → Covers (both s t) (xs ++ ys)
+covers_join s t xs ys h k = All-append (λ (e : Entry). IsUnder (both s t) e.1) xs ys (covers_more s t xs h) (subst (λ u. Covers u ys) (both-comm t s) (covers_more t s ys k))
+
+pub covers_without : (s : SummaryValue) (p : Prefix6) (es : Entries) → Covers s es → Covers s (without p es)
+covers_without s p es h = All-filter (λ (e : Entry). not (eq_by_cmp prefix_cmp p e.0)) (λ (e : Entry). IsUnder s e.1) es h
+
+covers_put : (s : SummaryValue) (p : Prefix6) (r : RouteValue) (es : Entries) → Covers s es → Covers (both s (summary_of_route r)) (put prefix_cmp p r es)
+covers_put s p r [] h =
+    let P : Entry → Type 0 = λ e. IsUnder (both s (summary_of_route r)) e.1 in
+    All-cons P (p, r) [] (under_itself s r) (All-nil P)
+covers_put s p r (e ∷ es) h =
+    let P : Entry → Type 0 = λ x. IsUnder (both s (summary_of_route r)) x.1 in
+    let more : All P (e ∷ es) = covers_more s (summary_of_route r) (e ∷ es) h in
+    elim (prefix_cmp p e.0) as (λ o. All P (by_order o ((p, r) ∷ e ∷ es) ((e.0, r) ∷ es) (e ∷ put prefix_cmp p r es))) [
+      | Less ↦ All-cons P (p, r) (e ∷ es) (under_itself s r) more
+      | Equal ↦ All-cons P (e.0, r) es (under_itself s r) (All-tail P e es more)
+      | Greater ↦ All-cons P e (put prefix_cmp p r es) (All-head P e es more) (covers_put s p r es (All-tail (λ (x : Entry). IsUnder s x.1) e es h))
+    ]
+
+pub covers_with : (s t u : SummaryValue) (p : Prefix6) (r : RouteValue) (es fs : Entries) → Covers s es → t ≡ summary_of_route r → u ≡ both s t → fs ≡ put prefix_cmp p r es → Covers u fs
+covers_with s t u p r es fs h of is put_is = subst (Covers u) (sym put_is) (subst (λ x. Covers x (put prefix_cmp p r es)) (sym (is ∙ ap (both s) of)) (covers_put s p r es h))
 
 pub covers_one : (p : Prefix6) (r : RouteValue) → Covers (summary_of_route r) ((p, r) ∷ [])
 covers_one p r = All-cons (λ (e : Entry). IsUnder (summary_of_route r) e.1) (p, r) [] (both-same (summary_of_route r)) (All-nil (λ (e : Entry). IsUnder (summary_of_route r) e.1))

@@ -6,7 +6,7 @@ use Rattle.std.specs.List.{insert, remove}
 use Rattle.std.specs.declared.cmp.Ordering.TheVariants.{Less}
 use Rattle.std.specs.FinMap.{is_sorted}
 use Rattle.std.specs.FinMap.Entries.{put}
-use Rattle.std.proofs.lemmas.List.{append-nil, take_all, drop_all, take_at, drop_at, get_or_at, get_or_read, length_push, length-take-le, take_more_set, drop-set-lt, take-append-drop}
+use Rattle.std.proofs.lemmas.List.{append-nil, take_all, drop_all, drop_more, length-map, take_at, drop_at, get_or_at, get_or_read, length_push, length-take-le, take_more_set, drop-set-lt, take-append-drop}
 use Rattle.std.proofs.lemmas.List.Elements.{All-append, All-cons, All-take, All-drop, All-map, All-weaker, filter_map-append}
 use Rattle.std.specs.Option.{option_map}
 use Rattle.prefix6.specs.Prefix.{Prefix6, prefix_cmp}
@@ -15,9 +15,11 @@ use Rattle.route_table.specs.Route.{RouteValue}
 use Rattle.route_table.specs.Place.{Entries}
 use Rattle.route_table.specs.Table.{map_entries}
 use Rattle.route_table.specs.Due.{without_mark}
+use Rattle.route_table.specs.Summary.{SummaryValue, both}
 use Rattle.route_table.specs.Trie.{in_turn}
-use Rattle.route_table.specs.Blocks.{block_limit, joined, block_at, StartsAt, AreBlocks, AreFilled, IsHome, HasRoom}
-use Rattle.route_table.proofs.BlockLists.{joined-append, joined_at, before_block, below_from, above_from}
+use Rattle.route_table.specs.Blocks.{block_limit, joined, block_at, Covers, StartsAt, AreBlocks, AreFilled, IsHome, HasRoom}
+use Rattle.route_table.proofs.BlockBounds.{covers_join}
+use Rattle.route_table.proofs.BlockLists.{joined-append, joined_at, joined_take, before_block, below_from, above_from}
 use Rattle.route_table.proofs.TrieLists.{Entry, put_right, put_some, turned}
 use Rattle.route_table.proofs.TrieMarks.{plain_length}
 
@@ -25,15 +27,31 @@ use Rattle.route_table.proofs.TrieMarks.{plain_length}
 abbrev pub plain : Entries → Entries
 plain = map_entries without_mark
 
+plain-append : (xs ys : Entries) → plain (xs ++ ys) ≡ plain xs ++ plain ys
+plain-append = filter_map-append (λ (e : Entry). option_map (λ r. (e.0, r)) (without_mark e.1))
+
 pub joined_plain : (bs : List Entries) → joined (map plain bs) ≡ plain (joined bs)
 joined_plain [] = refl
-joined_plain (b ∷ bs) = ap (λ l. plain b ++ l) (joined_plain bs) ∙ sym (filter_map-append (λ (e : Entry). option_map (λ r. (e.0, r)) (without_mark e.1)) b (joined bs))
+joined_plain (b ∷ bs) = ap (λ l. plain b ++ l) (joined_plain bs) ∙ sym (plain-append b (joined bs))
 
 pub filled_plain : (bs : List Entries) → AreFilled bs → AreFilled (map plain bs)
 filled_plain bs h = All-map (λ (b : Entries). 0 < length b) plain bs (All-weaker (λ (b : Entries). 0 < length b) (λ (b : Entries). 0 < length (plain b)) (λ b some. omega (arith, plain_length b)) bs h)
 
 pub all_plain : (bs : List Entries) (n : ℕ) → length bs ≤ n → map plain (take n bs) ++ drop n bs ≡ map plain bs
 all_plain bs n le = ap₂ (λ (xs ys : List Entries). map plain xs ++ ys) (take_all n bs le) (drop_all n bs le) ∙ append-nil (map plain bs)
+
+-- a block that a loop over all has not come past is as before
+pub not_yet : (bs cs : List Entries) (k : ℕ) (b : Entries) → k < length bs → cs ≡ map plain (take k bs) ++ drop k bs → b ≡ get_or cs k b → b ≡ block_at bs k
+not_yet bs cs k b lt is here =
+    let front = map plain (take k bs) in
+    let long : length front ≡ k = length-map (take k bs) plain ∙ omega (arith, length-take k bs) in
+    get_or_read bs k b lt (here ∙ ap (λ l. get_or l k b) (is ∙ ap (λ l. front ++ l) (drop_more bs k b lt)) ∙ get_or_at front _ _ b k long) []
+
+-- a bound of one block more
+pub plain_more : (bs : List Entries) (k : ℕ) (s t : SummaryValue) (b : Entries) → k < length bs → b ≡ plain (block_at bs k) → Covers s (joined (map plain (take k bs))) → Covers t b → Covers (both s t) (joined (map plain (take (k + 1) bs)))
+plain_more bs k s t b lt is h one =
+    subst (Covers (both s t)) (sym (joined_plain (take (k + 1) bs) ∙ ap plain (joined_take bs k lt) ∙ plain-append (joined (take k bs)) (block_at bs k)))
+    (covers_join s t (plain (joined (take k bs))) (plain (block_at bs k)) (subst (Covers s) (joined_plain (take k bs)) h) (subst (Covers t) is one))
 
 -- ---- one taken out
 pub removed_empty : (bs : List Entries) (i : ℕ) → i < length bs → length (block_at bs i) ≡ 0 → joined (remove bs i) ≡ joined bs

@@ -24,7 +24,7 @@ use Rattle.route_table.proofs.TableLaws.{and_left, and_right, and_both, is_sorte
 use Rattle.route_table.proofs.TrieLists.{Entry}
 use Rattle.route_table.proofs.TrieMarks.{plain_length}
 use Rattle.route_table.proofs.BlockLists.{sorted_right}
-use Rattle.route_table.proofs.BlockBounds.{covers_set, covers_insert, covers_take, covers_drop, covers_remove, covers_plain}
+use Rattle.route_table.proofs.BlockBounds.{covers_set, covers_insert, covers_take, covers_drop, covers_plain}
 
 -- ---- parts of a sorted list
 below_left : (x : Prefix6) (xs ys : Entries) → T (below_all prefix_cmp x (xs ++ ys)) → T (below_all prefix_cmp x xs)
@@ -96,12 +96,12 @@ module _ (first : Prefix6) (bound : SummaryValue) (es : Entries) (h : IsBlock fi
   pub removed_is : (k : Prefix6) (i : ℕ) (fs : Entries) → IsAt es k i → fs ≡ remove es i → fs ≡ without k es
   removed_is k i fs a is = is ∙ sym (where_at es k i h.sorted a)
 
-  pub removed_block : (k : Prefix6) (i : ℕ) (fs : Entries) (first' : Prefix6) → IsAt es k i → fs ≡ remove es i → StartsAt first' fs → IsBlock first' bound fs
-  removed_block k i fs first' a is starts = record {
+  pub removed_block : (k : Prefix6) (i : ℕ) (fs : Entries) (first' : Prefix6) (s : SummaryValue) → IsAt es k i → fs ≡ remove es i → StartsAt first' fs → Covers s fs → IsBlock first' s fs
+  removed_block k i fs first' s a is starts covered = record {
     sorted = subst (λ l. T (is_sorted prefix_cmp l)) (sym (removed_is k i fs a is)) (is_sorted-where_key {X = RouteValue} prefix_cmp _ es h.sorted);
     few = omega (arith, ap length is, length-remove es i a.in_range, h.few);
     starts = starts;
-    covered = subst (Covers bound) (sym is) (covers_remove bound es i h.covered);
+    covered = covered;
   }
 
   -- its two parts

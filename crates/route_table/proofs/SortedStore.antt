@@ -11,21 +11,24 @@ use Rattle.route_table.specs.Place.{Entries}
 use Rattle.route_table.specs.Table.{Table, table_limit, table_with, map_entries}
 use Rattle.route_table.specs.Due.{without_mark}
 use Rattle.route_table.specs.Trie.{without, entries_with}
-use Rattle.route_table.specs.Blocks.{joined, AreFilled, IsStore}
+use Rattle.route_table.specs.Blocks.{joined, AreFilled, Covers, IsStore}
+use Rattle.route_table.specs.Summary.{SummaryValue}
 use Rattle.route_table.proofs.SortedTable.{get_is, table_put, sorted_unmarked}
 use Rattle.route_table.proofs.TrieMarks.{plain_length}
 
-module _ (count : ℕ) (bs : List Entries) (n : IsStore count bs) (t : Table) (is : from_sorted (joined bs) ≡ t) (cs : List Entries) (filled : AreFilled cs) where
-  pub unmarked_store : joined cs ≡ map_entries without_mark (joined bs) → IsStore count cs
-  unmarked_store e = record {
+module _ (count : ℕ) (bound : SummaryValue) (bs : List Entries) (n : IsStore count bound bs) (t : Table) (is : from_sorted (joined bs) ≡ t) (cs : List Entries) (filled : AreFilled cs) (s : SummaryValue) where
+  pub unmarked_store : joined cs ≡ map_entries without_mark (joined bs) → Covers s (joined cs) → IsStore count s cs
+  unmarked_store e covered = record {
     blocks = record { sorted = sorted_unmarked (joined bs) n.blocks.sorted t is (joined cs) (sym e); filled = filled };
+    covered = covered;
     counted = n.counted ∙ sym (ap length e ∙ plain_length (joined bs));
     few = n.few;
   }
 
-  pub same_store : joined cs ≡ joined bs → IsStore count cs
-  same_store e = record {
+  pub same_store : joined cs ≡ joined bs → Covers s (joined cs) → IsStore count s cs
+  same_store e covered = record {
     blocks = record { sorted = subst (λ l. T (is_sorted prefix_cmp l)) (sym e) n.blocks.sorted; filled = filled };
+    covered = covered;
     counted = n.counted ∙ ap length (sym e);
     few = n.few;
   }
@@ -35,21 +38,23 @@ module _ (count : ℕ) (bs : List Entries) (n : IsStore count bs) (t : Table) (i
     present : IsSome (map.get t k) → IsSome (find prefix_cmp k (joined bs))
     present some = subst IsSome (get_is (joined bs) n.blocks.sorted t is k) some
 
-    pub added : (v : RouteValue) → map.get t k ≡ None → count < table_limit → joined cs ≡ put prefix_cmp k v (joined bs) → IsStore (count + 1) cs
-    added v none room e =
+    pub added : (v : RouteValue) → map.get t k ≡ None → count < table_limit → joined cs ≡ put prefix_cmp k v (joined bs) → Covers s (joined cs) → IsStore (count + 1) s cs
+    added v none room e covered =
         let absent : find prefix_cmp k (joined bs) ≡ None = sym (get_is (joined bs) n.blocks.sorted t is k) ∙ none in
         let more : length (joined cs) ≡ length (joined bs) + 1 = ap length e ∙ length-put prefix_cmp prefixes_total k v (joined bs) n.blocks.sorted ∙ ap (λ o. cond (is_some o) (length (joined bs)) (length (joined bs) + 1)) absent in
         record {
           blocks = record { sorted = subst (λ l. T (is_sorted prefix_cmp l)) (sym e) (is_sorted-put prefix_cmp prefixes_total k v (joined bs) n.blocks.sorted); filled = filled };
+          covered = covered;
           counted = omega (arith, more, n.counted);
           few = omega arith;
         }
 
-    replaced : (v : RouteValue) → IsSome (map.get t k) → joined cs ≡ put prefix_cmp k v (joined bs) → IsStore count cs
-    replaced v found e =
+    replaced : (v : RouteValue) → IsSome (map.get t k) → joined cs ≡ put prefix_cmp k v (joined bs) → Covers s (joined cs) → IsStore count s cs
+    replaced v found e covered =
         let same : length (joined cs) ≡ length (joined bs) = ap length e ∙ length-put prefix_cmp prefixes_total k v (joined bs) n.blocks.sorted ∙ ap (λ b. cond b (length (joined bs)) (length (joined bs) + 1)) (present found) in
         record {
           blocks = record { sorted = subst (λ l. T (is_sorted prefix_cmp l)) (sym e) (is_sorted-put prefix_cmp prefixes_total k v (joined bs) n.blocks.sorted); filled = filled };
+          covered = covered;
           counted = n.counted ∙ sym same;
           few = n.few;
         }
@@ -58,9 +63,9 @@ module _ (count : ℕ) (bs : List Entries) (n : IsStore count bs) (t : Table) (i
     is_present made b = subst IsSome (b ∙ sym (get_is (joined bs) n.blocks.sorted t is k)) refl
 
     -- something was made of the route to the prefix, if there is one
-    pub updated : (made : Option (RouteValue × RouteValue)) → option_map (λ m. m.0) made ≡ find prefix_cmp k (joined bs) → joined cs ≡ entries_with k made (joined bs) → IsStore count cs
-    updated None b e = same_store e
-    updated (Some m) b e = replaced m.1 (is_present m b) e
+    pub updated : (made : Option (RouteValue × RouteValue)) → option_map (λ m. m.0) made ≡ find prefix_cmp k (joined bs) → joined cs ≡ entries_with k made (joined bs) → Covers s (joined cs) → IsStore count s cs
+    updated None b e covered = same_store e covered
+    updated (Some m) b e covered = replaced m.1 (is_present m b) e covered
 
     pub table_updated : (made : Option (RouteValue × RouteValue)) → joined cs ≡ entries_with k made (joined bs) → from_sorted (joined cs) ≡ table_with k made t
     table_updated None e = ap from_sorted e ∙ is
@@ -72,9 +77,10 @@ module _ (count : ℕ) (bs : List Entries) (n : IsStore count bs) (t : Table) (i
     pub some_left : IsSome (map.get t k) → 1 ≤ count
     some_left found = omega (arith, fewer found, n.counted)
 
-    pub removed : IsSome (map.get t k) → joined cs ≡ without k (joined bs) → IsStore (count - 1) cs
-    removed found e = record {
+    pub removed : IsSome (map.get t k) → joined cs ≡ without k (joined bs) → Covers s (joined cs) → IsStore (count - 1) s cs
+    removed found e covered = record {
       blocks = record { sorted = subst (λ l. T (is_sorted prefix_cmp l)) (sym e) (is_sorted-where_key {X = RouteValue} prefix_cmp _ (joined bs) n.blocks.sorted); filled = filled };
+      covered = covered;
       counted = omega (arith, fewer found, n.counted, ap length e);
       few = omega (arith, n.few);
     }

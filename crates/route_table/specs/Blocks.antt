@@ -56,8 +56,9 @@ pub record AreBlocks (bs : List Entries) : Type 0 where
   pub filled : AreFilled bs
 
 -- the invariant of the whole store
-pub record IsStore (count : ℕ) (bs : List Entries) : Type 0 where
+pub record IsStore (count : ℕ) (bound : SummaryValue) (bs : List Entries) : Type 0 where
   pub blocks : AreBlocks bs
+  pub covered : Covers bound (joined bs)
   pub counted : count ≡ length (joined bs)
   pub few : count ≤ table_limit
 

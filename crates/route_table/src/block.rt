@@ -61,25 +61,22 @@ fn first_of(routes: &[(Prefix, Route)], other: Prefix) -> Prefix
     }
 }
 
-/// Whether the bound is to be made exact after one of the routes was changed. It is at the last route, so that one pass in order
-/// does it once, and where the route had the least deadline and the next one has another, so that the bound is seldom far off.
-fn wants_exact(routes: &[(Prefix, Route)], changed: usize, before: Summary, bound: Summary) -> bool
-    requires { changed < length routes.now }
-{
-    if changed + 1 >= routes.len() {
+/// Whether the bound is to be made exact after a route before an index was changed or removed. It is at the last route, so that one
+/// pass in order does it once, and where the route had the least deadline and the next has another, so that it is seldom far off.
+fn wants_exact(routes: &[(Prefix, Route)], next: usize, before: Summary, bound: Summary) -> bool {
+    if next >= routes.len() {
         return true;
     }
     let due = before.due_ms();
-    due == bound.due_ms() && Summary::of(&routes[changed + 1].1).due_ms() != due
+    due == bound.due_ms() && Summary::of(&routes[next].1).due_ms() != due
 }
 
-/// A bound of these routes after one of them was changed.
-fn bound_of(routes: &[(Prefix, Route)], changed: usize, before: Summary, bound: Summary) -> Summary
-    requires place { changed < length routes.now }
-    requires covered { Covers bound routes.now }
+/// A bound of these routes after one was changed or removed.
+fn bound_of(routes: &[(Prefix, Route)], next: usize, before: Summary, bound: Summary) -> Summary
+    requires { Covers bound routes.now }
     ensures { Covers result routes.now }
 {
-    if wants_exact(routes, changed, before, bound) {
+    if wants_exact(routes, next, before, bound) {
         run::sum_up(routes)
     } else {
         bound
@@ -256,18 +253,26 @@ impl Block {
         let after = make(before);
         self.routes[at] = (*prefix, after);
         let bound = self.bound.and(Summary::of(&after));
-        self.bound = bound_of(&self.routes, at, Summary::of(&before), bound);
+        self.bound = bound_of(
+            &self.routes,
+            at.saturating_add(1),
+            Summary::of(&before),
+            bound,
+        );
         (before, after)
     }
 
-    /// Clears all route change flags. Where the bound says that none is set, no route is looked at.
-    pub fn unmark(&mut self)
-        ensures { self.new ≡ map_entries without_mark self.old }
+    /// Clears all route change flags. Where the bound says that none is set, no route is looked at. The result is a bound.
+    pub fn unmark(&mut self) -> Summary
+        ensures unmarked { self.new ≡ map_entries without_mark self.old }
+        ensures covered { Covers result self.new }
     {
-        if self.bound.has_changed() {
-            run::unmark(&mut self.routes);
-            self.bound = self.bound.without_mark();
+        if !self.bound.has_changed() {
+            return self.bound;
         }
+        run::unmark(&mut self.routes);
+        self.bound = self.bound.without_mark();
+        self.bound
     }
 
     /// Removes the route at a place.
@@ -275,7 +280,8 @@ impl Block {
         requires { IsAt self.old prefix.now at }
         ensures { self.new ≡ without prefix.now self.old }
     {
-        let _ = self.routes.remove(at);
+        let removed = self.routes.remove(at);
         self.first = first_of(&self.routes, self.first);
+        self.bound = bound_of(&self.routes, at, Summary::of(&removed.1), self.bound);
     }
 }

@@ -5,7 +5,7 @@ ghost use Rattle.std.specs.declared.cmp.Ordering.TheVariants.{Less};
 ghost use Rattle.std.specs.FinMap.{find};
 ghost use Rattle.std.specs.FinMap.Entries.{put};
 ghost use Rattle.prefix6.specs.Prefix.{prefix_cmp};
-ghost use Rattle.route_table.specs.Blocks.{block_at, block_limit, joined, AreBlocks, AreFilled, HasRoom, IsHome, IsPlaced, IsStart};
+ghost use Rattle.route_table.specs.Blocks.{block_at, block_limit, joined, AreBlocks, AreFilled, Covers, HasRoom, IsHome, IsPlaced, IsStart};
 ghost use Rattle.route_table.specs.Due.{first_where, least_deadline, without_mark};
 ghost use Rattle.route_table.specs.Summary.{meets};
 ghost use Rattle.route_table.specs.Table.{map_entries};
@@ -13,6 +13,7 @@ ghost use Rattle.route_table.specs.Trie.{without, entries_with};
 
 use crate::block::Block;
 use crate::route::Route;
+use crate::summary::Summary;
 use crate::wanted::Wanted;
 use prefix6::Prefix;
 use std::alloc::{AllocError, Global};
@@ -139,38 +140,45 @@ pub fn list(blocks: &[Block], out: &mut Vec<(Prefix, Route)>)
     }
 }
 
-/// Replaces the route to a prefix by what `make` returns for it: the route before and after, if there is one. The place to look at
-/// first becomes the one after it.
+/// Replaces the route to a prefix by what `make` returns for it: the route before and after, if there is one. The bound of all is
+/// widened, and the place to look at first becomes the one after it.
 pub fn update<F: FnOnce(Route) -> Route>(
     blocks: &mut Vec<Block>,
+    bound: &mut Summary,
     next: &mut Place,
     prefix: &Prefix,
     make: F,
 ) -> Option<(Route, Route)>
     requires callable { F.IsAlwaysCallable make }
     requires ordered { AreBlocks blocks.old.items }
+    requires covered { Covers bound.old (joined blocks.old.items) }
     ensures before { option_map (λ made. made.0) result ≡ find prefix_cmp prefix.now (joined blocks.old.items) }
     ensures by { IfSome result (λ made. F.post make made.0 made.1) }
     ensures after { joined blocks.new.items ≡ entries_with prefix.now result (joined blocks.old.items) }
     ensures filled { AreFilled blocks.new.items }
+    ensures covered { Covers bound.new (joined blocks.new.items) }
 {
     let Some((block, at)) = locate_from(blocks, *next, prefix) else {
         return None;
     };
     *next = behind(blocks, (block, at));
     let made = blocks[block].update(at, prefix, make);
+    *bound = bound.and(Summary::of(&made.1));
     Some(made)
 }
 
-/// Clears all route change flags.
-pub fn unmark(blocks: &mut Vec<Block>)
+/// Clears all route change flags. The result is a bound of all routes.
+pub fn unmark(blocks: &mut Vec<Block>) -> Summary
     requires { AreFilled blocks.old.items }
     ensures unmarked { joined blocks.new.items ≡ map_entries without_mark (joined blocks.old.items) }
     ensures filled { AreFilled blocks.new.items }
+    ensures covered { Covers result (joined blocks.new.items) }
 {
+    let mut bound = Summary::nothing();
     for k in 0..blocks.len() {
-        blocks[k].unmark();
+        bound = bound.and(blocks[k].unmark());
     }
+    bound
 }
 
 /// Removes the route to a prefix, and its block if that is left empty.

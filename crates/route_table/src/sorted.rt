@@ -10,18 +10,21 @@ use crate::blocks::{self, Place};
 use crate::moment::{Deadline, Moment};
 use crate::route::Route;
 use crate::store::{AddRefused, RouteStore, TABLE_LIMIT};
+use crate::summary::Summary;
 use crate::wanted::Wanted;
 use prefix6::Prefix;
 use std::alloc::Global;
 use std::marker::Model;
 
 /// A table of routes in the order of their prefixes, in blocks that are not empty. Adding or removing a route moves only what
-/// follows it in its block. A search for ended timers or route change flags looks at the bounds of the blocks first.
+/// follows it in its block. A search for ended timers or route change flags looks at a bound of all first, then at each block's.
 #[derive(Drop)]
 pub struct SortedRoutes {
     alloc: Global,
     count: usize,
     blocks: Vec<Block>,
+    /// A bound of all routes. An update widens it, and `unmark` makes it as good as those of the blocks.
+    bound: Summary,
     /// The place after the route that was updated last. The next update looks there first, since neighbors advertise routes in the
     /// order of their prefixes. It is not part of the value, and any route or none may stand there.
     next: Place,
@@ -42,7 +45,7 @@ impl Model for SortedRoutes {
 
     ghost view = { λ s. from_sorted (joined s.blocks.items) };
 
-    ghost invariant = { λ s. IsStore s.count s.blocks.items };
+    ghost invariant = { λ s. IsStore s.count s.bound s.blocks.items };
 }
 
 impl SortedRoutes {
@@ -57,6 +60,9 @@ impl SortedRoutes {
     fn first_wanted(&self, after: Option<Prefix>, wanted: Wanted) -> Option<(Prefix, Route)>
         ensures { result ≡ first_where (meets wanted) after (entries self.now) }
     {
+        if !wanted.may_be_in(&self.bound) {
+            return None;
+        }
         blocks::first_wanted(&self.blocks, &after, wanted)
     }
 }
@@ -69,6 +75,7 @@ impl RouteStore for SortedRoutes {
             alloc,
             count: 0,
             blocks: Vec::new(alloc),
+            bound: Summary::nothing(),
             next: (0, 0),
         }
     }
@@ -118,11 +125,8 @@ impl RouteStore for SortedRoutes {
             return Err(AddRefused::NoMemory);
         };
         self.count += 1;
+        self.bound = self.bound.and(Summary::of(&route));
         Ok(())
-    }
-
-    fn replace(&mut self, prefix: &Prefix, route: Route) {
-        let _ = self.update(prefix, |_| route);
     }
 
     fn update<F: FnOnce(Route) -> Route>(
@@ -130,11 +134,17 @@ impl RouteStore for SortedRoutes {
         prefix: &Prefix,
         make: F,
     ) -> Option<(Route, Route)> {
-        blocks::update(&mut self.blocks, &mut self.next, prefix, make)
+        blocks::update(
+            &mut self.blocks,
+            &mut self.bound,
+            &mut self.next,
+            prefix,
+            make,
+        )
     }
 
     fn unmark(&mut self) {
-        blocks::unmark(&mut self.blocks);
+        self.bound = blocks::unmark(&mut self.blocks);
     }
 
     fn remove(&mut self, prefix: &Prefix) {

@@ -106,7 +106,10 @@ pub trait RouteStore: Drop {
     /// Replaces the route to this prefix.
     fn replace(&mut self, prefix: &Prefix, route: Route)
         requires present { IsSome (map.get (table self.old) prefix.now) }
-        ensures { table self.new ≡ map.insert (table self.old) prefix.now route };
+        ensures { table self.new ≡ map.insert (table self.old) prefix.now route }
+    {
+        let _ = self.update(prefix, |_| route);
+    }
 
     /// Replaces the route to this prefix by what `make` returns for it, in one search. The result is the route before and after.
     /// `None` if there is no route; `make` is not called then.

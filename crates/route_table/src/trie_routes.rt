@@ -121,10 +121,6 @@ impl RouteStore for TrieRoutes {
         Ok(())
     }
 
-    fn replace(&mut self, prefix: &Prefix, route: Route) {
-        let _ = self.update(prefix, |_| route);
-    }
-
     fn update<F: FnOnce(Route) -> Route>(
         &mut self,
         prefix: &Prefix,

@@ -4,8 +4,8 @@ use Rattle.route_table.proofs.TrieLists.{Entry}
 use Rattle.route_table.proofs.BlockEdits.{set_block, covers_changed}
 use Rattle.route_table.proofs.block.Block.update.Goals as goal
 
-pub bound_of-self-inside-requires-clause-covered : goal.bound_of-self-inside-requires-clause-covered
-bound_of-self-inside-requires-clause-covered g c = covers_changed c.self.inside.bound c.of.result c.and-bound.result c.self.inside.routes.items c.deref.result.now c.args.at c.args.prefix.now c.make-after.result c.self.invariant.covered c.of.ensures c.and-bound.ensures c.deref.ensures.value
+pub bound_of-self-inside-requires : goal.bound_of-self-inside-requires
+bound_of-self-inside-requires g c = covers_changed c.self.inside.bound c.of.result c.and-bound.result c.self.inside.routes.items c.deref.result.now c.args.at c.args.prefix.now c.make-after.result c.self.invariant.covered c.of.ensures c.and-bound.ensures c.deref.ensures.value
 
 pub invariant_of-self : goal.invariant_of-self
 invariant_of-self g c =

@@ -1,5 +1,6 @@
 use Rattle.std.proofs.Common.{◌∙◌, sym, refl, arith}
 use Rattle.route_table.specs.Blocks.{joined}
+use Rattle.route_table.proofs.BlockBounds.{covers_with}
 use Rattle.route_table.proofs.SortedTable.{get_is, len_is, table_put}
 use Rattle.route_table.proofs.SortedStore.{added}
 use Rattle.route_table.proofs.sorted.SortedRoutesRouteStore.add.Goals as goal
@@ -22,7 +23,8 @@ returns-in_default-clause-full c =
 pub invariant_of-self-2 : goal.invariant_of-self-2
 invariant_of-self-2 c =
     let n = c.self.inside in
-    added n.count n.blocks.items c.self.invariant c.args.self.now c.self.view_is c.insert.new.blocks.items c.insert.ensures.filled c.args.prefix c.args.route c.requires.absent c.if-self-ge-TABLE_LIMIT.false c.in-Ok.ensures.ok
+    added n.count n.bound n.blocks.items c.self.invariant c.args.self.now c.self.view_is c.insert.new.blocks.items c.insert.ensures.filled c.and-self-inside.result c.args.prefix c.args.route c.requires.absent c.if-self-ge-TABLE_LIMIT.false c.in-Ok.ensures.ok
+    (covers_with n.bound c.of.result c.and-self-inside.result c.args.prefix c.args.route (joined n.blocks.items) (joined c.insert.new.blocks.items) c.self.invariant.covered c.of.ensures c.and-self-inside.ensures c.in-Ok.ensures.ok)
 
 pub returns-clause-ok : goal.returns-clause-ok
 returns-clause-ok c =

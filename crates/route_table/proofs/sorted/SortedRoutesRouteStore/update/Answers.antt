@@ -7,7 +7,7 @@ use Rattle.route_table.proofs.sorted.SortedRoutesRouteStore.update.Goals as goal
 pub invariant_of-self : goal.invariant_of-self
 invariant_of-self g c =
     let n = c.self.inside in
-    updated n.count n.blocks.items c.self.invariant c.args.self.now c.self.view_is c.update.new.blocks.items c.update.ensures.filled c.args.prefix.now c.update.result c.update.ensures.before c.update.ensures.after
+    updated n.count n.bound n.blocks.items c.self.invariant c.args.self.now c.self.view_is c.update.new.blocks.items c.update.ensures.filled c.update.new.bound c.args.prefix.now c.update.result c.update.ensures.before c.update.ensures.after c.update.ensures.covered
 
 pub returns-clause-before : goal.returns-clause-before
 returns-clause-before g c =
@@ -17,4 +17,4 @@ returns-clause-before g c =
 pub returns-clause-after : goal.returns-clause-after
 returns-clause-after g c =
     let n = c.self.inside in
-    table_updated n.count n.blocks.items c.self.invariant c.args.self.now c.self.view_is c.update.new.blocks.items c.update.ensures.filled c.args.prefix.now c.update.result c.update.ensures.after
+    table_updated n.count n.bound n.blocks.items c.self.invariant c.args.self.now c.self.view_is c.update.new.blocks.items c.update.ensures.filled c.update.new.bound c.args.prefix.now c.update.result c.update.ensures.after
