@@ -4,7 +4,7 @@ use Rattle.router_core.specs.Machine.{Arrives}
 use Rattle.router_core.specs.declared.answer.Answer.{Answer}
 use Rattle.ripng_world.specs.declared.network.NetInterface.{NetInterface}
 use Rattle.ripng_world.specs.Network.{Network, interface_at}
-use Rattle.ripng_world.specs.World.{World, Event, Deliver, Stranger, Tick, Restart, Shutdown, LinkDown, Reconfigure, RouterMoves, Happens, address_at, arrival_of}
+use Rattle.ripng_world.specs.World.{World, Event, Deliver, Stranger, Tick, Restart, Shutdown, LinkDown, LinkUp, Reconfigure, RouterMoves, Happens, address_at, arrival_of}
 use Rattle.ripng_world.proofs.NetworkNow.{AreAlike, alike_back, linked_alike, place_of}
 use Rattle.ripng_phases.specs.Phases.{Step, Takes, IsHeardUpdate, Before, IsPhase, PhasesAfter, before_next}
 
@@ -30,6 +30,7 @@ module _ (net other : Network) (same : AreAlike net other) where
   happens_alike w w' (Restart router now) answer h = h
   happens_alike w w' (Shutdown router now) answer h = h
   happens_alike w w' (LinkDown router now on) answer h = h
+  happens_alike w w' (LinkUp router now on) answer h = h
   happens_alike w w' (Reconfigure router now c) answer h = h
 
   pub takes_alike : (steps : List Step) (w w' : World) → Takes net w steps w' → Takes other w steps w'

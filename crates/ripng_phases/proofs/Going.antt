@@ -8,7 +8,7 @@ use Rattle.ripng_world.specs.Labs.{LabValue}
 use Rattle.ripng_world.specs.Network.{Network, AreLinked}
 use Rattle.ripng_world.specs.Rounds.{IsDueTick}
 use Rattle.ripng_world.specs.Watching.{Told, WatchedRun, heard}
-use Rattle.ripng_world.specs.World.{World, Event, Deliver, Stranger, Tick, Restart, Shutdown, LinkDown, Reconfigure}
+use Rattle.ripng_world.specs.World.{World, Event, Deliver, Stranger, Tick, Restart, Shutdown, LinkDown, LinkUp, Reconfigure}
 use Rattle.ripng_world.specs.declared.pairs.Pair.{Pair}
 use Rattle.ripng_world.specs.declared.sent.Sent.{Sent}
 use Rattle.ripng_world.proofs.Among.{in_filter, in_map}
@@ -83,6 +83,7 @@ minute_of begin datagram moment not_before in_time events all = all_of (IsDelive
     by (Restart r n) k = absurd k
     by (Shutdown r n) k = absurd k
     by (LinkDown r n on) k = absurd k
+    by (LinkUp r n on) k = absurd k
     by (Reconfigure r n c) k = absurd k
 
 module _ {V : Type 0} (t : V → Told → V → Type 0) (s : LabValue × V) (first begin : ℕ) where

@@ -5,7 +5,7 @@ use Rattle.route_table.specs.Route.{RouteValue}
 use Rattle.router_core.specs.Machine.{Happening}
 use Rattle.router_core.specs.declared.answer.Answer.{Answer}
 use Rattle.ripng_world.specs.Network.{Network}
-use Rattle.ripng_world.specs.World.{World, Event, Deliver, Stranger, Tick, Restart, Shutdown, LinkDown, Reconfigure, RouterMoves, Happens}
+use Rattle.ripng_world.specs.World.{World, Event, Deliver, Stranger, Tick, Restart, Shutdown, LinkDown, LinkUp, Reconfigure, RouterMoves, Happens}
 use Rattle.ripng_world.specs.declared.sent.Sent.{Sent}
 use Rattle.ripng_world.proofs.Members.{get_left}
 use Rattle.ripng_phases.proofs.Rows.{IsSame}
@@ -25,6 +25,7 @@ event_keeps_sent net w w' (Tick router now word) answer m = move_keeps w w' rout
 event_keeps_sent net w w' (Restart router now) answer m = move_keeps w w' router _ answer m
 event_keeps_sent net w w' (Shutdown router now) answer m = move_keeps w w' router _ answer m
 event_keeps_sent net w w' (LinkDown router now on) answer m = move_keeps w w' router _ answer m
+event_keeps_sent net w w' (LinkUp router now on) answer m = move_keeps w w' router _ answer m
 event_keeps_sent net w w' (Reconfigure router now c) answer m = move_keeps w w' router _ answer m
 
 -- the same route rests on the same in a later world

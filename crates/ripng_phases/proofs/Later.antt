@@ -10,7 +10,7 @@ use Rattle.router_core.specs.declared.answer.Answer.{Answer}
 use Rattle.router_core.specs.declared.arrival.Fault.{Fault}
 use Rattle.ripng_wire.specs.Wire.{is_response}
 use Rattle.ripng_world.specs.Network.{Network}
-use Rattle.ripng_world.specs.World.{World, Event, Deliver, Stranger, Tick, Restart, Shutdown, LinkDown, Reconfigure, RouterMoves, Happens, arrival_of}
+use Rattle.ripng_world.specs.World.{World, Event, Deliver, Stranger, Tick, Restart, Shutdown, LinkDown, LinkUp, Reconfigure, RouterMoves, Happens, arrival_of}
 use Rattle.ripng_world.proofs.RoundNeighbors.{state_after, set_here}
 use Rattle.ripng_phases.specs.Phases.{Step, IsOrdinary, Takes, IsPhase, Before, PhasesAfter, before_next, reached}
 use Rattle.ripng_phases.proofs.Runs.{takes_first, takes_rest}
@@ -75,6 +75,7 @@ step_later net w w' (Tick to now word) answer plain m router s is =
 step_later net w w' (Restart to now) answer plain m router s is = absurd plain
 step_later net w w' (Shutdown to now) answer plain m router s is = absurd plain
 step_later net w w' (LinkDown to now on) answer plain m router s is = absurd plain
+step_later net w w' (LinkUp to now on) answer plain m router s is = absurd plain
 step_later net w w' (Reconfigure to now c) answer plain m router s is = absurd plain
 
 pub takes_later : (net : Network) (steps : List Step) (w w' : World) → Takes net w steps w'

@@ -30,6 +30,7 @@ pub mod Least
 pub mod Always
 pub mod Healing
 pub mod Cutting
+pub mod Stretches
 pub mod ByMinutes
 pub mod Timely
 pub mod Rounds

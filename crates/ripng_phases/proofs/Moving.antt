@@ -11,7 +11,7 @@ use Rattle.router_core.specs.declared.answer.Answer.{Answer}
 use Rattle.router_core.specs.declared.arrival.Fault.{Fault}
 use Rattle.ripng_world.specs.Network.{Network, AreLinked}
 use Rattle.ripng_world.specs.Rounds.{router_of, moment_of}
-use Rattle.ripng_world.specs.World.{World, Event, Deliver, Stranger, Tick, Restart, Shutdown, LinkDown, Reconfigure, RouterMoves, Happens, arrival_of}
+use Rattle.ripng_world.specs.World.{World, Event, Deliver, Stranger, Tick, Restart, Shutdown, LinkDown, LinkUp, Reconfigure, RouterMoves, Happens, arrival_of}
 use Rattle.ripng_world.specs.declared.sent.Sent.{Sent}
 use Rattle.ripng_world.proofs.RoundNeighbors.{state_before}
 use Rattle.ripng_phases.specs.Phases.{IsOrdinary}
@@ -109,4 +109,5 @@ step_of net w w' (Stranger to x) answer plain i =
 step_of net w w' (Restart to now) answer plain m = λ router t is. absurd plain
 step_of net w w' (Shutdown to now) answer plain m = λ router t is. absurd plain
 step_of net w w' (LinkDown to now on) answer plain m = λ router t is. absurd plain
+step_of net w w' (LinkUp to now on) answer plain m = λ router t is. absurd plain
 step_of net w w' (Reconfigure to now c) answer plain m = λ router t is. absurd plain

@@ -14,7 +14,7 @@ use Rattle.router_core.specs.declared.answer.NoteKind.TheVariants.{NoMemory}
 use Rattle.router_core.specs.declared.answer.Outgoing.{Outgoing}
 use Rattle.ripng_world.specs.Network.{Network}
 use Rattle.ripng_world.specs.Rounds.{Round, IsDueTick, IsDeliveryOf, IsMomentOf, IsSynchronousRound, AllTick, AllHeard, SynchronousRounds, router_of}
-use Rattle.ripng_world.specs.World.{World, Event, Deliver, Stranger, Tick, Restart, Shutdown, LinkDown, Reconfigure, RouterMoves, Happens, sent_by}
+use Rattle.ripng_world.specs.World.{World, Event, Deliver, Stranger, Tick, Restart, Shutdown, LinkDown, LinkUp, Reconfigure, RouterMoves, Happens, sent_by}
 use Rattle.ripng_world.specs.declared.sent.Sent.{Sent}
 use Rattle.ripng_world.proofs.Each.{each_at_place}
 use Rattle.ripng_world.proofs.Members.{At, at_right, at_from_contains, get_right, split_at}
@@ -56,6 +56,7 @@ tick_steps net (Stranger router x ∷ events) w w' run = absurd run.2
 tick_steps net (Restart router now ∷ events) w w' run = absurd run.2
 tick_steps net (Shutdown router now ∷ events) w w' run = absurd run.2
 tick_steps net (LinkDown router now on ∷ events) w w' run = absurd run.2
+tick_steps net (LinkUp router now on ∷ events) w w' run = absurd run.2
 tick_steps net (Reconfigure router now c ∷ events) w w' run = absurd run.2
 
 heard_steps : (net : Network) (first end : ℕ) (events : List Event) → AllByRecursion (IsDeliveryOf first end) events → (w w' : World) → AllHeard net w events w' → AreSteps net w events w'
@@ -72,6 +73,7 @@ heard_steps net first end (Tick router now word ∷ events) these w w' run = abs
 heard_steps net first end (Restart router now ∷ events) these w w' run = absurd these.0
 heard_steps net first end (Shutdown router now ∷ events) these w w' run = absurd these.0
 heard_steps net first end (LinkDown router now on ∷ events) these w w' run = absurd these.0
+heard_steps net first end (LinkUp router now on ∷ events) these w w' run = absurd these.0
 heard_steps net first end (Reconfigure router now c ∷ events) these w w' run = absurd these.0
 
 -- no tick is a delivery
@@ -104,6 +106,7 @@ tick_at w (s ∷ steps) due router zero is = by s.event refl (Some-same (router_
     by (Restart mover now) e mine d = absurd (subst (IsDueTick w) e d)
     by (Shutdown mover now) e mine d = absurd (subst (IsDueTick w) e d)
     by (LinkDown mover now on) e mine d = absurd (subst (IsDueTick w) e d)
+    by (LinkUp mover now on) e mine d = absurd (subst (IsDueTick w) e d)
     by (Reconfigure mover now c) e mine d = absurd (subst (IsDueTick w) e d)
 tick_at w (s ∷ steps) due router (suc i) is =
     let t = tick_at s.after steps due.1 router i is in
@@ -128,6 +131,7 @@ event_sent net w w' (Tick router now word) answer h i d late is = move_sent w w'
 event_sent net w w' (Restart router now) answer h i d late is = move_sent w w' router _ answer h i d late is
 event_sent net w w' (Shutdown router now) answer h i d late is = move_sent w w' router _ answer h i d late is
 event_sent net w w' (LinkDown router now on) answer h i d late is = move_sent w w' router _ answer h i d late is
+event_sent net w w' (LinkUp router now on) answer h i d late is = move_sent w w' router _ answer h i d late is
 event_sent net w w' (Reconfigure router now c) answer h i d late is = move_sent w w' router _ answer h i d late is
 
 split : (a b : ℕ) → (b ≤ a) ⊎ (a < b)

@@ -16,7 +16,7 @@ use Rattle.router_core.specs.declared.answer.Answer.{Answer}
 use Rattle.router_core.specs.declared.answer.Outgoing.{Outgoing}
 use Rattle.router_core.specs.declared.arrival.Fault.{Fault}
 use Rattle.ripng_world.specs.Network.{Network}
-use Rattle.ripng_world.specs.World.{World, Event, Deliver, Stranger, Tick, Restart, Shutdown, LinkDown, Reconfigure, RouterMoves, Happens, arrival_of, sent_by}
+use Rattle.ripng_world.specs.World.{World, Event, Deliver, Stranger, Tick, Restart, Shutdown, LinkDown, LinkUp, Reconfigure, RouterMoves, Happens, arrival_of, sent_by}
 use Rattle.ripng_world.specs.declared.sent.Sent.{Sent}
 use Rattle.ripng_world.proofs.Each.{each_mapped, each_weaker}
 use Rattle.ripng_world.proofs.HealHearing.{AreFew}
@@ -95,4 +95,5 @@ module _ (net : Network) (known : Prefix6 → Type 0) (fits : AreFew known) wher
   event_tells w w' orderly (Restart to now) answer plain m = absurd plain
   event_tells w w' orderly (Shutdown to now) answer plain m = absurd plain
   event_tells w w' orderly (LinkDown to now on) answer plain m = absurd plain
+  event_tells w w' orderly (LinkUp to now on) answer plain m = absurd plain
   event_tells w w' orderly (Reconfigure to now c) answer plain m = absurd plain

@@ -6,7 +6,7 @@ use Rattle.router_core.specs.declared.answer.Answer.{Answer}
 use Rattle.router_core.specs.declared.reconfiguring.Change.{Change}
 use Rattle.ripng_world.specs.Healing.{FitsTablesSince}
 use Rattle.ripng_world.specs.Network.{Network, IsNetwork}
-use Rattle.ripng_world.specs.World.{World, Event, Deliver, Stranger, Tick, Restart, Shutdown, LinkDown, Reconfigure, Happens, WorldRun, IsCold, past_of}
+use Rattle.ripng_world.specs.World.{World, Event, Deliver, Stranger, Tick, Restart, Shutdown, LinkDown, LinkUp, Reconfigure, Happens, WorldRun, IsCold, past_of}
 use Rattle.ripng_world.proofs.Each.{each_at_place}
 use Rattle.ripng_world.proofs.HealHearing.{AreFew}
 use Rattle.ripng_world.proofs.NetworkNow.{IsLawfulChange}
@@ -25,6 +25,7 @@ event_keeps net w w' (Tick router now word) answer plain m = m.reconfigurations 
 event_keeps net w w' (Restart router now) answer plain m = absurd plain
 event_keeps net w w' (Shutdown router now) answer plain m = absurd plain
 event_keeps net w w' (LinkDown router now on) answer plain m = absurd plain
+event_keeps net w w' (LinkUp router now on) answer plain m = absurd plain
 event_keeps net w w' (Reconfigure router now c) answer plain m = absurd plain
 
 pub takes_keep : (net : Network) (steps : List Step) (w w' : World) → Takes net w steps w' → w'.reconfigurations ≡ w.reconfigurations

@@ -4,7 +4,7 @@ use Rattle.std.specs.List.{AllByRecursion}
 use Rattle.route_table.proofs.TableLaws.{Some-same, None-Some}
 use Rattle.ripng_world.specs.Network.{Network}
 use Rattle.ripng_world.specs.Watching.{Told, WatchedRun, heard}
-use Rattle.ripng_world.specs.World.{World, Event, Deliver, Stranger, Tick, Restart, Shutdown, LinkDown, Reconfigure}
+use Rattle.ripng_world.specs.World.{World, Event, Deliver, Stranger, Tick, Restart, Shutdown, LinkDown, LinkUp, Reconfigure}
 use Rattle.ripng_world.proofs.Each.{each_at_place}
 use Rattle.ripng_world.proofs.Members.{at_left, at_right, at_from_contains}
 use Rattle.ripng_phases.specs.Making.{TellsSteps, IsRising, IsInMinute, IsDeliveryAt}
@@ -55,6 +55,7 @@ rising_lower low lower (Tick r n w ∷ events) high le is = rising_lower low low
 rising_lower low lower (Restart r n ∷ events) high le is = rising_lower low lower events high le is
 rising_lower low lower (Shutdown r n ∷ events) high le is = rising_lower low lower events high le is
 rising_lower low lower (LinkDown r n on ∷ events) high le is = rising_lower low lower events high le is
+rising_lower low lower (LinkUp r n on ∷ events) high le is = rising_lower low lower events high le is
 rising_lower low lower (Reconfigure r n c ∷ events) high le is = rising_lower low lower events high le is
 
 pub rising_on : (low : ℕ) (events : List Event) (mid : ℕ) (later : List Event) (high : ℕ) → IsRising low events mid → IsRising mid later high → IsRising low (events ++ later) high
@@ -65,6 +66,7 @@ rising_on low (Tick r n w ∷ events) mid later high first rest = rising_on low 
 rising_on low (Restart r n ∷ events) mid later high first rest = rising_on low events mid later high first rest
 rising_on low (Shutdown r n ∷ events) mid later high first rest = rising_on low events mid later high first rest
 rising_on low (LinkDown r n on ∷ events) mid later high first rest = rising_on low events mid later high first rest
+rising_on low (LinkUp r n on ∷ events) mid later high first rest = rising_on low events mid later high first rest
 rising_on low (Reconfigure r n c ∷ events) mid later high first rest = rising_on low events mid later high first rest
 
 -- of one datagram
@@ -79,6 +81,7 @@ rising_one datagram moment (Tick r n w ∷ events) all = absurd all.0
 rising_one datagram moment (Restart r n ∷ events) all = absurd all.0
 rising_one datagram moment (Shutdown r n ∷ events) all = absurd all.0
 rising_one datagram moment (LinkDown r n on ∷ events) all = absurd all.0
+rising_one datagram moment (LinkUp r n on ∷ events) all = absurd all.0
 rising_one datagram moment (Reconfigure r n c ∷ events) all = absurd all.0
 
 same_datagram : (d r i n d' r' i' n' : ℕ) → Deliver d r i n ≡ Deliver d' r' i' n' → d ≡ d'
@@ -114,7 +117,12 @@ rising_from low (LinkDown r n on ∷ events) high zero datagram router iface now
   where
     clash : LinkDown r n on ≡ Deliver datagram router iface now → ⊥
     clash e = cc
+rising_from low (LinkUp r n on ∷ events) high zero datagram router iface now is at = absurd (clash (Some-same (LinkUp r n on) (Deliver datagram router iface now) at))
+  where
+    clash : LinkUp r n on ≡ Deliver datagram router iface now → ⊥
+    clash e = cc
 rising_from low (LinkDown r n on ∷ events) high (suc k) datagram router iface now is at = rising_from low events high k datagram router iface now is at
+rising_from low (LinkUp r n on ∷ events) high (suc k) datagram router iface now is at = rising_from low events high k datagram router iface now is at
 rising_from low (Reconfigure r n c ∷ events) high zero datagram router iface now is at = absurd (clash (Some-same (Reconfigure r n c) (Deliver datagram router iface now) at))
   where
     clash : Reconfigure r n c ≡ Deliver datagram router iface now → ⊥
@@ -130,6 +138,7 @@ rising_rest low (Tick r n w ∷ before) later high is = rising_rest low before l
 rising_rest low (Restart r n ∷ before) later high is = rising_rest low before later high is
 rising_rest low (Shutdown r n ∷ before) later high is = rising_rest low before later high is
 rising_rest low (LinkDown r n on ∷ before) later high is = rising_rest low before later high is
+rising_rest low (LinkUp r n on ∷ before) later high is = rising_rest low before later high is
 rising_rest low (Reconfigure r n c ∷ before) later high is = rising_rest low before later high is
 
 -- none is overtaken

@@ -13,7 +13,7 @@ use Rattle.router_core.specs.Output.{is_learned_on}
 use Rattle.router_core.specs.declared.answer.Answer.{Answer}
 use Rattle.ripng_world.specs.Convergence.{IsNeverQuiet}
 use Rattle.ripng_world.specs.Network.{Network, AreLinked, HasDistinctAddresses, IsUsable}
-use Rattle.ripng_world.specs.World.{World, Event, Deliver, Stranger, Tick, Restart, Shutdown, LinkDown, Reconfigure, Happens, sent_by}
+use Rattle.ripng_world.specs.World.{World, Event, Deliver, Stranger, Tick, Restart, Shutdown, LinkDown, LinkUp, Reconfigure, Happens, sent_by}
 use Rattle.ripng_world.specs.declared.sent.Sent.{Sent}
 use Rattle.ripng_world.proofs.Each.{each_at_place}
 use Rattle.ripng_world.proofs.HealHearing.{AreFew, IsToldLine}
@@ -52,6 +52,7 @@ event_grows net w w' (Tick router now word) answer m = (map (sent_by router) ans
 event_grows net w w' (Restart router now) answer m = (map (sent_by router) answer.sends, m.sent)
 event_grows net w w' (Shutdown router now) answer m = (map (sent_by router) answer.sends, m.sent)
 event_grows net w w' (LinkDown router now on) answer m = (map (sent_by router) answer.sends, m.sent)
+event_grows net w w' (LinkUp router now on) answer m = (map (sent_by router) answer.sends, m.sent)
 event_grows net w w' (Reconfigure router now c) answer m = (map (sent_by router) answer.sends, m.sent)
 
 pub takes_grows : (net : Network) (steps : List Step) (w w' : World) → Takes net w steps w' → Grows w w'

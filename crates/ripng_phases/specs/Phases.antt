@@ -4,7 +4,7 @@ use Rattle.router_core.specs.Timers.{garbage_time}
 use Rattle.router_core.specs.declared.answer.Answer.{Answer}
 use Rattle.router_core.specs.declared.answer.NoteKind.TheVariants.{NoMemory}
 use Rattle.ripng_world.specs.Network.{Network, AreLinked}
-use Rattle.ripng_world.specs.World.{World, Event, Deliver, Tick, Restart, Shutdown, LinkDown, Reconfigure, Happens}
+use Rattle.ripng_world.specs.World.{World, Event, Deliver, Tick, Restart, Shutdown, LinkDown, LinkUp, Reconfigure, Happens}
 use Rattle.ripng_world.specs.Rounds.{Round, IsDueTick, IsMomentOf, moment_of, router_of}
 use Rattle.ripng_world.specs.declared.sent.Sent.{Sent}
 
@@ -16,11 +16,12 @@ pub record Step : Type 0 where
   pub answer : Answer
   pub after : World
 
--- it starts no router anew and shuts none down, takes no link down, and changes no configuration
+-- it starts no router anew and shuts none down, takes no link down or up, and changes no configuration
 abbrev pub IsOrdinary : Event → Type 0
 IsOrdinary (Restart router now) = ⊥
 IsOrdinary (Shutdown router now) = ⊥
 IsOrdinary (LinkDown router now on) = ⊥
+IsOrdinary (LinkUp router now on) = ⊥
 IsOrdinary (Reconfigure router now c) = ⊥
 IsOrdinary _ = Unit {0}
 

@@ -9,7 +9,7 @@ use Rattle.ripng_world.specs.AskedRounds.{delivery, deliveries_of, is_picked, ot
 use Rattle.ripng_world.specs.Delivering.{StopAt, StopForMemory, StopForWatcher}
 use Rattle.ripng_world.specs.Network.{Network}
 use Rattle.ripng_world.specs.Rounds.{AllHeard}
-use Rattle.ripng_world.specs.World.{World, Event, Deliver, Stranger, Tick, Restart, Shutdown, LinkDown, Reconfigure, Happens, WorldRun, sent_by}
+use Rattle.ripng_world.specs.World.{World, Event, Deliver, Stranger, Tick, Restart, Shutdown, LinkDown, LinkUp, Reconfigure, Happens, WorldRun, sent_by}
 use Rattle.ripng_world.specs.declared.pairs.Pair.{Pair}
 use Rattle.ripng_world.specs.declared.sent.Sent.{Sent}
 use Rattle.ripng_world.proofs.Among.{enumerate_append}
@@ -170,6 +170,7 @@ happens_grow net (Tick router now word) answer w w' is = (map (sent_by router) a
 happens_grow net (Restart router now) answer w w' is = (map (sent_by router) answer.sends, is.sent)
 happens_grow net (Shutdown router now) answer w w' is = (map (sent_by router) answer.sends, is.sent)
 happens_grow net (LinkDown router now on) answer w w' is = (map (sent_by router) answer.sends, is.sent)
+happens_grow net (LinkUp router now on) answer w w' is = (map (sent_by router) answer.sends, is.sent)
 happens_grow net (Reconfigure router now c) answer w w' is = (map (sent_by router) answer.sends, is.sent)
 
 pub sent_grow : (net : Network) (es : List Event) (w w' : World) → WorldRun net w es w' → (more : List Sent) × (w'.sent ≡ w.sent ++ more)

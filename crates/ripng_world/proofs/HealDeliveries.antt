@@ -26,7 +26,7 @@ use Rattle.router_core.proofs.HearingSteps.{at_place}
 use Rattle.ripng_world.specs.declared.sent.Sent.{Sent}
 use Rattle.ripng_world.specs.Network.{Network, Node, config_of, AreLinked, HasDistinctAddresses, IsUsable}
 use Rattle.ripng_world.specs.Truth.{IsNeighbor}
-use Rattle.ripng_world.specs.World.{World, Event, Deliver, Stranger, Tick, Restart, Shutdown, LinkDown, Reconfigure, RouterMoves, Delivers, address_at, arrival_of}
+use Rattle.ripng_world.specs.World.{World, Event, Deliver, Stranger, Tick, Restart, Shutdown, LinkDown, LinkUp, Reconfigure, RouterMoves, Delivers, address_at, arrival_of}
 use Rattle.ripng_world.specs.Rounds.{router_of, moment_of, IsDeliveryOf, AllHeard}
 use Rattle.ripng_world.proofs.Each.{each_at_place}
 use Rattle.ripng_world.proofs.Members.{At, get_left, get_right}
@@ -326,4 +326,5 @@ module _ (net : Network) (usable : IsUsable net) (distinct : HasDistinctAddresse
     deliveries_done (Restart router now ∷ events) w w' all moments these run = absurd these.0
     deliveries_done (Shutdown router now ∷ events) w w' all moments these run = absurd these.0
     deliveries_done (LinkDown router now on ∷ events) w w' all moments these run = absurd these.0
+    deliveries_done (LinkUp router now on ∷ events) w w' all moments these run = absurd these.0
     deliveries_done (Reconfigure router now c ∷ events) w w' all moments these run = absurd these.0

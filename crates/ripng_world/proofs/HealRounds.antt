@@ -19,7 +19,7 @@ use Rattle.ripng_world.specs.declared.sent.Sent.{Sent}
 use Rattle.ripng_world.specs.Network.{Network, Node, AreLinked, HasDistinctAddresses, IsUsable, config_of}
 use Rattle.ripng_world.specs.Convergence.{IsNeverQuiet}
 use Rattle.ripng_world.specs.Healing.{IsTickOf}
-use Rattle.ripng_world.specs.World.{World, Event, Deliver, Stranger, Tick, Restart, Shutdown, LinkDown, Reconfigure, RouterMoves, Happens, address_at}
+use Rattle.ripng_world.specs.World.{World, Event, Deliver, Stranger, Tick, Restart, Shutdown, LinkDown, LinkUp, Reconfigure, RouterMoves, Happens, address_at}
 use Rattle.ripng_world.specs.Rounds.{Round, router_of, moment_of, IsDeliveryOf, IsSynchronousRound, IsMomentOf, AllTick}
 use Rattle.ripng_world.proofs.Each.{each_from_places, each_at_place}
 use Rattle.ripng_world.proofs.Members.{At, at_right, get_past, at_from_contains}
@@ -48,6 +48,7 @@ event_came net w w' (Tick router now word) answer m r t is = move_came w w' rout
 event_came net w w' (Restart router now) answer m r t is = move_came w w' router _ answer m r t is
 event_came net w w' (Shutdown router now) answer m r t is = move_came w w' router _ answer m r t is
 event_came net w w' (LinkDown router now on) answer m r t is = move_came w w' router _ answer m r t is
+event_came net w w' (LinkUp router now on) answer m r t is = move_came w w' router _ answer m r t is
 event_came net w w' (Reconfigure router now c) answer m r t is = move_came w w' router _ answer m r t is
 
 pub ticks_came : (net : Network) (events : List Event) (w w' : World) → AllTick net w events w' → (r : ℕ) (t : State) → slice_get w'.states r ≡ Some t → (s : State) × (slice_get w.states r ≡ Some s)
@@ -135,6 +136,7 @@ module _ (net : Network) (usable : IsUsable net) (noisy : IsNeverQuiet net) (dis
   named_tick (Restart r now ∷ events) all router at = absurd all.0
   named_tick (Shutdown r now ∷ events) all router at = absurd all.0
   named_tick (LinkDown r now on ∷ events) all router at = absurd all.0
+  named_tick (LinkUp r now on ∷ events) all router at = absurd all.0
   named_tick (Reconfigure r now c ∷ events) all router at = absurd all.0
 
   pub ticked : (router : ℕ) (s : State) → slice_get w.states router ≡ Some s → HasTickedOnce mid round router s

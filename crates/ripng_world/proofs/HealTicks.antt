@@ -27,7 +27,7 @@ use Rattle.router_core.proofs.Cutting.{joined-pieces}
 use Rattle.ripng_world.specs.declared.network.NetInterface.{NetInterface}
 use Rattle.ripng_world.specs.declared.sent.Sent.{Sent}
 use Rattle.ripng_world.specs.Network.{Network, Node, config_of, interface_at, IsUsable}
-use Rattle.ripng_world.specs.World.{World, Event, Deliver, Stranger, Tick, Restart, Shutdown, LinkDown, Reconfigure, RouterMoves, sent_by}
+use Rattle.ripng_world.specs.World.{World, Event, Deliver, Stranger, Tick, Restart, Shutdown, LinkDown, LinkUp, Reconfigure, RouterMoves, sent_by}
 use Rattle.ripng_world.specs.Rounds.{IsDueTick, AllTick, router_of}
 use Rattle.ripng_world.specs.Convergence.{IsNeverQuiet}
 use Rattle.ripng_world.proofs.Each.{each_filter, each_take, each_drop, each_append, each_mapped, each_image, each_flat, each_weaker}
@@ -329,6 +329,7 @@ module _ (net : Network) (usable : IsUsable net) (noisy : IsNeverQuiet net) (kno
   each_still w w' router same (Restart r now ∷ events) apart all = absurd all.0
   each_still w w' router same (Shutdown r now ∷ events) apart all = absurd all.0
   each_still w w' router same (LinkDown r now on ∷ events) apart all = absurd all.0
+  each_still w w' router same (LinkUp r now on ∷ events) apart all = absurd all.0
   each_still w w' router same (Reconfigure r now c ∷ events) apart all = absurd all.0
 
   pub ticks_done : (events : List Event) (w : World) → ((r : ℕ) (s : State) → slice_get w.states r ≡ Some s → IsPlain r s) → IsDistinct nat_eq (map router_of events)
@@ -375,4 +376,5 @@ module _ (net : Network) (usable : IsUsable net) (noisy : IsNeverQuiet net) (kno
   ticks_done (Restart router now ∷ events) w plain once run = absurd run.2
   ticks_done (Shutdown router now ∷ events) w plain once run = absurd run.2
   ticks_done (LinkDown router now on ∷ events) w plain once run = absurd run.2
+  ticks_done (LinkUp router now on ∷ events) w plain once run = absurd run.2
   ticks_done (Reconfigure router now c ∷ events) w plain once run = absurd run.2

@@ -21,7 +21,7 @@ use Rattle.ripng_world.specs.Asked.{Asked}
 use Rattle.ripng_world.specs.Labs.{HasRun}
 use Rattle.ripng_world.proofs.AskedSynchronous.{made_synchronous, as_many}
 use Rattle.ripng_world.specs.Network.{Network, Node, IsNetwork, Owns, interface_at}
-use Rattle.ripng_world.specs.World.{World, Event, Deliver, Stranger, Tick, Restart, Shutdown, LinkDown, Reconfigure, RouterMoves, Happens, WorldRun, IsCold, past_of, address_at, arrival_of}
+use Rattle.ripng_world.specs.World.{World, Event, Deliver, Stranger, Tick, Restart, Shutdown, LinkDown, LinkUp, Reconfigure, RouterMoves, Happens, WorldRun, IsCold, past_of, address_at, arrival_of}
 use Rattle.ripng_world.specs.Rounds.{Round, IsDeliveryOf, AllTick, AllHeard, IsSynchronousRound, SynchronousRounds, events_of_rounds}
 use Rattle.ripng_world.specs.Past.{IsBackedSince}
 use Rattle.ripng_world.specs.Walks.{Hop, BeginsAs}
@@ -60,6 +60,7 @@ module _ (net other : Network) (same : AreAlike net other) where
   happens_alike w w' (Restart router now) answer h = h
   happens_alike w w' (Shutdown router now) answer h = h
   happens_alike w w' (LinkDown router now on) answer h = h
+  happens_alike w w' (LinkUp router now on) answer h = h
   happens_alike w w' (Reconfigure router now c) answer h = h
 
   ticks_alike : (events : List Event) (w w' : World) → AllTick net w events w' → AllTick other w events w'
@@ -104,6 +105,7 @@ ticks_keep net (Stranger router x ∷ events) w w' run = absurd run.2
 ticks_keep net (Restart router now ∷ events) w w' run = absurd run.2
 ticks_keep net (Shutdown router now ∷ events) w w' run = absurd run.2
 ticks_keep net (LinkDown router now on ∷ events) w w' run = absurd run.2
+ticks_keep net (LinkUp router now on ∷ events) w w' run = absurd run.2
 ticks_keep net (Reconfigure router now c ∷ events) w w' run = absurd run.2
 
 heard_keep : (net : Network) (first end : ℕ) (events : List Event) → AllByRecursion (IsDeliveryOf first end) events → (w w' : World) → AllHeard net w events w' → w'.reconfigurations ≡ w.reconfigurations
@@ -114,6 +116,7 @@ heard_keep net first end (Tick router now word ∷ events) these w w' run = absu
 heard_keep net first end (Restart router now ∷ events) these w w' run = absurd these.0
 heard_keep net first end (Shutdown router now ∷ events) these w w' run = absurd these.0
 heard_keep net first end (LinkDown router now on ∷ events) these w w' run = absurd these.0
+heard_keep net first end (LinkUp router now on ∷ events) these w w' run = absurd these.0
 heard_keep net first end (Reconfigure router now c ∷ events) these w w' run = absurd these.0
 
 pub rounds_keep : (net : Network) (rounds : List Round) (w w' : World) → SynchronousRounds net w rounds w' → w'.reconfigurations ≡ w.reconfigurations

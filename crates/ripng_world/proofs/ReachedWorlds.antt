@@ -11,7 +11,7 @@ use Rattle.route_table.specs.Route.{infinity}
 use Rattle.router_core.specs.Config.{cost_at}
 use Rattle.router_core.specs.Faults.{fault}
 use Rattle.router_core.specs.Received.{Received}
-use Rattle.router_core.specs.Machine.{State, Arrives, Ticks, Restarts, Reconfigures, ShutsDown, LinkGoesDown, Hears, Replies, Refuses, gateway_of}
+use Rattle.router_core.specs.Machine.{State, Arrives, Ticks, Restarts, Reconfigures, ShutsDown, LinkGoesDown, LinkComesUp, Hears, Replies, Refuses, gateway_of}
 use Rattle.router_core.specs.Reconfiguring.{reconfigured_config}
 use Rattle.router_core.specs.declared.answer.Answer.{Answer}
 use Rattle.router_core.specs.declared.arrival.Fault.{Fault}
@@ -21,7 +21,7 @@ use Rattle.ripng_world.specs.Healing.{reconfigured_node, network_now}
 use Rattle.ripng_world.specs.Network.{Network, IsNetwork, config_of, interface_at}
 use Rattle.ripng_world.specs.Past.{OwnsSince}
 use Rattle.ripng_world.specs.TruthSince.{IsSoundDatagramSince, IsSoundEntrySince}
-use Rattle.ripng_world.specs.World.{World, Event, Deliver, Stranger, Tick, Restart, Shutdown, LinkDown, Reconfigure, Happens, WorldRun, IsCold, past_of, arrival_of}
+use Rattle.ripng_world.specs.World.{World, Event, Deliver, Stranger, Tick, Restart, Shutdown, LinkDown, LinkUp, Reconfigure, Happens, WorldRun, IsCold, past_of, arrival_of}
 use Rattle.ripng_world.proofs.Each.{each_append, each_at_place}
 use Rattle.ripng_world.proofs.ColdStates.{cold_states}
 use Rattle.ripng_world.proofs.Members.{At}
@@ -87,6 +87,9 @@ module _ (net : Network) (is_net : IsNetwork net) where
         }))
     happened (Shutdown router now) answer m =
         unchanging net is_net w w' router (ShutsDown now) answer m refl all (ap (λ (s : State). s.config) m.moves.state)
+        (waited_reached (past_of net w) m.old m.new (max m.old.last now) (max_later net is_net m.old.last now) m.moves.state (state_of router m.old m.old_is))
+    happened (LinkUp router now iface) answer m =
+        unchanging net is_net w w' router (LinkComesUp now iface) answer m refl all (ap (λ (s : State). s.config) m.moves.state)
         (waited_reached (past_of net w) m.old m.new (max m.old.last now) (max_later net is_net m.old.last now) m.moves.state (state_of router m.old m.old_is))
     happened (LinkDown router now iface) answer m =
         let t = state_of router m.old m.old_is in

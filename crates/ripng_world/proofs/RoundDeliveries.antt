@@ -30,7 +30,7 @@ use Rattle.ripng_world.specs.Network.{Network, Node, config_of, AreLinked, HasDi
 use Rattle.ripng_world.specs.Walks.{cost_of_interface}
 use Rattle.ripng_world.specs.Truth.{IsNeighbor}
 use Rattle.router_core.proofs.HearingSteps.{at_place}
-use Rattle.ripng_world.specs.World.{World, Event, Deliver, Stranger, Tick, Restart, Shutdown, LinkDown, Reconfigure, RouterMoves, Delivers, address_at, arrival_of}
+use Rattle.ripng_world.specs.World.{World, Event, Deliver, Stranger, Tick, Restart, Shutdown, LinkDown, LinkUp, Reconfigure, RouterMoves, Delivers, address_at, arrival_of}
 use Rattle.ripng_world.specs.Rounds.{router_of, moment_of, IsDeliveryOf, AllHeard}
 use Rattle.ripng_world.specs.Network.{IsUsable}
 use Rattle.ripng_world.specs.Convergence.{FitsTables}
@@ -318,6 +318,7 @@ module _ (net : Network) (usable : IsUsable net) (distinct : HasDistinctAddresse
     event_stays w w' steps (Restart router now) h = tt
     event_stays w w' steps (Shutdown router now) h = tt
     event_stays w w' steps (LinkDown router now on) h = tt
+    event_stays w w' steps (LinkUp router now on) h = tt
     event_stays w w' steps (Reconfigure router now c) h = tt
 
     steps_trans : (a b c : World) → StepsTo a b → StepsTo b c → StepsTo a c
@@ -355,4 +356,5 @@ module _ (net : Network) (usable : IsUsable net) (distinct : HasDistinctAddresse
     deliveries_done (Restart router now ∷ events) w w' all moments these run = absurd these.0
     deliveries_done (Shutdown router now ∷ events) w w' all moments these run = absurd these.0
     deliveries_done (LinkDown router now on ∷ events) w w' all moments these run = absurd these.0
+    deliveries_done (LinkUp router now on ∷ events) w w' all moments these run = absurd these.0
     deliveries_done (Reconfigure router now c ∷ events) w w' all moments these run = absurd these.0

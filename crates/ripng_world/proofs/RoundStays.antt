@@ -3,7 +3,7 @@ use Rattle.std.proofs.Common.{◌≡◌, inl, inr, ℕ, List, [], ◌∷◌, Som
 use Rattle.router_core.specs.Machine.{State, Happening}
 use Rattle.router_core.specs.declared.answer.Answer.{Answer}
 use Rattle.ripng_world.specs.Network.{Network}
-use Rattle.ripng_world.specs.World.{World, Event, Deliver, Stranger, Tick, Restart, Shutdown, LinkDown, Reconfigure, RouterMoves, Happens}
+use Rattle.ripng_world.specs.World.{World, Event, Deliver, Stranger, Tick, Restart, Shutdown, LinkDown, LinkUp, Reconfigure, RouterMoves, Happens}
 use Rattle.ripng_world.specs.Rounds.{AllTick, AllHeard}
 use Rattle.ripng_world.proofs.RoundNeighbors.{state_after}
 
@@ -21,6 +21,7 @@ event_stays net w w' (Tick router now word) answer m r s is = move_stays w w' ro
 event_stays net w w' (Restart router now) answer m r s is = move_stays w w' router _ answer m r s is
 event_stays net w w' (Shutdown router now) answer m r s is = move_stays w w' router _ answer m r s is
 event_stays net w w' (LinkDown router now on) answer m r s is = move_stays w w' router _ answer m r s is
+event_stays net w w' (LinkUp router now on) answer m r s is = move_stays w w' router _ answer m r s is
 event_stays net w w' (Reconfigure router now c) answer m r s is = move_stays w w' router _ answer m r s is
 
 pub ticks_stay : (net : Network) (events : List Event) (w w' : World) → AllTick net w events w' → (r : ℕ) (s : State) → slice_get w.states r ≡ Some s → (t : State) × (slice_get w'.states r ≡ Some t)

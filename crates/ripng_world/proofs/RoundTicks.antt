@@ -28,7 +28,7 @@ use Rattle.ripng_world.specs.declared.network.NetInterface.{NetInterface}
 use Rattle.ripng_world.specs.declared.sent.Sent.{Sent}
 use Rattle.ripng_world.specs.Network.{Network, Node, config_of, interface_at, OwnsPrefixes}
 use Rattle.ripng_world.specs.Walks.{Reaches, end_of}
-use Rattle.ripng_world.specs.World.{World, Event, Deliver, Stranger, Tick, Restart, Shutdown, LinkDown, Reconfigure, RouterMoves, sent_by}
+use Rattle.ripng_world.specs.World.{World, Event, Deliver, Stranger, Tick, Restart, Shutdown, LinkDown, LinkUp, Reconfigure, RouterMoves, sent_by}
 use Rattle.ripng_world.specs.Rounds.{IsDueTick, AllTick, router_of, moment_of}
 use Rattle.ripng_world.specs.Network.{IsUsable}
 use Rattle.ripng_world.specs.Convergence.{IsNeverQuiet}
@@ -365,4 +365,5 @@ module _ (net : Network) (usable : IsUsable net) (owns : OwnsPrefixes net) (nois
   ticks_done (Restart router now ∷ events) w w' new all moments run = absurd run.2
   ticks_done (Shutdown router now ∷ events) w w' new all moments run = absurd run.2
   ticks_done (LinkDown router now on ∷ events) w w' new all moments run = absurd run.2
+  ticks_done (LinkUp router now on ∷ events) w w' new all moments run = absurd run.2
   ticks_done (Reconfigure router now c ∷ events) w w' new all moments run = absurd run.2

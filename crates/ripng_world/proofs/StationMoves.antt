@@ -25,7 +25,7 @@ use Rattle.router_core.specs.declared.reconfiguring.Change.{Change}
 use Rattle.router_core.specs.declared.reconfiguring.Change.TheVariants.{Cost, Own, Disown}
 use Rattle.router_core.specs.declared.reconfiguring.ReconfigureRefused.{ReconfigureRefused}
 use Rattle.router_core.specs.declared.reconfiguring.ReconfigureRefused.TheVariants as refused
-use Rattle.ripng_world.specs.World.{World, Event, RouterMoves, Happens, Deliver, Stranger, Tick, Restart, Shutdown, LinkDown, Reconfigure, reconfigurations_of, is_heard, arrival_of, sent_by}
+use Rattle.ripng_world.specs.World.{World, Event, RouterMoves, Happens, Deliver, Stranger, Tick, Restart, Shutdown, LinkDown, LinkUp, Reconfigure, reconfigurations_of, is_heard, arrival_of, sent_by}
 use Rattle.ripng_world.specs.Stations.{StationValue, IsMoveAt, MoveStations, network_of, world_of}
 use Rattle.ripng_world.specs.Labs.{LabValue, IsRefusal, StepEnds, asked_reasons, lab_of, event_fault, event_reasons, missing_router_reasons, missing_interface_reasons, named_reasons, refusal_of, step_fault, is_one_link, link_at, link_of_datagram}
 use Rattle.ripng_world.specs.declared.event.LabError.{LabError}
@@ -324,6 +324,7 @@ happened_passes lab (Tick router now word) answer w' none happens = first_reason
 happened_passes lab (Restart router now) answer w' none happens = first_reason-append (event_reasons lab (Restart router now)) [] none
 happened_passes lab (Shutdown router now) answer w' none happens = first_reason-append (event_reasons lab (Shutdown router now)) [] none
 happened_passes lab (LinkDown router now on) answer w' none happens = first_reason-append (event_reasons lab (LinkDown router now on)) [] none
+happened_passes lab (LinkUp router now on) answer w' none happens = first_reason-append (event_reasons lab (LinkUp router now on)) [] none
 
 pub reconfigured : (stations : List StationValue) (router now : ℕ) (c : Change) (old new : StationValue) (answer : Answer)
     → slice_get stations router ≡ Some old → new.node ≡ old.node → Moves old.state (Reconfigures now c) answer new.state

@@ -1,5 +1,5 @@
 -- A router with a sound table sends only true entries.
-use Rattle.std.proofs.Common.{◌≡◌, ℕ, ◌+◌, ◌*◌, ◌-◌, ◌/◌, ◌<◌, ◌≤◌, Bool, true, false, cond, ◌&&◌, ◌==◌, MatchBool, MatchOption, max, nat_le, List, [], ◌∷◌, map, drop, length, flat_map, slice_range, Option, Some, None, refl, ap, sym, subst, arith, le_refl}
+use Rattle.std.proofs.Common.{◌≡◌, ℕ, ◌+◌, ◌*◌, ◌-◌, ◌/◌, ◌<◌, ◌≤◌, Bool, true, false, cond, ◌&&◌, ◌==◌, MatchBool, MatchOption, max, nat_le, nat_lt, List, [], ◌∷◌, map, drop, length, flat_map, slice_range, Option, Some, None, refl, ap, sym, subst, arith, le_refl}
 use Rattle.std.specs.List.{AllByRecursion, enumerate_from}
 use Rattle.std.specs.FinMap as map_of
 use Rattle.prefix6.specs.Prefix.{Prefix6, cleared}
@@ -18,8 +18,8 @@ use Rattle.router_core.specs.Received.{Received}
 use Rattle.router_core.specs.Faults.{fault, ripng_port}
 use Rattle.router_core.specs.Adoption.{lost}
 use Rattle.router_core.specs.Ageing.{aged, aged_by_clock, aged_table, without_mark, unmarked}
-use Rattle.router_core.specs.Output.{Message, AreSpelled, told, told_entry, is_learned_on, every_route, is_changed, numbers_below, pieces, filled, reply_entry, reply, asks_for_all, responses, start_messages, update_messages, reply_messages, whole_table_request}
-use Rattle.router_core.specs.Machine.{State, Happening, Arrives, Ticks, Restarts, Reconfigures, ShutsDown, LinkGoesDown, Moves, Starts, Hears, Replies, Refuses, Accepts, tick_messages, is_regular_due, is_triggered_due}
+use Rattle.router_core.specs.Output.{Message, AreSpelled, told, told_entry, is_learned_on, every_route, is_changed, numbers_below, pieces, filled, reply_entry, reply, asks_for_all, responses, start_messages, link_up_messages, request_on, update_messages, reply_messages}
+use Rattle.router_core.specs.Machine.{State, Happening, Arrives, Ticks, Restarts, Reconfigures, ShutsDown, LinkGoesDown, LinkComesUp, Moves, Starts, Hears, Replies, Refuses, Accepts, tick_messages, is_regular_due, is_triggered_due}
 use Rattle.router_core.specs.declared.answer.Answer.{Answer}
 use Rattle.router_core.specs.declared.arrival.Fault.{Fault}
 use Rattle.router_core.specs.declared.answer.Outgoing.{Outgoing}
@@ -158,16 +158,26 @@ module _ (past : Past) (router : ℕ) where
             (λ t. responses_true config t.0 Group (told t.0 which table) (all_told t.0 which table sound)) (enumerate_from 0 config.interfaces)
       ]
 
-  starts_true : (config : Config) → AllTrueMessages (start_messages config)
-  starts_true config =
-      elim config.quiet as (λ b. AllTrueMessages (cond b [] (map (λ t. record { iface = t.0; to = Group; command = Request; entries = whole_table_request ∷ [] }) (enumerate_from 0 config.interfaces)))) [
-        | true ↦ tt
-        | false ↦ each_image IsTrueMessage (λ t. record { iface = t.0; to = Group; command = Request; entries = whole_table_request ∷ [] })
-            (λ t is. absurd (other_command is)) (enumerate_from 0 config.interfaces)
-      ]
+  request_true : (iface : ℕ) → IsTrueMessage (request_on iface)
+  request_true iface is = absurd (other_command is)
     where
       other_command : Request ≡ Response → ⊥
       other_command e = cc
+
+  starts_true : (config : Config) → AllTrueMessages (start_messages config)
+  starts_true config =
+      elim config.quiet as (λ b. AllTrueMessages (cond b [] (map (λ t. request_on t.0) (enumerate_from 0 config.interfaces)))) [
+        | true ↦ tt
+        | false ↦ each_image IsTrueMessage (λ t. request_on t.0) (λ t. request_true t.0) (enumerate_from 0 config.interfaces)
+      ]
+
+  link_up_true : (config : Config) (iface : ℕ) → AllTrueMessages (link_up_messages config iface)
+  link_up_true config iface = by config.quiet (nat_lt iface (length config.interfaces))
+    where
+      by : (b c : Bool) → AllTrueMessages (cond b [] (cond c (request_on iface ∷ []) []))
+      by true c = tt
+      by false true = (request_true iface, tt)
+      by false false = tt
 
   replies_true : (config : Config) (table : Table) (x : Received) (asked : List Rte) → IsSoundTableSince past router table → AllTrueMessages (reply_messages config table x asked)
   replies_true config table x asked sound =
@@ -225,6 +235,7 @@ module _ (past : Past) (router : ℕ) where
   sends_true old (ShutsDown now) answer new sound moves =
       spelled_true _ answer.sends (updates_true old.config every_route (unreachable_table (max old.last now) old.table) (unreachable_sound (max old.last now) old.table sound)) moves.answer_is.sends
   sends_true old (LinkGoesDown now iface) answer new sound moves = spelled_true [] answer.sends tt moves.answer_is.sends
+  sends_true old (LinkComesUp now iface) answer new sound moves = spelled_true (link_up_messages old.config iface) answer.sends (link_up_true old.config iface) moves.answer_is.sends
 
   pub starting_true : (config : Config) (now : ℕ) (answer : Answer) (new : State) → Starts config now answer new → AllSound answer.sends
   starting_true config now answer new starts = spelled_true (start_messages config) answer.sends (starts_true config) starts.answer_is.sends

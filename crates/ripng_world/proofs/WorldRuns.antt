@@ -16,7 +16,7 @@ use Rattle.router_core.specs.Config.{Config, cost_at, is_own_address}
 use Rattle.router_core.specs.Received.{Received}
 use Rattle.router_core.specs.Faults.{fault, arrival_reasons, response_reasons, request_reasons}
 use Rattle.router_core.specs.Ageing.{aged_table, unmarked}
-use Rattle.router_core.specs.Machine.{State, Happening, Arrives, Ticks, Restarts, Reconfigures, ShutsDown, LinkGoesDown, Hears, Replies, Refuses, started, ticked, owned_table, gateway_of, is_regular_due, is_triggered_due}
+use Rattle.router_core.specs.Machine.{State, Happening, Arrives, Ticks, Restarts, Reconfigures, ShutsDown, LinkGoesDown, LinkComesUp, Hears, Replies, Refuses, started, ticked, owned_table, gateway_of, is_regular_due, is_triggered_due}
 use Rattle.router_core.specs.Adoption.{lost}
 use Rattle.router_core.specs.Owning.{owned_route}
 use Rattle.router_core.specs.Reconfiguring.{IsNamed, with_cost, reconfigured_config, reconfigured_table, newly_owned, disowned}
@@ -30,7 +30,7 @@ use Rattle.ripng_world.specs.declared.network.NetInterface.{NetInterface}
 use Rattle.ripng_world.specs.declared.sent.Sent.{Sent}
 use Rattle.ripng_world.specs.Network.{Network, Node, config_of, interface_at, AreLinked, Owns, OwnsPrefixes}
 use Rattle.ripng_world.specs.Walks.{cost_of_interface}
-use Rattle.ripng_world.specs.World.{World, Event, Deliver, Stranger, Tick, Restart, Shutdown, LinkDown, Reconfigure, RouterMoves, Happens, WorldRun, StartsFrom, IsCold, past_of, reconfigurations_of, reconfiguration_in, reconfigurations_in, sent_by, address_at, arrival_of}
+use Rattle.ripng_world.specs.World.{World, Event, Deliver, Stranger, Tick, Restart, Shutdown, LinkDown, LinkUp, Reconfigure, RouterMoves, Happens, WorldRun, StartsFrom, IsCold, past_of, reconfigurations_of, reconfiguration_in, reconfigurations_in, sent_by, address_at, arrival_of}
 use Rattle.ripng_world.specs.Past.{Past, HasCostSince, OwnsSince}
 use Rattle.ripng_world.specs.TruthSince.{IsNeighborSince, IsSoundSince, IsSoundTableSince, IsSoundDatagramSince}
 use Rattle.ripng_world.proofs.Each.{each_append, each_filter, each_mapped, each_weaker, each_from_places, each_at_place}
@@ -409,6 +409,9 @@ module _ (net : Network) (owns : OwnsPrefixes net) where
   happened w (Shutdown router now) answer w' m good =
       unchanging w w' router (ShutsDown now) answer m good
       (waited_good (past_of net w) router m.old m.new (max m.old.last now) (good.states_good router m.old m.old_is) m.moves.state)
+  happened w (LinkUp router now iface) answer w' m good =
+      unchanging w w' router (LinkComesUp now iface) answer m good
+      (waited_good (past_of net w) router m.old m.new (max m.old.last now) (good.states_good router m.old m.old_is) m.moves.state)
   happened w (LinkDown router now iface) answer w' m good =
       let old_good = good.states_good router m.old m.old_is in
       unchanging w w' router (LinkGoesDown now iface) answer m good
@@ -487,6 +490,7 @@ done_by net w (Tick router now word) answer w' m = m.reconfigurations
 done_by net w (Restart router now) answer w' m = m.reconfigurations
 done_by net w (Shutdown router now) answer w' m = m.reconfigurations
 done_by net w (LinkDown router now on) answer w' m = m.reconfigurations
+done_by net w (LinkUp router now on) answer w' m = m.reconfigurations
 done_by net w (Reconfigure router now change) answer w' m = m.reconfigurations
 done_by net w (Stranger router x) answer w' i = i.moves.reconfigurations
 done_by net w (Deliver datagram router iface now) answer w' d = d.moves.reconfigurations

@@ -1,6 +1,6 @@
 -- The events of the code as those of the model.
-use Rattle.router_core.specs.Machine.{Happening, Arrives, Ticks, Restarts, ShutsDown, LinkGoesDown}
-use Rattle.ripng_world.specs.World.{Event, Deliver, Stranger, Tick, Restart, Shutdown, LinkDown, Reconfigure}
+use Rattle.router_core.specs.Machine.{Happening, Arrives, Ticks, Restarts, ShutsDown, LinkGoesDown, LinkComesUp}
+use Rattle.ripng_world.specs.World.{Event, Deliver, Stranger, Tick, Restart, Shutdown, LinkDown, LinkUp, Reconfigure}
 use Rattle.ripng_world.specs.declared.event.Event as coded
 use Rattle.ripng_world.specs.declared.event.Event.TheVariants as variants
 use Rattle.ripng_world.specs.declared.event.Happening as at_router
@@ -14,6 +14,7 @@ event_of (variants.Tick router now word) = Tick router now word
 event_of (variants.Restart router now) = Restart router now
 event_of (variants.Shutdown router now) = Shutdown router now
 event_of (variants.LinkDown router now iface) = LinkDown router now iface
+event_of (variants.LinkUp router now iface) = LinkUp router now iface
 event_of (variants.Reconfigure router now c) = Reconfigure router now c
 
 -- what happens at a router
@@ -23,3 +24,4 @@ happening_of (kinds.Ticks now word) = Ticks now word
 happening_of (kinds.Restarts now) = Restarts now
 happening_of (kinds.ShutsDown now) = ShutsDown now
 happening_of (kinds.LinkGoesDown now iface) = LinkGoesDown now iface
+happening_of (kinds.LinkComesUp now iface) = LinkComesUp now iface

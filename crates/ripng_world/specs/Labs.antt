@@ -20,7 +20,7 @@ use Rattle.ripng_world.specs.Walks.{IsTableBacked, IsLeast}
 use Rattle.ripng_world.specs.Past.{IsTableBackedSince, IsLeastSince}
 use Rattle.ripng_world.specs.Truth.{IsSoundDatagram}
 use Rattle.ripng_world.specs.TruthSince.{IsSoundDatagramSince}
-use Rattle.ripng_world.specs.World.{World, Event, Deliver, Stranger, Tick, Restart, Shutdown, LinkDown, Reconfigure, Happens, WorldRun, IsCold, is_heard, past_of, reconfigurations_in}
+use Rattle.ripng_world.specs.World.{World, Event, Deliver, Stranger, Tick, Restart, Shutdown, LinkDown, LinkUp, Reconfigure, Happens, WorldRun, IsCold, is_heard, past_of, reconfigurations_in}
 use Rattle.ripng_world.specs.declared.event.LabError.{LabError}
 use Rattle.ripng_world.specs.declared.event.LabError.TheVariants.{NoSuchRouter, NoSuchInterface, NoSuchDatagram, OtherLink, NotAStranger, OutOfMemory, NotALiar}
 use Rattle.ripng_world.specs.declared.sent.Sent.{Sent}
@@ -154,6 +154,7 @@ event_reasons lab (Tick router now word) = missing_router_reasons lab.network ro
 event_reasons lab (Restart router now) = missing_router_reasons lab.network router
 event_reasons lab (Shutdown router now) = missing_router_reasons lab.network router
 event_reasons lab (LinkDown router now iface) = missing_interface_reasons lab.network router iface
+event_reasons lab (LinkUp router now iface) = missing_interface_reasons lab.network router iface
 event_reasons lab (Reconfigure router now c) = named_reasons lab.network router c
 
 -- the first reason that applies, before the router itself is asked

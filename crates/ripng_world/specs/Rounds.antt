@@ -6,7 +6,7 @@ use Rattle.router_core.specs.Machine.{State}
 use Rattle.router_core.specs.declared.answer.Answer.{Answer}
 use Rattle.router_core.specs.declared.answer.NoteKind.TheVariants.{NoMemory}
 use Rattle.ripng_world.specs.Network.{Network, AreLinked}
-use Rattle.ripng_world.specs.World.{World, Event, Deliver, Stranger, Tick, Restart, Shutdown, LinkDown, Reconfigure, Happens}
+use Rattle.ripng_world.specs.World.{World, Event, Deliver, Stranger, Tick, Restart, Shutdown, LinkDown, LinkUp, Reconfigure, Happens}
 use Rattle.ripng_world.specs.declared.sent.Sent.{Sent}
 
 -- the ticks of a round, and then its deliveries
@@ -22,6 +22,7 @@ router_of (Tick router now word) = router
 router_of (Restart router now) = router
 router_of (Shutdown router now) = router
 router_of (LinkDown router now on) = router
+router_of (LinkUp router now on) = router
 router_of (Reconfigure router now c) = router
 
 -- the moment at which it happens there
@@ -32,6 +33,7 @@ moment_of (Tick router now word) = now
 moment_of (Restart router now) = now
 moment_of (Shutdown router now) = now
 moment_of (LinkDown router now on) = now
+moment_of (LinkUp router now on) = now
 moment_of (Reconfigure router now c) = now
 
 -- a tick at which the router's regular update is due

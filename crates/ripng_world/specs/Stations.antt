@@ -1,7 +1,7 @@
 -- Routers of a network at their places.
 use Rattle.std.specs.Prelude.{◌≡◌, ℕ, ◌<◌, ◌*◌, ◌/◌, max, ⊤, List, [], ◌∷◌, ◌++◌, map, length, Some, slice_get, slice_set}
 use Rattle.std.specs.FinMap as map_of
-use Rattle.router_core.specs.Machine.{State, Happening, Arrives, Ticks, Restarts, Reconfigures, ShutsDown, LinkGoesDown, Moves}
+use Rattle.router_core.specs.Machine.{State, Happening, Arrives, Ticks, Restarts, Reconfigures, ShutsDown, LinkGoesDown, LinkComesUp, Moves}
 use Rattle.router_core.specs.declared.answer.Answer.{Answer}
 use Rattle.router_core.specs.declared.reconfiguring.Change.{Change}
 use Rattle.ripng_world.specs.Network.{Network, Node}
@@ -35,6 +35,7 @@ most_sends s (Restarts now) = length s.config.interfaces
 most_sends s (Reconfigures now c) = 0
 most_sends s (ShutsDown now) = map_of.len s.table * length s.config.interfaces
 most_sends s (LinkGoesDown now iface) = 0
+most_sends s (LinkComesUp now iface) = 1
 
 -- the router at a place moves, and all others stay
 pub record IsMoveAt (stations : List StationValue) (router : ℕ) (happening : Happening) (answer : Answer) (stations' : List StationValue) : Type 0 where

@@ -3,7 +3,7 @@ use Rattle.std.specs.Prelude.{◌≡◌, ℕ, ◌<◌, suc, Bool, true, false, �
 use Rattle.ripng_wire.specs.Wire.{is_response}
 use Rattle.router_core.specs.Received.{Received}
 use Rattle.router_core.specs.Faults.{fault, ripng_port}
-use Rattle.router_core.specs.Machine.{State, Happening, Arrives, Ticks, Restarts, Reconfigures, ShutsDown, LinkGoesDown, Moves, Starts}
+use Rattle.router_core.specs.Machine.{State, Happening, Arrives, Ticks, Restarts, Reconfigures, ShutsDown, LinkGoesDown, LinkComesUp, Moves, Starts}
 use Rattle.router_core.specs.declared.answer.Answer.{Answer}
 use Rattle.router_core.specs.declared.answer.Outgoing.{Outgoing}
 use Rattle.router_core.specs.declared.answer.Destination.{Destination}
@@ -32,6 +32,7 @@ pub data Event : Type 0 where
   Reconfigure : (router now : ℕ) → Change → Event
   Shutdown : (router now : ℕ) → Event
   LinkDown : (router now iface : ℕ) → Event
+  LinkUp : (router now iface : ℕ) → Event
 
 -- a datagram with the router that sent it
 abbrev pub sent_by : ℕ → Outgoing → Sent
@@ -99,6 +100,7 @@ Happens net w (Tick router now word) answer w' = RouterMoves w router (Ticks now
 Happens net w (Restart router now) answer w' = RouterMoves w router (Restarts now) answer w'
 Happens net w (Shutdown router now) answer w' = RouterMoves w router (ShutsDown now) answer w'
 Happens net w (LinkDown router now iface) answer w' = RouterMoves w router (LinkGoesDown now iface) answer w'
+Happens net w (LinkUp router now iface) answer w' = RouterMoves w router (LinkComesUp now iface) answer w'
 Happens net w (Reconfigure router now c) answer w' = RouterMoves w router (Reconfigures now c) answer w'
 
 -- the events happen one after another

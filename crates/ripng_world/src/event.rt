@@ -52,6 +52,13 @@ pub enum Event<'a> {
         /// The number of the router's interface.
         iface: usize,
     },
+    /// The link of an interface comes up: the router asks the neighbors there for their tables. Its own table stays.
+    LinkUp {
+        router: usize,
+        now: Moment,
+        /// The number of the router's interface.
+        iface: usize,
+    },
     /// The configuration of a router is changed.
     Reconfigure {
         /// The number of the router.
@@ -73,6 +80,8 @@ pub enum Happening<'a> {
     ShutsDown(Moment),
     /// At a moment, at an interface.
     LinkGoesDown(Moment, usize),
+    /// At a moment, at an interface.
+    LinkComesUp(Moment, usize),
 }
 
 /// Why an event is refused: the first reason to refuse it, in this order.
@@ -164,7 +173,7 @@ impl<'a> Event<'a> {
     ghost use Rattle.ripng_world.specs.Rounds.{router_of};
 
     /// The number of the router that moves.
-    pub(crate) fn router(&self) -> usize
+    pub fn router(&self) -> usize
         ensures { result ≡ router_of (event_of self.entry.now) }
     {
         match self {
@@ -174,6 +183,7 @@ impl<'a> Event<'a> {
             | Event::Restart { router, .. }
             | Event::Shutdown { router, .. }
             | Event::LinkDown { router, .. }
+            | Event::LinkUp { router, .. }
             | Event::Reconfigure { router, .. } => *router,
         }
     }

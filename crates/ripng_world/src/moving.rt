@@ -164,6 +164,10 @@ pub fn happen<S: RouteStore>(
                 Happening::LinkGoesDown(*now, *iface),
             )?)
         }
+        Event::LinkUp { router, now, iface } => {
+            let comes_up = Happening::LinkComesUp(*now, *iface);
+            Ok(act(stations, sent, *router, comes_up)?)
+        }
         Event::Reconfigure {
             router,
             now,

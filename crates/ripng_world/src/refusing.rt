@@ -178,7 +178,9 @@ pub fn check<S: RouteStore>(
         Event::Tick { router, .. }
         | Event::Restart { router, .. }
         | Event::Shutdown { router, .. } => { check_router(stations, *router) }
-        Event::LinkDown { router, iface, .. } => check_link(stations, *router, *iface),
+        Event::LinkDown { router, iface, .. } | Event::LinkUp { router, iface, .. } => {
+            check_link(stations, *router, *iface)
+        }
         Event::Reconfigure { router, change, .. } => check_named(stations, *router, change),
     }
 }

@@ -106,6 +106,7 @@ impl<S: RouteStore> Station<S> {
             Happening::Ticks(..) | Happening::ShutsDown(_) => routes * interfaces,
             Happening::Restarts(_) => interfaces,
             Happening::LinkGoesDown(..) => 0,
+            Happening::LinkComesUp(..) => 1,
         }
     }
 
@@ -126,6 +127,7 @@ impl<S: RouteStore> Station<S> {
             Happening::Restarts(now) => self.router.restart(now),
             Happening::ShutsDown(now) => self.router.shutdown(now),
             Happening::LinkGoesDown(now, iface) => self.router.link_down(now, iface),
+            Happening::LinkComesUp(now, iface) => self.router.link_up(now, iface),
         }
     }
 

@@ -6,7 +6,7 @@ use Rattle.ripng_wire.specs.Wire.{first_reason, wire_reasons, is_response}
 use Rattle.router_core.specs.Ageing.{aged_table, unmarked}
 use Rattle.router_core.specs.Config.{Config, has_address}
 use Rattle.router_core.specs.Faults.{fault, asker_reasons, ripng_port}
-use Rattle.router_core.specs.Machine.{State, Happening, Arrives, Ticks, Restarts, Reconfigures, ShutsDown, LinkGoesDown, Moves, Accepts, Refuses, Hears as RouterHears, Replies, ticked, is_regular_due, is_triggered_due}
+use Rattle.router_core.specs.Machine.{State, Happening, Arrives, Ticks, Restarts, Reconfigures, ShutsDown, LinkGoesDown, LinkComesUp, Moves, Accepts, Refuses, Hears as RouterHears, Replies, ticked, is_regular_due, is_triggered_due}
 use Rattle.router_core.specs.Received.{Received}
 use Rattle.router_core.specs.Reconfiguring.{reconfigured_config}
 use Rattle.router_core.specs.declared.answer.Answer.{Answer}
@@ -53,6 +53,7 @@ moves_addresses old (Ticks now word) answer new moves = ap (λ (s : State). addr
 moves_addresses old (Restarts now) answer new moves = ap (λ (s : State). addresses_of s.config) moves.state
 moves_addresses old (ShutsDown now) answer new moves = ap (λ (s : State). addresses_of s.config) moves.state
 moves_addresses old (LinkGoesDown now iface) answer new moves = ap (λ (s : State). addresses_of s.config) moves.state
+moves_addresses old (LinkComesUp now iface) answer new moves = ap (λ (s : State). addresses_of s.config) moves.state
 moves_addresses old (Reconfigures now c) answer new moves = ap (λ (s : State). addresses_of s.config) moves.state ∙ changed_addresses old.config c
 
 -- ---- faults are by addresses alone

@@ -4,7 +4,7 @@ use Rattle.std.specs.Prelude.{⊤}
 use Rattle.std.specs.List.{cons_option}
 use Rattle.std.proofs.lemmas.Bool.{eq-eqb, eqb-true}
 use Rattle.ripng_wire.specs.Wire.{is_response}
-use Rattle.router_core.specs.Machine.{State, Happening, Arrives, Ticks, Restarts, Reconfigures, ShutsDown, LinkGoesDown, Moves, Starts}
+use Rattle.router_core.specs.Machine.{State, Happening, Arrives, Ticks, Restarts, Reconfigures, ShutsDown, LinkGoesDown, LinkComesUp, Moves, Starts}
 use Rattle.router_core.specs.declared.answer.Answer.{Answer}
 use Rattle.router_core.specs.declared.answer.Outgoing.{Outgoing}
 use Rattle.router_core.specs.declared.config.Interface.{Interface}
@@ -20,7 +20,7 @@ use Rattle.ripngd_engine.specs.Run as engine
 use Rattle.ripngd_engine.specs.Run.{Machine, Trace, Sends, MovedOrLost, Moved, ComesUp, arrival, counted, followed_by, one_call, handed, datagrams_of}
 use Rattle.ripngd_engine.specs.Observer.{LinkReport, Processed}
 use Rattle.ripngd_engine.specs.declared.observer.Arrived.{Arrived}
-use Rattle.ripngd_networks.specs.Daemons.{Act, Start, Listen, Tick, Reconfigure, Shutdown, LinkDown, Refuse, Deed, Does, Goes, HearsCall, in_force, reconfiguration_by}
+use Rattle.ripngd_networks.specs.Daemons.{Act, Start, Listen, Tick, Reconfigure, Shutdown, LinkDown, LinkUp, Refuse, Deed, Does, Goes, HearsCall, in_force, reconfiguration_by}
 use Rattle.ripngd_networks.specs.Links.{handed_in, handed_by, IsCopyOf, IsOfAStranger}
 use Rattle.ripngd_networks.specs.OnTime.{IsNumbered}
 use Rattle.ripngd_networks.proofs.Addresses.{addresses_of, fault_same, moves_addresses}
@@ -80,6 +80,7 @@ IsEventOf count router Tick number trace e answer = (now : ℕ) × (word : ℕ) 
 IsEventOf count router (Reconfigure c) number trace e answer = (now : ℕ) × (e ≡ world.Reconfigure router now c)
 IsEventOf count router Shutdown number trace e answer = (now : ℕ) × (e ≡ world.Shutdown router now)
 IsEventOf count router (LinkDown on) number trace e answer = (now : ℕ) × (e ≡ world.LinkDown router now on)
+IsEventOf count router (LinkUp on) number trace e answer = (now : ℕ) × (e ≡ world.LinkUp router now on)
 IsEventOf count router act number trace e answer = ⊥
 
 -- a daemon lost a step for memory
@@ -95,6 +96,7 @@ IsIdle daemon Tick n = HasLost daemon n
 IsIdle daemon (Reconfigure c) n = ⊥
 IsIdle daemon Shutdown n = ⊥
 IsIdle daemon (LinkDown on) n = ⊥
+IsIdle daemon (LinkUp on) n = ⊥
 IsIdle daemon act n = ⊤
 
 -- what a deed is in a world: a step, or none
@@ -282,6 +284,10 @@ module _ (net : Network) (first : List Sent) (daemons : ℕ → Option Machine) 
     link_down_on on number t n did =
         once_on (LinkDown on) (LinkGoesDown did.1.0 on) (world.LinkDown router did.1.0 on) did.1.0 number t n m was did.1.1 refl (λ w' r. r) (did.1.0, refl)
 
+    link_up_on : (on : ℕ) (number : Option ℕ) (t : Trace) (n : Machine) → Goes (LinkUp on) m t n → Onward n (record { act = LinkUp on; trace = t }) number
+    link_up_on on number t n did =
+        once_on (LinkUp on) (LinkComesUp did.1.0 on) (world.LinkUp router did.1.0 on) did.1.0 number t n m was did.1.1 refl (λ w' r. r) (did.1.0, refl)
+
     refused_on : (number : Option ℕ) (t : Trace) (n : Machine) → Goes Refuse m t n → Onward n (record { act = Refuse; trace = t }) number
     refused_on number t n did =
         stayed_on n (record { act = Refuse; trace = t }) number (was ∙ sym (ap (λ (x : Machine). x.router) did.1.2)) (ap handed_in_trace did.1.1) refl tt
@@ -374,6 +380,7 @@ module _ (net : Network) (first : List Sent) (daemons : ℕ → Option Machine) 
     gone_on (Reconfigure c) number t n did given = reconfigured_on c number t n did
     gone_on Shutdown number t n did given = shut_down_on number t n did
     gone_on (LinkDown on) number t n did given = link_down_on on number t n did
+    gone_on (LinkUp on) number t n did given = link_up_on on number t n did
     gone_on Refuse number t n did given = refused_on number t n did
 
   pub done_on : (before : Option Machine) → daemons router ≡ before → (act : Act) (number : Option ℕ) (t : Trace) (n : Machine) → Does (config_of node) before act t n
@@ -384,10 +391,12 @@ module _ (net : Network) (first : List Sent) (daemons : ℕ → Option Machine) 
   done_on None is (Reconfigure c) number t n did given = absurd did
   done_on None is Shutdown number t n did given = absurd did
   done_on None is (LinkDown on) number t n did given = absurd did
+  done_on None is (LinkUp on) number t n did given = absurd did
   done_on None is Refuse number t n did given = absurd did
   done_on (Some m) is (Listen call) number t n did given = gone_on m is (Listen call) number t n did given
   done_on (Some m) is Tick number t n did given = gone_on m is Tick number t n did given
   done_on (Some m) is (Reconfigure c) number t n did given = gone_on m is (Reconfigure c) number t n did given
   done_on (Some m) is Shutdown number t n did given = gone_on m is Shutdown number t n did given
   done_on (Some m) is (LinkDown on) number t n did given = gone_on m is (LinkDown on) number t n did given
+  done_on (Some m) is (LinkUp on) number t n did given = gone_on m is (LinkUp on) number t n did given
   done_on (Some m) is Refuse number t n did given = gone_on m is Refuse number t n did given

@@ -6,11 +6,11 @@ use Rattle.fib.specs.Forwarding.{Replays}
 use Rattle.fib.proofs.ReplayLaws.{replays_to_one}
 use Rattle.router_core.specs.Changes.{forwards}
 use Rattle.router_core.specs.Config.{Config}
-use Rattle.router_core.specs.Machine.{Happening, Arrives, Ticks, Restarts, Reconfigures, ShutsDown, LinkGoesDown, started, forwards_before}
+use Rattle.router_core.specs.Machine.{Happening, Arrives, Ticks, Restarts, Reconfigures, ShutsDown, LinkGoesDown, LinkComesUp, started, forwards_before}
 use Rattle.router_core.proofs.MovesReplay.{moves_replay}
 use Rattle.ripngd_engine.specs.Link.{Call, Gave, Silent, RecvFailed, Handed}
 use Rattle.ripngd_engine.specs.Run.{Machine, Trace, FollowsUnless, MovedOrLost, arrival}
-use Rattle.ripngd_networks.specs.Daemons.{Act, Start, Listen, Tick, Reconfigure, Shutdown, LinkDown, Refuse, Deed, Does, Goes, HearsCall, Lives, in_force}
+use Rattle.ripngd_networks.specs.Daemons.{Act, Start, Listen, Tick, Reconfigure, Shutdown, LinkDown, LinkUp, Refuse, Deed, Does, Goes, HearsCall, Lives, in_force}
 
 -- the forwarding table of a daemon that goes on
 abbrev pub Follows : Machine → Type 0
@@ -43,6 +43,7 @@ gone Tick m t n follows did = stepped (record m { stream = did.1.stream }) (Tick
 gone (Reconfigure c) m t n follows did = stepped m (Reconfigures did.1.0 c) did.1.0 t n refl did.0 follows (inl did.1.1)
 gone Shutdown m t n follows did = stepped m (ShutsDown did.1.0) did.1.0 t n refl did.0 follows (inl did.1.1)
 gone (LinkDown on) m t n follows did = stepped m (LinkGoesDown did.1.0 on) did.1.0 t n refl did.0 follows (inl did.1.1)
+gone (LinkUp on) m t n follows did = stepped m (LinkComesUp did.1.0 on) did.1.0 t n refl did.0 follows (inl did.1.1)
 gone Refuse m t n follows did = subst Follows (sym did.1.2) follows
 
 does : (config : Config) (before : Option Machine) (act : Act) (t : Trace) (n : Machine) → IfUp before → Does config before act t n → Follows n
@@ -56,12 +57,14 @@ does config (Some m) Tick t n follows did = gone Tick m t n follows did
 does config (Some m) (Reconfigure c) t n follows did = gone (Reconfigure c) m t n follows did
 does config (Some m) Shutdown t n follows did = gone Shutdown m t n follows did
 does config (Some m) (LinkDown on) t n follows did = gone (LinkDown on) m t n follows did
+does config (Some m) (LinkUp on) t n follows did = gone (LinkUp on) m t n follows did
 does config (Some m) Refuse t n follows did = gone Refuse m t n follows did
 does config None (Listen call) t n follows did = absurd did
 does config None Tick t n follows did = absurd did
 does config None (Reconfigure c) t n follows did = absurd did
 does config None Shutdown t n follows did = absurd did
 does config None (LinkDown on) t n follows did = absurd did
+does config None (LinkUp on) t n follows did = absurd did
 does config None Refuse t n follows did = absurd did
 
 -- after all of its life

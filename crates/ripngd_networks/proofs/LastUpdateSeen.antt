@@ -8,11 +8,11 @@ use Rattle.ripng_wire.specs.declared.rte.Command.TheVariants.{Response}
 use Rattle.ripng_wire.specs.Layout.{Spells}
 use Rattle.route_table.proofs.TableLaws.{Some-same, None-Some}
 use Rattle.router_core.specs.Config.{is_own_address}
-use Rattle.router_core.specs.Machine.{State, Happening, Arrives, Ticks, Restarts, Reconfigures, ShutsDown, LinkGoesDown, Moves}
+use Rattle.router_core.specs.Machine.{State, Happening, Arrives, Ticks, Restarts, Reconfigures, ShutsDown, LinkGoesDown, LinkComesUp, Moves}
 use Rattle.router_core.specs.Received.{Received}
 use Rattle.router_core.specs.declared.answer.Answer.{Answer}
 use Rattle.ripng_world.specs.Network.{Network, Node, AreLinked, HasDistinctAddresses, IsUsable, config_of, interface_at}
-use Rattle.ripng_world.specs.World.{World, Event, Deliver, Stranger, Tick, Restart, Shutdown, LinkDown, Reconfigure, RouterMoves, Happens, WorldRun, address_at, arrival_of, is_heard}
+use Rattle.ripng_world.specs.World.{World, Event, Deliver, Stranger, Tick, Restart, Shutdown, LinkDown, LinkUp, Reconfigure, RouterMoves, Happens, WorldRun, address_at, arrival_of, is_heard}
 use Rattle.ripng_world.specs.declared.network.NetInterface.{NetInterface}
 use Rattle.ripng_world.specs.declared.sent.Sent.{Sent}
 use Rattle.ripng_world.proofs.Delivered.{sent_grow}
@@ -286,6 +286,7 @@ module _ (net : Network) (distinct : HasDistinctAddresses net) (usable : IsUsabl
   one (Restart r now) events v mid answer m grows s s_is addresses rest = silent (Restart r now) events v mid answer s s_is addresses rest r (Restarts now) m refl refl
   one (Shutdown r now) events v mid answer m grows s s_is addresses rest = silent (Shutdown r now) events v mid answer s s_is addresses rest r (ShutsDown now) m refl refl
   one (LinkDown r now i) events v mid answer m grows s s_is addresses rest = silent (LinkDown r now i) events v mid answer s s_is addresses rest r (LinkGoesDown now i) m refl refl
+  one (LinkUp r now i) events v mid answer m grows s s_is addresses rest = silent (LinkUp r now i) events v mid answer s s_is addresses rest r (LinkComesUp now i) m refl refl
   one (Reconfigure r now c) events v mid answer m grows s s_is addresses rest = silent (Reconfigure r now c) events v mid answer s s_is addresses rest r (Reconfigures now c) m refl refl
 
   -- ---- all of them

@@ -13,7 +13,7 @@ use Rattle.ripng_wire.proofs.OneReading.{one_reading}
 use Rattle.route_table.specs.Route.{infinity}
 use Rattle.route_table.proofs.TableLaws.{Some-same, None-Some}
 use Rattle.router_core.specs.Faults.{fault}
-use Rattle.router_core.specs.Machine.{State, Happening, Arrives, Ticks, Restarts, Reconfigures, ShutsDown, LinkGoesDown, Moves, Hears, hearing_of}
+use Rattle.router_core.specs.Machine.{State, Happening, Arrives, Ticks, Restarts, Reconfigures, ShutsDown, LinkGoesDown, LinkComesUp, Moves, Hears, hearing_of}
 use Rattle.router_core.specs.Offers.{prefix_named}
 use Rattle.router_core.specs.Received.{Received}
 use Rattle.router_core.specs.declared.answer.Answer.{Answer}
@@ -144,6 +144,7 @@ module _ (iface from : ℕ) (p : Prefix6) (short : p.len ≤ 128) (routable : is
   step s new answer (Reconfigures now c) moves losses = silent s new answer (Reconfigures now c) (λ can. tt) (λ ended. tt) moves
   step s new answer (ShutsDown now) moves losses = silent s new answer (ShutsDown now) (λ can. tt) (λ ended. tt) moves
   step s new answer (LinkGoesDown now on) moves losses = silent s new answer (LinkGoesDown now on) (λ can. tt) (λ ended. tt) moves
+  step s new answer (LinkComesUp now on) moves losses = silent s new answer (LinkComesUp now on) (λ can. tt) (λ ended. tt) moves
 
   each_left : (P : List ℕ → Type 0) (xs ys : List (List ℕ)) → AllByRecursion P (xs ++ ys) → AllByRecursion P xs × AllByRecursion P ys
   each_left P [] ys all = (tt, all)

@@ -5,14 +5,14 @@ use Rattle.router_core.specs.Config.{Config}
 use Rattle.ripngd_engine.specs.Link.{Call, Gave, Silent, RecvFailed, Handed}
 use Rattle.ripngd_engine.specs.Run.{Machine, Trace, TakesIn, TicksOnce, TicksUnless, Turn, Turns, followed_by, all_joined, no_step, one_call}
 use Rattle.router_core.specs.declared.reconfiguring.Change.{Change}
-use Rattle.ripngd_engine.specs.Changing.{LinkGoesDownOnce, ReconfigureAnswer, ReconfiguresNothing, ReconfiguresOnce, ShutsDownOnce, StepAnswer}
+use Rattle.ripngd_engine.specs.Changing.{LinkComesUpOnce, LinkGoesDownOnce, ReconfigureAnswer, ReconfiguresNothing, ReconfiguresOnce, ShutsDownOnce, StepAnswer}
 use Rattle.ripngd_engine.specs.Seen.{Acts, Seen, Shows, TurnsAnswer}
 use Rattle.ripngd_engine.specs.declared.report.ChangeFault.{ChangeFault}
 use Rattle.ripngd_engine.specs.declared.report.ChangeFault.TheVariants.{Refused, Ended}
 use Rattle.ripngd_engine.specs.declared.report.EngineFault.{EngineFault}
 use Rattle.ripngd_engine.specs.declared.report.EngineFault.TheVariants.{LinkFault, OutOfMemory}
 use Rattle.ripngd_engine.proofs.Steps.{Shows-trans, Shows-listens}
-use Rattle.ripngd_networks.specs.Daemons.{Act, Deed, Listen, Tick, Reconfigure, Shutdown, LinkDown, Refuse, Does as DoesNext, HearsCall, Lives, traces_of}
+use Rattle.ripngd_networks.specs.Daemons.{Act, Deed, Listen, Tick, Reconfigure, Shutdown, LinkDown, LinkUp, Refuse, Does as DoesNext, HearsCall, Lives, traces_of}
 
 followed_by-no_step : (t : Trace) → followed_by t no_step ≡ t
 followed_by-no_step t = simp append-nil
@@ -137,3 +137,7 @@ shutdown_lives config = step_lives config Shutdown ShutsDownOnce (λ m t n on do
 pub link_down_lives : (config : Config) (iface : ℕ) (a : Seen) (result : Result (Unit {0}) ChangeFault) (b : Seen) → a.machine.ended ≡ false → StepAnswer (LinkGoesDownOnce iface) a result b
     → ShowsLife config a b
 link_down_lives config iface = step_lives config (LinkDown iface) (LinkGoesDownOnce iface) (λ m t n on does. (on, does))
+
+pub link_up_lives : (config : Config) (iface : ℕ) (a : Seen) (result : Result (Unit {0}) ChangeFault) (b : Seen) → a.machine.ended ≡ false → StepAnswer (LinkComesUpOnce iface) a result b
+    → ShowsLife config a b
+link_up_lives config iface = step_lives config (LinkUp iface) (LinkComesUpOnce iface) (λ m t n on does. (on, does))

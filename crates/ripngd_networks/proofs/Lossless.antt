@@ -6,7 +6,7 @@ use Rattle.router_core.specs.Config.{Config}
 use Rattle.router_core.specs.Machine.{Happening, Arrives, Ticks}
 use Rattle.ripngd_engine.specs.Link.{Call, Gave, Silent, RecvFailed, Handed}
 use Rattle.ripngd_engine.specs.Run.{Machine, Trace, MovedOrLost, arrival}
-use Rattle.ripngd_networks.specs.Daemons.{Act, Start, Listen, Tick, Reconfigure, Shutdown, LinkDown, Refuse, Deed, Happened, Does, HearsCall, Lives, own_deeds}
+use Rattle.ripngd_networks.specs.Daemons.{Act, Start, Listen, Tick, Reconfigure, Shutdown, LinkDown, LinkUp, Refuse, Deed, Happened, Does, HearsCall, Lives, own_deeds}
 use Rattle.ripngd_networks.specs.OnTime.{IsPlain}
 
 -- ---- the count never falls
@@ -37,6 +37,7 @@ did_up config Tick m t n plain did = step_up (record m { stream = did.1.stream }
 did_up config (Reconfigure c) m t n plain did = absurd plain
 did_up config Shutdown m t n plain did = absurd plain
 did_up config (LinkDown on) m t n plain did = absurd plain
+did_up config (LinkUp on) m t n plain did = absurd plain
 did_up config Refuse m t n plain did = same_up m n did.1.2
 
 -- one that is not up does nothing but come up
@@ -47,6 +48,7 @@ down_does config Tick t n plain did = did
 down_does config (Reconfigure c) t n plain did = plain
 down_does config Shutdown t n plain did = plain
 down_does config (LinkDown on) t n plain did = plain
+down_does config (LinkUp on) t n plain did = plain
 down_does config Refuse t n plain did = did
 
 abbrev pub ArePlain : List Deed → Type 0

@@ -19,7 +19,7 @@ use Rattle.router_core.specs.Config.{Config}
 use Rattle.router_core.specs.Faults.{fault}
 use Rattle.router_core.specs.Hearing.{Hearing, Heard, route_after, is_refused}
 use Rattle.router_core.specs.LinkDown.{is_live_on, after_link_down}
-use Rattle.router_core.specs.Machine.{State, Happening, Arrives, Ticks, Restarts, Reconfigures, ShutsDown, LinkGoesDown, Moves, Accepts, Hears, Refuses, Replies, owned_table, ticked, is_regular_due, is_triggered_due}
+use Rattle.router_core.specs.Machine.{State, Happening, Arrives, Ticks, Restarts, Reconfigures, ShutsDown, LinkGoesDown, LinkComesUp, Moves, Accepts, Hears, Refuses, Replies, owned_table, ticked, is_regular_due, is_triggered_due}
 use Rattle.router_core.specs.Offers.{Offer, offer_at, is_offer, prefix_named}
 use Rattle.router_core.specs.Owning.{owned_route}
 use Rattle.router_core.specs.Received.{Received}
@@ -185,6 +185,7 @@ module _ (P : RouteValue → Type 0) (kept : IsKept P) where
       moves_keep (Restarts now) hear moves = subst (λ (s : State). At s.table) (sym moves.state) (owned_keeps old.config)
       moves_keep (Reconfigures now c) hear moves = subst (λ (s : State). At s.table) (sym moves.state) (changed_keeps (max old.last now) old.table c holds)
       moves_keep (ShutsDown now) hear moves = subst (λ (s : State). At s.table) (sym moves.state) holds
+      moves_keep (LinkComesUp now iface) hear moves = subst (λ (s : State). At s.table) (sym moves.state) holds
       moves_keep (LinkGoesDown now iface) hear moves =
           subst (λ (s : State). At s.table) (sym moves.state)
           (subst (OfRoute P) (sym (get-map_values (λ r. Some (after_link_down iface (max old.last now) r)) old.table p))

@@ -12,6 +12,7 @@ use Rattle.ripng_phases.specs.Phases.{Takes, IsCount, IsOvertaken, reached}
 use Rattle.ripng_phases.proofs.Along.{contains_from}
 use Rattle.ripng_phases.proofs.Cutting.{AreBefore, IsCut, untimed_on, from_all, cut_at, all_here, in_early, in_late}
 use Rattle.ripng_phases.proofs.Runs.{takes_first, takes_rest, reached_on}
+use Rattle.ripng_phases.proofs.Stretches.{IsUpdateBetween}
 use Rattle.ripngd_networks.proofs.Winding.{IsWoundBy, IsStateThen, state_then}
 
 -- a router ticks, from one moment on and before another
@@ -53,20 +54,6 @@ pub record IsPaced (net : Network) (w : World) (history : List Timed) (start end
   pub recent : (old new : List Timed) (t : Timed) (after : List Timed) → history ≡ (old ++ new) ++ t ∷ after → start + 13_000 ≤ t.at → AllByRecursion (λ s. s.at + 13_000 ≤ t.at) old
       → (datagram router iface now : ℕ) → t.step.event ≡ Deliver datagram router iface now → length (reached w (untimed old)).sent ≤ datagram
   pub in_order : IsOvertaken (IsCount w (untimed history)) w (untimed history) → ⊥
-
--- a regular update of the router in time
-pub record IsPunctual (net : Network) (w : World) (history : List Timed) (router from : ℕ) : Type 0 where
-  pub before : List Timed
-  pub tick : Timed
-  pub after : List Timed
-  pub parts : history ≡ before ++ tick ∷ after
-  pub not_before : from ≤ tick.at
-  pub in_time : tick.at < from + 46_000
-  pub now : ℕ
-  pub word : ℕ
-  pub ticks : tick.step.event ≡ Tick router now word
-  pub due : IsDueTick (reached w (untimed before)) (Tick router now word)
-  pub heard : ComeInTime net (reached w (untimed before)) tick after
 
 -- ---- a due tick is found
 
@@ -234,7 +221,7 @@ module _ (net : Network) (w : World) (all : List Timed) (start end : ℕ) (w' : 
         first_all P (x ∷ xs) ys all = (all.0, first_all P xs ys all.1)
 
     -- a router's regular updates begin less than 46 seconds apart, and are heard less than 13 seconds later
-    pub punctual : IsPunctual net w all router from
+    pub punctual : IsUpdateBetween net w all router from (from + 46_000) 13_000
     punctual =
         let p = punctual_in in
         let parts : all ≡ (first.early ++ p.before) ++ p.tick ∷ (p.after ++ second.late) =

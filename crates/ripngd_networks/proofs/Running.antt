@@ -14,7 +14,7 @@ use Rattle.ripng_world.proofs.Members.{At, at_right, at_from_contains}
 use Rattle.ripng_phases.specs.Phases as phases
 use Rattle.ripngd_engine.specs.Link.{Gave, Silent, RecvFailed, Handed}
 use Rattle.ripngd_engine.specs.Run.{Machine}
-use Rattle.ripngd_networks.specs.Daemons.{Act, Start, Listen, Tick, Reconfigure, Shutdown, LinkDown, Refuse, Deed, Happened, Does, Lives, reconfiguration_by, reconfigurations_by, own_deeds}
+use Rattle.ripngd_networks.specs.Daemons.{Act, Start, Listen, Tick, Reconfigure, Shutdown, LinkDown, LinkUp, Refuse, Deed, Happened, Does, Lives, reconfiguration_by, reconfigurations_by, own_deeds}
 use Rattle.ripngd_networks.specs.Links.{handed_by, IsOfTheLink, IsOfAStranger, IsGiven, AreGiven, HaveRun, IsRunOf, LiveOn, all_handed}
 use Rattle.ripngd_networks.specs.OnTime.{IsNumbered}
 use Rattle.ripngd_networks.proofs.Addresses.{addresses_of}
@@ -78,6 +78,7 @@ numbered net handed_over router config Tick given = (None, tt)
 numbered net handed_over router config (Reconfigure c) given = (None, tt)
 numbered net handed_over router config Shutdown given = (None, tt)
 numbered net handed_over router config (LinkDown on) given = (None, tt)
+numbered net handed_over router config (LinkUp on) given = (None, tt)
 numbered net handed_over router config Refuse given = (None, tt)
 
 -- so the world goes on with deeds

@@ -1,12 +1,12 @@
 -- The next regular update of a daemon is due 45 seconds after its last step at the latest, whatever it did since its start.
 use Rattle.std.proofs.Common.{◌≡◌, inl, inr, ℕ, ◌+◌, max, ◌≤◌, ◌<◌, List, [], ◌∷◌, length, Option, Some, None, refl, sym, subst, arith}
 use Rattle.router_core.specs.Config.{Config}
-use Rattle.router_core.specs.Machine.{State, Happening, Arrives, Ticks, Restarts, Reconfigures, ShutsDown, LinkGoesDown, Moves}
+use Rattle.router_core.specs.Machine.{State, Happening, Arrives, Ticks, Restarts, Reconfigures, ShutsDown, LinkGoesDown, LinkComesUp, Moves}
 use Rattle.router_core.specs.declared.answer.Answer.{Answer}
 use Rattle.ripng_world.specs.Network.{Network, config_of}
 use Rattle.ripngd_engine.specs.Link.{Call, Gave, Silent, RecvFailed, Handed}
 use Rattle.ripngd_engine.specs.Run.{Machine, Trace, MovedOrLost, arrival}
-use Rattle.ripngd_networks.specs.Daemons.{Act, Start, Listen, Tick, Reconfigure, Shutdown, LinkDown, Refuse, Deed, Does, Happened, HearsCall, Lives, own_deeds}
+use Rattle.ripngd_networks.specs.Daemons.{Act, Start, Listen, Tick, Reconfigure, Shutdown, LinkDown, LinkUp, Refuse, Deed, Does, Happened, HearsCall, Lives, own_deeds}
 use Rattle.ripngd_networks.specs.Links.{HaveRun}
 use Rattle.ripngd_networks.proofs.Running.{there_is}
 use Rattle.ripngd_networks.proofs.Winding.{arrived_wound, ticked_wound}
@@ -29,6 +29,10 @@ moved_set old (ShutsDown now) answer new set moves = subst IsSet (sym moves.stat
     up : (a b n : ℕ) → b ≤ a + 45_000 → b ≤ max a n + 45_000
     up a b n e = omega arith
 moved_set old (LinkGoesDown now iface) answer new set moves = subst IsSet (sym moves.state) (up old.last old.regular now set)
+  where
+    up : (a b n : ℕ) → b ≤ a + 45_000 → b ≤ max a n + 45_000
+    up a b n e = omega arith
+moved_set old (LinkComesUp now iface) answer new set moves = subst IsSet (sym moves.state) (up old.last old.regular now set)
   where
     up : (a b n : ℕ) → b ≤ a + 45_000 → b ≤ max a n + 45_000
     up a b n e = omega arith
@@ -65,12 +69,14 @@ does_set config (Some m) Tick t n set did = stepped_set (record m { stream = did
 does_set config (Some m) (Reconfigure c) t n set did = moved_set m.router (Reconfigures did.1.0 c) did.1.1.answer n.router set did.1.1.moves
 does_set config (Some m) Shutdown t n set did = moved_set m.router (ShutsDown did.1.0) did.1.1.answer n.router set did.1.1.moves
 does_set config (Some m) (LinkDown on) t n set did = moved_set m.router (LinkGoesDown did.1.0 on) did.1.1.answer n.router set did.1.1.moves
+does_set config (Some m) (LinkUp on) t n set did = moved_set m.router (LinkComesUp did.1.0 on) did.1.1.answer n.router set did.1.1.moves
 does_set config (Some m) Refuse t n set did = same_set m n did.1.2 set
 does_set config None (Listen call) t n set did = absurd did
 does_set config None Tick t n set did = absurd did
 does_set config None (Reconfigure c) t n set did = absurd did
 does_set config None Shutdown t n set did = absurd did
 does_set config None (LinkDown on) t n set did = absurd did
+does_set config None (LinkUp on) t n set did = absurd did
 does_set config None Refuse t n set did = absurd did
 
 life_set : (config : Config) (before : Option Machine) (deeds : List Deed) (m : Machine) → IfUp before → Lives config before deeds (Some m) → IsSet m.router

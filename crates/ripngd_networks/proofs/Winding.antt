@@ -10,7 +10,7 @@ use Rattle.router_core.specs.declared.answer.Answer.{Answer}
 use Rattle.router_core.specs.declared.arrival.Fault.{Fault}
 use Rattle.ripng_world.specs.Network.{Network}
 use Rattle.ripng_world.specs.Rounds.{IsDueTick, moment_of, router_of}
-use Rattle.ripng_world.specs.World.{World, Event, Deliver, Stranger, Tick, Restart, Shutdown, LinkDown, Reconfigure, RouterMoves, Happens, arrival_of}
+use Rattle.ripng_world.specs.World.{World, Event, Deliver, Stranger, Tick, Restart, Shutdown, LinkDown, LinkUp, Reconfigure, RouterMoves, Happens, arrival_of}
 use Rattle.ripng_world.proofs.RoundNeighbors.{state_after}
 use Rattle.ripng_phases.specs.Phases.{IsOrdinary}
 use Rattle.ripng_phases.proofs.Later.{arrived_later}
@@ -126,4 +126,5 @@ state_then net w w' (Tick to now word) answer behind bound router s plain m is w
 state_then net w w' (Restart to now) answer behind bound router s plain m is wound in_time = absurd plain
 state_then net w w' (Shutdown to now) answer behind bound router s plain m is wound in_time = absurd plain
 state_then net w w' (LinkDown to now on) answer behind bound router s plain m is wound in_time = absurd plain
+state_then net w w' (LinkUp to now on) answer behind bound router s plain m is wound in_time = absurd plain
 state_then net w w' (Reconfigure to now c) answer behind bound router s plain m is wound in_time = absurd plain

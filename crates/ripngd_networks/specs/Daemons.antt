@@ -3,12 +3,12 @@ use Rattle.std.specs.Prelude.{◌≡◌, ℕ, ◌==◌, if◌then◌else◌, Lis
 use Rattle.rand_core.specs.Stream.{Stream}
 use Rattle.router_core.specs.Config.{Config}
 use Rattle.router_core.specs.declared.reconfiguring.Change.{Change}
-use Rattle.ripngd_engine.specs.Changing.{ReconfiguresOnce, ShutsDownOnce, LinkGoesDownOnce, ReconfiguresNothing}
+use Rattle.ripngd_engine.specs.Changing.{ReconfiguresOnce, ShutsDownOnce, LinkGoesDownOnce, LinkComesUpOnce, ReconfiguresNothing}
 use Rattle.ripngd_engine.specs.Link.{Call, RecvFailed}
 use Rattle.ripngd_engine.specs.Run.{Machine, Trace, ComesUp, TakesIn, TicksOnce, followed_by, one_call}
 
 -- a daemon comes up; it asks its link once, and takes in what that gave; it ticks; its configuration is changed; it shuts down; a
--- link of it goes down; one of these three is refused
+-- link of it goes down; one comes up; one of these four is refused
 pub data Act : Type 0 where
   Start : Act
   Listen : Call → Act
@@ -16,6 +16,7 @@ pub data Act : Type 0 where
   Reconfigure : Change → Act
   Shutdown : Act
   LinkDown : ℕ → Act
+  LinkUp : ℕ → Act
   Refuse : Act
 
 -- the change that an act does, if it does one
@@ -45,6 +46,7 @@ Goes Tick m t n = (m.ended ≡ false) × TicksOnce m t n
 Goes (Reconfigure c) m t n = (m.ended ≡ false) × ReconfiguresOnce c m t n
 Goes Shutdown m t n = (m.ended ≡ false) × ShutsDownOnce m t n
 Goes (LinkDown on) m t n = (m.ended ≡ false) × LinkGoesDownOnce on m t n
+Goes (LinkUp on) m t n = (m.ended ≡ false) × LinkComesUpOnce on m t n
 Goes Refuse m t n = (m.ended ≡ false) × ReconfiguresNothing m t n
 
 -- the configuration in force: that of the first start, or that of the daemon, as it was changed

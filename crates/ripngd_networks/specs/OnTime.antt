@@ -24,7 +24,7 @@ use Rattle.ripngd_engine.specs.Link.{Datagram, Gave}
 use Rattle.ripngd_engine.specs.Run.{Machine}
 use Rattle.ripngd_engine.specs.Observer.{Processed}
 use Rattle.ripngd_engine.specs.declared.observer.Arrived.{Arrived}
-use Rattle.ripngd_networks.specs.Daemons.{Act, Start, Listen, Tick, Reconfigure, Shutdown, LinkDown, Happened, Lives, own_deeds}
+use Rattle.ripngd_networks.specs.Daemons.{Act, Start, Listen, Tick, Reconfigure, Shutdown, LinkDown, LinkUp, Happened, Lives, own_deeds}
 use Rattle.ripngd_networks.specs.Links.{IsCopyOf, IsOfAStranger, LiveOn, handed_by, all_handed}
 
 -- ---- deeds by the true clock
@@ -65,6 +65,7 @@ IsPlain Start = ⊥
 IsPlain (Reconfigure c) = ⊥
 IsPlain Shutdown = ⊥
 IsPlain (LinkDown on) = ⊥
+IsPlain (LinkUp on) = ⊥
 IsPlain _ = ⊤
 
 -- a daemon ticks, from one moment on and before another

@@ -17,7 +17,7 @@ ghost use Rattle.ripng_world.specs.Past.{IsBackedSince, IsLeastSince};
 ghost use Rattle.ripng_world.specs.TruthSince.{IsSoundDatagramSince};
 ghost use Rattle.ripng_world.specs.declared.sent.Sent.{Sent};
 ghost use Rattle.router_core.specs.declared.reconfiguring.Change.{Change};
-ghost use Rattle.ripngd_engine.specs.Changing.{LinkGoesDownOnce, ReconfigureAnswer, ShutsDownOnce, StepAnswer};
+ghost use Rattle.ripngd_engine.specs.Changing.{LinkComesUpOnce, LinkGoesDownOnce, ReconfigureAnswer, ShutsDownOnce, StepAnswer};
 ghost use Rattle.ripngd_engine.specs.Run.{Machine, all_joined};
 ghost use Rattle.ripngd_engine.specs.Seen.{Seen, Outside, Shows, Started, TurnsAnswer};
 ghost use Rattle.ripngd_engine.specs.declared.report.EngineFault.{EngineFault};
@@ -29,8 +29,8 @@ ghost use Rattle.ripngd_networks.specs.Delivering.{AllGoOn, forwardings_by};
 ghost use Rattle.ripng_world.specs.Packets.{PacketsArriveBy};
 
 /// What the contracts of an engine say is a daemon's life: its start, whatever was before; its turns, also those that end early
-/// because a link failed or memory ran out; changes of its configuration, shutdowns and links that go down, also those that are
-/// refused. The outside gained exactly what the deeds of that life did.
+/// because a link failed or memory ran out; changes of its configuration, shutdowns and links that go down or come up, also those
+/// that are refused. The outside gained exactly what the deeds of that life did.
 pub fn engines_live()
     ensures start { (config : Config) (stream : Stream) (a : Outside) (b : Seen) (before : Option Machine) → Started (in_force config before) stream a b
         → (deed : Deed) × (deed.act ≡ Start) × Lives config before (deed ∷ []) (Some b.machine) × Shows a deed.trace b.outside }
@@ -41,6 +41,8 @@ pub fn engines_live()
     ensures shutdowns { (config : Config) (a : Seen) (result : Result (Unit {0}) ChangeFault) (b : Seen) → a.machine.ended ≡ false → StepAnswer ShutsDownOnce a result b
         → (deeds : List Deed) × Lives config (Some a.machine) deeds (Some b.machine) × Shows a.outside (all_joined (traces_of deeds)) b.outside }
     ensures link_downs { (config : Config) (iface : ℕ) (a : Seen) (result : Result (Unit {0}) ChangeFault) (b : Seen) → a.machine.ended ≡ false → StepAnswer (LinkGoesDownOnce iface) a result b
+        → (deeds : List Deed) × Lives config (Some a.machine) deeds (Some b.machine) × Shows a.outside (all_joined (traces_of deeds)) b.outside }
+    ensures link_ups { (config : Config) (iface : ℕ) (a : Seen) (result : Result (Unit {0}) ChangeFault) (b : Seen) → a.machine.ended ≡ false → StepAnswer (LinkComesUpOnce iface) a result b
         → (deeds : List Deed) × Lives config (Some a.machine) deeds (Some b.machine) × Shows a.outside (all_joined (traces_of deeds)) b.outside }
     ensures on { (config : Config) (a b c : Option Machine) (deeds later : List Deed)
         → Lives config a deeds b → Lives config b later c → Lives config a (deeds ++ later) c }

@@ -1,5 +1,5 @@
 -- Walks over all routes.
-use Rattle.std.proofs.Common.{◌≡◌, Bool, true, false, Option, Some}
+use Rattle.std.proofs.Common.{◌≡◌, Bool, true, false, Option}
 use Rattle.route_table.specs.Route.{RouteValue}
 use Rattle.route_table.proofs.WalksWhere.{Leaves}
 

@@ -15,10 +15,10 @@ use Rattle.route_table.proofs.TableSteps.{get-with_value}
 use Rattle.router_core.specs.Ageing.{aged_table, unmarked, without_mark}
 use Rattle.router_core.specs.Changes.{change, forward, forwards, changes_of_start, changes_of_hearing}
 use Rattle.router_core.specs.Hearing.{Hearing}
-use Rattle.router_core.specs.LinkDown.{table_after_link_down, changes_of_link_down}
+use Rattle.router_core.specs.LinkDown.{changes_of_link_down}
 use Rattle.router_core.specs.Received.{Received}
 use Rattle.router_core.specs.Faults.{fault}
-use Rattle.router_core.specs.Machine.{State, Happening, Arrives, Ticks, Restarts, Reconfigures, ShutsDown, LinkGoesDown, Moves, Accepts, Refuses, Hears, Replies, ticked, owned_table, is_regular_due, is_triggered_due, forwards_before, gateway_of}
+use Rattle.router_core.specs.Machine.{State, Happening, Arrives, Ticks, Restarts, Reconfigures, ShutsDown, LinkGoesDown, LinkComesUp, Moves, Accepts, Refuses, Hears, Replies, ticked, owned_table, is_regular_due, is_triggered_due, forwards_before, gateway_of}
 use Rattle.router_core.specs.Reconfiguring.{reconfigured_table, changes_of_reconfiguring, newly_owned, disowned}
 use Rattle.router_core.specs.declared.answer.Answer.{Answer}
 use Rattle.router_core.specs.declared.reconfiguring.Change.{Change}
@@ -124,6 +124,7 @@ moves_replay old new (Reconfigures now c) answer moves =
     (subst (λ (t : Table). Replays (forwards old.table) (changes_of_reconfiguring (max old.last now) old.table c) (forwards t)) (sym (ap (λ (s : State). s.table) moves.state))
     (change_replays (max old.last now) old.table c))
 moves_replay old new (ShutsDown now) answer moves = kept old new answer moves.answer_is.changes_are (ap (λ (s : State). s.table) moves.state)
+moves_replay old new (LinkComesUp now iface) answer moves = kept old new answer moves.answer_is.changes_are (ap (λ (s : State). s.table) moves.state)
 moves_replay old new (LinkGoesDown now iface) answer moves =
     subst (λ (cs : List RouteChange). Replays (forwards old.table) cs (forwards new.table)) (sym moves.answer_is.changes_are)
     (subst (λ (t : Table). Replays (forwards old.table) (changes_of_link_down iface (max old.last now) old.table) (forwards t)) (sym (ap (λ (s : State). s.table) moves.state))

@@ -19,7 +19,7 @@ use Rattle.router_core.specs.Ageing.{aged, aged_by_clock, aged_table, without_ma
 use Rattle.router_core.specs.Received.{Received}
 use Rattle.router_core.specs.Faults.{fault}
 use Rattle.router_core.specs.Reconfiguring.{reconfigure_fault, reconfigured_config, reconfigured_table, newly_owned, disowned}
-use Rattle.router_core.specs.Machine.{State, Happening, Arrives, Ticks, Restarts, Reconfigures, ShutsDown, LinkGoesDown, Moves, Accepts, Hears, Replies, Refuses, Starts, owned_table, ticked, is_regular_due, is_triggered_due}
+use Rattle.router_core.specs.Machine.{State, Happening, Arrives, Ticks, Restarts, Reconfigures, ShutsDown, LinkGoesDown, LinkComesUp, Moves, Accepts, Hears, Replies, Refuses, Starts, owned_table, ticked, is_regular_due, is_triggered_due}
 use Rattle.router_core.specs.LinkDown.{after_link_down, table_after_link_down}
 use Rattle.router_core.specs.Output.{is_learned_on}
 use Rattle.route_table.specs.Route.{infinity}
@@ -219,6 +219,7 @@ moves_keep_owned old new (Restarts now) answer moves h = subst HoldsAt (sym move
 moves_keep_owned old new (Reconfigures now change) answer moves h =
     subst HoldsAt (sym moves.state) (changed_owned (max old.last now) old.config old.table change moves.allowed h)
 moves_keep_owned old new (ShutsDown now) answer moves h = subst HoldsAt (sym moves.state) (record { once = h.once; held = h.held })
+moves_keep_owned old new (LinkComesUp now iface) answer moves h = subst HoldsAt (sym moves.state) (record { once = h.once; held = h.held })
 moves_keep_owned old new (LinkGoesDown now iface) answer moves h =
     subst HoldsAt (sym moves.state)
     (kept_owned old.config old.table (table_after_link_down iface (max old.last now) old.table) (link_down_keeps iface (max old.last now) old.table) h)

@@ -1,5 +1,5 @@
 -- Which row of the table of adoption an offer falls under, on worked examples: both sides of each comparison.
-use Rattle.std.specs.Prelude.{◌≡◌, true, false, refl, Some, None}
+use Rattle.std.specs.Prelude.{◌≡◌, false, refl, Some, None}
 use Rattle.router_core.specs.Adoption.{reason}
 use Rattle.router_core.specs.Owning.{owned_route}
 use Rattle.router_core.specs.declared.reason.Reason.TheVariants.{Nothing, Added, Owned, GivenUp, Refreshed, Cheaper, Older, Dearer, Young, Revived, Gone}

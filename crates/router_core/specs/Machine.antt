@@ -14,7 +14,7 @@ use Rattle.router_core.specs.Faults.{fault}
 use Rattle.router_core.specs.Adoption.{Gateway}
 use Rattle.router_core.specs.Hearing.{Hearing, Heard, hearing}
 use Rattle.router_core.specs.Ageing.{aged_table, unmarked}
-use Rattle.router_core.specs.Output.{Message, AreSpelled, start_messages, update_messages, reply_messages, every_route, is_changed}
+use Rattle.router_core.specs.Output.{Message, AreSpelled, start_messages, link_up_messages, update_messages, reply_messages, every_route, is_changed}
 use Rattle.fib.specs.Forwarding.{Forwarding}
 use Rattle.router_core.specs.Changes.{forwards, changes_of_start, changes_of_ageing, changes_of_hearing}
 use Rattle.router_core.specs.Shutdown.{shutdown_messages}
@@ -43,6 +43,7 @@ pub data Happening : Type 0 where
   Reconfigures : (now : ℕ) → Change → Happening
   ShutsDown : (now : ℕ) → Happening
   LinkGoesDown : (now iface : ℕ) → Happening
+  LinkComesUp : (now iface : ℕ) → Happening
 
 -- an answer without a fault, of these messages, changes and notes
 pub record IsAnswer (messages : List Message) (changes : List RouteChange) (notes : List Note) (answer : Answer) : Type 0 where
@@ -148,6 +149,11 @@ pub record LosesRoutes (old : State) (now iface : ℕ) (answer : Answer) (new : 
   pub state : new ≡ record old { table = table_after_link_down iface now old.table; last = now }
   pub answer_is : IsAnswer [] (changes_of_link_down iface now old.table) [] answer
 
+-- the link of an interface comes up: the neighbors on it are asked for their tables, as at a start (RFC 2080, 2.4.1)
+pub record AsksOn (old : State) (now iface : ℕ) (answer : Answer) (new : State) : Type 0 where
+  pub state : new ≡ record old { last = now }
+  pub answer_is : IsAnswer (link_up_messages old.config iface) [] [] answer
+
 -- a step: the answers and the states after it that are allowed. Time does not go back, except at a restart
 abbrev pub Moves : State → Happening → Answer → State → Type 0
 Moves old (Restarts now) answer new = Starts old.config now answer new
@@ -155,6 +161,7 @@ Moves old (Ticks now word) answer new = Updates old (max old.last now) word answ
 Moves old (Reconfigures now c) answer new = Obeys old (max old.last now) c answer new
 Moves old (ShutsDown now) answer new = PoisonsAll old (max old.last now) answer new
 Moves old (LinkGoesDown now iface) answer new = LosesRoutes old (max old.last now) iface answer new
+Moves old (LinkComesUp now iface) answer new = AsksOn old (max old.last now) iface answer new
 Moves old (Arrives x) answer new =
     MatchOption (fault old.config x)
     (Accepts old (max old.last x.now) x answer new)
@@ -168,3 +175,4 @@ forwards_before old (Arrives x) = forwards old.table
 forwards_before old (Reconfigures now c) = forwards old.table
 forwards_before old (ShutsDown now) = forwards old.table
 forwards_before old (LinkGoesDown now iface) = forwards old.table
+forwards_before old (LinkComesUp now iface) = forwards old.table

@@ -1,5 +1,5 @@
 -- What a router sends: updates, Requests and replies (RFC 2080, 2.4.1, 2.5 and 2.6).
-use Rattle.std.specs.Prelude.{◌≡◌, ℕ, suc, zero, ◌+◌, ◌-◌, ◌*◌, ◌/◌, ◌==◌, ◌&&◌, nat_le, Bool, true, false, if◌then◌else◌, List, [], ◌∷◌, ◌++◌, map, length, filter, flat_map, slice_range, Option, Some, None}
+use Rattle.std.specs.Prelude.{◌≡◌, ℕ, suc, zero, ◌+◌, ◌-◌, ◌*◌, ◌/◌, ◌==◌, ◌&&◌, nat_le, nat_lt, Bool, true, false, if◌then◌else◌, List, [], ◌∷◌, ◌++◌, map, length, filter, flat_map, slice_range, Option, Some, None}
 use Rattle.std.specs.List.{enumerate_from}
 use Rattle.std.specs.FinMap as map_of
 use Rattle.prefix6.specs.Prefix.{Prefix6, cleared}
@@ -104,11 +104,18 @@ responses_at mtu iface to entries =
 abbrev pub responses : Config → ℕ → Destination → List Rte → List Message
 responses config iface to entries = responses_at (mtu_at config iface) iface to entries
 
+-- the Request for the whole table on an interface, to the group (RFC 2080, 2.4.1)
+abbrev pub request_on : ℕ → Message
+request_on iface = record { iface = iface; to = Group; command = Request; entries = whole_table_request ∷ [] }
+
 -- the Requests of a router that starts (RFC 2080, 2.4.1); a passive one sends none (this project's choice)
 abbrev pub start_messages : Config → List Message
-start_messages config =
-    if config.quiet then []
-    else map (λ t. record { iface = t.0; to = Group; command = Request; entries = whole_table_request ∷ [] }) (enumerate_from 0 config.interfaces)
+start_messages config = if config.quiet then [] else map (λ t. request_on t.0) (enumerate_from 0 config.interfaces)
+
+-- the Request of a router when the link of an interface comes up: that of its start, on that interface alone. A passive router sends
+-- none, and on an interface that is not there none is sent (this project's choice)
+abbrev pub link_up_messages : Config → ℕ → List Message
+link_up_messages config iface = if config.quiet then [] else if nat_lt iface (length config.interfaces) then request_on iface ∷ [] else []
 
 -- an update on each interface (RFC 2080, 2.5); a passive router sends none (this project's choice)
 abbrev pub update_messages : Config → (RouteValue → Bool) → Table → List Message

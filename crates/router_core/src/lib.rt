@@ -1,9 +1,9 @@
 //! One router of RIPng as a state machine, without sockets or a clock (RFC 2080, sections 2.1 to 2.6).
 //!
 //! **In** go the calls of a [`Router`]: `arrive` with a datagram, `tick` with a moment and a random number, `reconfigure`,
-//! `link_down`, `shutdown` and `restart`. **Out** comes one [`Answer`] for each: datagrams to send, changes of forwarding entries,
-//! and why a datagram was refused or an entry of it skipped. The caller has the sockets, the clock and the random numbers. A call
-//! fails only when memory runs out, or at a change that is refused, and the router is then unchanged.
+//! `link_down`, `link_up`, `shutdown` and `restart`. **Out** comes one [`Answer`] for each: datagrams to send, changes of forwarding
+//! entries, and why a datagram was refused or an entry of it skipped. The caller has the sockets, the clock and the random numbers.
+//! A call fails only when memory runs out, or at a change that is refused, and the router is then unchanged.
 //!
 //! The state between two calls is small: the configuration, the table of routes, and three moments, namely the last call, the
 //! next regular update, and the end of the delay of triggered updates. What happens to a route in time is in its

@@ -14,6 +14,7 @@ ghost use Rattle.router_core.specs.Output.{AreSpelled, start_messages};
 ghost use Rattle.router_core.specs.Updates.{update_due, update_of, regular_after, hold_after, entries_in};
 
 mod changing;
+mod links;
 mod offering;
 mod poisoning;
 mod waking;

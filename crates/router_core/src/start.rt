@@ -1,9 +1,10 @@
-//! A router starts: its table has its own prefixes, and it asks its neighbors for their tables (RFC 2080, section 2.4.1).
+//! A router starts: its table has its own prefixes, and it asks its neighbors for their tables (RFC 2080, section 2.4.1). So it does
+//! on one interface when the link there comes up.
 
 ghost use Rattle.std.specs.Prelude.{◌≡◌, ◌≤◌, true, length, IsOk, IfOk};
 ghost use Rattle.router_core.specs.Changes.{changes_of_start};
 ghost use Rattle.router_core.specs.Machine.{owned_table};
-ghost use Rattle.router_core.specs.Output.{AreSpelled, start_messages};
+ghost use Rattle.router_core.specs.Output.{AreSpelled, IsSpelled, link_up_messages, request_on, start_messages};
 
 use crate::answer::{Destination, Outgoing};
 use crate::config::RouterConfig;
@@ -23,6 +24,18 @@ const WHOLE_TABLE: Rte = Rte {
     metric: INFINITY,
 };
 
+/// A Request for the whole table on an interface, to the group.
+fn request(alloc: Global, iface: usize) -> Result<Outgoing, AllocError>
+    ensures { IfOk result (λ sent. IsSpelled (request_on iface) sent) }
+{
+    let bytes = encode(alloc, Command::Request, &[WHOLE_TABLE])?;
+    Ok(Outgoing {
+        iface,
+        to: Destination::Group,
+        bytes: Listed::from_vec(bytes),
+    })
+}
+
 /// A Request for the whole table on each interface, to the group. A passive router sends none.
 ///
 /// # Errors
@@ -37,12 +50,26 @@ pub fn requests(alloc: Global, config: &RouterConfig) -> Result<Vec<Outgoing>, A
     }
     let mut sends = Vec::with_capacity(alloc, config.interfaces().len())?;
     for iface in 0..config.interfaces().len() {
-        let bytes = encode(alloc, Command::Request, &[WHOLE_TABLE])?;
-        sends.push_reserved(Outgoing {
-            iface,
-            to: Destination::Group,
-            bytes: Listed::from_vec(bytes),
-        });
+        sends.push_reserved(request(alloc, iface)?);
+    }
+    Ok(sends)
+}
+
+/// A Request for the whole table on one interface, to the group. A passive router sends none, and none goes where no interface is.
+///
+/// # Errors
+/// Only out of memory.
+pub fn request_on(
+    alloc: Global,
+    config: &RouterConfig,
+    iface: usize,
+) -> Result<Vec<Outgoing>, AllocError>
+    ensures spelled { IfOk result (λ sends. AreSpelled (link_up_messages config.now iface) sends.items) }
+    ensures few { IfOk result (λ sends. length sends.items ≤ 1) }
+{
+    let mut sends = Vec::new(alloc);
+    if !config.is_quiet() && iface < config.interfaces().len() {
+        sends.push(request(alloc, iface)?)?;
     }
     Ok(sends)
 }

@@ -1,6 +1,6 @@
-//! Steps after which routes are advertised as unreachable: a router shuts down, or a link of it goes down.
+//! A router shuts down: its last update advertises every route as unreachable.
 
-ghost use Rattle.std.specs.Prelude.{◌≡◌, ◌≤◌, ◌*◌, max, IfOk, OnErr, [], length};
+ghost use Rattle.std.specs.Prelude.{◌≡◌, ◌≤◌, ◌*◌, IfOk, OnErr, length};
 ghost use Rattle.std.specs.FinMap as map_of;
 ghost use Rattle.fib.specs.Forwarding.{Replays};
 ghost use Rattle.router_core.specs.Changes.{forwards};
@@ -10,7 +10,6 @@ ghost use Rattle.router_core.specs.Output.{AreSpelled};
 
 use super::{Router, answer_of};
 use crate::answer::{Answer, Outgoing};
-use crate::link_down::{changes_of_link_down, lose_all_on};
 use crate::tell::updates;
 use crate::unreachable::unreachable_routes;
 use route_table::{Moment, RouteStore};
@@ -43,24 +42,5 @@ impl<S: RouteStore> Router<S> {
         let sends = self.last_update(now)?;
         self.last = now;
         Ok(answer_of(sends, Vec::new(self.alloc), Vec::new(self.alloc)))
-    }
-
-    /// The link of an interface goes down: each route that was learned there is withdrawn at once, as at its timeout, and the
-    /// next tick advertises that (RFC 2080, sections 2.3 and 2.5.1). Nothing is sent.
-    ///
-    /// # Errors
-    /// Only out of memory. The router is then unchanged.
-    pub fn link_down(&mut self, now: Moment, iface: usize) -> Result<Answer, AllocError>
-        ensures moves { IfOk result (λ answer. Moves self.old (Happening.LinkGoesDown now iface) answer self.new) }
-        ensures err { OnErr result (self.new ≡ self.old) }
-        ensures config { self.new.config ≡ self.old.config }
-        ensures sends { IfOk result (λ answer. answer.sends ≡ []) }
-        ensures replays { IfOk result (λ answer. Replays (forwards self.old.table) answer.changes (forwards self.new.table)) }
-    {
-        let now = self.effective(now);
-        let changes = changes_of_link_down(self.alloc, &self.store, iface, now)?;
-        lose_all_on(&mut self.store, iface, now);
-        self.last = now;
-        Ok(answer_of(Vec::new(self.alloc), changes, Vec::new(self.alloc)))
     }
 }

@@ -1,6 +1,6 @@
 use Rattle.std.proofs.Common.{◌≡◌, ◌<◌, inr, None, length, refl, sym, subst}
 use Rattle.std.proofs.lemmas.Result.{IfErr-weaker}
-use Rattle.router_core.specs.Machine.{Arrives, Ticks, Restarts, ShutsDown, LinkGoesDown}
+use Rattle.router_core.specs.Machine.{Arrives, Ticks, Restarts, ShutsDown, LinkGoesDown, LinkComesUp}
 use Rattle.router_core.specs.Received.{Received}
 use Rattle.ripng_world.specs.Events.{event_of}
 use Rattle.ripng_world.specs.Labs.{IsRefusal, event_fault, lab_of}
@@ -67,6 +67,17 @@ returns-in_ok-act-in-LinkDown-clause-moves g c =
       network = kept_at stations c.act-in-LinkDown.new.stations c.in-LinkDown.router (LinkGoesDown c.in-LinkDown.now c.in-LinkDown.iface) c.in_ok-act-in-LinkDown.field-0 m;
     })
 
+pub returns-in_ok-act-in-LinkUp-clause-moves : goal.returns-in_ok-act-in-LinkUp-clause-moves
+returns-in_ok-act-in-LinkUp-clause-moves g c =
+    let stations = c.args.stations.now in
+    let recs = c.args.reconfigurations.now.items in
+    let m = c.in_ok-act-in-LinkUp.ensures.moves in
+    subst (λ e. MoveStations stations c.args.sent.now.items recs (event_of e) c.in_ok-act-in-LinkUp.field-0 c.act-in-LinkUp.new.stations) (sym c.in-LinkUp.is)
+    (record {
+      happens = moved_at stations c.act-in-LinkUp.new.stations c.in-LinkUp.router (LinkComesUp c.in-LinkUp.now c.in-LinkUp.iface) c.in_ok-act-in-LinkUp.field-0 m c.args.sent.now.items _ recs _ refl refl;
+      network = kept_at stations c.act-in-LinkUp.new.stations c.in-LinkUp.router (LinkComesUp c.in-LinkUp.now c.in-LinkUp.iface) c.in_ok-act-in-LinkUp.field-0 m;
+    })
+
 pub returns-in-Reconfigure-clause-refused : goal.returns-in-Reconfigure-clause-refused
 returns-in-Reconfigure-clause-refused g c =
     IfErr-weaker c.reconfigure.result _ _
@@ -121,6 +132,13 @@ act-requires-in-LinkDown g c =
       placed = λ s here. tt;
     }
 
+pub act-requires-in-LinkUp : goal.act-requires-in-LinkUp
+act-requires-in-LinkUp g c =
+    record {
+      there = interface_router_within c.args.stations.now c.in-LinkUp.router c.in-LinkUp.iface (subst (λ e. event_fault (lab_of c.args.stations.now c.args.sent.now.items c.args.reconfigurations.now.items) (event_of e) ≡ None) c.in-LinkUp.is c.requires);
+      placed = λ s here. tt;
+    }
+
 pub reconfigure-requires : goal.reconfigure-requires
 reconfigure-requires g c = subst (λ e. event_fault (lab_of c.args.stations.now c.args.sent.now.items c.args.reconfigurations.now.items) (event_of e) ≡ None) c.in-Reconfigure.is c.requires
 
@@ -143,3 +161,6 @@ returns-in_err-act-in-Shutdown-clause-refused g c = err_is c.from_residual-in_er
 
 pub returns-in_err-act-in-LinkDown-clause-refused : goal.returns-in_err-act-in-LinkDown-clause-refused
 returns-in_err-act-in-LinkDown-clause-refused g c = err_is c.from_residual-in_err-act-in-LinkDown.result _ _ (λ why is. inr (c.requires, is)) c.from_residual-in_err-act-in-LinkDown.ensures.1
+
+pub returns-in_err-act-in-LinkUp-clause-refused : goal.returns-in_err-act-in-LinkUp-clause-refused
+returns-in_err-act-in-LinkUp-clause-refused g c = err_is c.from_residual-in_err-act-in-LinkUp.result _ _ (λ why is. inr (c.requires, is)) c.from_residual-in_err-act-in-LinkUp.ensures.1

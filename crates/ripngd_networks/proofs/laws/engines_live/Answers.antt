@@ -1,6 +1,6 @@
 use Rattle.std.proofs.Common.{refl}
 use Rattle.ripngd_networks.specs.Daemons.{Start}
-use Rattle.ripngd_networks.proofs.Lives.{answer_lives, change_lives, link_down_lives, lives_on, shutdown_lives}
+use Rattle.ripngd_networks.proofs.Lives.{answer_lives, change_lives, link_down_lives, link_up_lives, lives_on, shutdown_lives}
 use Rattle.ripngd_networks.proofs.laws.engines_live.Goals as goal
 
 pub returns-clause-start : goal.returns-clause-start
@@ -18,6 +18,9 @@ returns-clause-shutdowns c = shutdown_lives
 
 pub returns-clause-link_downs : goal.returns-clause-link_downs
 returns-clause-link_downs c = link_down_lives
+
+pub returns-clause-link_ups : goal.returns-clause-link_ups
+returns-clause-link_ups c = link_up_lives
 
 pub returns-clause-on : goal.returns-clause-on
 returns-clause-on c = lives_on

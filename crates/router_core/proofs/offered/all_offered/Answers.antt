@@ -1,9 +1,9 @@
-use Rattle.std.proofs.Common.{rules, ◌≡◌, ◌+◌, ◌++◌, [], ◌∷◌, true, false, drop, Some, None, slice_get, sym, ap, ap₂, ◌∙◌, arith}
+use Rattle.std.proofs.Common.{rules, ◌≡◌, ◌+◌, ◌++◌, [], ◌∷◌, true, false, drop, Some, slice_get, sym, ap, ap₂, ◌∙◌, arith}
 use Rattle.std.proofs.lemmas.Bool.Decides.{nat_tests}
 use Rattle.ripng_wire.specs.Layout.{is_next_hop}
 use Rattle.router_core.specs.Adoption.{Gateway}
-use Rattle.router_core.specs.Offering.{Offered, offered_at}
-use Rattle.router_core.specs.Offers.{Offer, flaw, next_hop_at, usable_hop}
+use Rattle.router_core.specs.Offering.{Offered}
+use Rattle.router_core.specs.Offers.{next_hop_at, usable_hop}
 use Rattle.router_core.proofs.HearingLoop.{next_hop_set, next_hop_kept, first_left, none_left}
 use Rattle.router_core.proofs.OfferedSteps.{offered_before, offered_all, offered-hop, offered-flawed, offered-next}
 use Rattle.router_core.proofs.offered.all_offered.Goals as goal

@@ -38,3 +38,9 @@ returns-in-LinkGoesDown-clause-moves g c = rw (← c.self.view_is, c.in-LinkGoes
 
 pub returns-in-LinkGoesDown-clause-few : goal.returns-in-LinkGoesDown-clause-few
 returns-in-LinkGoesDown-clause-few g c = rw (← c.self.view_is, c.in-LinkGoesDown.is) (IfOk-weaker c.link_down.result _ _ (λ answer none. omega (arith, ap length none)) c.link_down.ensures.sends)
+
+pub returns-in-LinkComesUp-clause-moves : goal.returns-in-LinkComesUp-clause-moves
+returns-in-LinkComesUp-clause-moves g c = rw (← c.self.view_is, c.in-LinkComesUp.is) c.link_up.ensures.moves
+
+pub returns-in-LinkComesUp-clause-few : goal.returns-in-LinkComesUp-clause-few
+returns-in-LinkComesUp-clause-few g c = rw (← c.self.view_is, c.in-LinkComesUp.is) c.link_up.ensures.few
