@@ -2,7 +2,7 @@
 use Rattle.std.proofs.Common.{◌≡◌, ℕ, List, [], ◌∷◌, refl, arith, Option}
 use Rattle.std.proofs.KnownBytes.{Appends-nil}
 use Rattle.rand_core.specs.Stream.{Stream}
-use Rattle.router_core.specs.Machine.{State, Happening, Moves, Reconfigures, ShutsDown, LinkGoesDown}
+use Rattle.router_core.specs.Machine.{State, Happening, Moves, Reconfigures, ShutsDown, LinkGoesDown, LinkComesUp}
 use Rattle.router_core.specs.declared.answer.Answer.{Answer}
 use Rattle.router_core.specs.declared.reconfiguring.Change.{Change}
 use Rattle.ripngd_engine.specs.Telling.{Gains}
@@ -10,7 +10,7 @@ use Rattle.ripngd_engine.specs.Observer.{LinkReport}
 use Rattle.ripngd_engine.specs.Run.{Machine, Trace, Moved, arrival_told, one_moment}
 use Rattle.ripngd_engine.specs.Outlet.{OutletSeen, CarriesOut}
 use Rattle.ripngd_engine.specs.Seen.{Acts}
-use Rattle.ripngd_engine.specs.Changing.{ReconfiguresOnce, ReconfiguresNothing, ShutsDownOnce, LinkGoesDownOnce}
+use Rattle.ripngd_engine.specs.Changing.{ReconfiguresOnce, ReconfiguresNothing, ShutsDownOnce, LinkGoesDownOnce, LinkComesUpOnce}
 use Rattle.ripngd_engine.proofs.Tells.{Gains-nil}
 use Rattle.ripngd_engine.proofs.Steps.{around, carried, Carries-out, Shows-carried}
 
@@ -43,6 +43,13 @@ module _ (o : OutletSeen) (router new_router : State) (lost : ℕ) (stream : Str
       → Acts (LinkGoesDownOnce iface) (around o router lost stream before) (around p new_router lost stream after)
   Acts-link_down takes v w p answer iface moves out =
       let a = Acts-moved takes v w p answer (LinkGoesDown now iface) refl moves out in
+      record { trace = a.trace; does = (now, a.does); shows = a.shows }
+
+  pub Acts-link_up : {V : Type 0} (takes : V → LinkReport → V → Type 0) (v w : V) (p : OutletSeen) (answer : Answer) (iface : ℕ)
+      → Moves router (LinkComesUp now iface) answer new_router → CarriesOut takes v w o answer p
+      → Acts (LinkComesUpOnce iface) (around o router lost stream before) (around p new_router lost stream after)
+  Acts-link_up takes v w p answer iface moves out =
+      let a = Acts-moved takes v w p answer (LinkComesUp now iface) refl moves out in
       record { trace = a.trace; does = (now, a.does); shows = a.shows }
 
   pub Acts-changed : {V : Type 0} (takes : V → LinkReport → V → Type 0) (v w : V) (p : OutletSeen) (answer : Answer) (c : Change)

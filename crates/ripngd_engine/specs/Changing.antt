@@ -1,6 +1,6 @@
--- What is done to an engine's router between its turns: changes of its configuration, its shutdown, and links of it that go down.
+-- What is done to an engine's router between its turns: changes of its configuration, its shutdown, and links of it that go down or come up.
 use Rattle.std.specs.Prelude.{ℕ, ◌≡◌, Result, Ok, Err, true, false, unwrap_or}
-use Rattle.router_core.specs.Machine.{State, Reconfigures, ShutsDown, LinkGoesDown}
+use Rattle.router_core.specs.Machine.{State, Reconfigures, ShutsDown, LinkGoesDown, LinkComesUp}
 use Rattle.router_core.specs.Reconfiguring.{reconfigure_fault}
 use Rattle.router_core.specs.declared.reconfiguring.Change.{Change}
 use Rattle.router_core.specs.declared.reconfiguring.ReconfigureRefused.{ReconfigureRefused}
@@ -21,6 +21,10 @@ ShutsDownOnce m t n = (now : ℕ) × Moved m (ShutsDown now) now t n
 -- the link of an interface of the router went down
 abbrev pub LinkGoesDownOnce : ℕ → Machine → Trace → Machine → Type 0
 LinkGoesDownOnce iface m t n = (now : ℕ) × Moved m (LinkGoesDown now iface) now t n
+
+-- the link of an interface of the router came up
+abbrev pub LinkComesUpOnce : ℕ → Machine → Trace → Machine → Type 0
+LinkComesUpOnce iface m t n = (now : ℕ) × Moved m (LinkComesUp now iface) now t n
 
 -- a change was refused: it has used its moment, and left all else
 abbrev pub ReconfiguresNothing : Machine → Trace → Machine → Type 0

@@ -5,7 +5,7 @@ use Rattle.rand_core.specs.Stream.{Stream, next_u32}
 use Rattle.fib.specs.Forwarding.{Forwarding, Replays}
 use Rattle.fib.specs.declared.change.RouteChange.{RouteChange}
 use Rattle.router_core.specs.Config.{Config}
-use Rattle.router_core.specs.Machine.{State, Happening, Arrives, Ticks, Restarts, Reconfigures, ShutsDown, LinkGoesDown, Moves, Starts}
+use Rattle.router_core.specs.Machine.{State, Happening, Arrives, Ticks, Restarts, Reconfigures, ShutsDown, LinkGoesDown, LinkComesUp, Moves, Starts}
 use Rattle.router_core.specs.Received.{Received}
 use Rattle.router_core.specs.declared.answer.Answer.{Answer}
 use Rattle.router_core.specs.declared.answer.Outgoing.{Outgoing}
@@ -84,6 +84,7 @@ arrival_told (Restarts now) answer = []
 arrival_told (Reconfigures now c) answer = []
 arrival_told (ShutsDown now) answer = []
 arrival_told (LinkGoesDown now iface) answer = []
+arrival_told (LinkComesUp now iface) answer = []
 
 -- the count after some more; it stays at the greatest u64
 abbrev pub counted : ℕ → ℕ → ℕ

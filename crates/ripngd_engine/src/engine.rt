@@ -3,7 +3,7 @@
 ghost use Rattle.std.specs.Prelude.{◌≡◌, true, false, Err, IfOk, OnErr, length};
 ghost use Rattle.router_core.specs.Changes.{forwards};
 ghost use Rattle.router_core.specs.Reconfiguring.{NamesInterface};
-ghost use Rattle.ripngd_engine.specs.Changing.{ShutsDownOnce, LinkGoesDownOnce, ReconfigureAnswer, StepAnswer};
+ghost use Rattle.ripngd_engine.specs.Changing.{ShutsDownOnce, LinkComesUpOnce, LinkGoesDownOnce, ReconfigureAnswer, StepAnswer};
 
 use crate::clock::TimeSource;
 use crate::link::{Link, LinkChange};
@@ -63,7 +63,7 @@ impl<S: RouteStore, L: Link, C: TimeSource, R: Rng + Drop> Engine<S, L, C, R> {
     ghost use Rattle.ripngd_engine.specs.Seen.{seen, untouched, Started, TurnsAnswer, TurnsObserved};
 
     /// Starts a router over a link with as many interfaces. It sends its Requests (RFC 2080, section 2.4.1), and its routes are
-    /// followed and logged. The log gets a line for each change of a route, in several writes, and none after a write that
+    /// followed and logged. The log gets a line for each change of a route, in one write each, and none after a write that
     /// failed. No observer is notified: nothing has arrived yet, and `report` counts the sends that failed.
     ///
     /// # Errors
@@ -91,9 +91,9 @@ impl<S: RouteStore, L: Link, C: TimeSource, R: Rng + Drop> Engine<S, L, C, R> {
             lost_sends: 0,
             log_failed: false,
             ended: false,
+            line: Vec::new(alloc),
         };
-        let mut observer = NoObserver;
-        outlet.carry_out(answer, log, &mut observer)?;
+        outlet.carry_out(answer, log, &mut NoObserver)?;
         let runner = Runner {
             router,
             outlet,
@@ -118,8 +118,7 @@ impl<S: RouteStore, L: Link, C: TimeSource, R: Rng + Drop> Engine<S, L, C, R> {
         ensures ended { self.old.ended ≡ true
             → (result ≡ Err EngineFault.OutOfMemory) × (self.new ≡ self.old) × (log.new ≡ log.old) }
     {
-        let mut observer = NoObserver;
-        self.turns_observed(n, log, &mut observer)
+        self.turns_observed(n, log, &mut NoObserver)
     }
 
     /// Makes turns as `turns` does, and notifies an observer, in order, of each arrival with what the router made of it, and then of
@@ -202,6 +201,22 @@ impl<S: RouteStore, L: Link, C: TimeSource, R: Rng + Drop> Engine<S, L, C, R> {
     {
         match self.runner.outlet.ended {
             false => self.runner.link_down(iface, log),
+            true => Err(ChangeFault::Ended),
+        }
+    }
+
+    /// The link of an interface comes up between two turns: the neighbors on it are asked for their tables, as at the start.
+    ///
+    /// # Errors
+    /// `Refused` where there was no memory; then only the clock was read. `Ended` as for `reconfigure`.
+    pub fn link_up<W: Write>(&mut self, iface: usize, log: &mut W) -> Result<(), ChangeFault>
+        ensures link_up { self.old.ended ≡ false → StepAnswer (LinkComesUpOnce iface) (seen R.stream W.contents self.old log.old) result
+            (seen R.stream W.contents self.new log.new) }
+        ensures ended { self.old.ended ≡ true
+            → (result ≡ Err ChangeFault.Ended) × (self.new ≡ self.old) × (log.new ≡ log.old) }
+    {
+        match self.runner.outlet.ended {
+            false => self.runner.link_up(iface, log),
             true => Err(ChangeFault::Ended),
         }
     }

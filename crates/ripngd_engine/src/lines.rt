@@ -1,6 +1,6 @@
 //! Lines of text: one for each change of a route, as the log has them, and one for each entry of a forwarding table.
 
-ghost use Rattle.std.specs.Prelude.{◌≡◌, ◌∷◌, ◌++◌, true, false, IfSome, IsNone, OnOk, Some};
+ghost use Rattle.std.specs.Prelude.{◌≡◌, ◌∷◌, ◌++◌, [], true, false, IfSome, IsNone, OnOk, Some};
 ghost use Rattle.std.specs.Io.KnownBytes.{Appends};
 ghost use Rattle.ripngd_engine.specs.Log.{HasNoLineFeed, hop_text, route_text, change_text, entry_lines, log_of};
 
@@ -36,12 +36,8 @@ impl Display for RouteLine {
     ghost output = { λ r. Some (route_text r.prefix r.hop r.metric) };
 
     fn fmt<W: fmt::Write>(&self, f: &mut fmt::Formatter<W>) -> fmt::Result {
-        let RouteLine {
-            prefix,
-            hop,
-            metric,
-        } = *self;
-        write!(f, "{prefix} metric {metric} {}", HopText(hop))
+        let (prefix, metric) = (self.prefix, self.metric);
+        write!(f, "{prefix} metric {metric} {}", HopText(self.hop))
     }
 }
 
@@ -100,9 +96,26 @@ pub fn write_entries<W: Write>(entries: &[(Prefix, Hop, u8)], out: &mut W) -> io
     Ok(())
 }
 
+/// Writes the line of a change, in one write if there is memory for it. `line` is where it is made.
+fn write_line<W: Write>(change: RouteChange, line: &mut Vec<u8>, log: &mut W) -> io::Result<()>
+    ensures { OnOk result (Appends (W.contents log.old) (W.contents log.new) (change_text change ++ 10 ∷ [])) }
+{
+    let text = ChangeLine(change);
+    line.clear();
+    match writeln!(line, "{text}") {
+        Ok(()) => log.write_all(line.as_slice()),
+        Err(_) => writeln!(log, "{text}"),
+    }
+}
+
 /// Writes a line for each change, unless the log has failed before, and returns whether it has failed now. No line is written
 /// after a write that failed.
-pub(crate) fn write_lines<W: Write>(log: &mut W, changes: &[RouteChange], failed: bool) -> bool
+pub(crate) fn write_lines<W: Write>(
+    changes: &[RouteChange],
+    failed: bool,
+    line: &mut Vec<u8>,
+    log: &mut W,
+) -> bool
     ensures ended { failed ≡ true → (result ≡ true) × (log.new ≡ log.old) }
     ensures lines { result ≡ false → Appends (W.contents log.old) (W.contents log.new) (log_of changes.now) }
 {
@@ -110,7 +123,7 @@ pub(crate) fn write_lines<W: Write>(log: &mut W, changes: &[RouteChange], failed
         return true;
     }
     for change in changes {
-        if writeln!(log, "{}", ChangeLine(*change)).is_err() {
+        if write_line(*change, line, log).is_err() {
             return true;
         }
     }

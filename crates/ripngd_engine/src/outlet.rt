@@ -21,6 +21,8 @@ pub(crate) struct Outlet<L: Link> {
     pub(crate) log_failed: bool,
     /// Whether there was no memory for the forwarding table.
     pub(crate) ended: bool,
+    /// The line of the log that was made last.
+    pub(crate) line: Vec<u8>,
 }
 
 /// The count after one more; it stays at the greatest `u64`.
@@ -71,8 +73,9 @@ impl<L: Link> Outlet<L> {
     {
         let sends = answer.sends.as_slice();
         self.lost_sends = hand_over(&mut self.link, sends, self.lost_sends, observer);
-        let followed = self.fib.apply(answer.changes.as_slice());
-        self.log_failed = write_lines(log, answer.changes.as_slice(), self.log_failed);
+        let changes = answer.changes.as_slice();
+        let followed = self.fib.apply(changes);
+        self.log_failed = write_lines(changes, self.log_failed, &mut self.line, log);
         self.ended = followed.is_err();
         followed
     }

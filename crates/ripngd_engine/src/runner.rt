@@ -9,7 +9,7 @@ ghost use Rattle.std.specs.Coded.{Coded-set, →_prop};
 ghost use Rattle.fib.specs.contracts.fib.Fib as forwarding;
 ghost use Rattle.router_core.specs.Changes.{forwards};
 ghost use Rattle.router_core.specs.Reconfiguring.{NamesInterface};
-ghost use Rattle.ripngd_engine.specs.Changing.{ShutsDownOnce, LinkGoesDownOnce, ReconfigureAnswer, StepAnswer};
+ghost use Rattle.ripngd_engine.specs.Changing.{ShutsDownOnce, LinkComesUpOnce, LinkGoesDownOnce, ReconfigureAnswer, StepAnswer};
 ghost use Rattle.ripngd_engine.specs.declared.runner.TurnFault.TheVariants.{NoLink, NoMemory};
 
 use crate::clock::TimeSource;
@@ -196,9 +196,8 @@ impl<S: RouteStore, L: Link, C: TimeSource, R: Rng + Drop> Runner<S, L, C, R> {
             (runner_seen L.calls C.moments R.stream W.contents self.new log.new) }
     {
         let now = self.clock.now();
-        let mut observer = NoObserver;
         match self.router.reconfigure(now, change) {
-            Ok(answer) => match self.outlet.carry_out(answer, log, &mut observer) {
+            Ok(answer) => match self.outlet.carry_out(answer, log, &mut NoObserver) {
                 Ok(()) => Ok(()),
                 Err(AllocError) => Err(ChangeFault::Ended),
             },
@@ -213,9 +212,8 @@ impl<S: RouteStore, L: Link, C: TimeSource, R: Rng + Drop> Runner<S, L, C, R> {
             (runner_seen L.calls C.moments R.stream W.contents self.new log.new) }
     {
         let now = self.clock.now();
-        let mut observer = NoObserver;
         match self.router.shutdown(now) {
-            Ok(answer) => match self.outlet.carry_out(answer, log, &mut observer) {
+            Ok(answer) => match self.outlet.carry_out(answer, log, &mut NoObserver) {
                 Ok(()) => Ok(()),
                 Err(AllocError) => Err(ChangeFault::Ended),
             },
@@ -234,8 +232,24 @@ impl<S: RouteStore, L: Link, C: TimeSource, R: Rng + Drop> Runner<S, L, C, R> {
             (runner_seen L.calls C.moments R.stream W.contents self.new log.new) }
     {
         let now = self.clock.now();
-        let mut observer = NoObserver;
         match self.router.link_down(now, iface) {
+            Ok(answer) => match self.outlet.carry_out(answer, log, &mut NoObserver) {
+                Ok(()) => Ok(()),
+                Err(AllocError) => Err(ChangeFault::Ended),
+            },
+            Err(AllocError) => Err(ChangeFault::Refused(ReconfigureRefused::OutOfMemory)),
+        }
+    }
+
+    /// The link of an interface comes up, now.
+    pub(crate) fn link_up<W: Write>(&mut self, iface: usize, log: &mut W) -> Result<(), ChangeFault>
+        requires { self.old.outlet.ended ≡ false }
+        ensures { StepAnswer (LinkComesUpOnce iface) (runner_seen L.calls C.moments R.stream W.contents self.old log.old) result
+            (runner_seen L.calls C.moments R.stream W.contents self.new log.new) }
+    {
+        let now = self.clock.now();
+        let mut observer = NoObserver;
+        match self.router.link_up(now, iface) {
             Ok(answer) => match self.outlet.carry_out(answer, log, &mut observer) {
                 Ok(()) => Ok(()),
                 Err(AllocError) => Err(ChangeFault::Ended),

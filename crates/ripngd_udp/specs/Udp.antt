@@ -1,5 +1,5 @@
 -- A link of sockets: why it could not be bound, and as what a datagram of a peer arrives.
-use Rattle.std.specs.Prelude.{ℕ, List, [], Option, length, map, Contains, ⊤}
+use Rattle.std.specs.Prelude.{ℕ, ◌≡◌, ◌≤◌, List, [], Option, length, map, Contains, ⊤}
 use Rattle.ripngd_engine.specs.declared.peer.Peer.{Peer}
 use Rattle.ripngd_engine.specs.declared.peer.Place.{Place}
 use Rattle.ripngd_engine.specs.Link.{Call}
@@ -35,6 +35,16 @@ new_link places lists =
       strangers = 0;
       calls = [];
     }
+
+-- some more of what waited could not be sent, and nothing else is different
+abbrev pub SendsLate : LinkState → LinkState → Type 0
+SendsLate old new = (old.failed_sends ≤ new.failed_sends) × (new ≡ record old { failed_sends = new.failed_sends })
+
+-- some more was lost, and nothing else is different
+abbrev pub GoesOn : LinkState → LinkState → Type 0
+GoesOn old new =
+    (old.failed_sends ≤ new.failed_sends) × (old.lost_arrivals ≤ new.lost_arrivals) × (old.strangers ≤ new.strangers)
+    × (new ≡ record old { failed_sends = new.failed_sends; lost_arrivals = new.lost_arrivals; strangers = new.strangers })
 
 -- a port that is named is the local port of one of these places
 abbrev pub NamesPortOf : List Place → UdpError → Type 0

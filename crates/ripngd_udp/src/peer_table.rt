@@ -130,11 +130,7 @@ pub(crate) fn peer_tables_at(
 fn is_group_port(links: &[PeerTable], port: u16) -> bool
     ensures { result ≡ is_group_port links.now port }
 {
-    let mut found = false;
-    for link in links {
-        found |= link.is_group_port(port);
-    }
-    found
+    links.iter().any(|link| link.is_group_port(port))
 }
 
 /// The first reason not to add a peer to an interface.

@@ -38,18 +38,7 @@ pub(crate) fn is_known(peer_table: &PeerTable, to: &Destination) -> bool {
     }
 }
 
-/// Sends to each peer that is meant, in order, and returns whether all went out.
-fn send_to_peers(socket: &UdpSocket, peers: &[Peer], to: &Destination, bytes: &[u8]) -> bool {
-    let mut all_went = true;
-    for peer in peers {
-        if is_meant(peer, to) {
-            all_went &= send_to(socket, peer.local_port, bytes);
-        }
-    }
-    all_went
-}
-
-/// Sends to the group port, or to each peer that is meant.
+/// Sends to the group port, or in order to each peer that is meant.
 ///
 /// # Errors
 /// A send to one of them failed, or there is no peer at the destination.
@@ -59,13 +48,15 @@ pub(crate) fn send(
     outgoing: &Outgoing,
 ) -> Result<(), LinkFault> {
     let (to, bytes) = (&outgoing.to, outgoing.bytes.as_slice());
-    let all_went = match peer_table.shared_port(to) {
+    let shared_port = peer_table.shared_port(to);
+    let mut all_went = match shared_port {
         Some(port) => send_to(socket, port, bytes),
-        None => send_to_peers(socket, peer_table.peers(), to, bytes),
+        None => is_known(peer_table, to),
     };
-    if all_went && is_known(peer_table, to) {
-        Ok(())
-    } else {
-        Err(LinkFault)
+    for peer in peer_table.peers() {
+        if shared_port.is_none() && is_meant(peer, to) {
+            all_went &= send_to(socket, peer.local_port, bytes);
+        }
     }
+    if all_went { Ok(()) } else { Err(LinkFault) }
 }

@@ -7,17 +7,29 @@ ghost use Rattle.ripngd_udp.specs.Peers.{ChangesLink, RefusesFor, adding_fault, 
 ghost use Rattle.ripngd_udp.specs.Udp.{NamesPortOf, new_link};
 
 use crate::bind_cause::BindCause;
+use crate::clock::Uptime;
+use crate::endpoint::{Counts, Endpoint, endpoints_at};
 use crate::peer_refused::PeerRefused;
-use crate::peer_table::check_peer;
-use crate::sockets::Sockets;
+use crate::peer_table::{PeerTable, check_peer, peer_tables_at};
+use crate::waiting::Polled;
 use prefix6::Addr6;
-use ripngd_engine::{Entry, Link, LinkFault, Peer, Place, Received, Transcript};
+use ripngd_engine::{Entry, Link, LinkFault, Peer, Place, Received, TimeSource, Transcript};
 use router_core::Outgoing;
 use std::alloc::Global;
 use std::marker::Model;
 use std::net::Net;
+use std::os::fd::RawFd;
 use std::rt::Clock;
+use std::time::Duration;
+use std::{io, thread};
 use thiserror::Error;
+
+/// How long a turn lasts at most, in milliseconds, if nothing else takes time: less than the half of a second in which a router has
+/// to tick.
+const LONGEST_MS: u64 = 400;
+
+/// How often the last datagrams may wait: more than any need, in case the clock stands still.
+const LAST_WAITS: u32 = 4_096;
 
 /// Why a link could not be bound.
 #[derive(Clone, Copy, Debug, PartialEq, Eq, Error)]
@@ -37,24 +49,42 @@ pub enum UdpError {
 /// `recv` or at last by `finish`.
 #[derive(Drop)]
 pub struct Udp<'a, R: Clock> {
-    pub(crate) sockets: Sockets<'a, R>,
+    pub(crate) endpoints: Vec<Endpoint>,
+    /// The peers of each interface.
+    pub(crate) peer_tables: Vec<PeerTable>,
+    pub(crate) counts: Counts,
+    pub(crate) waiting: Polled,
+    rt: &'a R,
+    pub(crate) clock: Uptime<'a, R>,
+    /// The interface that is served next.
+    pub(crate) next: usize,
+    /// How many milliseconds behind the end of the last `recv` the next one waits, if nothing comes.
+    pub(crate) pause: u64,
+    /// When the last `recv` ended, in milliseconds.
+    pub(crate) since: u64,
+    /// Whether the last `recv` gave no datagram.
+    pub(crate) was_silent: bool,
+    /// Whether something was there to read at what is watched, in the last `recv`.
+    pub(crate) was_called: bool,
     pub(crate) transcript: Transcript,
 }
 
 impl<'a, R: Clock> Model for Udp<'a, R> {
-    ghost use Rattle.std.specs.Prelude.{vec_len};
+    ghost use Rattle.std.specs.Prelude.{◌≡◌, ◌≤◌, vec_len};
     ghost use Rattle.ripngd_udp.specs.Udp.{LinkState};
 
     ghost Value = { LinkState };
 
     ghost view = { λ link. record {
-      interfaces = vec_len link.sockets.peer_tables;
-      on_links = link.sockets.peer_tables.items;
-      failed_sends = link.sockets.counts.failed_sends;
-      lost_arrivals = link.sockets.counts.lost_arrivals;
-      strangers = link.sockets.counts.strangers;
+      interfaces = vec_len link.peer_tables;
+      on_links = link.peer_tables.items;
+      failed_sends = link.counts.failed_sends;
+      lost_arrivals = link.counts.lost_arrivals;
+      strangers = link.counts.strangers;
       calls = link.transcript.past.calls;
     } };
+
+    ghost invariant = { λ link. (link.pause ≤ 400) × (vec_len link.endpoints ≡ vec_len link.peer_tables) };
 }
 
 impl<'a, R: Clock> Udp<'a, R> {
@@ -74,8 +104,23 @@ impl<'a, R: Clock> Udp<'a, R> {
         ensures bound { IfOk result (λ link. link ≡ new_link places.now (map (λ v. v.items) peers.items)) }
         ensures refused { IfErr result (NamesPortOf places.now) }
     {
+        let waiting = Polled::new(rt, alloc, places)?;
         Ok(Udp {
-            sockets: Sockets::open(rt, alloc, places, peers)?,
+            endpoints: endpoints_at(rt, alloc, &waiting, places)?,
+            peer_tables: peer_tables_at(alloc, places, peers).map_err(|_| UdpError::OutOfMemory)?,
+            counts: Counts {
+                failed_sends: 0,
+                lost_arrivals: 0,
+                strangers: 0,
+            },
+            waiting,
+            rt,
+            clock: Uptime::new(rt),
+            next: 0,
+            pause: LONGEST_MS,
+            since: 0,
+            was_silent: false,
+            was_called: false,
             transcript: Transcript::of(&Entry::Nothing),
         })
     }
@@ -88,7 +133,16 @@ impl<'a, R: Clock> Udp<'a, R> {
         ensures same { (self.new.interfaces ≡ self.old.interfaces) × (self.new.on_links ≡ self.old.on_links) }
         ensures calls { self.new.calls ≡ self.old.calls }
     {
-        self.sockets.finish();
+        for _ in 0..LAST_WAITS {
+            let moment = self.clock.now().ms();
+            self.send_waiting(Some(moment));
+            let now = self.clock.now().ms();
+            let Some(nap) = self.until_due(now) else {
+                return;
+            };
+            thread::sleep(self.rt, Duration::from_millis(nap));
+        }
+        self.send_waiting(None);
     }
 
     /// Adds a peer to an interface.
@@ -102,9 +156,8 @@ impl<'a, R: Clock> Udp<'a, R> {
         ensures err { OnErr result (self.new ≡ self.old) }
         ensures same { self.new ≡ record self.old { on_links = self.new.on_links } }
     {
-        let sockets = &mut self.sockets;
-        check_peer(sockets.peer_tables.as_slice(), iface, &peer)?;
-        match sockets.peer_tables.get_mut(iface) {
+        check_peer(self.peer_tables.as_slice(), iface, &peer)?;
+        match self.peer_tables.get_mut(iface) {
             Some(link) => link.add(peer),
             None => Err(PeerRefused::NoSuchInterface),
         }
@@ -121,18 +174,42 @@ impl<'a, R: Clock> Udp<'a, R> {
         ensures err { OnErr result (self.new ≡ self.old) }
         ensures same { self.new ≡ record self.old { on_links = self.new.on_links } }
     {
-        let sockets = &mut self.sockets;
-        match sockets.peer_tables.get_mut(iface) {
+        match self.peer_tables.get_mut(iface) {
             Some(link) => link.remove(addr),
             None => Err(PeerRefused::NoSuchInterface),
         }
+    }
+
+    /// Has the next `recv` wait, if no datagram comes, until so many milliseconds have passed since the last one, at most 400.
+    pub fn wait_at_most(&mut self, ms: u64)
+        ensures { self.new ≡ self.old }
+    {
+        self.pause = ms.min(LONGEST_MS);
+    }
+
+    /// From now on a `recv` also ends where something comes to be read at a descriptor. It gives no datagram then.
+    ///
+    /// # Errors
+    /// The system does not take it.
+    pub fn watch(&self, fd: RawFd) -> io::Result<()> {
+        self.waiting.register(fd, usize::MAX)
+    }
+
+    /// Whether the last `recv` ended so.
+    pub fn was_called(&self) -> bool {
+        self.was_called
+    }
+
+    /// Whether the last `recv` gave no datagram.
+    pub fn was_silent(&self) -> bool {
+        self.was_silent
     }
 
     /// How many datagrams waited and then could not be sent. `send` has returned `Ok` for these.
     pub fn failed_sends(&self) -> u64
         ensures { result ≡ self.now.failed_sends }
     {
-        self.sockets.counts.failed_sends
+        self.counts.failed_sends
     }
 
     /// How many datagrams of peers were lost: 16,384 waited on the interface, or they would have had more than 32 MiB together, or
@@ -140,19 +217,19 @@ impl<'a, R: Clock> Udp<'a, R> {
     pub fn lost_arrivals(&self) -> u64
         ensures { result ≡ self.now.lost_arrivals }
     {
-        self.sockets.counts.lost_arrivals
+        self.counts.lost_arrivals
     }
 
     /// How many datagrams came to an interface from a port of no peer. They are dropped.
     pub fn strangers(&self) -> u64
         ensures { result ≡ self.now.strangers }
     {
-        self.sockets.counts.strangers
+        self.counts.strangers
     }
 }
 
-/// A call of `recv` first sends what has waited long enough, and reads all sockets. If no datagram is there, it waits up to 50 ms for
-/// one, at all sockets at once. Interfaces are served in turn.
+/// A call of `recv` first sends what has waited long enough, and reads all sockets. If no datagram is there, it waits for one, at all
+/// sockets at once, as long as `wait_at_most` says. Interfaces are served in turn.
 impl<R: Clock> Link for Udp<'_, R> {
     ghost use Rattle.std.specs.Prelude.{◌≡◌, ◌<◌, ◌≤◌, ◌++◌, ◌∷◌, [], IfOk, IfSome, Some, is_ok, length};
     ghost use Rattle.ripngd_engine.specs.Link.{Handed, recv_call};
@@ -162,7 +239,7 @@ impl<R: Clock> Link for Udp<'_, R> {
     ghost interface_count = { λ link. link.interfaces };
 
     fn interfaces(&self) -> usize {
-        self.sockets.peer_tables.len()
+        self.peer_tables.len()
     }
 
     fn recv(&mut self, buffer: &mut [u8]) -> Result<Option<Received>, LinkFault>
@@ -174,7 +251,7 @@ impl<R: Clock> Link for Udp<'_, R> {
         ensures same { (self.new.interfaces ≡ self.old.interfaces) × (self.new.on_links ≡ self.old.on_links) }
         ensures calls { self.new.calls ≡ self.old.calls ++ recv_call result buffer.new ∷ [] }
     {
-        let answer = self.sockets.recv(buffer);
+        let answer = self.receive(buffer);
         self.transcript = Transcript::of(&Entry::Answered(&self.transcript, &answer, buffer));
         answer
     }
@@ -182,7 +259,16 @@ impl<R: Clock> Link for Udp<'_, R> {
     fn send(&mut self, outgoing: &Outgoing) -> Result<(), LinkFault>
         ensures { self.new ≡ record self.old { calls = self.old.calls ++ Handed outgoing.now (is_ok result) ∷ [] } }
     {
-        let answer = self.sockets.send(outgoing);
+        let now = self.clock.now().ms();
+        let answer = match self.endpoints.get_mut(outgoing.iface) {
+            Some(endpoint) => {
+                let peer_table = &self.peer_tables[outgoing.iface];
+                endpoint
+                    .send_queue
+                    .send(&endpoint.socket, peer_table, outgoing, now)
+            }
+            None => Err(LinkFault),
+        };
         self.transcript = Transcript::of(&Entry::Taken(&self.transcript, outgoing, answer.is_ok()));
         answer
     }

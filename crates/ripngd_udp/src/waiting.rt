@@ -1,4 +1,4 @@
-//! The wait for datagrams at all sockets of a link at once (`epoll`).
+//! The wait for datagrams at all sockets of a link at once (`epoll`), and for what else is watched.
 
 ghost use Rattle.std.specs.Prelude.{◌≤◌, IfErr};
 ghost use Rattle.ripngd_udp.specs.Udp.{NamesPortOf};
@@ -12,7 +12,7 @@ use ripngd_engine::{LinkFault, Place};
 use std::alloc::Global;
 use std::io;
 use std::net::{Net, UdpSocket};
-use std::os::fd::AsRawFd;
+use std::os::fd::{AsRawFd, RawFd};
 use std::time::Duration;
 
 /// The system's list of sockets that are ready. It reports a socket as ready once, and again only after a read has found it empty.
@@ -27,7 +27,7 @@ impl Polled {
     pub(crate) fn new<N: Net>(net: &N, alloc: Global, places: &[Place]) -> Result<Polled, UdpError>
         ensures { IfErr result (NamesPortOf places.now) }
     {
-        let Ok(events) = Events::with_capacity(alloc, places.len().max(1)) else {
+        let Ok(events) = Events::with_capacity(alloc, places.len().saturating_add(1)) else {
             return Err(UdpError::OutOfMemory);
         };
         match (Poll::new(net), places.first()) {
@@ -40,33 +40,34 @@ impl Polled {
         }
     }
 
-    /// A socket at a port of 127.0.0.1, whose calls never wait. From now on it is reported as that of an interface.
+    /// A socket at a port of 127.0.0.1, whose calls never wait. It is reported under the number of its interface.
     pub(crate) fn open<N: Net>(&self, net: &N, iface: usize, port: u16) -> io::Result<UdpSocket> {
         let socket = UdpSocket::bind(net, local(port))?;
         socket.set_nonblocking(true)?;
-        let fd = socket.as_raw_fd();
-        let mut source = SourceFd(&fd);
-        self.poll
-            .registry()
-            .register(&mut source, Token(iface), Interest::READABLE)?;
+        self.register(socket.as_raw_fd(), iface)?;
         Ok(socket)
     }
 
-    /// Waits until some socket is ready, at most `limit_ms` milliseconds.
+    /// From now on it is reported under this number that there is something to read at a descriptor.
+    pub(crate) fn register(&self, fd: RawFd, number: usize) -> io::Result<()> {
+        self.poll
+            .registry()
+            .register(&mut SourceFd(&fd), Token(number), Interest::READABLE)
+    }
+
+    /// Waits until something is ready, at most `limit_ms` milliseconds.
     ///
     /// # Errors
     /// The system cannot wait.
     pub(crate) fn wait(&mut self, limit_ms: u64) -> Result<(), LinkFault>
-        requires { limit_ms ≤ 50 }
+        requires { limit_ms ≤ 400 }
     {
         let limit = Duration::from_millis(limit_ms);
-        match self.poll.poll(&mut self.events, Some(limit)) {
-            Ok(()) => Ok(()),
-            Err(_) => Err(LinkFault),
-        }
+        let waited = self.poll.poll(&mut self.events, Some(limit));
+        waited.map_err(|_| LinkFault)
     }
 
-    /// The interface of one of the sockets that the last wait reported: of the first for 0, and so on.
+    /// The number of one of those that the last wait reported: of the first for 0, and so on.
     pub(crate) fn ready_at(&self, index: usize) -> Option<usize> {
         let event = self.events.iter().nth(index)?;
         Some(event.token().0)

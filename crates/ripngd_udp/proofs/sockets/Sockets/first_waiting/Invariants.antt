@@ -1,5 +1,0 @@
-use Rattle.std.proofs.Common.{◌≡◌, vec_len}
-use Rattle.ripngd_udp.proofs.sockets.Sockets.first_waiting.Given as goal
-
-abbrev pub invariant-loop-iface : goal.invariant-loop-iface
-invariant-loop-iface g l = l.iface-end ≡ vec_len l.self.endpoints
