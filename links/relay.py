@@ -198,11 +198,15 @@ class Relay:
         spawn(self.inquire())
 
     async def inquire(self):
-        """Asks a link that has come up, and again while nobody has answered: who does not hear yet is asked later."""
+        """Asks a link that has come up, by the router if it is ready, and again while nobody has answered: who does not hear
+        yet is asked later."""
         for pause in PATIENCE:
             await asyncio.sleep(pause)
             if self.up and self.number is not None and not any(neighbor.asked for neighbor in self.neighbors.values()):
-                self.transmit(REQUEST, GROUP)
+                if self.router.ready:
+                    await self.router.tell(f"link up {self.number}")
+                else:
+                    self.transmit(REQUEST, GROUP)
 
     def counted(self):
         """All counts, with what found no room between companion and router since that runs."""

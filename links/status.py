@@ -33,7 +33,8 @@ def report(companion):
     }
 
 
-# Lines of `ctl counts` and `ctl neighbors`: of what was refused, and of a neighbor. The words of others are in pairs.
+# Lines of `ctl status`: of an interface, of what was refused, and of a neighbor. The words of others are in pairs.
+INTERFACE = re.compile(r"interface (\d+) .* mtu (\d+)")
 REFUSED = re.compile(r"(?:refused|noted) \d+ (\w+) (\d+)")
 NEIGHBOR = re.compile(r"(?:iface (\d+) from (\S+)|others) (arrivals .*)")
 
@@ -45,11 +46,13 @@ def numbers(words):
 
 
 def of_router(lines):
-    """What the router says in these lines: in all, and by the interfaces and addresses of neighbors."""
-    whole, neighbors = {"refused": {}}, {}
+    """What the router says in these lines: in all, by interfaces, and by the interfaces and addresses of neighbors."""
+    whole, interfaces, neighbors = {"refused": {}}, {}, {}
     now = whole
     for line in lines:
-        if found := REFUSED.fullmatch(line):
+        if found := INTERFACE.fullmatch(line):
+            interfaces[int(found[1])] = {"mtu": int(found[2])}
+        elif found := REFUSED.fullmatch(line):
             now["refused"][found[1]] = int(found[2])
         elif found := NEIGHBOR.fullmatch(line):
             now = neighbors[found[1] and int(found[1]), found[2]] = numbers(found[3]) | {"refused": {}}
@@ -58,25 +61,28 @@ def of_router(lines):
         else:
             words = numbers(line)
             whole |= {f"lost_{word}": number for word, number in words.items()} if line.startswith("lost ") else words
-    return whole, neighbors
+    return whole, interfaces, neighbors
 
 
 async def said_by(router):
-    """The lines of `ctl counts` and `ctl neighbors`; none of a router that does not answer soon."""
+    """The lines of `ctl status`; none of a router that does not answer soon."""
     try:
         async with asyncio.timeout(SOON):
-            return (await router.tell("counts"))[0] + (await router.tell("neighbors"))[0] if router.ready else []
+            return (await router.tell("status"))[0] if router.ready else []
     except TimeoutError:
         return []
 
 
 def join(told, lines):
     """Puts what the router says into a report."""
-    whole, neighbors = of_router(lines)
+    whole, interfaces, neighbors = of_router(lines)
     told["router"] |= whole
     for link in told["links"]:
+        link |= interfaces.get(link.get("interface"), {})
         for one in link.get("neighbors", ()):
             one |= neighbors.get((link["interface"], one["address"]), {})
+            if "last" in one:
+                one["response_seconds_ago"] = round((whole["now"] - one.pop("last")) / 1000, 1)
 
 
 def of_relay(relay, routes):
@@ -119,9 +125,11 @@ def lines(told):
             words += [f"to the router {link['made_up_address']}"] if link["made_up_address"] else []
             words += [f"interface {link['interface']}"] if link["interface"] is not None else []
             words.append(f"cost {link['cost']}")
+            words += [f"mtu {link['mtu']}"] if "mtu" in link else []
         yield ", ".join(words)
         for one in link.get("neighbors", ()):
-            yield f"  neighbor {one['address']}, heard {one['heard_seconds_ago']:.0f} s ago, {one['routes']} routes"
+            told = f"last Response {one['response_seconds_ago']:.0f} s ago, " if "response_seconds_ago" in one else ""
+            yield f"  neighbor {one['address']}, heard {one['heard_seconds_ago']:.0f} s ago, {told}{one['routes']} routes"
             yield from (f"    refused {what} {number}" for what, number in one.get("refused", {}).items())
         yield from (f"  {what} {number}" for what, number in link.get("counts", {}).items())
 

@@ -1,11 +1,9 @@
 //! The program `ripngd` as a library: its subcommands, and its exit statuses.
 #![tactic(auto)]
 
-mod laboratory;
 mod status;
 mod subcommands;
 
-pub use laboratory::{explain, lab, trace};
 pub use ripngd_command_line::{Ask, Order, Question, VERSION, ask};
 pub use ripngd_config::{Config, ConfigFault, read_config};
 pub use ripngd_daemon::{check, table};
@@ -15,3 +13,4 @@ pub use ripngd_engine::{
 pub use ripngd_show::{PrintFault, show};
 pub use ripngd_udp::{Udp, UdpError, Uptime};
 pub use status::program;
+pub use subcommands::{explain, lab, trace};

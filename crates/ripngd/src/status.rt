@@ -93,19 +93,14 @@ fn outcome<
 {
     match ask(rt.alloc(), words) {
         Ok(asked) => match misuse_of(asked) {
-            Some(why) => Ok(write_misuse(why, err)),
+            Some(why) => {
+                let _ = err.write_all(why.as_bytes());
+                Ok(Status::Usage)
+            }
             None => answer(rt, files, asked, history, out, err),
         },
         Err(error) => write_clap_text(&error, out, err),
     }
-}
-
-/// Writes a usage error that clap does not find.
-fn write_misuse<E: Write>(why: &str, err: &mut E) -> Status
-    ensures { result ≡ Status.Usage }
-{
-    let _ = err.write_all(why.as_bytes());
-    Status::Usage
 }
 
 /// Runs a subcommand, and returns whether its input is accepted.
@@ -186,22 +181,16 @@ fn write_clap_text<'a, O: Write, E: Write>(
 {
     match error.kind() {
         ErrorKind::OutOfMemory => Err(Failure::OutOfMemory),
-        ErrorKind::DisplayHelp | ErrorKind::DisplayVersion => print(error, out),
+        ErrorKind::DisplayHelp | ErrorKind::DisplayVersion => {
+            write!(out, "{error}").map_err(|_| Failure::Output)?;
+            out.flush().map_err(|_| Failure::Output)?;
+            Ok(Status::Done)
+        }
         _ => {
             let _ = write!(err, "{error}");
             Ok(Status::Usage)
         }
     }
-}
-
-/// Writes help or the version.
-fn print<'a, O: Write>(help: &clap::Error, out: &mut O) -> Result<Status, Failure<'a>>
-    ensures done { IfOk result (λ status. status ≡ Status.Done) }
-    ensures failed { IfErr result (λ f. f ≡ failures.Output) }
-{
-    write!(out, "{help}").map_err(|_| Failure::Output)?;
-    out.flush().map_err(|_| Failure::Output)?;
-    Ok(Status::Done)
 }
 
 /// Whether the reader of `out` has gone.

@@ -1,9 +1,8 @@
-//! The texts at the end of `help`: a description and an example for each subcommand. Also the version.
+//! The texts at the end of `help`: one for the program, and a description and an example for each subcommand. Also the version.
 
 /// The version of the program, which `--version` prints.
 pub const VERSION: &str = "0.1.0";
 
-/// The text for the program.
 pub(crate) const PROGRAM: &str = "\
 `ripngd help COMMAND` describes a command, with an example.
 
@@ -11,7 +10,6 @@ Exit status: 0 done; 1 the input was refused, and standard output says why;
 2 usage error; 3 a file, a port, a socket or memory failed, and standard error
 says which.";
 
-/// The text for `show`.
 pub(crate) const SHOW: &str = "\
 The first line is `request entries N` or `response entries N`. A line follows
 for each entry, numbered from 0: its prefix, route tag and metric, or its next
@@ -21,7 +19,6 @@ exit status is 1.
 Example:
   ripngd show 0201000020010db800000000000000000000000000002001";
 
-/// The text for `check`.
 pub(crate) const CHECK: &str = "\
 A configuration is a TOML text. If it is valid, one line counts its interfaces,
 prefixes and peers. If not, one line has the first fault and its key, and the
@@ -31,7 +28,6 @@ the prefix, or the line and column.
 Example:
   ripngd check examples/east.toml";
 
-/// The text for `lab`.
 pub(crate) const LAB: &str = "\
 The lines of a script make routers and links, and then deliver datagrams, let
 time pass, and change costs and prefixes. There are no sockets and no clock, so
@@ -43,7 +39,6 @@ what it did, and why.
 Example:
   ripngd lab --explain examples/line.lab";
 
-/// The text for `run`.
 pub(crate) const RUN: &str = "\
 Each interface of the router is a socket on 127.0.0.1, and so is each neighbor.
 It learns routes from its neighbors and advertises its own, until it has made
@@ -57,7 +52,6 @@ Example, of two routers that learn from each other:
   ripngd run --turns 400 -R east.log examples/east.toml &
   ripngd run --turns 400 examples/west.toml";
 
-/// The text for `ctl`.
 pub(crate) const CTL: &str = "\
 The answer of the router is printed. The commands are
   routes                 print its routes, with their gateways and timers
@@ -65,6 +59,8 @@ The answer of the router is printed. The commands are
   lookup ADDRESS         print the longest match of an address in that table
   counts                 print what was received, sent, refused and lost
   neighbors              print what was received from each neighbor, and when
+  status                 print its interfaces, its clock, how many routes it
+                         forwards by, its counts and its neighbors
   cost INTERFACE COST    set the cost of an interface
   gain PREFIX TAG        own a prefix
   drop PREFIX            withdraw an owned prefix
@@ -73,6 +69,7 @@ The answer of the router is printed. The commands are
   unpeer INTERFACE ADDRESS
                          remove a neighbor
   link down INTERFACE    withdraw what was learned on an interface
+  link up INTERFACE      ask the neighbors on an interface for their tables
   stop                   tell neighbors that its routes end, and exit as after
                          its last turn
   stop now               exit so, and tell nobody
@@ -82,7 +79,6 @@ router listens at PATH, the exit status is 3.
 Example, of a router that was started with `run --control east.sock`:
   ripngd ctl east.sock routes";
 
-/// The text for `table`.
 pub(crate) const TABLE: &str = "\
 The forwarding table that the changes of the log make is printed, a line for
 each prefix, as `run` prints it at its end. The router may still run: an

@@ -4,10 +4,8 @@
 mod asked;
 mod command_line;
 mod help;
-mod misuse;
 mod subcommands;
 
-pub use asked::{Ask, Order, Question};
+pub use asked::{Ask, Order, Question, misuse_of};
 pub use command_line::ask;
 pub use help::VERSION;
-pub use misuse::misuse_of;

@@ -1,6 +1,7 @@
 //! The tables of a configuration, each with its keys in the order in which they are read.
 
 ghost use Rattle.ripngd_config.specs.Keys.{document_keys, interface_keys, peer_keys, prefix_keys};
+ghost use Rattle.ripngd_config.specs.Tables.{IsDocument, IsInterfaceTable, IsPeer, IsPrefixTable};
 
 use crate::fault::Read;
 use crate::section::{FromSection, Section, tables_at};
@@ -9,8 +10,6 @@ use ripngd_engine::Peer;
 use router_core::Interface;
 
 impl FromSection for Peer {
-    ghost use Rattle.ripngd_config.specs.Tables.{IsPeer};
-
     ghost keys = { peer_keys };
 
     ghost is_read = { IsPeer };
@@ -38,8 +37,6 @@ pub(crate) struct InterfaceTable {
 }
 
 impl FromSection for InterfaceTable {
-    ghost use Rattle.ripngd_config.specs.Tables.{IsInterfaceTable};
-
     ghost keys = { interface_keys };
 
     ghost is_read = { IsInterfaceTable };
@@ -68,8 +65,6 @@ pub(crate) struct PrefixTable {
 }
 
 impl FromSection for PrefixTable {
-    ghost use Rattle.ripngd_config.specs.Tables.{IsPrefixTable};
-
     ghost keys = { prefix_keys };
 
     ghost is_read = { IsPrefixTable };
@@ -91,8 +86,6 @@ pub(crate) struct Document {
 }
 
 impl FromSection for Document {
-    ghost use Rattle.ripngd_config.specs.Tables.{IsDocument};
-
     ghost keys = { document_keys };
 
     ghost is_read = { IsDocument };

@@ -1,12 +1,15 @@
 -- What follows from how a write or a test ended.
 use Rattle.std.proofs.Common.{◌≡◌, ◌++◌, ℕ, Bool, true, false, List, [], ◌∷◌, Option, Some, Result, Ok, Err, refl, subst, sym, inl, inr}
 use Rattle.std.specs.Prelude.{◌==◌, IsOk, OnOk, codes, is_err}
+use Rattle.std.specs.FinMap as map_of
+use Rattle.std.specs.Io.KnownBytes.{Appends}
+use Rattle.std.proofs.KnownBytes.{Appends-trans}
 use Rattle.ripngd_engine.specs.Changing.{ShutsDownOnce, StepAnswer}
 use Rattle.ripngd_engine.specs.Seen.{Acts, Seen}
 use Rattle.ripngd_engine.specs.declared.report.ChangeFault.{ChangeFault}
 use Rattle.ripngd_engine.specs.declared.report.ChangeFault.TheVariants.{Refused, Ended}
 use Rattle.ripngd_control.specs.Answers.{AnswersCommand, GainsLines, ObeysStop, step_reply}
-use Rattle.ripngd_control.specs.Printed.{counts_text, losses_text, neighbors_text, reply_line, row_lines, tally_text}
+use Rattle.ripngd_control.specs.Printed.{counts_text, losses_text, neighbors_text, reply_line, row_lines, status_answer, tally_text}
 use Rattle.ripngd_control.specs.declared.answering.Rest.{Rest}
 use Rattle.ripngd_control.specs.declared.answering.RunState.{RunState}
 use Rattle.ripngd_control.specs.declared.command.Command.{Command}
@@ -26,6 +29,12 @@ pub was_no_err : {X E P : Type 0} (r : Result X E) → is_err r ≡ false → On
 was_no_err (Ok x) well h = h
 was_no_err (Err e) well h = absurd (cc)
 
+-- what was written first, and then the rest
+pub appended : {X E : Type 0} (r : Result X E) (old mid new : Option (List ℕ)) (xs ys : List ℕ) → Appends old mid xs → OnOk r (Appends mid new ys)
+    → OnOk r (Appends old new (xs ++ ys))
+appended (Ok x) old mid new xs ys first second = Appends-trans old mid new xs ys first second
+appended (Err e) old mid new xs ys first second = tt
+
 pub apart : {P : Type 0} (b : Bool) → b ≡ false → b ≡ true → P
 apart true h is = absurd (cc)
 apart false h is = absurd (cc)
@@ -39,6 +48,11 @@ module _ (command : Option Command) (counts : Counts) (heard : Neighbors) (lost 
   pub answers_counts : command ≡ Some commands.Counts → GainsLines old rest new (counts_text counts ++ (10 ∷ (losses_text lost ++ (10 ∷ reply_line replies.Done))))
       → AnswersCommand command counts heard lost a old rest a new
   answers_counts is said = subst (λ c. AnswersCommand c counts heard lost a old rest a new) (sym is) (refl, said)
+
+  pub answers_status : command ≡ Some commands.Status
+      → GainsLines old rest new (status_answer a.machine.router.config.interfaces a.machine.router.last (map_of.len a.machine.fib) counts lost heard)
+      → AnswersCommand command counts heard lost a old rest a new
+  answers_status is said = subst (λ c. AnswersCommand c counts heard lost a old rest a new) (sym is) (refl, said)
 
   pub answers_neighbors : command ≡ Some commands.Neighbors → GainsLines old rest new (neighbors_text heard ++ reply_line replies.Done)
       → AnswersCommand command counts heard lost a old rest a new

@@ -1,6 +1,7 @@
 -- Pieces of what is shown: routes that follow one another, and the entries behind a prefix.
 use Rattle.std.proofs.Common.{◌≡◌, ◌≢◌, ◌<◌, ◌≤◌, ◌+◌, ◌-◌, ◌∙◌, ℕ, zero, suc, true, false, List, [], ◌∷◌, ◌++◌, map as each, take, drop, length, length-drop, min, get_or, Option, Some, None, refl, sym, ap, subst, arith, append-nil, inl, inr}
 use Rattle.std.specs.Prelude.{codes, decimal, flat_map}
+use Rattle.std.specs.List.{enumerate_from}
 use Rattle.std.specs.List.Sorted.{IsPartitionedBy, IsPartitionPoint}
 use Rattle.std.specs.Ordering.{is_le}
 use Rattle.std.specs.declared.cmp.Ordering.{Ordering}
@@ -21,8 +22,10 @@ use Rattle.fib.specs.Entries.{Entry, at_prefix, fib_entry, listed, AreInOrder}
 use Rattle.fib.specs.Forwarding.{Forward, Forwarding}
 use Rattle.route_table.specs.Route.{RouteValue}
 use Rattle.route_table.specs.Table.{Table, first_past}
+use Rattle.router_core.specs.declared.config.Interface.{Interface}
+use Rattle.router_core.proofs.Sending.{element_at, take_numbered}
 use Rattle.ripngd_control.specs.Answers.{Follow, IsPast, ShowsRoutes}
-use Rattle.ripngd_control.specs.Printed.{row_lines, status_lines, status_text, tally_text}
+use Rattle.ripngd_control.specs.Printed.{interface_lines, row_lines, status_lines, status_text, tally_text}
 use Rattle.ripngd_control.specs.declared.neighbors.Neighbor.{Neighbor}
 
 -- ---- routes
@@ -69,6 +72,13 @@ pub row_lines_more : (rows : List Neighbor) (i : ℕ) (r : Neighbor) → i < len
     → row_lines (take (i + 1) rows) ≡ row_lines (take i rows) ++ (codes "iface " ++ (decimal r.iface ++ (codes " from " ++ (written_addr r.source ++ (tally_text r.tally ++ 10 ∷ [])))))
 row_lines_more rows i r lt is =
     flat_map-take (λ n. codes "iface " ++ (decimal n.iface ++ (codes " from " ++ (written_addr n.source ++ (tally_text n.tally ++ 10 ∷ []))))) rows i r lt is
+
+pub interface_lines_more : (xs : List Interface) (i : ℕ) (x : Interface) → i < length xs → x ≡ get_or xs i x
+    → interface_lines (take (i + 1) (enumerate_from 0 xs)) ≡ interface_lines (take i (enumerate_from 0 xs)) ++ (codes "interface " ++ (decimal i ++ (codes " address " ++ (written_addr x.addr ++ (codes " cost " ++ (decimal x.cost ++ (codes " mtu " ++ (decimal x.mtu ++ 10 ∷ []))))))))
+interface_lines_more xs i x lt is =
+    ap interface_lines (take_numbered xs i x (element_at xs i x lt is))
+    ∙ flat_map-append (λ e. codes "interface " ++ (decimal e.0 ++ (codes " address " ++ (written_addr e.1.addr ++ (codes " cost " ++ (decimal e.1.cost ++ (codes " mtu " ++ (decimal e.1.mtu ++ 10 ∷ [])))))))) (take i (enumerate_from 0 xs)) ((i, x) ∷ [])
+    ∙ ap (λ (t : List ℕ). interface_lines (take i (enumerate_from 0 xs)) ++ t) (append-nil _)
 
 -- behind some routes there is a last prefix
 pub Follow-end : (table : Table) (after : Option Prefix6) (es : List (Prefix6 × RouteValue)) (end : Option Prefix6)

@@ -24,10 +24,12 @@ module _ (counts : Counts) (heard : Neighbors) (lost : Losses) (bytes : List ℕ
   heeds (Some commands.Table) took h = obeyed commands.Table replies.Done took.1 h.0
   heeds (Some (commands.Lookup d)) took h = obeyed (commands.Lookup d) replies.Done took.1 h.0
   heeds (Some commands.Counts) took h = obeyed commands.Counts replies.Done took.1 h.0
+  heeds (Some commands.Status) took h = obeyed commands.Status replies.Done took.1 h.0
   heeds (Some commands.Neighbors) took h = obeyed commands.Neighbors replies.Done took.1 h.0
   heeds (Some commands.Stop) took h = obeyed commands.Stop h.0 took.1 h.1
   heeds (Some commands.StopNow) took h = obeyed commands.StopNow replies.Done took.1 h.0
   heeds (Some (commands.LinkDown i)) took h = obeyed (commands.LinkDown i) h.0 took.1 h.1
+  heeds (Some (commands.LinkUp i)) took h = obeyed (commands.LinkUp i) h.0 took.1 h.1
   heeds (Some (commands.Link c)) took h = obeyed (commands.Link c) h.0 took.1 h.1
   heeds (Some (commands.Reconfigure c)) took h = obeyed (commands.Reconfigure c) h.0 took.1 h.1
 

@@ -12,13 +12,13 @@ use Rattle.router_core.specs.Machine.{State}
 use Rattle.router_core.specs.Reconfiguring.{NamesInterface}
 use Rattle.router_core.specs.declared.reconfiguring.Change.{Change}
 use Rattle.router_core.specs.declared.reconfiguring.ReconfigureRefused.TheVariants as refusals
-use Rattle.ripngd_engine.specs.Changing.{LinkGoesDownOnce, ReconfiguresNothing, ReconfiguresOnce, ShutsDownOnce, why_refused}
+use Rattle.ripngd_engine.specs.Changing.{LinkComesUpOnce, LinkGoesDownOnce, ReconfiguresNothing, ReconfiguresOnce, ShutsDownOnce, why_refused}
 use Rattle.ripngd_engine.specs.Log.{entry_lines}
 use Rattle.ripngd_engine.specs.Run.{Machine, Trace}
 use Rattle.ripngd_engine.specs.Seen.{Acts, Seen}
 use Rattle.ripngd_engine.specs.declared.report.ChangeFault.{ChangeFault}
 use Rattle.ripngd_engine.specs.declared.report.ChangeFault.TheVariants.{Refused, Ended}
-use Rattle.ripngd_control.specs.Printed.{counts_text, lookup_text, losses_text, neighbors_text, reply_line, status_lines}
+use Rattle.ripngd_control.specs.Printed.{counts_text, lookup_text, losses_text, neighbors_text, reply_line, status_answer, status_lines}
 use Rattle.ripngd_control.specs.declared.answering.Rest.{Rest}
 use Rattle.ripngd_control.specs.declared.answering.Rest.TheVariants as rests
 use Rattle.ripngd_control.specs.declared.answering.RunState.{RunState}
@@ -111,16 +111,17 @@ abbrev pub ObeysStop : Seen → Reply → Seen → Type 0
 ObeysStop a replies.Done b = ShutsDownAgain a replies.Done b
 ObeysStop a reply b = ObeysStep ShutsDownOnce a reply b ⊎ ShutsDownAgain a reply b
 
--- what `link down` did to an engine, by what is replied
-abbrev pub ObeysLinkDown : ℕ → Seen → Reply → Seen → Type 0
-ObeysLinkDown iface a replies.NoSuchInterface b = (b ≡ a) × (length a.machine.router.config.interfaces ≤ iface)
-ObeysLinkDown iface a reply b = ObeysStep (LinkGoesDownOnce iface) a reply b
+-- what such a step at an interface did to an engine, by what is replied
+abbrev pub ObeysLink : (Machine → Trace → Machine → Type 0) → ℕ → Seen → Reply → Seen → Type 0
+ObeysLink Does iface a replies.NoSuchInterface b = (b ≡ a) × (length a.machine.router.config.interfaces ≤ iface)
+ObeysLink Does iface a reply b = ObeysStep Does a reply b
 
--- what a command did to an engine, by what is replied: only a change, a stop and a link that goes down do something to it
+-- what a command did to an engine, by what is replied: only a change, a stop and a link that goes down or comes up do something to it
 abbrev pub Obeys : Command → Seen → Reply → Seen → Type 0
 Obeys (commands.Reconfigure c) a reply b = ObeysChange c a reply b
 Obeys commands.Stop a reply b = ObeysStop a reply b
-Obeys (commands.LinkDown iface) a reply b = ObeysLinkDown iface a reply b
+Obeys (commands.LinkDown iface) a reply b = ObeysLink (LinkGoesDownOnce iface) iface a reply b
+Obeys (commands.LinkUp iface) a reply b = ObeysLink (LinkComesUpOnce iface) iface a reply b
 Obeys _ a reply b = b ≡ a
 
 -- the writer gained this and nothing is left to write, unless the writer failed
@@ -135,6 +136,8 @@ AnswersCommand (Some commands.Table) counts heard lost a old rest b new = (b ≡
 AnswersCommand (Some commands.Counts) counts heard lost a old rest b new =
     (b ≡ a) × GainsLines old rest new (counts_text counts ++ (10 ∷ (losses_text lost ++ (10 ∷ reply_line replies.Done))))
 AnswersCommand (Some commands.Neighbors) counts heard lost a old rest b new = (b ≡ a) × GainsLines old rest new (neighbors_text heard ++ reply_line replies.Done)
+AnswersCommand (Some commands.Status) counts heard lost a old rest b new = (b ≡ a)
+    × GainsLines old rest new (status_answer a.machine.router.config.interfaces a.machine.router.last (map_of.len a.machine.fib) counts lost heard)
 AnswersCommand (Some (commands.Lookup destination)) counts heard lost a old rest b new = (b ≡ a)
     × (found : Option Entry) × IsLookedUp a.machine.fib destination.0 found × GainsLines old rest new (lookup_text found ++ (10 ∷ reply_line replies.Done))
 AnswersCommand (Some commands.StopNow) counts heard lost a old rest b new = (b ≡ a) × GainsLines old rest new (reply_line replies.Done)

@@ -1,5 +1,6 @@
 -- What is printed of what is refused, counted, lost and answered (the format is this project's choice).
 use Rattle.std.specs.Prelude.{ℕ, ◌-◌, ◌==◌, List, [], ◌∷◌, ◌++◌, Option, None, Some, codes, decimal, flat_map, if◌then◌else◌, slice_index_or}
+use Rattle.std.specs.List.{enumerate_from}
 use Rattle.prefix6.specs.Prefix.{Prefix6}
 use Rattle.prefix6.specs.Written.{written_addr, written_prefix}
 use Rattle.fib.specs.Entries.{Entry as FibEntry}
@@ -15,6 +16,7 @@ use Rattle.router_core.specs.Reconfiguring.{reconfigure_text}
 use Rattle.router_core.specs.declared.answer.Note.{Note}
 use Rattle.router_core.specs.declared.answer.NoteKind.TheVariants.{BadLength, BadPrefix, BadMetric, TableFull, NoMemory}
 use Rattle.router_core.specs.declared.arrival.Fault.{Fault}
+use Rattle.router_core.specs.declared.config.Interface.{Interface}
 use Rattle.router_core.specs.declared.arrival.Fault.TheVariants.{Wire, NotRipngPort, NotLinkLocal, OwnAddress, HopLimit, EmptyRequest, BadSource}
 use Rattle.ripngd_engine.specs.Log.{route_text}
 use Rattle.ripngd_engine.specs.Observer.{LinkReport, Processed, Sent}
@@ -113,6 +115,12 @@ losses_text l =
     codes "lost sends " ++ (decimal l.report.lost_sends ++ (codes " steps " ++ (decimal l.report.lost_memory
     ++ (codes " arrivals " ++ (decimal l.arrivals ++ (codes "\nstrangers " ++ (decimal l.strangers ++ (if l.report.log_failed then codes "\nlog failed" else []))))))))
 
+-- ---- a router in short
+-- `interface I address ADDR cost C mtu M`, a line for each of these interfaces with their numbers
+abbrev pub interface_lines : List (ℕ × Interface) → List ℕ
+interface_lines numbered = flat_map (λ e. codes "interface " ++ (decimal e.0 ++ (codes " address " ++ (written_addr e.1.addr
+    ++ (codes " cost " ++ (decimal e.1.cost ++ (codes " mtu " ++ (decimal e.1.mtu ++ 10 ∷ [])))))))) numbered
+
 -- ---- answers
 -- the line of an entry of a forwarding table, or `no route`
 abbrev pub lookup_text : Option FibEntry → List ℕ
@@ -153,3 +161,9 @@ reply_text replies.Ended = codes "refused 53 Ended"
 -- the same with its line feed
 abbrev pub reply_line : Reply → List ℕ
 reply_line reply = reply_text reply ++ 10 ∷ []
+
+-- the answer to `status`: the lines of the interfaces, `now MS routes N`, the counts, what was lost, the neighbors, and `ok`
+abbrev pub status_answer : List Interface → ℕ → ℕ → Counts → Losses → Neighbors → List ℕ
+status_answer interfaces last entries counts lost heard = interface_lines (enumerate_from 0 interfaces) ++ (codes "now " ++ (decimal last
+    ++ (codes " routes " ++ (decimal entries ++ (10 ∷ (counts_text counts ++ (10 ∷ (losses_text lost ++ (10 ∷ (neighbors_text heard
+    ++ reply_line replies.Done))))))))))

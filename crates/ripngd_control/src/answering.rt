@@ -2,8 +2,9 @@
 
 ghost use Rattle.std.specs.Prelude.{◌≡◌, ◌≢◌, ◌↔◌, ◌⊎◌, ◌++◌, ◌∷◌, IsOk, IsTrue, Some, false};
 ghost use Rattle.router_core.specs.Reconfiguring.{NamesInterface};
+ghost use Rattle.ripngd_engine.specs.Changing.{LinkComesUpOnce, LinkGoesDownOnce};
 ghost use Rattle.ripngd_engine.specs.Seen.{seen};
-ghost use Rattle.ripngd_control.specs.Answers.{AnswersCommand, Continues, GainsLines, ObeysChange, ObeysLinkDown, ObeysStop, step_reply};
+ghost use Rattle.ripngd_control.specs.Answers.{AnswersCommand, Continues, GainsLines, ObeysChange, ObeysLink, ObeysStop, step_reply};
 ghost use Rattle.ripngd_control.specs.Printed.{lookup_text, reply_line};
 ghost use Rattle.ripngd_control.specs.declared.command.PeerChange.{PeerChange};
 
@@ -11,6 +12,7 @@ use crate::command::Command;
 use crate::counts::Losses;
 use crate::lookup::{Lookup, look_up};
 use crate::monitor::Monitor;
+use crate::overview::write_status;
 use crate::pieces::{write_routes, write_table};
 use crate::reply::{Peering, Reply};
 use fib::Fib;
@@ -133,7 +135,7 @@ fn take_down<S: RouteStore, L: Link, C: TimeSource, R: Rng + Drop, W: Write>(
     log: &mut W,
 ) -> (Reply, RunState)
     requires { engine.old.ended ≡ false }
-    ensures obeys { ObeysLinkDown iface (seen R.stream W.contents engine.old log.old) result.0
+    ensures obeys { ObeysLink (LinkGoesDownOnce iface) iface (seen R.stream W.contents engine.old log.old) result.0
         (seen R.stream W.contents engine.new log.new) }
     ensures goes_on { result.1 ≢ RunState.Ended → engine.new.ended ≡ false }
     ensures no_stop { result.1 ≢ RunState.Stopped }
@@ -142,6 +144,24 @@ fn take_down<S: RouteStore, L: Link, C: TimeSource, R: Rng + Drop, W: Write>(
         return (Reply::NoSuchInterface, RunState::Running);
     }
     step_reply(engine.link_down(iface, log), RunState::Running)
+}
+
+/// The link of an interface is up again. Returns the reply, and whether the router goes on.
+fn take_up<S: RouteStore, L: Link, C: TimeSource, R: Rng + Drop, W: Write>(
+    engine: &mut Engine<S, L, C, R>,
+    iface: usize,
+    log: &mut W,
+) -> (Reply, RunState)
+    requires { engine.old.ended ≡ false }
+    ensures obeys { ObeysLink (LinkComesUpOnce iface) iface (seen R.stream W.contents engine.old log.old) result.0
+        (seen R.stream W.contents engine.new log.new) }
+    ensures goes_on { result.1 ≢ RunState.Ended → engine.new.ended ≡ false }
+    ensures no_stop { result.1 ≢ RunState.Stopped }
+{
+    if iface >= engine.router().config().interfaces().len() {
+        return (Reply::NoSuchInterface, RunState::Running);
+    }
+    step_reply(engine.link_up(iface, log), RunState::Running)
 }
 
 /// Does a command, or begins to answer it, where `None` is a line that is no command. Returns the rest of the answer, and whether the
@@ -191,6 +211,14 @@ pub(crate) fn respond<
             let neighbors = monitor.neighbors();
             (all_of(writeln!(out, "{neighbors}ok")), RunState::Running)
         }
+        Some(Command::Status) => {
+            let router = engine.router();
+            let fib = engine.fib();
+            let told = monitor.counts();
+            let heard = monitor.neighbors();
+            let written = write_status(router, fib, told, lost, heard, out);
+            (all_of(written), RunState::Running)
+        }
         Some(Command::Stop) => {
             let (reply, state) = shut_down(engine, log);
             (write_reply(reply, out), state)
@@ -198,6 +226,10 @@ pub(crate) fn respond<
         Some(Command::StopNow) => (write_reply(Reply::Done, out), RunState::Stopped),
         Some(Command::LinkDown(iface)) => {
             let (reply, state) = take_down(engine, iface, log);
+            (write_reply(reply, out), state)
+        }
+        Some(Command::LinkUp(iface)) => {
+            let (reply, state) = take_up(engine, iface, log);
             (write_reply(reply, out), state)
         }
         Some(Command::Reconfigure(change)) => {

@@ -18,6 +18,7 @@ use std::alloc::Global;
 use std::io::Write;
 use std::marker::Model;
 use std::net::Net;
+use std::os::fd::RawFd;
 use std::rt::{Clock, Files};
 
 /// The clients of a router: its control socket, while it listens, and the client that is served. Contracts see the lines that named a
@@ -50,6 +51,16 @@ impl Clients {
             connection: None,
             transcript: Transcript::of(&Entry::Nothing),
         })
+    }
+
+    /// The descriptor at which clients are seen to connect, while it listens.
+    pub fn fd(&self) -> Option<RawFd> {
+        Some(self.socket.as_ref()?.fd())
+    }
+
+    /// Whether a client is served.
+    pub fn is_serving(&self) -> bool {
+        self.connection.is_some()
     }
 
     /// Stops listening, and removes the file of the socket if it is still the one that was made. The client that is served is let go.

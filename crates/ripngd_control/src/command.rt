@@ -40,6 +40,8 @@ pub enum Command {
     Lookup(Destination),
     /// `counts`: how many datagrams arrived, were sent, refused and lost.
     Counts,
+    /// `status`: its interfaces, its clock, the size of its forwarding table, and all of `counts` and `neighbors`.
+    Status,
     /// `neighbors`: what arrived from each sender.
     Neighbors,
     /// `stop`: the router tells its neighbors that its routes end, and ends.
@@ -48,6 +50,8 @@ pub enum Command {
     StopNow,
     /// `link down INTERFACE`: the link of an interface is down, so routes that were learned there are withdrawn.
     LinkDown(usize),
+    /// `link up INTERFACE`: the link of an interface is up again, so the neighbors on it are asked for their tables.
+    LinkUp(usize),
     /// `cost INTERFACE COST`, `gain PREFIX TAG`, `drop PREFIX`: a change of its configuration.
     Reconfigure(Change),
     /// `peer INTERFACE ADDRESS PORT`, `unpeer INTERFACE ADDRESS`: a change of its peers.
@@ -64,10 +68,12 @@ impl Display for Command {
             Command::Table => write!(f, "table"),
             Command::Lookup(Destination(addr)) => write!(f, "lookup {addr}"),
             Command::Counts => write!(f, "counts"),
+            Command::Status => write!(f, "status"),
             Command::Neighbors => write!(f, "neighbors"),
             Command::Stop => write!(f, "stop"),
             Command::StopNow => write!(f, "stop now"),
             Command::LinkDown(iface) => write!(f, "link down {iface}"),
+            Command::LinkUp(iface) => write!(f, "link up {iface}"),
             Command::Reconfigure(Change::Cost { iface, cost }) => write!(f, "cost {iface} {cost}"),
             Command::Reconfigure(Change::Own { prefix, tag }) => write!(f, "gain {prefix} {tag}"),
             Command::Reconfigure(Change::Disown { prefix }) => write!(f, "drop {prefix}"),
@@ -109,10 +115,12 @@ fn unsigned_command_in(text: &str) -> Option<Command> {
             Some(Command::Lookup(Destination(parse_addr(addr).ok()?)))
         }
         ("counts", None, None, None) => Some(Command::Counts),
+        ("status", None, None, None) => Some(Command::Status),
         ("neighbors", None, None, None) => Some(Command::Neighbors),
         ("stop", None, None, None) => Some(Command::Stop),
         ("stop", Some("now"), None, None) => Some(Command::StopNow),
         ("link", Some("down"), Some(iface), None) => Some(Command::LinkDown(iface.parse().ok()?)),
+        ("link", Some("up"), Some(iface), None) => Some(Command::LinkUp(iface.parse().ok()?)),
         ("cost", Some(iface), Some(cost), None) => Some(Command::Reconfigure(Change::Cost {
             iface: iface.parse().ok()?,
             cost: cost.parse().ok()?,

@@ -87,9 +87,6 @@ pub(crate) struct Connection {
 
 impl Connection {
     /// The connection of a client that has sent nothing yet.
-    ///
-    /// # Errors
-    /// Of the clock.
     pub(crate) fn new<R: AllocGlobal + Clock>(
         rt: &R,
         stream: UnixStream,

@@ -6,6 +6,7 @@ ghost use Rattle.ripngd_control.specs.Clients.{IsPrivate};
 use std::fs;
 use std::io::ErrorKind;
 use std::net::Net;
+use std::os::fd::{AsRawFd, RawFd};
 use std::os::unix::fs::{FileTypeExt, MetadataExt};
 use std::os::unix::net::{UnixListener, UnixStream};
 use std::rt::Files;
@@ -82,6 +83,11 @@ impl ControlSocket {
             return Err(ListenFault::Shared);
         }
         Ok(ControlSocket { listener, dev, ino })
+    }
+
+    /// The descriptor at which clients are seen to connect.
+    pub(crate) fn fd(&self) -> RawFd {
+        self.listener.as_raw_fd()
     }
 
     /// A client that waits to connect, if there is one, as a stream whose calls never wait.

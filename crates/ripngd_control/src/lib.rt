@@ -15,6 +15,7 @@ mod counts;
 mod lookup;
 mod monitor;
 mod neighbors;
+mod overview;
 mod pieces;
 mod refusals;
 mod reply;

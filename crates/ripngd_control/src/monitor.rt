@@ -109,6 +109,14 @@ impl<W: Write> Monitor<W> {
     {
         let _ = writeln!(self.out, "ripngd: {line}");
     }
+
+    /// Writes the counts of all datagrams, also if it is muted. A write that fails changes nothing.
+    pub fn write_counts(&mut self)
+        ensures counts { self.new.counts ≡ self.old.counts }
+        ensures neighbors { self.new.neighbors ≡ self.old.neighbors }
+    {
+        let _ = writeln!(self.out, "{}", self.counts);
+    }
 }
 
 impl<W: Write> TrafficObserver for Monitor<W> {

@@ -83,9 +83,6 @@ impl Display for RouteStatus {
 
 /// Writes the next routes of a table as they are at a moment: the first ones, or those after a prefix. Returns the last prefix, if
 /// there may be more.
-///
-/// # Errors
-/// Of the writer.
 pub(crate) fn write_routes<S: RouteStore, W: Write>(
     routes: &S,
     moment: Moment,
@@ -124,9 +121,6 @@ fn passed(entries: &[(Prefix, Hop, u8)], after: Option<Prefix>) -> usize
 
 /// Writes the next entries of a forwarding table: the first ones, or those after a prefix. Returns the last prefix, if there may be
 /// more.
-///
-/// # Errors
-/// Of the writer.
 pub(crate) fn write_table<W: Write>(
     fib: &Fib,
     after: Option<Prefix>,

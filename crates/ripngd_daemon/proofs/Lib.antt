@@ -1,2 +1,7 @@
 pub mod Failing
 pub mod Runs
+mod WordTexts
+mod Readings
+mod OneReading
+mod OneRun
+mod Passing

@@ -4,6 +4,9 @@ pub mod Said
 pub mod Losses
 pub mod Checked
 pub mod Warnings
+pub mod LastRun
+pub mod Reading
+pub mod Words
 pub mod Tabled
 pub mod Written
 pub mod Run

@@ -2,8 +2,8 @@
 use Rattle.std.specs.Prelude.{ℕ, List, [], ◌++◌, codes, decimal}
 use Rattle.ripngd_daemon.specs.declared.failure.Failure.{Failure}
 use Rattle.ripngd_daemon.specs.declared.failure.Failure.TheVariants as failures
-use Rattle.ripngd_daemon.specs.declared.file_cause.FileCause.{FileCause}
-use Rattle.ripngd_daemon.specs.declared.file_cause.FileCause.TheVariants as files
+use Rattle.ripngd_daemon.specs.declared.failure.FileCause.{FileCause}
+use Rattle.ripngd_daemon.specs.declared.failure.FileCause.TheVariants as files
 use Rattle.ripngd_control.specs.declared.control_socket.ListenFault.{ListenFault}
 use Rattle.ripngd_control.specs.declared.control_socket.ListenFault.TheVariants as listening
 use Rattle.ripngd_show.specs.Shown.{newline}

@@ -3,8 +3,8 @@ use Rattle.std.specs.Prelude.{◌≡◌, ℕ, Bool, true, false, List, ◌++◌,
 use Rattle.fib.specs.Entries.{listed}
 use Rattle.fib.specs.Forwarding.{Forwarding}
 use Rattle.ripngd_engine.specs.Log.{entry_lines}
-use Rattle.ripngd_log.specs.Reading.{IsFirstBadLine, MakesTable, log_fault_text}
-use Rattle.ripngd_log.specs.declared.fault.LogFault.TheVariants.{BadLine}
+use Rattle.ripngd_daemon.specs.Reading.{IsFirstBadLine, MakesTable, log_fault_text}
+use Rattle.ripngd_daemon.specs.declared.reading.LogFault.TheVariants.{BadLine}
 use Rattle.ripngd_show.specs.Shown.{newline}
 
 -- a line for each entry, `PREFIX metric M HOP`, in the order of address, then length

@@ -1,6 +1,6 @@
 -- What was written in the log of a run.
 use Rattle.std.specs.Prelude.{ℕ, Bool, true, false, List, [], ◌∷◌, ◌++◌, Option, None, Some}
-use Rattle.ripngd_log.specs.Runs.{start_text}
+use Rattle.ripngd_daemon.specs.LastRun.{start_text}
 
 -- the end of a line that may have been cut off, and a line `start`
 abbrev pub start_lines : List ℕ

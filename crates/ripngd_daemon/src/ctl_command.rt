@@ -49,9 +49,6 @@ fn receive<T: Read>(alloc: Global, stream: &mut T) -> io::Result<Vec<u8>>
 }
 
 /// Sends a command over a connection, and returns the answer.
-///
-/// # Errors
-/// Of the socket.
 fn converse(alloc: Global, command: Command, stream: &mut UnixStream) -> io::Result<Vec<u8>> {
     stream.set_read_timeout(Some(Duration::from_millis(SILENCE)))?;
     stream.set_write_timeout(Some(Duration::from_millis(SILENCE)))?;
@@ -93,12 +90,12 @@ fn print_answer<'a, O: Write>(
     ensures answered { IfOk result (λ accepted. IsAnswerWritten answer.now accepted (O.contents out.old) (O.contents out.new)) }
     ensures failed { IfErr result (λ f. (f ≡ failures.Output) ⊎ (f ≡ failures.Answer socket.entry)) }
 {
-    match printed_of(answer) {
-        Some((text, accepted)) => match out.write_all(text) {
-            Ok(()) => Ok(accepted),
-            Err(_) => Err(Failure::Output),
-        },
-        None => Err(Failure::Answer(socket)),
+    let Some((text, accepted)) = printed_of(answer) else {
+        return Err(Failure::Answer(socket));
+    };
+    match out.write_all(text) {
+        Ok(()) => Ok(accepted),
+        Err(_) => Err(Failure::Output),
     }
 }
 
@@ -111,9 +108,9 @@ fn usage_of(command: &str) -> &'static str {
         "drop" => "drop PREFIX",
         "peer" => "peer INTERFACE ADDRESS PORT",
         "unpeer" => "unpeer INTERFACE ADDRESS",
-        "link" => "link down INTERFACE",
+        "link" => "link down INTERFACE, or link up INTERFACE",
         "stop" => "stop [now]",
-        "routes" | "table" | "counts" | "neighbors" => "no word follows",
+        "routes" | "table" | "counts" | "neighbors" | "status" => "no word follows",
         _ => "see `ripngd help ctl`",
     }
 }

@@ -1,19 +1,70 @@
 //! Failures outside the program, and their messages.
 
-ghost use Rattle.std.specs.Prelude.{◌≡◌, ◌≢◌, ◌⊎◌, OnOk, Some};
+ghost use Rattle.std.specs.Prelude.{◌≡◌, ◌≢◌, ◌⊎◌, ◌↔◌, OnOk, Some};
 ghost use Rattle.std.specs.Io.KnownBytes.{Appends};
 ghost use Rattle.std.specs.IoError.{error_kind};
 ghost use Rattle.ripngd_daemon.specs.Faults.{failure_of, failure_of_engine, failure_of_link};
-ghost use Rattle.ripngd_daemon.specs.Said.{cause_text, failure_line, failure_text, why_text};
+ghost use Rattle.ripngd_daemon.specs.Said.{cause_text, failure_line, failure_text, file_cause_text, why_text};
 ghost use Rattle.ripngd_daemon.specs.declared.failure.Failure.TheVariants as failures;
 
-use crate::file_cause::FileCause;
 use ripngd_control::ListenFault;
 use ripngd_engine::EngineFault;
 use ripngd_show::PrintFault;
 use ripngd_udp::{BindCause, UdpError};
 use std::fmt::{self, Display};
 use std::io::{self, ErrorKind, Write};
+
+/// Why a file cannot be read or written.
+#[derive(Clone, Copy, Debug, PartialEq, Eq)]
+pub enum FileCause {
+    /// It does not exist, or its directory does not.
+    NotFound,
+    /// Not permitted.
+    NotPermitted,
+    /// It is a directory.
+    IsDirectory,
+    /// There is no space left on the device.
+    Full,
+    /// Another program has locked it, often another router with the same log.
+    InUse,
+    /// It is the configuration.
+    IsConfig,
+    /// Any other reason.
+    Other,
+}
+
+impl FileCause {
+    /// The cause that an error of the system names.
+    pub(crate) fn of(error: &io::Error) -> FileCause
+        ensures found { (result ≡ FileCause.NotFound) ↔ (error_kind error.now ≡ ErrorKind.NotFound) }
+        ensures permission { (result ≡ FileCause.NotPermitted) ↔ (error_kind error.now ≡ ErrorKind.PermissionDenied) }
+        ensures directory { (result ≡ FileCause.IsDirectory) ↔ (error_kind error.now ≡ ErrorKind.IsADirectory) }
+        ensures space { (result ≡ FileCause.Full) ↔ (error_kind error.now ≡ ErrorKind.StorageFull) }
+    {
+        match error.kind() {
+            ErrorKind::NotFound => FileCause::NotFound,
+            ErrorKind::PermissionDenied => FileCause::NotPermitted,
+            ErrorKind::IsADirectory => FileCause::IsDirectory,
+            ErrorKind::StorageFull => FileCause::Full,
+            _ => FileCause::Other,
+        }
+    }
+
+    /// The text after the name of the file.
+    fn text(self) -> &'static str
+        ensures { result.now ≡ file_cause_text self }
+    {
+        match self {
+            FileCause::NotFound => ": not found",
+            FileCause::NotPermitted => ": not permitted",
+            FileCause::IsDirectory => ": is a directory",
+            FileCause::Full => ": no space left",
+            FileCause::InUse => ": in use",
+            FileCause::IsConfig => ": is the configuration",
+            FileCause::Other => "",
+        }
+    }
+}
 
 /// What failed outside the program: a file, a path, a port, a socket, or memory.
 #[derive(Clone, Copy, Debug, PartialEq, Eq)]

@@ -2,10 +2,9 @@
 
 ghost use Rattle.std.specs.Prelude.{◌≡◌, ◌⊎◌, IfErr, IfOk, List, ℕ};
 ghost use Rattle.ripngd_daemon.specs.declared.failure.Failure.TheVariants as failures;
-ghost use Rattle.ripngd_daemon.specs.declared.file_cause.FileCause.{FileCause};
+ghost use Rattle.ripngd_daemon.specs.declared.failure.FileCause.{FileCause};
 
-use crate::failure::{Failure, failed};
-use crate::file_cause::FileCause;
+use crate::failure::{Failure, FileCause, failed};
 use std::fs;
 use std::rt::Files;
 

@@ -52,30 +52,20 @@ fn log_text(failed: bool) -> &'static str
     if failed { ", log failed" } else { "" }
 }
 
-/// Writes `ripngd: lost sends N, lost steps M`, with `, log failed` at its end if a write of the log failed.
-fn write_line<W: Write>(report: Report, out: &mut W) -> io::Result<()>
-    ensures { OnOk result (Appends (W.contents out.old) (W.contents out.new) (losses_line report)) }
-{
-    let Report {
-        lost_sends,
-        lost_memory,
-        log_failed,
-    } = report;
-    let log = log_text(log_failed);
-    writeln!(
-        out,
-        "ripngd: lost sends {lost_sends}, lost steps {lost_memory}{log}"
-    )
-}
-
-/// Writes what was lost, if anything was. Datagrams from ports of no peer are not losses.
+/// Writes `ripngd: lost sends N, lost steps M` if anything was lost, with `, log failed` at its end if a write of the log failed.
+/// Datagrams from ports of no peer are not losses.
 pub fn write_losses<W: Write>(lost: Losses, out: &mut W) -> io::Result<()>
     ensures nothing { lost.report ≡ nothing_lost → out.new ≡ out.old }
     ensures line { lost.report ≢ nothing_lost → OnOk result (Appends (W.contents out.old) (W.contents out.new) (losses_line lost.report)) }
 {
-    if lost.report == NOTHING_LOST.report {
-        Ok(())
-    } else {
-        write_line(lost.report, out)
+    let report = lost.report;
+    if report == NOTHING_LOST.report {
+        return Ok(());
     }
+    let log = log_text(report.log_failed);
+    writeln!(
+        out,
+        "ripngd: lost sends {}, lost steps {}{log}",
+        report.lost_sends, report.lost_memory
+    )
 }

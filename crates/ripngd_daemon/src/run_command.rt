@@ -5,7 +5,6 @@ ghost use Rattle.ripngd_config.specs.Configuration.{HasOneEach};
 ghost use Rattle.ripngd_command_line.specs.declared.asked.Ask.TheVariants as asks;
 ghost use Rattle.ripngd_daemon.specs.Failing.{MayFail};
 ghost use Rattle.ripngd_daemon.specs.Run.{IsRan, ShowsRun, links_of, lines_of};
-ghost use Rattle.ripngd_daemon.specs.Written.{begins_with};
 
 use crate::check_command::write_refusal;
 use crate::failure::Failure;
@@ -17,12 +16,12 @@ use crate::warnings::write_echoes;
 use rand_pcg::Pcg32;
 use ripngd_command_line::Order;
 use ripngd_config::{Config, read_config};
-use ripngd_control::{Clients, Counts, Monitor};
+use ripngd_control::{Clients, ListenFault, Monitor};
 use ripngd_engine::Engine;
 use ripngd_udp::{Udp, Uptime};
 use router_core::RouterConfig;
 use std::fs::File;
-use std::io::{self, Write};
+use std::io::Write;
 use std::net::Net;
 use std::rt::{Clock, Files};
 
@@ -81,11 +80,15 @@ pub fn run<
     }
 }
 
-/// Listens for clients, if a path is ordered for them.
+/// Listens for clients, if a path is ordered for them. One that connects ends a wait of the link.
 ///
 /// # Errors
 /// `Listen` with the path.
-fn clients_of<'a, R: Files + Net>(rt: &R, order: Order<'a>) -> Result<Option<Clients>, Failure<'a>>
+fn clients_of<'a, R: Files + Net + Clock>(
+    rt: &R,
+    order: Order<'a>,
+    link: &Udp<'_, R>,
+) -> Result<Option<Clients>, Failure<'a>>
     ensures untold { IfOk result (λ clients. lines_of clients ≡ []) }
     ensures alone { IfOk result (λ clients. order.entry.control ≡ None → clients ≡ None) }
     ensures failed { IfErr result (MayFail (asks.Run order.entry)) }
@@ -93,9 +96,16 @@ fn clients_of<'a, R: Files + Net>(rt: &R, order: Order<'a>) -> Result<Option<Cli
     let Some(path) = order.control else {
         return Ok(None);
     };
-    match Clients::open(rt, path) {
-        Ok(clients) => Ok(Some(clients)),
-        Err(why) => Err(Failure::Listen(path, why)),
+    let mut clients = match Clients::open(rt, path) {
+        Ok(clients) => clients,
+        Err(why) => return Err(Failure::Listen(path, why)),
+    };
+    match clients.fd() {
+        Some(fd) if link.watch(fd).is_ok() => Ok(Some(clients)),
+        _ => {
+            clients.close(rt, path);
+            Err(Failure::Listen(path, ListenFault::Failed))
+        }
     }
 }
 
@@ -130,7 +140,7 @@ fn run_configured<
     let link = history
         .ports
         .bind(rt, rt.alloc(), places.as_slice(), peers)?;
-    history.clients = clients_of(rt, order)?;
+    history.clients = clients_of(rt, order, &link)?;
     let ready = Ready {
         router,
         link,
@@ -142,22 +152,12 @@ fn run_configured<
     outcome
 }
 
-/// With `-d`, writes the counts.
-///
-/// # Errors
-/// Of the writer.
-fn write_counts<E: Write>(order: Order<'_>, counts: &Counts, err: &mut E) -> io::Result<()> {
-    if !order.debug {
-        return Ok(());
-    }
-    writeln!(err, "{counts}")
-}
-
-/// Begins the log, says that the router runs, and runs it. With `-d` it writes what is refused, and the counts.
+/// Begins the log, starts the router, makes its turns, and writes its forwarding table. With `-d` it writes what is refused, and the
+/// counts.
 fn run_ready<'r, 'a, R: Files<File = File> + Print + Clock + Net + AllocGlobal, O: Write, E: Write>(
     rt: &'r R,
     order: Order<'a>,
-    mut ready: Ready<'r, R>,
+    ready: Ready<'r, R>,
     history: &mut History,
     out: &mut O,
     err: &mut E,
@@ -171,41 +171,16 @@ fn run_ready<'r, 'a, R: Files<File = File> + Print + Clock + Net + AllocGlobal, 
     ensures ran { OnOk result (ShowsRun order.entry ready.entry.router ready.entry.rng history.new (O.contents out.old) (O.contents out.new)) }
     ensures failed { IfErr result (MayFail (asks.Run order.entry)) }
 {
-    ready.log.begin(order)?;
-    let interfaces = ready.router.interfaces().len();
-    let plural = if interfaces == 1 { "" } else { "s" };
-    let _ = writeln!(err, "ripngd: running, {interfaces} interface{plural}");
-    let mut counts = Counts::new();
-    let outcome = run_monitored(rt, order, ready, history, out, err, &mut counts);
-    let _ = write_counts(order, &counts, err);
-    outcome
-}
-
-/// Starts the router, makes its turns, and writes its forwarding table. `counts` gets the counts.
-fn run_monitored<'r, 'a, R: Clock + Net + Print + AllocGlobal, O: Write, E: Write>(
-    rt: &'r R,
-    order: Order<'a>,
-    ready: Ready<'r, R>,
-    history: &mut History,
-    out: &mut O,
-    err: &mut E,
-    counts: &mut Counts,
-) -> Result<(), Failure<'a>>
-    requires interfaces { ready.link.interfaces ≡ length ready.router.interfaces }
-    requires uncalled { ready.link.calls ≡ [] }
-    requires untold { lines_of history.old.clients ≡ [] }
-    requires begun { ready.log.written.past.bytes ≡ begins_with order.log order.append }
-    ensures bound { history.new.ports.on_links ≡ history.old.ports.on_links }
-    ensures alone { history.old.clients ≡ None → history.new.clients ≡ None }
-    ensures ran { OnOk result (ShowsRun order.entry ready.entry.router ready.entry.rng history.new (O.contents out.old) (O.contents out.new)) }
-    ensures failed { IfErr result (MayFail (asks.Run order.entry)) }
-{
     let Ready {
         router,
         link,
         rng,
         mut log,
     } = ready;
+    log.begin(order)?;
+    let interfaces = router.interfaces().len();
+    let plural = if interfaces == 1 { "" } else { "s" };
+    let _ = writeln!(err, "ripngd: running, {interfaces} interface{plural}");
     let mut monitor = Monitor::new(rt.alloc(), err, !order.debug);
     let clock = Uptime::new(rt);
     let mut engine: UdpEngine<'r, R> = Engine::start(
@@ -226,7 +201,9 @@ fn run_monitored<'r, 'a, R: Clock + Net + Print + AllocGlobal, O: Write, E: Writ
         &mut monitor,
         out,
     );
-    *counts = monitor.counts();
+    if order.debug {
+        monitor.write_counts();
+    }
     history.close(engine, log);
     outcome
 }

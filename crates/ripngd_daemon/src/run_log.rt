@@ -7,10 +7,9 @@ ghost use Rattle.ripngd_command_line.specs.declared.asked.Ask.TheVariants as ask
 ghost use Rattle.ripngd_daemon.specs.Failing.{MayFail};
 ghost use Rattle.ripngd_daemon.specs.Written.{begins_with};
 ghost use Rattle.ripngd_daemon.specs.declared.failure.Failure.TheVariants as failures;
-ghost use Rattle.ripngd_daemon.specs.declared.file_cause.FileCause.{FileCause};
+ghost use Rattle.ripngd_daemon.specs.declared.failure.FileCause.{FileCause};
 
-use crate::failure::{Failure, failed};
-use crate::file_cause::FileCause;
+use crate::failure::{Failure, FileCause, failed};
 use ripngd_command_line::Order;
 use ripngd_engine::{Entry, Transcript};
 use std::fs::{self, File, OpenOptions, TryLockError};
@@ -62,13 +61,8 @@ pub(crate) fn refuse_own_config<'a, R: Files>(rt: &R, order: Order<'a>) -> Resul
 
 /// Whether another program holds the lock of a file. Only regular files are locked, and only where the system has locks.
 fn is_held(lines: &File) -> bool {
-    match lines.metadata() {
-        Ok(about) if about.is_file() => match lines.try_lock() {
-            Err(TryLockError::WouldBlock) => true,
-            _ => false,
-        },
-        _ => false,
-    }
+    let is_file = matches!(lines.metadata(), Ok(about) if about.is_file());
+    is_file && matches!(lines.try_lock(), Err(TryLockError::WouldBlock))
 }
 
 /// The failure of a log that cannot be opened or written.
@@ -94,20 +88,6 @@ fn open_file<'a, R: Files<File = File>>(rt: &R, file: &'a str) -> Result<File, F
         Err(Failure::Log(file, FileCause::InUse))
     } else {
         Ok(lines)
-    }
-}
-
-/// Opens the target of the log that is ordered.
-fn open_target<'r, 'a, R: Files<File = File>>(
-    rt: &'r R,
-    order: Order<'a>,
-) -> Result<Target<'r, R>, Failure<'a>>
-    ensures { IfErr result (MayFail (asks.Run order.entry)) }
-{
-    match order.log {
-        None => Ok(Target::Nowhere),
-        Some("-") => Ok(Target::Output(rt)),
-        Some(file) => Ok(Target::File(open_file(rt, file)?)),
     }
 }
 
@@ -157,7 +137,11 @@ impl<'r, R: Files<File = File> + Print> RunLog<'r, R> {
         ensures untouched { IfOk result (λ log. log.written.past.bytes ≡ []) }
         ensures failed { IfErr result (MayFail (asks.Run order.entry)) }
     {
-        let target = open_target(rt, order)?;
+        let target = match order.log {
+            None => Target::Nowhere,
+            Some("-") => Target::Output(rt),
+            Some(file) => Target::File(open_file(rt, file)?),
+        };
         Ok(RunLog {
             target,
             written: Transcript::of(&Entry::Nothing),
@@ -180,9 +164,6 @@ impl<'r, R: Files<File = File> + Print> RunLog<'r, R> {
             true => self.write_all(b"\nstart\n"),
             false => self.target.empty(),
         };
-        match begun {
-            Ok(()) => Ok(()),
-            Err(error) => Err(cannot_write(file, &error)),
-        }
+        begun.map_err(|error| cannot_write(file, &error))
     }
 }

@@ -8,9 +8,9 @@ ghost use Rattle.ripngd_daemon.specs.Tabled.{IsTabled, bad_line_text, table_text
 
 use crate::failure::Failure;
 use crate::files::FileSource;
+use crate::reading::{LogFault, read_log};
 use fib::Fib;
 use ripngd_engine::write_entries;
-use ripngd_log::{LogFault, read_log};
 use ripngd_show::PrintFault;
 use std::alloc::Global;
 use std::io::{self, Write};

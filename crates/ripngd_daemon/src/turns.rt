@@ -16,7 +16,7 @@ use crate::table_command::write_table;
 use rand_pcg::Pcg32;
 use ripngd_command_line::Order;
 use ripngd_control::{Clients, Monitor, RunState};
-use ripngd_engine::{Engine, EngineFault};
+use ripngd_engine::{Engine, EngineFault, LinkChange};
 use ripngd_udp::{Udp, Uptime};
 use route_table::{Moment, SortedRoutes};
 use std::io::Write;
@@ -27,6 +27,12 @@ pub(crate) type UdpEngine<'r, R> = Engine<SortedRoutes, Udp<'r, R>, Uptime<'r, R
 
 /// How many milliseconds a second has.
 const SECOND: u64 = 1_000;
+
+/// How many milliseconds a short turn lasts.
+const SHORT_MS: u64 = 50;
+
+/// In how many turns it is looked for clients after one was there: others may have connected meanwhile, or one could not be let in.
+const LOOKS: u32 = 64;
 
 /// Whether this many seconds have passed at a moment.
 fn have_passed(seconds: u32, moment: Moment) -> bool
@@ -46,9 +52,37 @@ fn is_over<R: Clock>(seconds: Option<u32>, engine: &UdpEngine<'_, R>) -> bool
     }
 }
 
+/// How many milliseconds a turn may last.
+#[derive(Clone, Copy, Debug, PartialEq, Eq)]
+struct Pause(u64);
+
+impl<'r, R: Clock> LinkChange<Udp<'r, R>> for Pause {
+    fn make(&mut self, link: &mut Udp<'r, R>) {
+        link.wait_at_most(self.0);
+    }
+}
+
+/// How long the next turn may last: until the router has something to do, or its seconds have passed. It is short where turns are
+/// counted, where it is looked for clients, where the last one had a datagram, and where something is due already.
+fn pause_before<R: Clock>(order: Order<'_>, engine: &UdpEngine<'_, R>, looks: u32) -> Pause {
+    if order.turns < u32::MAX || looks > 0 || !engine.link().was_silent() {
+        return Pause(SHORT_MS);
+    }
+    let due = engine.router().wakes_at().ms();
+    let end = match order.seconds {
+        Some(seconds) => due.min(u64::from(seconds) * SECOND),
+        None => due,
+    };
+    match end.saturating_sub(engine.router().last().ms()) {
+        0 => Pause(SHORT_MS),
+        left => Pause(left),
+    }
+}
+
 /// Makes a turn.
 fn step<R: Clock, W: Write, E: Write>(
     engine: &mut UdpEngine<'_, R>,
+    mut pause: Pause,
     log: &mut W,
     monitor: &mut Monitor<E>,
 ) -> Result<(), EngineFault>
@@ -56,14 +90,16 @@ fn step<R: Clock, W: Write, E: Write>(
     ensures ran { OnOk result (Ran 1 (seen words_of W.contents engine.old log.old) (seen words_of W.contents engine.new log.new)) }
     ensures goes_on { OnOk result (engine.new.ended ≡ false) }
 {
+    engine.change_link(&mut pause);
     engine.turns_observed(1, log, monitor)
 }
 
-/// Serves the clients, if the router listens.
+/// Serves the clients, if the router listens and may have some: one has connected or is served, or it is still looked for one.
 fn serve_clients<R: Clock + AllocGlobal, W: Write, E: Write>(
     rt: &R,
     engine: &mut UdpEngine<'_, R>,
     clients: &mut Option<Clients>,
+    looks: &mut u32,
     log: &mut W,
     monitor: &Monitor<E>,
 ) -> RunState
@@ -75,8 +111,16 @@ fn serve_clients<R: Clock + AllocGlobal, W: Write, E: Write>(
     ensures alone { clients.old ≡ None → clients.new ≡ None }
 {
     let Some(clients) = clients else {
+        *looks = 0;
         return RunState::Running;
     };
+    if engine.link().was_called() || clients.is_serving() {
+        *looks = LOOKS;
+    }
+    if *looks == 0 {
+        return RunState::Running;
+    }
+    *looks -= 1;
     let lost = losses_of(engine.report(), engine.link());
     let mut peering = PeerUpdate::new();
     clients.serve(rt, engine, monitor, lost, &mut peering, log)
@@ -96,8 +140,10 @@ pub(crate) fn tell_of_log<R: Clock, E: Write>(
 /// Makes a turn, and serves the clients.
 fn turn<R: Clock + AllocGlobal, W: Write, E: Write>(
     rt: &R,
+    pause: Pause,
     engine: &mut UdpEngine<'_, R>,
     clients: &mut Option<Clients>,
+    looks: &mut u32,
     log: &mut W,
     monitor: &mut Monitor<E>,
 ) -> Result<RunState, EngineFault>
@@ -109,8 +155,8 @@ fn turn<R: Clock + AllocGlobal, W: Write, E: Write>(
     ensures alone { clients.old ≡ None → clients.new ≡ None }
 {
     let had_failed = engine.report().log_failed;
-    step(engine, log, monitor)?;
-    let state = serve_clients(rt, engine, clients, log, monitor);
+    step(engine, pause, log, monitor)?;
+    let state = serve_clients(rt, engine, clients, looks, log, monitor);
     tell_of_log(engine, had_failed, monitor);
     Ok(state)
 }
@@ -134,11 +180,13 @@ fn make_turns<'a, R: Clock + AllocGlobal, W: Write, E: Write>(
     ensures alone { clients.old ≡ None → clients.new ≡ None }
     ensures failed { IfErr result (MayFail (asks.Run order.entry)) }
 {
+    let mut looks = LOOKS;
     for done in 0..order.turns {
         if is_over(order.seconds, engine) {
             return Ok(());
         }
-        match turn(rt, engine, clients, log, monitor) {
+        let pause = pause_before(order, engine, looks);
+        match turn(rt, pause, engine, clients, &mut looks, log, monitor) {
             Ok(RunState::Running) => {}
             Ok(RunState::Stopped) => return Ok(()),
             Ok(RunState::Ended) | Err(EngineFault::OutOfMemory) => return Err(Failure::OutOfMemory),

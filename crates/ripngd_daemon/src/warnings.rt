@@ -1,4 +1,4 @@
-//! Warnings of what a configuration allows though it cannot work.
+//! Warnings of what a configuration allows though it cannot work. Each function fails as its writer does.
 
 ghost use Rattle.std.specs.Prelude.{◌≡◌, is_some};
 ghost use Rattle.ripngd_daemon.specs.Warnings.{has_address, is_never_heard};
@@ -9,9 +9,6 @@ use router_core::{MAX_HOP_LIMIT, RIPNG_PORT};
 use std::io::{self, Write};
 
 /// Writes a line for each interface that has a peer at its own port, and so receives what it sends.
-///
-/// # Errors
-/// Of the writer.
 pub(crate) fn write_echoes<E: Write>(config: &Config, err: &mut E) -> io::Result<()> {
     for (iface, (place, peers)) in config.places.iter().zip(config.peers.iter()).enumerate() {
         if peers.iter().any(|peer| peer.local_port == place.local_port) {
@@ -46,9 +43,6 @@ fn why_never_heard(places: &[Place], peer: &Peer) -> Option<&'static str>
 }
 
 /// Writes a line for each of these peers of an interface of which no Response can be accepted.
-///
-/// # Errors
-/// Of the writer.
 fn write_unheard<E: Write>(
     places: &[Place],
     iface: usize,
@@ -67,9 +61,6 @@ fn write_unheard<E: Write>(
 }
 
 /// Writes a line for each interface that is its own peer, and for each peer of which no Response can be accepted.
-///
-/// # Errors
-/// Of the writer.
 pub(crate) fn write_warnings<E: Write>(config: &Config, err: &mut E) -> io::Result<()> {
     write_echoes(config, err)?;
     for (iface, peers) in config.peers.iter().enumerate() {

@@ -1,5 +1,5 @@
 use Rattle.std.proofs.Common.{rules}
-use Rattle.ripngd_control.proofs.Answered.{answers_counts, answers_neighbors, was_ok}
+use Rattle.ripngd_control.proofs.Answered.{answers_counts, answers_neighbors, answers_status, was_ok}
 use Rattle.ripngd_control.proofs.answering.respond.Goals as goal
 
 pub returns-in-Some-Counts-clause-answers : goal.returns-in-Some-Counts-clause-answers
@@ -12,3 +12,9 @@ returns-in-Some-Neighbors-clause-answers g c =
     let text = rw c.neighbors-neighbors.ensures at c.writeln-in-Some-Neighbors.ensures.bytes in
     answers_neighbors _ _ _ _ _ _ _ _ (search rules)
     (λ well. let done = c.all_of-in-Some-Neighbors.ensures well in (done.0, was_ok c.writeln-in-Some-Neighbors.result done.1 text))
+
+pub returns-in-Some-Status-clause-answers : goal.returns-in-Some-Status-clause-answers
+returns-in-Some-Status-clause-answers g c =
+    let text = rw (c.router-router.ensures, c.fib-fib.ensures.value, c.counts-told.ensures, c.neighbors-heard.ensures) at c.write_status-written.ensures in
+    answers_status _ _ _ _ _ _ _ _ (search rules)
+    (λ well. let done = c.all_of-in-Some-Status.ensures well in (done.0, was_ok c.write_status-written.result done.1 text))

@@ -1,5 +1,0 @@
-mod WordTexts
-mod Readings
-mod OneReading
-mod OneRun
-mod Passing
