@@ -314,6 +314,11 @@ module _ {V : Type 0} (st : V → LabValue → ℕ → V → Type 0) (t f : V �
   phases_stopped lab lab' v v' count (HasFailed error) stop same is made =
       subst (λ (b : Bool). IsToldUnless b st t f n (Some lab, v) (Some lab', v')) (sym is) (phases_one lab lab' v v' count error same made)
 
+-- what holds whatever the result is
+pub given_ok : {X E P : Type 0} (r : Result X E) → P → OnOk r P
+given_ok (Ok x) p = p
+given_ok (Err e) p = tt
+
 -- what holds of a result that is there
 pub on_ok : {X E P : Type 0} (r : Result X E) (x : X) → r ≡ Ok x → OnOk r P → P
 on_ok {X} {E} {P} r x is given = subst (λ (q : Result X E). OnOk q P) is given

@@ -1,6 +1,7 @@
 pub mod Asides
 pub mod Expecting
 pub mod Losing
+pub mod Notices
 pub mod Phasing
 pub mod Plans
 pub mod ScriptWatching

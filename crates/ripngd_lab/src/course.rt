@@ -1,20 +1,22 @@
 //! Lines about a network that runs.
 
 ghost use Rattle.std.specs.Prelude.{◌≡◌, ◌<◌, ◌++◌, ◌∷◌, [], IfSome, OnOk, Some, length};
+ghost use Rattle.ripngd_lab.specs.Asides.{Prints};
+ghost use Rattle.ripngd_lab.specs.Notices.{aside_of};
 ghost use Rattle.ripngd_lab.specs.Plans.{with_member};
 ghost use Rattle.ripngd_lab.specs.ScriptWatching.{HasTold};
 
 use crate::expecting::{Expected, Missed, meet};
-use crate::forms::Action;
+use crate::forms::{Action, Step};
 use crate::line::Line;
-use crate::moving::{make_rounds, make_wave, step};
+use crate::moving::{make_rounds, make_wave, play, step};
 use crate::outages::Outages;
 use crate::phase::make_phases;
 use crate::plan::Ticking;
 use crate::printer::Choice;
 use crate::site::{Held, Network, Site};
 use crate::stop::{Outcome, Refusal, RefusalName, Stop, Unmet};
-use crate::watching::Watch;
+use crate::watching::{Notice, Watch};
 use crate::ways::Way;
 use prefix6::Prefix;
 use ripng_world::{Event, LabError};
@@ -59,7 +61,8 @@ pub fn act<V: Watch>(
 {
     let lab = site.running();
     match action {
-        Action::Step(kind) => happen(site, course, &line.event(kind), watch),
+        Action::Step(kind) => happen(site, course, kind, line, watch),
+        Action::AtLink(kind) => happen_at_link(site, course, kind, line, watch),
         Action::Arrive => arrive(site, line, line.bytes(course.alloc), watch),
         Action::Ask => arrive(site, line, line.request(course.alloc), watch),
         Action::Tell => make_wave(site, course, &line.wave(line.ticking()), watch),
@@ -70,14 +73,14 @@ pub fn act<V: Watch>(
         Action::Lose => lose(lab, course, line.datagram, watch),
         Action::Silence => set_silent(lab, course, line.router, true),
         Action::Speak => set_silent(lab, course, line.router, false),
-        Action::Cut => set_cut(lab, course, line.link, true),
-        Action::Mend => set_cut(lab, course, line.link, false),
+        Action::Cut => set_cut(lab, course, line, true),
+        Action::Mend => set_cut(lab, course, line, false),
         Action::PrintAll => show_routes(lab, None, None, watch),
         Action::PrintRouter => show_routes(lab, Some(line.router), None, watch),
         Action::PrintRoute => show_routes(lab, Some(line.router), Some(line.prefix), watch),
         Action::PrintAllSent => show_sent(lab, None, watch),
         Action::PrintSent => show_sent(lab, Some(line.datagram), watch),
-        Action::Say => Ok(watch.said(line.text)?),
+        Action::Say => tell(lab, Notice::Said(line.text), watch),
         Action::Expect => expect(lab, line),
         Action::Path => show_way(lab, course, line, watch),
         Action::ExpectPath => expect_fate(lab, course, line),
@@ -88,12 +91,44 @@ pub fn act<V: Watch>(
     }
 }
 
+/// The observer is notified of what a line did, beside events and phases.
+fn tell<V: Watch>(lab: &Network, notice: Notice<'_>, watch: &mut V) -> Outcome
+    requires { aside_of notice ≡ Prints }
+    ensures { HasTold result V.starts V.takes V.fails V.notes (Some lab.now, watch.old) (Some lab.now, watch.new) }
+{
+    Ok(watch.noticed(notice)?)
+}
+
 /// An event happens, if it does not bring what is lost.
-fn happen<V: Watch>(site: &mut Site, course: &Course, event: &Event<'_>, watch: &mut V) -> Outcome
+fn happen<V: Watch>(
+    site: &mut Site,
+    course: &Course,
+    kind: Step,
+    line: &Line<'_>,
+    watch: &mut V,
+) -> Outcome
     ensures { HasTold result V.starts V.takes V.fails V.notes (Some site.old, watch.old) (Some site.new, watch.new) }
 {
-    course.outages.check_event(event)?;
-    step(site, event, watch)
+    let event = line.event(kind, line.router, line.iface);
+    course.outages.check_event(&event)?;
+    step(site, &event, watch)
+}
+
+/// An event at each interface on a link. Where the link goes down it is cut, and where it comes up it is mended.
+fn happen_at_link<V: Watch>(
+    site: &mut Site,
+    course: &mut Course,
+    kind: Step,
+    line: &Line<'_>,
+    watch: &mut V,
+) -> Outcome
+    ensures { HasTold result V.starts V.takes V.fails V.notes (Some site.old, watch.old) (Some site.new, watch.new) }
+{
+    let events = events_at(course.alloc, site.running(), kind, line)?;
+    if kind != Step::Cost {
+        course.outages.set_cut(line.link, kind == Step::Down)?;
+    }
+    play(site, &line.wave(Ticking::Nobody), &events, watch)
 }
 
 /// A datagram of an outside host, with these bytes, arrives.
@@ -124,8 +159,8 @@ fn go_round<V: Watch>(
 {
     let moments = line.moments(course.alloc)?;
     make_rounds(site, course, &moments, watch)?;
-    course.unheard = site.sent().len();
-    Ok(())
+    course.unheard = site.running().sent().len();
+    tell(site.running(), Notice::Rounds(line.count), watch)
 }
 
 /// Phases are made in a verified network, and what they sent is passed by. After a forged Response there are none.
@@ -143,7 +178,7 @@ fn go_on<V: Watch>(site: &mut Site, course: &mut Course, line: &Line<'_>, watch:
         &course.outages,
         watch,
     )?;
-    course.unheard = site.sent().len();
+    course.unheard = site.running().sent().len();
     Ok(())
 }
 
@@ -158,7 +193,7 @@ fn lose<V: Watch>(lab: &Network, course: &mut Course, datagram: usize, watch: &m
         return Err(Stop::Refused(Refusal::DatagramLost));
     }
     course.outages.lose(datagram)?;
-    Ok(watch.lost(datagram)?)
+    tell(lab, Notice::Lost(datagram), watch)
 }
 
 /// A line that prints routes.
@@ -172,7 +207,7 @@ fn show_routes<V: Watch>(
     ensures there { OnOk result (IfSome router (λ r. r < length lab.now.network)) }
 {
     check_router(lab, router)?;
-    Ok(watch.routes_asked(lab, &Choice { router, prefix })?)
+    tell(lab, Notice::Routes(lab, Choice { router, prefix }), watch)
 }
 
 /// A line that prints datagrams.
@@ -181,7 +216,7 @@ fn show_sent<V: Watch>(lab: &Network, asked: Option<usize>, watch: &mut V) -> Ou
     ensures there { OnOk result (IfSome asked (λ datagram. datagram < length lab.now.world.sent)) }
 {
     check_datagram(lab, asked)?;
-    Ok(watch.datagrams_asked(lab, asked)?)
+    tell(lab, Notice::Datagrams(lab, asked), watch)
 }
 
 /// A line that expects something of a table.
@@ -203,7 +238,7 @@ fn show_way<V: Watch>(lab: &Network, course: &Course, line: &Line<'_>, watch: &m
     ensures { HasTold result V.starts V.takes V.fails V.notes (Some lab.now, watch.old) (Some lab.now, watch.new) }
 {
     let way = Way::of(lab, &course.outages, line.router, line.addr)?;
-    Ok(watch.way_asked(&way)?)
+    tell(lab, Notice::Way(way), watch)
 }
 
 /// A line that expects what becomes of packets.
@@ -228,23 +263,15 @@ fn set_silent(lab: &Network, course: &mut Course, router: usize, silent: bool) -
     if router >= lab.routers() {
         return Err(Stop::from(LabError::NoSuchRouter));
     }
-    match course.outages.set_silent(router, silent) {
-        Ok(()) => Ok(()),
-        Err(error) => Err(Stop::from(error)),
-    }
+    Ok(course.outages.set_silent(router, silent)?)
 }
 
 /// A link is cut from now on, or no longer.
-fn set_cut(lab: &Network, course: &mut Course, link: u16, cut: bool) -> Outcome
-    ensures { OnOk result (course.new.outages.cut.items ≡ with_member cut link course.old.outages.cut.items) }
+fn set_cut(lab: &Network, course: &mut Course, line: &Line<'_>, cut: bool) -> Outcome
+    ensures { OnOk result (course.new.outages.cut.items ≡ with_member cut line.entry.now.link course.old.outages.cut.items) }
 {
-    if !has_link(lab, link) {
-        return Err(Stop::Refused(Refusal::NoSuchLink));
-    }
-    match course.outages.set_cut(link, cut) {
-        Ok(()) => Ok(()),
-        Err(error) => Err(Stop::from(error)),
-    }
+    let _ = events_at(course.alloc, lab, Step::Down, line)?;
+    Ok(course.outages.set_cut(line.link, cut)?)
 }
 
 /// There is such a router, if one is named.
@@ -269,12 +296,22 @@ fn check_datagram(lab: &Network, datagram: Option<usize>) -> Outcome
     }
 }
 
-/// Whether an interface is on the link.
-fn has_link(lab: &Network, link: u16) -> bool {
-    for router in 0..lab.routers() {
-        if (0..INTERFACE_LIMIT).any(|iface| lab.link(router, iface) == Some(link)) {
-            return true;
+/// An event at each interface on the link of a line, by router and interface; `NoSuchLink` if none is on it.
+fn events_at(
+    alloc: Global,
+    lab: &Network,
+    kind: Step,
+    line: &Line<'_>,
+) -> Result<Vec<Event<'static>>, Stop> {
+    let mut events = Vec::new(alloc);
+    for place in 0..lab.routers().saturating_mul(INTERFACE_LIMIT) {
+        let (router, iface) = (place / INTERFACE_LIMIT, place % INTERFACE_LIMIT);
+        if lab.link(router, iface) == Some(line.link) {
+            events.push(line.event(kind, router, iface))?;
         }
     }
-    false
+    if events.is_empty() {
+        return Err(Stop::Refused(Refusal::NoSuchLink));
+    }
+    Ok(events)
 }

@@ -26,6 +26,8 @@ pub enum Listed {
 #[derive(Clone, Copy, Debug, PartialEq, Eq)]
 pub enum Action {
     Step(Step),
+    /// At each interface on a link.
+    AtLink(Step),
     Arrive,
     Ask,
     Tell,
@@ -57,6 +59,8 @@ pub enum Step {
     Tick,
     Restart,
     Shutdown,
+    Down,
+    Up,
     Cost,
     Gain,
     Drop,
@@ -64,7 +68,7 @@ pub enum Step {
 
 /// The forms. A word in capitals is a part, and `..` at the end repeats K. If a line leaves several forms at the same word, the first
 /// is the one that a hint names.
-pub const FORMS: [(&str, Verb); 45] = [
+pub const FORMS: [(&str, Verb); 48] = [
     ("router NAME", Verb::List(Listed::Router)),
     ("router quiet NAME", Verb::List(Listed::QuietRouter)),
     ("router quiet", Verb::List(Listed::QuietRouter)),
@@ -102,6 +106,9 @@ pub const FORMS: [(&str, Verb); 45] = [
     ("speaks R", Verb::Act(Action::Speak)),
     ("cut LINK", Verb::Act(Action::Cut)),
     ("mend LINK", Verb::Act(Action::Mend)),
+    ("down LINK NOW", Verb::Act(Action::AtLink(Step::Down))),
+    ("up LINK NOW", Verb::Act(Action::AtLink(Step::Up))),
+    ("costs LINK NOW COST", Verb::Act(Action::AtLink(Step::Cost))),
     ("lose N", Verb::Act(Action::Lose)),
     ("print R PREFIX", Verb::Act(Action::PrintRoute)),
     ("print R", Verb::Act(Action::PrintRouter)),

@@ -3,12 +3,13 @@
 use crate::forms::{BadLine, FORMS, Wrong, first_word, meaning, part_at, words_of_form};
 use crate::listing::fault_of;
 use crate::printer::{Ending, Printer};
-use crate::script::{watched, words_of};
+use crate::script::{watched, words_in};
 use crate::stop::Refusal;
 use ripng_world::LabError;
+use router_core::ReconfigureRefused;
 use std::alloc::{AllocError, Global};
+use std::fmt;
 use std::io::{self, Write};
-use std::{fmt, str};
 use strsim::levenshtein;
 
 /// A first word is near another if at most this many letters differ.
@@ -42,7 +43,7 @@ pub fn lab_hinted<W: Write, E: Write>(
 ) -> io::Result<bool> {
     let mut printer = Printer::new(alloc, out);
     let done = watched(alloc, script, &mut printer)?;
-    if let Some(ending) = printer.ending() {
+    if let Some(ending) = printer.ending {
         let _ = write_hint(alloc, script, &ending, err);
     }
     Ok(done)
@@ -69,7 +70,8 @@ pub fn hint_of<'a>(
     script: &'a [u8],
     ending: &Ending,
 ) -> Result<Option<(usize, Hint<'a>)>, AllocError> {
-    let line = line_at(script, ending.line);
+    let mut lines = script.split(|byte| *byte == b'\n');
+    let line = words_in(lines.nth(ending.line.saturating_sub(1)).unwrap_or(&[]));
     let hint = match ending.refusal {
         Refusal::BadLine(why) => hint_of_bad(alloc, line, why)?,
         Refusal::NameTwice => Hint::Text("an earlier router has that name"),
@@ -82,16 +84,41 @@ pub fn hint_of<'a>(
             let fault = fault_of(alloc, script, refused)?;
             return Ok(fault.map(|(line, meaning)| (line, Hint::Text(meaning))));
         }
-        Refusal::Event(LabError::NoSuchRouter) => counted(router_count(script), "routers"),
+        Refusal::Event(LabError::NoSuchRouter) => {
+            counted(names_of(alloc, script)?.len(), "routers")
+        }
         Refusal::Event(LabError::NoSuchDatagram) => hint_of_datagram(line, ending),
+        Refusal::Event(why) => Hint::Text(meaning_of(why)),
+        Refusal::Rounds(_) => Hint::Text(
+            "a regular update is not due yet: rounds lie at least 15000 milliseconds apart",
+        ),
         _ => return Ok(None),
     };
     Ok(Some((ending.line, hint)))
 }
 
+/// What is wrong with an event.
+fn meaning_of(why: LabError) -> &'static str {
+    match why {
+        LabError::NoSuchInterface =>
+            "a router's interfaces are numbered from 0, by its iface lines",
+        LabError::OtherLink => "the datagram was sent on another link than that of the interface",
+        LabError::NotAStranger => "the router takes it for a neighbor's: liar forges a Response",
+        LabError::NotALiar => "the router refuses it: liar is for a Response that it accepts",
+        LabError::ReconfigureRefused(change) => match change {
+            ReconfigureRefused::BadCost => "COST is a number from 1 to 15",
+            ReconfigureRefused::PrefixNotAllowed => "PREFIX is neither multicast nor link-local",
+            ReconfigureRefused::AlreadyOwned => "the router owns the prefix already: drop it first",
+            ReconfigureRefused::NotOwned =>
+                "the router owns no such prefix: look at its length too",
+            _ => "the router has no room for one more prefix",
+        },
+        _ => "",
+    }
+}
+
 /// What a malformed line, or one out of place, should have been.
-fn hint_of_bad<'a>(alloc: Global, line: &'a [u8], why: BadLine) -> Result<Hint<'a>, AllocError> {
-    let line = words_of(str::from_utf8(line).unwrap_or(""));
+fn hint_of_bad<'a>(alloc: Global, line: &'a str, why: BadLine) -> Result<Hint<'a>, AllocError> {
     if !line.starts_with("say ")
         && let Some(wrong) = wrong_spacing(line)
     {
@@ -110,14 +137,8 @@ fn hint_of_bad<'a>(alloc: Global, line: &'a [u8], why: BadLine) -> Result<Hint<'
 fn wrong_spacing(line: &str) -> Option<&'static str> {
     if line.starts_with('\u{feff}') {
         Some("it begins with a byte order mark: a script is UTF-8 without one")
-    } else if line.ends_with('\r') {
-        Some("it ends with a carriage return: lines end with a line feed alone")
     } else if line.contains('\t') {
         Some("it has a tab: words are one space apart")
-    } else if line.ends_with(' ') {
-        Some("it ends with a space: nothing comes after its last word")
-    } else if line.starts_with(' ') {
-        Some("it begins with a space: nothing comes before its first word")
     } else if line.contains("  ") {
         Some("it has two spaces in a row: words are one space apart")
     } else {
@@ -144,13 +165,13 @@ fn nearest(alloc: Global, word: &str) -> Result<Option<&'static str>, AllocError
 }
 
 /// How many datagrams there are for a line to name.
-fn hint_of_datagram<'a>(line: &[u8], ending: &Ending) -> Hint<'a> {
-    if line.starts_with(b"hear ") {
+fn hint_of_datagram<'a>(line: &str, ending: &Ending) -> Hint<'a> {
+    if line.starts_with("hear ") {
         return Hint::Text(
             "fewer datagrams are heard: they are counted from 0 for the first that was not passed by yet",
         );
     }
-    if line.starts_with(b"tell ") {
+    if line.starts_with("tell ") {
         return counted(ending.sent_by_line, "datagrams of this tick");
     }
     counted(ending.sent.unwrap_or(0), "datagrams that were sent")
@@ -160,18 +181,20 @@ fn counted<'a>(count: usize, what: &'static str) -> Hint<'a> {
     Hint::Count { count, what }
 }
 
-/// How many routers a script lists.
-fn router_count(script: &[u8]) -> usize {
-    let lines = script.split(|byte| *byte == b'\n');
-    lines
-        .filter(|line| *line == b"router".as_slice() || line.starts_with(b"router "))
-        .count()
-}
-
-/// The line of that number, from 1.
-fn line_at(script: &[u8], number: usize) -> &[u8] {
-    let mut lines = script.split(|byte| *byte == b'\n');
-    lines.nth(number.saturating_sub(1)).unwrap_or(&[])
+/// The name of each router that a script lists, in order; nothing for one without a name.
+///
+/// # Errors
+/// Out of memory.
+pub fn names_of<'a>(alloc: Global, script: &'a [u8]) -> Result<Vec<&'a str>, AllocError> {
+    let mut names = Vec::new(alloc);
+    for line in script.split(|byte| *byte == b'\n') {
+        let words = words_in(line);
+        if first_word(words) == "router" {
+            let name = words.rsplit_once(' ').map_or("", |(_, name)| name);
+            names.push(if name == "quiet" { "" } else { name })?;
+        }
+    }
+    Ok(names)
 }
 
 impl<'a> fmt::Display for Hint<'a> {

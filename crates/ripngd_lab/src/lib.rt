@@ -23,11 +23,12 @@ mod words;
 
 pub use expecting::{Expected, Missed, meet};
 pub use forms::{BadLine, Wrong};
-pub use hints::{Hint, hint_of, lab_hinted};
+pub use hints::{Hint, hint_of, lab_hinted, names_of};
 pub use phase::MadePhases;
+pub use plan::addr_at;
 pub use printer::{Choice, Ending, Printer, print_routes, print_sent};
 pub use script::{lab, watched};
 pub use site::{Network, Routes};
 pub use stop::{Refusal, RefusalName, Unmet};
-pub use watching::Watch;
+pub use watching::{Notice, Watch};
 pub use ways::{Fate, Obstacle, Way};

@@ -21,14 +21,6 @@ const ROUNDS_LIMIT: usize = 1000;
 /// The MTU of an interface whose line has none, in bytes: that of an Ethernet.
 const MTU: u32 = 1500;
 
-/// What asks for the whole table.
-const WHOLE_TABLE: Rte = Rte {
-    addr: 0,
-    tag: 0,
-    len: 0,
-    metric: INFINITY,
-};
-
 /// A line, with a field for each part of the forms. A part that its form lacks is as it is in a new line.
 #[derive(Drop)]
 pub struct Line<'a> {
@@ -252,15 +244,14 @@ impl<'a> Line<'a> {
         }
     }
 
-    /// The event that the line makes happen.
-    pub fn event(&self, step: Step) -> Event<'static> {
-        let router = self.router;
+    /// The event that the line makes happen at an interface of a router.
+    pub fn event(&self, step: Step, router: usize, iface: usize) -> Event<'static> {
         let now = self.now;
         match step {
             Step::Deliver => Event::Deliver {
                 datagram: self.datagram,
                 router,
-                iface: self.iface,
+                iface,
                 now,
             },
             Step::Tick => Event::Tick {
@@ -270,25 +261,27 @@ impl<'a> Line<'a> {
             },
             Step::Restart => Event::Restart { router, now },
             Step::Shutdown => Event::Shutdown { router, now },
-            Step::Cost => self.change(Change::Cost {
-                iface: self.iface,
-                cost: self.cost,
-            }),
-            Step::Gain => self.change(Change::Own {
-                prefix: self.prefix,
-                tag: self.tag,
-            }),
-            Step::Drop => self.change(Change::Disown {
-                prefix: self.prefix,
-            }),
+            Step::Down => Event::LinkDown { router, iface, now },
+            Step::Up => Event::LinkUp { router, iface, now },
+            Step::Cost | Step::Gain | Step::Drop => Event::Reconfigure {
+                router,
+                now,
+                change: self.change(step, iface),
+            },
         }
     }
 
-    fn change(&self, change: Change) -> Event<'static> {
-        Event::Reconfigure {
-            router: self.router,
-            now: self.now,
-            change,
+    fn change(&self, step: Step, iface: usize) -> Change {
+        let Line {
+            cost,
+            prefix,
+            tag,
+            ..
+        } = *self;
+        match step {
+            Step::Cost => Change::Cost { iface, cost },
+            Step::Gain => Change::Own { prefix, tag },
+            _ => Change::Disown { prefix },
         }
     }
 
@@ -355,13 +348,9 @@ impl<'a> Line<'a> {
         }
     }
 
-    /// A Request for the whole table, or for a prefix (RFC 2080, section 2.4.1).
+    /// A Request for the whole table, which is ::/0 with metric 16, or for a prefix (RFC 2080, section 2.4.1).
     pub fn request(&self, alloc: Global) -> Result<Vec<u8>, AllocError> {
-        let entry = if self.asks_all {
-            WHOLE_TABLE
-        } else {
-            self.entry(0)
-        };
-        encode(alloc, Command::Request, &[entry])
+        let metric = if self.asks_all { INFINITY } else { 0 };
+        encode(alloc, Command::Request, &[self.entry(metric)])
     }
 }

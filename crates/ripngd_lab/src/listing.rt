@@ -3,13 +3,12 @@
 use crate::context::Context;
 use crate::forms::{BadLine, Verb};
 use crate::line::read_line;
-use crate::script::words_of;
+use crate::script::words_in;
 use crate::stop::Outcome;
 use prefix6::{Addr6, Prefix};
 use ripng_world::{NetConfig, NetInterface, NetRefused, Node};
 use router_core::ConfigRefused;
 use std::alloc::{AllocError, Global};
-use std::str;
 
 /// A part of a network.
 #[derive(Clone, Copy, Debug, PartialEq, Eq)]
@@ -101,8 +100,7 @@ fn all_listed(alloc: Global, script: &[u8]) -> Result<Vec<(usize, Listing)>, All
     let mut context = Context::new(alloc);
     let mut all = Vec::new(alloc);
     for (place, text) in script.split(|byte| *byte == b'\n').enumerate() {
-        let words = words_of(str::from_utf8(text).unwrap_or(""));
-        if let Ok(line) = read_line(words, &mut context) {
+        if let Ok(line) = read_line(words_in(text), &mut context) {
             match line.verb {
                 Verb::List(listed) => all.push((place.saturating_add(1), line.listing(listed)))?,
                 Verb::Start => break,

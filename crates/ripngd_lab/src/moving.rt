@@ -118,10 +118,10 @@ pub fn make_wave<V: Watch>(
 ) -> Outcome
     ensures { HasTold result V.starts V.takes V.fails V.notes (Some site.old, watch.old) (Some site.new, watch.new) }
 {
-    let first = wave.first(course.unheard, site.sent().len());
-    let ticks = wave.ticks(course.alloc, site.routers(), &course.outages)?;
+    let first = wave.first(course.unheard, site.running().sent().len());
+    let ticks = wave.ticks(course.alloc, site.running().routers(), &course.outages)?;
     play(site, wave, &ticks, watch)?;
-    course.unheard = site.sent().len();
+    course.unheard = site.running().sent().len();
     deliver(site, course, wave, first, watch)
 }
 
@@ -135,7 +135,7 @@ fn deliver<V: Watch>(
 ) -> Outcome
     ensures { HasTold result V.starts V.takes V.fails V.notes (Some site.old, watch.old) (Some site.new, watch.new) }
 {
-    let end = site.sent().len();
+    let end = site.running().sent().len();
     wave.check_lost(end.saturating_sub(first))?;
     for datagram in first..end {
         let events = wave.deliveries(course, site.running(), first, datagram)?;
@@ -145,7 +145,7 @@ fn deliver<V: Watch>(
 }
 
 /// Events of a wave happen, one after another.
-fn play<V: Watch>(
+pub fn play<V: Watch>(
     site: &mut Site,
     wave: &Wave<'_>,
     events: &[Event<'static>],

@@ -10,7 +10,7 @@ use crate::moving::run_phases;
 use crate::outages::Outages;
 use crate::site::{Network, Routes};
 use crate::stop::{Outcome, Refusal, Stop};
-use crate::watching::Watch;
+use crate::watching::{Notice, Watch};
 use rand_core::SeedableRng;
 use rand_pcg::Pcg32;
 use ripng_world::Lab;
@@ -88,5 +88,5 @@ pub fn make_phases<V: Watch>(
     }
     let mut rng = Pcg32::seed_from_u64(seed);
     let last = run_phases(alloc, lab, phases, &mut rng, watch)?;
-    Ok(watch.phases_made(&MadePhases { phases, last })?)
+    Ok(watch.noticed(Notice::Phases(MadePhases { phases, last }))?)
 }

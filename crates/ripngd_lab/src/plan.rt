@@ -13,8 +13,8 @@ use crate::outages::Outages;
 use crate::site::Network;
 use crate::stop::{Outcome, Stop};
 use prefix6::Addr6;
-use ripng_world::{Event, LabError, RoundsRefused, Sent};
-use route_table::Moment;
+use ripng_world::{Event, LabError, RoundsRefused, Running, Sent};
+use route_table::{Moment, RouteStore};
 use router_core::{Destination, INTERFACE_LIMIT};
 use std::alloc::{AllocError, Global};
 
@@ -239,14 +239,11 @@ fn is_meant(lab: &Network, to: Destination, router: usize, iface: usize) -> bool
 }
 
 /// The address of an interface, if the network has it.
-fn addr_at(lab: &Network, router: usize, iface: usize) -> Option<Addr6>
+pub fn addr_at<S: RouteStore>(lab: &Running<S>, router: usize, iface: usize) -> Option<Addr6>
     ensures { result ≡ addr_at lab.now router iface }
 {
-    match lab.router(router) {
-        Some(router) => match router.config().interfaces().get(iface).copied() {
-            Some(interface) => Some(interface.addr),
-            None => None,
-        },
+    match lab.router(router)?.config().interfaces().get(iface) {
+        Some(interface) => Some(interface.addr),
         None => None,
     }
 }

@@ -2,11 +2,9 @@
 
 ghost use Rattle.std.specs.Prelude.{⊤};
 
-use crate::phase::MadePhases;
 use crate::site::{Network, Routes};
-use crate::stop::{Refusal, Unmet};
-use crate::watching::Watch;
-use crate::ways::Way;
+use crate::stop::Refusal;
+use crate::watching::{Notice, Watch};
 use prefix6::Prefix;
 use ripng_world::{Event, Sent};
 use route_table::{Moment, Origin, Route, RouteStore};
@@ -15,16 +13,13 @@ use std::alloc::Global;
 use std::io::{self, Write};
 
 /// Prints the routes and the datagrams that lines ask for, and the line that is refused or expects what is not so. Of events it
-/// says nothing; it counts the datagrams that they send.
+/// says nothing.
 #[derive(Drop)]
 pub struct Printer<'a, W: Write> {
     alloc: Global,
     line: usize,
-    refused: Option<Refusal>,
-    /// How many datagrams were sent, once the routers have started.
-    sent: Option<usize>,
-    /// How many were sent before the line.
-    sent_before: usize,
+    /// How a refused line has ended the script, if one has.
+    pub ending: Option<Ending>,
     out: &'a mut W,
 }
 
@@ -47,21 +42,9 @@ impl<'a, W: Write> Printer<'a, W> {
         Printer {
             alloc,
             line: 0,
-            refused: None,
-            sent: None,
-            sent_before: 0,
+            ending: None,
             out,
         }
-    }
-
-    /// How a refused line has ended the script, if one has.
-    pub fn ending(&self) -> Option<Ending> {
-        Some(Ending {
-            line: self.line,
-            refusal: self.refused?,
-            sent: self.sent,
-            sent_by_line: self.sent.unwrap_or(0).saturating_sub(self.sent_before),
-        })
     }
 }
 
@@ -74,12 +57,11 @@ impl<'a, W: Write> ripng_world::Observer<Routes> for Printer<'a, W> {
 
     fn happened(
         &mut self,
-        lab: &Network,
+        _lab: &Network,
         _event: &Event<'_>,
         _answer: &Answer,
         _first: usize,
     ) -> io::Result<()> {
-        self.sent = Some(lab.sent().len());
         Ok(())
     }
 }
@@ -91,57 +73,37 @@ impl<'a, W: Write> Watch for Printer<'a, W> {
 
     fn at_line(&mut self, number: usize) {
         self.line = number;
-        self.sent_before = self.sent.unwrap_or(0);
     }
 
-    fn started(&mut self, lab: &Network, _now: Moment) -> io::Result<()> {
-        self.sent = Some(lab.sent().len());
+    fn started(&mut self, _lab: &Network, _now: Moment) -> io::Result<()> {
         Ok(())
     }
 
     fn lied(
         &mut self,
-        running: &Network,
+        _running: &Network,
         _router: usize,
         _arrival: &Arrival<'_>,
         _answer: &Answer,
         _first: usize,
     ) -> io::Result<()> {
-        self.sent = Some(running.sent().len());
         Ok(())
     }
 
-    fn routes_asked(&mut self, lab: &Network, choice: &Choice) -> io::Result<()> {
-        print_routes(lab, choice, self.out)
-    }
-
-    fn datagrams_asked(&mut self, lab: &Network, asked: Option<usize>) -> io::Result<()> {
-        print_sent(self.alloc, lab, asked, self.out)
-    }
-
-    fn way_asked(&mut self, way: &Way) -> io::Result<()> {
-        writeln!(self.out, "{way}")
-    }
-
-    fn said(&mut self, text: &str) -> io::Result<()> {
-        writeln!(self.out, "{text}")
-    }
-
-    fn lost(&mut self, _datagram: usize) -> io::Result<()> {
-        Ok(())
-    }
-
-    fn phases_made(&mut self, made: &MadePhases) -> io::Result<()> {
-        writeln!(self.out, "{made}")
-    }
-
-    fn refused(&mut self, why: &Refusal) -> io::Result<()> {
-        self.refused = Some(*why);
-        writeln!(self.out, "line {} refused {why}", self.line)
-    }
-
-    fn unmet(&mut self, unmet: &Unmet) -> io::Result<()> {
-        writeln!(self.out, "line {} {unmet}", self.line)
+    fn noticed(&mut self, notice: Notice<'_>) -> io::Result<()> {
+        match notice {
+            Notice::Routes(lab, choice) => print_routes(lab, &choice, self.out),
+            Notice::Datagrams(lab, asked) => print_sent(self.alloc, lab, asked, self.out),
+            Notice::Way(way) => writeln!(self.out, "{way}"),
+            Notice::Said(text) => writeln!(self.out, "{text}"),
+            Notice::Lost(_) | Notice::Rounds(_) => Ok(()),
+            Notice::Phases(made) => writeln!(self.out, "{made}"),
+            Notice::Refused(ending) => {
+                self.ending = Some(ending);
+                writeln!(self.out, "line {} refused {}", self.line, ending.refusal)
+            }
+            Notice::Unmet(unmet) => writeln!(self.out, "line {} {unmet}", self.line),
+        }
     }
 }
 

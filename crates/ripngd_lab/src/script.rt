@@ -8,7 +8,7 @@ use crate::forms::BadLine;
 use crate::printer::Printer;
 use crate::session::Session;
 use crate::stop::{Outcome, RefusalName, Stop, Unmet};
-use crate::watching::Watch;
+use crate::watching::{Notice, Watch};
 use std::alloc::Global;
 use std::io::{self, Write};
 use std::str;
@@ -43,11 +43,11 @@ pub fn watched<V: Watch>(alloc: Global, script: &[u8], watch: &mut V) -> io::Res
         match run_line(alloc, &mut session, line, watch) {
             Ok(()) => {}
             Err(Stop::Refused(refusal)) => {
-                watch.refused(&refusal)?;
+                watch.noticed(Notice::Refused(session.ending(number, refusal)))?;
                 return Ok(false);
             }
             Err(Stop::Unmet(unmet)) => {
-                watch.unmet(&unmet)?;
+                watch.noticed(Notice::Unmet(unmet))?;
                 return Ok(false);
             }
             Err(Stop::Failed(error)) => return Err(error),
@@ -66,26 +66,28 @@ fn first_line(text: &[u8]) -> (&[u8], Option<&[u8]>)
     }
 }
 
-/// An empty line, or a remark.
-fn is_skipped(line: &[u8]) -> bool {
-    line.is_empty() || line.starts_with(b"#")
-}
-
-/// A line without the remark after its words, and without the spaces before that.
-pub fn words_of(text: &str) -> &str {
+/// The words of a line, without the blanks around them and without a remark; of `say` all but a carriage return at its end.
+fn words_of(text: &str) -> &str {
+    let text = text.trim_ascii_start();
     if text.starts_with("say ") {
-        return text;
+        return text.trim_end_matches('\r');
     }
     match text.split_once(" #") {
-        Some((words, _)) => words.trim_end_matches(' '),
-        None => text,
+        _ if text.starts_with('#') => "",
+        Some((words, _)) => words.trim_ascii_end(),
+        None => text.trim_ascii_end(),
     }
+}
+
+/// The same of bytes: nothing of what is no text.
+pub fn words_in(line: &[u8]) -> &str {
+    words_of(str::from_utf8(line).unwrap_or(""))
 }
 
 fn run_line<V: Watch>(alloc: Global, session: &mut Session, line: &[u8], watch: &mut V) -> Outcome
     ensures { HasTold result V.starts V.takes V.fails V.notes (lab_in session.old.stage, watch.old) (lab_in session.new.stage, watch.new) }
 {
-    if is_skipped(line) {
+    if line.starts_with(b"#") {
         return Ok(());
     }
     let text = str::from_utf8(line).map_err(|_| BadLine::NoText)?;

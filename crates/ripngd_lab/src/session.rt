@@ -11,8 +11,9 @@ use crate::line::{Line, read_line};
 use crate::listing::list;
 use crate::moving::lie_at;
 use crate::phase::latest_moment;
+use crate::printer::Ending;
 use crate::site::{Routes, Site};
-use crate::stop::{Outcome, RefusalName, Stop};
+use crate::stop::{Outcome, Refusal, RefusalName, Stop};
 use crate::watching::Watch;
 use ripng_world::{Lab, NetConfig, Node};
 use route_table::Moment;
@@ -67,7 +68,7 @@ impl Session {
         ensures { self.new.stage ≡ self.old.stage }
     {
         if let Stage::Running(lab) = &self.stage {
-            self.context.sent = lab.sent().len();
+            self.context.sent = lab.running().sent().len();
             self.context.latest = latest_moment(lab.running());
         }
         read_line(words, &mut self.context)
@@ -78,6 +79,20 @@ impl Session {
         ensures { self.new.stage ≡ self.old.stage }
     {
         self.course.awaited.take()
+    }
+
+    /// How the script ends at a line that is refused.
+    pub fn ending(&self, line: usize, refusal: Refusal) -> Ending {
+        let sent = match &self.stage {
+            Stage::Running(site) => Some(site.running().sent().len()),
+            Stage::Listing(_) => None,
+        };
+        Ending {
+            line,
+            refusal,
+            sent,
+            sent_by_line: sent.unwrap_or(0).saturating_sub(self.context.sent),
+        }
     }
 
     /// Does what a line says.

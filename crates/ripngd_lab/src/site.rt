@@ -5,7 +5,7 @@ ghost use Rattle.ripng_world.specs.Events.{event_of};
 ghost use Rattle.ripng_world.specs.Labs.{HappensGiving};
 ghost use Rattle.ripng_world.specs.Watching.{WatchedInPart, failures};
 
-use ripng_world::{Event, Lab, LabError, Observer, Running, Sent, Stopped};
+use ripng_world::{Event, Lab, LabError, Observer, Running, Stopped};
 use route_table::SortedRoutes;
 use router_core::Answer;
 use std::marker::Model;
@@ -79,20 +79,6 @@ impl Site {
             Held::Lawful(lab) => lab.running(),
             Held::Lied(running) => running,
         }
-    }
-
-    /// How many routers the network has.
-    pub fn routers(&self) -> usize
-        ensures { result ≡ length self.now.network }
-    {
-        self.running().routers()
-    }
-
-    /// All datagrams ever sent, numbered from 0.
-    pub fn sent(&self) -> &[Sent]
-        ensures { result.now ≡ self.now.world.sent }
-    {
-        self.running().sent()
     }
 
     /// An event happens, and the observer is notified of it, with the router's output.

@@ -3,16 +3,40 @@
 ghost use Rattle.std.specs.Prelude.{ℕ, OnErr, OnOk};
 ghost use Rattle.ripng_world.specs.Labs.{LabValue};
 ghost use Rattle.ripng_world.specs.World.{Stranger};
-ghost use Rattle.ripngd_lab.specs.Asides.{Aside, Broken, CountsPhases, Lie, NextLine, Prints};
+ghost use Rattle.ripngd_lab.specs.Asides.{Aside, Broken, Lie, NextLine};
+ghost use Rattle.ripngd_lab.specs.Notices.{aside_of};
 
 use crate::phase::MadePhases;
-use crate::printer::Choice;
+use crate::printer::{Choice, Ending};
 use crate::site::{Network, Routes};
-use crate::stop::{Refusal, Unmet};
+use crate::stop::Unmet;
 use crate::ways::Way;
 use route_table::Moment;
 use router_core::{Answer, Arrival};
 use std::io;
+
+/// What a line did, beside events.
+#[derive(Drop)]
+pub enum Notice<'a> {
+    /// `print` asks for these routes.
+    Routes(&'a Network, Choice),
+    /// `sent` asks for the datagram of that number, or for all.
+    Datagrams(&'a Network, Option<usize>),
+    /// `path`: where packets go.
+    Way(Way),
+    /// `say`: its text.
+    Said(&'a str),
+    /// `lose`: the datagram of this number is lost.
+    Lost(usize),
+    /// `rounds`: so many were made.
+    Rounds(usize),
+    /// `phases`: how many were made, and in which of them tables last changed.
+    Phases(MadePhases),
+    /// The line is refused, and ends the script.
+    Refused(Ending),
+    /// The line expects what is not so, and ends the script.
+    Unmet(Unmet),
+}
 
 /// An observer of a script. It is notified of each thing as soon as that is done, in order; of events as an observer of the network.
 pub trait Watch: ripng_world::Observer<Routes, Fault = io::Error> {
@@ -47,43 +71,8 @@ pub trait Watch: ripng_world::Observer<Routes, Fault = io::Error> {
         ensures notes { OnOk result (notes self.old (Lie (record { lab = running.now; event = Stranger router arrival.entry.now; answer = answer.now; first = first })) self.new) }
         ensures broken { OnErr result (notes self.old Broken self.new) };
 
-    /// The line `print`: which routes it asks for.
-    fn routes_asked(&mut self, lab: &Network, choice: &Choice) -> io::Result<()>
-        ensures notes { OnOk result (notes self.old Prints self.new) }
-        ensures broken { OnErr result (notes self.old Broken self.new) };
-
-    /// The line `sent`: the number of the datagram that it asks for, if not for all.
-    fn datagrams_asked(&mut self, lab: &Network, asked: Option<usize>) -> io::Result<()>
-        ensures notes { OnOk result (notes self.old Prints self.new) }
-        ensures broken { OnErr result (notes self.old Broken self.new) };
-
-    /// The line `path`: where packets go.
-    fn way_asked(&mut self, way: &Way) -> io::Result<()>
-        ensures notes { OnOk result (notes self.old Prints self.new) }
-        ensures broken { OnErr result (notes self.old Broken self.new) };
-
-    /// The line `say`: its text.
-    fn said(&mut self, text: &str) -> io::Result<()>
-        ensures notes { OnOk result (notes self.old Prints self.new) }
-        ensures broken { OnErr result (notes self.old Broken self.new) };
-
-    /// The line `lose`: the datagram of this number is lost.
-    fn lost(&mut self, datagram: usize) -> io::Result<()>
-        ensures notes { OnOk result (notes self.old Prints self.new) }
-        ensures broken { OnErr result (notes self.old Broken self.new) };
-
-    /// The line `phases`: how many were made, and in which of them tables last changed.
-    fn phases_made(&mut self, made: &MadePhases) -> io::Result<()>
-        ensures notes { OnOk result (notes self.old (CountsPhases made.now.phases made.now.last) self.new) }
-        ensures broken { OnErr result (notes self.old Broken self.new) };
-
-    /// The line is refused, and ends the script.
-    fn refused(&mut self, why: &Refusal) -> io::Result<()>
-        ensures notes { OnOk result (notes self.old Prints self.new) }
-        ensures broken { OnErr result (notes self.old Broken self.new) };
-
-    /// The line expects what is not so, and ends the script.
-    fn unmet(&mut self, unmet: &Unmet) -> io::Result<()>
-        ensures notes { OnOk result (notes self.old Prints self.new) }
+    /// A line did this, beside events.
+    fn noticed(&mut self, notice: Notice<'_>) -> io::Result<()>
+        ensures notes { OnOk result (notes self.old (aside_of notice.entry) self.new) }
         ensures broken { OnErr result (notes self.old Broken self.new) };
 }

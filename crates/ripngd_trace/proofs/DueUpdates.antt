@@ -12,7 +12,7 @@ use Rattle.router_core.specs.Machine.{State, is_regular_due, is_triggered_due, t
 use Rattle.router_core.specs.Timers.{next_hold, next_regular}
 use Rattle.router_core.specs.declared.answer.Answer.{Answer}
 use Rattle.ripng_world.specs.Network.{Network}
-use Rattle.ripng_world.specs.World.{World, Event, Deliver, Stranger, Tick, Restart, Shutdown, LinkDown, Reconfigure, Happens}
+use Rattle.ripng_world.specs.World.{World, Event, Deliver, Stranger, Tick, Restart, Shutdown, LinkDown, LinkUp, Reconfigure, Happens}
 use Rattle.ripng_world.proofs.WorldRuns.{get_map}
 use Rattle.ripngd_trace.proofs.Getting.{get_here}
 use Rattle.ripngd_trace.specs.Reading.{known_of}
@@ -87,6 +87,7 @@ update_told net w (Stranger router x) answer mid happens update tells = tells
 update_told net w (Restart router now) answer mid happens update tells = tells
 update_told net w (Shutdown router now) answer mid happens update tells = tells
 update_told net w (LinkDown router now iface) answer mid happens update tells = tells
+update_told net w (LinkUp router now iface) answer mid happens update tells = tells
 update_told net w (Reconfigure router now c) answer mid happens update tells = tells
 update_told net w (Tick router now word) answer mid happens update tells =
     tells (known_as happens.old) happens.new

@@ -3,13 +3,13 @@ use Rattle.std.proofs.Common.{◌≡◌, ◌⊎◌, inl, inr, ℕ, Bool, true, f
 use Rattle.std.specs.FinMap as map_of
 use Rattle.std.proofs.lemmas.List.{map-set}
 use Rattle.route_table.specs.Table.{Table}
-use Rattle.router_core.specs.Machine.{State, Happening, Arrives, Ticks, Restarts, ShutsDown, LinkGoesDown, Reconfigures}
+use Rattle.router_core.specs.Machine.{State, Happening, Arrives, Ticks, Restarts, ShutsDown, LinkGoesDown, LinkComesUp, Reconfigures}
 use Rattle.router_core.specs.declared.answer.Answer.{Answer}
 use Rattle.ripng_world.specs.Network.{Network}
 use Rattle.ripng_world.specs.Rounds.{router_of}
 use Rattle.ripng_world.specs.Labs.{LabValue}
 use Rattle.ripng_world.specs.Watching.{Told, telling}
-use Rattle.ripng_world.specs.World.{World, Event, Deliver, Stranger, Tick, Restart, Shutdown, LinkDown, Reconfigure, Happens, RouterMoves, arrival_of}
+use Rattle.ripng_world.specs.World.{World, Event, Deliver, Stranger, Tick, Restart, Shutdown, LinkDown, LinkUp, Reconfigure, Happens, RouterMoves, arrival_of}
 use Rattle.ripng_world.proofs.WorldRuns.{get_map}
 use Rattle.ripngd_lab.specs.Asides.{Aside, NextLine, Prints, CountsPhases, Lie, Broken}
 use Rattle.ripngd_lab.specs.ScriptWatching.{Telling, Starts, Does, Turns, Notes, Counts, Deceives, TellsAll, FailsAtRest, FailsAtEvent, FailsAtLie, IsToldUntil, StartsAt}
@@ -39,6 +39,7 @@ moved net w (Tick router now word) answer w' h = (Ticks now word, h)
 moved net w (Restart router now) answer w' h = (Restarts now, h)
 moved net w (Shutdown router now) answer w' h = (ShutsDown now, h)
 moved net w (LinkDown router now iface) answer w' h = (LinkGoesDown now iface, h)
+moved net w (LinkUp router now iface) answer w' h = (LinkComesUp now iface, h)
 moved net w (Reconfigure router now c) answer w' h = (Reconfigures now c, h)
 
 of_some : {X : Type 0} (o : Option X) (x : X) (P : X → Type 0) → o ≡ Some x → IfSome o P → P x
@@ -118,6 +119,7 @@ started_itself line lab now r t =
 printed_words : (a : Action) → IsPrinted a → HasWord a
 printed_words (action.Prints word lines text) is = is
 printed_words (action.Loses datagram) is = tt
+printed_words (action.GoesRound rounds last) is = tt
 printed_words (action.Makes phases last) is = tt
 printed_words (action.Ends how why hint) is = tt
 

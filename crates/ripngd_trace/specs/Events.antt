@@ -1,5 +1,5 @@
 -- What the record of an event says: of the event, of the answer, and of what was sent.
-use Rattle.std.specs.Prelude.{◌≡◌, ℕ, Bool, List, drop, map, Option, None, option_map, option_and_then, slice_get}
+use Rattle.std.specs.Prelude.{◌≡◌, ℕ, Bool, List, drop, map, Option, None, option_map, slice_get}
 use Rattle.std.specs.List.{enumerate_from}
 use Rattle.ripng_world.specs.Events.{event_of}
 use Rattle.ripng_world.specs.Labs.{LabValue}
@@ -7,14 +7,11 @@ use Rattle.ripng_world.specs.Rounds.{moment_of, router_of}
 use Rattle.ripng_world.specs.Watching.{Told}
 use Rattle.ripng_world.specs.World.{Event, Deliver}
 use Rattle.ripng_world.specs.declared.sent.Sent.{Sent}
+use Rattle.ripngd_lab.specs.Plans.{addr_at}
 use Rattle.ripngd_trace.specs.Records.{timers_in}
 use Rattle.ripngd_trace.specs.declared.records.EventRecord.{EventRecord}
 use Rattle.ripngd_trace.specs.declared.records.SenderRecord.{SenderRecord}
 use Rattle.ripngd_trace.specs.declared.records.SentRecord.{SentRecord}
-
--- the address that an interface of a router has
-abbrev pub addr_at : LabValue → ℕ → ℕ → Option ℕ
-addr_at lab router iface = option_and_then (λ s. option_map (λ i. i.addr) (slice_get s.config.interfaces iface)) (slice_get lab.world.states router)
 
 -- who sent a datagram, and from where, if it was sent
 abbrev pub sender_of : LabValue → ℕ → Option SenderRecord

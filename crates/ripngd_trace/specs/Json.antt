@@ -24,7 +24,7 @@ use Rattle.router_core.specs.declared.arrival.Fault.{Fault}
 use Rattle.router_core.specs.declared.reconfiguring.Change.{Change}
 use Rattle.router_core.specs.declared.reconfiguring.Change.TheVariants.{Cost, Own, Disown}
 use Rattle.ripng_world.specs.Events.{event_of}
-use Rattle.ripng_world.specs.World.{Event, Deliver, Stranger, Tick, Restart, Shutdown, LinkDown, Reconfigure}
+use Rattle.ripng_world.specs.World.{Event, Deliver, Stranger, Tick, Restart, Shutdown, LinkDown, LinkUp, Reconfigure}
 use Rattle.ripngd_trace.specs.declared.records.Action.{Action}
 use Rattle.ripngd_trace.specs.declared.records.Action.TheVariants as action
 use Rattle.ripngd_trace.specs.declared.records.AsideRecord.{AsideRecord}
@@ -189,6 +189,7 @@ json_by_event (Tick router now word) is_forged sender = happened_as (codes "tick
 json_by_event (Restart router now) is_forged sender = happened_as (codes "restart") []
 json_by_event (Shutdown router now) is_forged sender = happened_as (codes "shutdown") []
 json_by_event (LinkDown router now iface) is_forged sender = happened_as (codes "link_down") ((codes "iface", number_of iface) ∷ [])
+json_by_event (LinkUp router now iface) is_forged sender = happened_as (codes "link_up") ((codes "iface", number_of iface) ∷ [])
 json_by_event (Reconfigure router now c) is_forged sender = json_of_reconfigured c
 
 unfoldable pub json_of_happened : Happened → Json
@@ -293,6 +294,7 @@ json_of_hint r = object_of ((codes "line", number_of r.line) ∷ (codes "text", 
 abbrev pub json_by_action : ℕ → Action → Json
 json_by_action line (action.Prints word lines text) = record_as line word.now ((codes "prints", list_of (λ text. string text.now) lines.items) ∷ [])
 json_by_action line (action.Loses datagram) = record_as line (codes "lost") ((codes "datagram", number_of datagram) ∷ [])
+json_by_action line (action.GoesRound rounds last) = record_as line (codes "rounds") ((codes "rounds", number_of rounds) ∷ (codes "last", option_of number_of last) ∷ [])
 json_by_action line (action.Makes phases last) = record_as line (codes "phases") ((codes "phases", number_of phases) ∷ (codes "last", option_of number_of last) ∷ [])
 json_by_action line (action.Ends how why hint) = record_as line (codes "refused") ((codes "why", string why.now) ∷ (codes "hint", option_of json_of_hint hint) ∷ [])
 

@@ -14,7 +14,7 @@ use Rattle.router_core.specs.declared.answer.Note.{Note}
 use Rattle.ripng_world.specs.Labs.{LabValue}
 use Rattle.ripng_world.specs.World.{Event, Deliver, is_to_group}
 use Rattle.ripng_world.specs.declared.sent.Sent.{Sent}
-use Rattle.ripngd_trace.specs.Events.{addr_at}
+use Rattle.ripngd_lab.specs.Plans.{addr_at}
 use Rattle.ripngd_trace.specs.declared.known.KnownRouter.{KnownRouter}
 use Rattle.ripngd_trace.specs.declared.records.OfferRecord.{OfferRecord}
 

@@ -19,7 +19,7 @@ use Rattle.ripngd_trace.specs.Starting.{TellsStart}
 use Rattle.ripngd_trace.specs.Updates.{due_at}
 use Rattle.ripngd_trace.specs.declared.known.KnownRouter.{KnownRouter}
 use Rattle.ripngd_trace.specs.declared.records.Action.{Action}
-use Rattle.ripngd_trace.specs.declared.records.Action.TheVariants.{Prints, Loses, Makes, Ends}
+use Rattle.ripngd_trace.specs.declared.records.Action.TheVariants.{Prints, Loses, GoesRound, Makes, Ends}
 use Rattle.ripngd_trace.specs.declared.records.AsideRecord.{AsideRecord}
 use Rattle.ripngd_trace.specs.declared.records.EventRecord.{EventRecord}
 use Rattle.ripngd_trace.specs.declared.records.StartRecord.{StartRecord}
@@ -70,6 +70,7 @@ IsPrintWord word = (word ≡ codes "print") ⊎ ((word ≡ codes "sent") ⊎ ((w
 abbrev pub HasWord : Action → Type 0
 HasWord (Prints word lines text) = IsPrintWord word.now
 HasWord (Loses datagram) = ⊤
+HasWord (GoesRound rounds last) = ⊤
 HasWord (Makes phases last) = ⊤
 HasWord (Ends how why hint) = ⊤
 

@@ -73,10 +73,11 @@ BreaksOff said what said' = WritesLess said.written said'.written
 
 -- ---- asides
 
--- it prints something, loses a datagram, or ends the script
+-- it prints something, loses a datagram, makes rounds, or ends the script
 abbrev pub IsPrinted : Action → Type 0
 IsPrinted (action.Prints word lines text) = IsPrintWord word.now
 IsPrinted (action.Loses datagram) = ⊤
+IsPrinted (action.GoesRound rounds last) = ⊤
 IsPrinted (action.Makes phases last) = ⊥
 IsPrinted (action.Ends how why hint) = ⊤
 

@@ -4,33 +4,19 @@
 ghost use Rattle.std.specs.Prelude.{◌≡◌, IfOk, map};
 ghost use Rattle.std.specs.List.{enumerate_from};
 ghost use Rattle.ripng_world.specs.Events.{event_of};
-ghost use Rattle.ripng_world.specs.Rounds.{moment_of, router_of};
-ghost use Rattle.ripngd_trace.specs.Events.{addr_at, sender_at, sent_from, sent_said};
+ghost use Rattle.ripng_world.specs.Rounds.{moment_of};
+ghost use Rattle.ripngd_trace.specs.Events.{sender_at, sent_from, sent_said};
 ghost use Rattle.ripngd_trace.specs.Starting.{interface_record};
 ghost use Rattle.ripngd_trace.specs.Updates.{TellsUpdate, update_by};
 
 use crate::known::KnownRouter;
 use crate::records::{InterfaceRecord, SenderRecord, SentRecord, Timers, UpdateRecord};
-use prefix6::{Addr6, Prefix};
+use prefix6::Prefix;
 use ripng_world::{Event, Running};
+use ripngd_lab::addr_at;
 use route_table::{Moment, RouteStore};
 use router_core::{Arrival, Router, RouterConfig};
 use std::alloc::{AllocError, Global};
-
-/// The router that moves at an event.
-pub fn router_of(event: &Event<'_>) -> usize
-    ensures { result ≡ router_of (event_of event.entry.now) }
-{
-    match event {
-        Event::Deliver { router, .. }
-        | Event::Stranger { router, .. }
-        | Event::Tick { router, .. }
-        | Event::Restart { router, .. }
-        | Event::Shutdown { router, .. }
-        | Event::LinkDown { router, .. }
-        | Event::Reconfigure { router, .. } => *router,
-    }
-}
 
 /// The moment of an event.
 pub fn moment_of(event: &Event<'_>) -> Moment
@@ -43,6 +29,7 @@ pub fn moment_of(event: &Event<'_>) -> Moment
         | Event::Restart { now, .. }
         | Event::Shutdown { now, .. }
         | Event::LinkDown { now, .. }
+        | Event::LinkUp { now, .. }
         | Event::Reconfigure { now, .. } => *now,
     }
 }
@@ -62,16 +49,6 @@ pub fn again<'a>(arrival: &Arrival<'a>) -> Arrival<'a>
     }
 }
 
-/// The address of an interface, if the network has it.
-pub fn addr_of<S: RouteStore>(lab: &Running<S>, router: usize, iface: usize) -> Option<Addr6>
-    ensures { result ≡ addr_at lab.now router iface }
-{
-    match lab.router(router)?.config().interfaces().get(iface) {
-        Some(interface) => Some(interface.addr),
-        None => None,
-    }
-}
-
 /// The router that sent the datagram of a delivery, if it was sent.
 pub fn sender_at<S: RouteStore>(lab: &Running<S>, event: &Event<'_>) -> Option<SenderRecord>
     ensures { result ≡ sender_at lab.now (event_of event.entry.now) }
@@ -83,7 +60,7 @@ pub fn sender_at<S: RouteStore>(lab: &Running<S>, event: &Event<'_>) -> Option<S
         Some(sent) => Some(SenderRecord {
             router: sent.router,
             iface: sent.iface,
-            addr: addr_of(lab, sent.router, sent.iface),
+            addr: addr_at(lab, sent.router, sent.iface),
         }),
         None => None,
     }

@@ -7,9 +7,7 @@ ghost use Rattle.ripngd_trace.specs.Records.{LeadsTo, known_as};
 ghost use Rattle.ripngd_trace.specs.Saying.{EventIsTold, StartIsTold, knows};
 ghost use Rattle.ripngd_trace.specs.Starting.{AreTold, TellsRouter};
 
-use crate::events::{
-    interface_records, moment_of, owned_by, router_of, sender_at, sent_since, update_of,
-};
+use crate::events::{interface_records, moment_of, owned_by, sender_at, sent_since, update_of};
 use crate::offers::offers_of;
 use crate::records::{EventRecord, Happened, RouterRecord, StartRecord, Timers};
 use crate::tables::{News, news_of, timers_in, timers_of};
@@ -29,8 +27,10 @@ pub struct KnownRouter {
 
 /// The line that a script is at, and each router as a reader of the records knows it.
 #[derive(Drop)]
-pub struct Known {
+pub struct Known<'a> {
     pub alloc: Global,
+    /// The name of each router, or nothing, where they are told.
+    names: Option<&'a [&'a str]>,
     /// The number of the line.
     pub line: usize,
     routers: Vec<KnownRouter>,
@@ -63,13 +63,14 @@ fn learn_of(
     known[number].learn(alloc, router)
 }
 
-impl Known {
+impl<'a> Known<'a> {
     /// At no line yet, and of no router.
-    pub fn new(alloc: Global) -> Known
+    pub fn new(alloc: Global, names: Option<&'a [&'a str]>) -> Known<'a>
         ensures { result.routers.items ≡ [] }
     {
         Known {
             alloc,
+            names,
             line: 0,
             routers: Vec::new(alloc),
         }
@@ -163,9 +164,11 @@ impl Known {
         answer: &'e Answer,
         first: usize,
     ) -> Result<EventRecord<'e, 'b>, AllocError>
+    where
+        'a: 'e,
         ensures { IfOk result (λ r. EventIsTold is_forged (knows self.old) (record { lab = lab.now; event = event_of event.entry.now; answer = answer.now; first = first }) r (knows self.new)) }
     {
-        let router = router_of(event);
+        let router = event.router();
         let offers = offers_of(self.alloc, lab, self.routers.as_slice(), event, answer)?;
         let update = update_of(lab, self.routers.as_slice(), event);
         let news = self.news_at(lab, router)?;
@@ -175,6 +178,7 @@ impl Known {
             router,
             now: moment_of(event).ms(),
             happened: Happened {
+                names: self.names,
                 event,
                 is_forged,
                 sender: sender_at(lab, event),

@@ -4,12 +4,11 @@ ghost use Rattle.std.specs.Prelude.{◌≡◌, IfOk, map};
 ghost use Rattle.ripng_world.specs.Events.{event_of};
 ghost use Rattle.ripngd_trace.specs.Offers.{TellsArrival, TellsOffers, came, is_noted, offer_record, offer_records, route_after};
 
-use crate::events::addr_of;
 use crate::known::KnownRouter;
 use crate::records::OfferRecord;
 use prefix6::{Addr6, Prefix};
 use ripng_world::{Event, Running, Sent};
-use ripngd_lab::Routes;
+use ripngd_lab::{Routes, addr_at};
 use route_table::{Moment, Route, RouteStore};
 use router_core::{Answer, Arrival, Destination, MAX_HOP_LIMIT, Note, Offered, RIPNG_PORT, Router};
 use std::alloc::{AllocError, Global};
@@ -26,7 +25,7 @@ fn came<'a, S: RouteStore>(
     Arrival {
         now,
         iface,
-        source: addr_of(lab, datagram.router, datagram.iface).unwrap_or(Addr6::from_bits(0)),
+        source: addr_at(lab, datagram.router, datagram.iface).unwrap_or(Addr6::from_bits(0)),
         source_port: RIPNG_PORT,
         hop_limit: MAX_HOP_LIMIT,
         to_group: matches!(datagram.to, Destination::Group),

@@ -64,6 +64,8 @@ pub struct EventRecord<'a, 'b> {
 /// What happened, and from where.
 #[derive(Clone, Copy)]
 pub struct Happened<'a, 'b> {
+    /// The name of each router, or nothing, where they are told.
+    pub names: Option<&'a [&'a str]>,
     pub event: &'a Event<'b>,
     /// Whether the outside host of the event forges a Response, which the router takes for a neighbor's.
     pub is_forged: bool,
@@ -147,6 +149,12 @@ pub enum Action<'a> {
     /// The datagram is lost from now on.
     Loses {
         datagram: usize,
+    },
+    /// So many rounds were made.
+    GoesRound {
+        rounds: usize,
+        /// In which of them, numbered from 0, a forwarding table last changed, or a route was last deleted.
+        last: Option<usize>,
     },
     /// So many phases were made.
     Makes {

@@ -1,31 +1,41 @@
 //! What the records say, in English: lines, of which each part is one of a record's members.
 
 use crate::records::{
-    Action, AsideRecord, EventRecord, Happened, OfferRecord, StartRecord, UpdateRecord,
+    Action, AsideRecord, EventRecord, Happened, OfferRecord, SentRecord, StartRecord, UpdateRecord,
 };
 use fib::{Hop, RouteChange};
-use prefix6::Prefix;
+use prefix6::{Addr6, Prefix};
+use ripng_wire::{Command, Rtes, decode};
 use ripng_world::Event;
 use ripngd_lab::MadePhases;
 use router_core::{Change, Note, Reason};
 use std::fmt::{self, Display, Formatter, Write};
 
-/// A moment, in seconds.
+/// A router, by its name if it has one.
 #[derive(Clone, Copy)]
-struct Seconds(u64);
+struct Named<'a>(Option<&'a [&'a str]>, usize);
 
-impl Display for Seconds {
+impl<'a> Display for Named<'a> {
     fn fmt<W: Write>(&self, f: &mut Formatter<W>) -> fmt::Result {
-        write!(f, "{}.{:03} s", self.0 / 1000, self.0 % 1000)
+        let Some(names) = self.0 else {
+            return write!(f, "R{}", self.1);
+        };
+        match names.get(self.1) {
+            Some(name) if !name.is_empty() => f.write_str(*name),
+            _ => write!(f, "R{}", self.1),
+        }
     }
 }
 
 impl<'a> Display for StartRecord<'a> {
     fn fmt<W: Write>(&self, f: &mut Formatter<W>) -> fmt::Result {
-        let (begin, routers, sent) = (Seconds(self.now), self.routers.len(), self.sent.len());
+        let (routers, sent) = (self.routers.len(), self.sent.len());
         writeln!(
             f,
-            "{begin} {routers} routers start; {sent} datagrams are sent"
+            "line {}: {}.{:03} s {routers} routers start; {sent} datagrams are sent",
+            self.line,
+            self.now / 1000,
+            self.now % 1000
         )
     }
 }
@@ -40,7 +50,7 @@ impl<'a, 'b> Display for Happened<'a, 'b> {
             } => {
                 write!(f, "hears datagram {datagram}")?;
                 if let Some(sender) = self.sender {
-                    write!(f, " of R{}", sender.router)?;
+                    write!(f, " of {}", Named(self.names, sender.router))?;
                 }
                 write!(f, " on interface {iface}")
             }
@@ -63,6 +73,7 @@ impl<'a, 'b> Display for Happened<'a, 'b> {
                 f,
                 "sees the link of interface {iface} go down"
             ),
+            Event::LinkUp { iface, .. } => write!(f, "sees the link of interface {iface} come up"),
             Event::Reconfigure { change, .. } => write_reconfigured(change, f),
         }
     }
@@ -136,6 +147,46 @@ fn write_changes<W: Write>(changes: &[RouteChange], f: &mut Formatter<W>) -> fmt
     Ok(())
 }
 
+/// The datagrams that were sent: of a Response each entry, with its metric.
+fn write_sent<W: Write>(sent: &[SentRecord<'_>], f: &mut Formatter<W>) -> fmt::Result {
+    for SentRecord { datagram, sent } in sent {
+        write!(
+            f,
+            "; datagram {datagram} is sent on interface {}",
+            sent.iface
+        )?;
+        let Ok(message) = decode(sent.bytes.as_slice()) else {
+            continue;
+        };
+        if message.command() == Command::Request {
+            f.write_str(": a Request")?;
+            continue;
+        }
+        write_entries(message.entries(), f)?;
+    }
+    Ok(())
+}
+
+fn write_entries<W: Write>(entries: Rtes<'_>, f: &mut Formatter<W>) -> fmt::Result {
+    let mut is_first = true;
+    for entry in entries {
+        if is_first {
+            f.write_str(":")?;
+        } else {
+            f.write_str(",")?;
+        }
+        is_first = false;
+        let addr = Addr6::from_bits(entry.addr);
+        match Prefix::new(addr, entry.len) {
+            Ok(prefix) if !entry.is_next_hop() => {
+                write!(f, " {prefix} at {}", entry.metric)?;
+            }
+            _ => write!(f, " next hop {addr}")?,
+        }
+    }
+    Ok(())
+}
+
 /// The prefixes that had a route and have none.
 fn write_gone<W: Write>(gone: &[Prefix], f: &mut Formatter<W>) -> fmt::Result {
     for prefix in gone {
@@ -148,9 +199,11 @@ impl<'a, 'b> Display for EventRecord<'a, 'b> {
     fn fmt<W: Write>(&self, f: &mut Formatter<W>) -> fmt::Result {
         write!(
             f,
-            "{} R{} {}",
-            Seconds(self.now),
-            self.router,
+            "line {}: {}.{:03} s {} {}",
+            self.line,
+            self.now / 1000,
+            self.now % 1000,
+            Named(self.happened.names, self.router),
             self.happened
         )?;
         if let Some(fault) = self.answer.fault {
@@ -163,11 +216,7 @@ impl<'a, 'b> Display for EventRecord<'a, 'b> {
         write_notes(self.answer.notes.as_slice(), f)?;
         write_changes(self.answer.changes.as_slice(), f)?;
         write_gone(&self.gone, f)?;
-        match self.sent.len() {
-            0 => {}
-            1 => f.write_str("; 1 datagram is sent")?,
-            many => write!(f, "; {many} datagrams are sent")?,
-        }
+        write_sent(&self.sent, f)?;
         if self.happened.is_forged {
             f.write_str("; from here on nothing is promised")?;
         }
@@ -179,7 +228,21 @@ impl<'a> Display for AsideRecord<'a> {
     fn fmt<W: Write>(&self, f: &mut Formatter<W>) -> fmt::Result {
         match &self.action {
             Action::Prints { text, .. } => f.write_str(*text),
-            Action::Loses { datagram } => writeln!(f, "datagram {datagram} is lost"),
+            Action::Loses { datagram } => writeln!(
+                f,
+                "line {}: datagram {datagram} is lost",
+                self.line
+            ),
+            Action::GoesRound { rounds, last } => {
+                write!(f, "line {}: {rounds} rounds are made; ", self.line)?;
+                match last {
+                    Some(last) => writeln!(
+                        f,
+                        "tables last changed in round {last}, counted from 0"
+                    ),
+                    None => writeln!(f, "no table changed"),
+                }
+            }
             Action::Makes { phases, last } => {
                 let (phases, last) = (*phases, *last);
                 writeln!(f, "{}", MadePhases { phases, last })

@@ -13,8 +13,7 @@ use crate::records::{Action, AsideRecord, HintRecord};
 use crate::writing::{Form, write_record};
 use ripng_world::{Event, Running};
 use ripngd_lab::{
-    Choice, Ending, MadePhases, Refusal, Routes, Unmet, Watch, Way, hint_of, print_routes,
-    print_sent, watched,
+    Ending, MadePhases, Notice, Routes, Watch, hint_of, names_of, print_routes, print_sent, watched,
 };
 use route_table::Moment;
 use router_core::{Answer, Arrival};
@@ -32,16 +31,17 @@ pub fn trace<W: Write>(alloc: Global, script: &[u8], out: &mut W) -> io::Result<
     ensures traced { OnOk result ((lab : Option LabValue) × IsTraced (W.contents out.old) lab (W.contents out.new)) }
     ensures traced_until { OnErr result ((lab : Option LabValue) × IsTracedUntil (W.contents out.old) lab (W.contents out.new)) }
 {
-    let mut tracer = Tracer::new(alloc, script, Form::Json, out);
+    let mut tracer = Tracer::new(alloc, script, Form::Json, None, out);
     let outcome = watched(alloc, script, &mut tracer);
     let Tracer {
         script: _,
-        sent: _,
-        sent_before: _,
-        known: _known,
+        ticks: _,
+        ticks_at_change: _,
+        known,
         form: _,
         out: written,
     } = tracer;
+    drop(known);
     // No effect at run time. The proof reads what `out` holds from this use of the reference.
     let _ = &*written;
     outcome
@@ -54,7 +54,8 @@ pub fn trace<W: Write>(alloc: Global, script: &[u8], out: &mut W) -> io::Result<
 /// # Errors
 /// `OutOfMemory` where memory ran out, else the error of `out`.
 pub fn explain<W: Write>(alloc: Global, script: &[u8], out: &mut W) -> io::Result<bool> {
-    let mut tracer = Tracer::new(alloc, script, Form::English, out);
+    let names = names_of(alloc, script)?;
+    let mut tracer = Tracer::new(alloc, script, Form::English, Some(names.as_slice()), out);
     watched(alloc, script, &mut tracer)
 }
 
@@ -63,18 +64,24 @@ pub fn explain<W: Write>(alloc: Global, script: &[u8], out: &mut W) -> io::Resul
 pub struct Tracer<'a, W: Write> {
     /// The script that is traced.
     script: &'a [u8],
-    /// How many datagrams were sent, once the routers have started.
-    sent: Option<usize>,
-    /// How many were sent before the line.
-    sent_before: usize,
-    known: Known,
+    /// How many ticks the line has made.
+    ticks: usize,
+    /// How many it had made when a forwarding table last changed or a route was last deleted, or 0.
+    ticks_at_change: usize,
+    known: Known<'a>,
     form: Form,
     out: &'a mut W,
 }
 
 impl<'a, W: Write> Tracer<'a, W> {
     /// It is at no line yet, and knows no table.
-    fn new(alloc: Global, script: &'a [u8], form: Form, out: &'a mut W) -> Tracer<'a, W>
+    fn new(
+        alloc: Global,
+        script: &'a [u8],
+        form: Form,
+        names: Option<&'a [&'a str]>,
+        out: &'a mut W,
+    ) -> Tracer<'a, W>
         ensures known { result.known.routers.items ≡ [] }
         ensures form { result.form ≡ form }
         ensures out { result.out.now ≡ out.old }
@@ -82,9 +89,9 @@ impl<'a, W: Write> Tracer<'a, W> {
     {
         Tracer {
             script,
-            sent: None,
-            sent_before: 0,
-            known: Known::new(alloc),
+            ticks: 0,
+            ticks_at_change: 0,
+            known: Known::new(alloc, names),
             form,
             out,
         }
@@ -102,10 +109,18 @@ impl<'a, W: Write> Tracer<'a, W> {
         ensures whole { OnOk result (SaysMove is_forged (said_by W.contents self.old) (record { lab = lab.now; event = event_of event.entry.now; answer = answer.now; first = first }) (said_by W.contents self.new) × SameOutput self.old self.new) }
         ensures broken { OnErr result (SaysAside (said_by W.contents self.old) Broken (said_by W.contents self.new) × SameOutput self.old self.new) }
     {
-        self.sent = Some(lab.sent().len());
         let record = self
             .known
             .event_record(lab, event, is_forged, answer, first)?;
+        let is_tick = matches!(event, Event::Tick { .. });
+        self.ticks = self.ticks.saturating_add(usize::from(is_tick));
+        let changes = answer
+            .changes
+            .as_slice()
+            .len()
+            .saturating_add(record.gone.len());
+        let ticks = self.ticks.saturating_mul(changes.min(1));
+        self.ticks_at_change = self.ticks_at_change.max(ticks);
         write_record(self.known.alloc, self.form, &record, self.out)
     }
 
@@ -132,15 +147,15 @@ impl<'a, W: Write> Tracer<'a, W> {
         self.report_action(Action::Prints { word, lines, text })
     }
 
-    /// What a line should have been that is refused for this, if the script shows that.
-    fn hint_of(&self, why: &Refusal) -> Result<Option<HintRecord>, AllocError> {
-        let ending = Ending {
-            line: self.known.line,
-            refusal: *why,
-            sent: self.sent,
-            sent_by_line: self.sent.unwrap_or(0).saturating_sub(self.sent_before),
-        };
-        let Some((line, hint)) = hint_of(self.known.alloc, self.script, &ending)? else {
+    /// In which of so many rounds, numbered from 0, tables last changed: in each there were as many ticks.
+    fn last_round(&self, rounds: usize) -> Option<usize> {
+        let ticks = self.ticks_at_change.checked_sub(1)?;
+        ticks.saturating_mul(rounds).checked_div(self.ticks)
+    }
+
+    /// What a refused line should have been, if the script shows that.
+    fn hint_of(&self, ending: &Ending) -> Result<Option<HintRecord>, AllocError> {
+        let Some((line, hint)) = hint_of(self.known.alloc, self.script, ending)? else {
             return Ok(None);
         };
         let text = format!(in self.known.alloc; "{hint}")?;
@@ -173,11 +188,11 @@ impl<'a, W: Write> Watch for Tracer<'a, W> {
 
     fn at_line(&mut self, number: usize) {
         self.known.line = number;
-        self.sent_before = self.sent.unwrap_or(0);
+        self.ticks = 0;
+        self.ticks_at_change = 0;
     }
 
     fn started(&mut self, lab: &Running<Routes>, now: Moment) -> io::Result<()> {
-        self.sent = Some(lab.sent().len());
         let record = self.known.start_record(lab, now)?;
         write_record(self.known.alloc, self.form, &record, self.out)
     }
@@ -197,61 +212,44 @@ impl<'a, W: Write> Watch for Tracer<'a, W> {
         self.report(running, &event, true, answer, first)
     }
 
-    fn routes_asked(&mut self, lab: &Running<Routes>, choice: &Choice) -> io::Result<()> {
+    fn noticed(&mut self, notice: Notice<'_>) -> io::Result<()> {
         let mut prints = Vec::new(self.known.alloc);
-        print_routes(lab, choice, &mut prints)?;
-        self.report_prints("print", &prints)
-    }
-
-    fn datagrams_asked(&mut self, lab: &Running<Routes>, asked: Option<usize>) -> io::Result<()> {
-        let mut prints = Vec::new(self.known.alloc);
-        print_sent(self.known.alloc, lab, asked, &mut prints)?;
-        self.report_prints("sent", &prints)
-    }
-
-    fn way_asked(&mut self, way: &Way) -> io::Result<()> {
-        let prints = format!(in self.known.alloc; "{way}\n")?;
-        self.report_prints("path", prints.as_bytes())
-    }
-
-    fn said(&mut self, text: &str) -> io::Result<()> {
-        let lines = text.lines().collect(self.known.alloc)?;
-        let printed = format!(in self.known.alloc; "{text}\n")?;
-        let text = printed.as_str();
-        self.report_action(Action::Prints {
-            word: "say",
-            lines,
-            text,
-        })
-    }
-
-    fn lost(&mut self, datagram: usize) -> io::Result<()> {
-        self.report_action(Action::Loses { datagram })
-    }
-
-    fn phases_made(&mut self, made: &MadePhases) -> io::Result<()> {
-        let MadePhases { phases, last } = *made;
-        self.report_action(Action::Makes { phases, last })
-    }
-
-    fn refused(&mut self, why: &Refusal) -> io::Result<()> {
-        let hint = self.hint_of(why)?;
-        let why = format!(in self.known.alloc; "{why}")?;
-        let why = why.as_str();
-        self.report_action(Action::Ends {
-            how: "refused ",
-            why,
-            hint,
-        })
-    }
-
-    fn unmet(&mut self, unmet: &Unmet) -> io::Result<()> {
-        let why = format!(in self.known.alloc; "{unmet}")?;
-        let why = why.as_str();
-        self.report_action(Action::Ends {
-            how: "",
-            why,
-            hint: None,
-        })
+        match notice {
+            Notice::Routes(lab, choice) => {
+                print_routes(lab, &choice, &mut prints)?;
+                self.report_prints("print", &prints)
+            }
+            Notice::Datagrams(lab, asked) => {
+                print_sent(self.known.alloc, lab, asked, &mut prints)?;
+                self.report_prints("sent", &prints)
+            }
+            Notice::Way(way) => {
+                writeln!(prints, "{way}")?;
+                self.report_prints("path", &prints)
+            }
+            Notice::Said(text) => {
+                writeln!(prints, "{text}")?;
+                self.report_prints("say", &prints)
+            }
+            Notice::Lost(datagram) => self.report_action(Action::Loses { datagram }),
+            Notice::Rounds(rounds) => {
+                let last = self.last_round(rounds);
+                self.report_action(Action::GoesRound { rounds, last })
+            }
+            Notice::Phases(MadePhases { phases, last }) => {
+                self.report_action(Action::Makes { phases, last })
+            }
+            Notice::Refused(ending) => {
+                let hint = self.hint_of(&ending)?;
+                let why = format!(in self.known.alloc; "{}", ending.refusal)?;
+                let (how, why) = ("refused ", why.as_str());
+                self.report_action(Action::Ends { how, why, hint })
+            }
+            Notice::Unmet(unmet) => {
+                let why = format!(in self.known.alloc; "{unmet}")?;
+                let (how, why, hint) = ("", why.as_str(), None);
+                self.report_action(Action::Ends { how, why, hint })
+            }
+        }
     }
 }

@@ -34,6 +34,7 @@ impl<S: RouteStore> Machine for Router<S> {
             Event::Restart { now, .. } => Ok(self.restart(*now)?),
             Event::Shutdown { now, .. } => Ok(self.shutdown(*now)?),
             Event::LinkDown { now, iface, .. } => Ok(self.link_down(*now, *iface)?),
+            Event::LinkUp { now, iface, .. } => Ok(self.link_up(*now, *iface)?),
             Event::Reconfigure { now, change, .. } => {
                 if let Change::Cost { iface, .. } = change {
                     if *iface >= self.config().interfaces().len() {
@@ -149,6 +150,10 @@ pub fn event_of(row: &mut Row<'_>, verb: &str, router: usize) -> Event<'static> 
         "link-down" => {
             let iface = row.number();
             return Event::LinkDown { router, now, iface };
+        }
+        "link-up" => {
+            let iface = row.number();
+            return Event::LinkUp { router, now, iface };
         }
         "gain" => {
             let (prefix, tag) = (row.prefix(), row.read(0));

@@ -180,6 +180,7 @@ impl<'a, S: RouteStore> Rig<'a, S> {
         let ended = match event_of(row, verb, 0) {
             Event::Shutdown { .. } => engine.shutdown(log),
             Event::LinkDown { iface, .. } => engine.link_down(iface, log),
+            Event::LinkUp { iface, .. } => engine.link_up(iface, log),
             Event::Reconfigure { change, .. } => {
                 if let Change::Cost { iface, .. } = change {
                     if iface >= engine.router().config().interfaces().len() {

@@ -62,6 +62,9 @@ impl<'a> ToJson for AsideRecord<'a> {
             Action::Loses { datagram } => {
                 text.object(&members!(self; line, "record" => &"lost", "datagram" => datagram));
             }
+            Action::GoesRound { rounds, last } => text.object(&members!(
+                self; line, "record" => &"rounds", "rounds" => rounds, "last" => last
+            )),
             Action::Makes { phases, last } => text.object(&members!(
                 self; line, "record" => &"phases", "phases" => phases, "last" => last
             )),
@@ -180,6 +183,9 @@ impl<'a, 'b> ToJson for Happened<'a, 'b> {
             Event::Shutdown { .. } => text.object(&members!(self; "kind" => &"shutdown")),
             Event::LinkDown { iface, .. } => {
                 text.object(&members!(self; "kind" => &"link_down", "iface" => iface));
+            }
+            Event::LinkUp { iface, .. } => {
+                text.object(&members!(self; "kind" => &"link_up", "iface" => iface));
             }
             Event::Reconfigure { change, .. } => change.write_json(text),
         }

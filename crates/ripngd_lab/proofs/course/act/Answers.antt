@@ -1,14 +1,6 @@
 use Rattle.std.proofs.Common.{Some}
-use Rattle.ripngd_lab.proofs.ScriptWatching.{untold, has_told, fault_told, noted}
+use Rattle.ripngd_lab.proofs.ScriptWatching.{untold, has_told}
 use Rattle.ripngd_lab.proofs.course.act.Goals as goal
-
-pub returns-in_err-said-in-Say : goal.returns-in_err-said-in-Say
-returns-in_err-said-in-Say g c =
-    fault_told g.V.Watch.starts g.V.Observer.takes g.V.Observer.fails g.V.Watch.notes c.from_residual.result c.in_err-said-in-Say.field-0.0 (Some c.args.site.now) c.args.watch.now c.said.new.self c.from_residual.ensures.1 c.in_err-said-in-Say.ensures.broken
-
-pub returns-in_ok-said-in-Say : goal.returns-in_ok-said-in-Say
-returns-in_ok-said-in-Say g c =
-    noted g.V.Watch.starts g.V.Observer.takes g.V.Observer.fails g.V.Watch.notes (Some c.args.site.now) c.args.watch.now c.said.new.self c.in_ok-said-in-Say.ensures.notes
 
 pub returns-in-Expect : goal.returns-in-Expect
 returns-in-Expect g c =

@@ -1,7 +1,14 @@
-use Rattle.std.proofs.Common.{Some}
-use Rattle.ripngd_lab.proofs.ScriptWatching.{untold, has_told}
+use Rattle.std.proofs.Common.{Some, subst}
+use Rattle.ripng_world.specs.Labs.{LabValue}
+use Rattle.ripngd_lab.specs.ScriptWatching.{HasTold}
+use Rattle.ripngd_lab.proofs.ScriptWatching.{untold, has_told, has_told_on}
 use Rattle.ripngd_lab.proofs.course.go_round.Goals as goal
 
 pub returns-in_err-moments : goal.returns-in_err-moments
 returns-in_err-moments g c =
     has_told g.V.Watch.starts g.V.Observer.takes g.V.Observer.fails g.V.Watch.notes c.from_residual.result (Some c.args.site.now, c.args.watch.now) (Some c.args.site.now, c.args.watch.now) (untold g.V.Watch.starts g.V.Observer.takes g.V.Observer.fails g.V.Watch.notes (Some c.args.site.now, c.args.watch.now))
+
+pub returns : goal.returns
+returns g c =
+    has_told_on g.V.Watch.starts g.V.Observer.takes g.V.Observer.fails g.V.Watch.notes c.tell.result (Some c.args.site.now, c.args.watch.now) (Some c.make_rounds.new.site, c.make_rounds.new.watch) (Some c.make_rounds.new.site, c.tell.new.watch) c.in_ok-make_rounds.ensures
+    (subst (λ (lab : LabValue). HasTold c.tell.result g.V.Watch.starts g.V.Observer.takes g.V.Observer.fails g.V.Watch.notes (Some lab, c.make_rounds.new.watch) (Some lab, c.tell.new.watch)) c.running-2.ensures c.tell.ensures)

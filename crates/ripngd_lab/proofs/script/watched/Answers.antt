@@ -9,42 +9,42 @@ loop-rest-preserved g c =
     (turned_on g.V.Watch.starts g.V.Observer.takes g.V.Observer.fails g.V.Watch.notes (None, c.args.watch.now) (lab_in c.loop-rest.session.stage) c.loop-rest.watch c.at_line.new.self _ c.loop-rest.invariant c.at_line.ensures)
     c.in-Ok.ensures
 
-pub returns-in_err-refused-in-Err-Refused-clause-told_until :
-    goal.returns-in_err-refused-in-Err-Refused-clause-told_until
-returns-in_err-refused-in-Err-Refused-clause-told_until g c =
-    on_fault g.V.Watch.starts g.V.Observer.takes g.V.Observer.fails g.V.Watch.notes c.from_residual.result (None, c.args.watch.now) (lab_in c.run_line.new.session.stage) c.run_line.new.watch c.refused.new.self
+pub returns-in_err-noticed-in-Err-Refused-clause-told_until :
+    goal.returns-in_err-noticed-in-Err-Refused-clause-told_until
+returns-in_err-noticed-in-Err-Refused-clause-told_until g c =
+    on_fault g.V.Watch.starts g.V.Observer.takes g.V.Observer.fails g.V.Watch.notes c.from_residual.result (None, c.args.watch.now) (lab_in c.run_line.new.session.stage) c.run_line.new.watch c.noticed.new.self
     (line_ends g.V.Watch.starts g.V.Observer.takes g.V.Observer.fails g.V.Watch.notes false c.in-Err-Refused.field-0 (None, c.args.watch.now) (lab_in c.loop-rest.session.stage, c.at_line.new.self) (lab_in c.run_line.new.session.stage, c.run_line.new.watch) (ap is_failure c.in-Err-Refused.field-0-is)
     (turned_on g.V.Watch.starts g.V.Observer.takes g.V.Observer.fails g.V.Watch.notes (None, c.args.watch.now) (lab_in c.loop-rest.session.stage) c.loop-rest.watch c.at_line.new.self _ c.loop-rest.invariant c.at_line.ensures)
     c.in-Err-Refused.ensures)
-    c.in_err-refused-in-Err-Refused.ensures.broken
+    c.in_err-noticed-in-Err-Refused.ensures.broken
 
 pub returns-in-Err-Refused-clause-told : goal.returns-in-Err-Refused-clause-told
 returns-in-Err-Refused-clause-told g c = (
   lab_in c.run_line.new.session.stage,
-  noted_on g.V.Watch.starts g.V.Observer.takes g.V.Observer.fails g.V.Watch.notes (None, c.args.watch.now) (lab_in c.run_line.new.session.stage) c.run_line.new.watch c.refused.new.self
+  noted_on g.V.Watch.starts g.V.Observer.takes g.V.Observer.fails g.V.Watch.notes (None, c.args.watch.now) (lab_in c.run_line.new.session.stage) c.run_line.new.watch c.noticed.new.self
       (line_ends g.V.Watch.starts g.V.Observer.takes g.V.Observer.fails g.V.Watch.notes false c.in-Err-Refused.field-0 (None, c.args.watch.now) (lab_in c.loop-rest.session.stage, c.at_line.new.self) (lab_in c.run_line.new.session.stage, c.run_line.new.watch) (ap is_failure c.in-Err-Refused.field-0-is)
       (turned_on g.V.Watch.starts g.V.Observer.takes g.V.Observer.fails g.V.Watch.notes (None, c.args.watch.now) (lab_in c.loop-rest.session.stage) c.loop-rest.watch c.at_line.new.self _ c.loop-rest.invariant c.at_line.ensures)
       c.in-Err-Refused.ensures)
-      c.in_ok-refused-in-Err-Refused.ensures.notes,
+      c.in_ok-noticed-in-Err-Refused.ensures.notes,
 )
 
-pub returns-in_err-unmet-in-Err-Unmet-clause-told_until :
-    goal.returns-in_err-unmet-in-Err-Unmet-clause-told_until
-returns-in_err-unmet-in-Err-Unmet-clause-told_until g c =
-    on_fault g.V.Watch.starts g.V.Observer.takes g.V.Observer.fails g.V.Watch.notes c.from_residual-in_err-unmet-in-Err-Unmet.result (None, c.args.watch.now) (lab_in c.run_line.new.session.stage) c.run_line.new.watch c.unmet.new.self
+pub returns-in_err-noticed-in-Err-Unmet-clause-told_until :
+    goal.returns-in_err-noticed-in-Err-Unmet-clause-told_until
+returns-in_err-noticed-in-Err-Unmet-clause-told_until g c =
+    on_fault g.V.Watch.starts g.V.Observer.takes g.V.Observer.fails g.V.Watch.notes c.from_residual-in_err-noticed-in-Err-Unmet.result (None, c.args.watch.now) (lab_in c.run_line.new.session.stage) c.run_line.new.watch c.noticed-in-Err-Unmet.new.self
     (line_ends g.V.Watch.starts g.V.Observer.takes g.V.Observer.fails g.V.Watch.notes false c.in-Err-Unmet.field-0 (None, c.args.watch.now) (lab_in c.loop-rest.session.stage, c.at_line.new.self) (lab_in c.run_line.new.session.stage, c.run_line.new.watch) (ap is_failure c.in-Err-Unmet.field-0-is)
     (turned_on g.V.Watch.starts g.V.Observer.takes g.V.Observer.fails g.V.Watch.notes (None, c.args.watch.now) (lab_in c.loop-rest.session.stage) c.loop-rest.watch c.at_line.new.self _ c.loop-rest.invariant c.at_line.ensures)
     c.in-Err-Unmet.ensures)
-    c.in_err-unmet-in-Err-Unmet.ensures.broken
+    c.in_err-noticed-in-Err-Unmet.ensures.broken
 
 pub returns-in-Err-Unmet-clause-told : goal.returns-in-Err-Unmet-clause-told
 returns-in-Err-Unmet-clause-told g c = (
   lab_in c.run_line.new.session.stage,
-  noted_on g.V.Watch.starts g.V.Observer.takes g.V.Observer.fails g.V.Watch.notes (None, c.args.watch.now) (lab_in c.run_line.new.session.stage) c.run_line.new.watch c.unmet.new.self
+  noted_on g.V.Watch.starts g.V.Observer.takes g.V.Observer.fails g.V.Watch.notes (None, c.args.watch.now) (lab_in c.run_line.new.session.stage) c.run_line.new.watch c.noticed-in-Err-Unmet.new.self
       (line_ends g.V.Watch.starts g.V.Observer.takes g.V.Observer.fails g.V.Watch.notes false c.in-Err-Unmet.field-0 (None, c.args.watch.now) (lab_in c.loop-rest.session.stage, c.at_line.new.self) (lab_in c.run_line.new.session.stage, c.run_line.new.watch) (ap is_failure c.in-Err-Unmet.field-0-is)
       (turned_on g.V.Watch.starts g.V.Observer.takes g.V.Observer.fails g.V.Watch.notes (None, c.args.watch.now) (lab_in c.loop-rest.session.stage) c.loop-rest.watch c.at_line.new.self _ c.loop-rest.invariant c.at_line.ensures)
       c.in-Err-Unmet.ensures)
-      c.in_ok-unmet-in-Err-Unmet.ensures.notes,
+      c.in_ok-noticed-in-Err-Unmet.ensures.notes,
 )
 
 pub returns-in-Err-Failed-clause-told_until : goal.returns-in-Err-Failed-clause-told_until
