@@ -84,6 +84,19 @@ def a_router_tells_of_its_neighbors(case):
 
 
 @listed
+def a_router_says_how_it_is(case):
+    """In one answer: its interfaces, its clock, the size of its table, and all that `counts` and `neighbors` say."""
+    east, _ = pair(case)
+    told = east.ctl("status")
+    same("status and standard error", (told.status, told.err), (0, ""))
+    first, second, rest = told.out.split("\n", 2)
+    same("the interface", first, "interface 0 address fe80::e cost 1 mtu 1280")
+    same("whether it has a clock and two routes", re.fullmatch(r"now [1-9]\d* routes 2", second) is not None, True)
+    both = east.ctl("counts").out + east.ctl("neighbors").out
+    same("the rest, but for numbers", re.sub(r"\d+", "N", rest), re.sub(r"\d+", "N", both))
+
+
+@listed
 def a_router_is_told(case):
     """What east is told is seen in its log and at west; that its interface costs more, in what it learns of west then."""
     east, west = pair(case)
@@ -100,6 +113,17 @@ def a_router_is_told(case):
     answers(east, "cost 0 5")
     answers(west, "gain 2001:db8:2::/48 7")
     east.logs("add 2001:db8:2::/48 metric 6 via fe80::f iface 0")
+
+
+@listed
+def a_link_goes_down_and_comes_up(case):
+    """What was learned there goes at once; a neighbor that is asked answers at once, too."""
+    east, _ = pair(case)
+    answers(east, "link down 0")
+    east.logs(f"del {WEST}")
+    refuses(east, "link up 1", "51 NoSuchInterface")
+    answers(east, "link up 0")
+    until("west has answered", lambda: east.log().count(f"add {WEST} ") == 2)
 
 
 @listed
@@ -337,6 +361,19 @@ def a_client_that_cannot_be_let_in_is_let_in_later(case):
         router = alone(case, name, **environment(case.folder, name, fail=f"accept:1:20:{error}"))
         answers(router, "table", OWN_TABLE)
         same(f"the first calls at {name}", {answer for _, _, answer in calls(case, name, "accept")[:20]}, {-1})
+
+
+@listed
+def a_router_that_is_left_alone_sees_who_connects(case):
+    """After 64 turns it looks for no client of itself."""
+    router = alone(case, "idle", **environment(case.folder, "idle"))
+    until("left alone", lambda: len(calls(case, "idle", "accept")) == 64)
+    time.sleep(1)
+    same("how often it looked", len(calls(case, "idle", "accept")), 64)
+    begun = time.monotonic()
+    answers(router, "table", OWN_TABLE)
+    passed = time.monotonic() - begun
+    same(f"whether {passed} is less than a turn without a client", passed < 0.35, True)
 
 
 @listed

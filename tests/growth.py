@@ -94,7 +94,7 @@ class Laboratory:
 
     def is_explained(self, run, want):
         lines = run.stdout.decode().splitlines()
-        said = [line for line in lines if re.match(r"\d+\.\d{3} s |datagram \d+ is lost$", line)]
+        said = [line for line in lines if re.match(r"line \d+: (\d+\.\d{3} s |datagram \d+ is lost$|\d+ rounds are made; )", line)]
         noted = sum(SKIPPED in line for line in said) == 1
         answer = (run.returncode, tuple(line for line in lines if line not in said))
         return "an entry skipped" if noted and answer in self.answers else is_told_behind_lines(run, want, SKIPPED)

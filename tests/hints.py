@@ -39,8 +39,8 @@ OBEYED = ("deliver N R I NOW", "stranger R I NOW SOURCE PORT HOP TO HEX", "ask R
           "liar R I NOW SOURCE PREFIX HOPS", "tick R NOW WORD", "tick R NOW", "tell R NOW WORD but K ..", "tell R NOW WORD", "tell R NOW but K ..",
           "tell R NOW", "hear but K ..", "hear", "restart R NOW", "shutdown R NOW", "cost R I NOW COST",
           "gain R NOW PREFIX TAG", "drop R NOW PREFIX", "round NOW", "rounds ROUNDS NOW GAP", "phases PHASES SEED", "silent R", "speaks R",
-          "cut LINK", "mend LINK", "lose N", "print R PREFIX", "print R", "print", "sent N", "sent", "say TEXT", "expect R PREFIX METRIC",
-          "expect path R ADDR FATE", "path R ADDR", "refused REFUSAL")
+          "cut LINK", "mend LINK", "down LINK NOW", "up LINK NOW", "costs LINK NOW COST", "lose N", "print R PREFIX", "print R", "print",
+          "sent N", "sent", "say TEXT", "expect R PREFIX METRIC", "expect path R ADDR FATE", "path R ADDR", "refused REFUSAL")
 
 
 def line_of(form):
@@ -84,7 +84,7 @@ def goes_on(form):
 
 def forms_are_those_of_the_manual():
     rows = re.findall(r"^\| `(\w+)", SCRIPTS.read_text().partition("## Lines")[2].partition("**Delivery")[0], re.M)
-    same("the lines of the manual", sorted({*rows, "speaks", "mend", "shutdown"}), sorted({form.split(" ")[0] for form in LISTED + OBEYED}))
+    same("the lines of the manual", sorted({*rows, "speaks", "mend", "shutdown", "up"}), sorted({form.split(" ")[0] for form in LISTED + OBEYED}))
 
 
 def told(run):

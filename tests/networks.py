@@ -53,6 +53,8 @@ class Network:
                 self.owners += [Owner(self.routers - 1, each, tag) for each in row(prefix, int(times))]
             case ["cost", router, iface, _, cost]:
                 self.ports += {port._replace(cost=int(cost)) for port in self.ports_at(self.numbers[router], int(iface))}
+            case ["costs", link, _, cost]:
+                self.ports += {port._replace(cost=int(cost)) for port in self.ports if port.link == int(link)}
             case ["gain", router, _, prefix, tag]:
                 self.owners.append(Owner(self.numbers[router], *row(prefix, 1), tag))
 

@@ -1,7 +1,7 @@
 """What a newcomer does with the laboratory's page, at each width, by clicks alone and by keys alone, for tests/visits.py."""
 import json
 
-from seen import IS_FOCUSED, METRICS, ROUTE, same, text_of
+from seen import IS_FOCUSED, METRICS, ROUTE, WIDE, same, text_of
 
 # The widths, each with its height. By clicks `phone` does it at 500 pixels, and `newcomer` at 1,400.
 HEIGHTS = {500: 900, 900: 900, 1400: 900, 1920: 1080}
@@ -23,6 +23,7 @@ class Newcomer:
         does('until something changes')
         self.comes('it is said', f'{text_of("#editing")}.startsWith("A route changed in round")')
         self.still()
+        same('what is cut off while routes time out', self.page.value(WIDE), '')
         self.healed(does, '1 2 3 4 5')
         does('why')
         self.comes('the page says why', f'{text_of("#detail h2")} === "Why has R4 metric 5 for {ROUTE}?"')

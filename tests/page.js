@@ -245,6 +245,8 @@
     tell(at().join() === place.join(), document.body.className, said());
     click(buttonOf('reset layout'));
     tell(at().join() === place.join());
+    await type('# nothing\n');
+    tell(document.body.className, said());
   }
 
   // A file of another system has its lines and its name, and can be loaded again; twelve keys are one run.

@@ -24,6 +24,7 @@ import { LINES, hintOf } from '../page/src/texts.js';
 import { lessonCases } from './page_lessons.mjs';
 import { checkHealed, checkPackets, packetCases } from './page_packets.mjs';
 import { removalCases } from './page_removing.mjs';
+import { placingCases } from './page_placed.mjs';
 import { shownCases } from './page_shown.mjs';
 
 const [program, scripts = '30', seed = '1'] = process.argv.slice(2), folder = mkdtempSync(join(tmpdir(), 'page-'));
@@ -258,7 +259,7 @@ const CASES = {
     same('what is out', [9, 11, 14, 16].map(line => [...at(line).out]), [[['link 1', 10]], [['router 1', 13]], [], []]);
     same('least costs', [9, 11, 16].map(line => leastCosts(trace, at(line), '::/0')), [[1, 2, 16], [1, 16, 16], [1, 2, 3]]);
     same('what is said', [at(9), at(11)].map(({ said }) => said),
-      [['line 10: link 1 is cut'], ['line 12: link 1 is mended', 'line 13: router Mid fails']]);
+      [['line 10: link 1 is cut'], ['line 12: link 1 is mended', 'line 13: Mid fails']]);
     for (const text of at(11).said) same(text, eventOf(at(11), 0, trace.names).text.includes(text), true);
     const wiring = wiringOf(trace), state = { trace, wiring, spots: layOut(wiring), pane: { width: 500, height: 400 }, step: 0, shifts: [], chosen: null };
     same('the wire', drawingOf(state).parts.map(({ text }) => text.includes('class="wire cut"')), drawingOf(state).parts.map((_, part) => part === 1));
@@ -306,7 +307,7 @@ const CASES = {
 // A line of three: R0 owns the prefix; link 0 is between R0 and R1, link 1 between R1 and R2.
 const THREE = 'router\niface fe80::a0 1 1280 0\nown 2001:db8::/32 0\nrouter\niface fe80::b0 1 1280 0\niface fe80::b1 1 1280 1\nrouter\niface fe80::c0 1 1280 1\ncold 0\n';
 const traceOf = script => readTrace(ran(runnable(script), '--trace'), script);
-for (const more of [lessonCases, packetCases, removalCases, shownCases]) Object.assign(CASES, more({ ran, same, traceOf, three: THREE }));
+for (const more of [lessonCases, packetCases, placingCases, removalCases, shownCases]) Object.assign(CASES, more({ ran, same, traceOf, three: THREE }));
 
 let passed = 0, failed = 0;
 function attempt(name, check) {

@@ -250,7 +250,7 @@ class Page(ClassCases):
     def drawing_stays(self, folder):
         line, other = LINE[:LINE.index("cold")].count("\n") + 1, LINE.replace("cold", "xcold")
         refused = f"Line {line}: refused: the line is malformed or out of place (BadLine){self.hint(folder, other)}"
-        same("the report", self.report(folder, "keepDrawing"), ["true | true", "true", f"3 | stale | {refused}", "true |  | ", "false"])
+        same("the report", self.report(folder, "keepDrawing"), ["true | true", "true", f"3 | stale | {refused}", "true |  | ", "false", 'stale | no network yet: the script has no line "cold NOW"'])
 
     def files(self, folder):
         steps = len(self.trace(folder, LINE))

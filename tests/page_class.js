@@ -182,7 +182,7 @@ async function playQuiz() {
   await act('rounds');
   click(one('[data-act=quiz]'));
   const isSeen = selector => all(selector).some(element => element.checkVisibility({ visibilityProperty: true }) && element.textContent.trim());
-  tell(['#tables', '#tally', '#detail', '#events', '#checks', '#gutter'].filter(isSeen), metrics());
+  tell(['#caption', '#tables', '#tally', '#detail', '#events', '#checks', '#gutter'].filter(isSeen), metrics());
   const guess = (router, text) => { const input = one(`[data-guess="${router}"]`); input.value = text; input.focus(); key('Enter'); };
   guess(0, '1');
   guess(1, '7');

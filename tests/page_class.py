@@ -56,9 +56,9 @@ class ClassCases:
         first = 1 + script.index(expects[0])
         checks = ",".join(f"✓ R{router}, 2001:db8::/32: expected {metric}, found {metric}" for router, metric in enumerate((4, 16, 16)))
         same("the report", self.report(folder, "takeLessons"),
-             ["Lesson 1 of 27: How routes come | true | Question: two routers are on one link, and the first has a prefix. How does the second learn "
+             ["Lesson 1 of 28: How routes come | true | Question: two routers are on one link, and the first has a prefix. How does the second learn "
               "of it, with which metric, and does the first then believe its own news?",
-              "02-one-hop-a-round.lab | Lesson 2 of 27: How routes come | false",
+              "02-one-hop-a-round.lab | Lesson 2 of 28: How routes come | false",
               f"They poison each other's route, but each has advertised it to the owner, which now believes router 1. | 4 16 16 | {checks}",
               f"{len(expects)} | {len(expects)}", f"0 | 1 | {first} | Line {first}: expected R1 2001:db8::/32 5 found 2"])
 

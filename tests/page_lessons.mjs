@@ -5,10 +5,10 @@ import { nextStop } from '../page/src/trace.js';
 import { updatesOf } from '../page/src/walks.js';
 import { covers, oneResponse } from '../page/src/datagrams.js';
 import { joined, networkScript, placesOf, withPlaces } from '../page/src/building.js';
-import { captionsOf, checksOf, expectationsOf, metricIn, withAnswer } from '../page/src/lessons.js';
+import { captionsOf, checksOf, expectationsOf, metricIn, questionIn, withAnswer } from '../page/src/lessons.js';
 import { losing } from '../page/src/losing.js';
 import { keysOf, renumbered } from '../page/src/numbering.js';
-import { layOut, wiringOf } from '../page/src/layout.js';
+import { fitted, layOut, wiringOf } from '../page/src/layout.js';
 import { drawingOf } from '../page/src/drawing.js';
 import { detailOf } from '../page/src/detail.js';
 import { guessed, markGuess, reveal, scoreOf } from '../page/src/quiz.js';
@@ -20,7 +20,10 @@ const metricsAt = (trace, step = trace.steps.length - 1) => trace.steps[step].ro
 const ANSWERS = {
   'exercise-02-line': '3 none 1 8', 'exercise-03-detour': '7 none 7 3 4', 'exercise-05-one-way-cost': '4 8 8 4 16',
   'exercise-06-timeout': '2 16 16 none', 'exercise-10-poisoned-reverse': '3 16 16 3 16', 'exercise-11-ring-of-four': '3 16 3 4 5 16 6 16',
-  'exercise-15-horizon': '6 11 none',
+  'exercise-15-horizon': '6 11 none', 'exercise-04-two-owners': '3 3 16 3 4 5', 'exercise-07-dead-router': '4 3 16 16 6 16 7',
+  'exercise-12-lost-withdrawal': '2 16 16 3 16 none', 'exercise-19-liar': '4 2 2 2 2 3',
+  'exercise-01-one-hop': 'none 7 none 3 1 10 7', 'exercise-09-news': '4 6 2 6 4 15 4 16 10 12',
+  'exercise-13-loops': '2 2 4 4 16 16', 'exercise-20-restart': 'none 3 2 none 3 2', 'exercise-27-good-bye': '16 4 16 6 16 7',
 };
 
 export function lessonCases({ ran, same, traceOf, three }) {
@@ -106,6 +109,10 @@ export function lessonCases({ ran, same, traceOf, three }) {
         const spots = spotsOf(networkScript('line', count));
         same(`a line of ${count}`, spots.map(({ x }, spot) => [x, spot]).sort(([a], [b]) => a - b).map(([, spot]) => spot), spots.map((_, spot) => spot));
       }
+      // A long line goes forth and back, six in a row, and has room so where a class sees it.
+      const rows = spotsOf(networkScript('line', 16));
+      same('rows', rows.map(({ x, y }) => [x, y].join()).join(' '), '0,0 1,0 2,0 3,0 4,0 5,0 5,1 4,1 3,1 2,1 1,1 0,1 0,2 1,2 2,2 3,2');
+      same('whether they have room', fitted(rows, [], { width: 520, height: 300 }).roomy, true);
       const ring = spotsOf(networkScript('ring', 5)), lengths = ring.map(({ x, y }, spot) => Math.hypot(x - ring[(spot + 1) % 5].x, y - ring[(spot + 1) % 5].y).toFixed(3));
       same('a ring', [new Set(lengths).size, ring.every(({ y }) => y >= ring[0].y)], [1, true]);
     },
@@ -134,6 +141,10 @@ export function lessonCases({ ran, same, traceOf, three }) {
       const stop = nextStop(trace, captions, 0, 'remark', 1);
       same('the line of the stop, and of the next step', [trace.steps[stop].record.line, trace.steps[stop + 1].record.line], [13, 15]);
       same('back again', nextStop(trace, captions, stop, 'remark', -1), 0);
+    },
+    'what a caption asks in a quiz': () => {
+      const asked = ['Question: how long? Answer: 16 rounds. Why?', 'R1 has 5. What has R2? It has 6.', 'Each adds 1.', ''];
+      same('it', asked.map(questionIn), ['Question: how long?', 'R1 has 5. What has R2?', '', '']);
     },
     // Of three routers one is guessed at once, one at the second time, and one is shown.
     'a quiz': () => {

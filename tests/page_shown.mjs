@@ -8,6 +8,7 @@ import { matrixOf, tablesOf, tallyOf } from '../page/src/tables.js';
 import { checksOf, expectationsOf, plainLines, withAnswer } from '../page/src/lessons.js';
 import { joined, networkScript } from '../page/src/building.js';
 import { oneResponse } from '../page/src/datagrams.js';
+import { LINES } from '../page/src/texts.js';
 
 export function shownCases({ same, traceOf, three }) {
   const drawn = (trace, more = {}) => {
@@ -73,6 +74,38 @@ export function shownCases({ same, traceOf, three }) {
       same('which', trace.steps.map(({ earlier }) => earlier), [null, null, '0.5 s before what came last', null]);
       same('in the list', [eventOf(back, 2, trace.names), eventOf(forth, 3, trace.names)].map(({ text }) => text.includes('0.5 s before')), [true, false]);
       same('beside the drawing', told(trace, { step: 2 }).includes('Time goes back: 0.5 s before what came last.'), true);
+    },
+    // R2 is down from the third round on: its route by R1 would expire at 210 s, and nothing runs there. R1's, over a link that is cut, does.
+    'time that has run out': () => {
+      const trace = traceOf(`${three}rounds 3 0 15000\nsilent 2\ncut 0\nrounds 13 45000 15000\n`), step = trace.steps.length - 1;
+      const rows = at => tablesOf({ trace, step: at, chosen: null }).map(({ text }) => /<span title="[^"]*">(.*?)<\/span>/.exec(text)?.[1] ?? '');
+      same('before', rows(trace.steps.findIndex(({ record }) => record.line === 13) - 1), ['', 'in 180 s', 'in 180 s']);
+      same('at 225 s', [trace.steps[step].now, ...rows(step)], [225000, '', 'deleted in 105 s', 'has run out']);
+      const whyBehind = lines => /<p id="outage"[^>]*>(.*?)<\/p>/.exec(told(traceOf(`${three}rounds 3 0 15000\n${lines}`), { chosen: 'route 2 2001:db8::/32' }))?.[1];
+      same('why', whyBehind('cut 1\nsilent 2\nrounds 13 45000 15000\n'), 'This path goes over link 1, which was cut in line 11. R2 is down itself.');
+      same('before its timer runs', whyBehind('cut 1\nrounds 11 45000 15000\ntick 0 215000 0\n'), 'This path goes over link 1, which was cut in line 11. R2 notices when its timer runs.');
+    },
+    // The browser says a field's title where what is typed is none.
+    'what a prefix is, is said': () => {
+      const [, pattern, title] = /name="prefix"[^>]*pattern="([^"]*)" title="([^"]*)"/.exec(told(traceOf(three), { chosen: 'router 0' }));
+      same('it', ['2001:db8:1::/48', ' ::/0 ', '10.0.0.0/8', '2001:db8::'].map(text => new RegExp(`^(?:${pattern})$`, 'v').test(text)), [true, true, false, false]);
+      same('as said', title, 'a prefix of IPv6, like 2001:db8:1::/48');
+    },
+    // A router's number is the first word of a route and of a path, and stands within a path and in what is lost; links keep theirs.
+    'what is printed has names': () => {
+      const trace = traceOf(`${three.replace('router', 'router Bonn')}rounds 3 0 15000\nsilent 1\nprint\npath 2 2001:db8::1\nsent 4\nspeaks 1\ncut 0\npath 2 2001:db8::1\n`);
+      const lines = [12, 13, 14, 17].map(line => /<pre>(.*?)<\/pre>/s.exec(detailOf({ trace, step: trace.steps.findIndex(({ record }) => record.line === line), wiring: wiringOf(trace), typed: {}, place: 'end', chosen: null }).text)[1].split('\n'));
+      same('routes', lines[0].map(line => line.split(' ').slice(0, 2).join(' ')), ['Bonn 2001:db8::/32', 'R1 2001:db8::/32', 'R2 2001:db8::/32']);
+      same('paths', [...lines[1], ...lines[3]], ['R2 2001:db8::1 path R2 R1 Bonn delivered', 'R2 2001:db8::1 lost at R1: silent', 'R2 2001:db8::1 path R2 R1 Bonn delivered', 'R2 2001:db8::1 lost at R1: link 0 is cut']);
+      same('datagrams', lines[2][0].startsWith('4 router Bonn iface 0 group '), true);
+    },
+    // What a link's panel offers is what scripts have lines for.
+    'a cut is silent': () => {
+      const has = word => LINES.some(([form]) => form.startsWith(`${word} `)), trace = traceOf(`${three}cut 1\n`);
+      const lines = chosen => [...told(trace, { chosen }).matchAll(/data-lines="([^"]*)"/g)].map(([, line]) => line).filter(line => /^(cut|mend|down|up|costs?) /.test(line)).map(line => line.split(' ')[0]);
+      const costs = ['cost', has('costs') ? 'costs' : 'cost'];
+      same('of a link', lines('iface 0 0'), ['cut', ...has('down') ? ['down'] : [], ...costs]);
+      same('of one that is cut', lines('iface 2 0'), ['mend', ...has('up') ? ['up'] : [], ...costs]);
     },
     // A word is the beginning of a name or a part of a prefix; several of a kind are any of them.
     'a filter of tables': () => {

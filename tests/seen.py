@@ -31,8 +31,8 @@ TEXT_KEPT = '''(name => JSON.parse(localStorage.getItem(Object.keys(localStorage
 # What is wider than its place, as a window and as a cell of a table; what a finger would not hit, below 24 pixels.
 WIDE = '''[...document.querySelectorAll('#tables table:not(.matrix) :is(th, td, td .link)')].filter(text => text.scrollWidth > text.clientWidth + 1)
   .map(text => text.textContent).concat(document.documentElement.scrollWidth > innerWidth ? ['the page'] : []).join()'''
-# What is cut off in lists: what is chosen in each, and all that there is to choose in those but the scripts. What a list has beside its text
-# is known from its width where it may have what it wants.
+# What is cut off in lists, of all that there is to choose. What a list has beside its text is known from its width where it may have
+# what it wants.
 CUT_OFF = '''(() => {
   const pen = document.createElement('canvas').getContext('2d');
   return [...document.querySelectorAll('select')].filter(list => list.checkVisibility()).flatMap(list => {
@@ -42,7 +42,7 @@ CUT_OFF = '''(() => {
     Object.assign(list.style, { width: 'auto', maxWidth: 'none', flex: 'none' });
     const beside = list.offsetWidth - Math.max(...textsOf(list.options).map(widthOf));
     Object.assign(list.style, { width: '', maxWidth: '', flex: '' });
-    return textsOf(list.id === 'examples' ? list.selectedOptions : list.options).filter(text => widthOf(text) + beside > room + 2);
+    return textsOf(list.options).filter(text => widthOf(text) + beside > room + 2);
   }).join();
 })()'''
 SMALL = '''[...document.querySelectorAll('button, select, input, [role=button]:not(.link-line)')].filter(target => target.checkVisibility()).filter(target => {

@@ -1,13 +1,15 @@
 #!/usr/bin/env python3
 """What a router's sockets on 127.0.0.1 give it: who is heard, when they are read, and what is lost; and how they are had.
 
-    tests/sockets.py PROGRAM [NAME..]
+    [WATCHED=SECONDS] tests/sockets.py PROGRAM [NAME..]
 
-A line for each case that fails, and last how many passed. Where moments count, the clock is the test's own (tests/system.c), so that they
-are exact: it stands still but for what is slept and waited."""
+Ticks are watched for 4 seconds, or for those of WATCHED. A line for each case that fails, and last how many passed. Where moments
+count, the clock is the test's own (tests/system.c), so that they are exact: it stands still but for what is slept and waited."""
 
+import os
 import re
 import sys
+import threading
 import time
 from errno import EACCES, EADDRINUSE, EINTR, EIO, EMFILE, ENOMEM
 
@@ -17,6 +19,7 @@ from datagrams import REQUEST, entry, response
 from ordered import Ordered, calls, environment
 from suite import same
 
+WATCHED = float(os.environ.get("WATCHED", 4))
 OWN = "2001:db8::/32"
 FAULTY = response(entry(OWN, 17))
 """A Response of which nothing is learned, and something is said."""
@@ -42,6 +45,47 @@ def an_idle_turn_waits_once_and_reads_no_socket(case):
     router = Ordered(case, "idle", text, "-q", "--turns", "3", clock=0).done()
     same("how long it waited", router.waits(), [50, 50, 50])
     same("what it read", router.calls("recvfrom"), [])
+
+
+@listed
+def an_idle_turn_lasts_until_something_is_due(case):
+    """But 400 ms at most. By the test's own clock: 100 seconds, with some regular updates."""
+    neighbor, port = case.neighbor(), case.port()
+    router = Ordered(case, "lasting", interface(1, port, peer(2, neighbor.port)) + prefix(OWN), "--seconds", "100", clock=0, readings=1).done()
+    ticks, waits = router.ticks(), router.waits()
+    same("how long the first turns waited", waits[:3], [50, 400, 400])
+    lasted = [later - earlier for earlier, later in zip(ticks, ticks[1:])]
+    same("the longest turn", max(lasted), 400)
+    same("whether there were few turns", 250 <= len(waits) <= 270, True)
+    updates = sorted(router.sends(port))[1:]
+    same(f"whether {updates} are moments of ticks", len(updates) >= 2 and set(updates) <= set(ticks), True)
+    same("how long it waited", sum(waits), 100_000)
+
+
+def flood(stop, neighbor, port):
+    while not stop.is_set():
+        neighbor.send(port, FAULTY, 20)
+        time.sleep(0.001)
+
+
+@listed
+def two_ticks_are_never_half_a_second_apart(case):
+    """While nothing comes, and in floods: of a neighbor's datagrams, and of a stranger's, which end no turn."""
+    for name in ("idle", "neighbor", "stranger"):
+        source, port = case.neighbor(), case.port()
+        heard = source.port if name == "neighbor" else case.port()
+        router = Ordered(case, f"ticking{name}", interface(1, port, peer(2, heard)) + prefix(OWN), readings=1).go()
+        stop = threading.Event()
+        flooding = threading.Thread(target=flood, args=(stop, source, port))
+        if name != "idle":
+            flooding.start()
+        time.sleep(WATCHED)
+        stop.set()
+        router.end()
+        ticks = router.ticks()
+        same(f"whether {len(ticks)} ticks are enough", len(ticks) >= 2 * WATCHED, True)
+        longest = max(later - earlier for earlier, later in zip(ticks, ticks[1:]))
+        same(f"whether the longest time between two ticks, {longest} ms, is less than half a second", longest < 500, True)
 
 
 @listed

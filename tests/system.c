@@ -1,6 +1,7 @@
 /* What the system answers a program, as a test orders it: preloaded (LD_PRELOAD), so that it stands before the C library.
  *
  *   SYSTEM_LOG=FILE    gets a line for each call that is watched: the clock's milliseconds, its name, what it was asked, its answer
+ *   SYSTEM_READINGS=1  the readings of the clock are watched, too
  *   SYSTEM_CLOCK=N     the clock is the test's own: it begins at 0, goes on by what is slept, by waits in which nothing comes, and by N
  *                      milliseconds behind each reading. `still` never goes on
  *   SYSTEM_GATE=FILE   the first wait for datagrams is held back until there is such a file
@@ -31,13 +32,22 @@ static const char *const names[CALLS] = {
 static long counts[CALLS];
 static long now_ms;
 
+/* The moment by the test's own clock, or else by the system's. */
+static long moment(void)
+{
+    struct timespec time = {0};
+    if (getenv("SYSTEM_CLOCK")) return now_ms;
+    syscall(SYS_clock_gettime, CLOCK_MONOTONIC, &time);
+    return time.tv_sec * 1000 + time.tv_nsec / 1000000;
+}
+
 static void note(enum call call, const char *format, ...)
 {
     static int file = -2;
     char line[256];
-    int length = snprintf(line, sizeof line, "%ld %s ", now_ms, names[call]);
-    va_list values;
     int error = errno;
+    int length = snprintf(line, sizeof line, "%ld %s ", moment(), names[call]);
+    va_list values;
     if (file == -2) file = getenv("SYSTEM_LOG") ? open(getenv("SYSTEM_LOG"), O_WRONLY | O_CREAT | O_APPEND | O_CLOEXEC, 0600) : -1;
     if (file < 0) return (void)(errno = error);
     va_start(values, format);
@@ -174,6 +184,7 @@ int nanosleep(const struct timespec *span, struct timespec *left)
 int clock_gettime(clockid_t clock, struct timespec *time)
 {
     const char *own = getenv("SYSTEM_CLOCK");
+    if (getenv("SYSTEM_READINGS")) note(CLOCK, "= 0");
     if (fails(CLOCK)) return -1;
     if (!own) return syscall(SYS_clock_gettime, clock, time);
     time->tv_sec = now_ms / 1000;

@@ -136,6 +136,9 @@ class Visit(Newcomer):
         same('what is too wide', self.page.value('document.documentElement.scrollWidth > innerWidth'), False)
         self.click('quiz')
         same('what is hidden', self.page.value('document.querySelector(".metric text").textContent'), '?')
+        self.page.size(500, 900)
+        room = self.page.value('[document.getElementById("drawing").clientWidth > 300, document.getElementById("quiz").clientWidth > 300, document.documentElement.scrollWidth <= innerWidth]')
+        same('whether drawing and quiz have room on a narrow window', room, [True, True, True])
 
     def drafts(self):
         """A shared script, another example and another tab destroy nothing; states outlive a reload."""
@@ -150,11 +153,12 @@ class Visit(Newcomer):
         text(f'location.hash = "name=ring-5.lab&script={link}"')
         self.comes('the shared script is there', f'{script}.startsWith("# theirs")')
         self.still()
+        self.comes('it is said whose it is', f'{text_of("#editing")}.startsWith("This script came with the link.")')
         same('what is kept', text(NAMES_KEPT), 'ring-5.lab')
         same('whether it is the own one', text(f'{TEXT_KEPT}("ring-5.lab")') == own, True)
-        self.page.value('history.replaceState(null, "", "#step=1")')
-        self.reload()
+        self.reload_at_first()
         same('what is there after a reload', text(script).startswith('# theirs'), True)
+        same('what is said then', 'Your last script' in self.read('#editing'), False)
         self.click('undo')
         self.comes('the own network is back', f'{script} === {json.dumps(own)}')
         self.still()
@@ -184,7 +188,7 @@ class Visit(Newcomer):
         self.open(f'{self.url}#line')
         same('a new tab', self.read('#caption') != '', True)
         value(f'Object.entries({mine}).forEach(([key, text]) => sessionStorage.setItem(key, text))')
-        value('history.replaceState(null, "", "#step=1")')
+        self.page.value('history.replaceState(null, "", "#step=1")')
         self.reload()
         same('the first tab', value(script) == own, True)
 
@@ -203,8 +207,7 @@ class Visit(Newcomer):
         after = self.read('#where')
         same('whether the act went on to its end', after == before, False)
         for _ in range(2):
-            self.page.value('history.replaceState(null, "", "#step=1")')
-            self.reload()
+            self.reload_at_first()
             same('the step after a reload', self.read('#where').split(' of ')[0], 'step 1')
             self.page.press('End')
             same('the last step', self.read('#where'), after)
@@ -214,6 +217,12 @@ class Visit(Newcomer):
             self.click('redo')
             self.comes(f'the step is {after!r} again', f'{text_of("#where")} === {json.dumps(after)}')
             self.still()
+
+    def reload_at_first(self):
+        """The page follows its step in the address, a moment later; then the first step is asked for."""
+        self.comes('the address has followed', 'location.hash.includes(`step=${document.getElementById("where").textContent.split(" ")[1]}`)')
+        self.page.value('history.replaceState(null, "", "#step=1")')
+        self.reload()
 
     def reload(self):
         self.open(self.page.value('location.href'))
@@ -232,8 +241,7 @@ class Visit(Newcomer):
         place = self.page.value(at)
         same('how far it was moved', [before[0] - place[0], before[1] - place[1]], [40, 30])
         same('whether the script has it', '#places 2 ' in self.page.value('document.getElementById("script").value'), True)
-        self.page.value('history.replaceState(null, "", "#step=1")')
-        self.reload()
+        self.reload_at_first()
         self.is_near('after a reload', at, place)
         if type(self.page).__name__ == 'Chromium':
             self.recorded()
@@ -312,6 +320,10 @@ class Visit(Newcomer):
             box = self.page.value('document.getElementById("step").getBoundingClientRect().top')
             same(f'whether one can step beside the tables at {width}', 0 <= box < height, True)
         same('what is too small to hit', self.page.value(SMALL), '')
+        self.open(f'{self.url}#15-horizon')
+        self.page.press('End')
+        self.page.size(1400, 900)
+        same('whether the head has one row beside a long script', self.page.value('document.querySelector("header").getBoundingClientRect().height < 50'), True)
         self.page.size(950, 500)
         room = self.page.value('document.getElementById("drawing").clientHeight > 150 && (({ scrollHeight, clientHeight }) => '
                                'scrollHeight - clientHeight < 2)(document.getElementById("detail"))')

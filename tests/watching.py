@@ -6,12 +6,14 @@
 A line for each case that fails, and last how many passed. The system answers as is ordered (tests/system.c): its clock stands still,
 and writes fail in turn."""
 
+import os
 import re
+import subprocess
 import sys
 from errno import ENOSPC
 
 sys.dont_write_bytecode = True
-from daemons import interface, listed, main, peer, prefix, until
+from daemons import interface, listed, main, peer, prefix, SECONDS, until
 from datagrams import REQUEST, entry, feed, response, table
 from ordered import Ordered
 from suite import Failed, same
@@ -195,6 +197,23 @@ def each_of_many_changes_has_its_line(case):
     lines = [f"2001:db8:{number:x}::/48".replace(":0::", "::") + " metric 2 via fe80::2 iface 0\n" for number in range(70)]
     same("the table", router.done().out(), "".join(lines))
     same("the log", router.log(), "".join(f"add {line}" for line in lines))
+
+
+@listed
+def a_line_of_the_log_is_one_write(case):
+    """To a file, and to standard output: a pipe of packets keeps the writes apart."""
+    routes = [f"2001:db8:{number}::/48 metric 1 direct\n" for number in range(1, 10)]
+    lines = [f"add {route}" for route in routes]
+    text = interface(1, case.port()) + "".join(prefix(route.split()[0]) for route in routes)
+    router = Ordered(case, "one", text, "-q", "-R", "one.log", "--turns", "1", clock=0).done()
+    same("the lengths of the writes to a file", [length for _, _, length, _ in router.calls("write3")], [len(line) for line in lines])
+    end, begin = os.pipe2(os.O_DIRECT | os.O_CLOEXEC)
+    subprocess.run([case.program, "run", "-q", "-R", "-", "--turns", "1", "one.toml"], cwd=case.folder, stdin=subprocess.DEVNULL,
+                   stdout=begin, stderr=subprocess.DEVNULL, timeout=SECONDS, check=True)
+    os.close(begin)
+    writes = [write.decode() for write in iter(lambda: os.read(end, 65_536), b"")]
+    os.close(end)
+    same("the writes to standard output", writes, [*lines, "".join(routes)])
 
 
 @listed

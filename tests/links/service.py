@@ -78,8 +78,8 @@ def links_that_are_not_there(net, program):
     why = f"ripngd-links: cannot use {ours.run}: another ripngd-links is there; name another `folder`\n"
     same("a second one", (done.returncode, done.stderr), (3, why))
     text = subprocess.run([sys.executable, COMPANION, "status", ours.run], capture_output=True, text=True, check=True).stdout
-    neighbor = f"  neighbor {next(iter(ours.kernel().values()))['gateway']}, heard \\d+ s ago, 1 routes"
-    links = ("to-b is up, address .*", "eth9 is not there", "lan7 is not there, stub")
+    neighbor = f"  neighbor {next(iter(ours.kernel().values()))['gateway']}, heard \\d+ s ago, last Response \\d+ s ago, 1 routes"
+    links = ("to-b is up, address .*, interface 0, cost 1, mtu \\d+", "eth9 is not there", "lan7 is not there, stub")
     for line in ("router is up, .*", "kernel has 1 routes, refused 0", *links, neighbor):
         same(f"whether status says `{line}`", re.search(f"^{line}$", text, re.M) is not None, True)
 
