@@ -20,7 +20,7 @@ import sys
 PAGE = pathlib.Path(__file__).resolve().parent
 ROOT = PAGE.parent
 # The modules in order, of the page and of its worker.
-PAGE_MODULES = ["trace", "losses", "datagrams", "packets", "walks", "building", "numbering", "losing", "removing", "lessons", "layout", "markup",
+PAGE_MODULES = ["trace", "losses", "datagrams", "packets", "walks", "building", "numbering", "losing", "removing", "lessons", "layout", "placing", "markup",
                 "texts", "filtering", "tables", "acting", "forwarding", "detail", "quiz", "marks", "drawing", "showing", "keeping", "laboratory", "playing",
                 "editor", "giving", "acts", "keys", "page"]
 WORKER_MODULES = ["module", "worker"]

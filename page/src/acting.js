@@ -1,7 +1,7 @@
 // What can be done by clicks with what was chosen: a router, a link at one end, a datagram. Each act is lines of the script.
 import { hasCome, nameOf, onTheirWay, otherEnds, prefixInView } from './trace.js';
 import { decode } from './datagrams.js';
-import { plural, seconds } from './texts.js';
+import { LINES, plural, seconds } from './texts.js';
 import { titleOf } from './tables.js';
 import { html } from './markup.js';
 
@@ -59,17 +59,27 @@ function linkForm(state, router) {
 }
 
 // ---- A link, at one end ----
+// Whether scripts have a line of that word.
+const hasLine = word => LINES.some(([form]) => form.startsWith(`${word} `));
+
+// A link is cut and mended silently; or it goes down and comes up, which its routers notice.
+function linkActs(link, isCut) {
+  const silent = isCut ? does('mend the link', `mend ${link}`, 'c') : does('cut the link', `cut ${link}`, 'c');
+  const loud = !hasLine('down') ? '' : isCut ? does('bring it up', `up ${link} {now}`) : does('take it down', `down ${link} {now}`);
+  const known = loud ? ' Taken down, its routers notice at once.' : '';
+  return html`${choices(html`${silent}${loud}${removes('link', link)}`)}
+    ${isCut ? '' : html`<p class="faint">A cut is silent: nobody is told, and a route over it is kept until it times out, 180 s
+      after it was heard last.${known}</p>`}`;
+}
+
 function ifaceDetail(state, { router, iface }) {
   const { trace } = state, { addr, cost, mtu, link } = trace.steps[state.step].routers[router].interfaces[iface];
   const end = trace.ends[router][iface], [other, ...more] = otherEnds(trace, end), isCut = isOut(state, `link ${link}`);
-  const both = other && more.length === 0 ? does('set it at both ends',
-    `cost ${router} ${iface} {now} {cost}\ncost ${other.router} ${other.iface} +0 {cost}`) : '';
+  const both = !other ? '' : hasLine('costs') ? does(`set it at ${more.length === 0 ? 'both' : 'all'} ends`, `costs ${link} {now} {cost}`)
+    : more.length === 0 ? does('set it at both ends', `cost ${router} ${iface} {now} {cost}\ncost ${other.router} ${other.iface} +0 {cost}`) : '';
   return html`<h2>Link ${link}${other ? ` to ${otherEnds(trace, end).map(one => nameOf(trace, one.router)).join(', ')}` : ''},
     at ${nameOf(trace, router)}'s interface ${iface}</h2><p>${addr}, cost ${cost}, MTU ${mtu}.</p>
-    ${choices(html`${isCut ? does('mend the link', `mend ${link}`, 'c') : does('cut the link', `cut ${link}`, 'c')}
-      ${removes('link', link)}`)}
-    ${isCut ? '' : html`<p class="faint">A cut is silent: nobody is told, and a route over it is kept until it times out, 180 s
-      after it was heard last.</p>`}
+    ${linkActs(link, isCut)}
     ${choices(html`${moment(state)}${count(state, 'cost', 'cost', cost, 1, 15)}
       ${does('set it', `cost ${router} ${iface} {now} {cost}`)}${both}`)}${forgeries(state, router, iface)}`;
 }

@@ -26,6 +26,11 @@ export const openAt = (view, step) => prefix => isAsked(view, view.trace.steps[s
 const stepLink = ({ steps }, step) =>
   html`<button class="link" data-choose="step ${step}">line ${steps[step].record.line}</button>`;
 
+// Lines that are printed have the numbers of routers; here stand their names.
+const IS_ROUTER = { print: at => at === 0, sent: (at, words) => words[at - 1] === 'router', path: (at, words) => words[at - 1] !== 'link' };
+const withNames = (trace, { record, prints }) => prints.map(line => line.split(' ').map((word, at, words) =>
+  /^\d+:?$/.test(word) && IS_ROUTER[record]?.(at, words) ? word.replace(/\d+/, router => nameOf(trace, Number(router))) : word).join(' '));
+
 export function detailOf(state) {
   const { trace, step, chosen, wiring } = state, { record, said, earlier } = trace.steps[step] ?? {};
   const thing = wiring && named(chosen, trace), badness = badIf(record?.record === 'refused');
@@ -34,7 +39,7 @@ export function detailOf(state) {
   return html`<p class="${badness} happened"><b>Line ${record.line}: ${describe(record, trace.names, openAt(state, step))}${hintOf(record)}</b>${at}</p>
     ${earlier ? html`<p class="bad">Time goes back: ${earlier}.</p>` : ''}
     ${said.map(text => html`<p>After it, ${text}.</p>`)}${refusals(record).map(text => html`<p class="bad">${text}</p>`)}
-    ${record.prints ? html`<pre>${record.prints.join('\n')}</pre>` : ''}
+    ${record.prints ? html`<pre>${withNames(trace, record).join('\n')}</pre>` : ''}
     ${thing ? html`<div id="thing">${(DETAILS[thing.kind] ?? ACTIONS[thing.kind])(state, thing)}</div>`
     : html`${offersText(state)}${updatesText(state)}${actsHere(state)}`}`;
 }
@@ -126,8 +131,9 @@ function outagesText(trace, { out, routers, now }, { hops }, prefix) {
   if (!found) return '';
   const { end, text, line } = found, route = routers[end.router].table.get(prefix)?.route, name = nameOf(trace, end.router);
   const isUsed = route?.metric < UNREACHABLE && route.gateway?.iface === end.iface && route.until !== null;
-  const when = isUsed ? ` ${name} notices at ${route.until / 1000} s, in ${Math.ceil((route.until - now) / 1000)} s, unless it hears of
-    another path before.` : ` ${name} has noticed.`;
+  const left = isUsed && Math.ceil((route.until - now) / 1000), when = out.has(`router ${end.router}`) ? ` ${name} is down itself.`
+    : !isUsed ? ` ${name} has noticed.` : left <= 0 ? ` ${name} notices when its timer runs.`
+    : ` ${name} notices at ${route.until / 1000} s, in ${left} s, unless it hears of another path before.`;
   return html`<p id="outage" class="bad">This path goes over ${text} in line ${line}.${when}</p>`;
 }
 

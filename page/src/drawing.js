@@ -4,6 +4,7 @@ import { UNREACHABLE } from './datagrams.js';
 import { walkOf } from './walks.js';
 import { pathOf, waysOf } from './packets.js';
 import { fitted } from './layout.js';
+import { boxAt, costPoint, labelPoint, platesOf, pointBy } from './placing.js';
 import { hasChanged } from './tables.js';
 import { marksOf } from './marks.js';
 import { guessed } from './quiz.js';
@@ -25,7 +26,8 @@ function chosenWalk(view) {
 // shifts of its spots, and the pane. Most parts are the same from one step to the next.
 export function drawingOf(state) {
   const { trace, wiring: { wires, hubs, count }, step } = state, fit = fitted(state.spots, state.shifts, state.pane, state.isLarge, state.room);
-  const scene = { since: step - 1, ...state, ...trace.steps[step], fit, walk: chosenWalk(state), prefix: prefixInView(state) };
+  const scene = { since: step - 1, ...state, ...trace.steps[step], fit, walk: chosenWalk(state), prefix: prefixInView(state),
+    plates: platesOf(fit, state.wiring, state.isLarge), costs: [], labels: [] };
   const all = draw => scene.routers.map((_, router) => draw(scene, router));
   const atEnds = draw => wires.flatMap(wire => wire.ends.map(end => draw(scene, wire, end)));
   const parts = [
@@ -33,7 +35,7 @@ export function drawingOf(state) {
     html`${hubs.map((link, hub) => drawHub(link, fit.places[count + hub]))}`,
     html`${drawPackets(scene)}${drawDropped(scene)}
       ${scene.walk.hops.map((hop, index) => drawHop(scene, hop, index))}`,
-    ...all(drawRouter), ...atEnds(drawCost), ...all(drawLabel), ...all(drawMetric), ...marksOf(scene, pointBy),
+    ...all(drawRouter), ...atEnds(drawCost), ...all(drawLabel), ...all(drawMetric), ...marksOf(scene),
   ];
   return { ...fit, parts };
 }
@@ -51,22 +53,13 @@ function drawWire({ trace, fit: { places }, out, chosen }, { from, to, ends }) {
     <path class="grip" d="${line}"/><path class="wire ${cut}" d="${line}"/><title>${label}</title></g>`;
 }
 
-// A point by a wire, seen from a spot of it: so many pixels along, at most near the middle, and so many aside to the
-// left; what is drawn there, so wide and high, leaves these free.
-function pointBy({ places }, wire, spot, along, aside, wide = 0, high = 0) {
-  const here = places[spot], away = places[spot === wire.from ? wire.to : wire.from];
-  const length = Math.hypot(away.x - here.x, away.y - here.y) || 1, far = Math.min(along, 0.42 * length);
-  const dx = (away.x - here.x) / length, dy = (away.y - here.y) / length;
-  const off = aside + Math.sign(aside) * (Math.abs(dy) * wide + Math.abs(dx) * high) / 2;
-  return { x: here.x + far * dx + off * dy, y: here.y + far * dy - off * dx };
-}
-
 // A link whose ends all cost 1 has no numbers.
-function drawCost({ trace, fit, routers, chosen }, wire, { router, iface }) {
+function drawCost({ trace, fit, plates, costs, routers, chosen }, wire, { router, iface }) {
   const { addr, cost, link } = routers[router].interfaces[iface], size = fit.roomy ? 12 : 8.5;
-  const { x, y } = pointBy(fit, wire, router, fit.radius + size, fit.roomy ? -8 : -3, size / 2, size / 2);
+  const { x, y } = costPoint(fit, plates[router], wire, router, size);
   const text = `iface ${router} ${iface}`, label = `${nameOf(trace, router)} interface ${iface}: cost ${cost}`;
   const isPlain = trace.links.get(link).every(end => routers[end.router].interfaces[end.iface].cost === 1);
+  if (!isPlain) costs.push(boxAt({ x, y }, size, size));
   return html`<g class="${classes('cost', chosen === text && 'chosen')}" ${choice(text, label, chosen)}>
     <circle class="target" cx="${x}" cy="${y}" r="${fit.roomy ? 12 : 6}"/>${isPlain ? ''
     : html`<text x="${x}" y="${y}" font-size="${size}">${cost}</text>`}<title>${label}, ${addr}, link ${link}</title></g>`;
@@ -74,8 +67,9 @@ function drawCost({ trace, fit, routers, chosen }, wire, { router, iface }) {
 
 // A name stands in the circle where it is short.
 const LEAST_LETTERS = 8.5;
-const lettersIn = (radius, name) => Math.min(0.78 * radius, 1.84 * radius / (0.6 * name.length));
-const isInside = ({ trace, fit }, router) => lettersIn(fit.radius, nameOf(trace, router)) >= LEAST_LETTERS;
+const lettersIn = ({ fit: { radius }, routers }, router, name) =>
+  Math.min(0.78 * radius, 1.84 * (radius - (routers[router].prefixes.length > 0 ? 3 : 0)) / (0.6 * name.length));
+const isInside = (scene, router) => lettersIn(scene, router, nameOf(scene.trace, router)) >= LEAST_LETTERS;
 
 function drawRouter(scene, router) {
   const { trace, fit: { places, radius }, walk, record, chosen, prefix, out } = scene;
@@ -91,39 +85,33 @@ function drawRouter(scene, router) {
   return html`<g class="router ${classes(...Object.keys(is).filter(one => is[one]))}" data-router="${router}"
     ${choice(text, label, chosen)}><circle cx="${x}" cy="${y}" r="${radius}"/>
     ${prefixes.length > 0 ? html`<circle class="owner" cx="${x}" cy="${y}" r="${radius - 3}"/>` : ''}
-    <text x="${x}" y="${y}" font-size="${lettersIn(radius, inside)}">${inside}</text><title>${label}</title></g>`;
+    <text x="${x}" y="${y}" font-size="${lettersIn(scene, router, inside)}">${inside}</text><title>${label}</title></g>`;
 }
 
-// The metric at the upper right of a router: a click asks why.
+// The metric at a corner of a router: a click asks why.
 function drawMetric(scene, router) {
-  const { trace, fit: { places, radius, roomy }, prefix, isQuiz, isLarge, chosen } = scene, metric = routeAt(scene, router, prefix)?.metric;
-  const { x, y } = places[router], size = isLarge ? 0.8 * radius : roomy ? 9 : 6.5, guess = isQuiz ? guessed(scene, router) : null;
+  const { trace, fit: { roomy }, prefix, isQuiz, chosen } = scene, metric = routeAt(scene, router, prefix)?.metric;
+  const { x, y, size } = scene.plates[router], guess = isQuiz ? guessed(scene, router) : null;
   const isOpen = !isQuiz && isAsked(scene, router, prefix);
   if (!metric && !isQuiz && !isOpen) return html``;
-  const corner = `translate(${x + 0.7 * radius + 0.35 * size} ${y - 0.7 * radius - 0.35 * size})`;
   const shown = isQuiz ? guess ?? '?' : isOpen ? '?' : metric;
   const says = isQuiz ? 'guess' : isOpen ? 'a blank asks for it' : `why metric ${metric}?`;
   const label = `${prefix} at ${nameOf(trace, router)}: ${says}`;
   const is = classes('metric', hasChanged(scene, router, prefix) && !isQuiz && 'changed', isQuiz && guess !== null && 'right');
-  return html`<g class="${is}" transform="${corner}" ${roomy ? choice(`route ${router} ${prefix}`, label, chosen) : ''}>
+  return html`<g class="${is}" transform="translate(${x} ${y})" ${roomy ? choice(`route ${router} ${prefix}`, label, chosen) : ''}>
     ${roomy ? html`<circle class="target" r="12"/>` : ''}<circle class="plate" r="${size}"/>
     <text class="${metric >= UNREACHABLE && !isQuiz && !isOpen ? 'unreachable' : ''}" font-size="${1.25 * size}">${shown}</text></g>`;
 }
 
-// A router's name where it is too long for its circle, and what it originates: within the pane, below it, or above it
-// where only there no wire leaves.
+// A router's name where it is too long for its circle, and what it originates.
 function drawLabel(scene, router) {
-  const { trace, fit: { places, radius, roomy, width, height }, wiring, routers } = scene;
+  const { trace, fit: { roomy }, routers, labels } = scene;
   const [own, ...others] = routers[router].prefixes, more = others.length > 0 ? ` +${others.length}` : '';
   const text = [!isInside(scene, router) && trace.names.get(router), own && `${own.prefix}${more}`].filter(Boolean).join(' · ');
-  const { x, y } = places[router], half = 3.2 * text.length;
   if (!roomy || !text) return html``;
-  const wires = wiring.wires.filter(({ from, to }) => from === router || to === router);
-  const aways = wires.map(({ from, to }) => places[from === router ? to : from]);
-  const leaves = way => aways.some(away => way * (away.y - y) > 0.8 * Math.hypot(away.x - x, away.y - y));
-  const at = leaves(1) && !leaves(-1) ? y - radius - 14 : y + radius + (wires.length > 4 ? 34 : 11);
-  const within = (wish, rim, size) => Math.max(rim, Math.min(wish, size - rim));
-  return html`<text class="prefix" x="${within(x, half, width)}" y="${within(at, 8, height)}">${text}</text>`;
+  const wide = 6.4 * text.length, { x, y } = labelPoint(scene, router, wide);
+  labels.push(boxAt({ x, y }, wide, 13));
+  return html`<text class="prefix" x="${x}" y="${y}">${text}</text>`;
 }
 
 // ---- Paths ----

@@ -81,7 +81,7 @@ function showScripts() {
   if (editor.listed !== names.join()) {
     fill('examples', html`<option value="" disabled>${editor.isShared ? 'shared script' : 'own script'}</option>${groups.map(([kind, listed]) =>
       html`<optgroup label="${kind}">${listed.map(name =>
-        html`<option value="${name}">${name.replace(/\.lab$/, '')}</option>`)}</optgroup>`)}`);
+        html`<option value="${name}">${name.replace(/\.lab$/, '').replace(/^(own-)?exercise-/, '$1ex. ')}</option>`)}</optgroup>`)}`);
   }
   editor.listed = names.join();
   byId('examples').value = editor.name;

@@ -16,10 +16,11 @@ export function wiringOf(trace) {
 
 // Places for the spots, a wire being about one unit long: as far apart as they are along wires, turned so that most
 // wires are level or upright, and spot 0 is to the left and the top. Lines and grids are seen as such; a ring is a regular
-// polygon, and a star a ring around its middle.
+// polygon, a star a ring around its middle, and a long line goes forth and back in rows.
 export function layOut({ wires, size }) {
-  const ring = ringOf(wires, size);
+  const ring = ringOf(wires, size), line = size > LONG_LINE ? lineOf(wires, size) : null;
   if (ring) return ringAround(ring);
+  if (line) return inRows(line);
   const middle = Array(size).fill().findIndex((_, spot) => wires.every(({ from, to }) => from === spot || to === spot));
   if (size > 4 && wires.length === size - 1 && middle >= 0) return starAround(middle, size);
   const lengths = lengthsBetween(wires, size), spots = byMainAxes(lengths);
@@ -27,10 +28,32 @@ export function layOut({ wires, size }) {
   return facing(upright(spots, wires));
 }
 
+// The neighbors of each spot, in the order of their numbers.
+const neighborsOf = (wires, size) => Array.from({ length: size }, (_, spot) =>
+  wires.flatMap(({ from, to }) => from === spot ? [to] : to === spot ? [from] : []).sort((a, b) => a - b));
+
+// The spots of a line in order, from the end with the lower number; null where there is none.
+const LONG_LINE = 10;
+function lineOf(wires, size) {
+  const next = neighborsOf(wires, size), line = [next.findIndex(others => others.length === 1)];
+  if (line[0] < 0 || wires.length !== size - 1 || next.some(others => others.length > 2)) return null;
+  for (let spot; (spot = next[line.at(-1)].find(other => other !== line.at(-2))) !== undefined;) line.push(spot);
+  return line.length === size ? line : null;
+}
+
+// About twice as wide as high.
+function inRows(line) {
+  const many = Math.ceil(Math.sqrt(1.8 * line.length)), spots = [];
+  line.forEach((spot, at) => {
+    const row = Math.floor(at / many), column = at % many;
+    spots[spot] = { x: row % 2 === 0 ? column : many - 1 - column, y: row };
+  });
+  return spots;
+}
+
 // The spots of a ring in order, from 0 to the nearer number of its neighbors; null where there is none.
 function ringOf(wires, size) {
-  const next = Array.from({ length: size }, (_, spot) =>
-    wires.flatMap(({ from, to }) => from === spot ? [to] : to === spot ? [from] : []).sort((a, b) => a - b));
+  const next = neighborsOf(wires, size);
   if (size < 3 || next.some(others => new Set(others).size !== 2 || others.length !== 2)) return null;
   const ring = [0, next[0][0]];
   while (ring.length < size) ring.push(next[ring.at(-1)].find(spot => spot !== ring.at(-2)));

@@ -32,6 +32,9 @@ export function captionsOf(script) {
   return captions;
 }
 
+// What a caption asks, for a quiz, in which no caption tells a metric: up to its last question mark, without an answer.
+export const questionIn = caption => /^[^]*\?/.exec(caption.split('Answer:')[0])?.[0] ?? '';
+
 // The text of a file as a script: what editors put at its start and at the ends of lines goes, and a tab is a blank.
 const plainLine = line => /^(#|say )/.test(line) ? line : line.replaceAll('\t', ' ');
 export const plainLines = text =>

@@ -1,21 +1,22 @@
 // The datagrams of the drawing: under way, just lost, and those that come, each an envelope on its link.
 import { nameOf, onTheirWay } from './trace.js';
 import { isAskedInVain } from './losses.js';
+import { pointBy } from './placing.js';
 import { plural } from './texts.js';
 import { choice, classes, html } from './markup.js';
 
 // So many datagrams at most are seen to fly at once.
 const MOST_FLIGHTS = 150;
 
-export function marksOf(scene, pointBy) {
-  const { wiring: { wires } } = scene, own = { ...scene, pointBy };
-  const piles = wires.flatMap(wire => wire.ends.flatMap(end => [drawWaiting(own, wire, end), drawLost(own, wire, end)]));
-  return [...piles, html`${arrivalsOf(scene).map(one => drawArrival(own, one))}`];
+export function marksOf(scene) {
+  const { wiring: { wires } } = scene;
+  const piles = wires.flatMap(wire => wire.ends.flatMap(end => [drawWaiting(scene, wire, end), drawLost(scene, wire, end)]));
+  return [...piles, html`${arrivalsOf(scene).map(one => drawArrival(scene, one))}`];
 }
 
 const isSince = ({ since, step }, at) => at > since && at <= step;
 // Places on the wire of an end, seen from its router.
-const placeBy = ({ pointBy, fit, routers }, wire, end, more) =>
+const placeBy = ({ fit, routers }, wire, end, more) =>
   pointBy.bind(null, fit, wire, end.router, fit.radius + 40 + more + 4 * routers[end.router].interfaces.length, 3);
 
 // What a router sent on an interface and is under way: the newest, and how many in all.
@@ -47,24 +48,24 @@ function arrivalsOf({ trace, since, flownSince = since, step, flying, record }) 
 
 // A datagram where it comes in; while it flies, on its way from its sender. Only that of this step stays.
 function drawArrival(scene, { record: { router, event, fault }, isLast }) {
-  const { trace, wiring: { wireOf }, fit, pointBy, flying } = scene, datagram = trace.datagrams[event.datagram];
+  const { trace, wiring: { wireOf }, fit, flying } = scene, datagram = trace.datagrams[event.datagram];
   const wire = wireOf.get(trace.ends[router][event.iface]), isSame = wire === wireOf.get(datagram.end);
   const flight = flying && { from: fit.places[datagram.router], by: isSame ? null : fit.places[wire.to] };
   const names = classes('fresh', fault && 'refused', flying && 'flying', !isLast && 'passing');
   const says = `datagram ${event.datagram} of ${nameOf(trace, datagram.router)} comes to ${nameOf(trace, router)}`;
-  return drawMark(scene, pointBy.bind(null, fit, wire, router, fit.radius + 22, 0), datagram, { names, count: 1, says, flight });
+  return drawMark(scene, pointBy.bind(null, fit, wire, router, fit.radius + 26, 0), datagram, { names, count: 1, says, flight });
 }
 
-// An envelope, at the place for what is so wide and high; with how many it stands for.
+// An envelope, at the place for what is so wide and high; with how many it stands for, on the side that is away from the wire.
 function drawMark({ fit: { roomy }, chosen }, place, { datagram }, { names, count, says, flight }) {
   const wide = roomy ? 18 : 8, high = roomy ? 12 : 6, text = `datagram ${datagram}`, { x, y } = place(wide, high);
   const [left, right, top] = [x - wide / 2, x + wide / 2, y - high / 2], many = count > 1 ? `×${count}` : '';
-  const flap = `M${left} ${top}L${x} ${y + 1}L${right} ${top}`, isLost = names.includes('lost');
+  const flap = `M${left} ${top}L${x} ${y + 1}L${right} ${top}`, isLost = names.includes('lost'), isLeft = x < place(0, 0).x - 1;
   return html`<g class="${classes('pile', names, chosen === text && 'chosen')}" data-motion="${flight ? motionOf(flight, { x, y }) : ''}"
     ${choice(text, says, chosen)}><rect class="target" x="${x - 12}" y="${y - 12}" width="24" height="24"/>
     <rect x="${left}" y="${top}" width="${wide}" height="${high}" rx="2"/>${roomy ? html`<path class="flap" d="${flap}"/>` : ''}
     ${isLost ? html`<path class="cross" d="M${x - 8} ${y - 8}L${x + 8} ${y + 8}M${x + 8} ${y - 8}L${x - 8} ${y + 8}"/>` : ''}
-    ${roomy && many ? html`<text x="${right + 9}" y="${y}">${many}</text>` : ''}<title>${says}</title></g>`;
+    ${roomy && many ? html`<text x="${isLeft ? left - 5 : right + 5}" y="${y}" class="${isLeft ? 'before' : ''}">${many}</text>` : ''}<title>${says}</title></g>`;
 }
 
 // From where, and past where, a mark comes to its place: the style for its animation, which `showing.js` sets.

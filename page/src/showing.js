@@ -2,7 +2,7 @@
 import { named, readTrace } from './trace.js';
 import { layOut, wiringOf } from './layout.js';
 import { placesOf } from './building.js';
-import { captionsOf, checksOf, expectationsOf } from './lessons.js';
+import { captionsOf, checksOf, expectationsOf, questionIn } from './lessons.js';
 import { describe, hintOf, seconds } from './texts.js';
 import { html } from './markup.js';
 import { drawingOf } from './drawing.js';
@@ -98,7 +98,7 @@ function render(flying = false) {
   document.body.classList.toggle('chosen', view.chosen !== null);
   byId('where').textContent = record ? `step ${view.step + 1} of ${steps.length}, at ${seconds(now)}` : '';
   Object.assign(byId('slider'), { max: Math.max(0, steps.length - 1), value: view.step });
-  if (record) byId('slider').setAttribute('aria-valuetext', `line ${record.line}, ${describe(record, view.trace.names, openAt(view, view.step))}`);
+  if (record) byId('slider').setAttribute('aria-valuetext', `line ${record.line}${view.isQuiz ? '' : `, ${describe(record, view.trace.names, openAt(view, view.step))}`}`);
   renderCaption();
   keepFocus(() => {
     renderScript();
@@ -117,7 +117,7 @@ function render(flying = false) {
 function renderCaption() {
   const { record } = current() ?? {}, isLast = view.step === view.trace.steps.length - 1;
   const captions = [view.captions[record?.line], isLast && view.captions.at(-1)].filter(Boolean);
-  byId('caption').textContent = [...new Set(captions)].join(' ');
+  byId('caption').textContent = [...new Set(captions)].map(caption => view.isQuiz ? questionIn(caption) : caption).join(' ').trim();
 }
 
 // What the script expects behind the step, as checked; a blank is a field.

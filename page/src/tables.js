@@ -78,11 +78,14 @@ function rowOf({ trace, state, before, mine, clock, asked }, router, entry) {
     <td>${tag}</td><td class="${dying ? '' : 'faint'}">${gone ? '' : untilText(until, dying, clock)}</td></tr>`;
 }
 
-// When a route expires, or at infinity is deleted: how long it takes, or where that is too much to keep up, the second.
+// When a route expires, or at infinity is deleted: how long it takes, or where that is too much to keep up, the second. Past that
+// it waits for the router's timer, which runs no more where the router is down.
 function untilText(until, dying, clock) {
   if (until === null) return '';
+  const title = `${dying ? 'deleted' : 'expires'} at ${until / 1000} s`;
+  if (clock !== null && until <= clock) return html`<span title="${title}, by the router's timer">${dying ? 'to be deleted' : 'has run out'}</span>`;
   const when = clock === null ? `at ${Math.ceil(until / 1000)} s` : `in ${Math.ceil((until - clock) / 1000)} s`;
-  return html`<span title="${dying ? 'deleted' : 'expires'} at ${until / 1000} s">${dying ? 'deleted ' : ''}${when}</span>`;
+  return html`<span title="${title}">${dying ? 'deleted ' : ''}${when}</span>`;
 }
 
 const partsOf = ({ route } = { route: {} }) => JSON.stringify([route.metric, route.tag, route.gateway]);

@@ -50,6 +50,9 @@ export const LINES = [
     'K minutes, in each of which every regular update comes; the rest is chance. Says which last changed a table'],
   ['cut LINK', 'nothing crosses the link in tell, hear and rounds'],
   ['mend LINK', 'all crosses it again'],
+  ['down LINK NOW', 'the link goes down: it is cut, and its routers lose what they learned there'],
+  ['up LINK NOW', 'it comes up: it is mended, and its routers ask their neighbors'],
+  ['costs LINK NOW COST', 'each interface on the link costs that from now on'],
   ['silent R', 'router R fails: it takes no part in them'],
   ['speaks R', 'it is up again'],
   ['cost R I NOW COST', 'interface I of router R costs that from now on'],
@@ -88,6 +91,7 @@ const HAPPENED = {
   drop: event => ` withdraws ${event.prefix}`,
   shutdown: () => ' shuts down',
   link_down: event => `: the link of interface ${event.iface} is down`,
+  link_up: event => `: the link of interface ${event.iface} is up`,
 };
 // What it means that a route leaves the forwarding table, by the event.
 const LEAVES = { tick: 'times out', deliver: 'is withdrawn by its next hop', drop: 'is no longer originated' };
@@ -95,13 +99,14 @@ const LEAVES = { tick: 'times out', deliver: 'is withdrawn by its next hop', dro
 // What happened at a record, in words; `names` has the names of routers, by their numbers, and `isOpen` says of which prefix
 // of its router the metric is not told.
 export function describe(record, names = new Map(), isOpen = () => false) {
-  const { record: kind, why, routers, router, event, sent, changes, prints, datagram, phases, last } = record;
+  const { record: kind, why, routers, router, event, sent, changes, prints, datagram, rounds, phases, last } = record;
   const name = number => names.get(number) ?? `R${number}`, asked = () => plural(sent.length, 'Request');
   if (kind === 'start') return `${plural(routers.length, 'router')} start${routers.length === 1 ? 's' : ''}, ${asked()} sent`;
   if (kind === 'refused' && why.startsWith('expected')) return why.replace(/^expected (\d+)/, (_, number) => `expected ${name(Number(number))}`);
   if (kind === 'refused') return `refused: ${reasonIn(why)}`;
   if (kind === 'lost') return `datagram ${datagram} is lost`;
   const ended = last === null ? 'no table changed' : `last change in ${last}`;
+  if (kind === 'rounds') return `${plural(rounds, 'round')}, ${ended}`;
   if (kind === 'phases') return `${plural(phases, 'phase')}, ${ended}`;
   if (kind !== 'event') return `${kind}: ${plural(prints.length, 'line')}`;
   const becomes = ({ change, prefix, metric }) => isOpen(prefix) ? 'changes' : change === 'add' ? `at ${metric}` : LEAVES[event.kind] ?? 'is unreachable';

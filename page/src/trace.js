@@ -84,6 +84,7 @@ function tableAfter(table, { routes, gone, event }, step) {
 
 // Lines that cut links and silence routers have no record: each belongs to the step before it.
 const OUTAGES = new Map([['cut', ['link', 'is cut']], ['mend', ['link', 'is mended']],
+  ['down', ['link', 'goes down']], ['up', ['link', 'comes up']],
   ['silent', ['router', 'fails']], ['speaks', ['router', 'is up again']]]);
 function addOutages({ steps, names }, script) {
   const lines = script.split('\n'), numbers = new Map([...names].map(([router, name]) => [name, router]));
@@ -95,9 +96,9 @@ function addOutages({ steps, names }, script) {
       const [word, what] = lines[at].split(' '), [kind, does] = OUTAGES.get(word) ?? [];
       const thing = `${kind} ${kind === 'router' ? numbers.get(what) ?? what : what}`;
       if (!kind) continue;
-      said.push(`line ${at + 1}: ${kind} ${what} ${does}`);
+      said.push(`line ${at + 1}: ${kind === 'router' ? nameOf({ names }, Number(thing.slice(7))) : thing} ${does}`);
       out = new Map([...out].filter(([other]) => other !== thing));
-      if (/^(cut|silent)$/.test(word)) out.set(thing, at + 1);
+      if (/^(cut|silent|down)$/.test(word)) out.set(thing, at + 1);
     }
     if (said.length > 0 || ['cost', 'gain', 'drop'].includes(record.event?.kind)) least = new Map();
     Object.assign(step, { out, said, least });
