@@ -36,7 +36,9 @@ class ClassCases:
         believed = "R2 believes a forged Response of fe80::66, 2001:db8::/32 at 2 | 1 2 2"
         same("the report", self.report(folder, "forge"),
              ["R2 receives a datagram of an outside host, fe80::66 port 521 refused: sent to the group, it has to come with hop limit 255 "
-              "(10 HopLimit) | 1 2 3", believed, believed, "Not added: this could only come from a router of the link (5 NotAStranger)",
+              "(10 HopLimit) | 1 2 3", believed, believed,
+              "Not added: this could only come from a router of the link (5 NotAStranger); the router takes it for a neighbor's: "
+              "liar forges a Response",
               "2 of 3 metrics belong to a path that is or was there. 2 of 3 routes are shortest paths. After a forged update nothing is "
               "guaranteed. | 1"])
 
