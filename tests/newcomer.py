@@ -5,6 +5,7 @@ from seen import IS_FOCUSED, METRICS, ROUTE, WIDE, same, text_of
 
 # The widths, each with its height. By clicks `phone` does it at 500 pixels, and `newcomer` at 1,400.
 HEIGHTS = {500: 900, 900: 900, 1400: 900, 1920: 1080}
+IS_CUT = 'document.querySelector("#drawing .wire.cut") !== null'
 BY_WIDTH = ('clicks at 900', 'clicks at 1920', *(f'keys at {width}' for width in HEIGHTS))
 
 
@@ -19,7 +20,7 @@ class Newcomer:
         self.comes('there is a ring of five', 'document.querySelectorAll("#drawing .router").length === 5')
         self.healed(does, '1 2 3 3 2')
         does('cut')
-        self.comes('the link is cut', 'document.querySelector("#drawing .wire.cut") !== null')
+        self.comes('the link is cut', IS_CUT)
         does('until something changes')
         self.comes('it is said', f'{text_of("#editing")}.startsWith("A route changed in round")')
         self.still()
@@ -50,6 +51,8 @@ class Newcomer:
             self.click('close the message')
         for name in clicks.get(act, (act,)):
             self.click(name)
+            if name == 'cut the link':
+                self.comes('the link is cut', IS_CUT)
 
     def by_keys(self, act):
         letters = {'five rounds': 'f', 'until something changes': 'u', 'packet': 'g', 'last': 'End'}
