@@ -1,8 +1,13 @@
+pub mod BlockChanges
+pub mod BlockEdits
+pub mod BlockLists
 pub mod EntryLists
+pub mod EntryParts
 pub mod Gaps
 pub mod LongestMatch
-pub mod Merges
 pub mod Orders
 pub mod ReplayLaws
 pub mod Searches
-pub mod SortedChanges
+pub mod Tables
+pub mod Undoing
+pub mod Withdrawals

@@ -17,7 +17,7 @@ use Rattle.prefix6.proofs.SortedEntries.{sorted_at, find_at}
 use Rattle.fib.specs.declared.change.Hop.{Hop}
 use Rattle.fib.specs.declared.change.Hop.TheVariants.{Direct}
 use Rattle.fib.specs.Forwarding.{Forward, Forwarding, IsMatch, IsLongestMatch}
-use Rattle.fib.specs.Entries.{Entry, at_prefix, fib_entry, table_of, AreInOrder, AreAllPast, IsLastUpTo}
+use Rattle.fib.specs.Entries.{Entry, at_prefix, fib_entry, table_of, AreInOrder, AreAllPast, IsLastUpTo, IsLongestEntry}
 use Rattle.fib.proofs.EntryLists.{get_is, same_at, some_found}
 use Rattle.fib.proofs.Gaps.{found_at}
 use Rattle.fib.proofs.Orders.{IsNoLater, no_later, not_greater, less_is_no_later, itself_no_later}
@@ -164,16 +164,21 @@ module _ (es : List Entry) (h : AreInOrder es) (table : Forwarding) (is : table_
     }
 
     -- that entry, where its prefix holds both
-    pub found_longest : m ≡ e.0 → IsLongestMatch table addr e.1
+    pub found_longest : m ≡ e.0 → IsLongestEntry table addr e
     found_longest same = record {
-      prefix = e.0;
       matches = its_match same;
       longest = λ p match_is. subst (λ (x : Prefix6). p.len ≤ x.len) same (still_longest p match_is);
-      its_hop = subst (λ o. IsSomeAnd o (λ f. f.hop ≡ e.1)) (sym its_entry) refl;
+      stands = its_entry;
     }
 
-    pub is_matched : m ≡ e.0 → ((p : Prefix6) → ¬ (IsMatch table addr p)) → ⊥
-    is_matched same none = none e.0 (its_match same)
+-- its hop
+pub its_hop : (table : Forwarding) (addr : ℕ) (e : Entry) → IsLongestEntry table addr e → IsLongestMatch table addr e.1
+its_hop table addr e h = record {
+  prefix = e.0;
+  matches = h.matches;
+  longest = h.longest;
+  its_hop = subst (λ o. IsSomeAnd o (λ f. f.hop ≡ e.1)) (sym h.stands) refl;
+}
 
 one_hop : (o : Option Forward) (h k : Hop) → IsSomeAnd o (λ f. f.hop ≡ h) → IsSomeAnd o (λ f. f.hop ≡ k) → h ≡ k
 one_hop None h k a b = absurd a

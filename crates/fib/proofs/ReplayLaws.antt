@@ -1,18 +1,17 @@
 -- Laws of changes and of replay: what one change does, changes one after another, and that the table after is determined.
-use Rattle.std.proofs.Common.{◌≡◌, ◌==◌, ℕ, Bool, true, false, cond, List, [], ◌∷◌, ◌++◌, reverse, find, Option, Some, None, is_some, option_map, unwrap_or, refl, sym, ap, ap₂, ◌∙◌}
+use Rattle.std.proofs.Common.{◌≡◌, ◌==◌, ℕ, Bool, true, false, cond, List, [], ◌∷◌, ◌++◌, reverse, find, Option, Some, None, option_map, unwrap_or, refl, sym, ap, ap₂, ◌∙◌}
 use Rattle.std.specs.FinMap as map
 use Rattle.std.specs.Option.{option_or}
 use Rattle.std.proofs.lemmas.Bool.{eqb-true}
 use Rattle.std.proofs.lemmas.List.{reverse-append}
 use Rattle.std.proofs.lemmas.List.Folds.{find-append}
-use Rattle.std.specs.Ordering.{eq_by_cmp}
-use Rattle.prefix6.specs.Prefix.{Prefix6, prefix_cmp, same_prefix}
+use Rattle.prefix6.specs.Prefix.{Prefix6, same_prefix}
 use Rattle.prefix6.proofs.PrefixLaws.{prefixes_total, exact_prefixes, same_prefix-tie, and_left, and_right}
 use Rattle.fib.specs.declared.change.Hop.{Hop}
 use Rattle.fib.specs.declared.change.Hop.TheVariants.{Direct, Via}
 use Rattle.fib.specs.declared.change.RouteChange.{RouteChange}
 use Rattle.fib.specs.declared.change.RouteChange.TheVariants.{Install, Withdraw}
-use Rattle.fib.specs.Forwarding.{Forward, Forwarding, same_hop, same_forward, prefix_of, forward_of, change_to, last_change, HasAllOf, Replays}
+use Rattle.fib.specs.Forwarding.{Forward, Forwarding, same_hop, same_forward, prefix_of, forward_of, change_to, last_change, Replays}
 
 -- tables that have the same at each prefix are one
 pub same_forwarding : (m n : Forwarding) → ((p : Prefix6) → map.get m p ≡ map.get n p) → m ≡ n
@@ -87,27 +86,6 @@ replays_install table p hop metric q =
     map.get-insert prefixes_total table p (record { hop = hop; metric = metric }) q
     ∙ ap (λ b. cond b (Some (record { hop = hop; metric = metric })) (map.get table q)) (sym (same_prefix-tie p q))
     ∙ left_by_one (same_prefix p q) (Install p hop metric) (map.get table q)
-
-over_again : {X : Type 0} (b : Bool) (x y z : X) → cond b x (cond b y z) ≡ cond b x z
-over_again true x y z = refl
-over_again false x y z = refl
-
--- and where the entry was taken out before, the same
-pub replays_install_anew : (table : Forwarding) (p : Prefix6) (hop : Hop) (metric : ℕ) → Replays table (Install p hop metric ∷ []) (map.insert (map.remove table p) p (record { hop = hop; metric = metric }))
-replays_install_anew table p hop metric q =
-    map.get-insert prefixes_total (map.remove table p) p (record { hop = hop; metric = metric }) q
-    ∙ ap (cond (eq_by_cmp prefix_cmp q p) (Some (record { hop = hop; metric = metric }))) (map.get-remove prefixes_total table p q)
-    ∙ over_again (eq_by_cmp prefix_cmp q p) _ _ _
-    ∙ sym (map.get-insert prefixes_total table p (record { hop = hop; metric = metric }) q)
-    ∙ replays_install table p hop metric q
-
--- an install keeps what is there
-pub installed_stays : (table : Forwarding) (p : Prefix6) (f : Forward) → HasAllOf table (map.insert table p f)
-installed_stays table p f = record { present = λ q there. ap is_some (map.get-insert prefixes_total table p f q) ∙ by (eq_by_cmp prefix_cmp q p) q there }
-  where
-    by : (b : Bool) (q : Prefix6) → map.contains_key table q ≡ true → is_some (cond b (Some f) (map.get table q)) ≡ true
-    by true q there = refl
-    by false q there = there
 
 -- a withdrawal takes the entry out
 pub replays_withdraw : (table : Forwarding) (p : Prefix6) → Replays table (Withdraw p ∷ []) (map.remove table p)

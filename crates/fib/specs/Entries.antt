@@ -1,12 +1,11 @@
 -- The entries of a forwarding table as they are listed.
-use Rattle.std.specs.Prelude.{◌≡◌, ◌≢◌, ℕ, ◌+◌, ◌<◌, ◌≤◌, T, List, map as each, length, slice_index_or as get_or}
-use Rattle.std.specs.List.Sorted.{IsSortedByKey}
+use Rattle.std.specs.Prelude.{◌≡◌, ◌≢◌, ℕ, ◌+◌, ◌<◌, ◌≤◌, T, List, Option, Some, None, map as each, length, take, drop, slice_index_or as get_or}
 use Rattle.std.specs.declared.cmp.Ordering.TheVariants.{Greater}
+use Rattle.std.specs.FinMap as map
 use Rattle.std.specs.FinMap.{entries, from_sorted, is_sorted}
 use Rattle.prefix6.specs.Prefix.{Prefix6, prefix_cmp}
 use Rattle.fib.specs.declared.change.Hop.{Hop}
-use Rattle.fib.specs.declared.change.RouteChange.{RouteChange}
-use Rattle.fib.specs.Forwarding.{Forward, Forwarding, prefix_of}
+use Rattle.fib.specs.Forwarding.{Forward, Forwarding, IsMatch}
 
 -- an entry: prefix, hop and metric
 abbrev pub Entry : Type 0
@@ -46,6 +45,32 @@ pub record IsLastUpTo (es : List Entry) (p : Prefix6) (i : ℕ) : Type 0 where
   pub up_to : (d : Entry) → prefix_cmp (get_or es i d).0 p ≢ Greater
   pub rest : AreAllPast es p (i + 1)
 
--- the changes are in the order of their prefixes
-pub record AreByPrefix (changes : List RouteChange) : Type 0 where
-  pub rising : IsSortedByKey prefix_of prefix_cmp changes
+-- the last entry that does not come after the prefix
+pub record IsLastOf (es : List Entry) (p : Prefix6) (e : Entry) : Type 0 where
+  pub place : ℕ
+  pub last : IsLastUpTo es p place
+  pub there : (d : Entry) → e ≡ get_or es place d
+
+-- ---- what lies after a prefix
+-- the entries from this place on are those after a prefix, or all of them
+abbrev pub IsPast : List Entry → Option Prefix6 → ℕ → Type 0
+IsPast es None begin = begin ≡ 0
+IsPast es (Some p) begin = AreUpTo (take begin es) p × AreAllPast es p begin
+
+-- the entries of a list after a prefix, or all of them
+pub record AreAfter (es : List Entry) (after : Option Prefix6) (rest : List Entry) : Type 0 where
+  pub begin : ℕ
+  pub past : IsPast es after begin
+  pub are : rest ≡ drop begin es
+
+-- ---- the longest match
+-- this is the entry of the longest prefix of a table that contains the address
+pub record IsLongestEntry (table : Forwarding) (addr : ℕ) (e : Entry) : Type 0 where
+  pub matches : IsMatch table addr e.0
+  pub longest : (p : Prefix6) → IsMatch table addr p → p.len ≤ e.0.len
+  pub stands : map.get table e.0 ≡ Some (record { hop = e.1; metric = e.2 })
+
+-- it is that entry; or no prefix of the table contains the address
+abbrev pub IsLookedUp : Forwarding → ℕ → Option Entry → Type 0
+IsLookedUp table addr (Some e) = IsLongestEntry table addr e
+IsLookedUp table addr None = (p : Prefix6) → ¬ (IsMatch table addr p)

@@ -45,14 +45,6 @@ abbrev pub is_install : RouteChange → Bool
 is_install (Install p hop metric) = true
 is_install (Withdraw p) = false
 
--- whether a change leaves an entry at a prefix that has one
-abbrev pub is_replacement : Forwarding → RouteChange → Bool
-is_replacement table c = is_install c && map.contains_key table (prefix_of c)
-
--- the second table has an entry at each prefix at which the first has one
-pub record HasAllOf (table other : Forwarding) : Type 0 where
-  pub present : (p : Prefix6) → map.contains_key table p ≡ true → map.contains_key other p ≡ true
-
 -- the change that leaves this entry at a prefix
 abbrev pub change_to : Prefix6 → Option Forward → RouteChange
 change_to p (Some f) = Install p f.hop f.metric

@@ -1,6 +1,6 @@
 //! Changes of a forwarding table: a prefix gets an entry, or loses it.
 
-ghost use Rattle.std.specs.Prelude.{◌≡◌, count_by};
+ghost use Rattle.std.specs.Prelude.{◌≡◌};
 ghost use Rattle.fib.specs.Forwarding.{prefix_of, is_install};
 
 use prefix6::{Addr6, Prefix};
@@ -51,11 +51,4 @@ impl RouteChange {
     {
         matches!(self, RouteChange::Install { .. })
     }
-}
-
-/// How many of the changes install an entry.
-pub(crate) fn installs(changes: &[RouteChange]) -> usize
-    ensures { result ≡ count_by is_install changes.now }
-{
-    changes.iter().filter(|change| change.is_install()).count()
 }

@@ -1,46 +1,46 @@
 //! The forwarding table: where packets go, by the longest prefix that contains their destination.
 
-ghost use Rattle.std.specs.Prelude.{◌≡◌, ◌+◌, ◌<◌, ◌≤◌, ◌↔◌, [], ◌∷◌, map as each, IsTrue, IsOk, OnOk, OnErr, IfOk, IfErr, IsNone, IfSome, option_map, count_by, vec_len, vec_capacity};
+ghost use Rattle.std.specs.Prelude.{◌≡◌, ◌↔◌, ℕ, map as each, IsTrue, IsOk, IsSome, OnOk, OnErr, IfOk, IfErr, IsNone, IfSome, option_map, count_by};
 ghost use Rattle.std.specs.FinMap as map;
 ghost use Rattle.prefix6.specs.Prefix.{Prefix6};
+ghost use Rattle.fib.specs.Blocks.{forward_in};
 ghost use Rattle.fib.specs.Forwarding.{is_install, Replays, IsMatch, IsLongestMatch};
-ghost use Rattle.fib.specs.Entries.{at_prefix, listed, table_of, AreInOrder};
+ghost use Rattle.fib.specs.Entries.{listed, AreAfter, AreAllPast, IsLastOf, IsLookedUp};
 
-use crate::change::{Hop, RouteChange, installs};
-use crate::merging::{are_at_end, merge};
-use crate::replaying::{are_replacements, replace_all, replay};
-use crate::room::make_room;
-use crate::searching::{Entry, last_up_to};
+use crate::block::Block;
+use crate::blocks;
+use crate::change::{Hop, RouteChange};
+use crate::replaying::{install_all, undo_all, withdraw_all};
+use crate::walk::Entries;
 use prefix6::{Addr6, Prefix};
 use std::alloc::{AllocError, Global};
 use std::marker::Model;
 
 /// A forwarding table: the hop and the metric of each of its prefixes, in the order of address, then
-/// length. Contracts see it as a finite map from prefixes.
+/// length, in blocks that are not empty. Contracts see it as a finite map from prefixes.
 #[derive(Debug, Drop)]
 pub struct Fib {
-    entries: Vec<Entry>,
+    count: usize,
+    blocks: Vec<Block>,
 }
 
 impl Model for Fib {
     ghost use Rattle.std.specs.Coded.{codes};
     ghost use Rattle.std.specs.FinMap as map;
+    ghost use Rattle.std.specs.FinMap.{from_sorted};
     ghost use Rattle.prefix6.specs.Prefix.{prefix_cmp};
     ghost use Rattle.prefix6.specs.contracts.prefix.Prefix as prefix;
-    ghost use Rattle.fib.specs.Forwarding.{Forward, Forwarding};
-    ghost use Rattle.fib.specs.Entries.{table_of, AreInOrder};
+    ghost use Rattle.fib.specs.Blocks.{joined, IsFib};
+    ghost use Rattle.fib.specs.Forwarding.{Forwarding};
 
     ghost Value = { Forwarding };
 
     ghost coded = { map.code {R = prefix_cmp} prefix.the_row.coded (Prim.hlevel codes) };
 
-    ghost view = { λ f. table_of f.entries.items };
+    ghost view = { λ f. from_sorted (joined f.blocks.items) };
 
-    ghost invariant = { λ f. AreInOrder f.entries.items };
+    ghost invariant = { λ f. IsFib f.count f.blocks.items };
 }
-
-/// So few changes are always replayed in place: a merge would copy the whole table for them.
-const FEW: usize = 2;
 
 impl Fib {
     /// The table without entries. It takes no memory.
@@ -48,7 +48,8 @@ impl Fib {
         ensures { result ≡ map.empty }
     {
         Fib {
-            entries: Vec::new(alloc),
+            count: 0,
+            blocks: Vec::new(alloc),
         }
     }
 
@@ -56,30 +57,58 @@ impl Fib {
     pub fn len(&self) -> usize
         ensures { result ≡ map.len self.now }
     {
-        self.entries.len()
+        self.count
     }
 
     /// Whether no prefix has an entry.
     pub fn is_empty(&self) -> bool
         ensures { IsTrue result ↔ (self.now ≡ map.empty) }
     {
-        self.entries.is_empty()
+        self.count == 0
+    }
+
+    /// Adds the entry of a prefix, or replaces it: the hop and the metric that the prefix had.
+    pub(crate) fn put(
+        &mut self,
+        prefix: Prefix,
+        hop: Hop,
+        metric: u8,
+    ) -> Result<Option<(Hop, u8)>, AllocError>
+        ensures was { IfOk result (λ was. option_map forward_in was ≡ map.get self.old prefix) }
+        ensures ok { OnOk result (self.new ≡ map.insert self.old prefix (record { hop = hop; metric = metric })) }
+        ensures err { OnErr result (self.new ≡ self.old) }
+        ensures present { IsSome (map.get self.old prefix) → IsOk result }
+    {
+        let entry = (prefix, hop, metric);
+        match blocks::locate(&self.blocks, &prefix) {
+            Ok(place) => Ok(Some(blocks::replace(&mut self.blocks, place, entry))),
+            Err(place) => {
+                let Some(count) = self.count.checked_add(1) else {
+                    return Err(AllocError);
+                };
+                blocks::add(&mut self.blocks, place, entry)?;
+                self.count = count;
+                Ok(None)
+            }
+        }
+    }
+
+    /// Removes the entry of a prefix, if there is one.
+    pub(crate) fn remove(&mut self, prefix: &Prefix)
+        ensures { self.new ≡ map.remove self.old prefix.now }
+    {
+        if let Ok(place) = blocks::locate(&self.blocks, prefix) {
+            blocks::remove(&mut self.blocks, place, prefix);
+            self.count -= 1;
+        }
     }
 
     /// Replays the changes of a router's step, in order: an install adds or replaces the entry of its
     /// prefix, and a withdrawal removes it, if there is one.
     ///
-    /// The cost of k changes of a table of n entries:
-    /// - if each replaces an entry: 2 k log2(n) comparisons, and no entry moves;
-    /// - if they come in the order of prefixes after all entries, as in a neighbor's first update:
-    ///   k log2(n) comparisons, and entries move only if there is no room for the new ones;
-    /// - one or two others: in place, with up to n moves each;
-    /// - more of them: a sort by prefix if they are not in order, k log2(n) comparisons, and a merge
-    ///   into new memory of n + k copies.
-    ///
-    /// When entries move, the new memory has room for n / 64 more at least. So installs one by one
-    /// move the table once in n / 64 calls. Withdrawals alone cannot fail: if there is no memory to
-    /// merge them, they are made in place.
+    /// A change of a table of n entries costs log2(n) comparisons, and where an entry comes or goes,
+    /// moves of the entries after it in its block. A withdrawal before installs is compared with each
+    /// of them, since it is passed over if one is of its prefix.
     ///
     /// # Errors
     /// Only out of memory for the entries that are installed. The table is then unchanged.
@@ -88,27 +117,24 @@ impl Fib {
         ensures err { OnErr result (self.new ≡ self.old) }
         ensures withdrawals { count_by is_install changes.now ≡ 0 → IsOk result }
     {
-        if are_replacements(&self.entries, changes) {
-            replace_all(&mut self.entries, changes);
-            return Ok(());
+        let mut done = Vec::new(*self.blocks.allocator());
+        if let Err(refused) = install_all(self, &mut done, changes) {
+            undo_all(self, &mut done);
+            return Err(refused);
         }
-        let installed = installs(changes);
-        if changes.len() > FEW && !are_at_end(&self.entries, changes) {
-            match merge(*self.entries.allocator(), &self.entries, changes) {
-                Ok(entries) => {
-                    self.entries = entries;
-                    return Ok(());
-                }
-                Err(refused) if installed > 0 => return Err(refused),
-                Err(_) => {}
-            }
-        }
-        make_room(&mut self.entries, installed)?;
-        replay(&mut self.entries, changes);
+        withdraw_all(self, changes);
         Ok(())
     }
 
-    /// The hop of the longest prefix of the table that contains the address, or `None` if no prefix
+    /// The last entry whose prefix is this one or comes before it.
+    fn last_up_to(&self, prefix: &Prefix) -> Option<(Prefix, Hop, u8)>
+        ensures found { IfSome result (IsLastOf (listed self.now) prefix.now) }
+        ensures none { IsNone result → AreAllPast (listed self.now) prefix.now 0 }
+    {
+        blocks::last_entry(&self.blocks, prefix)
+    }
+
+    /// The entry of the longest prefix of the table that contains the address, or `None` if no prefix
     /// does (RFC 4632, section 5.1; RFC 7608, section 2).
     ///
     /// Each turn takes the last entry up to a bound, at first the address with length 128. If its
@@ -116,28 +142,51 @@ impl Fib {
     /// most as long as what prefix and bound have in common, and that is the next bound. A turn costs
     /// log2(n) comparisons for n entries. Bounds get shorter, so there are at most 129 turns, and
     /// about log2(n) / 2 for random prefixes.
-    pub fn lookup(&self, addr: Addr6) -> Option<Hop>
-        ensures found { IfSome result (IsLongestMatch self.now addr) }
-        ensures none { IsNone result ↔ ((p : Prefix6) → ¬ (IsMatch self.now addr p)) }
+    pub fn longest_match(&self, addr: Addr6) -> Option<(Prefix, Hop, u8)>
+        ensures { IsLookedUp self.now addr result }
     {
         let Ok(mut bound) = Prefix::new(addr, 128) else {
             unreachable!()
         };
-        while let Some(at) = last_up_to(&self.entries, &bound) {
-            let (prefix, hop, _) = self.entries[at];
-            let common = prefix.meet(&bound);
-            if common == prefix {
-                return Some(hop);
+        while let Some(entry) = self.last_up_to(&bound) {
+            let common = entry.0.meet(&bound);
+            if common == entry.0 {
+                return Some(entry);
             }
             bound = common;
         }
         None
     }
 
-    /// The entries, each with its prefix, hop and metric, in the order of address, then length.
-    pub fn entries(&self) -> &[(Prefix, Hop, u8)]
-        ensures { result.now ≡ listed self.now }
+    /// The hop of the [longest match](Fib::longest_match) of an address.
+    pub fn lookup(&self, addr: Addr6) -> Option<Hop>
+        ensures found { IfSome result (IsLongestMatch self.now addr) }
+        ensures none { IsNone result ↔ ((p : Prefix6) → ¬ (IsMatch self.now addr p)) }
     {
-        &self.entries
+        match self.longest_match(addr) {
+            Some(entry) => Some(entry.1),
+            None => None,
+        }
+    }
+
+    /// The entries, each with its prefix, hop and metric, in the order of address, then length.
+    pub fn entries(&self) -> Entries<'_>
+        ensures { result ≡ listed self.now }
+    {
+        Entries {
+            run: &[],
+            blocks: &self.blocks,
+        }
+    }
+
+    /// The entries whose prefixes come after this one, or all of them, in the order of address, then
+    /// length. The first is found by log2(n) comparisons.
+    pub fn entries_after(&self, after: Option<Prefix>) -> Entries<'_>
+        ensures { AreAfter (listed self.now) after result }
+    {
+        match after {
+            Some(prefix) => Entries::behind(&self.blocks, &prefix),
+            None => self.entries(),
+        }
     }
 }

@@ -4,14 +4,16 @@
 //! in specs/Forwarding.antt says what a list of changes does to a table, and `IsLongestMatch` there judges a lookup.
 #![tactic(auto)]
 
+mod block;
+mod blocks;
 mod change;
 mod fib;
 mod laws;
-mod merging;
 mod replaying;
-mod room;
 mod searching;
+mod walk;
 
 pub use change::{Hop, RouteChange};
 pub use fib::Fib;
 pub use laws::{longest_match_is_one, replay_follows_calls};
+pub use walk::Entries;

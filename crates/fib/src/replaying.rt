@@ -1,128 +1,127 @@
-//! Replaying changes in place, one after another: a bisection each, and where an entry comes or
-//! goes, a move of the entries after it.
+//! Replaying changes: first all installs, which may want memory, and then the withdrawals, which want none.
 
-ghost use Rattle.std.specs.Prelude.{◌≡◌, ◌+◌, ◌<◌, ◌≤◌, [], ◌∷◌, true, IsTrue, count_by, vec_len, vec_capacity};
+ghost use Rattle.std.specs.Prelude.{◌≡◌, ℕ, ◌≤◌, ◌++◌, [], ◌∷◌, false, IsOk, OnOk, OnErr, None, cond, count_by, drop};
+ghost use Rattle.std.specs.List.{filter};
 ghost use Rattle.std.specs.FinMap as map;
-ghost use Rattle.std.specs.List.{AllPass};
-ghost use Rattle.fib.specs.Forwarding.{is_install, is_replacement, HasAllOf, Replays};
-ghost use Rattle.fib.specs.Entries.{table_of, AreInOrder};
+ghost use Rattle.prefix6.specs.Prefix.{Prefix6};
+ghost use Rattle.fib.specs.Forwarding.{is_install, Replays};
+ghost use Rattle.fib.specs.Undo.{undone, undo_of, has_install, is_gone, restored, CanRestore, CanUndo};
 
 use crate::change::{Hop, RouteChange};
-use crate::searching::{Entry, place_of};
+use crate::fib::Fib;
 use prefix6::Prefix;
+use std::alloc::AllocError;
 
-/// Adds the entry of a prefix, or replaces it.
-fn install(entries: &mut Vec<Entry>, prefix: Prefix, hop: Hop, metric: u8)
-    requires in_order { AreInOrder entries.old.items }
-    requires room { vec_len entries.old < vec_capacity entries.old }
-    ensures table { table_of entries.new.items ≡ map.insert (table_of entries.old.items) prefix (record { hop = hop; metric = metric }) }
-    ensures in_order { AreInOrder entries.new.items }
-    ensures room { (vec_capacity entries.old ≤ vec_capacity entries.new) × (vec_len entries.new ≤ vec_len entries.old + 1) }
+/// A prefix, and the hop and the metric that it had before an install, if it had an entry.
+pub(crate) type Undo = (Prefix, Option<(Hop, u8)>);
+
+/// Installs the entry of a prefix, and notes what the prefix had.
+fn install(
+    fib: &mut Fib,
+    done: &mut Vec<Undo>,
+    prefix: Prefix,
+    hop: Hop,
+    metric: u8,
+) -> Result<(), AllocError>
+    ensures ok { OnOk result (fib.new ≡ map.insert fib.old prefix (record { hop = hop; metric = metric })) }
+    ensures noted { OnOk result (done.new.items ≡ done.old.items ++ undo_of prefix (map.get fib.old prefix) ∷ []) }
+    ensures err { OnErr result ((fib.new ≡ fib.old) × (done.new.items ≡ done.old.items)) }
 {
-    let entry = (prefix, hop, metric);
-    match place_of(entries, &prefix) {
-        Ok(at) => entries[at] = entry,
-        Err(at) => {
-            let Ok(()) = entries.insert(at, entry) else {
-                unreachable!()
-            };
-        }
-    }
+    done.reserve(1)?;
+    let was = fib.put(prefix, hop, metric)?;
+    done.push_reserved((prefix, was));
+    Ok(())
 }
 
-/// Removes the entry of a prefix, if there is one.
-fn withdraw(entries: &mut Vec<Entry>, prefix: &Prefix)
-    requires { AreInOrder entries.old.items }
-    ensures table { table_of entries.new.items ≡ map.remove (table_of entries.old.items) prefix.now }
-    ensures in_order { AreInOrder entries.new.items }
-    ensures room { (vec_capacity entries.old ≤ vec_capacity entries.new) × (vec_len entries.new ≤ vec_len entries.old) }
+/// Replays the changes that install an entry, in order, and notes how they are undone.
+///
+/// # Errors
+/// Only out of memory. What is noted is then what was done.
+pub(crate) fn install_all(
+    fib: &mut Fib,
+    done: &mut Vec<Undo>,
+    changes: &[RouteChange],
+) -> Result<(), AllocError>
+    requires { done.old.items ≡ [] }
+    ensures ok { OnOk result (Replays fib.old (filter is_install changes.now) fib.new) }
+    ensures noted { undone done.new.items fib.new ≡ fib.old }
+    ensures can_undo { CanUndo done.new.items fib.new }
+    ensures withdrawals { count_by is_install changes.now ≡ 0 → IsOk result }
 {
-    if let Ok(at) = place_of(entries, prefix) {
-        let _ = entries.remove(at);
-    }
-}
-
-/// Replays one change.
-fn follow(entries: &mut Vec<Entry>, change: RouteChange)
-    requires in_order { AreInOrder entries.old.items }
-    requires room { vec_len entries.old + count_by is_install (change ∷ []) ≤ vec_capacity entries.old }
-    ensures follows { Replays (table_of entries.old.items) (change ∷ []) (table_of entries.new.items) }
-    ensures in_order { AreInOrder entries.new.items }
-    ensures room { (vec_capacity entries.old ≤ vec_capacity entries.new) × (vec_len entries.new ≤ vec_len entries.old + count_by is_install (change ∷ [])) }
-{
-    match change {
-        RouteChange::Install {
+    for change in changes {
+        if let RouteChange::Install {
             prefix,
             hop,
             metric,
-        } => install(entries, prefix, hop, metric),
-        RouteChange::Withdraw { prefix } => withdraw(entries, &prefix),
-    }
-}
-
-/// Replays changes, in order, where there is room for all that they install.
-pub(crate) fn replay(entries: &mut Vec<Entry>, changes: &[RouteChange])
-    requires in_order { AreInOrder entries.old.items }
-    requires room { vec_len entries.old + count_by is_install changes.now ≤ vec_capacity entries.old }
-    ensures follows { Replays (table_of entries.old.items) changes.now (table_of entries.new.items) }
-    ensures in_order { AreInOrder entries.new.items }
-{
-    for change in changes {
-        follow(entries, *change);
-    }
-}
-
-/// Whether the change replaces an entry.
-fn is_replacement(entries: &[Entry], change: &RouteChange) -> bool
-    requires { AreInOrder entries.now }
-    ensures { result ≡ is_replacement (table_of entries.now) change.now }
-{
-    change.is_install() && place_of(entries, &change.prefix()).is_ok()
-}
-
-/// Whether each of the changes replaces an entry.
-pub(crate) fn are_replacements(entries: &[Entry], changes: &[RouteChange]) -> bool
-    requires { AreInOrder entries.now }
-    ensures { IsTrue result → AllPass (is_replacement (table_of entries.now)) changes.now }
-{
-    for change in changes {
-        if !is_replacement(entries, change) {
-            return false;
+        } = *change
+        {
+            install(fib, done, prefix, hop, metric)?;
         }
     }
-    true
+    Ok(())
 }
 
-/// Replays a change that replaces an entry: no entry moves.
-fn replace(entries: &mut Vec<Entry>, change: RouteChange)
-    requires in_order { AreInOrder entries.old.items }
-    requires replacement { is_replacement (table_of entries.old.items) change ≡ true }
-    ensures follows { Replays (table_of entries.old.items) (change ∷ []) (table_of entries.new.items) }
-    ensures in_order { AreInOrder entries.new.items }
-    ensures stay { HasAllOf (table_of entries.old.items) (table_of entries.new.items) }
+/// Gives a prefix back what it had.
+fn restore(fib: &mut Fib, undo: Undo)
+    requires { CanRestore undo fib.old }
+    ensures { fib.new ≡ restored undo fib.old }
 {
-    let RouteChange::Install {
-        prefix,
-        hop,
-        metric,
-    } = change
-    else {
-        unreachable!()
-    };
-    let Ok(at) = place_of(entries, &prefix) else {
-        unreachable!()
-    };
-    entries[at] = (prefix, hop, metric);
+    let (prefix, was) = undo;
+    match was {
+        Some((hop, metric)) => {
+            let Ok(_) = fib.put(prefix, hop, metric) else {
+                unreachable!()
+            };
+        }
+        None => fib.remove(&prefix),
+    }
 }
 
-/// Replays changes that each replace an entry.
-pub(crate) fn replace_all(entries: &mut Vec<Entry>, changes: &[RouteChange])
-    requires in_order { AreInOrder entries.old.items }
-    requires replacements { AllPass (is_replacement (table_of entries.old.items)) changes.now }
-    ensures follows { Replays (table_of entries.old.items) changes.now (table_of entries.new.items) }
-    ensures in_order { AreInOrder entries.new.items }
+/// Undoes what is noted, the last first.
+pub(crate) fn undo_all(fib: &mut Fib, done: &mut Vec<Undo>)
+    requires { CanUndo done.old.items fib.old }
+    ensures { fib.new ≡ undone done.old.items fib.old }
+{
+    while let Some(undo) = done.pop() {
+        restore(fib, undo);
+    }
+}
+
+/// The index after the last change that installs an entry.
+fn installs_end(changes: &[RouteChange]) -> usize
+    ensures { (k : ℕ) (p : Prefix6) → result ≤ k → has_install (drop k changes.now) p ≡ false }
+{
+    let mut end = 0;
+    for k in 0..changes.len() {
+        if changes[k].is_install() {
+            end = k + 1;
+        }
+    }
+    end
+}
+
+/// Whether one of the changes installs an entry of the prefix.
+fn is_installed(changes: &[RouteChange], prefix: &Prefix) -> bool
+    ensures { result ≡ has_install changes.now prefix.now }
 {
     for change in changes {
-        replace(entries, *change);
+        if change.is_install() && change.prefix() == *prefix {
+            return true;
+        }
+    }
+    false
+}
+
+/// Replays the changes that withdraw an entry, but for those before an install of the same prefix.
+pub(crate) fn withdraw_all(fib: &mut Fib, changes: &[RouteChange])
+    ensures { (p : Prefix6) → map.get fib.new p ≡ cond (is_gone changes.now p) None (map.get fib.old p) }
+{
+    let end = installs_end(changes);
+    for k in 0..changes.len() {
+        if let RouteChange::Withdraw { prefix } = changes[k] {
+            if k >= end || !is_installed(&changes[k + 1..], &prefix) {
+                fib.remove(&prefix);
+            }
+        }
     }
 }

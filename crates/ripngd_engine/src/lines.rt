@@ -4,7 +4,7 @@ ghost use Rattle.std.specs.Prelude.{◌≡◌, ◌∷◌, ◌++◌, [], true, fa
 ghost use Rattle.std.specs.Io.KnownBytes.{Appends};
 ghost use Rattle.ripngd_engine.specs.Log.{HasNoLineFeed, hop_text, route_text, change_text, entry_lines, log_of};
 
-use fib::{Hop, RouteChange};
+use fib::{Entries, Hop, RouteChange};
 use prefix6::Prefix;
 use std::fmt::{self, Display};
 use std::io::{self, Write};
@@ -81,11 +81,11 @@ pub fn first_line(text: &[u8]) -> Option<(&[u8], &[u8])>
 ///
 /// # Errors
 /// Of the writer.
-pub fn write_entries<W: Write>(entries: &[(Prefix, Hop, u8)], out: &mut W) -> io::Result<()>
-    ensures { OnOk result (Appends (W.contents out.old) (W.contents out.new) (entry_lines entries.now)) }
+pub fn write_entries<W: Write>(entries: Entries<'_>, out: &mut W) -> io::Result<()>
+    ensures { OnOk result (Appends (W.contents out.old) (W.contents out.new) (entry_lines entries.entry)) }
 {
     for entry in entries {
-        let (prefix, hop, metric) = *entry;
+        let (prefix, hop, metric) = entry;
         let line = RouteLine {
             prefix,
             hop,

@@ -8,7 +8,7 @@ use crate::lines::write_lines;
 use crate::link::Link;
 use crate::observer::TrafficObserver;
 use fib::Fib;
-use router_core::{Answer, Outgoing};
+use router_core::{Answer, Listed, Outgoing};
 use std::alloc::AllocError;
 use std::io::Write;
 
@@ -32,20 +32,21 @@ pub(crate) fn one_more(count: u64) -> u64
     count.saturating_add(1)
 }
 
-/// Hands each datagram to the link, once and in order, and reports it. Returns the count of those that failed.
+/// Hands each datagram to the link, once and in order, and reports it. Returns the count of those that failed. The memory of each is free
+/// before the next, which the link may copy there.
 fn hand_over<L: Link, V: TrafficObserver>(
     link: &mut L,
-    sends: &[Outgoing],
+    sends: Listed<Outgoing>,
     lost: u64,
     observer: &mut V,
 ) -> u64
-    ensures hands { HandsOver V.takes observer.old observer.new (L.calls link.old) (L.calls link.new) sends.now lost result }
+    ensures hands { HandsOver V.takes observer.old observer.new (L.calls link.old) (L.calls link.new) sends lost result }
     ensures same { L.interface_count link.new ≡ L.interface_count link.old }
 {
     let mut total = lost;
-    for outgoing in sends {
-        let went = link.send(outgoing).is_ok();
-        observer.sent(outgoing, went);
+    for outgoing in sends.into_vec() {
+        let went = link.send(&outgoing).is_ok();
+        observer.sent(&outgoing, went);
         if !went {
             total = one_more(total);
         }
@@ -71,8 +72,7 @@ impl<L: Link> Outlet<L> {
         ensures ended { self.new.ended ≡ is_err result }
         ensures same { L.interface_count self.new.link ≡ L.interface_count self.old.link }
     {
-        let sends = answer.sends.as_slice();
-        self.lost_sends = hand_over(&mut self.link, sends, self.lost_sends, observer);
+        self.lost_sends = hand_over(&mut self.link, answer.sends, self.lost_sends, observer);
         let changes = answer.changes.as_slice();
         let followed = self.fib.apply(changes);
         self.log_failed = write_lines(changes, self.log_failed, &mut self.line, log);

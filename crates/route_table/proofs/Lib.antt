@@ -13,6 +13,7 @@ pub mod TrieMarks
 pub mod TrieAdd
 pub mod TrieTable
 pub mod NextDue
+pub mod PastPrefix
 pub mod FirstDue
 pub mod SortedDue
 pub mod SortedMarks

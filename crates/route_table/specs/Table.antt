@@ -1,5 +1,5 @@
 -- Tables of routes: finite maps from prefixes, in the order of address, then length (RFC 2080, 2.2).
-use Rattle.std.specs.Prelude.{ℕ, Bool, true, List, Option, Some, None, filter_map, option_map, find, codes}
+use Rattle.std.specs.Prelude.{ℕ, Bool, true, List, Option, Some, None, filter, filter_map, option_map, find, codes}
 use Rattle.std.specs.Ordering.{is_lt}
 use Rattle.std.specs.FinMap as map
 use Rattle.prefix6.specs.Prefix.{Prefix6, prefix_cmp}
@@ -45,6 +45,10 @@ is_past (Some after) p = is_lt (prefix_cmp after p)
 -- the first entry past a prefix, or the first of all
 abbrev pub first_past : Option Prefix6 → Table → Option (Prefix6 × RouteValue)
 first_past after table = find (λ e. is_past after e.0) (map.entries table)
+
+-- the entries past a prefix, or all of them
+abbrev pub past : Option Prefix6 → List (Prefix6 × RouteValue) → List (Prefix6 × RouteValue)
+past after es = filter (λ e. is_past after e.0) es
 
 -- the number of a refusal, as tests print it
 abbrev pub add_refused_number : AddRefused → ℕ

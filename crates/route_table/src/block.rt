@@ -1,6 +1,6 @@
 //! A block: a few routes in the order of their prefixes, with a bound that lets a search skip them.
 
-ghost use Rattle.std.specs.Prelude.{◌≡◌, ◌+◌, ◌<◌, ◌≤◌, ◌↔◌, [], ◌∷◌, ◌++◌, length, take, drop, IsTrue, IfOk, IfSome, OnOk, OnErr, All, None, Some, vec_len, vec_capacity};
+ghost use Rattle.std.specs.Prelude.{◌≡◌, ◌+◌, ◌-◌, ◌<◌, ◌≤◌, ◌↔◌, [], ◌∷◌, ◌++◌, length, take, drop, IsTrue, IfOk, IfSome, OnOk, OnErr, All, None, Some, vec_len, vec_capacity};
 ghost use Rattle.std.specs.FinMap.{find};
 ghost use Rattle.std.specs.declared.cmp.Ordering.TheVariants.{Less};
 ghost use Rattle.std.specs.FinMap.Entries.{put};
@@ -9,7 +9,7 @@ ghost use Rattle.prefix6.specs.Places.{IsAt};
 ghost use Rattle.route_table.specs.Blocks.{block_limit, half_block, StartsAt, Covers};
 ghost use Rattle.route_table.specs.Due.{earlier, first_where, without_mark};
 ghost use Rattle.route_table.specs.Summary.{meets, summary_of};
-ghost use Rattle.route_table.specs.Table.{map_entries};
+ghost use Rattle.route_table.specs.Table.{map_entries, past};
 ghost use Rattle.route_table.specs.Trie.{without};
 
 use crate::route::Route;
@@ -192,6 +192,26 @@ impl Block {
         let Ok(()) = out.extend_from_slice(&self.routes) else {
             unreachable!()
         };
+    }
+
+    /// Appends the first routes past the prefix, at most so many, for which the vector must have room: how many are still wanted.
+    pub fn list_run(
+        &self,
+        after: &Option<Prefix>,
+        most: usize,
+        out: &mut Vec<(Prefix, Route)>,
+    ) -> usize
+        requires room { vec_len out.old + most ≤ vec_capacity out.old }
+        ensures items { out.new.items ≡ out.old.items ++ take most (past after.now self.now) }
+        ensures left { result ≡ most - length (past after.now self.now) }
+        ensures room { vec_len out.new + result ≤ vec_capacity out.new }
+    {
+        let rest = run::past(&self.routes, *after);
+        let count = most.min(rest.len());
+        let Ok(()) = out.extend_from_slice(&rest[..count]) else {
+            unreachable!()
+        };
+        most - count
     }
 
     /// Inserts the route to a prefix that has none.

@@ -1,6 +1,6 @@
 //! A list of blocks of routes, in the order of their prefixes.
 
-ghost use Rattle.std.specs.Prelude.{◌≡◌, ◌+◌, ◌<◌, ◌≤◌, ◌++◌, length, IfOk, IfSome, OnOk, OnErr, All, IsSome, IsTrue, [], ◌∷◌, false, None, Some, option_map, vec_len, vec_capacity};
+ghost use Rattle.std.specs.Prelude.{◌≡◌, ◌+◌, ◌<◌, ◌≤◌, ◌++◌, length, take, IfOk, IfSome, OnOk, OnErr, All, IsSome, IsTrue, [], ◌∷◌, false, None, Some, option_map, vec_len, vec_capacity};
 ghost use Rattle.std.specs.declared.cmp.Ordering.TheVariants.{Less};
 ghost use Rattle.std.specs.FinMap.{find};
 ghost use Rattle.std.specs.FinMap.Entries.{put};
@@ -8,7 +8,7 @@ ghost use Rattle.prefix6.specs.Prefix.{prefix_cmp};
 ghost use Rattle.route_table.specs.Blocks.{block_at, block_limit, joined, AreBlocks, AreFilled, Covers, HasRoom, IsHome, IsPlaced, IsStart};
 ghost use Rattle.route_table.specs.Due.{first_where, least_deadline, without_mark};
 ghost use Rattle.route_table.specs.Summary.{meets};
-ghost use Rattle.route_table.specs.Table.{map_entries};
+ghost use Rattle.route_table.specs.Table.{map_entries, past};
 ghost use Rattle.route_table.specs.Trie.{without, entries_with};
 
 use crate::block::Block;
@@ -137,6 +137,26 @@ pub fn list(blocks: &[Block], out: &mut Vec<(Prefix, Route)>)
 {
     for block in blocks.iter() {
         block.list(out);
+    }
+}
+
+/// Appends the first routes past the prefix, at most so many. The vector must have room for them.
+pub fn list_run(
+    blocks: &[Block],
+    after: &Option<Prefix>,
+    most: usize,
+    out: &mut Vec<(Prefix, Route)>,
+)
+    requires ordered { AreBlocks blocks.now }
+    requires room { vec_len out.old + most ≤ vec_capacity out.old }
+    ensures { out.new.items ≡ out.old.items ++ take most (past after.now (joined blocks.now)) }
+{
+    let mut left = most;
+    for k in start(blocks, after)..blocks.len() {
+        if left == 0 {
+            return;
+        }
+        left = blocks[k].list_run(after, left, out);
     }
 }
 

@@ -7,7 +7,7 @@ ghost use Rattle.prefix6.specs.Places.{IsAt, IsGap};
 ghost use Rattle.route_table.specs.Due.{first_where, least_deadline, without_mark};
 ghost use Rattle.route_table.specs.Place.{IsStartPast};
 ghost use Rattle.route_table.specs.Summary.{meets, summary_of};
-ghost use Rattle.route_table.specs.Table.{map_entries};
+ghost use Rattle.route_table.specs.Table.{map_entries, past};
 
 use crate::route::Route;
 use crate::summary::Summary;
@@ -48,6 +48,14 @@ fn place_past(routes: &[(Prefix, Route)], after: Option<Prefix>) -> usize
             Err(at) => at,
         },
     }
+}
+
+/// The routes past the prefix.
+pub fn past(routes: &[(Prefix, Route)], after: Option<Prefix>) -> &[(Prefix, Route)]
+    requires { T (is_sorted prefix_cmp routes.now) }
+    ensures { result.now ≡ past after routes.now }
+{
+    &routes[place_past(routes, after)..]
 }
 
 /// The summary of these routes.

@@ -117,6 +117,10 @@ impl RouteStore for SortedRoutes {
         blocks::list(&self.blocks, out);
     }
 
+    fn list_run(&self, after: Option<Prefix>, most: usize, out: &mut Vec<(Prefix, Route)>) {
+        blocks::list_run(&self.blocks, &after, most, out);
+    }
+
     fn add(&mut self, prefix: Prefix, route: Route) -> Result<(), AddRefused> {
         if self.count >= TABLE_LIMIT {
             return Err(AddRefused::Full);

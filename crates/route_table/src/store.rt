@@ -1,8 +1,8 @@
 //! What a table of routes does, however it is stored.
 
-ghost use Rattle.std.specs.Prelude.{◌≡◌, ◌≤◌, ◌+◌, ◌++◌, ◌↔◌, None, IsTrue, IsSome, IfSome, option_map, OnOk, OnErr, vec_len, vec_capacity};
+ghost use Rattle.std.specs.Prelude.{◌≡◌, ◌≤◌, ◌+◌, ◌++◌, ◌↔◌, None, IsTrue, IsSome, IfSome, option_map, take, OnOk, OnErr, vec_len, vec_capacity};
 ghost use Rattle.std.specs.FinMap as map;
-ghost use Rattle.route_table.specs.Table.{Table, table_limit, table_with, first_past, add_refused_name, add_refused_number};
+ghost use Rattle.route_table.specs.Table.{Table, table_limit, table_with, first_past, past, add_refused_name, add_refused_number};
 ghost use Rattle.route_table.specs.Due.{first_due, first_changed, next_due, unmarked};
 
 use crate::moment::{Deadline, Moment};
@@ -92,6 +92,22 @@ pub trait RouteStore: Drop {
     fn list(&self, out: &mut Vec<(Prefix, Route)>)
         requires room { vec_len out.old + map.len (table self.now) ≤ vec_capacity out.old }
         ensures { out.new.items ≡ out.old.items ++ map.entries (table self.now) };
+
+    /// Appends the first routes past the prefix in their order: `most` of them, or all if there are fewer. The vector must have
+    /// room for `most`, so no memory is taken.
+    fn list_run(&self, after: Option<Prefix>, most: usize, out: &mut Vec<(Prefix, Route)>)
+        requires room { vec_len out.old + most ≤ vec_capacity out.old }
+        ensures { out.new.items ≡ out.old.items ++ take most (past after (map.entries (table self.now))) }
+    {
+        let mut after = after;
+        for _done in 0..most {
+            let Some(entry) = self.walk(after) else {
+                return;
+            };
+            out.push_reserved((entry.0, entry.1));
+            after = Some(entry.0);
+        }
+    }
 
     /// Adds a route to a prefix that has none.
     ///

@@ -11,6 +11,7 @@ pub mod ReasonsOfEach
 pub mod ConfigReasons
 mod CutPieces
 pub mod Sending
+mod AllTold
 pub mod ConfigLaws
 pub mod Owning
 mod AgedTables

@@ -51,6 +51,11 @@ SpelledTo-next all rest old new m o s is = record {
 pub SpelledTo-end : (all : List Message) (old new : List Outgoing) → SpelledTo all [] old new → AddsSpelled all old new
 SpelledTo-end all old new s = record { added = s.added; behind = s.behind; spelled = subst (AreSpelled all) (append-nil s.added) (s.with_rest [] tt) }
 
+added_one : (m : Message) (added : List Outgoing) → AreSpelled (m ∷ []) added → (o : Outgoing) × (added ≡ o ∷ []) × IsSpelled m o
+added_one m [] s = absurd s
+added_one m (o ∷ []) s = (o, refl, s.0)
+added_one m (o ∷ (p ∷ os)) s = absurd s.1
+
 -- ---- the pieces of a list, from its front
 numbers_below-front : (m : ℕ) → numbers_below (suc m) ≡ 0 ∷ map suc (numbers_below m)
 numbers_below-front zero = refl
@@ -151,6 +156,17 @@ module _ (mtu iface : ℕ) (to : Destination) (some : 0 < entries_for_mtu mtu) w
       (told ∙ ap (map tell) front ∙ sym (take-map tell (min n (length rest)) rest) ∙ ap (λ k. take k (map tell rest)) same)
       (ap (map tell) back ∙ sym (drop-map tell (min n (length rest)) rest) ∙ ap (λ k. drop k (map tell rest)) same)
       on destined spells
+
+  -- the same, where that piece was added
+  pub told-added : {X : Type 0} (tell : X → Rte) (all : List Message) (rest piece after : List X) (old new newer : List Outgoing)
+      → 0 < length rest → SpelledTo all (responses_at mtu iface to (map tell rest)) old new
+      → piece ≡ take (min (entries_for_mtu mtu) (length rest)) rest → after ≡ drop (min (entries_for_mtu mtu) (length rest)) rest
+      → AddsSpelled (response (map tell piece) ∷ []) new newer
+      → SpelledTo all (responses_at mtu iface to (map tell after)) old newer
+  told-added tell all rest piece after old new newer more so_far front back adds =
+      let one = added_one (response (map tell piece)) adds.added adds.spelled in
+      subst (SpelledTo all (responses_at mtu iface to (map tell after)) old) (sym (adds.behind ∙ ap (λ l. new ++ l) one.1))
+      (told-next tell all rest piece after (map tell piece) old new one.0 more so_far front back refl one.2.iface one.2.to one.2.bytes)
 
 -- ---- messages of each element of a list with its number
 pub take_numbered : {X : Type 0} (xs : List X) (i : ℕ) (x : X) → slice_get xs i ≡ Some x

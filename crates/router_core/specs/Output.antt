@@ -56,6 +56,11 @@ abbrev pub selected : Selection → RouteValue → Bool
 selected Every = every_route
 selected Changed = is_changed
 
+-- the routes of an update: these, or all of the table
+abbrev pub update_routes : Option (List (Prefix6 × RouteValue)) → Table → List (Prefix6 × RouteValue)
+update_routes (Some routes) table = routes
+update_routes None table = map_of.entries table
+
 -- 0, 1, .., n - 1
 abbrev pub numbers_below : ℕ → List ℕ
 numbers_below zero = []
@@ -99,6 +104,10 @@ abbrev pub responses_at : ℕ → ℕ → Destination → List Rte → List Mess
 responses_at mtu iface to entries =
     map (λ piece. record { iface = iface; to = to; command = Response; entries = piece })
     (pieces (entries_for_mtu mtu) entries)
+
+-- the Response that advertises these routes on an interface, to the group
+abbrev pub told_message : ℕ → List (Prefix6 × RouteValue) → Message
+told_message iface routes = record { iface = iface; to = Group; command = Response; entries = map (told_entry iface) routes }
 
 -- the Responses that carry a list of entries on an interface
 abbrev pub responses : Config → ℕ → Destination → List Rte → List Message

@@ -6,7 +6,7 @@ ghost use Rattle.std.specs.FinMap.{entries};
 ghost use Rattle.route_table.specs.Due.{first_where, is_due};
 ghost use Rattle.route_table.specs.Table.{map_entries};
 ghost use Rattle.router_core.specs.Ageing.{aged, aged_table};
-ghost use Rattle.router_core.specs.Output.{selected};
+ghost use Rattle.router_core.specs.Output.{selected, update_routes};
 ghost use Rattle.router_core.specs.Settling.{told_route, may_be_told};
 
 use crate::age::age;
@@ -83,22 +83,23 @@ pub fn has_told<S: RouteStore>(store: &S, which: Selection, now: Moment) -> bool
     false
 }
 
-/// What is left of all routes, in the order of prefixes.
+/// What is left of all routes, in the order of prefixes, or `None` if that is all of them as they are.
 fn every_at<S: RouteStore>(
     alloc: Global,
     store: &S,
     now: Moment,
-) -> Result<Vec<(Prefix, Route)>, AllocError>
-    ensures { IfOk result (λ v. v.items ≡ map_entries (aged now) (entries (S.table store.now))) }
+) -> Result<Option<Vec<(Prefix, Route)>>, AllocError>
+    ensures { IfOk result (λ routes. update_routes (option_map (λ v. v.items) routes) (S.table store.now) ≡ map_entries (aged now) (entries (S.table store.now))) }
 {
-    let routes = listed(alloc, store)?;
     if store.walk_due(None, now).is_none() {
-        return Ok(routes);
+        return Ok(None);
     }
-    routes
+    let routes = listed(alloc, store)?;
+    let left = routes
         .iter()
         .filter_map(|&(prefix, route)| age(route, now).map(|route| (prefix, route)))
-        .collect(alloc)
+        .collect(alloc)?;
+    Ok(Some(left))
 }
 
 /// A prefix and its route as a triggered update advertises it after its timers are looked at, if it does.
@@ -130,7 +131,8 @@ fn changed_at<S: RouteStore>(
     Ok(routes)
 }
 
-/// The routes that an update advertises, as they are at a moment, in the order of prefixes.
+/// The routes that an update advertises, as they are at a moment, in the order of prefixes, or `None` if these are all of the store as
+/// they are in it: then no list of them is made.
 ///
 /// # Errors
 /// Only out of memory.
@@ -139,11 +141,11 @@ pub fn told_at<S: RouteStore>(
     store: &S,
     which: Selection,
     now: Moment,
-) -> Result<Vec<(Prefix, Route)>, AllocError>
-    ensures { IfOk result (λ v. v.items ≡ map_entries (told_route now which) (entries (S.table store.now))) }
+) -> Result<Option<Vec<(Prefix, Route)>>, AllocError>
+    ensures { IfOk result (λ routes. update_routes (option_map (λ v. v.items) routes) (S.table store.now) ≡ map_entries (told_route now which) (entries (S.table store.now))) }
 {
     match which {
         Selection::Every => every_at(alloc, store, now),
-        Selection::Changed => changed_at(alloc, store, now),
+        Selection::Changed => Ok(Some(changed_at(alloc, store, now)?)),
     }
 }

@@ -238,7 +238,7 @@ impl<S: RouteStore> Router<S> {
             return Ok(Vec::new(self.alloc));
         }
         let routes = told_at(self.alloc, &self.store, which, now)?;
-        updates(self.alloc, &self.config, &routes)
+        updates(self.alloc, &self.config, &self.store, &routes)
     }
 
     /// When the next regular update is due, after an update.

@@ -16,7 +16,7 @@ pub struct Forwarding {
 /// All entries of a table, in order, and how many there are.
 pub fn entries_of(row: &Row<'_>, fib: &Fib) -> Result<String, AllocError> {
     let mut text = String::new(row.alloc);
-    for &(prefix, hop, metric) in fib.entries() {
+    for (prefix, hop, metric) in fib.entries() {
         let line = RouteLine {
             prefix,
             hop,
@@ -82,7 +82,7 @@ impl Forwarding {
             "apply" => self.apply(row)?,
             "lookups" => {
                 let start = Instant::now(&row.rt);
-                let addrs = self.fib.entries().iter().map(|entry| entry.0.addr());
+                let addrs = self.fib.entries().map(|entry| entry.0.addr());
                 let count = addrs
                     .filter(|addr| self.fib.lookup(*addr).is_some())
                     .count();

@@ -22,7 +22,7 @@ impl<S: RouteStore> Router<S> {
         ensures few { IfOk result (λ sends. length sends.items ≤ map_of.len self.now.table * length self.now.config.interfaces) }
     {
         let routes = unreachable_routes(self.alloc, &self.store, now)?;
-        updates(self.alloc, &self.config, &routes)
+        updates(self.alloc, &self.config, &self.store, &Some(routes))
     }
 
     /// The router shuts down: unless it is passive, an update on each interface advertises every route with metric 16. So

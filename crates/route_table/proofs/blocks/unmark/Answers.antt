@@ -1,7 +1,6 @@
 use Rattle.std.proofs.Common.{◌≡◌, ◌+◌, ◌<◌, ◌≤◌, [], length, map, set, take, refl, sym, subst, ap, ◌∙◌, arith}
 use Rattle.std.proofs.lemmas.List.{take_all}
 use Rattle.std.proofs.lemmas.List.Edits.{map_over_more}
-use Rattle.route_table.specs.Place.{Entries}
 use Rattle.route_table.specs.Blocks.{joined, block_at, Covers, AreFilled}
 use Rattle.route_table.proofs.BlockBounds.{covers_exactly}
 use Rattle.route_table.proofs.BlockChanges.{plain, all_plain, joined_plain, filled_plain, not_yet, plain_more}

@@ -6,4 +6,4 @@ use Rattle.router_core.proofs.listing.every_at.Goals as goal
 pub returns-then-is_none : goal.returns-then-is_none
 returns-then-is_none g c =
     let none = none_there _ (c.is_none.ensures ∙ ap not c.if-is_none.true) in
-    c.in_ok-routes.ensures ∙ sym (none-aged c.args.now (entries (g.S.RouteStore.table c.args.store.now)) (sym c.walk_due.ensures ∙ none))
+    sym (none-aged c.args.now (entries (g.S.RouteStore.table c.args.store.now)) (sym c.walk_due.ensures ∙ none))

@@ -1,11 +1,10 @@
-use Rattle.std.proofs.Common.{◌≡◌, ◌<◌, ◌∷◌, [], List, length, map, min, ap, subst, ◌∙◌, refl, arith}
+use Rattle.std.proofs.Common.{◌≡◌, ◌<◌, [], List, length, map, min, ap, subst, ◌∙◌, arith}
 use Rattle.std.proofs.lemmas.Bool.Decides.{nat_tests}
-use Rattle.std.proofs.lemmas.List.{length-append, nil_from_length}
+use Rattle.std.proofs.lemmas.List.{nil_from_length}
 use Rattle.ripng_wire.specs.Layout.{entries_for_mtu}
 use Rattle.router_core.specs.Output.{Message, responses_at, told_entry}
 use Rattle.router_core.specs.declared.answer.Destination.TheVariants.{Group}
-use Rattle.router_core.specs.declared.answer.Outgoing.{Outgoing}
-use Rattle.router_core.proofs.Sending.{SpelledTo, SpelledTo-end, responses-nil, told-next}
+use Rattle.router_core.proofs.Sending.{SpelledTo, SpelledTo-end, responses-nil, told-added}
 use Rattle.router_core.proofs.tell.push_told.Goals as goal
 
 pub loop-rest-preserved : goal.loop-rest-preserved
@@ -13,20 +12,14 @@ loop-rest-preserved c =
     let more : 0 < length c.loop-rest.rest.now = grind (arith, nat_tests, c.loop-rest-test.ensures, c.loop-rest-test.true, c.is_empty.ensures) in
     let some : 0 < entries_for_mtu c.args.mtu = omega (arith, c.entries_for_mtu-room.ensures.count, c.entries_for_mtu-room.ensures.least) in
     let tell = told_entry c.args.iface in
-    let o : Outgoing = record { iface = c.args.iface; to = Group; bytes = c.from_vec-bytes.result } in
     let room : c.min.result ≡ min (entries_for_mtu c.args.mtu) (length c.loop-rest.rest.now) =
     c.min.ensures ∙ ap (λ n. min n (length c.loop-rest.rest.now)) c.entries_for_mtu-room.ensures.count in
     record {
       so_far =
-          rw c.in_ok-push.ensures.items
-          (told-next c.args.mtu c.args.iface Group some tell (responses_at c.args.mtu c.args.iface Group (map tell c.args.routes.now))
-          c.loop-rest.rest.now c.split_at.result.0.now c.split_at.result.1.now c.deref.result.now c.args.sends.now.items c.loop-rest.sends.items o
-          more c.loop-rest.invariant.so_far (rw room at c.split_at.ensures.front) (rw room at c.split_at.ensures.back)
-          (c.deref.ensures.value ∙ c.in_ok-entries.ensures.value) refl refl
-          (rw (← c.from_vec-bytes.ensures) at c.in_ok-encode.ensures));
-      few =
-          let pushed = ap length c.in_ok-push.ensures.items ∙ length-append c.loop-rest.sends.items (o ∷ []) in
-          omega (arith, more, some, pushed, room, c.split_at.ensures.back_len, c.split_at.ensures.front_len, c.loop-rest.invariant.few);
+          told-added c.args.mtu c.args.iface Group some tell (responses_at c.args.mtu c.args.iface Group (map tell c.args.routes.now))
+          c.loop-rest.rest.now c.split_at.result.0.now c.split_at.result.1.now c.args.sends.now.items c.loop-rest.sends.items c.push_piece.new.sends.items
+          more c.loop-rest.invariant.so_far (rw room at c.split_at.ensures.front) (rw room at c.split_at.ensures.back) c.in_ok-push_piece.ensures.spelled;
+      few = omega (arith, more, some, room, c.in_ok-push_piece.ensures.one, c.split_at.ensures.back_len, c.split_at.ensures.front_len, c.loop-rest.invariant.few);
     }
 
 pub returns-clause-spelled : goal.returns-clause-spelled

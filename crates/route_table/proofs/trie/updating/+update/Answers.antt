@@ -1,6 +1,4 @@
-use Rattle.std.proofs.Common.{◌≡◌, ◌≤◌, ◌<◌, sym, ap, subst, ◌∙◌, length, arith}
-use Rattle.std.specs.Prelude.{Box}
-use Rattle.std.specs.declared.alloc.Global.{Global}
+use Rattle.std.proofs.Common.{◌≡◌, ◌<◌, sym, ap, subst, ◌∙◌, length, arith}
 use Rattle.std.specs.FinMap.{find}
 use Rattle.prefix6.specs.Prefix.{prefix_cmp}
 use Rattle.route_table.specs.Trie.{linked, fork_entries, entries_with, HasEntries}

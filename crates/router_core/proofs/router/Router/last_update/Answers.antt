@@ -12,11 +12,11 @@ pub returns-clause-spelled : goal.returns-clause-spelled
 returns-clause-spelled g c =
     let t = g.S.RouteStore.table c.self.inside.store in
     rw (← c.self.view_is)
-    (c.updates.ensures.spelled every_route (unreachable_table c.args.now t) (c.deref.ensures.value ∙ c.in_ok-routes.ensures ∙ filter-all (entries (unreachable_table c.args.now t))))
+    (c.updates.ensures.spelled every_route (unreachable_table c.args.now t) (c.in_ok-routes.ensures ∙ filter-all (entries (unreachable_table c.args.now t))))
 
 pub returns-clause-few : goal.returns-clause-few
 returns-clause-few g c =
     let t = g.S.RouteStore.table c.self.inside.store in
-    let fewer : length c.deref.result.now ≤ len t = omega (arith, ap length (c.deref.ensures.value ∙ c.in_ok-routes.ensures), unreachable_many c.args.now t) in
+    let fewer : length c.in_ok-routes.routes.items ≤ len t = omega (arith, ap length c.in_ok-routes.ensures, unreachable_many c.args.now t) in
     let most = mul-le-mul_right (length c.self.inside.config.interfaces) fewer in
     rw (← c.self.view_is) (IfOk-weaker c.updates.result _ _ (λ sends few. omega (arith, few, most)) c.updates.ensures.few)
