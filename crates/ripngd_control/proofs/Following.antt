@@ -1,30 +1,21 @@
 -- Pieces of what is shown: routes that follow one another, and the entries behind a prefix.
-use Rattle.std.proofs.Common.{◌≡◌, ◌≢◌, ◌<◌, ◌≤◌, ◌+◌, ◌-◌, ◌∙◌, ℕ, zero, suc, true, false, List, [], ◌∷◌, ◌++◌, map as each, take, drop, length, length-drop, min, get_or, Option, Some, None, refl, sym, ap, subst, arith, append-nil, inl, inr}
+use Rattle.std.proofs.Common.{◌≡◌, ◌≢◌, ◌<◌, ◌≤◌, ◌+◌, ◌-◌, ◌∙◌, ℕ, zero, suc, List, [], ◌∷◌, ◌++◌, take, drop, length, length-append, length-drop, get_or, Option, Some, None, option_map, slice_get, refl, sym, ap, subst, arith, add-one, append-nil}
 use Rattle.std.specs.Prelude.{codes, decimal, flat_map}
 use Rattle.std.specs.List.{enumerate_from}
-use Rattle.std.specs.List.Sorted.{IsPartitionedBy, IsPartitionPoint}
-use Rattle.std.specs.Ordering.{is_le}
-use Rattle.std.specs.declared.cmp.Ordering.{Ordering}
-use Rattle.std.specs.declared.cmp.Ordering.TheVariants.{Less, Equal, Greater}
-use Rattle.std.specs.FinMap.{entries, entries_sorted}
 use Rattle.std.specs.Io.KnownBytes.{Appends}
 use Rattle.std.proofs.KnownBytes.{Appends-nil, Appends-trans}
-use Rattle.std.proofs.lemmas.Bool.{cases_lt}
 use Rattle.std.proofs.lemmas.Grind.{flat_map-append}
-use Rattle.std.proofs.lemmas.List.{get_or-take, length-map, length-take, take_min, take_more}
-use Rattle.std.proofs.Math.ListN.{get_or-map}
-use Rattle.prefix6.specs.Prefix.{Prefix6, prefix_cmp}
-use Rattle.prefix6.specs.Places.{prefix_at}
+use Rattle.std.proofs.lemmas.List.{drop_all, take_all, take_more}
+use Rattle.prefix6.specs.Prefix.{Prefix6}
 use Rattle.prefix6.specs.Written.{written_addr}
-use Rattle.prefix6.proofs.PrefixLaws.{prefixes_total, exact_prefixes}
-use Rattle.prefix6.proofs.SortedEntries.{sorted_at}
-use Rattle.fib.specs.Entries.{Entry, at_prefix, fib_entry, listed, AreInOrder}
-use Rattle.fib.specs.Forwarding.{Forward, Forwarding}
+use Rattle.fib.specs.Entries.{Entry, listed, AreAfter}
+use Rattle.fib.specs.Forwarding.{Forwarding}
 use Rattle.route_table.specs.Route.{RouteValue}
 use Rattle.route_table.specs.Table.{Table, first_past}
 use Rattle.router_core.specs.declared.config.Interface.{Interface}
 use Rattle.router_core.proofs.Sending.{element_at, take_numbered}
-use Rattle.ripngd_control.specs.Answers.{Follow, IsPast, ShowsRoutes}
+use Rattle.ripngd_engine.specs.Log.{entry_lines, route_text}
+use Rattle.ripngd_control.specs.Answers.{Follow, ShowsEntries, ShowsRoutes, last_prefix}
 use Rattle.ripngd_control.specs.Printed.{interface_lines, row_lines, status_lines, status_text, tally_text}
 use Rattle.ripngd_control.specs.declared.neighbors.Neighbor.{Neighbor}
 
@@ -113,61 +104,58 @@ shows_more table now after end count old new h many = record {
 }
 
 -- ---- entries
-pub at_prefix_again : (es : List (Prefix6 × Forward)) → each at_prefix (each fib_entry es) ≡ es
-at_prefix_again [] = refl
-at_prefix_again (e ∷ es) = ap (λ l. e ∷ l) (at_prefix_again es)
+-- what is shown of entries, and what is left of them
+pub record EntriesShown (all left : List Entry) (count : ℕ) (last : Option Prefix6) (old new : Option (List ℕ)) : Type 0 where
+  pub left_is : left ≡ drop count all
+  pub last_is : last ≡ last_prefix (take count all)
+  pub lines : Appends old new (entry_lines (take count all))
 
-pub listed_in_order : (table : Forwarding) → AreInOrder (listed table)
-listed_in_order table = record { rising = rw (at_prefix_again (entries table)) (entries_sorted table) }
+next_of : (all : List Entry) (k : ℕ) (e : Entry) (rest : List Entry) → drop k all ≡ e ∷ rest → (drop (suc k) all ≡ rest) × (take (suc k) all ≡ take k all ++ e ∷ [])
+next_of [] zero e rest is = absurd (cc)
+next_of [] (suc k) e rest is = absurd (cc)
+next_of (x ∷ xs) zero e rest is = (ap (drop (suc zero)) is, ap (take (suc zero)) is)
+next_of (x ∷ xs) (suc k) e rest is = let later = next_of xs k e rest is in (later.0, ap (λ l. x ∷ l) later.1)
 
-same_there : (es : List Entry) (i : ℕ) (d : Entry) → prefix_at (each at_prefix es) i (at_prefix d) ≡ (get_or es i d).0
-same_there es i d = ap (λ (e : Prefix6 × Forward). e.0) (get_or-map at_prefix es i d)
+at_end : (es : List Entry) (e : Entry) → slice_get (es ++ e ∷ []) (length es) ≡ Some e
+at_end [] e = refl
+at_end (x ∷ es) e = at_end es e
 
--- what comes before a prefix up to another is up to that
-up_to_too : (x y p : Prefix6) → prefix_cmp x y ≡ Less → is_le (prefix_cmp y p) ≡ true → is_le (prefix_cmp x p) ≡ true
-up_to_too x y p less up = by (prefix_cmp y p) refl up
-  where
-    by : (r : Ordering) → prefix_cmp y p ≡ r → is_le r ≡ true → is_le (prefix_cmp x p) ≡ true
-    by Less is passes = ap is_le (prefixes_total.trans x y p less is)
-    by Equal is passes = ap is_le (subst (λ z. prefix_cmp x z ≡ Less) (exact_prefixes y p is) less)
-    by Greater is passes = absurd (cc)
+last_pushed : (es : List Entry) (e : Entry) → last_prefix (es ++ e ∷ []) ≡ Some e.0
+last_pushed es e =
+    let end : length (es ++ e ∷ []) - 1 ≡ length es = omega (arith, length-append es (e ∷ [])) in
+    ap (λ n. option_map (λ (x : Entry). x.0) (slice_get (es ++ e ∷ []) n)) end ∙ ap (option_map (λ (x : Entry). x.0)) (at_end es e)
 
-pub parted : (es : List Entry) (p : Prefix6) → AreInOrder es → IsPartitionedBy (λ e. is_le (prefix_cmp e.0 p)) es
-parted es p h i j d le lt passes = elim (cases_lt i j) [
-  | inl less ↦
-      let before : prefix_cmp (get_or es i d).0 (get_or es j d).0 ≡ Less =
-      subst (λ q. prefix_cmp q (get_or es j d).0 ≡ Less) (same_there es i d)
-      (subst (λ q. prefix_cmp (prefix_at (each at_prefix es) i (at_prefix d)) q ≡ Less) (same_there es j d)
-      (sorted_at (each at_prefix es) i j (at_prefix d) h.rising less (omega (arith, length-map es at_prefix)))) in
-      up_to_too _ _ p before passes
-  | inr ge ↦ let same : j ≡ i = omega arith in subst (λ k. is_le (prefix_cmp (get_or es k d).0 p) ≡ true) same passes
-]
+-- the line of one entry more
+pub EntriesShown-more : (all left rest : List Entry) (k : ℕ) (last : Option Prefix6) (e : Entry) (old mid new : Option (List ℕ)) → EntriesShown all left k last old mid
+    → left ≡ e ∷ rest → Appends mid new (route_text e.0 e.1 e.2 ++ 10 ∷ []) → EntriesShown all rest (k + 1) (Some e.0) old new
+EntriesShown-more all left rest k last e old mid new h is line =
+    let next = next_of all k e rest (sym h.left_is ∙ is) in
+    let gone : drop (k + 1) all ≡ rest = ap (λ n. drop n all) (add-one k) ∙ next.0 in
+    let more : take (k + 1) all ≡ take k all ++ e ∷ [] = ap (λ n. take n all) (add-one k) ∙ next.1 in
+    record {
+      left_is = sym gone;
+      last_is = sym (ap last_prefix more ∙ last_pushed (take k all) e);
+      lines = rw (more, flat_map-append (λ (x : Entry). route_text x.0 x.1 x.2 ++ 10 ∷ []) (take k all) (e ∷ []), append-nil (route_text e.0 e.1 e.2 ++ 10 ∷ []))
+          (Appends-trans old mid new (entry_lines (take k all)) _ h.lines line);
+    }
 
-not_greater : (r : Ordering) → is_le r ≡ true → r ≢ Greater
-not_greater Less passes = λ e. absurd (cc)
-not_greater Equal passes = λ e. absurd (cc)
-not_greater Greater passes = absurd (cc)
+-- as many as a piece has
+pub shows_entries : (table : Forwarding) (after last : Option Prefix6) (all left : List Entry) (count : ℕ) (old new : Option (List ℕ))
+    → AreAfter (listed table) after all → EntriesShown all left count last old new → count ≡ 256 → ShowsEntries table after last old new
+shows_entries table after last all left count old new h shown is = record {
+  begin = h.begin;
+  past = h.past;
+  more_is = shown.last_is ∙ ap (λ n. last_prefix (take n all)) is ∙ ap (λ es. last_prefix (take 256 es)) h.are;
+  lines = subst (λ es. Appends old new (entry_lines (take 256 es))) h.are (subst (λ n. Appends old new (entry_lines (take n all))) is shown.lines);
+}
 
-greater : (r : Ordering) → is_le r ≡ false → r ≡ Greater
-greater Less fails = absurd (cc)
-greater Equal fails = absurd (cc)
-greater Greater fails = refl
-
--- the entries from a place on, where a search by bisection has found it
-pub past_point : (es : List Entry) (after : Option Prefix6) (p : Prefix6) (i : ℕ) → after ≡ Some p → i ≤ length es
-    → IsPartitionPoint (λ e. is_le (prefix_cmp e.0 p) ≡ true) (λ e. is_le (prefix_cmp e.0 p) ≡ false) es i → IsPast es after i
-past_point es after p i is within point = subst (λ q. IsPast es q i) (sym is) (
-  record {
-    up_to = λ j d lt.
-        let inside : j < i = omega (arith, lt, length-take i es) in
-        subst (λ (e : Entry). prefix_cmp e.0 p ≢ Greater) (sym (get_or-take i es j d inside)) (not_greater _ (point.0 j d (omega arith) inside));
-  },
-  record { past = λ j d le lt. greater _ (point.1 j d le lt) },
-)
-
--- as many as are left, and 256 at the most, are the first 256 of those that are left
-pub piece_is : {X : Type 0} (es : List X) (begin count : ℕ) → count ≡ min (length es - begin) 256
-    → take ((begin + count) - begin) (drop begin es) ≡ take 256 (drop begin es)
-piece_is {X} es begin count is =
-    let n : (begin + count) - begin ≡ min 256 (length (drop begin es)) = omega (arith, length-drop begin es) in
-    rw n (take_min 256 (drop begin es))
+-- or all that there are
+pub all_shown : (all left : List Entry) (k n : ℕ) (last : Option Prefix6) (old new : Option (List ℕ)) → EntriesShown all left k last old new → left ≡ [] → k ≤ n → EntriesShown all left n last old new
+all_shown all left k n last old new h none le =
+    let few : length all ≤ k = omega (arith, ap length (sym h.left_is ∙ none), length-drop k all) in
+    let same : take k all ≡ take n all = take_all k all few ∙ sym (take_all n all (omega (arith, few, le))) in
+    record {
+      left_is = none ∙ sym (drop_all n all (omega (arith, few, le)));
+      last_is = h.last_is ∙ ap last_prefix same;
+      lines = subst (λ es. Appends old new (entry_lines es)) same h.lines;
+    }

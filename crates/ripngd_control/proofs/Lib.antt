@@ -3,4 +3,3 @@ mod Places
 mod Following
 mod Answered
 mod Heeding
-mod LookingUp

@@ -3,8 +3,8 @@ use Rattle.std.specs.Prelude.{ℕ, ◌≡◌, ◌≢◌, ◌≤◌, ◌-◌, ◌
 use Rattle.std.specs.FinMap as map_of
 use Rattle.std.specs.Io.KnownBytes.{Appends}
 use Rattle.prefix6.specs.Prefix.{Prefix6}
-use Rattle.fib.specs.Entries.{AreAllPast, AreUpTo, Entry, listed}
-use Rattle.fib.specs.Forwarding.{Forwarding, IsMatch}
+use Rattle.fib.specs.Entries.{Entry, IsLookedUp, IsPast, listed}
+use Rattle.fib.specs.Forwarding.{Forwarding}
 use Rattle.fib.specs.declared.change.Hop.{Hop}
 use Rattle.route_table.specs.Route.{RouteValue}
 use Rattle.route_table.specs.Table.{Table, first_past}
@@ -48,11 +48,6 @@ pub record ShowsRoutes (table : Table) (now : ℕ) (after more : Option Prefix6)
   pub ends : more ≡ None → first_past end table ≡ None
   pub lines : Appends old new (status_lines now shown)
 
--- the entries from this index on are those after a prefix, or all of them
-abbrev pub IsPast : List (Prefix6 × Hop × ℕ) → Option Prefix6 → ℕ → Type 0
-IsPast es None begin = begin ≡ 0
-IsPast es (Some p) begin = AreUpTo (take begin es) p × AreAllPast es p begin
-
 -- the prefix of the last of these entries
 abbrev pub last_prefix : List (Prefix6 × Hop × ℕ) → Option Prefix6
 last_prefix es = option_map (λ e. e.0) (slice_get es (length es - 1))
@@ -64,18 +59,6 @@ pub record ShowsEntries (table : Forwarding) (after more : Option Prefix6) (old 
   pub past : IsPast (listed table) after begin
   pub more_is : more ≡ last_prefix (take 256 (drop begin (listed table)))
   pub lines : Appends old new (entry_lines (take 256 (drop begin (listed table))))
-
--- ---- the longest match
--- this is the entry of the longest prefix of a table that contains the address
-pub record IsLongestEntry (table : Forwarding) (addr : ℕ) (e : Entry) : Type 0 where
-  pub matches : IsMatch table addr e.0
-  pub longest : (p : Prefix6) → IsMatch table addr p → p.len ≤ e.0.len
-  pub stands : map_of.get table e.0 ≡ Some (record { hop = e.1; metric = e.2 })
-
--- it is that entry; or no prefix of the table contains the address
-abbrev pub IsLookedUp : Forwarding → ℕ → Option Entry → Type 0
-IsLookedUp table addr (Some e) = IsLongestEntry table addr e
-IsLookedUp table addr None = (p : Prefix6) → ¬ (IsMatch table addr p)
 
 -- ---- what is done for a command, and answered at once
 -- what a change did to an engine, by what is replied

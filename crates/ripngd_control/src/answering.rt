@@ -1,18 +1,21 @@
 //! What a running router does for a command, and its answer: at once, or in pieces.
 
-ghost use Rattle.std.specs.Prelude.{◌≡◌, ◌≢◌, ◌↔◌, ◌⊎◌, ◌++◌, ◌∷◌, IsOk, IsTrue, Some, false};
+ghost use Rattle.std.specs.Prelude.{◌≡◌, ◌≢◌, ◌↔◌, ◌⊎◌, ◌++◌, ◌∷◌, IsOk, IsTrue, OnOk, Some, false, true};
+ghost use Rattle.std.specs.FinMap as map_of;
+ghost use Rattle.std.specs.Io.KnownBytes.{Appends};
+ghost use Rattle.std.specs.List.{enumerate_from};
 ghost use Rattle.router_core.specs.Reconfiguring.{NamesInterface};
 ghost use Rattle.ripngd_engine.specs.Changing.{LinkComesUpOnce, LinkGoesDownOnce};
 ghost use Rattle.ripngd_engine.specs.Seen.{seen};
 ghost use Rattle.ripngd_control.specs.Answers.{AnswersCommand, Continues, GainsLines, ObeysChange, ObeysLink, ObeysStop, step_reply};
-ghost use Rattle.ripngd_control.specs.Printed.{lookup_text, reply_line};
+ghost use Rattle.ripngd_control.specs.Printed.{interface_lines, lookup_text, reply_line, status_answer};
 ghost use Rattle.ripngd_control.specs.declared.command.PeerChange.{PeerChange};
 
 use crate::command::Command;
-use crate::counts::Losses;
+use crate::counts::{Counts, Losses};
 use crate::lookup::{Lookup, look_up};
 use crate::monitor::Monitor;
-use crate::overview::write_status;
+use crate::neighbors::Neighbors;
 use crate::pieces::{write_routes, write_table};
 use crate::reply::{Peering, Reply};
 use fib::Fib;
@@ -20,7 +23,7 @@ use prefix6::Prefix;
 use rand_core::Rng;
 use ripngd_engine::{ChangeFault, Engine, Link, LinkChange, TimeSource};
 use route_table::RouteStore;
-use router_core::{Change, Router, RouterConfig};
+use router_core::{Change, Interface, Router, RouterConfig};
 use std::io::{self, Write};
 
 /// The rest of an answer, which is still to be written.
@@ -69,6 +72,42 @@ fn write_lookup<W: Write>(found: Lookup, out: &mut W) -> Rest
     ensures { GainsLines (W.contents out.old) result (W.contents out.new) (lookup_text found.0 ++ (10 ∷ reply_line Reply.Done)) }
 {
     all_of(writeln!(out, "{found}\nok"))
+}
+
+/// Writes `interface I address ADDR cost C mtu M`, a line for each interface.
+fn write_interfaces<W: Write>(interfaces: &[Interface], out: &mut W) -> io::Result<()>
+    ensures { OnOk result (Appends (W.contents out.old) (W.contents out.new) (interface_lines (enumerate_from 0 interfaces.now))) }
+{
+    for (number, interface) in interfaces.iter().enumerate() {
+        let Interface { addr, cost, mtu } = *interface;
+        writeln!(
+            out,
+            "interface {number} address {addr} cost {cost} mtu {mtu}"
+        )?;
+    }
+    Ok(())
+}
+
+/// Writes a line for each interface, `now MS routes N` with the moment of the last step and the number of entries of the forwarding
+/// table, the counts, what was lost, the neighbors, and `ok`.
+fn write_status<S: RouteStore, W: Write>(
+    router: &Router<S>,
+    fib: &Fib,
+    counts: Counts,
+    lost: Losses,
+    neighbors: &Neighbors,
+    out: &mut W,
+) -> io::Result<()>
+    ensures { OnOk result (Appends (W.contents out.old) (W.contents out.new)
+        (status_answer router.now.config.interfaces router.now.last (map_of.len fib.now) counts lost neighbors.now)) }
+{
+    write_interfaces(router.config().interfaces(), out)?;
+    let now = router.last().ms();
+    let routes = fib.len();
+    writeln!(
+        out,
+        "now {now} routes {routes}\n{counts}\n{lost}\n{neighbors}ok"
+    )
 }
 
 /// Whether the interface of a change of cost exists.
@@ -128,40 +167,28 @@ fn shut_down<S: RouteStore, L: Link, C: TimeSource, R: Rng + Drop, W: Write>(
     step_reply(stepped, RunState::Stopped)
 }
 
-/// Takes the link of an interface down. Returns the reply, and whether the router goes on.
-fn take_down<S: RouteStore, L: Link, C: TimeSource, R: Rng + Drop, W: Write>(
+/// Takes the link of an interface down, or lets it be up again. Returns the reply, and whether the router goes on.
+fn set_link<S: RouteStore, L: Link, C: TimeSource, R: Rng + Drop, W: Write>(
     engine: &mut Engine<S, L, C, R>,
     iface: usize,
+    is_up: bool,
     log: &mut W,
 ) -> (Reply, RunState)
     requires { engine.old.ended ≡ false }
-    ensures obeys { ObeysLink (LinkGoesDownOnce iface) iface (seen R.stream W.contents engine.old log.old) result.0
+    ensures down { is_up ≡ false → ObeysLink (LinkGoesDownOnce iface) iface (seen R.stream W.contents engine.old log.old) result.0
+        (seen R.stream W.contents engine.new log.new) }
+    ensures up { is_up ≡ true → ObeysLink (LinkComesUpOnce iface) iface (seen R.stream W.contents engine.old log.old) result.0
         (seen R.stream W.contents engine.new log.new) }
     ensures goes_on { result.1 ≢ RunState.Ended → engine.new.ended ≡ false }
     ensures no_stop { result.1 ≢ RunState.Stopped }
 {
     if iface >= engine.router().config().interfaces().len() {
-        return (Reply::NoSuchInterface, RunState::Running);
+        (Reply::NoSuchInterface, RunState::Running)
+    } else if is_up {
+        step_reply(engine.link_up(iface, log), RunState::Running)
+    } else {
+        step_reply(engine.link_down(iface, log), RunState::Running)
     }
-    step_reply(engine.link_down(iface, log), RunState::Running)
-}
-
-/// The link of an interface is up again. Returns the reply, and whether the router goes on.
-fn take_up<S: RouteStore, L: Link, C: TimeSource, R: Rng + Drop, W: Write>(
-    engine: &mut Engine<S, L, C, R>,
-    iface: usize,
-    log: &mut W,
-) -> (Reply, RunState)
-    requires { engine.old.ended ≡ false }
-    ensures obeys { ObeysLink (LinkComesUpOnce iface) iface (seen R.stream W.contents engine.old log.old) result.0
-        (seen R.stream W.contents engine.new log.new) }
-    ensures goes_on { result.1 ≢ RunState.Ended → engine.new.ended ≡ false }
-    ensures no_stop { result.1 ≢ RunState.Stopped }
-{
-    if iface >= engine.router().config().interfaces().len() {
-        return (Reply::NoSuchInterface, RunState::Running);
-    }
-    step_reply(engine.link_up(iface, log), RunState::Running)
 }
 
 /// Does a command, or begins to answer it, where `None` is a line that is no command. Returns the rest of the answer, and whether the
@@ -225,11 +252,11 @@ pub(crate) fn respond<
         }
         Some(Command::StopNow) => (write_reply(Reply::Done, out), RunState::Stopped),
         Some(Command::LinkDown(iface)) => {
-            let (reply, state) = take_down(engine, iface, log);
+            let (reply, state) = set_link(engine, iface, false, log);
             (write_reply(reply, out), state)
         }
         Some(Command::LinkUp(iface)) => {
-            let (reply, state) = take_up(engine, iface, log);
+            let (reply, state) = set_link(engine, iface, true, log);
             (write_reply(reply, out), state)
         }
         Some(Command::Reconfigure(change)) => {

@@ -99,14 +99,8 @@ pub fn command_in(text: &str) -> Option<Command>
     ensures unsigned { IsTrue (has_sign text.now) → result ≡ None }
 {
     if has_sign(text) {
-        None
-    } else {
-        unsigned_command_in(text)
+        return None;
     }
-}
-
-/// The command of a text without a sign.
-fn unsigned_command_in(text: &str) -> Option<Command> {
     let mut words = text.splitn(4, ' ');
     match (words.next()?, words.next(), words.next(), words.next()) {
         ("routes", None, None, None) => Some(Command::Routes),
@@ -159,9 +153,5 @@ pub fn read_command(alloc: Global, line: &[u8]) -> Result<Option<Command>, Alloc
         return Ok(None);
     };
     let written = format!(in alloc; "{command}")?;
-    if written.as_bytes() == line {
-        Ok(Some(command))
-    } else {
-        Ok(None)
-    }
+    Ok((written.as_bytes() == line).then_some(command))
 }

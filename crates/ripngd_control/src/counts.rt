@@ -1,6 +1,6 @@
 //! The counts of a router's datagrams, and of what was lost.
 
-ghost use Rattle.std.specs.Prelude.{◌≡◌, ◌∷◌, [], ℕ, List, Some, codes, if◌then◌else◌};
+ghost use Rattle.std.specs.Prelude.{◌≡◌, ◌∷◌, [], ℕ, List, Some};
 ghost use Rattle.router_core.specs.declared.answer.Outgoing.{Outgoing};
 ghost use Rattle.ripngd_engine.specs.Observer.{Processed, LinkReport, Sent, WasTold};
 ghost use Rattle.ripngd_engine.specs.declared.observer.Arrived.{Arrived};
@@ -87,13 +87,6 @@ pub struct Losses {
     pub strangers: u64,
 }
 
-/// `log failed` on a line of its own, if it did.
-fn failed_log_text(failed: bool) -> &'static str
-    ensures { result.now ≡ (if failed then codes "\nlog failed" else []) }
-{
-    if failed { "\nlog failed" } else { "" }
-}
-
 /// `lost sends N steps M arrivals K`, `strangers S` on a line of its own, and `log failed` on another where a write of the log
 /// failed. The last line has no line feed.
 impl Display for Losses {
@@ -101,7 +94,8 @@ impl Display for Losses {
 
     fn fmt<W: fmt::Write>(&self, f: &mut fmt::Formatter<W>) -> fmt::Result {
         let report = self.report;
-        let log = failed_log_text(report.log_failed);
+        let has_failed = report.log_failed;
+        let log = if has_failed { "\nlog failed" } else { "" };
         write!(
             f,
             "lost sends {} steps {} arrivals {}\nstrangers {}{log}",

@@ -15,7 +15,6 @@ mod counts;
 mod lookup;
 mod monitor;
 mod neighbors;
-mod overview;
 mod pieces;
 mod refusals;
 mod reply;

@@ -1,13 +1,12 @@
 //! The longest match of an address in a forwarding table, and its line.
 
-ghost use Rattle.std.specs.Prelude.{◌≡◌, Some, option_map};
-ghost use Rattle.std.specs.FinMap as map_of;
-ghost use Rattle.ripngd_control.specs.Answers.{IsLookedUp};
+ghost use Rattle.std.specs.Prelude.{Some};
+ghost use Rattle.fib.specs.Entries.{IsLookedUp};
 ghost use Rattle.ripngd_control.specs.Printed.{lookup_text};
 
 use crate::command::Destination;
 use fib::{Fib, Hop};
-use prefix6::{Addr6, Prefix};
+use prefix6::Prefix;
 use ripngd_engine::RouteLine;
 use std::fmt::{self, Display};
 
@@ -33,40 +32,9 @@ impl Display for Lookup {
     }
 }
 
-/// Where a forwarding table sends packets to a prefix, and at what metric, if it has an entry for it.
-fn entry_of(fib: &Fib, prefix: Prefix) -> Option<(Hop, u8)>
-    ensures { result ≡ option_map (λ f. (f.hop, f.metric)) (map_of.get fib.now prefix) }
-{
-    let entries = fib.entries();
-    match entries.binary_search_by_key(&prefix, |entry| entry.0) {
-        Ok(at) => {
-            let (_, hop, metric) = entries[at];
-            Some((hop, metric))
-        }
-        Err(_) => None,
-    }
-}
-
-/// The entry of the longest prefix that contains an address: of its prefixes, from the longest on, the first that has one.
-fn longest_match(fib: &Fib, addr: Addr6) -> Option<(Prefix, Hop, u8)>
-    ensures { IsLookedUp fib.now addr result }
-{
-    let mut above = 129_u8;
-    while above > 0 {
-        above -= 1;
-        let Ok(prefix) = Prefix::new(addr, above) else {
-            unreachable!()
-        };
-        if let Some((hop, metric)) = entry_of(fib, prefix) {
-            return Some((prefix, hop, metric));
-        }
-    }
-    None
-}
-
 /// The longest match of an address in a forwarding table.
 pub(crate) fn look_up(fib: &Fib, destination: Destination) -> Lookup
     ensures { IsLookedUp fib.now destination.0 result.0 }
 {
-    Lookup(longest_match(fib, destination.0))
+    Lookup(fib.longest_match(destination.0))
 }

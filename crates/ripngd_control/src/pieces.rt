@@ -1,13 +1,12 @@
 //! The lines of routes and of a forwarding table, a piece at a time, so that a long answer never holds the router up.
 
-ghost use Rattle.std.specs.Prelude.{◌≤◌, IfOk, Some, length};
-ghost use Rattle.fib.specs.Entries.{AreInOrder};
-ghost use Rattle.ripngd_control.specs.Answers.{IsPast, ShowsEntries, ShowsRoutes};
+ghost use Rattle.std.specs.Prelude.{IfOk, Some};
+ghost use Rattle.ripngd_control.specs.Answers.{ShowsEntries, ShowsRoutes};
 ghost use Rattle.ripngd_control.specs.Printed.{clock_text, origin_text, status_text};
 
-use fib::{Fib, Hop};
+use fib::Fib;
 use prefix6::Prefix;
-use ripngd_engine::write_entries;
+use ripngd_engine::RouteLine;
 use route_table::{Clock, Moment, Origin, Route, RouteStore};
 use std::fmt::{self, Display};
 use std::io::{self, Write};
@@ -64,16 +63,16 @@ impl Display for RouteStatus {
     ghost output = { λ s. Some (status_text s.prefix s.route s.moment) };
 
     fn fmt<W: fmt::Write>(&self, f: &mut fmt::Formatter<W>) -> fmt::Result {
-        let prefix = self.prefix;
-        let metric = self.route.metric();
-        let tag = self.route.tag();
-        let origin = OriginText(self.route.origin());
-        let clock = ClockText(self.route.clock(), self.moment);
-        let mark = if self.route.is_changed() {
-            " marked"
-        } else {
-            ""
-        };
+        let RouteStatus {
+            prefix,
+            route,
+            moment,
+        } = *self;
+        let metric = route.metric();
+        let tag = route.tag();
+        let origin = OriginText(route.origin());
+        let clock = ClockText(route.clock(), moment);
+        let mark = if route.is_changed() { " marked" } else { "" };
         write!(
             f,
             "{prefix} metric {metric} tag {tag} {origin} {clock}{mark}"
@@ -107,18 +106,6 @@ pub(crate) fn write_routes<S: RouteStore, W: Write>(
     Ok(last)
 }
 
-/// How many of the entries, which are in order, are not after a prefix: 0 where there is no prefix.
-fn passed(entries: &[(Prefix, Hop, u8)], after: Option<Prefix>) -> usize
-    requires { AreInOrder entries.now }
-    ensures within { result ≤ length entries.now }
-    ensures past { IsPast entries.now after result }
-{
-    match after {
-        Some(prefix) => entries.partition_point(|entry| entry.0 <= prefix),
-        None => 0,
-    }
-}
-
 /// Writes the next entries of a forwarding table: the first ones, or those after a prefix. Returns the last prefix, if there may be
 /// more.
 pub(crate) fn write_table<W: Write>(
@@ -128,13 +115,19 @@ pub(crate) fn write_table<W: Write>(
 ) -> io::Result<Option<Prefix>>
     ensures { IfOk result (λ more. ShowsEntries fib.now after more (W.contents out.old) (W.contents out.new)) }
 {
-    let entries = fib.entries();
-    let begin = passed(entries, after);
-    let end = begin + (entries.len() - begin).min(PIECE);
-    let piece = &entries[begin..end];
-    write_entries(piece, out)?;
-    match piece.last() {
-        Some(entry) => Ok(Some(entry.0)),
-        None => Ok(None),
+    let mut entries = fib.entries_after(after);
+    let mut last = None;
+    for _done in 0..PIECE {
+        let Some((prefix, hop, metric)) = entries.next() else {
+            return Ok(last);
+        };
+        let line = RouteLine {
+            prefix,
+            hop,
+            metric,
+        };
+        writeln!(out, "{line}")?;
+        last = Some(prefix);
     }
+    Ok(last)
 }

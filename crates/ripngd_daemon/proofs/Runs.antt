@@ -1,5 +1,5 @@
 -- Runs grow by turns and by what clients tell.
-use Rattle.std.proofs.Common.{◌≡◌, ◌∙◌, ◌+◌, ℕ, List, [], ◌∷◌, ◌++◌, Option, Result, Ok, Err, refl, sym, ap, subst, inl, inr, arith}
+use Rattle.std.proofs.Common.{◌≡◌, ◌∙◌, ◌+◌, ℕ, List, [], ◌∷◌, ◌++◌, Option, Result, Ok, Err, refl, sym, ap, subst, inl, inr}
 use Rattle.std.specs.Prelude.{None, Some, OnOk}
 use Rattle.std.specs.Io.KnownBytes.{Appends}
 use Rattle.rand_pcg.specs.Lcg.{Lcg}
@@ -8,7 +8,7 @@ use Rattle.ripngd_command_line.specs.declared.asked.Order.{Order}
 use Rattle.ripngd_control.specs.Clients.{ClientsState, Heeds}
 use Rattle.ripngd_engine.specs.Link.{Call}
 use Rattle.ripngd_engine.specs.Seen.{Seen, Started, untouched}
-use Rattle.ripngd_daemon.specs.Run.{HasDone, HasRun, IsOver, Lasts, ShowsRun, Begun, Turned, Told, TurnsAndHeeds, lines_of, words_of}
+use Rattle.ripngd_daemon.specs.Run.{HasDone, IsOver, Lasts, ShowsRun, Begun, Turned, Told, TurnsAndHeeds, lines_of, words_of}
 use Rattle.ripngd_daemon.specs.Losses.{AreLossesOf}
 use Rattle.ripngd_daemon.specs.Tabled.{table_text}
 use Rattle.ripngd_daemon.specs.Written.{begins_with}

@@ -1,5 +1,5 @@
 -- What `check` writes of a configuration that it accepts, and what it refuses (the format is this project's choice).
-use Rattle.std.specs.Prelude.{◌≢◌, ℕ, ◌+◌, ◌-◌, ◌^◌, Bool, true, false, List, ◌++◌, Option, codes, decimal, length, min, vec_len, Vec}
+use Rattle.std.specs.Prelude.{◌≢◌, ℕ, ◌-◌, ◌^◌, Bool, true, false, List, ◌++◌, Option, codes, decimal, length, min, vec_len, Vec}
 use Rattle.std.specs.List.{sum_by}
 use Rattle.std.specs.Io.KnownBytes.{Appends}
 use Rattle.std.specs.declared.alloc.Global.{Global}

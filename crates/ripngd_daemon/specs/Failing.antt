@@ -12,6 +12,7 @@ file_of (asks.Check file) = Some file.now
 file_of (asks.Lab file) = Some file.now
 file_of (asks.Trace file) = Some file.now
 file_of (asks.Explain file) = Some file.now
+file_of (asks.Changes file) = Some file.now
 file_of (asks.Run order) = Some order.config.now
 file_of (asks.Ctl question) = None
 file_of (asks.Table file) = Some file.now

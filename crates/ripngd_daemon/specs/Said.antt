@@ -7,8 +7,8 @@ use Rattle.ripngd_daemon.specs.declared.failure.FileCause.TheVariants as files
 use Rattle.ripngd_control.specs.declared.control_socket.ListenFault.{ListenFault}
 use Rattle.ripngd_control.specs.declared.control_socket.ListenFault.TheVariants as listening
 use Rattle.ripngd_show.specs.Shown.{newline}
-use Rattle.ripngd_udp.specs.declared.bind_cause.BindCause.{BindCause}
-use Rattle.ripngd_udp.specs.declared.bind_cause.BindCause.TheVariants as causes
+use Rattle.ripngd_udp.specs.declared.udp.BindCause.{BindCause}
+use Rattle.ripngd_udp.specs.declared.udp.BindCause.TheVariants as causes
 
 -- why a router cannot listen, after the path
 abbrev pub why_text : ListenFault → List ℕ

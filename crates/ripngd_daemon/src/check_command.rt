@@ -81,7 +81,11 @@ fn count_peers(peers: &[Vec<Peer>]) -> usize
     count
 }
 
-fn write_counts<W: Write>(config: &Config, out: &mut W) -> io::Result<()>
+/// Writes what a configuration has, and then warnings of what cannot work to `err`, whose failure changes nothing else.
+///
+/// # Errors
+/// Of `out`.
+fn write_accepted<W: Write, E: Write>(config: &Config, out: &mut W, err: &mut E) -> io::Result<()>
     ensures { OnOk result (Appends (W.contents out.old) (W.contents out.new) (counts_line config.now)) }
 {
     let interfaces = config.router.interfaces().len();
@@ -90,17 +94,7 @@ fn write_counts<W: Write>(config: &Config, out: &mut W) -> io::Result<()>
     writeln!(
         out,
         "ok interfaces {interfaces} prefixes {prefixes} peers {peers}"
-    )
-}
-
-/// The same, and then warnings of what cannot work to `err`, whose failure changes nothing else.
-///
-/// # Errors
-/// Of `out`.
-fn write_accepted<W: Write, E: Write>(config: &Config, out: &mut W, err: &mut E) -> io::Result<()>
-    ensures { OnOk result (Appends (W.contents out.old) (W.contents out.new) (counts_line config.now)) }
-{
-    write_counts(config, out)?;
+    )?;
     let _ = write_warnings(config, err);
     Ok(())
 }

@@ -2,13 +2,11 @@
 
 ghost use Rattle.std.specs.Prelude.{◌≡◌, ◌⊎◌, ◌≤◌, IfErr, IfOk, IfSome, List, OnOk, length, ℕ};
 ghost use Rattle.std.specs.Io.KnownBytes.{Appends};
-ghost use Rattle.ripngd_command_line.specs.declared.asked.Ask.TheVariants as asks;
 ghost use Rattle.ripngd_daemon.specs.Asking.{IsPrintedAnswer, IsAnswerWritten, command_line};
 ghost use Rattle.ripngd_daemon.specs.Failing.{MayFail};
-ghost use Rattle.ripngd_daemon.specs.declared.failure.Failure.TheVariants as failures;
 
 use crate::failure::Failure;
-use ripngd_command_line::Question;
+use ripngd_command_line::{Ask, Question};
 use ripngd_control::{Command, Reply, command_in};
 use std::alloc::{AllocError, Global};
 use std::io::{self, Read, Write};
@@ -88,15 +86,11 @@ fn print_answer<'a, O: Write>(
     out: &mut O,
 ) -> Result<bool, Failure<'a>>
     ensures answered { IfOk result (λ accepted. IsAnswerWritten answer.now accepted (O.contents out.old) (O.contents out.new)) }
-    ensures failed { IfErr result (λ f. (f ≡ failures.Output) ⊎ (f ≡ failures.Answer socket.entry)) }
+    ensures failed { IfErr result (λ f. (f ≡ Failure.Output) ⊎ (f ≡ Failure.Answer socket.entry)) }
 {
-    let Some((text, accepted)) = printed_of(answer) else {
-        return Err(Failure::Answer(socket));
-    };
-    match out.write_all(text) {
-        Ok(()) => Ok(accepted),
-        Err(_) => Err(Failure::Output),
-    }
+    let (text, accepted) = printed_of(answer).ok_or(Failure::Answer(socket))?;
+    out.write_all(text).map_err(|_| Failure::Output)?;
+    Ok(accepted)
 }
 
 /// How a command of this name is written, or where to read it.
@@ -118,7 +112,7 @@ fn usage_of(command: &str) -> &'static str {
 /// Prints that words are no command, as a router does for a line that is none, and how the command of that name is written.
 fn refuse<'a, O: Write>(command: &str, out: &mut O) -> Result<bool, Failure<'a>>
     ensures answered { IfOk result (λ accepted. (answer : List ℕ) × IsAnswerWritten answer accepted (O.contents out.old) (O.contents out.new)) }
-    ensures failed { IfErr result (λ f. f ≡ failures.Output) }
+    ensures failed { IfErr result (λ f. f ≡ Failure.Output) }
 {
     match writeln!(out, "{}: {}", Reply::NoSuchCommand, usage_of(command)) {
         Ok(()) => Ok(false),
@@ -134,15 +128,11 @@ fn ask<'a, R: Net + AllocGlobal, O: Write>(
     out: &mut O,
 ) -> Result<bool, Failure<'a>>
     ensures answered { IfOk result (λ accepted. (answer : List ℕ) × IsAnswerWritten answer accepted (O.contents out.old) (O.contents out.new)) }
-    ensures failed { IfErr result (λ f. (f ≡ failures.Output) ⊎ (f ≡ failures.Answer socket.entry) ⊎ (f ≡ failures.Ask socket.entry)) }
+    ensures failed { IfErr result (λ f. (f ≡ Failure.Output) ⊎ (f ≡ Failure.Answer socket.entry) ⊎ (f ≡ Failure.Ask socket.entry)) }
 {
-    let Ok(mut stream) = UnixStream::connect(rt, socket) else {
-        return Err(Failure::Ask(socket));
-    };
-    match converse(rt.alloc(), command, &mut stream) {
-        Ok(answer) => print_answer(socket, answer.as_slice(), out),
-        Err(_) => Err(Failure::Answer(socket)),
-    }
+    let mut stream = UnixStream::connect(rt, socket).map_err(|_| Failure::Ask(socket))?;
+    let answer = converse(rt.alloc(), command, &mut stream).map_err(|_| Failure::Answer(socket))?;
+    print_answer(socket, answer.as_slice(), out)
 }
 
 /// `ctl PATH COMMAND..`: sends a command to the router that listens at a path, and prints its answer without the last line `ok`. Returns
@@ -157,11 +147,9 @@ pub fn ctl<'a, R: Net + AllocGlobal, O: Write>(
     out: &mut O,
 ) -> Result<bool, Failure<'a>>
     ensures answered { IfOk result (λ accepted. (answer : List ℕ) × IsAnswerWritten answer accepted (O.contents out.old) (O.contents out.new)) }
-    ensures failed { IfErr result (MayFail (asks.Ctl question.entry)) }
+    ensures failed { IfErr result (MayFail (Ask.Ctl question.entry)) }
 {
-    let Ok(words) = words_of(rt.alloc(), question) else {
-        return Err(Failure::OutOfMemory);
-    };
+    let words = words_of(rt.alloc(), question).map_err(|_| Failure::OutOfMemory)?;
     match command_in(words.as_str()) {
         Some(command) => ask(rt, question.socket, command, out),
         None => refuse(question.command, out),

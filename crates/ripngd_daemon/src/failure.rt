@@ -5,7 +5,6 @@ ghost use Rattle.std.specs.Io.KnownBytes.{Appends};
 ghost use Rattle.std.specs.IoError.{error_kind};
 ghost use Rattle.ripngd_daemon.specs.Faults.{failure_of, failure_of_engine, failure_of_link};
 ghost use Rattle.ripngd_daemon.specs.Said.{cause_text, failure_line, failure_text, file_cause_text, why_text};
-ghost use Rattle.ripngd_daemon.specs.declared.failure.Failure.TheVariants as failures;
 
 use ripngd_control::ListenFault;
 use ripngd_engine::EngineFault;
@@ -138,9 +137,9 @@ pub fn write_failure<W: Write>(failure: Failure<'_>, err: &mut W) -> io::Result<
 
 /// The failure for an error of the system: out of memory, or else what was tried.
 pub(crate) fn failed<'a>(tried: Failure<'a>, error: &io::Error) -> Failure<'a>
-    ensures memory { error_kind error.now ≡ ErrorKind.OutOfMemory → result ≡ failures.OutOfMemory }
+    ensures memory { error_kind error.now ≡ ErrorKind.OutOfMemory → result ≡ Failure.OutOfMemory }
     ensures other { error_kind error.now ≢ ErrorKind.OutOfMemory → result ≡ tried.entry }
-    ensures either { (result ≡ failures.OutOfMemory) ⊎ (result ≡ tried.entry) }
+    ensures either { (result ≡ Failure.OutOfMemory) ⊎ (result ≡ tried.entry) }
 {
     match error.kind() {
         ErrorKind::OutOfMemory => Failure::OutOfMemory,

@@ -1,7 +1,6 @@
 //! The files that the program reads.
 
 ghost use Rattle.std.specs.Prelude.{◌≡◌, ◌⊎◌, IfErr, IfOk, List, ℕ};
-ghost use Rattle.ripngd_daemon.specs.declared.failure.Failure.TheVariants as failures;
 ghost use Rattle.ripngd_daemon.specs.declared.failure.FileCause.{FileCause};
 
 use crate::failure::{Failure, FileCause, failed};
@@ -19,7 +18,7 @@ pub trait FileSource {
     /// `Read` with its name and the cause; `OutOfMemory`.
     fn read<'a>(&self, file: &'a str) -> Result<Vec<u8>, Failure<'a>>
         ensures text { IfOk result (λ text. holds self.now file.entry.now text.items) }
-        ensures failed { IfErr result (λ f. (f ≡ failures.OutOfMemory) ⊎ ((cause : FileCause) × (f ≡ failures.Read file.entry cause))) };
+        ensures failed { IfErr result (λ f. (f ≡ Failure.OutOfMemory) ⊎ ((cause : FileCause) × (f ≡ Failure.Read file.entry cause))) };
 }
 
 /// The files of the system. Contracts know nothing of their content.
@@ -32,9 +31,9 @@ impl<R: AllocGlobal + Files> FileSource for SystemFiles<'_, R> {
     ghost holds = { λ _ _ _. ⊤ };
 
     fn read<'a>(&self, file: &'a str) -> Result<Vec<u8>, Failure<'a>> {
-        match fs::read(self.0, file) {
-            Ok(text) => Ok(text),
-            Err(error) => Err(failed(Failure::Read(file, FileCause::of(&error)), &error)),
-        }
+        fs::read(self.0, file).map_err(|error| failed(
+            Failure::Read(file, FileCause::of(&error)),
+            &error,
+        ))
     }
 }

@@ -1,16 +1,18 @@
-//! The past of a run.
+//! The past of a run, and what it has lost.
 
-ghost use Rattle.std.specs.Prelude.{◌≡◌, [], List, None, Some};
+ghost use Rattle.std.specs.Prelude.{◌≡◌, ◌≢◌, [], List, None, OnOk, Some};
+ghost use Rattle.std.specs.Io.KnownBytes.{Appends};
 ghost use Rattle.ripngd_engine.specs.Link.{Call};
-ghost use Rattle.ripngd_daemon.specs.Losses.{AreLossesOf, no_losses};
+ghost use Rattle.ripngd_engine.specs.Run.{counted};
+ghost use Rattle.ripngd_daemon.specs.Losses.{AreLossesOf, losses_line, no_losses, nothing_lost};
 ghost use Rattle.ripngd_daemon.specs.Run.{lines_of};
 
-use crate::losses::{NOTHING_LOST, losses_of};
 use crate::run_log::RunLog;
 use crate::turns::UdpEngine;
 use ripngd_control::{Clients, Losses};
-use ripngd_engine::{Entry, Transcript};
-use ripngd_udp::Ports;
+use ripngd_engine::{Entry, Report, Transcript};
+use ripngd_udp::{Ports, Udp};
+use std::io::{self, Write};
 use std::rt::{Clock, Files};
 
 /// The past of a run: the ports that were bound, and at its end each call of the link over them; each command of a client that was
@@ -71,4 +73,58 @@ impl History {
             clients.close(rt, path);
         }
     }
+}
+
+/// No losses.
+const NOTHING_LOST: Losses = Losses {
+    report: Report {
+        lost_sends: 0,
+        lost_memory: 0,
+        log_failed: false,
+    },
+    arrivals: 0,
+    strangers: 0,
+};
+
+/// What a router has lost, together with its link: sends that failed after they had waited, received datagrams for which there was no
+/// room or no memory, and datagrams from ports of no peer.
+pub(crate) fn losses_of<R: Clock>(report: Report, link: &Udp<'_, R>) -> Losses
+    ensures { result ≡ record {
+      report = record report {
+        lost_sends = counted report.lost_sends link.now.failed_sends;
+        lost_memory = counted report.lost_memory link.now.lost_arrivals;
+      };
+      arrivals = link.now.lost_arrivals;
+      strangers = link.now.strangers;
+    } }
+{
+    let arrivals = link.lost_arrivals();
+    Losses {
+        report: Report {
+            lost_sends: report.lost_sends.saturating_add(link.failed_sends()),
+            lost_memory: report.lost_memory.saturating_add(arrivals),
+            ..report
+        },
+        arrivals,
+        strangers: link.strangers(),
+    }
+}
+
+/// Writes `ripngd: lost sends N, lost steps M` if anything was lost, with `, log failed` at its end if a write of the log failed.
+/// Datagrams from ports of no peer are not losses.
+pub fn write_losses<W: Write>(lost: Losses, out: &mut W) -> io::Result<()>
+    ensures nothing { lost.report ≡ nothing_lost → out.new ≡ out.old }
+    ensures line { lost.report ≢ nothing_lost → OnOk result (Appends (W.contents out.old) (W.contents out.new) (losses_line lost.report)) }
+{
+    let report = lost.report;
+    if report == NOTHING_LOST.report {
+        return Ok(());
+    }
+    let has_failed = report.log_failed;
+    let log = if has_failed { ", log failed" } else { "" };
+    writeln!(
+        out,
+        "ripngd: lost sends {}, lost steps {}{log}",
+        report.lost_sends, report.lost_memory
+    )
 }

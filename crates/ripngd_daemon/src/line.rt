@@ -6,7 +6,6 @@ ghost use Rattle.prefix6.specs.Prefix.{Prefix6, IsPrefix};
 ghost use Rattle.prefix6.specs.Written.{written_addr, written_prefix};
 ghost use Rattle.fib.specs.declared.change.Hop.{Hop};
 ghost use Rattle.fib.specs.declared.change.RouteChange.{RouteChange};
-ghost use Rattle.fib.specs.declared.change.RouteChange.TheVariants.{Install};
 ghost use Rattle.ripngd_engine.specs.Log.{change_text, hop_text, route_text};
 ghost use Rattle.ripngd_daemon.specs.Reading.{IsWritableHop, IsWritableChange};
 ghost use Rattle.ripngd_daemon.specs.Words.{CutsWord, IsRead, PushesLine};
@@ -82,7 +81,7 @@ fn hop_in(text: &str) -> Option<Hop>
 /// The entry that a text may be of.
 fn install_in(text: &str) -> Option<RouteChange>
     ensures lawful { IfSome result IsWritableChange }
-    ensures found { (p : Prefix6) (hop : Hop) (metric : ℕ) → IsPrefix p → IsWritableHop hop → metric < 2 ^ 8 → text.now ≡ route_text p hop metric → result ≡ Some (Install p hop metric) }
+    ensures found { (p : Prefix6) (hop : Hop) (metric : ℕ) → IsPrefix p → IsWritableHop hop → metric < 2 ^ 8 → text.now ≡ route_text p hop metric → result ≡ Some (RouteChange.Install p hop metric) }
 {
     let (prefix, text) = first_word(text);
     let (_, text) = first_word(text);
@@ -114,9 +113,7 @@ fn is_line_of(written: &mut String, line: &[u8], change: &RouteChange) -> Result
     ensures { IfOk result (λ same. IsTrue same ↔ (change_text change.now ≡ line.now)) }
 {
     written.clear();
-    if write!(written, "{}", ChangeLine(*change)).is_err() {
-        return Err(AllocError);
-    }
+    write!(written, "{}", ChangeLine(*change)).map_err(|_| AllocError)?;
     Ok(written.as_bytes() == line)
 }
 

@@ -1,11 +1,9 @@
 //! Changes of a router's peers while it runs.
 
-ghost use Rattle.std.specs.Prelude.{◌≡◌};
-
 use prefix6::Addr6;
 use ripngd_control::{PeerChange, Peering, Reply};
 use ripngd_engine::{LinkChange, Peer};
-use ripngd_udp::{PeerRefused, Udp};
+use ripngd_udp::Udp;
 use router_core::{MAX_HOP_LIMIT, RIPNG_PORT};
 use std::rt::Clock;
 
@@ -24,14 +22,6 @@ fn plain_peer(addr: Addr6, local_port: u16) -> Peer {
         port: RIPNG_PORT,
         hop_limit: MAX_HOP_LIMIT,
         to_group: true,
-    }
-}
-
-/// The reply to a change.
-fn reply_to(outcome: Result<(), PeerRefused>) -> Reply {
-    match outcome {
-        Ok(()) => Reply::Done,
-        Err(why) => Reply::LinkRefused(why.text()),
     }
 }
 
@@ -57,23 +47,18 @@ impl Peering for PeerUpdate {
     }
 }
 
-/// Makes a change of the peers, and returns the reply.
-fn change_peers<R: Clock>(link: &mut Udp<'_, R>, change: PeerChange) -> Reply
-    ensures interfaces { link.new.interfaces ≡ link.old.interfaces }
-    ensures calls { link.new.calls ≡ link.old.calls }
-{
-    match change {
-        PeerChange::Add { iface, addr, port } => {
-            reply_to(link.add_peer(iface, plain_peer(addr, port)))
-        }
-        PeerChange::Remove { iface, addr } => reply_to(link.remove_peer(iface, addr)),
-    }
-}
-
 impl<'r, R: Clock> LinkChange<Udp<'r, R>> for PeerUpdate {
     fn make(&mut self, link: &mut Udp<'r, R>) {
-        if let Some(change) = self.change {
-            self.reply = change_peers(link, change);
-        }
+        let Some(change) = self.change else {
+            return;
+        };
+        let outcome = match change {
+            PeerChange::Add { iface, addr, port } => link.add_peer(iface, plain_peer(addr, port)),
+            PeerChange::Remove { iface, addr } => link.remove_peer(iface, addr),
+        };
+        self.reply = match outcome {
+            Ok(()) => Reply::Done,
+            Err(why) => Reply::LinkRefused(why.text()),
+        };
     }
 }

@@ -2,7 +2,6 @@
 
 ghost use Rattle.std.specs.Prelude.{◌≡◌, ◌≢◌, [], IfErr, IfOk, List, None, OnOk, Some, length, option_map, ℕ};
 ghost use Rattle.ripngd_config.specs.Configuration.{HasOneEach};
-ghost use Rattle.ripngd_command_line.specs.declared.asked.Ask.TheVariants as asks;
 ghost use Rattle.ripngd_daemon.specs.Failing.{MayFail};
 ghost use Rattle.ripngd_daemon.specs.Run.{IsRan, ShowsRun, links_of, lines_of};
 
@@ -14,7 +13,7 @@ use crate::run_log::{RunLog, refuse_own_config};
 use crate::turns::{UdpEngine, show_turns, tell_of_log};
 use crate::warnings::write_echoes;
 use rand_pcg::Pcg32;
-use ripngd_command_line::Order;
+use ripngd_command_line::{Ask, Order};
 use ripngd_config::{Config, read_config};
 use ripngd_control::{Clients, ListenFault, Monitor};
 use ripngd_engine::Engine;
@@ -67,7 +66,7 @@ pub fn run<
     ensures ran { IfOk result (λ accepted. (config : List ℕ) × F.holds files.now order.entry.config.now config
         × IsRan order.entry config history.new accepted (O.contents out.old) (O.contents out.new)) }
     ensures own_config { IfOk result (λ _. option_map (λ s. s.now) order.entry.log ≢ Some order.entry.config.now) }
-    ensures failed { IfErr result (MayFail (asks.Run order.entry)) }
+    ensures failed { IfErr result (MayFail (Ask.Run order.entry)) }
 {
     refuse_own_config(rt, order)?;
     let text = files.read(order.config)?;
@@ -91,15 +90,12 @@ fn clients_of<'a, R: Files + Net + Clock>(
 ) -> Result<Option<Clients>, Failure<'a>>
     ensures untold { IfOk result (λ clients. lines_of clients ≡ []) }
     ensures alone { IfOk result (λ clients. order.entry.control ≡ None → clients ≡ None) }
-    ensures failed { IfErr result (MayFail (asks.Run order.entry)) }
+    ensures failed { IfErr result (MayFail (Ask.Run order.entry)) }
 {
     let Some(path) = order.control else {
         return Ok(None);
     };
-    let mut clients = match Clients::open(rt, path) {
-        Ok(clients) => clients,
-        Err(why) => return Err(Failure::Listen(path, why)),
-    };
+    let mut clients = Clients::open(rt, path).map_err(|why| Failure::Listen(path, why))?;
     match clients.fd() {
         Some(fd) if link.watch(fd).is_ok() => Ok(Some(clients)),
         _ => {
@@ -127,24 +123,18 @@ fn run_configured<
     ensures bound { OnOk result (history.new.ports.on_links ≡ Some (links_of config)) }
     ensures alone { OnOk result (order.entry.control ≡ None → lines_of history.new.clients ≡ []) }
     ensures ran { OnOk result (ShowsRun order.entry config.router config.rng history.new (O.contents out.old) (O.contents out.new)) }
-    ensures failed { IfErr result (MayFail (asks.Run order.entry)) }
+    ensures failed { IfErr result (MayFail (Ask.Run order.entry)) }
 {
     let log = RunLog::open(rt, order)?;
     let _ = write_echoes(&config, err);
-    let Config {
-        router,
-        places,
-        peers,
-        rng,
-    } = config;
-    let link = history
-        .ports
-        .bind(rt, rt.alloc(), places.as_slice(), peers)?;
+    let peers = config.peers;
+    let places = config.places.as_slice();
+    let link = history.ports.bind(rt, rt.alloc(), places, peers)?;
     history.clients = clients_of(rt, order, &link)?;
     let ready = Ready {
-        router,
+        router: config.router,
         link,
-        rng,
+        rng: config.rng,
         log,
     };
     let outcome = run_ready(rt, order, ready, history, out, err);
@@ -169,7 +159,7 @@ fn run_ready<'r, 'a, R: Files<File = File> + Print + Clock + Net + AllocGlobal, 
     ensures bound { history.new.ports.on_links ≡ history.old.ports.on_links }
     ensures alone { history.old.clients ≡ None → history.new.clients ≡ None }
     ensures ran { OnOk result (ShowsRun order.entry ready.entry.router ready.entry.rng history.new (O.contents out.old) (O.contents out.new)) }
-    ensures failed { IfErr result (MayFail (asks.Run order.entry)) }
+    ensures failed { IfErr result (MayFail (Ask.Run order.entry)) }
 {
     let Ready {
         router,

@@ -3,14 +3,12 @@
 
 ghost use Rattle.std.specs.Prelude.{◌≡◌, ◌≢◌, ◌⊎◌, ◌++◌, [], IfErr, IfOk, OnOk, Some, option_map};
 ghost use Rattle.std.specs.Io.{WritesAtMost};
-ghost use Rattle.ripngd_command_line.specs.declared.asked.Ask.TheVariants as asks;
 ghost use Rattle.ripngd_daemon.specs.Failing.{MayFail};
 ghost use Rattle.ripngd_daemon.specs.Written.{begins_with};
-ghost use Rattle.ripngd_daemon.specs.declared.failure.Failure.TheVariants as failures;
 ghost use Rattle.ripngd_daemon.specs.declared.failure.FileCause.{FileCause};
 
 use crate::failure::{Failure, FileCause, failed};
-use ripngd_command_line::Order;
+use ripngd_command_line::{Ask, Order};
 use ripngd_engine::{Entry, Transcript};
 use std::fs::{self, File, OpenOptions, TryLockError};
 use std::io::{self, Print, Write};
@@ -47,15 +45,13 @@ fn is_same_file<R: Files>(rt: &R, name: &str, other: &str) -> bool {
 /// `Log` with the name of the log.
 pub(crate) fn refuse_own_config<'a, R: Files>(rt: &R, order: Order<'a>) -> Result<(), Failure<'a>>
     ensures own { IfOk result (λ _. option_map (λ s. s.now) order.entry.log ≢ Some order.entry.config.now) }
-    ensures failed { IfErr result (MayFail (asks.Run order.entry)) }
+    ensures failed { IfErr result (MayFail (Ask.Run order.entry)) }
 {
-    let Some(file) = order.log else {
-        return Ok(());
-    };
-    if file == order.config || is_same_file(rt, file, order.config) {
-        Err(Failure::Log(file, FileCause::IsConfig))
-    } else {
-        Ok(())
+    match order.log {
+        Some(file) if file == order.config || is_same_file(rt, file, order.config) => {
+            Err(Failure::Log(file, FileCause::IsConfig))
+        }
+        _ => Ok(()),
     }
 }
 
@@ -67,7 +63,7 @@ fn is_held(lines: &File) -> bool {
 
 /// The failure of a log that cannot be opened or written.
 fn cannot_write<'a>(file: &'a str, error: &io::Error) -> Failure<'a>
-    ensures { (result ≡ failures.OutOfMemory) ⊎ ((cause : FileCause) × (result ≡ failures.Log file.entry cause)) }
+    ensures { (result ≡ Failure.OutOfMemory) ⊎ ((cause : FileCause) × (result ≡ Failure.Log file.entry cause)) }
 {
     failed(Failure::Log(file, FileCause::of(error)), error)
 }
@@ -77,7 +73,7 @@ fn cannot_write<'a>(file: &'a str, error: &io::Error) -> Failure<'a>
 /// # Errors
 /// `Log` with its name, if it cannot be opened or another program holds its lock; `OutOfMemory`.
 fn open_file<'a, R: Files<File = File>>(rt: &R, file: &'a str) -> Result<File, Failure<'a>>
-    ensures { IfErr result (λ f. (f ≡ failures.OutOfMemory) ⊎ ((cause : FileCause) × (f ≡ failures.Log file.entry cause))) }
+    ensures { IfErr result (λ f. (f ≡ Failure.OutOfMemory) ⊎ ((cause : FileCause) × (f ≡ Failure.Log file.entry cause))) }
 {
     let lines = OpenOptions::new()
         .append(true)
@@ -135,7 +131,7 @@ impl<'r, R: Files<File = File> + Print> RunLog<'r, R> {
     /// `Log` with its name, if it cannot be opened or another program holds its lock; `OutOfMemory`.
     pub(crate) fn open<'a>(rt: &'r R, order: Order<'a>) -> Result<RunLog<'r, R>, Failure<'a>>
         ensures untouched { IfOk result (λ log. log.written.past.bytes ≡ []) }
-        ensures failed { IfErr result (MayFail (asks.Run order.entry)) }
+        ensures failed { IfErr result (MayFail (Ask.Run order.entry)) }
     {
         let target = match order.log {
             None => Target::Nowhere,
@@ -155,7 +151,7 @@ impl<'r, R: Files<File = File> + Print> RunLog<'r, R> {
     /// `Log` with its name, if it cannot be emptied or written; `OutOfMemory`.
     pub(crate) fn begin<'a>(&mut self, order: Order<'a>) -> Result<(), Failure<'a>>
         ensures begun { OnOk result (self.new.written.past.bytes ≡ self.old.written.past.bytes ++ begins_with order.entry.log order.entry.append) }
-        ensures failed { IfErr result (MayFail (asks.Run order.entry)) }
+        ensures failed { IfErr result (MayFail (Ask.Run order.entry)) }
     {
         let Some(file) = order.log else {
             return Ok(());

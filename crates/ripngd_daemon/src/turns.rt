@@ -3,18 +3,17 @@
 ghost use Rattle.std.specs.Prelude.{◌≡◌, ◌≢◌, ◌≤◌, ◌*◌, ◌↔◌, [], IfErr, IfOk, IsTrue, OnOk, None, false, true};
 ghost use Rattle.std.specs.Io.KnownBytes.{Appends};
 ghost use Rattle.ripngd_control.specs.Clients.{Heeds};
-ghost use Rattle.ripngd_command_line.specs.declared.asked.Ask.TheVariants as asks;
 ghost use Rattle.ripngd_engine.specs.Seen.{Ran, seen};
 ghost use Rattle.ripngd_daemon.specs.Failing.{MayFail};
 ghost use Rattle.ripngd_daemon.specs.Run.{IsOver, IsToldToStop, Lasts, TurnsAndHeeds, lines_of, words_of};
 ghost use Rattle.ripngd_daemon.specs.Tabled.{table_text};
 
 use crate::failure::Failure;
-use crate::losses::losses_of;
+use crate::history::losses_of;
 use crate::peering::PeerUpdate;
 use crate::table_command::write_table;
 use rand_pcg::Pcg32;
-use ripngd_command_line::Order;
+use ripngd_command_line::{Ask, Order};
 use ripngd_control::{Clients, Monitor, RunState};
 use ripngd_engine::{Engine, EngineFault, LinkChange};
 use ripngd_udp::{Udp, Uptime};
@@ -34,20 +33,13 @@ const SHORT_MS: u64 = 50;
 /// In how many turns it is looked for clients after one was there: others may have connected meanwhile, or one could not be let in.
 const LOOKS: u32 = 64;
 
-/// Whether this many seconds have passed at a moment.
-fn have_passed(seconds: u32, moment: Moment) -> bool
-    ensures { IsTrue result ↔ (seconds * 1000 ≤ moment) }
-{
-    u64::from(seconds) * SECOND <= moment.ms()
-}
-
 /// Whether the seconds, if a number was ordered, had passed at the last step of a router.
 fn is_over<R: Clock>(seconds: Option<u32>, engine: &UdpEngine<'_, R>) -> bool
     ensures over { result ≡ true → IsOver seconds engine.now.router.last }
     ensures in_time { result ≡ false → ¬ (IsOver seconds engine.now.router.last) }
 {
     match seconds {
-        Some(seconds) => have_passed(seconds, engine.router().last()),
+        Some(seconds) => u64::from(seconds) * SECOND <= engine.router().last().ms(),
         None => false,
     }
 }
@@ -77,21 +69,6 @@ fn pause_before<R: Clock>(order: Order<'_>, engine: &UdpEngine<'_, R>, looks: u3
         0 => Pause(SHORT_MS),
         left => Pause(left),
     }
-}
-
-/// Makes a turn.
-fn step<R: Clock, W: Write, E: Write>(
-    engine: &mut UdpEngine<'_, R>,
-    mut pause: Pause,
-    log: &mut W,
-    monitor: &mut Monitor<E>,
-) -> Result<(), EngineFault>
-    requires { engine.old.ended ≡ false }
-    ensures ran { OnOk result (Ran 1 (seen words_of W.contents engine.old log.old) (seen words_of W.contents engine.new log.new)) }
-    ensures goes_on { OnOk result (engine.new.ended ≡ false) }
-{
-    engine.change_link(&mut pause);
-    engine.turns_observed(1, log, monitor)
 }
 
 /// Serves the clients, if the router listens and may have some: one has connected or is served, or it is still looked for one.
@@ -140,7 +117,7 @@ pub(crate) fn tell_of_log<R: Clock, E: Write>(
 /// Makes a turn, and serves the clients.
 fn turn<R: Clock + AllocGlobal, W: Write, E: Write>(
     rt: &R,
-    pause: Pause,
+    mut pause: Pause,
     engine: &mut UdpEngine<'_, R>,
     clients: &mut Option<Clients>,
     looks: &mut u32,
@@ -155,7 +132,8 @@ fn turn<R: Clock + AllocGlobal, W: Write, E: Write>(
     ensures alone { clients.old ≡ None → clients.new ≡ None }
 {
     let had_failed = engine.report().log_failed;
-    step(engine, pause, log, monitor)?;
+    engine.change_link(&mut pause);
+    engine.turns_observed(1, log, monitor)?;
     let state = serve_clients(rt, engine, clients, looks, log, monitor);
     tell_of_log(engine, had_failed, monitor);
     Ok(state)
@@ -178,7 +156,7 @@ fn make_turns<'a, R: Clock + AllocGlobal, W: Write, E: Write>(
     ensures lasts { OnOk result (Lasts order.entry.turns order.entry.seconds (lines_of clients.new)
         (seen words_of W.contents engine.old log.old) (seen words_of W.contents engine.new log.new)) }
     ensures alone { clients.old ≡ None → clients.new ≡ None }
-    ensures failed { IfErr result (MayFail (asks.Run order.entry)) }
+    ensures failed { IfErr result (MayFail (Ask.Run order.entry)) }
 {
     let mut looks = LOOKS;
     for done in 0..order.turns {
@@ -212,7 +190,7 @@ pub(crate) fn show_turns<'a, R: Clock + AllocGlobal, W: Write, E: Write, O: Writ
         (seen words_of W.contents engine.old log.old) (seen words_of W.contents engine.new log.new)) }
     ensures shown { OnOk result (Appends (O.contents out.old) (O.contents out.new) (table_text engine.new.fib)) }
     ensures alone { clients.old ≡ None → clients.new ≡ None }
-    ensures failed { IfErr result (MayFail (asks.Run order.entry)) }
+    ensures failed { IfErr result (MayFail (Ask.Run order.entry)) }
 {
     make_turns(rt, order, engine, clients, log, monitor)?;
     write_table(engine.fib(), out).map_err(|_| Failure::Output)

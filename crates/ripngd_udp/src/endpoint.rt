@@ -4,11 +4,10 @@ ghost use Rattle.std.specs.Prelude.{◌≡◌, IfErr, IfOk, length, vec_len};
 ghost use Rattle.ripngd_udp.specs.Counting.{Grows};
 ghost use Rattle.ripngd_udp.specs.Udp.{NamesPortOf};
 
-use crate::bind_cause::BindCause;
 use crate::peer_table::PeerTable;
 use crate::receive_queue::ReceiveQueue;
 use crate::send_queue::SendQueue;
-use crate::udp::UdpError;
+use crate::udp::{BindCause, UdpError};
 use crate::waiting::Polled;
 use ripngd_engine::{LinkFault, Place};
 use std::alloc::Global;
@@ -68,9 +67,7 @@ pub(crate) fn endpoints_at<N: Net>(
             receive_queue: ReceiveQueue::new(alloc),
             ready: false,
         };
-        if endpoints.push(endpoint).is_err() {
-            return Err(UdpError::OutOfMemory);
-        }
+        endpoints.push(endpoint).map_err(|_| UdpError::OutOfMemory)?;
     }
     Ok(endpoints)
 }

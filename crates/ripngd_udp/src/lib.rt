@@ -1,10 +1,8 @@
 //! The link and the clock of `ripngd run`: UDP sockets of 127.0.0.1 in place of real links, and the system's clock.
 #![tactic(auto)]
 
-mod bind_cause;
 mod clock;
 mod endpoint;
-mod loopback;
 mod pace;
 mod peer_refused;
 mod peer_table;
@@ -16,9 +14,8 @@ mod sockets;
 mod udp;
 mod waiting;
 
-pub use bind_cause::BindCause;
 pub use clock::Uptime;
 pub use peer_refused::PeerRefused;
 pub use peer_table::PEER_LIMIT;
 pub use ports::Ports;
-pub use udp::{Udp, UdpError};
+pub use udp::{BindCause, Udp, UdpError};

@@ -3,16 +3,15 @@
 ghost use Rattle.std.specs.Prelude.{◌≡◌, IfErr, IfOk, OnErr, OnOk, Some, length, map, vec_len};
 ghost use Rattle.std.specs.Result.{result_err};
 ghost use Rattle.ripng_wire.specs.Wire.{first_reason};
-ghost use Rattle.ripngd_udp.specs.Peers.{adding_fault, has_peer_address, is_group_port, is_port, links_at, on_link, removing_reasons_at, with_peer, without_peer};
+ghost use Rattle.ripngd_udp.specs.Peers.{adding_fault, has_peer_address, is_group_port, links_at, on_link, removing_reasons_at, with_peer, without_peer};
 
-use crate::loopback::local_port_of;
 use crate::peer_refused::PeerRefused;
 use prefix6::Addr6;
 use ripngd_engine::{Peer, Place, has_clash};
 use router_core::Destination;
 use std::alloc::{AllocError, Global};
 use std::marker::Model;
-use std::net::SocketAddr;
+use std::net::{IpAddr, SocketAddr};
 
 /// An interface with this many peers gets no more while the router runs. Its configuration may give it more.
 pub const PEER_LIMIT: usize = 256;
@@ -30,6 +29,14 @@ impl Model for PeerTable {
     ghost Value = { OnLink };
 
     ghost view = { λ n. on_link n.place n.peers.items };
+}
+
+/// The port of an address of 127.0.0.1, or `None` for another address.
+fn local_port_of(from: SocketAddr) -> Option<u16> {
+    match from.ip() {
+        IpAddr::V4(ip) if ip.octets() == [127, 0, 0, 1] => Some(from.port()),
+        _ => None,
+    }
 }
 
 impl PeerTable {
@@ -56,16 +63,6 @@ impl PeerTable {
         match to {
             Destination::Group => self.place.group_port,
             Destination::Peer { .. } => None,
-        }
-    }
-
-    /// Whether a port is the interface's group port.
-    fn is_group_port(&self, port: u16) -> bool
-        ensures { result ≡ is_port self.now.place.group_port port }
-    {
-        match self.place.group_port {
-            Some(group_port) => group_port == port,
-            None => false,
         }
     }
 
@@ -130,7 +127,7 @@ pub(crate) fn peer_tables_at(
 fn is_group_port(links: &[PeerTable], port: u16) -> bool
     ensures { result ≡ is_group_port links.now port }
 {
-    links.iter().any(|link| link.is_group_port(port))
+    links.iter().any(|link| link.place.group_port == Some(port))
 }
 
 /// The first reason not to add a peer to an interface.

@@ -47,11 +47,7 @@ impl SendQueue {
 
     /// How many milliseconds after a moment more may be sent, if something waits.
     pub(crate) fn until_due(&self, now: u64) -> Option<u64> {
-        if self.waiting.is_empty() {
-            None
-        } else {
-            Some(self.pace.until_open(now))
-        }
+        (!self.waiting.is_empty()).then_some(self.pace.until_open(now))
     }
 
     /// Adds a datagram at the end.
@@ -65,9 +61,7 @@ impl SendQueue {
         if self.waiting.len() >= ROOM {
             return Err(LinkFault);
         }
-        let Ok(copy) = copy_of(self.alloc, outgoing) else {
-            return Err(LinkFault);
-        };
+        let copy = copy_of(self.alloc, outgoing).map_err(|_| LinkFault)?;
         self.waiting.push_back(copy).map_err(|_| LinkFault)
     }
 
@@ -97,17 +91,6 @@ impl SendQueue {
         }
     }
 
-    /// Sends the first that waits, and returns whether that failed.
-    fn send_first(&mut self, socket: &UdpSocket, peer_table: &PeerTable) -> bool
-        ensures left { self.new.waiting.items ≡ drop 1 self.old.waiting.items }
-        ensures pace { self.new.pace ≡ self.old.pace }
-    {
-        match self.waiting.pop_front() {
-            Some(outgoing) => send(socket, peer_table, &outgoing).is_err(),
-            None => false,
-        }
-    }
-
     /// Sends the first `count` that wait, or all, and returns how many failed.
     fn send_some(&mut self, socket: &UdpSocket, peer_table: &PeerTable, count: usize) -> u64
         ensures left { self.new.waiting.items ≡ drop count self.old.waiting.items }
@@ -115,8 +98,10 @@ impl SendQueue {
     {
         let mut failed: u64 = 0;
         for _ in 0..count {
-            let lost = self.send_first(socket, peer_table);
-            failed = failed.saturating_add(u64::from(lost));
+            if let Some(outgoing) = self.waiting.pop_front() {
+                let lost = send(socket, peer_table, &outgoing).is_err();
+                failed = failed.saturating_add(u64::from(lost));
+            }
         }
         failed
     }

@@ -1,14 +1,18 @@
 //! Sends one datagram to the ports of its destination. A failure at one port does not keep it from the next.
 
-use crate::loopback::local;
 use crate::peer_table::PeerTable;
 use ripngd_engine::{LinkFault, Peer};
 use router_core::{Destination, Outgoing};
 use std::io::ErrorKind;
-use std::net::UdpSocket;
+use std::net::{IpAddr, Ipv4Addr, SocketAddr, UdpSocket};
 
 /// How often a send to a port is tried while signals interrupt it.
 const TRIES: u32 = 16;
+
+/// A port of 127.0.0.1.
+pub(crate) fn local(port: u16) -> SocketAddr {
+    SocketAddr::new(IpAddr::V4(Ipv4Addr::new(127, 0, 0, 1)), port)
+}
 
 /// Sends to a port, and returns whether the whole datagram went out. What a signal interrupts is tried again.
 fn send_to(socket: &UdpSocket, port: u16, bytes: &[u8]) -> bool {

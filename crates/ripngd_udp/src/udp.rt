@@ -1,12 +1,12 @@
 //! A link of UDP sockets on loopback, in place of the real links of a router: each interface has a socket at a port of 127.0.0.1,
 //! and so has each neighbor on its link.
 
-ghost use Rattle.std.specs.Prelude.{◌≡◌, ◌≤◌, IfErr, IfOk, None, OnErr, OnOk, length, map, vec_len};
+ghost use Rattle.std.specs.Prelude.{◌≡◌, ◌↔◌, IfErr, IfOk, None, OnErr, OnOk, length, map, vec_len};
+ghost use Rattle.std.specs.IoError.{error_kind};
 ghost use Rattle.std.specs.Result.{result_err};
 ghost use Rattle.ripngd_udp.specs.Peers.{ChangesLink, RefusesFor, adding_fault, removing_fault, with_peer, without_peer};
-ghost use Rattle.ripngd_udp.specs.Udp.{NamesPortOf, new_link};
+ghost use Rattle.ripngd_udp.specs.Udp.{NamesPortOf, SendsLate, new_link};
 
-use crate::bind_cause::BindCause;
 use crate::clock::Uptime;
 use crate::endpoint::{Counts, Endpoint, endpoints_at};
 use crate::peer_refused::PeerRefused;
@@ -16,12 +16,13 @@ use prefix6::Addr6;
 use ripngd_engine::{Entry, Link, LinkFault, Peer, Place, Received, TimeSource, Transcript};
 use router_core::Outgoing;
 use std::alloc::Global;
+use std::io::{self, ErrorKind};
 use std::marker::Model;
 use std::net::Net;
 use std::os::fd::RawFd;
 use std::rt::Clock;
+use std::thread;
 use std::time::Duration;
-use std::{io, thread};
 use thiserror::Error;
 
 /// How long a turn lasts at most, in milliseconds, if nothing else takes time: less than the half of a second in which a router has
@@ -30,6 +31,31 @@ const LONGEST_MS: u64 = 400;
 
 /// How often the last datagrams may wait: more than any need, in case the clock stands still.
 const LAST_WAITS: u32 = 4_096;
+
+/// Why a port could not be bound.
+#[derive(Clone, Copy, Debug, PartialEq, Eq)]
+pub enum BindCause {
+    /// Not permitted, as a port below 1024 is without privilege.
+    NotPermitted,
+    /// Another socket is bound to it, often that of another router with the same configuration.
+    InUse,
+    /// Any other reason.
+    Other,
+}
+
+impl BindCause {
+    /// The cause that an error of the system names.
+    pub(crate) fn of(error: &io::Error) -> BindCause
+        ensures permission { (result ≡ BindCause.NotPermitted) ↔ (error_kind error.now ≡ ErrorKind.PermissionDenied) }
+        ensures in_use { (result ≡ BindCause.InUse) ↔ (error_kind error.now ≡ ErrorKind.AddrInUse) }
+    {
+        match error.kind() {
+            ErrorKind::PermissionDenied => BindCause::NotPermitted,
+            ErrorKind::AddrInUse => BindCause::InUse,
+            _ => BindCause::Other,
+        }
+    }
+}
 
 /// Why a link could not be bound.
 #[derive(Clone, Copy, Debug, PartialEq, Eq, Error)]
@@ -127,11 +153,7 @@ impl<'a, R: Clock> Udp<'a, R> {
 
     /// Sends all that waits to be sent, at its pace. To be called when nothing more is received.
     pub fn finish(&mut self)
-        ensures failed { self.old.failed_sends ≤ self.new.failed_sends }
-        ensures lost { self.new.lost_arrivals ≡ self.old.lost_arrivals }
-        ensures strangers { self.new.strangers ≡ self.old.strangers }
-        ensures same { (self.new.interfaces ≡ self.old.interfaces) × (self.new.on_links ≡ self.old.on_links) }
-        ensures calls { self.new.calls ≡ self.old.calls }
+        ensures { SendsLate self.old self.new }
     {
         for _ in 0..LAST_WAITS {
             let moment = self.clock.now().ms();

@@ -3,9 +3,8 @@
 ghost use Rattle.std.specs.Prelude.{◌≤◌, IfErr};
 ghost use Rattle.ripngd_udp.specs.Udp.{NamesPortOf};
 
-use crate::bind_cause::BindCause;
-use crate::loopback::local;
-use crate::udp::UdpError;
+use crate::sending::local;
+use crate::udp::{BindCause, UdpError};
 use mio::unix::SourceFd;
 use mio::{Events, Interest, Poll, Token};
 use ripngd_engine::{LinkFault, Place};

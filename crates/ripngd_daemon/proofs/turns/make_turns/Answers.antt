@@ -1,4 +1,4 @@
-use Rattle.std.proofs.Common.{◌+◌, arith, inl, inr, refl}
+use Rattle.std.proofs.Common.{◌+◌, arith, inl, inr}
 use Rattle.ripngd_daemon.proofs.Runs.{has_done_nothing, turns_more}
 use Rattle.ripngd_daemon.proofs.turns.make_turns.Goals as goal
 

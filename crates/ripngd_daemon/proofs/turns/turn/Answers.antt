@@ -4,4 +4,8 @@ use Rattle.ripngd_daemon.proofs.turns.turn.Goals as goal
 
 pub returns-clause-does : goal.returns-clause-does
 returns-clause-does g c =
-    (seen words_of g.W.Write.contents c.step.new.engine c.step.new.log, c.in_ok-step.ensures.ran, c.serve_clients-state.ensures.heeds)
+    let ran = c.in_ok-turns_observed.ensures.runs (rw c.change_link.ensures c.requires) in
+    (seen words_of g.W.Write.contents c.turns_observed.new.self c.turns_observed.new.log, rw c.change_link.ensures at ran.1, c.serve_clients-state.ensures.heeds)
+
+pub serve_clients-state-requires : goal.serve_clients-state-requires
+serve_clients-state-requires g c = (c.in_ok-turns_observed.ensures.runs (rw c.change_link.ensures c.requires)).0

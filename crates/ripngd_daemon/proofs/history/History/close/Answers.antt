@@ -1,9 +1,10 @@
 use Rattle.std.proofs.Common.{◌∙◌, Some, ap, refl, sym}
+use Rattle.ripngd_udp.specs.Udp.{LinkState}
 use Rattle.ripngd_daemon.proofs.history.History.close.Goals as goal
 
 pub returns-clause-calls : goal.returns-clause-calls
 returns-clause-calls g c =
-    (c.into_link-link.result.calls, sym c.into_link-link.ensures, ap (λ p. p.calls) c.close.ensures ∙ ap Some c.finish.ensures.calls)
+    (c.into_link-link.result.calls, sym c.into_link-link.ensures, ap (λ p. p.calls) c.close.ensures ∙ ap (λ (l : LinkState). Some l.calls) c.finish.ensures.1)
 
 pub returns-clause-lost : goal.returns-clause-lost
 returns-clause-lost g c =

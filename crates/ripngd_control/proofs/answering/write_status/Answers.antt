@@ -1,5 +1,5 @@
 use Rattle.ripngd_control.proofs.Answered.{appended}
-use Rattle.ripngd_control.proofs.overview.write_status.Goals as goal
+use Rattle.ripngd_control.proofs.answering.write_status.Goals as goal
 
 pub returns : goal.returns
 returns g c =

@@ -2,7 +2,7 @@ use Rattle.std.proofs.Common.{take}
 use Rattle.std.specs.Io.KnownBytes.{Appends}
 use Rattle.std.specs.List.{enumerate_from}
 use Rattle.ripngd_control.specs.Printed.{interface_lines}
-use Rattle.ripngd_control.proofs.overview.write_interfaces.Given as goal
+use Rattle.ripngd_control.proofs.answering.write_interfaces.Given as goal
 
 -- what is written is the lines of the interfaces so far
 abbrev pub invariant-loop-number : goal.invariant-loop-number

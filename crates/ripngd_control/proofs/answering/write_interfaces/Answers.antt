@@ -1,7 +1,7 @@
 use Rattle.std.proofs.KnownBytes.{Appends-trans}
 use Rattle.router_core.proofs.Sending.{take_all_numbered}
 use Rattle.ripngd_control.proofs.Following.{interface_lines_more}
-use Rattle.ripngd_control.proofs.overview.write_interfaces.Goals as goal
+use Rattle.ripngd_control.proofs.answering.write_interfaces.Goals as goal
 
 pub loop-number-preserved : goal.loop-number-preserved
 loop-number-preserved g c =
