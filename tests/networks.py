@@ -12,7 +12,7 @@ Owner = collections.namedtuple("Owner", "router prefix tag")
 # No walk that costs at most 15 has more hops.
 MOST_HOPS = 14
 
-ROUTE = re.compile(r"(\d+) (\S+) metric (\d+) tag (\d+) (?:own|via (\S+) iface (\d+) from (\S+))")
+ROUTE = re.compile(r"(\S+) (\S+) metric (\d+) tag (\d+) (?:own|via (\S+) iface (\d+) from (\S+))")
 
 
 def row(prefix, times):
@@ -65,11 +65,12 @@ class Network:
     def is_backed(self, line):
         """Whether the route of a printed line is a walk that begins over its interface at its gateway, to a router that owns or owned its
         prefix with its tag."""
-        router, prefix, metric, tag, via, iface, source = ROUTE.fullmatch(line).groups()
+        name, prefix, metric, tag, via, iface, source = ROUTE.fullmatch(line).groups()
+        router = self.numbers[name]
         owners = {owner.router for owner in self.owners if (owner.prefix, owner.tag) == (prefix, tag)}
         if via is None:
-            return metric == "1" and int(router) in owners
-        begins = {(sender.router, int(metric) - port.cost) for port in self.ports_at(int(router), int(iface)) for sender in self.ports
+            return metric == "1" and router in owners
+        begins = {(sender.router, int(metric) - port.cost) for port in self.ports_at(router, int(iface)) for sender in self.ports
                   if sender.addr == source and sender.link == port.link and sender.router != port.router}
         return via == source and any(begins & walks_to(self.ports, owner) for owner in owners)
 

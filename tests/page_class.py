@@ -39,8 +39,8 @@ class ClassCases:
               "(10 HopLimit) | 1 2 3", believed, believed,
               "Not added: this could only come from a router of the link (5 NotAStranger); the router takes it for a neighbor's: "
               "liar forges a Response",
-              "2 of 3 metrics belong to a path that is or was there. 2 of 3 routes are shortest paths. After a forged update nothing is "
-              "guaranteed. | 1"])
+              "2 of 3 metrics belong to a path that is or was there. 2 of 3 routes are shortest paths. After a forged update, "
+              "or with a router that is not RIPng, nothing is guaranteed. | 1"])
 
     def cutting(self, folder):
         """R4 has heard R0 last at 120 s. Rounds come at 135 s and each 30 s later, so its route times out in the seventh. A link from R0 to R2
@@ -58,9 +58,9 @@ class ClassCases:
         first = 1 + script.index(expects[0])
         checks = ",".join(f"✓ R{router}, 2001:db8::/32: expected {metric}, found {metric}" for router, metric in enumerate((4, 16, 16)))
         same("the report", self.report(folder, "takeLessons"),
-             ["Lesson 1 of 28: How routes come | true | Question: two routers are on one link, and the first has a prefix. How does the second learn "
+             ["Lesson 1 of 29: How routes come | true | Question: two routers are on one link, and the first has a prefix. How does the second learn "
               "of it, with which metric, and does the first then believe its own news?",
-              "02-one-hop-a-round.lab | Lesson 2 of 28: How routes come | false",
+              "02-one-hop-a-round.lab | Lesson 2 of 29: How routes come | false",
               f"They poison each other's route, but each has advertised it to the owner, which now believes router 1. | 4 16 16 | {checks}",
               f"{len(expects)} | {len(expects)}", f"0 | 1 | {first} | Line {first}: expected R1 2001:db8::/32 5 found 2"])
 

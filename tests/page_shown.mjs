@@ -28,7 +28,15 @@ export function shownCases({ same, traceOf, three }) {
       const none = traceOf(three.replace('own 2001:db8::/32 0\n', ''));
       same('the tally', tallyOf({ trace: none, step: 0 }).text.includes('0 of 0 route'), false);
       const lied = traceOf(`${three}liar 1 0 10 fe80::66 ${oneResponse('2001:db8:9::/48', 0, 1)}\n`), text = told(lied, { chosen: 'route 1 2001:db8:9::/48' });
-      same('the path', [text.includes('It comes from a forged update; no such path exists.'), text.includes('<table id="walk">')], [true, false]);
+      same('the path', [text.includes('It comes from a forged update or a router that is not RIPng; no such path exists.'), text.includes('<table id="walk">')], [true, false]);
+    },
+    // R2 has the route from R1, and without split horizon gives it back: 3 + 1.
+    'what a router sends that is not RIPng': () => {
+      const trace = traceOf(`${three}rounds 3 0 15000\nhorizon 2 none\ndown 0 31000\ntell 2 45000\n`), { record } = trace.steps.at(-1);
+      const sent = trace.datagrams.findLast(({ router }) => router === 2);
+      same('what is said', [told(trace).includes('R1 believes what R2 sends, which is not RIPng'), tallyOf({ trace, step: trace.steps.length - 1 }).text.includes('nothing is guaranteed')], [true, true]);
+      same('what came', [record.routes.map(({ metric }) => metric), sent.arrivals.map(({ end }) => end.router)], [[4], [1]]);
+      same('what is printed', told(trace, { step: trace.steps.findIndex(({ record: { record: kind } }) => kind === 'horizon') }).includes('R2 horizon none: not RIPng, nothing is promised'), true);
     },
     'a remark is true of a network that grows': () => {
       const script = joined(joined(networkScript('line', 2), 1, 2, 1).script, 2, 3, 1).script;

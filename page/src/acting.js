@@ -35,8 +35,13 @@ function routerDetail(state, { router }) {
     ${choices(html`${isDown ? does('bring it up', `speaks ${router}`, 'c') : does('let it fail', `silent ${router}`, 'c')}
       <button data-act="why" data-key="w">why this metric?</button> ${moment(state)}${does('send what is due', `tick ${router} {now} 0`)}
       ${does('restart', `restart ${router} {now}`)} ${state.trace.ends.length > 1 ? removes('router', router) : ''}`)}${packetForm(state, prefixInView(state))}${ownersForm(state, router)}
-    ${linkForm(state, router)}`;
+    ${linkForm(state, router)}${horizonActs(router)}`;
 }
+
+// The routers of the classical comparison: a router with another horizon is not RIPng.
+const horizonActs = router => html`<details><summary>without poisoned reverse: not RIPng, nothing is promised</summary>
+  ${choices(html`${does('no split horizon', `horizon ${router} none`)}${does('split horizon alone', `horizon ${router} split`)}
+    ${does('poisoned reverse again', `horizon ${router} poison`)}`)}</details>`;
 
 function ownersForm(state, router) {
   const { prefixes } = stepOfNew(state).routers[router];

@@ -27,7 +27,7 @@ const stepLink = ({ steps }, step) =>
   html`<button class="link" data-choose="step ${step}">line ${steps[step].record.line}</button>`;
 
 // Lines that are printed have the numbers of routers; here stand their names.
-const IS_ROUTER = { print: at => at === 0, sent: (at, words) => words[at - 1] === 'router', path: (at, words) => words[at - 1] !== 'link' };
+const IS_ROUTER = { print: at => at === 0, horizon: at => at === 0, sent: (at, words) => words[at - 1] === 'router', path: (at, words) => words[at - 1] !== 'link' };
 const withNames = (trace, { record, prints }) => prints.map(line => line.split(' ').map((word, at, words) =>
   /^\d+:?$/.test(word) && IS_ROUTER[record]?.(at, words) ? word.replace(/\d+/, router => nameOf(trace, Number(router))) : word).join(' '));
 
@@ -108,7 +108,7 @@ function walkText(trace, step, router, entry) {
 
 // The path as a sum, with the rings that it goes around.
 function sumText(trace, routers, { hops, owner, sum }, { metric, prefix }, isLied) {
-  if (owner === null && isLied) return html`<p class="bad">It comes from a forged update; no such path exists.</p>`;
+  if (owner === null && isLied) return html`<p class="bad">It comes from a forged update or a router that is not RIPng; no such path exists.</p>`;
   if (owner === null) return html`<p class="bad">No path to an owner is found in the trace.</p>`;
   const { way, rings } = withoutRings(trace, [...hops.map(hop => hop.end.router), owner]);
   const past = routers[owner].prefixes.some(own => own.prefix === prefix) ? '' : `; ${nameOf(trace, owner)} originated the prefix then`;
@@ -141,7 +141,7 @@ function whyUnreachable(trace, { cause, route }) {
   const { event } = trace.steps[cause].record, why = {
     tick: 'it timed out: nothing was received of it for 180 s', drop: 'its owner has withdrawn it',
     deliver: `datagram ${event?.datagram} offered 16 or more`, stranger: 'an outside host offered 16 or more',
-    liar: 'a forged Response offered 16 or more',
+    liar: `${event?.sender ? nameOf(trace, event.sender.router) : 'a forged Response'} offered 16 or more`,
   }[event?.kind] ?? 'this event made it so';
   return html`<p>Since ${stepLink(trace, cause)}: ${why}. It is advertised at 16 (route poisoning) until it is deleted, at
     ${seconds(route.until)}.</p>`;

@@ -44,7 +44,7 @@ export function passingsOf({ steps, datagrams }, lines) {
     if (own.length === 0) return emptyPassing(steps, at + 1, sentBefore);
     const turns = text.startsWith('phases') ? [own] : turnsOf(steps, own);
     return turns.map(turn => {
-      const first = turn.find(step => steps[step].record.event?.kind === 'deliver') ?? turn.at(-1) + 1;
+      const first = turn.find(step => steps[step].record.event?.datagram !== undefined) ?? turn.at(-1) + 1;
       const below = sentBefore(text.startsWith('phases') ? turn.at(-1) + 1 : first);
       return { line: at + 1, turn, step: turn.at(-1), below };
     });

@@ -40,9 +40,9 @@ function drawLost(scene, wire, end) {
 
 // What came since the step that was shown before, while it flies; else what comes at this step.
 function arrivalsOf({ trace, since, flownSince = since, step, flying, record }) {
-  if (!flying) return record.event?.kind === 'deliver' ? [{ record, isLast: true }] : [];
+  if (!flying) return record.event?.datagram !== undefined ? [{ record, isLast: true }] : [];
   const records = trace.steps.slice(Math.max(0, flownSince + 1), step + 1).map(state => state.record);
-  return records.filter(({ event }) => event?.kind === 'deliver').slice(-MOST_FLIGHTS)
+  return records.filter(({ event }) => event?.datagram !== undefined).slice(-MOST_FLIGHTS)
     .map(one => ({ record: one, isLast: one === record }));
 }
 

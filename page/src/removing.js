@@ -4,6 +4,7 @@ import { namedIn, renumbered, staleLine } from './numbering.js';
 
 // Where each kind of line names a router and an interface of it, by the number of the word.
 export const NAMES_AT = { deliver: [2, 3], cost: [1, 2], stranger: [1, 2], ask: [1, 2], liar: [1, 2], tick: [1], tell: [1], silent: [1], speaks: [1],
+  horizon: [1],
   gain: [1], drop: [1], restart: [1], shutdown: [1], print: [1], path: [1], expect: [1], 'expect path': [2] };
 
 // The script without `link N` or `router N`, as an edit. `renamed` has of a router and an interface of it their new numbers;

@@ -11,15 +11,17 @@ export const badIf = isBad => isBad ? 'bad' : '';
 export const headsOf = heads => html`<thead><tr>${heads.map(head => html`<th scope="col">${head}</th>`)}</tr></thead>`;
 export const titleOf = (trace, router, quiet) => `${nameOf(trace, router)}${quiet ? ', quiet' : ''}`;
 
-// Whether a forged Response came, up to a step.
-export const isLiedTo = (trace, step) => trace.steps.slice(0, step + 1).some(({ record }) => record.event?.kind === 'liar');
+const PROMISES_NOTHING = ' After a forged update, or with a router that is not RIPng, nothing is guaranteed.';
+// Whether a forged Response came, or a router had another horizon than RIPng's, up to a step.
+export const isLiedTo = (trace, step) =>
+  trace.steps.slice(0, step + 1).some(({ record }) => record.event?.kind === 'liar' || record.record === 'horizon');
 
 export function tallyOf({ trace, step }) {
   const { held, backed, wanted, reached } = tallyAll(trace, trace.steps[step]);
   const shortest = wanted > 0 ? html` <b>${reached} of ${plural(wanted, 'route')}</b>
     ${reached === 1 ? 'is a shortest path' : 'are shortest paths'}.` : '';
   return html`<b class="${badIf(backed < held)}">${backed} of ${plural(held, 'metric')}</b> ${backed === 1 ? 'belongs' : 'belong'}
-    to a path that is or was there.${shortest}${isLiedTo(trace, step) ? ' After a forged update nothing is guaranteed.' : ''}`;
+    to a path that is or was there.${shortest}${isLiedTo(trace, step) ? PROMISES_NOTHING : ''}`;
 }
 
 // ---- Tables ----

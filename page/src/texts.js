@@ -63,6 +63,7 @@ export const LINES = [
   ['stranger R I NOW SOURCE PORT HOP group HEX', 'a datagram of an outside host comes, to the group or (peer) to R alone'],
   ['ask R I NOW SOURCE PORT PREFIX', 'an outside host asks for that prefix, or for all'],
   ['liar R I NOW SOURCE PREFIX METRIC', 'a forged Response that R takes for one of its link; after it nothing is guaranteed'],
+  ['horizon R none', 'router R advertises without poisoned reverse (none), or with split horizon alone (split), until poison: no RIPng'],
   ['print [R [PREFIX]]', 'routes are printed'],
   ['sent [N]', 'datagrams are printed'],
   ['path R ADDR', 'where packets for ADDR go from router R is printed; expect path R ADDR arrives, or loops or lost, checks it'],
@@ -81,8 +82,8 @@ const UPDATES = { regular: 'regular update', triggered: 'triggered update', held
 const HAPPENED = {
   deliver: (event, name) => ` receives datagram ${event.datagram} from ${name(event.sender.router)}`,
   stranger: event => ` receives a datagram of an outside host, ${event.source} port ${event.port}`,
-  liar: (event, name, { routes, gone }) => routes.length + gone.length > 0 ? ` believes a forged Response of ${event.source}`
-    : ` receives a forged Response of ${event.source}`,
+  liar: ({ source, sender }, name, { routes, gone }) => `${routes.length + gone.length > 0 ? ' believes' : ' receives'} ${
+    sender ? `what ${name(sender.router)} sends, which is not RIPng` : `a forged Response of ${source}`}`,
   tick: (event, name, { update }) => `: ${UPDATES[update] ?? 'its timer, nothing is due'}`,
   restart: () => ' restarts',
   shutdown: () => ' shuts down',
@@ -108,6 +109,7 @@ export function describe(record, names = new Map(), isOpen = () => false) {
   const ended = last === null ? 'no table changed' : `last change in ${last}`;
   if (kind === 'rounds') return `${plural(rounds, 'round')}, ${ended}`;
   if (kind === 'phases') return `${plural(phases, 'phase')}, ${ended}`;
+  if (kind === 'horizon') return prints[0].replace(/^\d+/, number => `R${number}`);
   if (kind !== 'event') return `${kind}: ${plural(prints.length, 'line')}`;
   const becomes = ({ change, prefix, metric }) => isOpen(prefix) ? 'changes' : change === 'add' ? `at ${metric}` : LEAVES[event.kind] ?? 'is unreachable';
   const one = changes.filter(({ prefix }) => prefix !== event.prefix).map(change => `, ${change.prefix} ${becomes(change)}`);

@@ -8,7 +8,8 @@ import { routeFor, targetIn } from './packets.js';
 // so), what the script says of that, and `least`, kept least costs.
 export function readTrace(text, script = '') {
   const trace = { steps: [], datagrams: [], links: new Map(), ends: [], routerAt: new Map(), names: namesOf(script) };
-  for (const line of text.split('\n')) if (line) addRecord(trace, JSON.parse(line));
+  const lines = script.split('\n'), isForged = ({ line }) => lines[line - 1]?.trim().startsWith('liar');
+  for (const line of text.split('\n')) if (line) addRecord(trace, JSON.parse(line), isForged);
   addOutages(trace, script);
   addLosses(trace, script);
   return trace;
@@ -17,11 +18,12 @@ export function readTrace(text, script = '') {
 // A router's name: that of the script, else R and its number.
 export const nameOf = ({ names }, router) => names.get(router) ?? `R${router}`;
 
-function addRecord(trace, record) {
+function addRecord(trace, record, isForged) {
   const step = trace.steps.length;
   if (record.record === 'start') addEnds(trace, record.routers);
   for (const sent of record.sent ?? []) addDatagram(trace, sent, step);
-  if (record.event?.kind === 'deliver') addArrival(trace, record, step);
+  if (record.event?.kind === 'liar' && !isForged(record)) addDatagramOf(trace, record);
+  if (record.event?.datagram !== undefined) addArrival(trace, record, step);
   const routers = routersAfter(trace.steps.at(-1)?.routers ?? [], record, step);
   const now = Math.max(0, ...routers.map(router => router.timers.last)), back = (trace.steps.at(-1)?.now ?? 0) - record.now;
   const earlier = record.event && back > 0 ? `${back / 1000} s before what came last` : null;
@@ -48,6 +50,13 @@ function addDatagram(trace, sent, step) {
   const end = trace.ends[sent.router][sent.iface];
   trace.datagrams.push({ ...sent, end, sentAt: step, arrivals: [], doneAt: Infinity, lostAt: Infinity });
   end.sent.push(trace.datagrams.at(-1));
+}
+
+// What a router with another horizon sent comes in place of its newest datagram that has not come there.
+function addDatagramOf(trace, { router, event }) {
+  const to = trace.ends[router][event.iface], from = trace.links.get(to.link).find(({ addr }) => addr === event.source);
+  const datagram = from?.sent.findLast(one => !hasCome(one, to, Infinity));
+  if (datagram) Object.assign(event, { datagram: datagram.datagram, sender: from });
 }
 
 function addArrival(trace, { router, event }, step) {

@@ -23,6 +23,7 @@ answer_kept holds history (asks.Check file) false old mid new answer kept = answ
 answer_kept holds history (asks.Lab file) accepted old mid new answer kept = answer
 answer_kept holds history (asks.Trace file) accepted old mid new answer kept = answer
 answer_kept holds history (asks.Explain file) accepted old mid new answer kept = answer
+answer_kept holds history (asks.Changes file) accepted old mid new answer kept = answer
 answer_kept holds history (asks.Run order) true old mid new (text, held, (config, is, bound, alone, (table, has_run, wrote))) kept =
     (text, held, (config, is, bound, alone, (table, has_run, appends_kept _ old mid new wrote kept)))
 answer_kept holds history (asks.Run order) false old mid new answer kept = answer

@@ -28,6 +28,7 @@ AnswersAsk holds history (asks.Check file) accepted old new =
 AnswersAsk holds history (asks.Lab file) accepted old new = (script : List ℕ) × holds file.now script
 AnswersAsk holds history (asks.Trace file) accepted old new = (script : List ℕ) × holds file.now script
 AnswersAsk holds history (asks.Explain file) accepted old new = (script : List ℕ) × holds file.now script
+AnswersAsk holds history (asks.Changes file) accepted old new = (script : List ℕ) × holds file.now script
 AnswersAsk holds history (asks.Run order) accepted old new =
     (config : List ℕ) × holds order.config.now config × IsRan order config history accepted old new
 AnswersAsk holds history (asks.Ctl question) accepted old new = (answer : List ℕ) × IsAnswerWritten answer accepted old new

@@ -4,9 +4,8 @@ ghost use Rattle.std.specs.Prelude.{◌≡◌, ◌≢◌, ◌⊎◌, ◌≤◌, 
 ghost use Rattle.clap.specs.Words.{kind_of};
 ghost use Rattle.ripngd.specs.Exit.{AnswersAsk, AnswersWords, AsksForHelp, FailsWords, HaveFault, holds_any};
 ghost use Rattle.ripngd_daemon.specs.Failing.{MayFail};
-ghost use Rattle.ripngd_daemon.specs.declared.failure.Failure.TheVariants as failures;
 
-use crate::subcommands::{explain_file, lab_file, show_digits, trace_file};
+use crate::subcommands::{changes_file, explain_file, lab_file, show_digits, trace_file};
 use clap::error::ErrorKind;
 use ripngd_command_line::{Ask, ask, misuse_of};
 use ripngd_daemon::{
@@ -128,6 +127,7 @@ fn accepts<
         Ask::Lab(file) => lab_file(rt.alloc(), files, file, out, err),
         Ask::Trace(file) => trace_file(rt.alloc(), files, file, out),
         Ask::Explain(file) => explain_file(rt.alloc(), files, file, out),
+        Ask::Changes(file) => changes_file(rt.alloc(), files, file, out),
         Ask::Run(order) => run(rt, files, order, history, out, err),
         Ask::Ctl(question) => ctl(rt, question, out),
         Ask::Table(file) => table_file(rt.alloc(), files, file, out),
@@ -157,9 +157,7 @@ fn answer<
     ensures failed { IfErr result (MayFail asked.entry) }
 {
     let accepted = accepts(rt, files, asked, history, out, err)?;
-    if out.flush().is_err() {
-        return Err(Failure::Output);
-    }
+    out.flush().map_err(|_| Failure::Output)?;
     if accepted {
         Ok(Status::Done)
     } else {
@@ -177,7 +175,7 @@ fn write_clap_text<'a, O: Write, E: Write>(
         → (kind_of error.now ≡ ErrorKind.DisplayHelp) ⊎ (kind_of error.now ≡ ErrorKind.DisplayVersion) }
     ensures usage { result ≡ Ok Status.Usage → kind_of error.now ≢ ErrorKind.OutOfMemory }
     ensures not_refused { result ≢ Ok Status.Refused }
-    ensures failed { IfErr result (λ f. (f ≡ failures.OutOfMemory) ⊎ (f ≡ failures.Output)) }
+    ensures failed { IfErr result (λ f. (f ≡ Failure.OutOfMemory) ⊎ (f ≡ Failure.Output)) }
 {
     match error.kind() {
         ErrorKind::OutOfMemory => Err(Failure::OutOfMemory),
@@ -195,10 +193,7 @@ fn write_clap_text<'a, O: Write, E: Write>(
 
 /// Whether the reader of `out` has gone.
 fn is_left<O: Write>(out: &mut O) -> bool {
-    match out.flush() {
-        Err(error) => error.kind() == io::ErrorKind::BrokenPipe,
-        Ok(()) => false,
-    }
+    matches!(out.flush(), Err(error) if error.kind() == io::ErrorKind::BrokenPipe)
 }
 
 /// Writes a failure to `err`, unless it is that nobody reads `out` any more, and returns its status.

@@ -32,8 +32,13 @@ pub fn trace<W: Write>(alloc: Global, script: &[u8], out: &mut W) -> Result<bool
 ///
 /// # Errors
 /// `OutOfMemory` or `Write`. Earlier lines may have been written.
-pub fn explain<W: Write>(alloc: Global, script: &[u8], out: &mut W) -> Result<bool, PrintFault> {
-    Ok(ripngd_trace::explain(alloc, script, out)?)
+pub fn explain<W: Write>(
+    alloc: Global,
+    script: &[u8],
+    changes_only: bool,
+    out: &mut W,
+) -> Result<bool, PrintFault> {
+    Ok(ripngd_trace::explain(alloc, script, changes_only, out)?)
 }
 
 /// `show HEX`: returns whether the digits are those of a datagram.
@@ -90,5 +95,18 @@ pub(crate) fn explain_file<'a, F: FileSource, O: Write>(
     ensures answered { IfOk result (λ accepted. (script : List ℕ) × F.holds files.now file.entry.now script) }
     ensures failed { IfErr result (MayFail (asks.Explain file.entry)) }
 {
-    Ok(explain(alloc, files.read(file)?.as_slice(), out)?)
+    Ok(explain(alloc, files.read(file)?.as_slice(), false, out)?)
+}
+
+/// `lab --changes SCRIPT`: returns whether every line of the file was done.
+pub(crate) fn changes_file<'a, F: FileSource, O: Write>(
+    alloc: Global,
+    files: &F,
+    file: &'a str,
+    out: &mut O,
+) -> Result<bool, Failure<'a>>
+    ensures answered { IfOk result (λ accepted. (script : List ℕ) × F.holds files.now file.entry.now script) }
+    ensures failed { IfErr result (MayFail (asks.Changes file.entry)) }
+{
+    Ok(explain(alloc, files.read(file)?.as_slice(), true, out)?)
 }

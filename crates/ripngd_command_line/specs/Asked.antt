@@ -82,9 +82,13 @@ IsAsked (asks.Show hex) name rows =
 IsAsked (asks.Check file) name rows =
     (name ≡ codes "check") × (first_of (codes "CONFIG") rows ≡ Some file.now)
 IsAsked (asks.Lab file) name rows =
-    (name ≡ codes "lab") × (first_of (codes "SCRIPT") rows ≡ Some file.now) × ¬ (IsSet rows (codes "trace")) × ¬ (IsSet rows (codes "explain"))
+    (name ≡ codes "lab") × (first_of (codes "SCRIPT") rows ≡ Some file.now) × ¬ (IsSet rows (codes "trace")) × ¬ (IsSet rows (codes "changes"))
+    × ¬ (IsSet rows (codes "explain"))
 IsAsked (asks.Explain file) name rows =
-    (name ≡ codes "lab") × (first_of (codes "SCRIPT") rows ≡ Some file.now) × ¬ (IsSet rows (codes "trace")) × IsSet rows (codes "explain")
+    (name ≡ codes "lab") × (first_of (codes "SCRIPT") rows ≡ Some file.now) × ¬ (IsSet rows (codes "trace")) × ¬ (IsSet rows (codes "changes"))
+    × IsSet rows (codes "explain")
+IsAsked (asks.Changes file) name rows =
+    (name ≡ codes "lab") × (first_of (codes "SCRIPT") rows ≡ Some file.now) × ¬ (IsSet rows (codes "trace")) × IsSet rows (codes "changes")
 IsAsked (asks.Trace file) name rows =
     (name ≡ codes "lab") × (first_of (codes "SCRIPT") rows ≡ Some file.now) × IsSet rows (codes "trace")
 IsAsked (asks.Run order) name rows = (name ≡ codes "run") × IsOrdered order rows

@@ -16,6 +16,8 @@ pub enum Ask<'a> {
     Trace(&'a str),
     /// `lab --explain SCRIPT`: runs it, and prints each event in English.
     Explain(&'a str),
+    /// `lab --changes SCRIPT`: the same, without ticks and arrivals that change no forwarding table.
+    Changes(&'a str),
     /// `run [-q] [-d] [-t TAG] [-R FILE] [--append] [--turns N] [--seconds N] [--control PATH] CONFIG`: runs one router.
     Run(Order<'a>),
     /// `ctl PATH COMMAND [WHAT] [VALUE] [PORT]`: sends a command to a running router.

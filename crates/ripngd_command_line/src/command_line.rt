@@ -59,13 +59,15 @@ fn asked_of<'a>(name: &'a str, matches: &ArgMatches<'a>) -> Option<Ask<'a>>
     }
 }
 
-/// `lab`, with `--trace` before `--explain` if both are given.
+/// `lab`, with `--trace` before `--changes`, and that before `--explain`, if both are given.
 fn lab_asked<'a>(matches: &ArgMatches<'a>) -> Option<Ask<'a>>
     ensures { IfSome result (λ a. IsAsked a (codes "lab") (rows_of (found_of matches.now))) }
 {
     let script = text(matches, "SCRIPT")?;
     Some(if is_set(matches, "trace") {
         Ask::Trace(script)
+    } else if is_set(matches, "changes") {
+        Ask::Changes(script)
     } else if is_set(matches, "explain") {
         Ask::Explain(script)
     } else {

@@ -28,7 +28,7 @@ fn check<'a>(alloc: Global) -> Result<Command<'a>, AllocError>
         .arg(arg!(in alloc; <CONFIG> "The file of the configuration"))
 }
 
-/// `lab [--trace] [--explain] SCRIPT`.
+/// `lab [--trace] [--explain] [--changes] SCRIPT`.
 fn lab<'a>(alloc: Global) -> Result<Command<'a>, AllocError>
     ensures { IfOk result (λ c. IsCommand c lab_command) }
 {
@@ -39,6 +39,8 @@ fn lab<'a>(alloc: Global) -> Result<Command<'a>, AllocError>
             "Print each event as a line of JSON, in place of what the script prints"))?
         .arg(arg!(in alloc; --explain
             "Print each event as a line of English, beside what the script prints"))?
+        .arg(arg!(in alloc; --changes
+            "The same, without ticks and arrivals that change no forwarding table"))?
         .arg(arg!(in alloc; <SCRIPT> "The file of the script"))
 }
 

@@ -1,5 +1,5 @@
 -- What becomes of packets on a path.
-use Rattle.std.specs.Prelude.{Option, None, Some}
+use Rattle.std.specs.Prelude.{Option, None}
 use Rattle.ripng_world.specs.declared.path.PathEnd.{PathEnd}
 use Rattle.ripng_world.specs.declared.path.PathEnd.TheVariants.{Delivered, Loops}
 use Rattle.ripngd_lab.specs.declared.ways.Fate.{Fate}

@@ -8,6 +8,7 @@ ghost use Rattle.ripngd_lab.specs.ScriptWatching.{HasTold};
 
 use crate::expecting::{Expected, Missed, meet};
 use crate::forms::{Action, Step};
+use crate::horizon::Horizons;
 use crate::line::Line;
 use crate::moving::{make_rounds, make_wave, play, step};
 use crate::outages::Outages;
@@ -30,6 +31,7 @@ pub struct Course {
     /// The number of the first datagram that was not passed by: the next line `hear` delivers from there on.
     pub unheard: usize,
     pub outages: Outages,
+    pub horizons: Horizons,
     /// The name that the next line is to be refused by.
     pub awaited: Option<RefusalName>,
 }
@@ -41,6 +43,7 @@ impl Course {
             alloc,
             unheard: 0,
             outages: Outages::new(alloc),
+            horizons: Horizons::new(alloc),
             awaited: None,
         }
     }
@@ -128,7 +131,7 @@ fn happen_at_link<V: Watch>(
     if kind != Step::Cost {
         course.outages.set_cut(line.link, kind == Step::Down)?;
     }
-    play(site, &line.wave(Ticking::Nobody), &events, watch)
+    play(site, &line.wave(Ticking::Nobody), None, &events, watch)
 }
 
 /// A datagram of an outside host, with these bytes, arrives.
@@ -275,7 +278,7 @@ fn set_cut(lab: &Network, course: &mut Course, line: &Line<'_>, cut: bool) -> Ou
 }
 
 /// There is such a router, if one is named.
-fn check_router(lab: &Network, router: Option<usize>) -> Outcome
+pub fn check_router(lab: &Network, router: Option<usize>) -> Outcome
     ensures { OnOk result (IfSome router (λ r. r < length lab.now.network)) }
 {
     match router {

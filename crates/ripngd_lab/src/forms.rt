@@ -9,6 +9,8 @@ pub enum Verb {
     Start,
     /// A forged Response arrives.
     Forge,
+    /// A router is no router of RIPng from now on.
+    Bend,
     /// It is about a network that runs.
     Act(Action),
 }
@@ -68,7 +70,7 @@ pub enum Step {
 
 /// The forms. A word in capitals is a part, and `..` at the end repeats K. If a line leaves several forms at the same word, the first
 /// is the one that a hint names.
-pub const FORMS: [(&str, Verb); 48] = [
+pub const FORMS: [(&str, Verb); 49] = [
     ("router NAME", Verb::List(Listed::Router)),
     ("router quiet NAME", Verb::List(Listed::QuietRouter)),
     ("router quiet", Verb::List(Listed::QuietRouter)),
@@ -102,6 +104,7 @@ pub const FORMS: [(&str, Verb); 48] = [
     ("round NOW", Verb::Act(Action::Round)),
     ("rounds ROUNDS NOW GAP", Verb::Act(Action::Rounds)),
     ("phases PHASES SEED", Verb::Act(Action::Phases)),
+    ("horizon R HORIZON", Verb::Bend),
     ("silent R", Verb::Act(Action::Silence)),
     ("speaks R", Verb::Act(Action::Speak)),
     ("cut LINK", Verb::Act(Action::Cut)),
@@ -217,6 +220,7 @@ pub fn meaning(part: &str) -> &'static str {
         "SEED" => "a number from 0 to 18446744073709551615",
         "METRIC" => "a number from 1 to 16, or none",
         "FATE" => "arrives, loops or lost",
+        "HORIZON" => "none, split, or poison, which is RIPng's",
         "REFUSAL" => "the name of a refusal, like NotOwned, or BadLine",
         "TEXT" => "the text to print",
         _ => "",

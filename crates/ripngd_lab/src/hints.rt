@@ -2,6 +2,7 @@
 
 use crate::forms::{BadLine, FORMS, Wrong, first_word, meaning, part_at, words_of_form};
 use crate::listing::fault_of;
+use crate::named::{Names, names_of};
 use crate::printer::{Ending, Printer};
 use crate::script::{watched, words_in};
 use crate::stop::Refusal;
@@ -41,7 +42,8 @@ pub fn lab_hinted<W: Write, E: Write>(
     out: &mut W,
     err: &mut E,
 ) -> io::Result<bool> {
-    let mut printer = Printer::new(alloc, out);
+    let names = names_of(alloc, script)?;
+    let mut printer = Printer::new(alloc, Names::new(&names), out);
     let done = watched(alloc, script, &mut printer)?;
     if let Some(ending) = printer.ending {
         let _ = write_hint(alloc, script, &ending, err);
@@ -179,22 +181,6 @@ fn hint_of_datagram<'a>(line: &str, ending: &Ending) -> Hint<'a> {
 
 fn counted<'a>(count: usize, what: &'static str) -> Hint<'a> {
     Hint::Count { count, what }
-}
-
-/// The name of each router that a script lists, in order; nothing for one without a name.
-///
-/// # Errors
-/// Out of memory.
-pub fn names_of<'a>(alloc: Global, script: &'a [u8]) -> Result<Vec<&'a str>, AllocError> {
-    let mut names = Vec::new(alloc);
-    for line in script.split(|byte| *byte == b'\n') {
-        let words = words_in(line);
-        if first_word(words) == "router" {
-            let name = words.rsplit_once(' ').map_or("", |(_, name)| name);
-            names.push(if name == "quiet" { "" } else { name })?;
-        }
-    }
-    Ok(names)
 }
 
 impl<'a> fmt::Display for Hint<'a> {

@@ -6,9 +6,11 @@ mod course;
 mod expecting;
 mod forms;
 mod hints;
+mod horizon;
 mod line;
 mod listing;
 mod moving;
+mod named;
 mod outages;
 mod phase;
 mod plan;
@@ -23,10 +25,14 @@ mod words;
 
 pub use expecting::{Expected, Missed, meet};
 pub use forms::{BadLine, Wrong};
-pub use hints::{Hint, hint_of, lab_hinted, names_of};
+pub use hints::{Hint, hint_of, lab_hinted};
+pub use horizon::Horizon;
+pub use named::{Named, Names, names_of};
 pub use phase::MadePhases;
 pub use plan::addr_at;
-pub use printer::{Choice, Ending, Printer, print_routes, print_sent};
+pub use printer::{
+    Choice, Ending, Printer, print_horizon, print_routes, print_sent, print_unmet, print_way,
+};
 pub use script::{lab, watched};
 pub use site::{Network, Routes};
 pub use stop::{Refusal, RefusalName, Unmet};

@@ -2,12 +2,13 @@
 
 use crate::context::{Context, is_name, moment_after, number};
 use crate::forms::{BadLine, FORMS, Listed, Step, Verb, Wrong};
+use crate::horizon::Horizon;
 use crate::listing::Listing;
 use crate::phase::{PHASES_LIMIT, end_of_phases};
 use crate::plan::{Ticking, Wave};
 use crate::stop::{RefusalName, refusal_name};
 use crate::ways::Fate;
-use crate::words::{are_bytes, fate, hops, if_so, metric, prefix, split_off, up_to};
+use crate::words::{are_bytes, fate, hops, horizon, if_so, metric, prefix, split_off, up_to};
 use prefix6::{Addr6, Prefix, parse_addr};
 use ripng_wire::{Command, Rte, encode};
 use ripng_world::{Event, NetInterface};
@@ -50,6 +51,7 @@ pub struct Line<'a> {
     pub seed: u64,
     pub metric: Option<u8>,
     pub fate: Fate,
+    pub horizon: Horizon,
     pub refusal: Option<RefusalName>,
     /// The time that this line, or one before it, has named last.
     last: Option<Moment>,
@@ -114,6 +116,7 @@ impl<'a> Line<'a> {
             seed: 0,
             metric: None,
             fate: Fate::Arrives,
+            horizon: Horizon::Poison,
             refusal: None,
             last,
             place: 0,
@@ -189,6 +192,7 @@ impl<'a> Line<'a> {
             "METRIC" => self.metric = metric(word)?,
             "HOPS" => self.metric = Some(hops(word)?),
             "FATE" => self.fate = fate(word)?,
+            "HORIZON" => self.horizon = horizon(word)?,
             "REFUSAL" => self.refusal = Some(refusal_name(word).ok_or(Wrong::Differs)?),
             literal => {
                 let _ = if_so(word, word == literal)?;

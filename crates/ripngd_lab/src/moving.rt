@@ -7,8 +7,9 @@ ghost use Rattle.ripngd_lab.specs.ScriptWatching.{HasTold};
 
 use crate::course::Course;
 use crate::forms::BadLine;
+use crate::horizon::Advert;
 use crate::plan::{Ticking, Wave};
-use crate::site::{Held, Network, Routes, Site};
+use crate::site::{Held, Routes, Site};
 use crate::stop::{Outcome, Refusal, Stop};
 use crate::watching::Watch;
 use rand_core::Rng;
@@ -33,33 +34,24 @@ pub fn step<V: Watch>(lab: &mut Site, event: &Event<'_>, watch: &mut V) -> Outco
     }
 }
 
-/// A forged Response arrives, and the observer is notified. The router is there, and accepts it.
-fn lie<V: Watch>(
-    running: &mut Network,
-    router: usize,
-    arrival: &Arrival<'_>,
-    watch: &mut V,
-) -> Outcome
-    ensures { HasTold result V.starts V.takes V.fails V.notes (Some running.old, watch.old) (Some running.new, watch.new) }
-{
-    let first = running.sent().len();
-    let answer = running.lie(router, arrival)?;
-    Ok(watch.lied(running, router, arrival, &answer, first)?)
-}
-
-/// The same at a network that is verified no longer.
-pub fn lie_at<V: Watch>(
+/// A forged Response arrives, and the observer is notified. The network is verified no longer; the router is there, and accepts it. It
+/// comes in place of a datagram of the router `sender`, if that is named.
+pub fn lie<V: Watch>(
     site: &mut Site,
     router: usize,
-    arrival: &Arrival<'_>,
+    arrival: Arrival<'_>,
+    sender: Option<usize>,
     watch: &mut V,
 ) -> Outcome
     ensures { HasTold result V.starts V.takes V.fails V.notes (Some site.old, watch.old) (Some site.new, watch.new) }
 {
-    match &mut site.held {
-        Held::Lied(running) => lie(running, router, arrival, watch),
-        Held::Lawful(_) => Err(Stop::Refused(Refusal::BadLine(BadLine::BeforeStart))),
-    }
+    let Held::Lied(running) = &mut site.held else {
+        return Err(Stop::from(BadLine::BeforeStart));
+    };
+    let first = running.sent().len();
+    let answer = running.lie(router, &arrival)?;
+    let event = Event::Stranger { router, arrival };
+    Ok(watch.lied(running, &event, &answer, first, sender)?)
 }
 
 /// Rounds are made, up to a regular update that is not due.
@@ -120,7 +112,7 @@ pub fn make_wave<V: Watch>(
 {
     let first = wave.first(course.unheard, site.running().sent().len());
     let ticks = wave.ticks(course.alloc, site.running().routers(), &course.outages)?;
-    play(site, wave, &ticks, watch)?;
+    play(site, wave, None, &ticks, watch)?;
     course.unheard = site.running().sent().len();
     deliver(site, course, wave, first, watch)
 }
@@ -137,17 +129,20 @@ fn deliver<V: Watch>(
 {
     let end = site.running().sent().len();
     wave.check_lost(end.saturating_sub(first))?;
+    let adverts = wave.adverts(course, site.running(), first)?;
     for datagram in first..end {
         let events = wave.deliveries(course, site.running(), first, datagram)?;
-        play(site, wave, &events, watch)?;
+        play(site, wave, Advert::at(&adverts, datagram), &events, watch)?;
     }
     Ok(())
 }
 
-/// Events of a wave happen, one after another.
+/// Events of a wave happen, one after another. If they deliver a datagram of a router that is none of RIPng, its advert comes in place of
+/// that.
 pub fn play<V: Watch>(
     site: &mut Site,
     wave: &Wave<'_>,
+    advert: Option<&Advert>,
     events: &[Event<'static>],
     watch: &mut V,
 ) -> Outcome
@@ -155,9 +150,40 @@ pub fn play<V: Watch>(
 {
     for event in events {
         wave.check(site.running(), event)?;
-        step(site, event, watch)?;
+        bring(site, advert, event, watch)?;
     }
     Ok(())
+}
+
+/// An event happens, or an advert comes, if that is not nothing.
+fn bring<V: Watch>(
+    site: &mut Site,
+    advert: Option<&Advert>,
+    event: &Event<'static>,
+    watch: &mut V,
+) -> Outcome
+    ensures { HasTold result V.starts V.takes V.fails V.notes (Some site.old, watch.old) (Some site.new, watch.new) }
+{
+    match advert {
+        None => step(site, event, watch),
+        Some(advert) if advert.is_nothing() => Ok(()),
+        Some(advert) => advertise(site, advert, event, watch),
+    }
+}
+
+/// An advert comes as a forged Response; to the sender's own interfaces, which believe none, comes the datagram.
+fn advertise<V: Watch>(
+    site: &mut Site,
+    advert: &Advert,
+    event: &Event<'static>,
+    watch: &mut V,
+) -> Outcome
+    ensures { HasTold result V.starts V.takes V.fails V.notes (Some site.old, watch.old) (Some site.new, watch.new) }
+{
+    match advert.accepted(site.running(), event) {
+        Some((router, arrival)) => lie(site, router, arrival, Some(advert.router), watch),
+        None => step(site, event, watch),
+    }
 }
 
 /// A round at each of these times: every router ticks in order, with the word 0, when its regular update is due, and what these ticks

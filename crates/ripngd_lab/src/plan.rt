@@ -9,6 +9,7 @@ ghost use Rattle.ripngd_lab.specs.Plans.{addr_at, all_ticks, first_of, is_meant,
 
 use crate::context::number;
 use crate::course::Course;
+use crate::horizon::Advert;
 use crate::outages::Outages;
 use crate::site::Network;
 use crate::stop::{Outcome, Stop};
@@ -94,6 +95,19 @@ impl<'a> Wave<'a> {
 
     fn loses(&self, place: usize) -> bool {
         self.lost.split(' ').any(|word| number(word) == Ok(place))
+    }
+
+    /// What comes in place of datagrams of the wave, of routers that are none of RIPng: of those that tick in it.
+    pub fn adverts(
+        &self,
+        course: &Course,
+        lab: &Network,
+        first: usize,
+    ) -> Result<Vec<Advert>, AllocError> {
+        match self.ticking {
+            Ticking::Nobody => Ok(Vec::new(course.alloc)),
+            _ => course.horizons.adverts(lab, first),
+        }
     }
 
     /// The deliveries of a datagram, in the order of routers and interfaces. The first datagram of the wave has the number

@@ -2,13 +2,17 @@
 
 ghost use Rattle.std.specs.Prelude.{⊤};
 
+use crate::expecting::Expected;
+use crate::horizon::Horizon;
+use crate::named::{Named, Names};
 use crate::site::{Network, Routes};
-use crate::stop::Refusal;
+use crate::stop::{Refusal, Unmet};
 use crate::watching::{Notice, Watch};
+use crate::ways::{Obstacle, Way};
 use prefix6::Prefix;
-use ripng_world::{Event, Sent};
+use ripng_world::{Event, PathEnd, Sent};
 use route_table::{Moment, Origin, Route, RouteStore};
-use router_core::{Answer, Arrival, Destination, Router};
+use router_core::{Answer, Destination, Router};
 use std::alloc::Global;
 use std::io::{self, Write};
 
@@ -17,6 +21,7 @@ use std::io::{self, Write};
 #[derive(Drop)]
 pub struct Printer<'a, W: Write> {
     alloc: Global,
+    names: Names<'a>,
     line: usize,
     /// How a refused line has ended the script, if one has.
     pub ending: Option<Ending>,
@@ -38,9 +43,10 @@ pub struct Ending {
 
 impl<'a, W: Write> Printer<'a, W> {
     /// Nothing has happened yet.
-    pub fn new(alloc: Global, out: &'a mut W) -> Printer<'a, W> {
+    pub fn new(alloc: Global, names: Names<'a>, out: &'a mut W) -> Printer<'a, W> {
         Printer {
             alloc,
+            names,
             line: 0,
             ending: None,
             out,
@@ -82,19 +88,24 @@ impl<'a, W: Write> Watch for Printer<'a, W> {
     fn lied(
         &mut self,
         _running: &Network,
-        _router: usize,
-        _arrival: &Arrival<'_>,
+        _event: &Event<'_>,
         _answer: &Answer,
         _first: usize,
+        _sender: Option<usize>,
     ) -> io::Result<()> {
         Ok(())
     }
 
     fn noticed(&mut self, notice: Notice<'_>) -> io::Result<()> {
         match notice {
-            Notice::Routes(lab, choice) => print_routes(lab, &choice, self.out),
-            Notice::Datagrams(lab, asked) => print_sent(self.alloc, lab, asked, self.out),
-            Notice::Way(way) => writeln!(self.out, "{way}"),
+            Notice::Routes(lab, choice) => print_routes(self.names, lab, &choice, self.out),
+            Notice::Datagrams(lab, asked) => {
+                print_sent(self.alloc, self.names, lab, asked, self.out)
+            }
+            Notice::Way(way) => print_way(self.names, &way, self.out),
+            Notice::Horizon { router, horizon } => {
+                print_horizon(self.names, router, horizon, self.out)
+            }
             Notice::Said(text) => writeln!(self.out, "{text}"),
             Notice::Lost(_) | Notice::Rounds(_) => Ok(()),
             Notice::Phases(made) => writeln!(self.out, "{made}"),
@@ -102,7 +113,11 @@ impl<'a, W: Write> Watch for Printer<'a, W> {
                 self.ending = Some(ending);
                 writeln!(self.out, "line {} refused {}", self.line, ending.refusal)
             }
-            Notice::Unmet(unmet) => writeln!(self.out, "line {} {unmet}", self.line),
+            Notice::Unmet(unmet) => {
+                write!(self.out, "line {} ", self.line)?;
+                print_unmet(self.names, &unmet, self.out)?;
+                writeln!(self.out)
+            }
         }
     }
 }
@@ -129,12 +144,17 @@ impl Choice {
 ///
 /// # Errors
 /// Of the writer.
-pub fn print_routes<W: Write>(lab: &Network, choice: &Choice, out: &mut W) -> io::Result<()> {
+pub fn print_routes<W: Write>(
+    names: Names<'_>,
+    lab: &Network,
+    choice: &Choice,
+    out: &mut W,
+) -> io::Result<()> {
     for number in 0..lab.routers() {
         if choice.router.is_none_or(|asked| asked == number)
             && let Some(router) = lab.router(number)
         {
-            print_table(number, router, choice, out)?;
+            print_table(names.of(number), router, choice, out)?;
         }
     }
     Ok(())
@@ -142,7 +162,7 @@ pub fn print_routes<W: Write>(lab: &Network, choice: &Choice, out: &mut W) -> io
 
 /// Writes the routes of one router that are asked for.
 fn print_table<W: Write>(
-    number: usize,
+    name: Named<'_>,
     router: &Router<Routes>,
     choice: &Choice,
     out: &mut W,
@@ -154,7 +174,7 @@ fn print_table<W: Write>(
             break;
         };
         if choice.has_prefix(entry.0) {
-            print_route(number, entry.0, entry.1, out)?;
+            print_route(name, entry.0, entry.1, out)?;
         }
         last = Some(entry.0);
     }
@@ -163,7 +183,7 @@ fn print_table<W: Write>(
 
 /// Writes the line of a route.
 fn print_route<W: Write>(
-    number: usize,
+    name: Named<'_>,
     prefix: Prefix,
     route: Route,
     out: &mut W,
@@ -171,14 +191,14 @@ fn print_route<W: Write>(
     let metric = route.metric();
     let tag = route.tag();
     match route.origin() {
-        Origin::Own => writeln!(out, "{number} {prefix} metric {metric} tag {tag} own"),
+        Origin::Own => writeln!(out, "{name} {prefix} metric {metric} tag {tag} own"),
         Origin::Learned {
             iface,
             from,
             next_hop,
         } => writeln!(
             out,
-            "{number} {prefix} metric {metric} tag {tag} via {next_hop} iface {iface} from {from}"
+            "{name} {prefix} metric {metric} tag {tag} via {next_hop} iface {iface} from {from}"
         ),
     }
 }
@@ -189,13 +209,14 @@ fn print_route<W: Write>(
 /// Of the writer, or out of memory.
 pub fn print_sent<W: Write>(
     alloc: Global,
+    names: Names<'_>,
     lab: &Network,
     asked: Option<usize>,
     out: &mut W,
 ) -> io::Result<()> {
     for (number, sent) in lab.sent().iter().enumerate() {
         if asked.is_none_or(|asked| asked == number) {
-            print_datagram(alloc, number, sent, out)?;
+            print_datagram(alloc, names, number, sent, out)?;
         }
     }
     Ok(())
@@ -204,17 +225,108 @@ pub fn print_sent<W: Write>(
 /// Writes the line of a datagram.
 fn print_datagram<W: Write>(
     alloc: Global,
+    names: Names<'_>,
     number: usize,
     sent: &Sent,
     out: &mut W,
 ) -> io::Result<()> {
     let hex = hex::encode(alloc, sent.bytes.as_slice())?;
-    let Sent { router, iface, .. } = sent;
+    let router = names.of(sent.router);
+    let iface = sent.iface;
     match sent.to {
         Destination::Group => writeln!(out, "{number} router {router} iface {iface} group {hex}"),
         Destination::Peer { addr, port } => writeln!(
             out,
             "{number} router {router} iface {iface} peer {addr} {port} {hex}"
         ),
+    }
+}
+
+/// Writes the lines of a way.
+///
+/// # Errors
+/// Of the writer.
+pub fn print_way<W: Write>(names: Names<'_>, way: &Way, out: &mut W) -> io::Result<()> {
+    let (from, addr) = (names.of(way.router), way.addr);
+    write!(out, "{from} {addr} path {from}")?;
+    for hop in way.path.hops.iter() {
+        write!(out, " {}", names.of(hop.router))?;
+    }
+    match way.path.end {
+        PathEnd::Delivered => writeln!(out, " delivered")?,
+        PathEnd::NoRoute => writeln!(out, " no route")?,
+        PathEnd::NextHopIsNobodys => writeln!(out, " next hop is nobody's")?,
+        PathEnd::Loops { from } => writeln!(out, " loops from {}", names.of(from))?,
+    }
+    match way.obstacle {
+        Some(Obstacle::CutLink { router, link }) => {
+            let at = names.of(router);
+            writeln!(out, "{from} {addr} lost at {at}: link {link} is cut")
+        }
+        Some(Obstacle::SilentRouter { router }) => {
+            writeln!(out, "{from} {addr} lost at {}: silent", names.of(router))
+        }
+        None => Ok(()),
+    }
+}
+
+/// Writes the line of a router that has another horizon from now on.
+///
+/// # Errors
+/// Of the writer.
+pub fn print_horizon<W: Write>(
+    names: Names<'_>,
+    router: usize,
+    horizon: Horizon,
+    out: &mut W,
+) -> io::Result<()> {
+    let router = names.of(router);
+    let words = match horizon {
+        Horizon::Poison => "as RIPng, but nothing is promised",
+        _ => "not RIPng, nothing is promised",
+    };
+    writeln!(out, "{router} horizon {horizon}: {words}")
+}
+
+/// Writes what is not as a line expects, as it stands after `line L `, without the end of the line.
+///
+/// # Errors
+/// Of the writer.
+pub fn print_unmet<W: Write>(names: Names<'_>, unmet: &Unmet, out: &mut W) -> io::Result<()> {
+    match unmet {
+        Unmet::Metric { expected, found } => {
+            let Expected { router, prefix, .. } = expected;
+            write!(out, "expected {} {prefix} ", names.of(*router))?;
+            print_metric(expected.metric, out)?;
+            write!(out, " found ")?;
+            print_metric(*found, out)
+        }
+        Unmet::Fate {
+            router,
+            addr,
+            expected,
+            found,
+        } => {
+            let router = names.of(*router);
+            write!(
+                out,
+                "expected path {router} {addr} {expected} found {found}"
+            )
+        }
+        Unmet::Refusal { name, found } => {
+            write!(out, "expected refused {} found ", name.word())?;
+            match found {
+                Some(found) => write!(out, "refused {found}"),
+                None => write!(out, "done"),
+            }
+        }
+    }
+}
+
+/// Writes a metric, or `none`.
+fn print_metric<W: Write>(metric: Option<u8>, out: &mut W) -> io::Result<()> {
+    match metric {
+        Some(metric) => write!(out, "{metric}"),
+        None => write!(out, "none"),
     }
 }

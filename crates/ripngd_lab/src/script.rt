@@ -5,6 +5,7 @@ ghost use Rattle.ripng_world.specs.Labs.{LabValue};
 ghost use Rattle.ripngd_lab.specs.ScriptWatching.{HasTold, IsToldOfLab, IsToldUntil, has_failed, lab_in};
 
 use crate::forms::BadLine;
+use crate::named::{Names, names_of};
 use crate::printer::Printer;
 use crate::session::Session;
 use crate::stop::{Outcome, RefusalName, Stop, Unmet};
@@ -20,7 +21,9 @@ use std::str;
 /// # Errors
 /// `OutOfMemory` where memory was refused, else the fault of `out`. What earlier lines printed may have been written.
 pub fn lab<W: Write>(alloc: Global, script: &[u8], out: &mut W) -> io::Result<bool> {
-    watched(alloc, script, &mut Printer::new(alloc, out))
+    let names = names_of(alloc, script)?;
+    let mut printer = Printer::new(alloc, Names::new(&names), out);
+    watched(alloc, script, &mut printer)
 }
 
 /// Runs a script, line by line, and answers whether every line was done. The observer is notified of all that happens. The

@@ -5,16 +5,16 @@ ghost use Rattle.ripngd_lab.specs.Asides.{Broken};
 ghost use Rattle.ripngd_lab.specs.ScriptWatching.{HasTold, StartsAt, has_failed, lab_in};
 
 use crate::context::Context;
-use crate::course::{Course, act};
+use crate::course::{Course, act, check_router};
 use crate::forms::{Action, BadLine, Listed, Verb};
 use crate::line::{Line, read_line};
 use crate::listing::list;
-use crate::moving::lie_at;
+use crate::moving::lie;
 use crate::phase::latest_moment;
 use crate::printer::Ending;
 use crate::site::{Routes, Site};
 use crate::stop::{Outcome, Refusal, RefusalName, Stop};
-use crate::watching::Watch;
+use crate::watching::{Notice, Watch};
 use ripng_world::{Lab, NetConfig, Node};
 use route_table::Moment;
 use router_core::Arrival;
@@ -106,6 +106,7 @@ impl Session {
             Verb::List(listed) => self.list(alloc, listed, line),
             Verb::Start => self.start(alloc, line.now, watch),
             Verb::Forge => self.deceive(alloc, line, watch),
+            Verb::Bend => self.bend(alloc, line, watch),
             Verb::Act(action) => self.act(action, line, watch),
         }
     }
@@ -158,7 +159,7 @@ impl Session {
         self.check_lie(line.router, &arrival)?;
         self.give_up(alloc);
         match &mut self.stage {
-            Stage::Running(site) => lie_at(site, line.router, &arrival, watch),
+            Stage::Running(site) => lie(site, line.router, arrival, None, watch),
             Stage::Listing(_) => Err(Stop::from(BadLine::BeforeStart)),
         }
     }
@@ -167,6 +168,29 @@ impl Session {
     fn check_lie(&self, router: usize, arrival: &Arrival<'_>) -> Outcome {
         match &self.stage {
             Stage::Running(site) => Ok(site.running().check_lie(router, arrival)?),
+            Stage::Listing(_) => Err(Stop::from(BadLine::BeforeStart)),
+        }
+    }
+
+    /// A router has another horizon from now on, and the network is verified no longer.
+    fn bend<V: Watch>(&mut self, alloc: Global, line: &Line<'_>, watch: &mut V) -> Outcome
+        ensures { HasTold result V.starts V.takes V.fails V.notes (lab_in self.old.stage, watch.old) (lab_in self.new.stage, watch.new) }
+    {
+        let Line {
+            router,
+            horizon,
+            ..
+        } = *line;
+        self.check_router(router)?;
+        self.give_up(alloc);
+        self.course.horizons.set(router, horizon)?;
+        Ok(watch.noticed(Notice::Horizon { router, horizon })?)
+    }
+
+    /// Whether the routers run, and there is such a router.
+    fn check_router(&self, router: usize) -> Outcome {
+        match &self.stage {
+            Stage::Running(site) => check_router(site.running(), Some(router)),
             Stage::Listing(_) => Err(Stop::from(BadLine::BeforeStart)),
         }
     }

@@ -34,7 +34,7 @@ pub enum Refusal {
     Phases { phase: usize, refused: PhaseRefused },
 }
 
-/// What is not as a line expects. Its text is what is printed after `line L `.
+/// What is not as a line expects.
 #[derive(Clone, Copy, Debug, PartialEq, Eq)]
 pub enum Unmet {
     /// A router's table has another metric, or no route.
@@ -170,41 +170,6 @@ impl fmt::Display for Refusal {
             Refusal::Phases { phase, .. } => write!(f, " {phase}"),
             _ => Ok(()),
         }
-    }
-}
-
-impl fmt::Display for Unmet {
-    fn fmt<W: fmt::Write>(&self, f: &mut fmt::Formatter<W>) -> fmt::Result {
-        match self {
-            Unmet::Metric { expected, found } => {
-                let Expected { router, prefix, .. } = expected;
-                write!(f, "expected {router} {prefix} ")?;
-                write_metric(expected.metric, f)?;
-                write!(f, " found ")?;
-                write_metric(*found, f)
-            }
-            Unmet::Fate {
-                router,
-                addr,
-                expected,
-                found,
-            } => write!(f, "expected path {router} {addr} {expected} found {found}"),
-            Unmet::Refusal { name, found } => {
-                write!(f, "expected refused {} found ", name.word())?;
-                match found {
-                    Some(found) => write!(f, "refused {found}"),
-                    None => write!(f, "done"),
-                }
-            }
-        }
-    }
-}
-
-/// A metric, or `none`.
-fn write_metric<W: fmt::Write>(metric: Option<u8>, f: &mut fmt::Formatter<W>) -> fmt::Result {
-    match metric {
-        Some(metric) => write!(f, "{metric}"),
-        None => write!(f, "none"),
     }
 }
 

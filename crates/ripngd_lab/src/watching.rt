@@ -1,18 +1,20 @@
 //! The observer of a script.
 
 ghost use Rattle.std.specs.Prelude.{ℕ, OnErr, OnOk};
+ghost use Rattle.ripng_world.specs.Events.{event_of};
 ghost use Rattle.ripng_world.specs.Labs.{LabValue};
-ghost use Rattle.ripng_world.specs.World.{Stranger};
 ghost use Rattle.ripngd_lab.specs.Asides.{Aside, Broken, Lie, NextLine};
 ghost use Rattle.ripngd_lab.specs.Notices.{aside_of};
 
+use crate::horizon::Horizon;
 use crate::phase::MadePhases;
 use crate::printer::{Choice, Ending};
 use crate::site::{Network, Routes};
 use crate::stop::Unmet;
 use crate::ways::Way;
+use ripng_world::Event;
 use route_table::Moment;
-use router_core::{Answer, Arrival};
+use router_core::Answer;
 use std::io;
 
 /// What a line did, beside events.
@@ -26,6 +28,8 @@ pub enum Notice<'a> {
     Way(Way),
     /// `say`: its text.
     Said(&'a str),
+    /// `horizon`: a router has another one from now on.
+    Horizon { router: usize, horizon: Horizon },
     /// `lose`: the datagram of this number is lost.
     Lost(usize),
     /// `rounds`: so many were made.
@@ -58,17 +62,18 @@ pub trait Watch: ripng_world::Observer<Routes, Fault = io::Error> {
         ensures starts { OnOk result (starts self.old lab.now now self.new) }
         ensures broken { OnErr result (notes self.old Broken self.new) };
 
-    /// The line `liar`: a forged Response came to a router, and left the network like this. The answer is that of the router; its sends are the
-    /// datagrams from the number `first` on, and are not in the answer.
+    /// A forged Response came, as the datagram of an outside host, and left the network like this. The answer is that of the router; its
+    /// sends are the datagrams from the number `first` on, and are not in the answer. It came by a line `liar`, or from the router
+    /// `sender`, which is no router of RIPng.
     fn lied(
         &mut self,
         running: &Network,
-        router: usize,
-        arrival: &Arrival<'_>,
+        event: &Event<'_>,
         answer: &Answer,
         first: usize,
+        sender: Option<usize>,
     ) -> io::Result<()>
-        ensures notes { OnOk result (notes self.old (Lie (record { lab = running.now; event = Stranger router arrival.entry.now; answer = answer.now; first = first })) self.new) }
+        ensures notes { OnOk result (notes self.old (Lie (record { lab = running.now; event = event_of event.entry.now; answer = answer.now; first = first })) self.new) }
         ensures broken { OnErr result (notes self.old Broken self.new) };
 
     /// A line did this, beside events.

@@ -115,28 +115,3 @@ fn cut_at(lab: &Network, outages: &Outages, router: usize, iface: usize) -> Opti
         None
     }
 }
-
-impl fmt::Display for Way {
-    fn fmt<W: fmt::Write>(&self, f: &mut fmt::Formatter<W>) -> fmt::Result {
-        let Way { router, addr, .. } = self;
-        write!(f, "{router} {addr} path {router}")?;
-        for hop in self.path.hops.iter() {
-            write!(f, " {}", hop.router)?;
-        }
-        match self.path.end {
-            PathEnd::Delivered => write!(f, " delivered")?,
-            PathEnd::NoRoute => write!(f, " no route")?,
-            PathEnd::NextHopIsNobodys => write!(f, " next hop is nobody's")?,
-            PathEnd::Loops { from } => write!(f, " loops from {from}")?,
-        }
-        match self.obstacle {
-            Some(Obstacle::CutLink { router: at, link }) => {
-                write!(f, "\n{router} {addr} lost at {at}: link {link} is cut")
-            }
-            Some(Obstacle::SilentRouter { router: at }) => {
-                write!(f, "\n{router} {addr} lost at {at}: silent")
-            }
-            None => Ok(()),
-        }
-    }
-}

@@ -2,6 +2,7 @@
 
 use crate::context::number;
 use crate::forms::Wrong;
+use crate::horizon::Horizon;
 use crate::ways::Fate;
 use prefix6::{Prefix, parse_prefix};
 use route_table::INFINITY;
@@ -54,6 +55,16 @@ pub fn fate(word: &str) -> Result<Fate, Wrong> {
         "arrives" => Ok(Fate::Arrives),
         "loops" => Ok(Fate::Loops),
         "lost" => Ok(Fate::Lost),
+        _ => Err(Wrong::Differs),
+    }
+}
+
+/// What a router advertises on the link on which it learned a route.
+pub fn horizon(word: &str) -> Result<Horizon, Wrong> {
+    match word {
+        "none" => Ok(Horizon::None),
+        "split" => Ok(Horizon::Split),
+        "poison" => Ok(Horizon::Poison),
         _ => Err(Wrong::Differs),
     }
 }

@@ -65,7 +65,7 @@ HappensIn lab e answer lab' = (lab'.network ≡ lab.network) × Happens lab.netw
 
 -- the word of a record of what a line prints
 abbrev pub IsPrintWord : List ℕ → Type 0
-IsPrintWord word = (word ≡ codes "print") ⊎ ((word ≡ codes "sent") ⊎ ((word ≡ codes "say") ⊎ (word ≡ codes "path")))
+IsPrintWord word = (word ≡ codes "print") ⊎ ((word ≡ codes "sent") ⊎ ((word ≡ codes "say") ⊎ ((word ≡ codes "path") ⊎ (word ≡ codes "horizon"))))
 
 abbrev pub HasWord : Action → Type 0
 HasWord (Prints word lines text) = IsPrintWord word.now

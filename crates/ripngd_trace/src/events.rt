@@ -15,7 +15,7 @@ use prefix6::Prefix;
 use ripng_world::{Event, Running};
 use ripngd_lab::addr_at;
 use route_table::{Moment, RouteStore};
-use router_core::{Arrival, Router, RouterConfig};
+use router_core::{Router, RouterConfig};
 use std::alloc::{AllocError, Global};
 
 /// The moment of an event.
@@ -31,21 +31,6 @@ pub fn moment_of(event: &Event<'_>) -> Moment
         | Event::LinkDown { now, .. }
         | Event::LinkUp { now, .. }
         | Event::Reconfigure { now, .. } => *now,
-    }
-}
-
-/// A copy of an arrival.
-pub fn again<'a>(arrival: &Arrival<'a>) -> Arrival<'a>
-    ensures { result ≡ arrival.entry.now }
-{
-    Arrival {
-        now: arrival.now,
-        iface: arrival.iface,
-        source: arrival.source,
-        source_port: arrival.source_port,
-        hop_limit: arrival.hop_limit,
-        to_group: arrival.to_group,
-        bytes: arrival.bytes,
     }
 }
 

@@ -9,7 +9,7 @@ ghost use Rattle.ripngd_trace.specs.Starting.{AreTold, TellsRouter};
 
 use crate::events::{interface_records, moment_of, owned_by, sender_at, sent_since, update_of};
 use crate::offers::offers_of;
-use crate::records::{EventRecord, Happened, RouterRecord, StartRecord, Timers};
+use crate::records::{EventRecord, Happened, RouterRecord, StartRecord, Telling, Timers};
 use crate::tables::{News, news_of, timers_in, timers_of};
 use ripng_world::{Event, Running};
 use ripngd_lab::Routes;
@@ -29,8 +29,7 @@ pub struct KnownRouter {
 #[derive(Drop)]
 pub struct Known<'a> {
     pub alloc: Global,
-    /// The name of each router, or nothing, where they are told.
-    names: Option<&'a [&'a str]>,
+    pub telling: Telling<'a>,
     /// The number of the line.
     pub line: usize,
     routers: Vec<KnownRouter>,
@@ -65,12 +64,12 @@ fn learn_of(
 
 impl<'a> Known<'a> {
     /// At no line yet, and of no router.
-    pub fn new(alloc: Global, names: Option<&'a [&'a str]>) -> Known<'a>
+    pub fn new(alloc: Global, telling: Telling<'a>) -> Known<'a>
         ensures { result.routers.items ≡ [] }
     {
         Known {
             alloc,
-            names,
+            telling,
             line: 0,
             routers: Vec::new(alloc),
         }
@@ -152,7 +151,7 @@ impl<'a> Known<'a> {
         }
     }
 
-    /// An event that was done; a forged Response comes as the datagram of an outside host.
+    /// An event that was done; a forged Response comes as the datagram of an outside host, and may be that of a router, `forger`.
     ///
     /// # Errors
     /// Out of memory.
@@ -163,6 +162,7 @@ impl<'a> Known<'a> {
         is_forged: bool,
         answer: &'e Answer,
         first: usize,
+        forger: Option<usize>,
     ) -> Result<EventRecord<'e, 'b>, AllocError>
     where
         'a: 'e,
@@ -178,9 +178,10 @@ impl<'a> Known<'a> {
             router,
             now: moment_of(event).ms(),
             happened: Happened {
-                names: self.names,
+                telling: self.telling,
                 event,
                 is_forged,
+                forger,
                 sender: sender_at(lab, event),
             },
             answer,

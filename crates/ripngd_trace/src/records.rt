@@ -3,6 +3,7 @@
 
 use prefix6::{Addr6, Prefix};
 use ripng_world::{Event, Sent};
+use ripngd_lab::Names;
 use route_table::{Deadline, Route};
 use router_core::{Answer, Reason};
 
@@ -61,14 +62,23 @@ pub struct EventRecord<'a, 'b> {
     pub gone: Vec<Prefix>,
 }
 
+/// How records are told in English.
+#[derive(Clone, Copy)]
+pub struct Telling<'a> {
+    pub names: Names<'a>,
+    /// Whether nothing is said of ticks and arrivals that change no forwarding table.
+    pub changes_only: bool,
+}
+
 /// What happened, and from where.
 #[derive(Clone, Copy)]
 pub struct Happened<'a, 'b> {
-    /// The name of each router, or nothing, where they are told.
-    pub names: Option<&'a [&'a str]>,
+    pub telling: Telling<'a>,
     pub event: &'a Event<'b>,
     /// Whether the outside host of the event forges a Response, which the router takes for a neighbor's.
     pub is_forged: bool,
+    /// The router from which it comes, if it is one, which is then none of RIPng.
+    pub forger: Option<usize>,
     /// The router that sent the datagram of a delivery.
     pub sender: Option<SenderRecord>,
 }

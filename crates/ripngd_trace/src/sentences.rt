@@ -1,28 +1,32 @@
 //! What the records say, in English: lines, of which each part is one of a record's members.
 
 use crate::records::{
-    Action, AsideRecord, EventRecord, Happened, OfferRecord, SentRecord, StartRecord, UpdateRecord,
+    Action, AsideRecord, EventRecord, Happened, OfferRecord, SentRecord, StartRecord, Telling,
+    UpdateRecord,
 };
 use fib::{Hop, RouteChange};
 use prefix6::{Addr6, Prefix};
 use ripng_wire::{Command, Rtes, decode};
 use ripng_world::Event;
-use ripngd_lab::MadePhases;
-use router_core::{Change, Note, Reason};
+use ripngd_lab::{MadePhases, Named};
+use router_core::{Arrival, Change, Note, Reason};
 use std::fmt::{self, Display, Formatter, Write};
 
-/// A router, by its name if it has one.
+/// A router, by its name if it has one, or as `R0`.
 #[derive(Clone, Copy)]
-struct Named<'a>(Option<&'a [&'a str]>, usize);
+struct Told<'a>(Named<'a>);
 
-impl<'a> Display for Named<'a> {
+impl<'a> Told<'a> {
+    fn of(telling: Telling<'a>, router: usize) -> Told<'a> {
+        Told(telling.names.of(router))
+    }
+}
+
+impl<'a> Display for Told<'a> {
     fn fmt<W: Write>(&self, f: &mut Formatter<W>) -> fmt::Result {
-        let Some(names) = self.0 else {
-            return write!(f, "R{}", self.1);
-        };
-        match names.get(self.1) {
-            Some(name) if !name.is_empty() => f.write_str(*name),
-            _ => write!(f, "R{}", self.1),
+        match self.0.name {
+            Some(name) => f.write_str(name),
+            None => write!(f, "R{}", self.0.router),
         }
     }
 }
@@ -50,22 +54,11 @@ impl<'a, 'b> Display for Happened<'a, 'b> {
             } => {
                 write!(f, "hears datagram {datagram}")?;
                 if let Some(sender) = self.sender {
-                    write!(f, " of {}", Named(self.names, sender.router))?;
+                    write!(f, " of {}", Told::of(self.telling, sender.router))?;
                 }
                 write!(f, " on interface {iface}")
             }
-            Event::Stranger { arrival, .. } => {
-                let hears = if self.is_forged {
-                    "believes a lie of"
-                } else {
-                    "hears the stranger"
-                };
-                write!(
-                    f,
-                    "{hears} {} on interface {}",
-                    arrival.source, arrival.iface
-                )
-            }
+            Event::Stranger { arrival, .. } => self.write_stranger(arrival, f),
             Event::Tick { .. } => f.write_str("looks at its timers"),
             Event::Restart { .. } => f.write_str("starts again"),
             Event::Shutdown { .. } => f.write_str("shuts down"),
@@ -76,6 +69,33 @@ impl<'a, 'b> Display for Happened<'a, 'b> {
             Event::LinkUp { iface, .. } => write!(f, "sees the link of interface {iface} come up"),
             Event::Reconfigure { change, .. } => write_reconfigured(change, f),
         }
+    }
+}
+
+impl<'a, 'b> Happened<'a, 'b> {
+    /// Writes the arrival of an outside host's datagram, of a forged Response, or of what a router sent that is none of RIPng.
+    fn write_stranger<W: Write>(&self, arrival: &Arrival<'_>, f: &mut Formatter<W>) -> fmt::Result {
+        let Arrival { source, iface, .. } = arrival;
+        if let Some(forger) = self.forger {
+            let forger = Told::of(self.telling, forger);
+            write!(
+                f,
+                "hears {forger}, which is not RIPng, on interface {iface}"
+            )?;
+            return write_message(arrival.bytes, f);
+        }
+        if self.is_forged {
+            return write!(f, "believes a lie of {source} on interface {iface}");
+        }
+        write!(f, "hears the stranger {source} on interface {iface}")
+    }
+
+    /// Whether it is a tick or an arrival.
+    fn is_moving(&self) -> bool {
+        matches!(
+            self.event,
+            Event::Deliver { .. } | Event::Stranger { .. } | Event::Tick { .. }
+        )
     }
 }
 
@@ -147,7 +167,7 @@ fn write_changes<W: Write>(changes: &[RouteChange], f: &mut Formatter<W>) -> fmt
     Ok(())
 }
 
-/// The datagrams that were sent: of a Response each entry, with its metric.
+/// The datagrams that were sent, and what they say.
 fn write_sent<W: Write>(sent: &[SentRecord<'_>], f: &mut Formatter<W>) -> fmt::Result {
     for SentRecord { datagram, sent } in sent {
         write!(
@@ -155,16 +175,20 @@ fn write_sent<W: Write>(sent: &[SentRecord<'_>], f: &mut Formatter<W>) -> fmt::R
             "; datagram {datagram} is sent on interface {}",
             sent.iface
         )?;
-        let Ok(message) = decode(sent.bytes.as_slice()) else {
-            continue;
-        };
-        if message.command() == Command::Request {
-            f.write_str(": a Request")?;
-            continue;
-        }
-        write_entries(message.entries(), f)?;
+        write_message(sent.bytes.as_slice(), f)?;
     }
     Ok(())
+}
+
+/// What a datagram says: of a Response each entry, with its metric.
+fn write_message<W: Write>(bytes: &[u8], f: &mut Formatter<W>) -> fmt::Result {
+    let Ok(message) = decode(bytes) else {
+        return Ok(());
+    };
+    if message.command() == Command::Request {
+        return f.write_str(": a Request");
+    }
+    write_entries(message.entries(), f)
 }
 
 fn write_entries<W: Write>(entries: Rtes<'_>, f: &mut Formatter<W>) -> fmt::Result {
@@ -195,15 +219,28 @@ fn write_gone<W: Write>(gone: &[Prefix], f: &mut Formatter<W>) -> fmt::Result {
     Ok(())
 }
 
+impl<'a, 'b> EventRecord<'a, 'b> {
+    /// Whether nothing is said of it.
+    fn is_passed_over(&self) -> bool {
+        self.happened.telling.changes_only
+            && self.happened.is_moving()
+            && self.answer.changes.as_slice().is_empty()
+            && self.gone.is_empty()
+    }
+}
+
 impl<'a, 'b> Display for EventRecord<'a, 'b> {
     fn fmt<W: Write>(&self, f: &mut Formatter<W>) -> fmt::Result {
+        if self.is_passed_over() {
+            return Ok(());
+        }
         write!(
             f,
             "line {}: {}.{:03} s {} {}",
             self.line,
             self.now / 1000,
             self.now % 1000,
-            Named(self.happened.names, self.router),
+            Told::of(self.happened.telling, self.router),
             self.happened
         )?;
         if let Some(fault) = self.answer.fault {
@@ -217,7 +254,7 @@ impl<'a, 'b> Display for EventRecord<'a, 'b> {
         write_changes(self.answer.changes.as_slice(), f)?;
         write_gone(&self.gone, f)?;
         write_sent(&self.sent, f)?;
-        if self.happened.is_forged {
+        if self.happened.is_forged && self.happened.forger.is_none() {
             f.write_str("; from here on nothing is promised")?;
         }
         f.write_str("\n")

@@ -7,16 +7,16 @@ ghost use Rattle.ripngd_lab.specs.Asides.{Broken, Prints};
 ghost use Rattle.ripngd_trace.specs.Reading.{IsPrintWord, IsTraced, IsTracedUntil};
 ghost use Rattle.ripngd_trace.specs.Saying.{BreaksOff, SameOutput, SaysAlone, SaysAside, SaysEvent, SaysMove, SaysStart, said_by};
 
-use crate::events::again;
 use crate::known::Known;
-use crate::records::{Action, AsideRecord, HintRecord};
+use crate::records::{Action, AsideRecord, HintRecord, Telling};
 use crate::writing::{Form, write_record};
 use ripng_world::{Event, Running};
 use ripngd_lab::{
-    Ending, MadePhases, Notice, Routes, Watch, hint_of, names_of, print_routes, print_sent, watched,
+    Ending, MadePhases, Names, Notice, Routes, Watch, hint_of, names_of, print_horizon,
+    print_routes, print_sent, print_unmet, print_way, watched,
 };
 use route_table::Moment;
-use router_core::{Answer, Arrival};
+use router_core::Answer;
 use std::alloc::{AllocError, Global};
 use std::io::{self, Write};
 use std::str;
@@ -31,7 +31,15 @@ pub fn trace<W: Write>(alloc: Global, script: &[u8], out: &mut W) -> io::Result<
     ensures traced { OnOk result ((lab : Option LabValue) × IsTraced (W.contents out.old) lab (W.contents out.new)) }
     ensures traced_until { OnErr result ((lab : Option LabValue) × IsTracedUntil (W.contents out.old) lab (W.contents out.new)) }
 {
-    let mut tracer = Tracer::new(alloc, script, Form::Json, None, out);
+    let names = match names_of(alloc, script) {
+        Ok(names) => names,
+        Err(error) => return Err(io::Error::from(error)),
+    };
+    let telling = Telling {
+        names: Names::new(&names),
+        changes_only: false,
+    };
+    let mut tracer = Tracer::new(alloc, script, Form::Json, telling, out);
     let outcome = watched(alloc, script, &mut tracer);
     let Tracer {
         script: _,
@@ -48,14 +56,24 @@ pub fn trace<W: Write>(alloc: Global, script: &[u8], out: &mut W) -> io::Result<
 }
 
 /// Runs a script as [`ripngd_lab::lab`] does, and returns whether every line was done. Beside what its lines print, a line of
-/// English is written to `out` for the cold start and for each event: what a router received, what it did, and why.
+/// English is written to `out` for the cold start and for each event: what a router received, what it did, and why; with `changes_only`,
+/// not of ticks and arrivals that change no forwarding table.
 /// docs/SCRIPTS.md has its parts. They say what [`trace`] has in its records.
 ///
 /// # Errors
 /// `OutOfMemory` where memory ran out, else the error of `out`.
-pub fn explain<W: Write>(alloc: Global, script: &[u8], out: &mut W) -> io::Result<bool> {
+pub fn explain<W: Write>(
+    alloc: Global,
+    script: &[u8],
+    changes_only: bool,
+    out: &mut W,
+) -> io::Result<bool> {
     let names = names_of(alloc, script)?;
-    let mut tracer = Tracer::new(alloc, script, Form::English, Some(names.as_slice()), out);
+    let telling = Telling {
+        names: Names::new(&names),
+        changes_only,
+    };
+    let mut tracer = Tracer::new(alloc, script, Form::English, telling, out);
     watched(alloc, script, &mut tracer)
 }
 
@@ -79,7 +97,7 @@ impl<'a, W: Write> Tracer<'a, W> {
         alloc: Global,
         script: &'a [u8],
         form: Form,
-        names: Option<&'a [&'a str]>,
+        telling: Telling<'a>,
         out: &'a mut W,
     ) -> Tracer<'a, W>
         ensures known { result.known.routers.items ≡ [] }
@@ -91,13 +109,13 @@ impl<'a, W: Write> Tracer<'a, W> {
             script,
             ticks: 0,
             ticks_at_change: 0,
-            known: Known::new(alloc, names),
+            known: Known::new(alloc, telling),
             form,
             out,
         }
     }
 
-    /// Reports an event that was done, or a forged Response, which comes as the datagram of an outside host.
+    /// Reports an event that was done, or a forged Response, which comes as the datagram of an outside host, or of the router `forger`.
     fn report(
         &mut self,
         lab: &Running<Routes>,
@@ -105,13 +123,14 @@ impl<'a, W: Write> Tracer<'a, W> {
         is_forged: bool,
         answer: &Answer,
         first: usize,
+        forger: Option<usize>,
     ) -> io::Result<()>
         ensures whole { OnOk result (SaysMove is_forged (said_by W.contents self.old) (record { lab = lab.now; event = event_of event.entry.now; answer = answer.now; first = first }) (said_by W.contents self.new) × SameOutput self.old self.new) }
         ensures broken { OnErr result (SaysAside (said_by W.contents self.old) Broken (said_by W.contents self.new) × SameOutput self.old self.new) }
     {
         let record = self
             .known
-            .event_record(lab, event, is_forged, answer, first)?;
+            .event_record(lab, event, is_forged, answer, first, forger)?;
         let is_tick = matches!(event, Event::Tick { .. });
         self.ticks = self.ticks.saturating_add(usize::from(is_tick));
         let changes = answer
@@ -177,7 +196,7 @@ impl<'a, W: Write> ripng_world::Observer<Routes> for Tracer<'a, W> {
         answer: &Answer,
         first: usize,
     ) -> io::Result<()> {
-        self.report(lab, event, false, answer, first)
+        self.report(lab, event, false, answer, first, None)
     }
 }
 
@@ -200,32 +219,33 @@ impl<'a, W: Write> Watch for Tracer<'a, W> {
     fn lied(
         &mut self,
         running: &Running<Routes>,
-        router: usize,
-        arrival: &Arrival<'_>,
+        event: &Event<'_>,
         answer: &Answer,
         first: usize,
+        sender: Option<usize>,
     ) -> io::Result<()> {
-        let event = Event::Stranger {
-            router,
-            arrival: again(arrival),
-        };
-        self.report(running, &event, true, answer, first)
+        self.report(running, event, true, answer, first, sender)
     }
 
     fn noticed(&mut self, notice: Notice<'_>) -> io::Result<()> {
         let mut prints = Vec::new(self.known.alloc);
+        let names = self.known.telling.names;
         match notice {
             Notice::Routes(lab, choice) => {
-                print_routes(lab, &choice, &mut prints)?;
+                print_routes(names, lab, &choice, &mut prints)?;
                 self.report_prints("print", &prints)
             }
             Notice::Datagrams(lab, asked) => {
-                print_sent(self.known.alloc, lab, asked, &mut prints)?;
+                print_sent(self.known.alloc, names, lab, asked, &mut prints)?;
                 self.report_prints("sent", &prints)
             }
             Notice::Way(way) => {
-                writeln!(prints, "{way}")?;
+                print_way(names, &way, &mut prints)?;
                 self.report_prints("path", &prints)
+            }
+            Notice::Horizon { router, horizon } => {
+                print_horizon(names, router, horizon, &mut prints)?;
+                self.report_prints("horizon", &prints)
             }
             Notice::Said(text) => {
                 writeln!(prints, "{text}")?;
@@ -246,8 +266,9 @@ impl<'a, W: Write> Watch for Tracer<'a, W> {
                 self.report_action(Action::Ends { how, why, hint })
             }
             Notice::Unmet(unmet) => {
-                let why = format!(in self.known.alloc; "{unmet}")?;
-                let (how, why, hint) = ("", why.as_str(), None);
+                print_unmet(names, &unmet, &mut prints)?;
+                let why = str::from_utf8(&prints).unwrap_or("");
+                let (how, hint) = ("", None);
                 self.report_action(Action::Ends { how, why, hint })
             }
         }

@@ -30,6 +30,12 @@ returns-in-Explain-clause-answered g c = rw c.in-Explain.is c.explain_file.ensur
 pub returns-in-Explain-clause-failed : goal.returns-in-Explain-clause-failed
 returns-in-Explain-clause-failed g c = rw c.in-Explain.is c.explain_file.ensures.failed
 
+pub returns-in-Changes-clause-answered : goal.returns-in-Changes-clause-answered
+returns-in-Changes-clause-answered g c = rw c.in-Changes.is c.changes_file.ensures.answered
+
+pub returns-in-Changes-clause-failed : goal.returns-in-Changes-clause-failed
+returns-in-Changes-clause-failed g c = rw c.in-Changes.is c.changes_file.ensures.failed
+
 pub returns-in-Run-clause-answered : goal.returns-in-Run-clause-answered
 returns-in-Run-clause-answered g c = rw c.in-Run.is c.run.ensures.ran
 

@@ -3,13 +3,28 @@ use Rattle.clap.specs.Simple.{new_app}
 use Rattle.ripngd_command_line.specs.CommandLine.{IsArg, IsCommand, by_name, flag, required}
 use Rattle.ripngd_command_line.proofs.Commands.{arg_added, arg_added_ok}
 use Rattle.ripngd_command_line.proofs.subcommands.lab.Goals as goal
+use Rattle.ripngd_command_line.proofs.subcommands.lab.Goals.{After-after_help, After-arg, After-arg-3, After-arg-5, After-arg-7}
+
+begun_is : (c : After-after_help) → IsCommand c.after_help.result (new_app (codes "lab"))
+begun_is c = record { app_is = search rules; local = search rules }
+
+trace_is : (c : After-arg) → IsArg c.arg.result (flag (by_name (codes "trace")))
+trace_is c = record { rule_is = search rules; local = search rules }
+
+explain_is : (c : After-arg-3) → IsArg c.arg-3.result (flag (by_name (codes "explain")))
+explain_is c = record { rule_is = search rules; local = search rules }
+
+changes_is : (c : After-arg-5) → IsArg c.arg-5.result (flag (by_name (codes "changes")))
+changes_is c = record { rule_is = search rules; local = search rules }
+
+script_is : (c : After-arg-7) → IsArg c.arg-7.result (required (codes "SCRIPT"))
+script_is c = record { rule_is = search rules; local = search rules }
 
 pub returns : goal.returns
 returns c =
-    let trace : IsArg c.arg.result (flag (by_name (codes "trace"))) = record { rule_is = search rules; local = search rules } in
-    let explain : IsArg c.arg-3.result (flag (by_name (codes "explain"))) = record { rule_is = search rules; local = search rules } in
-    let script : IsArg c.arg-5.result (required (codes "SCRIPT")) = record { rule_is = search rules; local = search rules } in
-    let s0 : IsCommand c.after_help.result (new_app (codes "lab")) = record { app_is = search rules; local = search rules } in
-    let s1 = arg_added _ _ _ _ _ c.in_ok-arg.ensures trace s0 in
-    let s2 = arg_added _ _ _ _ _ c.in_ok-arg-2.ensures explain s1 in
-    arg_added_ok _ _ _ _ c.arg-6.result c.arg-6.ensures script s2
+    let at = goal.at.returns c in
+    let s0 = begun_is at.After-after_help in
+    let s1 = arg_added _ _ _ _ _ c.in_ok-arg.ensures (trace_is at.After-arg) s0 in
+    let s2 = arg_added _ _ _ _ _ c.in_ok-arg-2.ensures (explain_is at.After-arg-3) s1 in
+    let s3 = arg_added _ _ _ _ _ c.in_ok-arg-3.ensures (changes_is at.After-arg-5) s2 in
+    arg_added_ok _ _ _ _ c.arg-8.result c.arg-8.ensures (script_is at.After-arg-7) s3

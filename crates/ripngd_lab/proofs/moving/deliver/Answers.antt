@@ -6,6 +6,10 @@ pub returns-in_err-check_lost : goal.returns-in_err-check_lost
 returns-in_err-check_lost g c =
     has_told g.V.Watch.starts g.V.Observer.takes g.V.Observer.fails g.V.Watch.notes c.from_residual.result (Some c.args.site.now, c.args.watch.now) (Some c.args.site.now, c.args.watch.now) (untold g.V.Watch.starts g.V.Observer.takes g.V.Observer.fails g.V.Watch.notes (Some c.args.site.now, c.args.watch.now))
 
+pub returns-in_err-adverts : goal.returns-in_err-adverts
+returns-in_err-adverts g c =
+    has_told g.V.Watch.starts g.V.Observer.takes g.V.Observer.fails g.V.Watch.notes c.from_residual-in_err-adverts.result (Some c.args.site.now, c.args.watch.now) (Some c.args.site.now, c.args.watch.now) (untold g.V.Watch.starts g.V.Observer.takes g.V.Observer.fails g.V.Watch.notes (Some c.args.site.now, c.args.watch.now))
+
 pub loop-datagram-init : goal.loop-datagram-init
 loop-datagram-init g c =
     untold g.V.Watch.starts g.V.Observer.takes g.V.Observer.fails g.V.Watch.notes (Some c.args.site.now, c.args.watch.now)

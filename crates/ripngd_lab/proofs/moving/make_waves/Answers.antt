@@ -1,5 +1,5 @@
 use Rattle.std.proofs.Common.{Some}
-use Rattle.ripngd_lab.proofs.ScriptWatching.{untold, told_on, has_told, handed_on}
+use Rattle.ripngd_lab.proofs.ScriptWatching.{untold, told_on, handed_on}
 use Rattle.ripngd_lab.proofs.moving.make_waves.Goals as goal
 
 pub loop-round-init : goal.loop-round-init

@@ -10,13 +10,13 @@ pub returns-in_err-check : goal.returns-in_err-check
 returns-in_err-check g c =
     has_told g.V.Watch.starts g.V.Observer.takes g.V.Observer.fails g.V.Watch.notes c.from_residual.result (Some c.args.site.now, c.args.watch.now) (Some c.loop-event.site, c.loop-event.watch) c.loop-event.invariant
 
-pub returns-in_err-step : goal.returns-in_err-step
-returns-in_err-step g c =
-    handed_on g.V.Watch.starts g.V.Observer.takes g.V.Observer.fails g.V.Watch.notes c.from_residual-in_err-step.result c.in_err-step.field-0.0 (Some c.args.site.now, c.args.watch.now) (Some c.loop-event.site, c.loop-event.watch) (Some c.step.new.lab, c.step.new.watch) c.from_residual-in_err-step.ensures.1 c.loop-event.invariant c.in_err-step.ensures
+pub returns-in_err-bring : goal.returns-in_err-bring
+returns-in_err-bring g c =
+    handed_on g.V.Watch.starts g.V.Observer.takes g.V.Observer.fails g.V.Watch.notes c.from_residual-in_err-bring.result c.in_err-bring.field-0.0 (Some c.args.site.now, c.args.watch.now) (Some c.loop-event.site, c.loop-event.watch) (Some c.bring.new.site, c.bring.new.watch) c.from_residual-in_err-bring.ensures.1 c.loop-event.invariant c.in_err-bring.ensures
 
 pub loop-event-preserved : goal.loop-event-preserved
 loop-event-preserved g c =
-    told_on g.V.Watch.starts g.V.Observer.takes g.V.Observer.fails g.V.Watch.notes (Some c.args.site.now, c.args.watch.now) (Some c.loop-event.site, c.loop-event.watch) (Some c.step.new.lab, c.step.new.watch) c.loop-event.invariant c.in_ok-step.ensures
+    told_on g.V.Watch.starts g.V.Observer.takes g.V.Observer.fails g.V.Watch.notes (Some c.args.site.now, c.args.watch.now) (Some c.loop-event.site, c.loop-event.watch) (Some c.bring.new.site, c.bring.new.watch) c.loop-event.invariant c.in_ok-bring.ensures
 
 pub returns : goal.returns
 returns g c =

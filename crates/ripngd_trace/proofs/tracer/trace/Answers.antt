@@ -1,7 +1,10 @@
-use Rattle.std.proofs.Common.{rules}
+use Rattle.std.proofs.Common.{[], None, inl, refl, rules}
 use Rattle.ripngd_trace.proofs.Reading.{on_err, on_ok}
 use Rattle.ripngd_trace.proofs.Tracing.{told_same, traced, traced_until, until_same}
 use Rattle.ripngd_trace.proofs.tracer.trace.Goals as goal
+
+pub returns-in-Err-clause-traced_until : goal.returns-in-Err-clause-traced_until
+returns-in-Err-clause-traced_until g c = (None, (None, g.W.Write.contents c.args.out.now, ([], refl, refl), inl refl, inl refl))
 
 pub returns-clause-traced : goal.returns-clause-traced
 returns-clause-traced g c =

@@ -1,4 +1,4 @@
-use Rattle.std.proofs.Common.{Some, Err, ap, sym}
+use Rattle.std.proofs.Common.{Some, Err, ap}
 use Rattle.ripngd_lab.specs.ScriptWatching.{lab_in}
 use Rattle.ripngd_lab.proofs.ScriptWatching.{told_from, untold, has_told}
 use Rattle.ripngd_lab.proofs.session.Session.act.Goals as goal

@@ -15,8 +15,8 @@ returns-in_err-check_lie g c =
 
 pub returns-in-Running : goal.returns-in-Running
 returns-in-Running g c =
-    told_from g.V.Watch.starts g.V.Observer.takes g.V.Observer.fails g.V.Watch.notes c.lie_at.result (lab_in c.args.self.now.stage) (Some c.in-Running.site) c.args.watch.now (Some c.lie_at.new.site, c.lie_at.new.watch)
-    (sym c.give_up.ensures ∙ ap lab_in c.in-Running.is) c.lie_at.ensures
+    told_from g.V.Watch.starts g.V.Observer.takes g.V.Observer.fails g.V.Watch.notes c.lie.result (lab_in c.args.self.now.stage) (Some c.in-Running.site) c.args.watch.now (Some c.lie.new.site, c.lie.new.watch)
+    (sym c.give_up.ensures ∙ ap lab_in c.in-Running.is) c.lie.ensures
 
 pub returns : goal.returns
 returns g c =

@@ -9,7 +9,10 @@ pub report_prints-requires-in-Datagrams : goal.report_prints-requires-in-Datagra
 report_prints-requires-in-Datagrams g c = inr (inl refl)
 
 pub report_prints-requires-in-Way : goal.report_prints-requires-in-Way
-report_prints-requires-in-Way g c = inr (inr (inr refl))
+report_prints-requires-in-Way g c = inr (inr (inr (inl refl)))
+
+pub report_prints-requires-in-Horizon : goal.report_prints-requires-in-Horizon
+report_prints-requires-in-Horizon g c = inr (inr (inr (inr refl)))
 
 pub report_prints-requires-in-Said : goal.report_prints-requires-in-Said
 report_prints-requires-in-Said g c = inr (inr (inl refl))
@@ -25,6 +28,9 @@ returns-in-Datagrams-clause-notes g c = rw c.in-Datagrams.is c.report_prints-in-
 
 pub returns-in-Way-clause-notes : goal.returns-in-Way-clause-notes
 returns-in-Way-clause-notes g c = rw c.in-Way.is c.report_prints-in-Way.ensures.whole
+
+pub returns-in-Horizon-clause-notes : goal.returns-in-Horizon-clause-notes
+returns-in-Horizon-clause-notes g c = rw c.in-Horizon.is c.report_prints-in-Horizon.ensures.whole
 
 pub returns-in-Said-clause-notes : goal.returns-in-Said-clause-notes
 returns-in-Said-clause-notes g c = rw c.in-Said.is c.report_prints-in-Said.ensures.whole

@@ -1,0 +1,200 @@
+//! Horizons: what a router advertises on the link on which it learned a route. RIPng has split horizon with poisoned reverse; a router
+//! without it is no router of RIPng, and nothing is promised of its network.
+
+use crate::plan::addr_at;
+use crate::site::Network;
+use prefix6::{Addr6, Prefix};
+use ripng_wire::{Command, Rte, decode, encode};
+use ripng_world::{Event, Sent};
+use route_table::{Origin, Route, RouteStore};
+use router_core::{Arrival, Destination, MAX_HOP_LIMIT, RIPNG_PORT};
+use std::alloc::{AllocError, Global};
+use std::fmt;
+
+/// What a router advertises of a route on the link on which it learned it.
+#[derive(Clone, Copy, Debug, PartialEq, Eq)]
+pub enum Horizon {
+    /// The route as it is.
+    None,
+    /// Nothing: split horizon.
+    Split,
+    /// Metric 16: split horizon with poisoned reverse, as RIPng has it (RFC 2080, section 2.6).
+    Poison,
+}
+
+impl fmt::Display for Horizon {
+    fn fmt<W: fmt::Write>(&self, f: &mut fmt::Formatter<W>) -> fmt::Result {
+        match self {
+            Horizon::None => f.write_str("none"),
+            Horizon::Split => f.write_str("split"),
+            Horizon::Poison => f.write_str("poison"),
+        }
+    }
+}
+
+/// The routers with another horizon than RIPng's.
+#[derive(Drop)]
+pub struct Horizons {
+    alloc: Global,
+    changed: Vec<(usize, Horizon)>,
+}
+
+/// A Response that comes in place of a datagram.
+#[derive(Drop)]
+pub struct Advert {
+    datagram: usize,
+    /// The router that sent it.
+    pub router: usize,
+    /// The address of the interface that sent it.
+    source: Addr6,
+    /// Its bytes; nothing comes if there are none.
+    bytes: Vec<u8>,
+}
+
+impl Horizons {
+    /// All routers are RIPng's.
+    pub fn new(alloc: Global) -> Horizons {
+        Horizons {
+            alloc,
+            changed: Vec::new(alloc),
+        }
+    }
+
+    /// A router has that horizon from now on.
+    pub fn set(&mut self, router: usize, horizon: Horizon) -> Result<(), AllocError> {
+        self.changed.retain(|(other, _)| *other != router);
+        if horizon != Horizon::Poison {
+            self.changed.push((router, horizon))?;
+        }
+        Ok(())
+    }
+
+    fn of(&self, router: usize) -> Horizon {
+        for (other, horizon) in &self.changed {
+            if *other == router {
+                return *horizon;
+            }
+        }
+        Horizon::Poison
+    }
+
+    /// What comes in place of the datagrams from a number on, of routers with another horizon. Their tables are as they were when these
+    /// were sent.
+    pub fn adverts(&self, lab: &Network, first: usize) -> Result<Vec<Advert>, AllocError> {
+        let mut adverts = Vec::new(self.alloc);
+        for (datagram, sent) in lab.sent().iter().enumerate().skip(first) {
+            let horizon = self.of(sent.router);
+            if horizon != Horizon::Poison
+                && let Some(router) = lab.router(sent.router)
+                && let Some(source) = addr_at(lab, sent.router, sent.iface)
+                && let Some(bytes) = bytes_by(self.alloc, horizon, router.routes(), sent)?
+            {
+                adverts.push(Advert {
+                    datagram,
+                    router: sent.router,
+                    source,
+                    bytes,
+                })?;
+            }
+        }
+        Ok(adverts)
+    }
+}
+
+impl Advert {
+    /// What comes in place of a datagram, if something else does.
+    pub fn at(adverts: &[Advert], datagram: usize) -> Option<&Advert> {
+        adverts.iter().find(|advert| advert.datagram == datagram)
+    }
+
+    /// Whether nothing comes.
+    pub fn is_nothing(&self) -> bool {
+        self.bytes.is_empty()
+    }
+
+    /// The router of a delivery, and what comes to it, if it accepts that.
+    pub fn accepted<'b>(
+        &'b self,
+        lab: &Network,
+        event: &Event<'_>,
+    ) -> Option<(usize, Arrival<'b>)> {
+        let &Event::Deliver {
+            router,
+            iface,
+            now,
+            ..
+        } = event
+        else {
+            return None;
+        };
+        let arrival = Arrival {
+            now,
+            iface,
+            source: self.source,
+            source_port: RIPNG_PORT,
+            hop_limit: MAX_HOP_LIMIT,
+            to_group: true,
+            bytes: self.bytes.as_slice(),
+        };
+        match lab.check_lie(router, &arrival) {
+            Ok(()) => Some((router, arrival)),
+            Err(_) => None,
+        }
+    }
+}
+
+/// What a router with that table and horizon sends in place of a datagram: no bytes if it is nothing, and none of these if it is the same.
+fn bytes_by<S: RouteStore>(
+    alloc: Global,
+    horizon: Horizon,
+    table: &S,
+    sent: &Sent,
+) -> Result<Option<Vec<u8>>, AllocError> {
+    let Ok(message) = decode(sent.bytes.as_slice()) else {
+        return Ok(None);
+    };
+    if sent.to != Destination::Group || message.command() != Command::Response {
+        return Ok(None);
+    }
+    let mut entries = Vec::new(alloc);
+    let mut is_same = true;
+    for entry in message.entries() {
+        let told = entry_by(horizon, table, sent.iface, entry);
+        is_same = is_same && told == Some(entry);
+        if let Some(told) = told {
+            entries.push(told)?;
+        }
+    }
+    if is_same {
+        return Ok(None);
+    }
+    if entries.is_empty() {
+        return Ok(Some(Vec::new(alloc)));
+    }
+    Ok(Some(encode(alloc, Command::Response, &entries)?))
+}
+
+/// What a router with that horizon, which is not RIPng's, advertises on an interface in place of an entry.
+fn entry_by<S: RouteStore>(horizon: Horizon, table: &S, iface: usize, entry: Rte) -> Option<Rte> {
+    match held_from(table, iface, entry) {
+        None => Some(entry),
+        Some(_) if horizon == Horizon::Split => None,
+        Some(route) => Some(Rte {
+            metric: route.metric(),
+            ..entry
+        }),
+    }
+}
+
+/// The route that an entry advertises, if it was learned on the interface.
+fn held_from<S: RouteStore>(table: &S, learned: usize, entry: Rte) -> Option<Route> {
+    if entry.is_next_hop() {
+        return None;
+    }
+    let prefix = Prefix::new(Addr6::from_bits(entry.addr), entry.len).ok()?;
+    let route = table.get(&prefix)?;
+    match route.origin() {
+        Origin::Learned { iface, .. } if iface == learned => Some(route),
+        _ => None,
+    }
+}
