@@ -4,16 +4,18 @@
     tools/beside.py [PROGRAM [ROUTES [TIMES]]]        bin/ripngd, 65536 routes and 3 times if they are not named
 
 One neighbor, which is this script, talks to each daemon by itself, one daemon after the other, TIMES over: to PROGRAM over UDP on
-127.0.0.1, to BIRD over a pair of virtual interfaces between two name spaces. It tells ROUTES routes of metric 1, 72 in a datagram,
-and tells them again. Of each daemon it prints what a route cost in microseconds of processor time (as the scheduler counts it) and in
-bytes of memory, in the middle of all runs, and the ratio of the two daemons in each run. The peak is the most that was resident until
-the end of a regular update on two interfaces, on one of which nobody listens; it is a run of its own. Idle is a daemon that nobody talks
-to, at one interface and at sixteen, the most that PROGRAM may have. Needs root, `ip` and BIRD 2 (Debian's packages iproute2 and bird2);
-where one is wanting it says `skipped: ..`. A round takes some seven minutes: regular updates are up to 45 seconds apart."""
+127.0.0.1, to BIRD over a pair of virtual interfaces between two name spaces. It advertises ROUTES routes of metric 1, 72 in a
+datagram, and advertises them again, at 1 and at 0.5 ms between datagrams, in order and in an order of its own that is the same for
+both. Of each daemon it prints what a route cost in microseconds of processor time (as the scheduler counts it) and in bytes of memory,
+in the middle of all runs, and the ratio of the two daemons in each run. The peak is the most that was resident until the end of a
+regular update on two interfaces, on one of which nobody listens; it is a run of its own. Idle is a daemon that nobody talks to, at one
+interface and at sixteen, the most that PROGRAM may have. Needs root, `ip` and BIRD 2 (Debian's packages iproute2 and bird2); where one
+is wanting it says `skipped: ..`. A round takes some ten minutes: regular updates are up to 45 seconds apart."""
 
 import contextlib
 import os
 import pathlib
+import random
 import shutil
 import socket
 import statistics
@@ -28,15 +30,23 @@ IN_DATAGRAM = 72
 # So long after each datagram, in seconds, so that neither daemon falls behind. On a machine with other work some may be lost all the
 # same: so many of a hundred routes have to be there.
 PAUSE = 0.001
+SHORT_PAUSE = 0.0005
 HELD = 98
 # Triggered updates of a router are up to five seconds apart (RFC 2080 section 2.5.1): after so many in which none comes, it has told all.
 QUIET = 6.0
-ROWS = (
+COSTS = (
     ("learned", "learned, and told for the first time, us"),
     ("refreshed", "refreshed, us"),
+    ("refreshed_soon", "refreshed, 0.5 ms between datagrams, us"),
     ("told", "told in a regular update, us"),
     ("at_rest", "memory once they are learned, bytes"),
     ("after", "memory after regular updates, bytes"),
+)
+ROWS = (
+    *COSTS,
+    *((f"random_{name}", f"at random: {title}") for name, title in COSTS),
+    ("soon", "learned, 0.5 ms between datagrams, us"),
+    ("random_soon", "at random: learned, 0.5 ms, us"),
     ("peak", "peak of an update on two interfaces, bytes"),
     ("idle_1", "idle with one interface, ms a second"),
     ("idle_16", "idle with sixteen interfaces, ms a second"),
@@ -49,9 +59,10 @@ SPACES = ("ripngd-beside-a", "ripngd-beside-b")
 PAIRS = [(f"a{number}", f"b{number}") for number in range(MOST)]
 
 
-def responses(routes):
-    """Responses (RFC 2080 section 2.1) that tell so many prefixes of 48 bits at metric 1."""
-    entries = [struct.pack("!HI10xHBB", 0x2001, 0x0DB80000 + number, 0, 48, 1) for number in range(routes)]
+def responses(routes, is_random=False):
+    """Responses (RFC 2080 section 2.1) that tell so many prefixes of 48 bits at metric 1, in order, or in a random order, always the same."""
+    numbers = random.Random(1).sample(range(routes), routes) if is_random else range(routes)
+    entries = [struct.pack("!HI10xHBB", 0x2001, 0x0DB80000 + number, 0, 48, 1) for number in numbers]
     chunks = [entries[at : at + IN_DATAGRAM] for at in range(0, routes, IN_DATAGRAM)]
     return [bytes((2, 1, 0, 0)) + b"".join(chunk) for chunk in chunks]
 
@@ -87,12 +98,19 @@ class Neighbor:
         except BlockingIOError:
             pass
 
-    def send(self, datagrams):
+    def send(self, datagrams, pause=PAUSE):
         for datagram in datagrams:
             self.sock.sendto(datagram, self.to)
-            time.sleep(PAUSE)
+            time.sleep(pause)
             self.listen()
         self.heard_at = time.monotonic()
+
+    def takes(self, datagrams, pause=PAUSE):
+        """What the daemon takes for datagrams, and for what it tells at once."""
+        before, self.told = self.cost(), 0
+        self.send(datagrams, pause)
+        self.until_quiet()
+        return self.cost() - before
 
     def until_quiet(self):
         """Waits until nothing has come for a while."""
@@ -115,23 +133,37 @@ class Neighbor:
         raise RuntimeError(f"it tells {self.told} routes of {routes}")
 
 
-def costs(neighbor, routes):
+def costs(neighbor, routes, is_random=False):
     """What routes cost the daemon of this neighbor: the rows of one interface."""
-    datagrams, found = responses(routes), {}
+    datagrams, found, each = responses(routes, is_random), {}, routes * 1e3
     time.sleep(2)
-    empty, before = neighbor.memory(), neighbor.cost()
-    neighbor.send(datagrams)
-    neighbor.until_quiet()
-    found["learned"] = (neighbor.cost() - before) / routes / 1e3
+    empty = neighbor.memory()
+    found["learned"] = neighbor.takes(datagrams) / each
     found["at_rest"] = (neighbor.memory() - empty) / routes
     neighbor.update(routes)
-    before, neighbor.told = neighbor.cost(), 0
-    neighbor.send(datagrams)
-    neighbor.until_quiet()
-    found["refreshed"] = (neighbor.cost() - before) / routes / 1e3
-    found["told"] = neighbor.update(routes) / routes / 1e3
+    found["refreshed"] = neighbor.takes(datagrams) / each
+    neighbor.update(routes)
+    found["refreshed_soon"] = neighbor.takes(datagrams, SHORT_PAUSE) / each
+    found["told"] = neighbor.update(routes) / each
     found["after"] = (neighbor.memory() - empty) / routes
     return found
+
+
+def random_costs(neighbor, routes):
+    """The same in a random order."""
+    return {f"random_{name}": value for name, value in costs(neighbor, routes, True).items()}
+
+
+def soon(neighbor, routes):
+    """What routes cost that come sooner one after another."""
+    time.sleep(2)
+    return {"soon": neighbor.takes(responses(routes), SHORT_PAUSE) / routes / 1e3}
+
+
+def random_soon(neighbor, routes):
+    """The same in a random order."""
+    time.sleep(2)
+    return {"random_soon": neighbor.takes(responses(routes, True), SHORT_PAUSE) / routes / 1e3}
 
 
 def peak(neighbor, routes):
@@ -145,7 +177,7 @@ def peak(neighbor, routes):
 
 
 # What is measured by talking to a daemon: the function, and with how many interfaces.
-TALKS = {"costs": (costs, 1), "peak": (peak, 2)}
+TALKS = {"costs": (costs, 1), "random_costs": (random_costs, 1), "soon": (soon, 1), "random_soon": (random_soon, 1), "peak": (peak, 2)}
 
 
 def idle(daemon):
