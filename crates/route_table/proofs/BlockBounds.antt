@@ -1,5 +1,5 @@
 -- Bounds of what entries know together.
-use Rattle.std.proofs.Common.{◌≡◌, ℕ, suc, Bool, true, false, ◌||◌, ◌&&◌, [], ◌∷◌, ◌++◌, take, drop, set, Option, Some, None, refl, sym, ap, ap₂, subst, ◌∙◌, arith}
+use Rattle.std.proofs.Common.{◌≡◌, ℕ, suc, Bool, true, false, cond, ◌||◌, ◌&&◌, [], ◌∷◌, ◌++◌, take, drop, set, Option, Some, None, refl, sym, ap, ap₂, subst, ◌∙◌, arith}
 use mathlib.Core.Bool.{false≢true}
 use Rattle.std.specs.Prelude.{All, not, slice_index_or}
 use Rattle.std.specs.Ordering.{eq_by_cmp}
@@ -10,13 +10,13 @@ use Rattle.std.proofs.lemmas.List.Elements.{All-nil, All-cons, All-head, All-tai
 use Rattle.prefix6.specs.Prefix.{Prefix6, prefix_cmp}
 use Rattle.route_table.specs.Route.{RouteValue}
 use Rattle.route_table.specs.Place.{Entries}
-use Rattle.route_table.specs.Table.{is_past, map_entries}
+use Rattle.route_table.specs.Table.{is_past, map_entries, past}
 use Rattle.route_table.specs.Due.{is_reached, earlier, first_where, without_mark}
-use Rattle.route_table.specs.Summary.{SummaryValue, both, no_routes, summary_of, summary_of_route, meets, may_meet}
+use Rattle.route_table.specs.Summary.{SummaryValue, both, no_routes, summary_of, summary_of_route, meets, may_meet, wanted_of}
 use Rattle.route_table.specs.Trie.{without}
 use Rattle.route_table.specs.Blocks.{IsUnder, Covers}
 use Rattle.route_table.specs.declared.wanted.Wanted.{Wanted}
-use Rattle.route_table.specs.declared.wanted.Wanted.TheVariants.{Any, Due, Changed}
+use Rattle.route_table.specs.declared.wanted.Wanted.TheVariants.{Any, Due, Changed, DueOrChanged}
 use Rattle.route_table.proofs.TrieLists.{Entry, first_fails}
 use Rattle.route_table.proofs.TrieSummary.{both-assoc, earlier-assoc, earlier-none, or-none, neither, neither_is, of_two}
 
@@ -118,6 +118,9 @@ covers_exactly (e ∷ es) =
     (subst (λ t. IsUnder t e.1) turned (under_itself (summary_of es) e.1))
     (subst (λ t. Covers t es) turned (covers_more (summary_of es) (summary_of_route e.1) es (covers_exactly es)))
 
+pub covers_summed : (s : SummaryValue) (es : Entries) → s ≡ summary_of es → Covers s es
+covers_summed s es exact = subst (λ t. Covers t es) (sym exact) (covers_exactly es)
+
 -- ---- what a bound says
 covered_whole : (s : SummaryValue) (es : Entries) → Covers s es → both s (summary_of es) ≡ s
 covered_whole s [] h = both-none s
@@ -134,13 +137,32 @@ no_earlier s es due h is = sym (
     ∙ ap (λ (t : SummaryValue). earlier due t.due) (covered_whole s es h)
     ∙ is)
 
+not_due : (by : ℕ) (s : SummaryValue) (r : RouteValue) → is_reached by s.due ≡ false → IsUnder s r → meets (Due by) r ≡ false
+not_due by s r h u = (neither by s.due (summary_of_route r).due (ap (λ (t : SummaryValue). is_reached by t.due) u ∙ h)).1
+
+not_changed : (s : SummaryValue) (r : RouteValue) → s.changed ≡ false → IsUnder s r → r.changed ≡ false
+not_changed s r h u = (neither_is s.changed r.changed (ap (λ (t : SummaryValue). t.changed) u ∙ h)).1
+
 ruled_out : (w : Wanted) (s : SummaryValue) (r : RouteValue) → may_meet w s ≡ false → IsUnder s r → meets w r ≡ false
 ruled_out Any s r h u = absurd (false≢true (sym h))
-ruled_out (Due by) s r h u = (neither by s.due (summary_of_route r).due (ap (λ (t : SummaryValue). is_reached by t.due) u ∙ h)).1
-ruled_out Changed s r h u = (neither_is s.changed r.changed (ap (λ (t : SummaryValue). t.changed) u ∙ h)).1
+ruled_out (Due by) s r h u = not_due by s r h u
+ruled_out Changed s r h u = not_changed s r h u
+ruled_out (DueOrChanged by) s r h u =
+    let apart = neither_is (is_reached by s.due) s.changed h in
+    ap₂ (λ a b. a || b) (not_due by s r apart.0 u) (not_changed s r apart.1 u)
 
 pub nothing_wanted : (w : Wanted) (after : Option Prefix6) (s : SummaryValue) (es : Entries) → may_meet w s ≡ false → Covers s es → None ≡ first_where (meets w) after es
 nothing_wanted w after s es h c = sym (first_fails (λ e. meets w e.1 && is_past after e.0) es (λ i d lt. ap (λ b. b && is_past after (slice_index_or es i d).0) (ruled_out w s (slice_index_or es i d).1 h (c i d lt))))
+
+pub none_listed : (w : Wanted) (after : Option Prefix6) (s : SummaryValue) (es : Entries) → may_meet w s ≡ false → Covers s es → wanted_of w (past after es) ≡ []
+none_listed w after s es h c =
+    none_passes (past after es) (All-filter (λ (e : Entry). is_past after e.0) (λ (e : Entry). meets w e.1 ≡ false) es (All-weaker (λ (e : Entry). IsUnder s e.1) (λ (e : Entry). meets w e.1 ≡ false) (λ e u. ruled_out w s e.1 h u) es c))
+  where
+    none_passes : (fs : Entries) → All (λ e. meets w e.1 ≡ false) fs → wanted_of w fs ≡ []
+    none_passes [] fails = refl
+    none_passes (e ∷ fs) fails =
+        let P : Entry → Type 0 = λ x. meets w x.1 ≡ false in
+        ap (λ b. cond b (e ∷ wanted_of w fs) (wanted_of w fs)) (All-head P e fs fails) ∙ none_passes fs (All-tail P e fs fails)
 
 -- ---- marks
 abbrev plain : Entries → Entries
@@ -159,5 +181,5 @@ covers_plain s (e ∷ es) h = All-cons (λ (x : Entry). IsUnder (record s { chan
 pub plain_already : (s : SummaryValue) (es : Entries) → s.changed ≡ false → Covers s es → es ≡ plain es
 plain_already s [] h c = refl
 plain_already s (e ∷ es) h c =
-    let off : e.1.changed ≡ false = ruled_out Changed s e.1 h (All-head (λ (x : Entry). IsUnder s x.1) e es c) in
+    let off : e.1.changed ≡ false = not_changed s e.1 h (All-head (λ (x : Entry). IsUnder s x.1) e es c) in
     ap₂ (λ (b : Bool) (l : Entries). (e.0, record e.1 { changed = b }) ∷ l) off (plain_already s es h (All-tail (λ (x : Entry). IsUnder s x.1) e es c))

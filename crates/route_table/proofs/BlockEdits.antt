@@ -18,13 +18,13 @@ use Rattle.route_table.specs.Place.{Entries}
 use Rattle.route_table.specs.Table.{map_entries}
 use Rattle.route_table.specs.Trie.{without}
 use Rattle.route_table.specs.Due.{without_mark}
-use Rattle.route_table.specs.Summary.{SummaryValue, both, summary_of_route}
+use Rattle.route_table.specs.Summary.{SummaryValue, both, summary_of, summary_of_route}
 use Rattle.route_table.specs.Blocks.{block_limit, StartsAt, Covers, IsBlock}
 use Rattle.route_table.proofs.TableLaws.{and_left, and_right, and_both, is_sorted-map_entries}
 use Rattle.route_table.proofs.TrieLists.{Entry}
 use Rattle.route_table.proofs.TrieMarks.{plain_length}
 use Rattle.route_table.proofs.BlockLists.{sorted_right}
-use Rattle.route_table.proofs.BlockBounds.{covers_set, covers_insert, covers_take, covers_drop, covers_plain}
+use Rattle.route_table.proofs.BlockBounds.{covers_set, covers_insert, covers_summed, covers_plain}
 
 -- ---- parts of a sorted list
 below_left : (x : Prefix6) (xs ys : Entries) → T (below_all prefix_cmp x (xs ++ ys)) → T (below_all prefix_cmp x xs)
@@ -104,21 +104,21 @@ module _ (first : Prefix6) (bound : SummaryValue) (es : Entries) (h : IsBlock fi
     covered = covered;
   }
 
-  -- its two parts
-  pub lower_block : (n : ℕ) (fs : Entries) → fs ≡ take n es → IsBlock first bound fs
-  lower_block n fs is = subst (IsBlock first bound) (sym is) (record {
-    sorted = sorted_left (take n es) (drop n es) (in_parts es n h.sorted);
-    few = omega (arith, length-take n es, h.few);
-    starts = starts_take first n es h.starts;
-    covered = covers_take bound es n h.covered;
-  })
+  -- its two parts, with bounds of their own
+  pub lower_block : (n : ℕ) (fs : Entries) (s : SummaryValue) → fs ≡ take n es → s ≡ summary_of fs → IsBlock first s fs
+  lower_block n fs s is exact = record {
+    sorted = subst (λ l. T (is_sorted prefix_cmp l)) (sym is) (sorted_left (take n es) (drop n es) (in_parts es n h.sorted));
+    few = omega (arith, ap length is, length-take n es, h.few);
+    starts = subst (StartsAt first) (sym is) (starts_take first n es h.starts);
+    covered = covers_summed s fs exact;
+  }
 
-  pub upper_block : (n : ℕ) (fs : Entries) (first' : Prefix6) → fs ≡ drop n es → StartsAt first' fs → IsBlock first' bound fs
-  upper_block n fs first' is starts = record {
+  pub upper_block : (n : ℕ) (fs : Entries) (first' : Prefix6) (s : SummaryValue) → fs ≡ drop n es → StartsAt first' fs → s ≡ summary_of fs → IsBlock first' s fs
+  upper_block n fs first' s is starts exact = record {
     sorted = subst (λ l. T (is_sorted prefix_cmp l)) (sym is) (sorted_right (take n es) (drop n es) (in_parts es n h.sorted));
     few = omega (arith, ap length is, length-drop n es, h.few);
     starts = starts;
-    covered = subst (Covers bound) (sym is) (covers_drop bound es n h.covered);
+    covered = covers_summed s fs exact;
   }
 
   -- without its marks

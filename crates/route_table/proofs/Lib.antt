@@ -14,6 +14,7 @@ pub mod TrieAdd
 pub mod TrieTable
 pub mod NextDue
 pub mod PastPrefix
+pub mod DueOrChanged
 pub mod FirstDue
 pub mod SortedDue
 pub mod SortedMarks
@@ -22,5 +23,6 @@ pub mod BlockLists
 pub mod BlockBounds
 pub mod BlockEdits
 pub mod BlockWalks
+pub mod WantedLists
 pub mod BlockChanges
 pub mod SortedStore

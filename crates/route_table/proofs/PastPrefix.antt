@@ -35,7 +35,7 @@ from_place p (e ∷ es) (suc i) before ahead =
 pub past_from : (after : Option Prefix6) (es : Entries) (i : ℕ) → T (is_sorted prefix_cmp es) → IsStartPast es after i → past after es ≡ drop i es
 past_from after es i sorted s = from_place (λ e. is_past after e.0) es i s.before (starts (λ r. true) after es i sorted s).ahead
 
-take_none : (n : ℕ) → ◌≡◌ {A = Entries} (take n []) []
+pub take_none : (n : ℕ) → ◌≡◌ {A = Entries} (take n []) []
 take_none zero = refl
 take_none (suc n) = refl
 
@@ -126,7 +126,7 @@ none_past after (e ∷ es) h =
     let is : is_past after e.0 ≡ false = h 0 e (omega arith) in
     rw is (none_past after es (λ k d lt. h (suc k) d (omega arith)))
 
-take_both : (n : ℕ) (xs ys : Entries) → take n (xs ++ ys) ≡ take n xs ++ take (n - length xs) ys
+pub take_both : (n : ℕ) (xs ys : Entries) → take n (xs ++ ys) ≡ take n xs ++ take (n - length xs) ys
 take_both zero xs ys = let none : 0 ≡ 0 - length xs = omega arith in ap (λ m. take m ys) none
 take_both (suc n) [] ys = let same : suc n ≡ suc n - 0 = omega arith in ap (λ m. take m ys) same
 take_both (suc n) (x ∷ xs) ys =

@@ -10,7 +10,7 @@ use Rattle.route_table.specs.Table.{is_past}
 use Rattle.route_table.specs.Due.{is_reached, earlier, least_deadline, first_where}
 use Rattle.route_table.specs.Summary.{SummaryValue, both, summary_of, summary_of_route, meets, may_meet}
 use Rattle.route_table.specs.declared.wanted.Wanted.{Wanted}
-use Rattle.route_table.specs.declared.wanted.Wanted.TheVariants.{Any, Due, Changed}
+use Rattle.route_table.specs.declared.wanted.Wanted.TheVariants.{Any, Due, Changed, DueOrChanged}
 use Rattle.route_table.proofs.TrieLists.{Entry, first_fails}
 
 pub earlier-assoc : (a b c : Option ℕ) → earlier a (earlier b c) ≡ earlier (earlier a b) c
@@ -66,6 +66,12 @@ ruled_out (Due by) (e ∷ es) h =
 ruled_out Changed (e ∷ es) h =
     let apart = neither_is e.1.changed (summary_of es).changed h in
     All-cons (λ (e : Entry). meets Changed e.1 ≡ false) e es apart.0 (ruled_out Changed es apart.1)
+ruled_out (DueOrChanged by) (e ∷ es) h =
+    let apart = neither_is (is_reached by (earlier (summary_of_route e.1).due (summary_of es).due)) (e.1.changed || (summary_of es).changed) h in
+    let due = neither by (summary_of_route e.1).due (summary_of es).due apart.0 in
+    let changed = neither_is e.1.changed (summary_of es).changed apart.1 in
+    All-cons (λ (e : Entry). meets (DueOrChanged by) e.1 ≡ false) e es (ap₂ (λ a b. a || b) due.0 changed.0)
+    (ruled_out (DueOrChanged by) es (ap₂ (λ a b. a || b) due.1 changed.1))
 
 pub nothing_wanted : (w : Wanted) (after : Option Prefix6) (es : Entries) → may_meet w (summary_of es) ≡ false → first_where (meets w) after es ≡ None
 nothing_wanted w after es h = first_fails (λ e. meets w e.1 && is_past after e.0) es (λ i d lt. ap (λ b. b && is_past after (slice_index_or es i d).0) (ruled_out w es h i d lt))

@@ -1,10 +1,10 @@
 -- What is known of several routes without a look at them.
-use Rattle.std.specs.Prelude.{◌≡◌, ℕ, Bool, true, false, ◌||◌, List, [], ◌∷◌, Option, Some, None}
+use Rattle.std.specs.Prelude.{◌≡◌, ℕ, Bool, true, false, ◌||◌, List, [], ◌∷◌, filter, Option, Some, None}
 use Rattle.prefix6.specs.Prefix.{Prefix6}
 use Rattle.route_table.specs.Route.{RouteValue, deadline}
 use Rattle.route_table.specs.Due.{is_due, is_reached, earlier}
 use Rattle.route_table.specs.declared.wanted.Wanted.{Wanted}
-use Rattle.route_table.specs.declared.wanted.Wanted.TheVariants.{Any, Due, Changed}
+use Rattle.route_table.specs.declared.wanted.Wanted.TheVariants.{Any, Due, Changed, DueOrChanged}
 
 -- the least deadline of some routes, and whether a route change flag is set
 pub record SummaryValue : Type 0 where
@@ -47,9 +47,15 @@ abbrev pub meets : Wanted → RouteValue → Bool
 meets Any r = true
 meets (Due by) r = is_due by r
 meets Changed r = r.changed
+meets (DueOrChanged by) r = is_due by r || r.changed
+
+-- the entries that a search looks for
+abbrev pub wanted_of : Wanted → List (Prefix6 × RouteValue) → List (Prefix6 × RouteValue)
+wanted_of w es = filter (λ e. meets w e.1) es
 
 -- whether a search may find a route among those of a summary
 abbrev pub may_meet : Wanted → SummaryValue → Bool
 may_meet Any s = true
 may_meet (Due by) s = is_reached by s.due
 may_meet Changed s = s.changed
+may_meet (DueOrChanged by) s = is_reached by s.due || s.changed

@@ -8,7 +8,7 @@ ghost use Rattle.prefix6.specs.Prefix.{prefix_cmp};
 ghost use Rattle.prefix6.specs.Places.{IsAt};
 ghost use Rattle.route_table.specs.Blocks.{block_limit, half_block, StartsAt, Covers};
 ghost use Rattle.route_table.specs.Due.{earlier, first_where, without_mark};
-ghost use Rattle.route_table.specs.Summary.{meets, summary_of};
+ghost use Rattle.route_table.specs.Summary.{meets, summary_of, wanted_of};
 ghost use Rattle.route_table.specs.Table.{map_entries, past};
 ghost use Rattle.route_table.specs.Trie.{without};
 
@@ -31,6 +31,8 @@ const HALF: usize = 64;
 pub struct Block {
     first: Prefix,
     bound: Summary,
+    /// How many routes were changed or removed since the bound was exact. It is not part of the value.
+    changes: usize,
     routes: Vec<(Prefix, Route)>,
 }
 
@@ -61,22 +63,20 @@ fn first_of(routes: &[(Prefix, Route)], other: Prefix) -> Prefix
     }
 }
 
-/// Whether the bound is to be made exact after a route before an index was changed or removed. It is at the last route, so that one
-/// pass in order does it once, and where the route had the least deadline and the next has another, so that it is seldom far off.
-fn wants_exact(routes: &[(Prefix, Route)], next: usize, before: Summary, bound: Summary) -> bool {
-    if next >= routes.len() {
-        return true;
-    }
-    let due = before.due_ms();
-    due == bound.due_ms() && Summary::of(&routes[next].1).due_ms() != due
+/// How many routes were changed or removed since the bound was exact, after one more. After as many as there are it begins anew, and
+/// the bound is made exact: a pass over all, in whatever order, ends so, and costs no more than one look at each.
+fn count_more(changes: usize, len: usize) -> usize {
+    let count = changes.saturating_add(1);
+    if count < len { count } else { 0 }
 }
 
-/// A bound of these routes after one was changed or removed.
-fn bound_of(routes: &[(Prefix, Route)], next: usize, before: Summary, bound: Summary) -> Summary
+/// A bound of these routes after one before an index was changed or removed. It is exact where the count has begun anew, and at the
+/// last route: a pass in order ends there, even if some routes were changed out of turn.
+fn bound_of(routes: &[(Prefix, Route)], next: usize, changes: usize, bound: Summary) -> Summary
     requires { Covers bound routes.now }
     ensures { Covers result routes.now }
 {
-    if wants_exact(routes, next, before, bound) {
+    if changes == 0 || next >= routes.len() {
         run::sum_up(routes)
     } else {
         bound
@@ -97,6 +97,7 @@ impl Block {
         Ok(Block {
             first: prefix,
             bound: Summary::of(&route),
+            changes: 0,
             routes,
         })
     }
@@ -214,6 +215,25 @@ impl Block {
         most - count
     }
 
+    /// The same among the routes that are wanted. Where the bound says that there is none, no route is looked at.
+    pub fn list_wanted(
+        &self,
+        after: &Option<Prefix>,
+        wanted: Wanted,
+        most: usize,
+        out: &mut Vec<(Prefix, Route)>,
+    ) -> usize
+        requires room { vec_len out.old + most ≤ vec_capacity out.old }
+        ensures items { out.new.items ≡ out.old.items ++ take most (wanted_of wanted (past after.now self.now)) }
+        ensures left { result ≡ most - length (wanted_of wanted (past after.now self.now)) }
+        ensures room { vec_len out.new + result ≤ vec_capacity out.new }
+    {
+        if !wanted.may_be_in(&self.bound) {
+            return most;
+        }
+        run::list_wanted(run::past(&self.routes, *after), wanted, most, out)
+    }
+
     /// Inserts the route to a prefix that has none.
     ///
     /// # Errors
@@ -233,6 +253,8 @@ impl Block {
         };
         self.first = first_of(&self.routes, self.first);
         self.bound = self.bound.and(Summary::of(&route));
+        // Where others were changed, it counts as one that was, and else the bound is as exact as before.
+        self.changes = self.changes.saturating_add(self.changes.min(1));
         Ok(())
     }
 
@@ -249,9 +271,13 @@ impl Block {
     {
         let routes = self.routes.split_off(HALF)?;
         let first = first_of(&routes, self.first);
+        let bound = run::sum_up(&routes);
+        self.bound = run::sum_up(&self.routes);
+        self.changes = 0;
         Ok(Block {
             first,
-            bound: self.bound,
+            bound,
+            changes: 0,
             routes,
         })
     }
@@ -271,14 +297,10 @@ impl Block {
     {
         let before = self.routes[at].1;
         let after = make(before);
-        self.routes[at] = (*prefix, after);
+        self.routes[at].1 = after;
         let bound = self.bound.and(Summary::of(&after));
-        self.bound = bound_of(
-            &self.routes,
-            at.saturating_add(1),
-            Summary::of(&before),
-            bound,
-        );
+        self.changes = count_more(self.changes, self.routes.len());
+        self.bound = bound_of(&self.routes, at.saturating_add(1), self.changes, bound);
         (before, after)
     }
 
@@ -300,8 +322,9 @@ impl Block {
         requires { IsAt self.old prefix.now at }
         ensures { self.new ≡ without prefix.now self.old }
     {
-        let removed = self.routes.remove(at);
+        let _ = self.routes.remove(at);
         self.first = first_of(&self.routes, self.first);
-        self.bound = bound_of(&self.routes, at, Summary::of(&removed.1), self.bound);
+        self.changes = count_more(self.changes, self.routes.len());
+        self.bound = bound_of(&self.routes, at, self.changes, self.bound);
     }
 }

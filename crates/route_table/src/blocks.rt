@@ -7,7 +7,7 @@ ghost use Rattle.std.specs.FinMap.Entries.{put};
 ghost use Rattle.prefix6.specs.Prefix.{prefix_cmp};
 ghost use Rattle.route_table.specs.Blocks.{block_at, block_limit, joined, AreBlocks, AreFilled, Covers, HasRoom, IsHome, IsPlaced, IsStart};
 ghost use Rattle.route_table.specs.Due.{first_where, least_deadline, without_mark};
-ghost use Rattle.route_table.specs.Summary.{meets};
+ghost use Rattle.route_table.specs.Summary.{meets, wanted_of};
 ghost use Rattle.route_table.specs.Table.{map_entries, past};
 ghost use Rattle.route_table.specs.Trie.{without, entries_with};
 
@@ -157,6 +157,27 @@ pub fn list_run(
             return;
         }
         left = blocks[k].list_run(after, left, out);
+    }
+}
+
+/// The same among the routes that are wanted.
+pub fn list_wanted(
+    blocks: &[Block],
+    after: &Option<Prefix>,
+    wanted: Wanted,
+    most: usize,
+    out: &mut Vec<(Prefix, Route)>,
+)
+    requires ordered { AreBlocks blocks.now }
+    requires room { vec_len out.old + most ≤ vec_capacity out.old }
+    ensures { out.new.items ≡ out.old.items ++ take most (wanted_of wanted (past after.now (joined blocks.now))) }
+{
+    let mut left = most;
+    for k in start(blocks, after)..blocks.len() {
+        if left == 0 {
+            return;
+        }
+        left = blocks[k].list_wanted(after, wanted, left, out);
     }
 }
 

@@ -1,12 +1,12 @@
 //! A slice of routes in the order of their prefixes, searched by bisection.
 
-ghost use Rattle.std.specs.Prelude.{◌≡◌, T, IfOk, IfErr};
+ghost use Rattle.std.specs.Prelude.{◌≡◌, ◌+◌, ◌-◌, ◌≤◌, ◌++◌, T, IfOk, IfErr, length, take, vec_len, vec_capacity};
 ghost use Rattle.std.specs.FinMap.{is_sorted};
 ghost use Rattle.prefix6.specs.Prefix.{prefix_cmp};
 ghost use Rattle.prefix6.specs.Places.{IsAt, IsGap};
 ghost use Rattle.route_table.specs.Due.{first_where, least_deadline, without_mark};
 ghost use Rattle.route_table.specs.Place.{IsStartPast};
-ghost use Rattle.route_table.specs.Summary.{meets, summary_of};
+ghost use Rattle.route_table.specs.Summary.{meets, summary_of, wanted_of};
 ghost use Rattle.route_table.specs.Table.{map_entries, past};
 
 use crate::route::Route;
@@ -85,6 +85,31 @@ pub fn first_wanted(
         }
     }
     None
+}
+
+/// Appends the first wanted of the routes, at most so many, for which the vector must have room: how many are still asked for.
+pub fn list_wanted(
+    routes: &[(Prefix, Route)],
+    wanted: Wanted,
+    most: usize,
+    out: &mut Vec<(Prefix, Route)>,
+) -> usize
+    requires { vec_len out.old + most ≤ vec_capacity out.old }
+    ensures items { out.new.items ≡ out.old.items ++ take most (wanted_of wanted routes.now) }
+    ensures left { result ≡ most - length (wanted_of wanted routes.now) }
+    ensures room { vec_len out.new + result ≤ vec_capacity out.new }
+{
+    let mut left = most;
+    for entry in routes.iter() {
+        if left == 0 {
+            return 0;
+        }
+        if wanted.is_met_by(&entry.1) {
+            out.push_reserved(*entry);
+            left -= 1;
+        }
+    }
+    left
 }
 
 /// Clears all route change flags.

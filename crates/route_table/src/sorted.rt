@@ -100,6 +100,10 @@ impl RouteStore for SortedRoutes {
         self.first_wanted(after, Wanted::Changed)
     }
 
+    fn walk_due_or_changed(&self, after: Option<Prefix>, now: Moment) -> Option<(Prefix, Route)> {
+        self.first_wanted(after, Wanted::DueOrChanged(now.ms()))
+    }
+
     fn next_due(&self) -> Option<(Deadline, Prefix)> {
         let Some(least) = self.due_ms() else {
             return None;
@@ -119,6 +123,17 @@ impl RouteStore for SortedRoutes {
 
     fn list_run(&self, after: Option<Prefix>, most: usize, out: &mut Vec<(Prefix, Route)>) {
         blocks::list_run(&self.blocks, &after, most, out);
+    }
+
+    fn list_changed(
+        &self,
+        after: Option<Prefix>,
+        now: Moment,
+        most: usize,
+        out: &mut Vec<(Prefix, Route)>,
+    ) {
+        let wanted = Wanted::DueOrChanged(now.ms());
+        blocks::list_wanted(&self.blocks, &after, wanted, most, out);
     }
 
     fn add(&mut self, prefix: Prefix, route: Route) -> Result<(), AddRefused> {

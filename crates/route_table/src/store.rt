@@ -1,9 +1,9 @@
 //! What a table of routes does, however it is stored.
 
-ghost use Rattle.std.specs.Prelude.{◌≡◌, ◌≤◌, ◌+◌, ◌++◌, ◌↔◌, None, IsTrue, IsSome, IfSome, option_map, take, OnOk, OnErr, vec_len, vec_capacity};
+ghost use Rattle.std.specs.Prelude.{◌≡◌, ◌≤◌, ◌+◌, ◌++◌, ◌↔◌, ◌||◌, None, IsTrue, IsSome, IfSome, option_map, filter, take, OnOk, OnErr, vec_len, vec_capacity};
 ghost use Rattle.std.specs.FinMap as map;
 ghost use Rattle.route_table.specs.Table.{Table, table_limit, table_with, first_past, past, add_refused_name, add_refused_number};
-ghost use Rattle.route_table.specs.Due.{first_due, first_changed, next_due, unmarked};
+ghost use Rattle.route_table.specs.Due.{first_due, first_changed, first_where, is_due, next_due, unmarked};
 
 use crate::moment::{Deadline, Moment};
 use crate::route::Route;
@@ -84,6 +84,24 @@ pub trait RouteStore: Drop {
     fn walk_changed(&self, after: Option<Prefix>) -> Option<(Prefix, Route)>
         ensures { result ≡ first_changed after (table self.now) };
 
+    /// The same among routes whose timer has ended or whose route change flag is set.
+    fn walk_due_or_changed(&self, after: Option<Prefix>, now: Moment) -> Option<(Prefix, Route)>
+        ensures { result ≡ first_where (λ r. is_due now r || r.changed) after (map.entries (table self.now)) }
+    {
+        let past = after;
+        let Some(due) = self.walk_due(after, now) else {
+            return self.walk_changed(past);
+        };
+        let Some(changed) = self.walk_changed(past) else {
+            return Some(due);
+        };
+        if changed.0 < due.0 {
+            Some(changed)
+        } else {
+            Some(due)
+        }
+    }
+
     /// The least deadline of all timers, with the first prefix whose route has it.
     fn next_due(&self) -> Option<(Deadline, Prefix)>
         ensures { result ≡ next_due (table self.now) };
@@ -102,6 +120,27 @@ pub trait RouteStore: Drop {
         let mut after = after;
         for _done in 0..most {
             let Some(entry) = self.walk(after) else {
+                return;
+            };
+            out.push_reserved((entry.0, entry.1));
+            after = Some(entry.0);
+        }
+    }
+
+    /// The same among routes whose timer has ended or whose route change flag is set.
+    fn list_changed(
+        &self,
+        after: Option<Prefix>,
+        now: Moment,
+        most: usize,
+        out: &mut Vec<(Prefix, Route)>,
+    )
+        requires room { vec_len out.old + most ≤ vec_capacity out.old }
+        ensures { out.new.items ≡ out.old.items ++ take most (filter (λ e. is_due now e.1 || e.1.changed) (past after (map.entries (table self.now)))) }
+    {
+        let mut after = after;
+        for _done in 0..most {
+            let Some(entry) = self.walk_due_or_changed(after, now) else {
                 return;
             };
             out.push_reserved((entry.0, entry.1));

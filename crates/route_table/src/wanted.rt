@@ -17,6 +17,8 @@ pub enum Wanted {
     Due(u64),
     /// Those whose route change flag is set.
     Changed,
+    /// Both of these.
+    DueOrChanged(u64),
 }
 
 /// Whether there is a deadline of at most `by` milliseconds.
@@ -38,6 +40,7 @@ impl Wanted {
             Wanted::Any => true,
             Wanted::Due(by) => is_reached(route.deadline(), by),
             Wanted::Changed => route.is_changed(),
+            Wanted::DueOrChanged(by) => is_reached(route.deadline(), by) || route.is_changed(),
         }
     }
 
@@ -49,6 +52,7 @@ impl Wanted {
             Wanted::Any => true,
             Wanted::Due(by) => summary.is_reached(by),
             Wanted::Changed => summary.has_changed(),
+            Wanted::DueOrChanged(by) => summary.is_reached(by) || summary.has_changed(),
         }
     }
 }

@@ -1,8 +1,7 @@
--- All routes of a table are told, a run of them in each datagram.
-use Rattle.std.proofs.Common.{◌≡◌, ◌+◌, ◌-◌, ◌<◌, ◌≤◌, ℕ, ◌∷◌, [], List, Option, Some, None, length, map, take, drop, slice_get, inl, inr, ap, sym, subst, ◌∙◌, arith, length-take, length-drop}
+-- All routes of a list are told, a run of them in each datagram.
+use Rattle.std.proofs.Common.{◌≡◌, ◌+◌, ◌-◌, ◌<◌, ◌≤◌, ℕ, ◌∷◌, [], List, Option, Some, None, length, map, take, drop, slice_get, ap, sym, subst, ◌∙◌, arith, length-take, length-drop}
 use Rattle.std.specs.Prelude.{T}
 use Rattle.std.specs.FinMap.{is_sorted}
-use Rattle.std.proofs.lemmas.Bool.{cases_lt}
 use Rattle.std.proofs.lemmas.List.{nil_from_length, take_min, drop_min}
 use Rattle.std.proofs.lemmas.Option.{slice_get_within}
 use Rattle.prefix6.specs.Prefix.{Prefix6, prefix_cmp}
@@ -11,10 +10,10 @@ use Rattle.route_table.specs.Route.{RouteValue}
 use Rattle.route_table.specs.Place.{Entries}
 use Rattle.route_table.specs.Table.{past}
 use Rattle.route_table.proofs.PastPrefix.{past_all, run_rest}
-use Rattle.route_table.proofs.Walks.{present_at}
 use Rattle.router_core.specs.Output.{Message, AddsSpelled, responses_at, told_entry, told_message}
 use Rattle.router_core.specs.declared.answer.Destination.TheVariants.{Group}
 use Rattle.router_core.specs.declared.answer.Outgoing.{Outgoing}
+use Rattle.router_core.proofs.ToldRuns.{no_last}
 use Rattle.router_core.proofs.Sending.{SpelledTo, SpelledTo-start, SpelledTo-end, responses-nil, told-added}
 
 abbrev pub Entry : Type 0
@@ -63,8 +62,4 @@ module _ (mtu iface : ℕ) (some : 0 < entries_for_mtu mtu) (es : Entries) (sort
   IsTold-last piece is none =
       let n = entries_for_mtu mtu in
       let rest = past after es in
-      let empty : length piece ≡ 0 = elim (cases_lt 0 (length piece)) [
-        | inl lt ↦ absurd (present_at piece (length piece - 1) (omega arith) none)
-        | inr ge ↦ omega arith
-      ] in
-      IsTold-end (nil_from_length rest (omega (arith, empty, some, ap length is, length-take n rest)))
+      IsTold-end (nil_from_length rest (omega (arith, some, ap length (no_last piece none), ap length is, length-take n rest)))

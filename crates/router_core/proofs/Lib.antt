@@ -17,8 +17,8 @@ pub mod Owning
 mod AgedTables
 mod AllRoutes
 mod DueRoutes
+mod ToldRuns
 mod EmptyRequests
-mod LostTables
 mod Silence
 mod Waking
 mod RouterSteps

@@ -18,7 +18,7 @@ use Rattle.router_core.specs.declared.answer.Destination.{Destination}
 use Rattle.router_core.specs.declared.answer.Destination.TheVariants.{Group, Peer}
 use Rattle.router_core.specs.declared.answer.Outgoing.{Outgoing}
 use Rattle.router_core.specs.declared.tell.Selection.{Selection}
-use Rattle.router_core.specs.declared.tell.Selection.TheVariants.{Every, Changed}
+use Rattle.router_core.specs.declared.tell.Selection.TheVariants.{Every, Changed, Unreachable}
 
 -- the route was learned on that interface
 abbrev pub is_learned_on : ℕ → Origin → Bool
@@ -55,11 +55,7 @@ is_changed r = r.changed
 abbrev pub selected : Selection → RouteValue → Bool
 selected Every = every_route
 selected Changed = is_changed
-
--- the routes of an update: these, or all of the table
-abbrev pub update_routes : Option (List (Prefix6 × RouteValue)) → Table → List (Prefix6 × RouteValue)
-update_routes (Some routes) table = routes
-update_routes None table = map_of.entries table
+selected Unreachable = every_route
 
 -- 0, 1, .., n - 1
 abbrev pub numbers_below : ℕ → List ℕ

@@ -1,6 +1,6 @@
 -- Which update a tick sends, and which timers it sets (RFC 2080, 2.3 and 2.5.1).
 use Rattle.std.specs.Prelude.{ℕ, ◌/◌, if◌then◌else◌, List, [], length, Option, Some, None}
-use Rattle.router_core.specs.Ageing.{aged_table}
+use Rattle.router_core.specs.Settling.{settled_table}
 use Rattle.router_core.specs.Machine.{State, is_regular_due, is_triggered_due}
 use Rattle.router_core.specs.Timers.{next_regular, next_hold}
 use Rattle.router_core.specs.Output.{Message, selected, update_messages}
@@ -14,7 +14,7 @@ update_due old now = if is_regular_due old now then Some Every else if is_trigge
 -- the messages of an update, if one is due
 abbrev pub update_of : State → ℕ → Option Selection → List Message
 update_of old now None = []
-update_of old now (Some which) = update_messages old.config (selected which) (aged_table now old.table)
+update_of old now (Some which) = update_messages old.config (selected which) (settled_table now which old.table)
 
 -- when the next regular update is due, after a tick (RFC 2080, 2.3)
 abbrev pub regular_after : State → ℕ → ℕ → Option Selection → ℕ

@@ -53,7 +53,6 @@ mod start;
 mod tell;
 mod ticking;
 mod timers;
-mod unreachable;
 
 pub use answer::{Answer, Destination, Note, NoteKind, Outgoing};
 pub use arrival::{Arrival, Fault, MAX_HOP_LIMIT, RIPNG_PORT};

@@ -26,7 +26,7 @@ use crate::config::RouterConfig;
 use crate::faults::{accept, fault_of};
 use crate::hear::hear;
 use crate::listed::Listed;
-use crate::listing::{has_told, told_at};
+use crate::listing::has_told;
 use crate::reply::reply;
 use crate::start::{changes_of_start, owned_routes, requests};
 use crate::tell::{Selection, updates};
@@ -237,8 +237,7 @@ impl<S: RouteStore> Router<S> {
         if self.is_silent(which, now) {
             return Ok(Vec::new(self.alloc));
         }
-        let routes = told_at(self.alloc, &self.store, which, now)?;
-        updates(self.alloc, &self.config, &self.store, &routes)
+        updates(self.alloc, &self.config, &self.store, which, now)
     }
 
     /// When the next regular update is due, after an update.

@@ -10,8 +10,7 @@ ghost use Rattle.router_core.specs.Output.{AreSpelled};
 
 use super::{Router, answer_of};
 use crate::answer::{Answer, Outgoing};
-use crate::tell::updates;
-use crate::unreachable::unreachable_routes;
+use crate::tell::{Selection, updates};
 use route_table::{Moment, RouteStore};
 use std::alloc::AllocError;
 
@@ -21,8 +20,13 @@ impl<S: RouteStore> Router<S> {
         ensures spelled { IfOk result (λ sends. AreSpelled (shutdown_messages self.now.config now self.now.table) sends.items) }
         ensures few { IfOk result (λ sends. length sends.items ≤ map_of.len self.now.table * length self.now.config.interfaces) }
     {
-        let routes = unreachable_routes(self.alloc, &self.store, now)?;
-        updates(self.alloc, &self.config, &self.store, &Some(routes))
+        updates(
+            self.alloc,
+            &self.config,
+            &self.store,
+            Selection::Unreachable,
+            now,
+        )
     }
 
     /// The router shuts down: unless it is passive, an update on each interface advertises every route with metric 16. So

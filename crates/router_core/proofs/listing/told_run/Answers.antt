@@ -1,0 +1,57 @@
+use Rattle.std.proofs.Common.{◌≡◌, ◌++◌, take, ◌-◌, ◌<◌, length, sym, ap, ◌∙◌, arith, append-nil}
+use Rattle.std.specs.FinMap.{entries, entries_sorted}
+use Rattle.route_table.specs.Place.{Entries}
+use Rattle.route_table.specs.Table.{past}
+use Rattle.router_core.proofs.ToldRuns.{told, found, no_last, run_grows, run_fits, run_ends, found_less}
+use Rattle.router_core.proofs.listing.told_run.Goals as goal
+
+pub loop-alloc-init : goal.loop-alloc-init
+loop-alloc-init g c =
+    let rest : Entries = past c.args.after (told c.args.now c.args.which (entries (g.S.RouteStore.table c.args.store.now))) in
+    let all : c.args.most - 0 ≡ c.args.most = omega arith in
+    record {
+      items = ap (λ (l : Entries). l ++ take (c.args.most - length l) rest) c.in_ok-run.ensures.items ∙ ap (λ n. take n rest) all;
+      fits = omega (arith, ap length c.in_ok-run.ensures.items);
+    }
+
+pub loop-alloc-preserved : goal.loop-alloc-preserved
+loop-alloc-preserved g c =
+    let t = g.S.RouteStore.table c.args.store.now in
+    let run = c.loop-alloc.run.items in
+    let batch = c.in_ok-batch.batch.items in
+    let is : batch ≡ take (c.args.most - length run) (found c.args.now c.args.which c.loop-alloc.after (entries t)) =
+    c.in_ok-batch.ensures ∙ ap (λ n. take (c.args.most - n) (found c.args.now c.args.which c.loop-alloc.after (entries t))) (c.len-in-loop-alloc.ensures ∙ c.loop-alloc.run.ok.0) in
+    let grown : c.push_told.new.run.items ≡ run ++ told c.args.now c.args.which batch = c.in_ok-push_told.ensures ∙ ap (λ l. run ++ told c.args.now c.args.which l) c.deref-in-loop-alloc.ensures.value in
+    record {
+      items =
+          run_grows c.args.now c.args.which c.loop-alloc.after (entries t) (entries_sorted t) run batch c.push_told.new.run.items c.args.most c.in-Some.last.now
+          is (sym (rw c.deref.ensures.value at c.in-Some.ensures.value)) grown
+          ∙ c.loop-alloc.invariant.items;
+      fits = run_fits c.args.now c.args.which c.loop-alloc.after (entries t) (entries_sorted t) run batch c.push_told.new.run.items c.args.most c.loop-alloc.invariant.fits is grown;
+    }
+
+pub loop-alloc-smaller : goal.loop-alloc-smaller
+loop-alloc-smaller g c =
+    let t = g.S.RouteStore.table c.args.store.now in
+    found_less c.args.now c.args.which c.loop-alloc.after (entries t) (entries_sorted t) (c.args.most - c.len-in-loop-alloc.result) c.in_ok-batch.batch.items c.in-Some.last.now
+    c.in_ok-batch.ensures (sym (rw c.deref.ensures.value at c.in-Some.ensures.value))
+
+pub returns-in_default : goal.returns-in_default
+returns-in_default g c =
+    let t = g.S.RouteStore.table c.args.store.now in
+    let run = c.loop-alloc.run.items in
+    let size : c.len-in-loop-alloc.result ≡ length run = c.len-in-loop-alloc.ensures ∙ c.loop-alloc.run.ok.0 in
+    let more : 0 < c.args.most - length run = omega (arith, c.loop-alloc-test.true, c.len.ensures, c.loop-alloc.run.ok.0) in
+    sym (run_ends c.args.now c.args.which c.loop-alloc.after (entries t) (entries_sorted t) run c.in_ok-batch.batch.items (c.args.most - length run) more
+    (c.in_ok-batch.ensures ∙ ap (λ n. take (c.args.most - n) (found c.args.now c.args.which c.loop-alloc.after (entries t))) size)
+    (no_last c.in_ok-batch.batch.items (sym (rw c.deref.ensures.value at c.in_default.ensures.value))))
+    ∙ c.loop-alloc.invariant.items
+
+pub returns : goal.returns
+returns g c =
+    let t = g.S.RouteStore.table c.args.store.now in
+    let run = c.loop-alloc.run.items in
+    let none : 0 ≡ c.args.most - length run = omega (arith, c.loop-alloc-test.false, c.len.ensures, c.loop-alloc.run.ok.0) in
+    sym (append-nil run)
+    ∙ ap (λ n. run ++ take n (past c.loop-alloc.after (told c.args.now c.args.which (entries t)))) none
+    ∙ c.loop-alloc.invariant.items
