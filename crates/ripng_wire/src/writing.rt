@@ -35,8 +35,8 @@ fn bytes_of(entry: Rte) -> [u8; ENTRY_LEN]
 {
     let mut bytes = [0; ENTRY_LEN];
     NetworkEndian::write_u128(&mut bytes, entry.addr);
-    NetworkEndian::write_u16(&mut bytes[16..], entry.tag);
-    bytes[18] = entry.len;
-    bytes[19] = entry.metric;
+    // Tag, length and metric in one: a processor that writes them apart and then copies them together waits for itself.
+    let last = (u32::from(entry.tag) * 256 + u32::from(entry.len)) * 256 + u32::from(entry.metric);
+    NetworkEndian::write_u32(&mut bytes[16..], last);
     bytes
 }
