@@ -9,7 +9,7 @@ use Rattle.ripngd_control.specs.Clients.{ClientsState, Heeds}
 use Rattle.ripngd_engine.specs.Link.{Call}
 use Rattle.ripngd_engine.specs.Seen.{Seen, Started, untouched}
 use Rattle.ripngd_daemon.specs.Run.{HasDone, IsOver, Lasts, ShowsRun, Begun, Turned, Told, TurnsAndHeeds, lines_of, words_of}
-use Rattle.ripngd_daemon.specs.Losses.{AreLossesOf}
+use Rattle.ripngd_daemon.specs.Losses.{AreLossesOf, has_failed}
 use Rattle.ripngd_daemon.specs.Tabled.{table_text}
 use Rattle.ripngd_daemon.specs.Written.{begins_with}
 use Rattle.ripngd_daemon.specs.declared.failure.Failure.{Failure}
@@ -51,7 +51,7 @@ pub shows_run : (order : Order) (router : RouterValue) (rng : Lcg) (history : Hi
     (old new : Option (List ℕ)) → first ≡ [] → bytes ≡ begins_with order.log order.append
     → Started router (words_of rng) (untouched (Some first) None (Some bytes)) begun → Lasts order.turns order.seconds (lines_of history.clients) begun done
     → done.outside.calls ≡ Some calls → history.ports.calls ≡ Some calls → done.outside.text ≡ Some history.log.past.bytes
-    → AreLossesOf done.outside.lost_sends done.machine.lost_memory done.outside.log_failed history.lost
+    → AreLossesOf done.outside.lost_sends done.machine.lost_memory (has_failed order.log done.outside.log_failed) history.lost
     → Appends old new (table_text done.machine.fib) → ShowsRun order router rng history old new
 shows_run order router rng history first calls bytes begun done old new uncalled is_begun started lasts are is log lost shown = (
   done.machine.fib,
@@ -74,7 +74,7 @@ pub shows_outcome : (order : Order) (router : RouterValue) (rng : Lcg) (history 
     (bytes : List ℕ) (begun done : Seen) (old new : Option (List ℕ)) (r : Result (Unit {0}) Failure) → history.clients ≡ clients → first ≡ []
     → bytes ≡ begins_with order.log order.append → Started router (words_of rng) (untouched (Some first) None (Some bytes)) begun
     → OnOk r (Lasts order.turns order.seconds (lines_of clients) begun done) → done.outside.calls ≡ Some calls → history.ports.calls ≡ Some calls
-    → done.outside.text ≡ Some history.log.past.bytes → AreLossesOf done.outside.lost_sends done.machine.lost_memory done.outside.log_failed history.lost
+    → done.outside.text ≡ Some history.log.past.bytes → AreLossesOf done.outside.lost_sends done.machine.lost_memory (has_failed order.log done.outside.log_failed) history.lost
     → OnOk r (Appends old new (table_text done.machine.fib)) → OnOk r (ShowsRun order router rng history old new)
 shows_outcome order router rng history clients first calls bytes begun done old new (Ok u) same uncalled is_begun started lasts are is log lost shown =
     shows_run order router rng history first calls bytes begun done old new uncalled is_begun started (rw (sym same) at lasts) are is log lost shown

@@ -1,5 +1,5 @@
 -- What is written of what a run lost (the format is this project's choice).
-use Rattle.std.specs.Prelude.{◌≡◌, ℕ, Bool, true, false, List, [], ◌++◌, codes, decimal}
+use Rattle.std.specs.Prelude.{◌≡◌, ℕ, Bool, true, false, List, [], ◌++◌, Option, None, Some, codes, decimal}
 use Rattle.ripngd_control.specs.declared.counts.Losses.{Losses}
 use Rattle.ripngd_engine.specs.Run.{counted}
 use Rattle.ripngd_engine.specs.declared.report.Report.{Report}
@@ -12,6 +12,11 @@ nothing_lost = record { lost_sends = 0; lost_memory = 0; log_failed = false }
 -- nor by a link
 abbrev pub no_losses : Losses
 no_losses = record { report = nothing_lost; arrivals = 0; strangers = 0 }
+
+-- whether the log has failed: it has not where none is ordered
+abbrev pub has_failed : {A : Type 0} → Option A → Bool → Bool
+has_failed None log_failed = false
+has_failed (Some name) log_failed = log_failed
 
 -- these are the losses of an engine that has lost `sends` and `steps`, together with those of its link: `late` sends that failed after
 -- they had waited, and received datagrams that it could not keep, which count as steps

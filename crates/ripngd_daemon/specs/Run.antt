@@ -18,7 +18,7 @@ use Rattle.ripngd_control.specs.declared.command.Command.TheVariants.{Stop, Stop
 use Rattle.ripngd_engine.specs.Link.{Call}
 use Rattle.ripngd_engine.specs.Seen.{Ran, Seen, Started, untouched}
 use Rattle.ripngd_udp.specs.Peers.{OnLink, links_at}
-use Rattle.ripngd_daemon.specs.Losses.{AreLossesOf}
+use Rattle.ripngd_daemon.specs.Losses.{AreLossesOf, has_failed}
 use Rattle.ripngd_daemon.specs.Tabled.{table_text}
 use Rattle.ripngd_daemon.specs.Written.{begins_with}
 use Rattle.ripngd_daemon.specs.declared.history.History.{History}
@@ -105,7 +105,7 @@ pub record HasRun (order : Order) (router : RouterValue) (rng : Lcg) (history : 
   pub lasts : Lasts order.turns order.seconds (lines_of history.clients) begun done
   pub calls_are : (done.outside.calls ≡ Some calls) × (history.ports.calls ≡ Some calls)
   pub log_is : done.outside.text ≡ Some history.log.past.bytes
-  pub lost : AreLossesOf done.outside.lost_sends done.machine.lost_memory done.outside.log_failed history.lost
+  pub lost : AreLossesOf done.outside.lost_sends done.machine.lost_memory (has_failed order.log done.outside.log_failed) history.lost
   pub table_is : table ≡ done.machine.fib
 
 -- the writer gained the forwarding table of such a router

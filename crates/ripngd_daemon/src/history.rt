@@ -4,7 +4,7 @@ ghost use Rattle.std.specs.Prelude.{◌≡◌, ◌≢◌, [], List, None, OnOk, 
 ghost use Rattle.std.specs.Io.KnownBytes.{Appends};
 ghost use Rattle.ripngd_engine.specs.Link.{Call};
 ghost use Rattle.ripngd_engine.specs.Run.{counted};
-ghost use Rattle.ripngd_daemon.specs.Losses.{AreLossesOf, losses_line, no_losses, nothing_lost};
+ghost use Rattle.ripngd_daemon.specs.Losses.{AreLossesOf, has_failed, losses_line, no_losses, nothing_lost};
 ghost use Rattle.ripngd_daemon.specs.Run.{lines_of};
 
 use crate::run_log::RunLog;
@@ -48,18 +48,23 @@ impl History {
         self.lost
     }
 
-    /// Ends a router: its link sends what waits, and the ports are closed.
-    pub(crate) fn close<R: Clock>(&mut self, engine: UdpEngine<'_, R>, log: RunLog<'_, R>)
+    /// Ends a router: its link sends what waits, and the ports are closed. `ordered` is the name of its log.
+    pub(crate) fn close<R: Clock>(
+        &mut self,
+        ordered: Option<&str>,
+        engine: UdpEngine<'_, R>,
+        log: RunLog<'_, R>,
+    )
         ensures calls { (calls : List Call) × (engine.entry.calls ≡ Some calls) × (self.new.ports.calls ≡ Some calls) }
         ensures log { self.new.log ≡ log.entry.written }
-        ensures lost { AreLossesOf engine.entry.lost_sends engine.entry.lost_memory engine.entry.log_failed self.new.lost }
+        ensures lost { AreLossesOf engine.entry.lost_sends engine.entry.lost_memory (has_failed ordered.entry engine.entry.log_failed) self.new.lost }
         ensures links { self.new.ports.on_links ≡ self.old.ports.on_links }
         ensures clients { self.new.clients ≡ self.old.clients }
     {
         let report = engine.report();
         let mut link = engine.into_link();
         link.finish();
-        self.lost = losses_of(report, &link);
+        self.lost = losses_of(ordered, report, &link);
         self.ports.close(link);
         self.log = log.written;
     }
@@ -87,10 +92,15 @@ const NOTHING_LOST: Losses = Losses {
 };
 
 /// What a router has lost, together with its link: sends that failed after they had waited, received datagrams for which there was no
-/// room or no memory, and datagrams from ports of no peer.
-pub(crate) fn losses_of<R: Clock>(report: Report, link: &Udp<'_, R>) -> Losses
+/// room or no memory, and datagrams from ports of no peer. Where no log is ordered, none has failed.
+pub(crate) fn losses_of<R: Clock>(
+    ordered: Option<&str>,
+    report: Report,
+    link: &Udp<'_, R>,
+) -> Losses
     ensures { result ≡ record {
       report = record report {
+        log_failed = has_failed ordered.entry report.log_failed;
         lost_sends = counted report.lost_sends link.now.failed_sends;
         lost_memory = counted report.lost_memory link.now.lost_arrivals;
       };
@@ -103,7 +113,7 @@ pub(crate) fn losses_of<R: Clock>(report: Report, link: &Udp<'_, R>) -> Losses
         report: Report {
             lost_sends: report.lost_sends.saturating_add(link.failed_sends()),
             lost_memory: report.lost_memory.saturating_add(arrivals),
-            ..report
+            log_failed: report.log_failed && ordered.is_some(),
         },
         arrivals,
         strangers: link.strangers(),

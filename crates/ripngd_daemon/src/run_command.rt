@@ -181,7 +181,7 @@ fn run_ready<'r, 'a, R: Files<File = File> + Print + Clock + Net + AllocGlobal, 
         rng,
         &mut log,
     )?;
-    tell_of_log(&engine, false, &mut monitor);
+    tell_of_log(&engine, order.log.is_none(), &mut monitor);
     let outcome = show_turns(
         rt,
         order,
@@ -194,6 +194,6 @@ fn run_ready<'r, 'a, R: Files<File = File> + Print + Clock + Net + AllocGlobal, 
     if order.debug {
         monitor.write_counts();
     }
-    history.close(engine, log);
+    history.close(order.log, engine, log);
     outcome
 }

@@ -18,6 +18,7 @@ use std::rt::Files;
 /// Where the log goes.
 #[derive(Drop)]
 enum Target<'r, R> {
+    /// No log is ordered: it refuses its first line, so that none is made after it.
     Nowhere,
     /// Standard output, without a buffer.
     Output(&'r R),
@@ -93,7 +94,7 @@ impl<R: Print> Target<'_, R> {
         ensures { WritesAtMost result bytes.now }
     {
         match self {
-            Target::Nowhere => Ok(bytes.len()),
+            Target::Nowhere => Err(io::Error::from(io::ErrorKind::WriteZero)),
             Target::Output(rt) => rt.write_some(bytes),
             Target::File(file) => file.write(bytes),
         }

@@ -74,6 +74,7 @@ fn pause_before<R: Clock>(order: Order<'_>, engine: &UdpEngine<'_, R>, looks: u3
 /// Serves the clients, if the router listens and may have some: one has connected or is served, or it is still looked for one.
 fn serve_clients<R: Clock + AllocGlobal, W: Write, E: Write>(
     rt: &R,
+    order: Order<'_>,
     engine: &mut UdpEngine<'_, R>,
     clients: &mut Option<Clients>,
     looks: &mut u32,
@@ -98,7 +99,7 @@ fn serve_clients<R: Clock + AllocGlobal, W: Write, E: Write>(
         return RunState::Running;
     }
     *looks -= 1;
-    let lost = losses_of(engine.report(), engine.link());
+    let lost = losses_of(order.log, engine.report(), engine.link());
     let mut peering = PeerUpdate::new();
     clients.serve(rt, engine, monitor, lost, &mut peering, log)
 }
@@ -117,7 +118,7 @@ pub(crate) fn tell_of_log<R: Clock, E: Write>(
 /// Makes a turn, and serves the clients.
 fn turn<R: Clock + AllocGlobal, W: Write, E: Write>(
     rt: &R,
-    mut pause: Pause,
+    order: Order<'_>,
     engine: &mut UdpEngine<'_, R>,
     clients: &mut Option<Clients>,
     looks: &mut u32,
@@ -131,10 +132,12 @@ fn turn<R: Clock + AllocGlobal, W: Write, E: Write>(
     ensures stops { IfOk result (λ state. state ≡ RunState.Stopped → IsToldToStop (lines_of clients.new)) }
     ensures alone { clients.old ≡ None → clients.new ≡ None }
 {
-    let had_failed = engine.report().log_failed;
+    // Nothing is said of a log that is not ordered.
+    let had_failed = order.log.is_none() || engine.report().log_failed;
+    let mut pause = pause_before(order, engine, *looks);
     engine.change_link(&mut pause);
     engine.turns_observed(1, log, monitor)?;
-    let state = serve_clients(rt, engine, clients, looks, log, monitor);
+    let state = serve_clients(rt, order, engine, clients, looks, log, monitor);
     tell_of_log(engine, had_failed, monitor);
     Ok(state)
 }
@@ -163,8 +166,7 @@ fn make_turns<'a, R: Clock + AllocGlobal, W: Write, E: Write>(
         if is_over(order.seconds, engine) {
             return Ok(());
         }
-        let pause = pause_before(order, engine, looks);
-        match turn(rt, pause, engine, clients, &mut looks, log, monitor) {
+        match turn(rt, order, engine, clients, &mut looks, log, monitor) {
             Ok(RunState::Running) => {}
             Ok(RunState::Stopped) => return Ok(()),
             Ok(RunState::Ended) | Err(EngineFault::OutOfMemory) => return Err(Failure::OutOfMemory),
