@@ -1,12 +1,11 @@
 -- A timely history, cut at each full minute, is phases.
-use Rattle.std.proofs.Common.{◌≡◌, ◌⊎◌, inl, inr, ℕ, zero, suc, ◌+◌, ◌-◌, ◌*◌, ◌<◌, ◌≤◌, List, [], ◌∷◌, ◌++◌, Contains, refl, sym, subst, ◌∙◌, arith}
+use Rattle.std.proofs.Common.{◌≡◌, ◌⊎◌, inl, inr, ℕ, zero, suc, ◌+◌, ◌-◌, ◌*◌, ◌<◌, ◌≤◌, List, [], ◌++◌, Contains, refl, sym, subst, ◌∙◌, arith}
 use Rattle.std.proofs.lemmas.List.Elements.{recursion_from_All, All-from_recursion}
 use Rattle.router_core.specs.Timers.{garbage_time}
 use Rattle.ripng_world.specs.Network.{Network}
 use Rattle.ripng_world.specs.Rounds.{router_of, moment_of}
 use Rattle.ripng_world.specs.World.{World}
 use Rattle.ripng_phases.specs.Minutes.{Timed, IsPromptUpdate, IsTimely}
-use Rattle.ripng_phases.specs.Phases.{Before}
 use Rattle.ripng_phases.proofs.Stretches.{IsInPhases, IsRegular, IsUpdateBetween, spans, stretched}
 
 pub minutes : (n : ℕ) → spans 60_000 n ≡ 60_000 * n

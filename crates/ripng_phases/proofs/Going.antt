@@ -1,5 +1,5 @@
 -- A phase that is under way goes on: time passes, a router ticks, a datagram is handed on.
-use Rattle.std.proofs.Common.{◌≡◌, ◌≢◌, ◌⊎◌, inl, inr, ℕ, ◌+◌, ◌<◌, ◌≤◌, IsTrue, List, [], ◌∷◌, ◌++◌, filter, length, Contains, Some, slice_get, max, refl, ap, sym, subst, ◌∙◌, arith, append-nil, append_assoc, le_refl, le_trans, map, Bool, true}
+use Rattle.std.proofs.Common.{◌≡◌, ◌≢◌, ◌⊎◌, inl, inr, ℕ, ◌+◌, ◌<◌, ◌≤◌, IsTrue, List, [], ◌∷◌, ◌++◌, filter, length, Contains, Some, slice_get, max, refl, ap, sym, subst, ◌∙◌, arith, append-nil, append_assoc, le_refl, le_trans, map, Bool}
 use Rattle.std.specs.List.{AllByRecursion}
 use Rattle.std.proofs.lemmas.Option.{slice_get_within}
 use Rattle.router_core.specs.Machine.{State}
@@ -11,10 +11,10 @@ use Rattle.ripng_world.specs.Watching.{Told, WatchedRun, heard}
 use Rattle.ripng_world.specs.World.{World, Event, Deliver, Stranger, Tick, Restart, Shutdown, LinkDown, LinkUp, Reconfigure}
 use Rattle.ripng_world.specs.declared.pairs.Pair.{Pair}
 use Rattle.ripng_world.specs.declared.sent.Sent.{Sent}
-use Rattle.ripng_world.proofs.Among.{in_filter, in_map}
+use Rattle.ripng_world.proofs.Among.{contains_at, in_map}
 use Rattle.ripng_world.proofs.AskedSynchronous.{to_pairs}
 use Rattle.ripng_world.proofs.Members.{At}
-use Rattle.ripng_phases.specs.Making.{AreReceivers, TellsSteps, IsRising, IsInMinute, IsHandedOn, IsUpdateTold, IsUnderway, IsKept, IsAdded, IsDeliveryAt, IsHanded}
+use Rattle.ripng_phases.specs.Making.{TellsSteps, IsRising, IsInMinute, IsHandedOn, IsUpdateTold, IsUnderway, IsKept, IsAdded, IsDeliveryAt, IsHanded}
 use Rattle.ripng_phases.specs.Phases.{Step, Takes, events_of, reached}
 use Rattle.ripng_phases.specs.declared.course.Course.{Course}
 use Rattle.ripng_phases.specs.declared.course.Update.{Update}
@@ -24,12 +24,12 @@ use Rattle.ripng_phases.proofs.Tells.{tells_on, tells_take, tells_one, contains_
 use Rattle.ripng_phases.proofs.Updating.{takes_grows, still_sent, no_fewer}
 
 -- each other interface of the link receives it
-pub is_receiver : (net : Network) (d : Sent) (router iface : ℕ) → AreLinked net d.router d.iface router iface → (router ≢ d.router) ⊎ (iface ≢ d.iface) → is_other net d (router, iface) ≡ true
+pub is_receiver : (net : Network) (d : Sent) (router iface : ℕ) → AreLinked net d.router d.iface router iface → (router ≢ d.router) ⊎ (iface ≢ d.iface) → Contains (filter (is_other net d) (interfaces_of net)) (router, iface)
 is_receiver net d router iface linked elsewhere =
     let at : At (pairs_since net 0 (d ∷ [])) (pair_at 0 (router, iface)) = to_pairs net 0 (d ∷ []) 0 router iface d (omega arith) refl linked elsewhere in
     let one : pairs_since net 0 (d ∷ []) ≡ map (pair_at 0) (filter (is_other net d) (interfaces_of net)) = append-nil (map (pair_at 0) (filter (is_other net d) (interfaces_of net))) in
     let m = in_map (pair_at 0) (filter (is_other net d) (interfaces_of net)) (pair_at 0 (router, iface)) (subst (λ (ps : List Pair). At ps (pair_at 0 (router, iface))) one at) in
-    ap (λ (p : Pair). is_other net d (p.router, p.iface)) (sym m.2) ∙ (in_filter (is_other net d) (interfaces_of net) m.0 m.1).1
+    subst (λ (r : ℕ × ℕ). Contains (filter (is_other net d) (interfaces_of net)) r) (ap (λ (p : Pair). (p.router, p.iface)) m.2) (contains_at (filter (is_other net d) (interfaces_of net)) m.0 m.1)
 
 -- what was told goes on, as more is handed on
 pub told_on : (net : Network) (w : World) (steps more : List Step) (router : ℕ) (u : Update) (next next' : ℕ) (told : IsUpdateTold net w steps router u next)
@@ -234,7 +234,7 @@ module _ {V : Type 0} (t : V → Told → V → Type 0) (s : LabValue × V) (fir
     handed_rising = rising_one course.next course.moment (events_of h.steps) h.only_this
 
     pub handed : (course' : Course) → (IsKept course.told.items course.next → IsTrue keeps)
-        → AreReceivers a.0 course.next receivers
+        → ((d : Sent) → slice_get a.0.world.sent course.next ≡ Some d → receivers ≡ filter (is_other a.0.network d) (interfaces_of a.0.network))
         → course.next < length a.0.world.sent → course' ≡ record course { next = course.next + 1 } → IsUnderway t s first begin course' b
     handed course' kept received here same_course =
         subst (λ (c : Course). IsUnderway t s first begin c b) (sym same_course)
@@ -284,7 +284,7 @@ module _ {V : Type 0} (t : V → Told → V → Type 0) (s : LabValue × V) (fir
             let now_sent : slice_get a.0.world.sent course.next ≡ Some d =
             still_sent told.tick.after a.0.world (takes_grows s.0.network told.after told.tick.after a.0.world rest.3) course.next d (subst (λ (n : ℕ). slice_get told.tick.after.sent n ≡ Some d) number sent_is) in
             let here_linked : AreLinked a.0.network d.router d.iface to iface = subst (λ (net : Network). AreLinked net d.router d.iface to iface) (sym is.network) linked in
-            let listed : Contains receivers (to, iface) = received d now_sent to iface here_linked.there here_linked.there_is (is_receiver a.0.network d to iface here_linked elsewhere) in (
+            let listed : Contains receivers (to, iface) = subst (λ (rs : List (ℕ × ℕ)). Contains rs (to, iface)) (sym (received d now_sent)) (is_receiver a.0.network d to iface here_linked elsewhere) in (
               course.moment,
               subst (λ (n : ℕ). Contains (events_of h.steps) (Deliver n to iface course.moment)) (sym number) (h.each (kept is_kept) (to, iface) listed),
             )

@@ -1,17 +1,11 @@
 -- A datagram is handed on: which interfaces it comes to, and how it comes to one after another.
-use Rattle.std.proofs.Common.{◌≡◌, ◌⊎◌, inl, inr, ℕ, zero, suc, ◌+◌, ◌<◌, Bool, true, IsTrue, List, [], ◌∷◌, ◌++◌, Contains, Option, Some, None, length, take, get_or, slice_get, refl, ap, sym, subst, ◌∙◌, arith}
-use Rattle.std.specs.Prelude.{option_and_then, option_map}
+use Rattle.std.proofs.Common.{◌≡◌, ◌⊎◌, inl, inr, ℕ, zero, suc, ◌+◌, ◌<◌, Bool, IsTrue, List, [], ◌∷◌, ◌++◌, Contains, Some, length, take, get_or, slice_get, refl, ap, sym, subst, ◌∙◌, arith}
 use Rattle.std.specs.List.{AllByRecursion}
 use Rattle.std.proofs.lemmas.List.{take_more}
-use Rattle.std.proofs.lemmas.Option.{slice_get_within}
 use Rattle.route_table.proofs.TableLaws.{Some-same, None-Some}
-use Rattle.ripng_world.specs.AskedRounds.{is_other}
-use Rattle.ripng_world.specs.Labs.{link_at}
-use Rattle.ripng_world.specs.Network.{Network, Node, interface_at}
+use Rattle.ripng_world.specs.Network.{Network}
 use Rattle.ripng_world.specs.Watching.{IfRefused, Told, WatchedRun, heard}
 use Rattle.ripng_world.specs.World.{World, Event, Deliver}
-use Rattle.ripng_world.specs.declared.network.NetInterface.{NetInterface}
-use Rattle.ripng_world.specs.declared.sent.Sent.{Sent}
 use Rattle.ripng_world.specs.declared.watch.Stopped.{Stopped}
 use Rattle.ripng_world.proofs.Members.{at_from_contains, split_at}
 use Rattle.ripng_phases.specs.Making.{IsDeliveryAt, IsHanded, IsHandedInPart, IsLast, TellsSteps}
@@ -41,59 +35,6 @@ split_last {X} xs x y c =
 
 pub next_of : (a b : ℕ) → a < b + 1 → (a < b) ⊎ (a ≡ b)
 next_of a b lt = grind (arith, lt)
-
--- ---- interfaces of a network
-
-within_some : {X : Type 0} (xs : List X) (i : ℕ) → i < length xs → (x : X) × (slice_get xs i ≡ Some x)
-within_some [] i lt = absurd (no i lt)
-  where
-    no : (n : ℕ) → n < 0 → ⊥
-    no n e = omega arith
-within_some (x ∷ xs) zero lt = (x, refl)
-within_some (x ∷ xs) (suc i) lt = within_some xs i (less i (length xs) lt)
-  where
-    less : (a b : ℕ) → suc a < suc b → a < b
-    less a b e = omega arith
-
--- interfaces are numbered without gaps
-pub below_none : (net : Network) (router n iface : ℕ) (i : NetInterface) → link_at net router n ≡ None → interface_at net router iface ≡ Some i → iface < n
-below_none net router n iface i none is = by (slice_get net router) none is
-  where
-    split : (a b c : ℕ) → a < c → (a < b) ⊎ (b < c)
-    split a b c lt = grind (arith, lt)
-
-    by : (o : Option Node) → option_map (λ (j : NetInterface). j.link) (option_and_then (λ (node : Node). slice_get node.interfaces n) o) ≡ None
-        → option_and_then (λ (node : Node). slice_get node.interfaces iface) o ≡ Some i → iface < n
-    by None none is = absurd (None-Some i is)
-    by (Some node) none is =
-        elim (split iface n (length node.interfaces) (slice_get_within node.interfaces iface i is)) [
-          | inl lt ↦ lt
-          | inr here ↦ let x = within_some node.interfaces n here in absurd (None-Some x.0.link (sym none ∙ ap (option_map (λ (j : NetInterface). j.link)) x.1))
-        ]
-
--- of a router that is there
-pub has_router : (net : Network) (router iface : ℕ) (i : NetInterface) → interface_at net router iface ≡ Some i → router < length net
-has_router net router iface i is = by (slice_get net router) refl is
-  where
-    by : (o : Option Node) → slice_get net router ≡ o → option_and_then (λ (node : Node). slice_get node.interfaces iface) o ≡ Some i → router < length net
-    by None at is = absurd (None-Some i is)
-    by (Some node) at is = slice_get_within net router node at
-
--- those of a router, one after another
-module _ (net : Network) (d : Sent) (router n : ℕ) (xs : List (ℕ × ℕ)) (added : (iface : ℕ) → iface < n → is_other net d (router, iface) ≡ true → Contains xs (router, iface)) where
-  pub added_one : (iface : ℕ) → iface < n + 1 → is_other net d (router, iface) ≡ true → Contains (xs ++ (router, n) ∷ []) (router, iface)
-  added_one iface lt other =
-      elim (next_of iface n lt) [
-        | inl old ↦ contains_left xs ((router, n) ∷ []) (router, iface) (added iface old other)
-        | inr here ↦ subst (λ (k : ℕ). Contains (xs ++ (router, n) ∷ []) (router, k)) (sym here) (last_of xs (router, n))
-      ]
-
-  pub added_none : (is_other net d (router, n) ≡ true → ⊥) → (iface : ℕ) → iface < n + 1 → is_other net d (router, iface) ≡ true → Contains xs (router, iface)
-  added_none never iface lt other =
-      elim (next_of iface n lt) [
-        | inl old ↦ added iface old other
-        | inr here ↦ absurd (never (subst (λ (k : ℕ). is_other net d (router, k) ≡ true) here other))
-      ]
 
 -- ---- a datagram comes to one interface after another
 

@@ -1,18 +1,16 @@
 -- Phases as a lab makes them. Each is one minute by a true clock, in which datagrams are handed on in the order in which they were sent.
-use Rattle.std.specs.Prelude.{◌≡◌, ◌≢◌, ℕ, ◌+◌, ◌*◌, ◌^◌, ◌<◌, ◌≤◌, ⊤, ◌⊎◌, Bool, true, IsTrue, List, [], ◌∷◌, ◌++◌, length, All, Contains, Option, Some, Result, Ok, Err, slice_get}
+use Rattle.std.specs.Prelude.{◌≡◌, ◌≢◌, ℕ, ◌+◌, ◌*◌, ◌^◌, ◌<◌, ◌≤◌, ⊤, ◌⊎◌, Bool, IsTrue, List, [], ◌∷◌, ◌++◌, length, All, Contains, Option, Some, Result, Ok, Err, slice_get}
 use Rattle.std.specs.List.{AllByRecursion}
 use Rattle.router_core.specs.Machine.{State}
 use Rattle.router_core.specs.declared.answer.NoteKind.TheVariants.{NoMemory}
 use Rattle.ripng_world.specs.Convergence.{IsNeverQuiet}
 use Rattle.ripng_world.specs.Healing.{network_now, FitsTablesSince, AreHealed}
 use Rattle.ripng_world.specs.Labs.{LabValue}
-use Rattle.ripng_world.specs.AskedRounds.{is_other}
-use Rattle.ripng_world.specs.Network.{Network, AreLinked, interface_at}
+use Rattle.ripng_world.specs.Network.{Network, AreLinked}
 use Rattle.ripng_world.specs.Packets.{PacketsArrive}
 use Rattle.ripng_world.specs.Rounds.{IsDueTick, moment_of}
 use Rattle.ripng_world.specs.Watching.{Told, EndsAt, IfRefused, telling}
 use Rattle.ripng_world.specs.World.{World, Event, Deliver, Tick, Happens, past_of}
-use Rattle.ripng_world.specs.declared.network.NetInterface.{NetInterface}
 use Rattle.ripng_world.specs.declared.sent.Sent.{Sent}
 use Rattle.ripng_world.specs.declared.watch.Stopped.{Stopped}
 use Rattle.ripng_world.specs.declared.watch.Stopped.TheVariants.{Refused}
@@ -185,13 +183,6 @@ pub record IsAdded (told : List (Option Update)) (router : ℕ) (update : Update
   pub here : router < length told → slice_get told' router ≡ Some (Some update)
   pub others : (other : ℕ) (u : Update) → slice_get told' other ≡ Some (Some u) → ((other ≡ router) × (u ≡ update)) ⊎ (slice_get told other ≡ Some (Some u))
   pub kept : (other : ℕ) (u : Update) → slice_get told other ≡ Some (Some u) → (v : Update) × (slice_get told' other ≡ Some (Some v))
-
--- each other interface of the link of a datagram is among these
-abbrev pub AreReceivers : LabValue → ℕ → List (ℕ × ℕ) → Type 0
-AreReceivers lab datagram receivers =
-    (d : Sent) → slice_get lab.world.sent datagram ≡ Some d
-    → (router iface : ℕ) (i : NetInterface) → interface_at lab.network router iface ≡ Some i → is_other lab.network d (router, iface) ≡ true
-    → Contains receivers (router, iface)
 
 -- a delivery of the datagram at the moment
 abbrev pub IsDeliveryAt : ℕ → ℕ → Event → Type 0

@@ -5,7 +5,6 @@ ghost use Rattle.ripng_phases.specs.Making.{IsAdded, IsKept};
 ghost use Rattle.ripng_phases.specs.declared.course.Update.{Update as UpdateValue};
 
 use route_table::Moment;
-use std::alloc::Global;
 
 /// How long a phase takes, by the true clock, in milliseconds.
 pub const PHASE_MS: u64 = 60_000;
@@ -22,7 +21,6 @@ pub struct Update {
 /// How far a phase has come.
 #[derive(Drop)]
 pub struct Course {
-    pub alloc: Global,
     /// The moment that it is by the true clock.
     pub moment: Moment,
     /// When the minute of the phase is over, in milliseconds.

@@ -7,13 +7,11 @@
 
 ghost use Rattle.std.specs.Prelude.{◌≡◌, ◌↔◌, ℕ, ◌+◌, ◌^◌, ◌<◌, ◌≤◌, ◌⊎◌, max, IfErr, IfOk, IfSome, IsTrue, OnOk, None, Some, length, slice_get};
 ghost use Rattle.router_core.specs.Machine.{State};
-ghost use Rattle.ripng_world.specs.declared.watch.Stopped.TheVariants.{Refused};
 ghost use Rattle.ripng_phases.specs.Changing.{last_change, shown_in};
 ghost use Rattle.ripng_phases.specs.Making.{AreMadeInPart, AreMadePhases, GoesOn, HealsIn, IsCutShort, IsFresh, IsLatest, IsMadePhase, LetsArriveIn, MakesPhase};
 ghost use Rattle.ripng_phases.specs.declared.course.Update.{Update as UpdateValue};
-ghost use Rattle.ripng_phases.specs.declared.refused.PhaseRefused.TheVariants.{OutOfMemory};
 
-use crate::acting::{announce, hand_on, is_due, nudge};
+use crate::acting::{hand_on, tick};
 use crate::course::{Course, PHASE_MS};
 use crate::refused::PhaseRefused;
 use crate::shown::{ShownRoute, are_same, shown_routes};
@@ -28,41 +26,22 @@ const TURNS: usize = 3;
 /// How long these take at most, if each waits for as long as it may, in milliseconds. It may be longer than the minute.
 const TURNS_MS: u32 = 90_000;
 
-/// A router ticks at this moment.
-fn tick<S: RouteStore, V: Observer<S>>(
+/// What was sent is handed on, up to the datagram with a number.
+fn hand_until<S: RouteStore, V: Observer<S>, R: Rng>(
     lab: &mut Lab<S>,
     course: &mut Course,
-    router: usize,
-    word: u32,
-    watch: &mut V,
-) -> Result<(), Stopped<PhaseRefused, V::Fault>>
-    ensures network { lab.new.network ≡ lab.old.network }
-    ensures goes { GoesOn V.takes V.fails result (lab.old, watch.old) course.old (lab.new, watch.new) course.new }
-    ensures routers { length course.new.told.items ≡ length course.old.told.items }
-{
-    if is_due(lab, router, course.moment) {
-        announce(lab, course, router, word, watch)
-    } else {
-        nudge(lab, course, router, word, watch)
-    }
-}
-
-/// Up to `count` datagrams are handed on, if there are.
-fn hand_some<S: RouteStore, V: Observer<S>, R: Rng>(
-    lab: &mut Lab<S>,
-    course: &mut Course,
-    count: usize,
+    end: usize,
     rng: &mut R,
     watch: &mut V,
 ) -> Result<(), Stopped<PhaseRefused, V::Fault>>
     ensures network { lab.new.network ≡ lab.old.network }
     ensures goes { GoesOn V.takes V.fails result (lab.old, watch.old) course.old (lab.new, watch.new) course.new }
-    ensures routers { length course.new.told.items ≡ length course.old.told.items }
+    ensures told { course.new.told.items ≡ course.old.told.items }
+    ensures until { course.new.until ≡ course.old.until }
+    ensures over { OnOk result ((end ≤ course.new.next) ⊎ (length lab.new.world.sent ≤ course.new.next)) }
 {
-    for _ in 0..count {
-        if course.next < lab.sent().len() {
-            hand_on(lab, course, rng, watch)?;
-        }
+    while course.next < end && course.next < lab.sent().len() {
+        hand_on(lab, course, rng, watch)?;
     }
     Ok(())
 }
@@ -84,7 +63,8 @@ fn turn<S: RouteStore, V: Observer<S>, R: Rng>(
     let router = rng.next_u32() as usize % lab.routers().max(1);
     tick(lab, course, router, rng.next_u32(), watch)?;
     let count = rng.next_u32() as usize % 8;
-    hand_some(lab, course, count, rng, watch)
+    let end = course.next.saturating_add(count);
+    hand_until(lab, course, end, rng, watch)
 }
 
 /// The longest that one of these turns waits, in milliseconds.
@@ -149,7 +129,7 @@ fn tell<S: RouteStore, V: Observer<S>>(
     match due_moment(lab, course, router) {
         Some(due) => {
             course.moment = due;
-            announce(lab, course, router, word, watch)
+            tick(lab, course, router, word, watch)
         }
         None => Err(Stopped::Refused(PhaseRefused::NoUpdateInTime { router })),
     }
@@ -175,24 +155,6 @@ fn tell_rest<S: RouteStore, V: Observer<S>, R: Rng>(
     Ok(())
 }
 
-/// What was sent up to the last regular update is handed on.
-fn hand_rest<S: RouteStore, V: Observer<S>, R: Rng>(
-    lab: &mut Lab<S>,
-    course: &mut Course,
-    rng: &mut R,
-    watch: &mut V,
-) -> Result<(), Stopped<PhaseRefused, V::Fault>>
-    ensures network { lab.new.network ≡ lab.old.network }
-    ensures goes { GoesOn V.takes V.fails result (lab.old, watch.old) course.old (lab.new, watch.new) course.new }
-    ensures told { course.new.told.items ≡ course.old.told.items }
-    ensures over { OnOk result ((course.new.until ≤ course.new.next) ⊎ (length lab.new.world.sent ≤ course.new.next)) }
-{
-    while course.next < course.until && course.next < lab.sent().len() {
-        hand_on(lab, course, rng, watch)?;
-    }
-    Ok(())
-}
-
 /// The course of a phase that begins, in which no router has sent anything.
 fn course_from<S: RouteStore>(
     alloc: Global,
@@ -204,7 +166,6 @@ fn course_from<S: RouteStore>(
 {
     let told = vec![in alloc; None; lab.routers()]?;
     Ok(Course {
-        alloc,
         moment,
         end: moment.ms() + PHASE_MS,
         next: first,
@@ -236,7 +197,8 @@ fn make_phase<S: RouteStore, V: Observer<S>, R: Rng>(
     };
     make_turns(lab, &mut course, rng, watch)?;
     tell_rest(lab, &mut course, rng, watch)?;
-    hand_rest(lab, &mut course, rng, watch)?;
+    let end = course.until;
+    hand_until(lab, &mut course, end, rng, watch)?;
     Ok(course.next)
 }
 
@@ -246,7 +208,7 @@ fn show<S: RouteStore, F>(
     lab: &Lab<S>,
 ) -> Result<Vec<ShownRoute>, Stopped<PhaseRefused, F>>
     ensures shown { IfOk result (λ shown. shown.items ≡ shown_in lab.now.network lab.now.world) }
-    ensures memory { IfErr result (λ why. why ≡ Refused OutOfMemory) }
+    ensures memory { IfErr result (λ why. why ≡ Stopped.Refused PhaseRefused.OutOfMemory) }
 {
     match shown_routes(alloc, lab) {
         Ok(shown) => Ok(shown),

@@ -1,5 +1,5 @@
 -- A router that shuts down tells nothing but losses.
-use Rattle.std.proofs.Common.{◌≡◌, ℕ, ◌+◌, ◌*◌, ◌-◌, ◌/◌, Bool, true, false, cond, List, [], ◌∷◌, map, drop, length, flat_map, slice_range, Option, Some, None, refl, ap, sym, subst}
+use Rattle.std.proofs.Common.{◌≡◌, ℕ, ◌+◌, ◌*◌, ◌-◌, ◌/◌, true, false, cond, List, [], ◌∷◌, drop, length, flat_map, slice_range, Some, refl, subst}
 use Rattle.std.specs.Prelude.{⊤}
 use Rattle.std.specs.List.{AllByRecursion, enumerate_from}
 use Rattle.std.specs.FinMap as map_of
@@ -7,7 +7,6 @@ use Rattle.prefix6.specs.Prefix.{Prefix6}
 use Rattle.ripng_wire.specs.declared.rte.Rte.{Rte}
 use Rattle.ripng_wire.specs.declared.rte.Command.TheVariants.{Response}
 use Rattle.ripng_wire.specs.Layout.{Spells, entries_for_mtu}
-use Rattle.ripng_wire.specs.declared.rte.Command.{Command}
 use Rattle.ripng_wire.proofs.OneReading.{one_reading}
 use Rattle.route_table.specs.Route.{RouteValue, infinity}
 use Rattle.route_table.specs.Table.{Table}
@@ -15,7 +14,7 @@ use Rattle.route_table.proofs.TableLaws.{all_entries, at_map_values, Some-same}
 use Rattle.router_core.specs.Adoption.{lost}
 use Rattle.router_core.specs.Config.{Config, mtu_at}
 use Rattle.router_core.specs.Shutdown.{unreachable_table, shutdown_messages}
-use Rattle.router_core.specs.Machine.{State, Happening, ShutsDown, Moves}
+use Rattle.router_core.specs.Machine.{State, ShutsDown, Moves}
 use Rattle.router_core.specs.Output.{Message, AreSpelled, told, told_entry, is_learned_on, every_route, numbers_below, pieces, responses}
 use Rattle.router_core.specs.declared.answer.Answer.{Answer}
 use Rattle.router_core.specs.declared.answer.Destination.{Destination}

@@ -1,5 +1,11 @@
 //! What may happen in a network, and why an event is refused.
 
+ghost use Rattle.std.specs.Prelude.{◌≡◌};
+ghost use Rattle.ripng_world.specs.Events.{event_of};
+ghost use Rattle.ripng_world.specs.Labs.{lab_error_name, lab_error_number, refusal_of};
+ghost use Rattle.ripng_world.specs.Rounds.{router_of};
+ghost use Rattle.ripng_world.specs.declared.event.LabError.TheVariants.{OutOfMemory};
+
 use route_table::Moment;
 use router_core::{Arrival, Change, ReconfigureRefused};
 use std::alloc::AllocError;
@@ -106,9 +112,6 @@ pub enum LabError {
 }
 
 impl LabError {
-    ghost use Rattle.std.specs.Prelude.{◌≡◌};
-    ghost use Rattle.ripng_world.specs.Labs.{lab_error_name, lab_error_number};
-
     /// The number of the refusal, 1 to 8.
     pub fn number(self) -> u8
         ensures { result ≡ lab_error_number self }
@@ -143,9 +146,6 @@ impl LabError {
 }
 
 impl From<AllocError> for LabError {
-    ghost use Rattle.std.specs.Prelude.{◌≡◌};
-    ghost use Rattle.ripng_world.specs.declared.event.LabError.TheVariants.{OutOfMemory};
-
     ghost from_gives = { λ _ refusal. refusal ≡ OutOfMemory };
 
     fn from(_error: AllocError) -> LabError {
@@ -154,9 +154,6 @@ impl From<AllocError> for LabError {
 }
 
 impl From<ReconfigureRefused> for LabError {
-    ghost use Rattle.std.specs.Prelude.{◌≡◌};
-    ghost use Rattle.ripng_world.specs.Labs.{refusal_of};
-
     ghost from_gives = { λ why refusal. refusal ≡ refusal_of why };
 
     fn from(why: ReconfigureRefused) -> LabError {
@@ -168,10 +165,6 @@ impl From<ReconfigureRefused> for LabError {
 }
 
 impl<'a> Event<'a> {
-    ghost use Rattle.std.specs.Prelude.{◌≡◌};
-    ghost use Rattle.ripng_world.specs.Events.{event_of};
-    ghost use Rattle.ripng_world.specs.Rounds.{router_of};
-
     /// The number of the router that moves.
     pub fn router(&self) -> usize
         ensures { result ≡ router_of (event_of self.entry.now) }

@@ -22,6 +22,7 @@ use crate::running::Running;
 use crate::sent::Sent;
 use crate::station::Station;
 use crate::watch::{Observer, Stopped, Unwatched};
+pub use delivering::wants_memory;
 use route_table::{Moment, RouteStore};
 use router_core::{Answer, Change, Router};
 use std::alloc::{AllocError, Global};

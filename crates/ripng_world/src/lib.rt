@@ -36,7 +36,7 @@ mod station;
 mod watch;
 
 pub use event::{Event, LabError};
-pub use lab::Lab;
+pub use lab::{Lab, wants_memory};
 pub use laws::{
     converges_in_rounds, generalises_walks, heals_in_rounds, invents_no_distance,
     invents_no_distance_unchanged, keeps_routes_backed, names_one_gateway, packets_arrive,

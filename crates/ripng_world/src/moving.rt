@@ -157,12 +157,8 @@ pub fn happen<S: RouteStore>(
             Ok(act(stations, sent, *router, Happening::ShutsDown(*now))?)
         }
         Event::LinkDown { router, now, iface } => {
-            Ok(act(
-                stations,
-                sent,
-                *router,
-                Happening::LinkGoesDown(*now, *iface),
-            )?)
+            let goes_down = Happening::LinkGoesDown(*now, *iface);
+            Ok(act(stations, sent, *router, goes_down)?)
         }
         Event::LinkUp { router, now, iface } => {
             let comes_up = Happening::LinkComesUp(*now, *iface);

@@ -7,7 +7,8 @@ ghost use Rattle.prefix6.specs.Prefix.{IsPrefix};
 ghost use Rattle.ripng_wire.specs.Wire.{first_reason};
 ghost use Rattle.router_core.specs.Config.{IsConfig, reasons_of_each};
 ghost use Rattle.ripng_world.specs.Network.{IsNetwork, config_of};
-ghost use Rattle.ripng_world.specs.NetworkFaults.{address_reasons, addresses, faults_of_router, network_fault, router_reasons};
+ghost use Rattle.ripng_world.specs.NetworkFaults.{address_reasons, addresses, faults_of_router, net_refused_name, net_refused_number, network_fault, router_reasons};
+ghost use Rattle.ripng_world.specs.declared.network.NetRefused.TheVariants.{OutOfMemory};
 
 use prefix6::{Addr6, Prefix};
 use router_core::{ConfigRefused, Interface, RouterConfig};
@@ -68,8 +69,6 @@ pub enum NetRefused {
 }
 
 impl NetRefused {
-    ghost use Rattle.ripng_world.specs.NetworkFaults.{net_refused_name, net_refused_number};
-
     /// The number of the refusal, 1 to 4.
     pub fn number(self) -> u8
         ensures { result ≡ net_refused_number self }
@@ -96,8 +95,6 @@ impl NetRefused {
 }
 
 impl From<AllocError> for NetRefused {
-    ghost use Rattle.ripng_world.specs.declared.network.NetRefused.TheVariants.{OutOfMemory};
-
     ghost from_gives = { λ _ refusal. refusal ≡ OutOfMemory };
 
     fn from(_error: AllocError) -> NetRefused {
@@ -151,11 +148,11 @@ fn without_links(alloc: Global, interfaces: &[NetInterface]) -> Result<Vec<Inter
 }
 
 /// A router of its configuration, if that is lawful.
-fn check_router(alloc: Global, number: usize, node: Node) -> Result<NetRouter, NetRefused>
+fn check_router(alloc: Global, router: usize, node: Node) -> Result<NetRouter, NetRefused>
     ensures kept { IfOk result (λ r. r ≡ node) }
-    ensures passes { OnOk result (first_reason (faults_of_router number node) ≡ None) }
+    ensures passes { OnOk result (first_reason (faults_of_router router node) ≡ None) }
     ensures lawful { OnOk result (IsConfig (config_of node)) }
-    ensures refused { IfErr result (λ why. why ≢ NetRefused.OutOfMemory → first_reason (faults_of_router number node) ≡ Some why) }
+    ensures refused { IfErr result (λ why. why ≢ NetRefused.OutOfMemory → first_reason (faults_of_router router node) ≡ Some why) }
 {
     let Node {
         interfaces,
@@ -164,10 +161,7 @@ fn check_router(alloc: Global, number: usize, node: Node) -> Result<NetRouter, N
     } = node;
     match RouterConfig::check(without_links(alloc, &interfaces)?, prefixes, quiet) {
         Ok(config) => Ok(NetRouter { interfaces, config }),
-        Err(refusal) => Err(NetRefused::BadRouter {
-            router: number,
-            refusal,
-        }),
+        Err(refusal) => Err(NetRefused::BadRouter { router, refusal }),
     }
 }
 

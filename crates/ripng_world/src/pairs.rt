@@ -2,7 +2,8 @@
 
 ghost use Rattle.std.specs.Prelude.{◌≡◌, ◌++◌, IfOk, OnOk, map};
 ghost use Rattle.std.specs.List.{filter, range_with_len};
-ghost use Rattle.ripng_world.specs.AskedRounds.{is_other, pair_at, pairs_since, interfaces_of};
+ghost use Rattle.ripng_world.specs.AskedRounds.{delivery, interfaces_of, is_other, pair_at, pairs_since};
+ghost use Rattle.ripng_world.specs.Events.{event_of};
 ghost use Rattle.ripng_world.specs.Stations.{network_of};
 
 use crate::event::Event;
@@ -21,10 +22,6 @@ pub struct Pair {
 }
 
 impl Pair {
-    ghost use Rattle.std.specs.Prelude.{◌≡◌};
-    ghost use Rattle.ripng_world.specs.AskedRounds.{delivery};
-    ghost use Rattle.ripng_world.specs.Events.{event_of};
-
     /// The datagram comes to the interface.
     pub fn delivery(&self, now: Moment) -> Event<'static>
         ensures { event_of result ≡ delivery self.now now }
@@ -86,24 +83,38 @@ fn is_other<S: RouteStore>(
     }
 }
 
-/// Adds a datagram with each interface of its link.
-fn add_pairs<S: RouteStore>(
-    pairs: &mut Vec<Pair>,
+/// The other interfaces of a datagram's link, each after its router's number, in order.
+pub fn receivers<S: RouteStore>(
+    alloc: Global,
     stations: &[Station<S>],
-    interfaces: &[(usize, usize)],
-    number: usize,
     datagram: &Sent,
-) -> Result<(), AllocError>
-    ensures { OnOk result (pairs.new.items ≡ pairs.old.items ++ map (pair_at number) (filter (is_other (network_of stations.now) datagram.now) interfaces.now)) }
+) -> Result<Vec<(usize, usize)>, AllocError>
+    ensures { IfOk result (λ receivers. receivers.items ≡ filter (is_other (network_of stations.now) datagram.now) (interfaces_of (network_of stations.now))) }
 {
-    for &(router, iface) in interfaces {
+    let interfaces = interfaces(alloc, stations)?;
+    let mut receivers = Vec::new(alloc);
+    for &(router, iface) in &interfaces {
         if is_other(stations, datagram, router, iface) {
-            pairs.push(Pair {
-                datagram: number,
-                router,
-                iface,
-            })?;
+            receivers.push((router, iface))?;
         }
+    }
+    Ok(receivers)
+}
+
+/// Adds a datagram with each of these interfaces.
+fn add_pairs(
+    pairs: &mut Vec<Pair>,
+    datagram: usize,
+    receivers: &[(usize, usize)],
+) -> Result<(), AllocError>
+    ensures { OnOk result (pairs.new.items ≡ pairs.old.items ++ map (pair_at datagram) receivers.now) }
+{
+    for &(router, iface) in receivers {
+        pairs.push(Pair {
+            datagram,
+            router,
+            iface,
+        })?;
     }
     Ok(())
 }
@@ -117,10 +128,10 @@ pub fn pairs_since<S: RouteStore>(
 ) -> Result<Vec<Pair>, AllocError>
     ensures { IfOk result (λ pairs. pairs.items ≡ pairs_since (network_of stations.now) first sent.now) }
 {
-    let interfaces = interfaces(alloc, stations)?;
     let mut pairs = Vec::new(alloc);
     for number in first..sent.len() {
-        add_pairs(&mut pairs, stations, &interfaces, number, &sent[number])?;
+        let receivers = receivers(alloc, stations, &sent[number])?;
+        add_pairs(&mut pairs, number, &receivers)?;
     }
     Ok(pairs)
 }

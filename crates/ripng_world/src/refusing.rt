@@ -147,18 +147,6 @@ fn check_named<S: RouteStore>(
     }
 }
 
-/// Whether there are such a router and such an interface.
-fn check_link<S: RouteStore>(
-    stations: &[Station<S>],
-    router: usize,
-    iface: usize,
-) -> Result<(), LabError>
-    ensures { result_err result ≡ first_reason (missing_interface_reasons (network_of stations.now) router iface) }
-{
-    check_interface(stations, router, iface)?;
-    Ok(())
-}
-
 /// The first reason to refuse an event, before its router is asked.
 pub fn check<S: RouteStore>(
     stations: &[Station<S>],
@@ -179,7 +167,8 @@ pub fn check<S: RouteStore>(
         | Event::Restart { router, .. }
         | Event::Shutdown { router, .. } => { check_router(stations, *router) }
         Event::LinkDown { router, iface, .. } | Event::LinkUp { router, iface, .. } => {
-            check_link(stations, *router, *iface)
+            check_interface(stations, *router, *iface)?;
+            Ok(())
         }
         Event::Reconfigure { router, change, .. } => check_named(stations, *router, change),
     }

@@ -1,8 +1,9 @@
 //! Observers of a lab, and how a call ends that has one.
 
-ghost use Rattle.std.specs.Prelude.{⊤, OnErr, OnOk};
+ghost use Rattle.std.specs.Prelude.{◌≡◌, ⊤, OnErr, OnOk};
 ghost use Rattle.ripng_world.specs.Events.{event_of};
-ghost use Rattle.ripng_world.specs.Watching.{Told};
+ghost use Rattle.ripng_world.specs.Watching.{Told, failures, refused_as};
+ghost use Rattle.ripng_world.specs.declared.watch.Stopped.TheVariants.{Refused};
 
 use crate::event::Event;
 use crate::running::Running;
@@ -68,9 +69,6 @@ pub enum Stopped<R, F> {
 }
 
 impl<R: Drop, F> Stopped<R, F> {
-    ghost use Rattle.std.specs.Prelude.{◌≡◌};
-    ghost use Rattle.ripng_world.specs.Watching.{failures, refused_as};
-
     /// How many notices failed: one, if the observer ended the call.
     pub fn failures(&self) -> usize
         ensures { result ≡ failures self.now }
@@ -93,9 +91,6 @@ impl<R: Drop, F> Stopped<R, F> {
 }
 
 impl<R> Stopped<R, Infallible> {
-    ghost use Rattle.std.specs.Prelude.{◌≡◌};
-    ghost use Rattle.ripng_world.specs.declared.watch.Stopped.TheVariants.{Refused};
-
     /// The refusal, where the observer cannot fail.
     pub fn refusal(self) -> R
         ensures { self ≡ Refused result }
@@ -107,9 +102,6 @@ impl<R> Stopped<R, Infallible> {
 }
 
 impl<R, F> From<R> for Stopped<R, F> {
-    ghost use Rattle.std.specs.Prelude.{◌≡◌};
-    ghost use Rattle.ripng_world.specs.declared.watch.Stopped.TheVariants.{Refused};
-
     ghost from_gives = { λ why stopped. stopped ≡ Refused why };
 
     fn from(why: R) -> Stopped<R, F> {

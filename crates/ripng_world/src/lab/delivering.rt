@@ -1,23 +1,24 @@
 //! Deliveries in a lab: what its routers sent comes to the other interfaces of the link.
 
 ghost use Rattle.std.specs.Prelude.{◌≡◌, ◌≢◌, ℕ, ◌<◌, ◌∷◌, [], IsFalse, IsTrue, All, IfErr, IfOk, OnErr, OnOk, false, length, slice_index_or, vec_len};
-ghost use Rattle.std.specs.List.{Any};
+ghost use Rattle.std.specs.List.{Any, filter};
 ghost use Rattle.router_core.specs.declared.answer.NoteKind.TheVariants.{NoMemory};
-ghost use Rattle.ripng_world.specs.AskedRounds.{deliveries_of, delivery, is_picked, other_deliveries, pairs_since, picked_deliveries};
+ghost use Rattle.ripng_world.specs.AskedRounds.{deliveries_of, delivery, interfaces_of, is_other, is_picked, other_deliveries, pairs_since, picked_deliveries};
 ghost use Rattle.ripng_world.specs.Delivering.{StopAt, StopForMemory, deliveries_since};
 ghost use Rattle.ripng_world.specs.Labs.{Keeps};
 ghost use Rattle.ripng_world.specs.Watching.{HeardInPart, WatchedInPart, WatchedRun, failures, heard};
 ghost use Rattle.ripng_world.specs.World.{WorldRun};
 
 use super::Lab;
-use crate::pairs::{Pair, pairs_since};
+use crate::pairs::{Pair, pairs_since, receivers};
+use crate::sent::Sent;
 use crate::watch::{Observer, Stopped, Unwatched};
 use route_table::{Moment, RouteStore};
 use router_core::{Note, NoteKind};
 use std::alloc::AllocError;
 
 /// Whether memory ran out for a new route.
-fn wants_memory(notes: &[Note]) -> bool
+pub fn wants_memory(notes: &[Note]) -> bool
     ensures absent { IsFalse result → All (λ n. n.kind ≢ NoMemory) notes.now }
     ensures found { IsTrue result → Any (λ n. n.kind ≡ NoMemory) notes.now }
 {
@@ -25,6 +26,16 @@ fn wants_memory(notes: &[Note]) -> bool
 }
 
 impl<S: RouteStore> Lab<S> {
+    /// The other interfaces of a datagram's link, each after its router's number, in order: where it may come.
+    ///
+    /// # Errors
+    /// Out of memory.
+    pub fn receivers(&self, datagram: &Sent) -> Result<Vec<(usize, usize)>, AllocError>
+        ensures { IfOk result (λ receivers. receivers.items ≡ filter (is_other self.now.network datagram.now) (interfaces_of self.now.network)) }
+    {
+        receivers(self.running.alloc, &self.running.stations, datagram)
+    }
+
     /// A datagram comes to an interface of its link.
     fn deliver<V: Observer<S>>(
         &mut self,

@@ -1,13 +1,15 @@
 //! Rounds of a lab: every router advertises its whole table, and all of it arrives.
 
-ghost use Rattle.std.specs.Prelude.{◌≡◌, ◌<◌, ◌≤◌, ◌↔◌, max, IsTrue, All, IfErr, OnOk, Some, length, slice_get};
+ghost use Rattle.std.specs.Prelude.{◌≡◌, ℕ, ◌<◌, ◌↔◌, max, IsTrue, All, IfErr, OnOk, Some, length, slice_get};
 ghost use Rattle.router_core.specs.Machine.{State};
 ghost use Rattle.ripng_world.specs.AskedRounds.{AreAllMade, Converges, ticks_of};
 ghost use Rattle.ripng_world.specs.Healing.{Heals};
 ghost use Rattle.ripng_world.specs.Packets.{LetsArrive};
 ghost use Rattle.ripng_world.specs.Labs.{Keeps};
+ghost use Rattle.ripng_world.specs.Rounds.{IsDueTick};
 ghost use Rattle.ripng_world.specs.Stopping.{HaveStopped, RoundStops, RoundsStop, round_in};
 ghost use Rattle.ripng_world.specs.Watching.{AreMadeTold, IfRefused, IsMadeTold, RoundToldInPart, RoundsToldInPart, WatchedInPart, WatchedRun, due, failures};
+ghost use Rattle.ripng_world.specs.World.{Tick};
 
 use super::Lab;
 use crate::event::Event;
@@ -24,13 +26,18 @@ fn later(last: Moment, now: Moment) -> Moment
 
 impl<S: RouteStore> Lab<S> {
     /// Whether the regular update of a router is due at a moment, or at its last moment if that is later.
-    fn is_due(&self, router: usize, now: Moment) -> bool
-        requires { router < length self.now.network }
-        ensures { (state : State) × (slice_get self.now.world.states router ≡ Some state) × (IsTrue result ↔ (state.regular ≤ max state.last now)) }
+    pub fn is_due(&self, router: usize, now: Moment) -> bool
+        ensures due { (word : ℕ) → IsTrue result ↔ IsDueTick self.now.world (Tick router now word) }
+        ensures there { router < length self.now.network → (state : State) × (slice_get self.now.world.states router ≡ Some state) }
     {
-        let router = self.running.stations[router].router();
-        let now = later(router.last(), now);
-        router.regular().reached(now)
+        match self.running.stations.get(router) {
+            Some(station) => {
+                let router = station.router();
+                let now = later(router.last(), now);
+                router.regular().reached(now)
+            }
+            None => false,
+        }
     }
 
     /// Each router ticks, in order, each when its regular update is due.

@@ -86,9 +86,7 @@ fn hop_to<S: RouteStore>(
         return None;
     }
     let here = interface_at(stations, router, iface)?;
-    let Some(station) = stations.get(other) else {
-        return None;
-    };
+    let station = stations.get(other)?;
     let router_iface = place_on(station.interfaces(), here.link, next_hop)?;
     Some(PathHop {
         iface,
@@ -120,9 +118,7 @@ fn hop_from<S: RouteStore>(stations: &[Station<S>], router: usize, addr: Addr6) 
     ensures found { IfSome result (ForwardsBy (forwardings_of (world_of stations.now [] [])) addr router) }
     ensures none { IsNone result → HasNoMatch (forwardings_of (world_of stations.now [] [])) addr router }
 {
-    let Some(station) = stations.get(router) else {
-        return None;
-    };
+    let station = stations.get(router)?;
     longest_match(station.router().routes(), addr)
 }
 

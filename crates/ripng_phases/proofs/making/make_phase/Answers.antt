@@ -1,4 +1,4 @@
-use Rattle.std.proofs.Common.{◌≡◌, ℕ, ◌<◌, ◌≤◌, ◌^◌, List, Option, Some, length, slice_get, sym, subst, ◌∙◌, ap, arith}
+use Rattle.std.proofs.Common.{◌≡◌, ◌⊎◌, ℕ, ◌<◌, ◌≤◌, ◌^◌, List, Option, Some, length, slice_get, sym, subst, ◌∙◌, ap, arith}
 use Rattle.ripng_world.specs.Network.{Network}
 use Rattle.ripng_phases.specs.Making.{IsUnderway}
 use Rattle.ripng_phases.specs.declared.course.Update.{Update}
@@ -34,14 +34,14 @@ returns-in_err-tell_rest-clause-made g c =
     makes_handed g.V.Observer.takes g.V.Observer.fails c.from_residual-in_err-tell_rest.result c.in_err-tell_rest.field-0.0 (c.args.lab.now, c.args.watch.now) c.args.first c.args.begin (c.tell_rest.new.lab, c.tell_rest.new.watch)
     c.from_residual-in_err-tell_rest.ensures.1 (c.in_err-tell_rest.ensures.goes (c.args.lab.now, c.args.watch.now) c.args.first c.args.begin turned)
 
-pub returns-in_err-hand_rest-clause-made : goal.returns-in_err-hand_rest-clause-made
-returns-in_err-hand_rest-clause-made g c =
+pub returns-in_err-hand_until-clause-made : goal.returns-in_err-hand_until-clause-made
+returns-in_err-hand_until-clause-made g c =
     let begun = subst (λ (n : ℕ). IsUnderway g.V.Observer.takes (c.args.lab.now, c.args.watch.now) c.args.first n c.in-Ok.course (c.args.lab.now, c.args.watch.now)) (some_new _ _ c.new.result c.in-Some.moment c.new.ensures c.in-Some.is).1
     (begins g.V.Observer.takes c.args.lab.now c.args.watch.now c.in-Some.moment c.args.first c.in-Ok.course c.in-Ok.ensures c.requires) in
     let turned = c.in_ok-make_turns.ensures.goes (c.args.lab.now, c.args.watch.now) c.args.first c.args.begin begun in
     let told = c.in_ok-tell_rest.ensures.goes (c.args.lab.now, c.args.watch.now) c.args.first c.args.begin turned in
-    makes_handed g.V.Observer.takes g.V.Observer.fails c.from_residual-in_err-hand_rest.result c.in_err-hand_rest.field-0.0 (c.args.lab.now, c.args.watch.now) c.args.first c.args.begin (c.hand_rest.new.lab, c.hand_rest.new.watch)
-    c.from_residual-in_err-hand_rest.ensures.1 (c.in_err-hand_rest.ensures.goes (c.args.lab.now, c.args.watch.now) c.args.first c.args.begin told)
+    makes_handed g.V.Observer.takes g.V.Observer.fails c.from_residual-in_err-hand_until.result c.in_err-hand_until.field-0.0 (c.args.lab.now, c.args.watch.now) c.args.first c.args.begin (c.hand_until.new.lab, c.hand_until.new.watch)
+    c.from_residual-in_err-hand_until.ensures.1 (c.in_err-hand_until.ensures.goes (c.args.lab.now, c.args.watch.now) c.args.first c.args.begin told)
 
 pub returns-clause-made : goal.returns-clause-made
 returns-clause-made g c =
@@ -49,9 +49,9 @@ returns-clause-made g c =
     (begins g.V.Observer.takes c.args.lab.now c.args.watch.now c.in-Some.moment c.args.first c.in-Ok.course c.in-Ok.ensures c.requires) in
     let turned = c.in_ok-make_turns.ensures.goes (c.args.lab.now, c.args.watch.now) c.args.first c.args.begin begun in
     let told = c.in_ok-tell_rest.ensures.goes (c.args.lab.now, c.args.watch.now) c.args.first c.args.begin turned in
-    let handed = c.in_ok-hand_rest.ensures.goes (c.args.lab.now, c.args.watch.now) c.args.first c.args.begin told in
-    is_over g.V.Observer.takes (c.args.lab.now, c.args.watch.now) c.args.first c.args.begin c.hand_rest.new.course (c.hand_rest.new.lab, c.hand_rest.new.watch) handed
+    let handed = c.in_ok-hand_until.ensures.goes (c.args.lab.now, c.args.watch.now) c.args.first c.args.begin told in
+    is_over g.V.Observer.takes (c.args.lab.now, c.args.watch.now) c.args.first c.args.begin c.hand_until.new.course (c.hand_until.new.lab, c.hand_until.new.watch) handed
     (λ router here.
     let x = c.in_ok-tell_rest.ensures.told router (subst (λ (net : Network). router < length net) (sym c.in_ok-make_turns.ensures.network) here) in
-    (x.0, subst (λ (us : List (Option Update)). slice_get us router ≡ Some (Some x.0)) (sym c.in_ok-hand_rest.ensures.told) x.1))
-    c.in_ok-hand_rest.ensures.over
+    (x.0, subst (λ (us : List (Option Update)). slice_get us router ≡ Some (Some x.0)) (sym c.in_ok-hand_until.ensures.told) x.1))
+    (subst (λ (n : ℕ). (n ≤ c.hand_until.new.course.next) ⊎ (length c.hand_until.new.lab.world.sent ≤ c.hand_until.new.course.next)) (sym c.in_ok-hand_until.ensures.until) c.in_ok-hand_until.ensures.over)

@@ -12,13 +12,13 @@ returns-in-Ok-clause-passes c =
     let same : config c.in_ok-without_links.field-0.items c.node.inside.prefixes.items c.node.inside.quiet ≡ config_of c.args.node =
     ap (λ (is : List Interface). config is c.node.inside.prefixes.items c.node.inside.quiet) (c.in_ok-without_links.ensures ∙ ap (map (λ (i : NetInterface). i.interface)) c.deref.ensures.value)
     ∙ ap config_of c.node.view_is in
-    first_reason-map (BadRouter c.args.number) (config_reasons (config_of c.args.node))
-    ∙ ap (option_map (BadRouter c.args.number)) (sym (c.in-Ok.ensures.refused ∙ ap config_fault same))
+    first_reason-map (BadRouter c.args.router) (config_reasons (config_of c.args.node))
+    ∙ ap (option_map (BadRouter c.args.router)) (sym (c.in-Ok.ensures.refused ∙ ap config_fault same))
 
 pub returns-in-Err-clause-refused : goal.returns-in-Err-clause-refused
 returns-in-Err-clause-refused c = λ _.
     let same : config c.in_ok-without_links.field-0.items c.node.inside.prefixes.items c.node.inside.quiet ≡ config_of c.args.node =
     ap (λ (is : List Interface). config is c.node.inside.prefixes.items c.node.inside.quiet) (c.in_ok-without_links.ensures ∙ ap (map (λ (i : NetInterface). i.interface)) c.deref.ensures.value)
     ∙ ap config_of c.node.view_is in
-    first_reason-map (BadRouter c.args.number) (config_reasons (config_of c.args.node))
-    ∙ ap (option_map (BadRouter c.args.number)) (sym (c.in-Err.ensures.refused ∙ ap config_fault same))
+    first_reason-map (BadRouter c.args.router) (config_reasons (config_of c.args.node))
+    ∙ ap (option_map (BadRouter c.args.router)) (sym (c.in-Err.ensures.refused ∙ ap config_fault same))

@@ -18,10 +18,9 @@ loop-number-preserved g c =
     let net = network_of c.args.stations.now in
     let n = c.loop-number.number in
     let d = c.index-sent-number.result in
-    let places_are = c.deref.ensures.value ∙ c.in_ok-interfaces.ensures in
     flat_grows (of_datagram net) (enumerate_from c.args.first (take (n - c.args.first) (drop c.args.first c.args.sent.now)))
     (enumerate_from c.args.first (take (n + 1 - c.args.first) (drop c.args.first c.args.sent.now))) (n, d) c.loop-number.pairs.items c.add_pairs.new.pairs.items c.loop-number.invariant
-    (c.in_ok-add_pairs.ensures ∙ ap (λ (ps : List (ℕ × ℕ)). c.loop-number.pairs.items ++ map (pair_at n) (filter (is_other net d) ps)) places_are)
+    (c.in_ok-add_pairs.ensures ∙ ap (λ (rs : List (ℕ × ℕ)). c.loop-number.pairs.items ++ map (pair_at n) rs) (c.deref.ensures.value ∙ c.in_ok-receivers.ensures))
     (numbered_more c.args.sent.now c.args.first n d (omega (arith, c.loop-number.auto.number)) (omega (arith, c.loop-number-test.true, c.loop-number.auto.number-end)) c.index-sent-number.is)
 
 pub returns : goal.returns

@@ -17,14 +17,14 @@ pub returns-then-not-is_due-clause-refused : goal.returns-then-not-is_due-clause
 returns-then-not-is_due-clause-refused g c =
     let r = c.loop-router.router in
     let t = c.tick-item.result in
-    let d = c.is_due.ensures in
+    let there = c.is_due.ensures.there (omega (arith, c.loop-router-test.true, ap (λ (a : Asked). length a.ticks) c.round.view_is, c.requires, ap length c.loop-router.invariant.network)) in
     record {
       before = watched_ticks g.V.Observer.takes c.args.self.now.network (take r (ticks_of c.args.round.now.ticks)) (c.args.self.now.world, c.args.watch.now) (c.loop-router.self.world, c.loop-router.watch) c.loop-router.invariant.ticked;
       tick = t;
       tick_is = ap (λ (a : Asked). slice_get a.ticks r) (sym c.round.view_is) ∙ slice_get-get_or c.round.inside.ticks.now r t c.loop-router-test.true ∙ ap Some (sym c.tick-item.is);
-      state = d.0;
-      state_is = d.1;
-      undue = undue c.is_due.result _ _ c.if-not-is_due.true d.2.1;
+      state = there.0;
+      state_is = there.1;
+      undue = undue c.is_due.result _ _ c.if-not-is_due.true (λ due. (c.is_due.ensures.due t.1).1 (there.0, there.1, due));
     }
 
 pub returns-then-not-is_due-clause-told : goal.returns-then-not-is_due-clause-told
@@ -51,25 +51,23 @@ returns-in-Err-clause-number g c = rw (c.refused_as.ensures) (same_round c.args.
 
 pub returns-in-Err-clause-refused : goal.returns-in-Err-clause-refused
 returns-in-Err-clause-refused g c =
-    let d = c.is_due.ensures in
     let stops = ticks_end g.V.Observer.takes g.V.Observer.fails c.args.self.now.network c.loop-router.self.network c.args.round.now c.loop-router.router
     (Tick c.loop-router.router c.tick-item.result.0 c.tick-item.result.1) (c.args.self.now.world, c.args.watch.now) (c.loop-router.self.world, c.loop-router.watch) (c.step_watched.new.self.world, c.step_watched.new.watch)
     (next _ c.args.round.now c.loop-router.router c.tick-item.result c.round.view_is c.loop-router-test.true c.tick-item.is) c.loop-router.invariant.ticked c.loop-router.invariant.network c.args.number c.in-Err.stopped
     (at_next _ c.args.round.now c.loop-router.router c.tick-item.result c.round.view_is c.loop-router-test.true c.tick-item.is) c.in-Err.ensures.stopped
     (both_still c.in-Err.stopped c.loop-router.self c.step_watched.new.self c.loop-router.watch c.step_watched.new.watch c.in-Err.ensures.ends.unchanged c.in-Err.ensures.untold)
-    (d.0, d.1, d.2.0 c.if-not-is_due.false) in
+    ((c.is_due.ensures.due c.tick-item.result.1).0 c.if-not-is_due.false) in
     rw (c.refused_as.ensures) stops
 
 pub loop-router-preserved : goal.loop-router-preserved
 loop-router-preserved g c =
     let r = c.loop-router.router in
     let t = c.tick-item.result in
-    let d = c.is_due.ensures in
     let h = c.in_default.ensures.happens in
     record {
       network = c.in_default.ensures.network ∙ c.loop-router.invariant.network;
       ticked = told_tick g.V.Observer.takes g.V.Observer.fails c.args.self.now.network c.loop-router.self.network c.args.round.now r (Tick r t.0 t.1) (c.args.self.now.world, c.args.watch.now)
-          (c.loop-router.self.world, c.loop-router.watch) (c.step_watched.new.self.world, c.step_watched.new.watch) (next _ c.args.round.now c.loop-router.router c.tick-item.result c.round.view_is c.loop-router-test.true c.tick-item.is) c.loop-router.invariant.ticked c.loop-router.invariant.network h.0 (d.0, d.1, d.2.0 c.if-not-is_due.false) h.1
+          (c.loop-router.self.world, c.loop-router.watch) (c.step_watched.new.self.world, c.step_watched.new.watch) (next _ c.args.round.now c.loop-router.router c.tick-item.result c.round.view_is c.loop-router-test.true c.tick-item.is) c.loop-router.invariant.ticked c.loop-router.invariant.network h.0 ((c.is_due.ensures.due t.1).0 c.if-not-is_due.false) h.1
           (given_told g.V.Observer.takes c.loop-router.self c.step_watched.new.self (Tick r t.0 t.1) _ _ c.loop-router.watch c.step_watched.new.watch h c.in_default.ensures.network refl c.in_default.ensures.told);
     }
 

@@ -12,22 +12,22 @@ returns-then-other-router-clause-none g c = λ none h leads same. leads.is_hop.0
 pub returns-in_err-here-clause-none : goal.returns-in_err-here-clause-none
 returns-in_err-here-clause-none g c = λ none h leads. absurd (leads_nowhere (network_of c.args.stations.now) c.args.router c.args.iface c.args.next_hop (sym c.in_err-here.ensures) h leads)
 
-pub returns-in_default-clause-none : goal.returns-in_default-clause-none
-returns-in_default-clause-none g c = λ none. leads_past c.args.stations.now c.args.router c.args.iface c.args.next_hop c.args.other c.in_default.ensures.lookup.3
+pub returns-in_err-station-clause-none : goal.returns-in_err-station-clause-none
+returns-in_err-station-clause-none g c = λ none. leads_past c.args.stations.now c.args.router c.args.iface c.args.next_hop c.args.other c.in_err-station.ensures.lookup.3
 
 pub returns-in_err-router_iface-clause-none : goal.returns-in_err-router_iface-clause-none
 returns-in_err-router_iface-clause-none g c = λ none.
     let stations = c.args.stations.now in
-    let station = c.in-Some.station.now in
-    let there = slice_get-get_or stations c.args.other station c.in-Some.ensures.lookup.3.0 ∙ ap Some (sym c.in-Some.ensures.lookup.1) in
+    let station = c.in_ok-station.station.now in
+    let there = slice_get-get_or stations c.args.other station c.in_ok-station.ensures.lookup.3.0 ∙ ap Some (sym c.in_ok-station.ensures.lookup.1) in
     passed_by stations c.args.router c.args.iface c.args.next_hop c.in_ok-here.here (sym c.in_ok-here.ensures) c.args.other station there
     (ap (position (is_on c.in_ok-here.here.link c.args.next_hop)) (sym c.interfaces.ensures) ∙ sym c.in_err-router_iface.ensures)
 
 pub returns-clause-found : goal.returns-clause-found
 returns-clause-found g c =
     let stations = c.args.stations.now in
-    let station = c.in-Some.station.now in
-    let there = slice_get-get_or stations c.args.other station c.in-Some.ensures.lookup.3.0 ∙ ap Some (sym c.in-Some.ensures.lookup.1) in
+    let station = c.in_ok-station.station.now in
+    let there = slice_get-get_or stations c.args.other station c.in_ok-station.ensures.lookup.3.0 ∙ ap Some (sym c.in_ok-station.ensures.lookup.1) in
     leads_to stations c.args.router c.args.iface c.args.next_hop c.in_ok-here.here (sym c.in_ok-here.ensures) c.args.other c.in_ok-router_iface.router_iface station
     (λ same. c.if-other-router.false (sym same)) there
     (ap (position (is_on c.in_ok-here.here.link c.args.next_hop)) (sym c.interfaces.ensures) ∙ sym c.in_ok-router_iface.ensures)

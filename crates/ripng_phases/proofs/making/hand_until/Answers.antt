@@ -1,9 +1,9 @@
 use Rattle.std.proofs.Common.{refl, ◌∙◌}
 use Rattle.ripng_phases.proofs.Outcomes.{goes_handed}
-use Rattle.ripng_phases.proofs.making.hand_rest.Goals as goal
+use Rattle.ripng_phases.proofs.making.hand_until.Goals as goal
 
 pub loop-course-init : goal.loop-course-init
-loop-course-init g c = record { network = refl; goes = λ s first begin u. u; told = refl }
+loop-course-init g c = record { network = refl; goes = λ s first begin u. u; told = refl; until = refl }
 
 pub returns-in_err-hand_on-clause-goes : goal.returns-in_err-hand_on-clause-goes
 returns-in_err-hand_on-clause-goes g c =
@@ -16,6 +16,7 @@ loop-course-preserved g c =
       network = c.in_ok-hand_on.ensures.network ∙ c.loop-course.invariant.network;
       goes = λ s first begin u. c.in_ok-hand_on.ensures.goes s first begin (c.loop-course.invariant.goes s first begin u);
       told = c.in_ok-hand_on.ensures.told ∙ c.loop-course.invariant.told;
+      until = c.in_ok-hand_on.ensures.same ∙ c.loop-course.invariant.until;
     }
 
 pub returns-clause-goes : goal.returns-clause-goes
