@@ -8,8 +8,7 @@ use Rattle.ripng_world.specs.Lying.{Lies}
 use Rattle.ripng_world.specs.World.{Event, Stranger, Happens, IsCold}
 use Rattle.router_core.specs.Received.{Received}
 use Rattle.ripngd_lab.specs.Asides.{Aside, NextLine, Prints, CountsPhases, Lie, Broken}
-use Rattle.ripngd_lab.specs.declared.session.Stage.{Stage}
-use Rattle.ripngd_lab.specs.declared.session.Stage.TheVariants.{Listing, Running}
+use Rattle.ripngd_lab.specs.declared.course.Course.{Course}
 use Rattle.ripngd_lab.specs.declared.stop.Stop.{Stop}
 use Rattle.ripngd_lab.specs.declared.stop.Stop.TheVariants.{Refused, Unmet, Failed}
 
@@ -91,6 +90,6 @@ abbrev pub HasTold : {X V : Type 0} → Result X Stop → (V → LabValue → �
 HasTold outcome starts takes fails notes s s' = IsToldUnless (has_failed outcome) starts takes fails notes s s'
 
 -- the lab of a script, once it runs
-abbrev pub lab_in : Stage → Option LabValue
-lab_in (Listing nodes) = None
-lab_in (Running site) = Some site
+abbrev pub lab_in : Option Course → Option LabValue
+lab_in None = None
+lab_in (Some course) = Some course.site

@@ -9,8 +9,8 @@ use std::str::FromStr;
 /// What the lines before have said and done.
 #[derive(Drop)]
 pub struct Context {
-    /// The names of routers, each with the router's number.
-    names: Vec<(String, usize)>,
+    /// The name of each router, in order; empty for one without a name.
+    names: Vec<String>,
     /// The time that was named last.
     pub last: Option<Moment>,
     /// How many datagrams were sent.
@@ -30,31 +30,21 @@ impl Context {
         }
     }
 
-    /// A router has that name from now on, else `NameTwice`.
-    pub fn give_name(&mut self, alloc: Global, name: &str, router: usize) -> Result<(), Stop> {
-        if self.router_named(name).is_some() {
+    /// The next router has that name, or none if it is empty; `NameTwice` if an earlier one has it.
+    pub fn name_next(&mut self, alloc: Global, name: &str) -> Result<(), Stop> {
+        if self.router(name).is_ok() {
             return Err(Stop::Refused(Refusal::NameTwice));
         }
-        self.names.push((format!(in alloc; "{name}")?, router))?;
-        Ok(())
-    }
-
-    fn router_named(&self, word: &str) -> Option<usize> {
-        for (name, router) in &self.names {
-            if name.as_str() == word {
-                return Some(*router);
-            }
-        }
-        None
+        Ok(self.names.push(String::from_str(alloc, name)?)?)
     }
 
     /// R: the name of a router, or its number.
     pub fn router(&self, word: &str) -> Result<usize, Wrong> {
-        match self.router_named(word) {
-            Some(router) => Ok(router),
-            None if is_name(word) => Err(Wrong::NoName),
-            None => number(word),
+        if !is_name(word) {
+            return number(word);
         }
+        let router = self.names.iter().position(|name| name.as_str() == word);
+        router.ok_or(Wrong::NoName)
     }
 
     /// NOW: milliseconds, or `+` and how many there are since the last time.
@@ -71,16 +61,11 @@ impl Context {
 
     /// N: the number of a datagram, or `last`, or `last-K`, the one that was sent K before it.
     pub fn datagram(&self, word: &str) -> Result<usize, Wrong> {
-        if word == "last" {
-            return self.before_last(0);
-        }
-        match word.strip_prefix("last-") {
-            Some(back) => self.before_last(number(back)?),
-            None => number(word),
-        }
-    }
-
-    fn before_last(&self, back: usize) -> Result<usize, Wrong> {
+        let back = match word.strip_prefix("last-") {
+            Some(back) => number(back)?,
+            None if word == "last" => 0,
+            None => return number(word),
+        };
         let last = self.sent.checked_sub(1).ok_or(Wrong::NotSent)?;
         last.checked_sub(back).ok_or(Wrong::NotSent)
     }
@@ -91,13 +76,11 @@ pub fn number<N: FromStr>(word: &str) -> Result<N, Wrong>
 where
     N::Err: Drop,
 {
-    match word.as_bytes() {
-        [b'0'] => word.parse().map_err(|_| Wrong::Differs),
-        [b'1'..=b'9', rest @ ..] if rest.iter().all(|digit| digit.is_ascii_digit()) => {
-            word.parse().map_err(|_| Wrong::Differs)
-        }
-        _ => Err(Wrong::Differs),
+    let has_digits_alone = word.as_bytes().iter().all(|byte| byte.is_ascii_digit());
+    if !has_digits_alone || (word.starts_with('0') && word != "0") {
+        return Err(Wrong::Differs);
     }
+    word.parse().map_err(|_| Wrong::Differs)
 }
 
 /// The moment so many gaps later, if there is one.
@@ -107,10 +90,11 @@ pub fn moment_after(now: Moment, gap: u64, gaps: u64) -> Option<Moment> {
 
 /// Whether a word may be a name: a letter, and then letters, digits, `-` and `_`.
 pub fn is_name(word: &str) -> bool {
-    match word.as_bytes() {
-        [first, rest @ ..] => first.is_ascii_alphabetic() && rest.iter().all(is_in_name),
-        [] => false,
-    }
+    let bytes = word.as_bytes();
+    bytes
+        .first()
+        .is_some_and(|first| first.is_ascii_alphabetic())
+        && bytes.iter().all(is_in_name)
 }
 
 fn is_in_name(byte: &u8) -> bool {

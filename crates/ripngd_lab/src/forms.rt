@@ -11,6 +11,8 @@ pub enum Verb {
     Forge,
     /// A router is no router of RIPng from now on.
     Bend,
+    /// The next line is to be refused.
+    Await,
     /// It is about a network that runs.
     Act(Action),
 }
@@ -18,8 +20,7 @@ pub enum Verb {
 /// A part of a network.
 #[derive(Clone, Copy, Debug, PartialEq, Eq)]
 pub enum Listed {
-    Router,
-    QuietRouter,
+    Router { quiet: bool },
     Interface,
     Prefixes,
 }
@@ -31,17 +32,16 @@ pub enum Action {
     /// At each interface on a link.
     AtLink(Step),
     Arrive,
-    Ask,
     Tell,
     Hear,
     Round,
     Rounds,
     Phases,
     Lose,
-    Silence,
-    Speak,
-    Cut,
-    Mend,
+    /// A router is silent from now on, or speaks again.
+    Silent(bool),
+    /// A link is cut from now on, or is mended.
+    Cut(bool),
     PrintAll,
     PrintRouter,
     PrintRoute,
@@ -51,7 +51,6 @@ pub enum Action {
     Expect,
     Path,
     ExpectPath,
-    Refuse,
 }
 
 /// An event of one router.
@@ -71,10 +70,13 @@ pub enum Step {
 /// The forms. A word in capitals is a part, and `..` at the end repeats K. If a line leaves several forms at the same word, the first
 /// is the one that a hint names.
 pub const FORMS: [(&str, Verb); 49] = [
-    ("router NAME", Verb::List(Listed::Router)),
-    ("router quiet NAME", Verb::List(Listed::QuietRouter)),
-    ("router quiet", Verb::List(Listed::QuietRouter)),
-    ("router", Verb::List(Listed::Router)),
+    ("router NAME", Verb::List(Listed::Router { quiet: false })),
+    (
+        "router quiet NAME",
+        Verb::List(Listed::Router { quiet: true }),
+    ),
+    ("router quiet", Verb::List(Listed::Router { quiet: true })),
+    ("router", Verb::List(Listed::Router { quiet: false })),
     ("iface ADDR COST MTU LINK", Verb::List(Listed::Interface)),
     ("iface ADDR COST LINK", Verb::List(Listed::Interface)),
     ("own PREFIX TAG times TIMES", Verb::List(Listed::Prefixes)),
@@ -85,7 +87,7 @@ pub const FORMS: [(&str, Verb); 49] = [
         "stranger R I NOW SOURCE PORT HOP TO HEX",
         Verb::Act(Action::Arrive),
     ),
-    ("ask R I NOW SOURCE PORT ASKED", Verb::Act(Action::Ask)),
+    ("ask R I NOW SOURCE PORT ASKED", Verb::Act(Action::Arrive)),
     ("liar R I NOW SOURCE HEX", Verb::Forge),
     ("liar R I NOW SOURCE PREFIX HOPS", Verb::Forge),
     ("tick R NOW WORD", Verb::Act(Action::Step(Step::Tick))),
@@ -105,10 +107,10 @@ pub const FORMS: [(&str, Verb); 49] = [
     ("rounds ROUNDS NOW GAP", Verb::Act(Action::Rounds)),
     ("phases PHASES SEED", Verb::Act(Action::Phases)),
     ("horizon R HORIZON", Verb::Bend),
-    ("silent R", Verb::Act(Action::Silence)),
-    ("speaks R", Verb::Act(Action::Speak)),
-    ("cut LINK", Verb::Act(Action::Cut)),
-    ("mend LINK", Verb::Act(Action::Mend)),
+    ("silent R", Verb::Act(Action::Silent(true))),
+    ("speaks R", Verb::Act(Action::Silent(false))),
+    ("cut LINK", Verb::Act(Action::Cut(true))),
+    ("mend LINK", Verb::Act(Action::Cut(false))),
     ("down LINK NOW", Verb::Act(Action::AtLink(Step::Down))),
     ("up LINK NOW", Verb::Act(Action::AtLink(Step::Up))),
     ("costs LINK NOW COST", Verb::Act(Action::AtLink(Step::Cost))),
@@ -122,7 +124,7 @@ pub const FORMS: [(&str, Verb); 49] = [
     ("expect R PREFIX METRIC", Verb::Act(Action::Expect)),
     ("expect path R ADDR FATE", Verb::Act(Action::ExpectPath)),
     ("path R ADDR", Verb::Act(Action::Path)),
-    ("refused REFUSAL", Verb::Act(Action::Refuse)),
+    ("refused REFUSAL", Verb::Await),
 ];
 
 /// Why a line is malformed, or out of place.
@@ -176,10 +178,7 @@ pub fn first_word(text: &str) -> &str {
 
 /// The words of a form, by its number among all.
 pub fn words_of_form(form: usize) -> &'static str {
-    match FORMS.get(form) {
-        Some((words, _)) => words,
-        None => "",
-    }
+    FORMS.get(form).map_or("", |(words, _)| words)
 }
 
 /// The part at a place of a form; where the form repeats its last one, that is K.

@@ -45,22 +45,12 @@ pub fn lab_hinted<W: Write, E: Write>(
     let names = names_of(alloc, script)?;
     let mut printer = Printer::new(alloc, Names::new(&names), out);
     let done = watched(alloc, script, &mut printer)?;
-    if let Some(ending) = printer.ending {
-        let _ = write_hint(alloc, script, &ending, err);
+    if let Some(ending) = printer.ending
+        && let Ok(Some((line, hint))) = hint_of(alloc, script, &ending)
+    {
+        let _ = writeln!(err, "ripngd: line {line}: {hint}");
     }
     Ok(done)
-}
-
-fn write_hint<E: Write>(
-    alloc: Global,
-    script: &[u8],
-    ending: &Ending,
-    err: &mut E,
-) -> io::Result<()> {
-    let Some((line, hint)) = hint_of(alloc, script, ending)? else {
-        return Ok(());
-    };
-    writeln!(err, "ripngd: line {line}: {hint}")
 }
 
 /// The hint for the refused line that ended a script, and the number of the line that is at fault, if there is a hint.
@@ -176,7 +166,7 @@ fn hint_of_datagram<'a>(line: &str, ending: &Ending) -> Hint<'a> {
     if line.starts_with("tell ") {
         return counted(ending.sent_by_line, "datagrams of this tick");
     }
-    counted(ending.sent.unwrap_or(0), "datagrams that were sent")
+    counted(ending.sent, "datagrams that were sent")
 }
 
 fn counted<'a>(count: usize, what: &'static str) -> Hint<'a> {

@@ -3,6 +3,7 @@
 
 use crate::plan::addr_at;
 use crate::site::Network;
+use crate::words::name_of;
 use prefix6::{Addr6, Prefix};
 use ripng_wire::{Command, Rte, decode, encode};
 use ripng_world::{Event, Sent};
@@ -22,20 +23,22 @@ pub enum Horizon {
     Poison,
 }
 
+/// What each is called.
+pub const HORIZONS: [(&str, Horizon); 3] = [
+    ("none", Horizon::None),
+    ("split", Horizon::Split),
+    ("poison", Horizon::Poison),
+];
+
 impl fmt::Display for Horizon {
     fn fmt<W: fmt::Write>(&self, f: &mut fmt::Formatter<W>) -> fmt::Result {
-        match self {
-            Horizon::None => f.write_str("none"),
-            Horizon::Split => f.write_str("split"),
-            Horizon::Poison => f.write_str("poison"),
-        }
+        f.write_str(name_of(self, &HORIZONS))
     }
 }
 
 /// The routers with another horizon than RIPng's.
 #[derive(Drop)]
 pub struct Horizons {
-    alloc: Global,
     changed: Vec<(usize, Horizon)>,
 }
 
@@ -55,7 +58,6 @@ impl Horizons {
     /// All routers are RIPng's.
     pub fn new(alloc: Global) -> Horizons {
         Horizons {
-            alloc,
             changed: Vec::new(alloc),
         }
     }
@@ -70,24 +72,27 @@ impl Horizons {
     }
 
     fn of(&self, router: usize) -> Horizon {
-        for (other, horizon) in &self.changed {
-            if *other == router {
-                return *horizon;
-            }
+        match self.changed.iter().find(|(other, _)| *other == router) {
+            Some((_, horizon)) => *horizon,
+            None => Horizon::Poison,
         }
-        Horizon::Poison
     }
 
     /// What comes in place of the datagrams from a number on, of routers with another horizon. Their tables are as they were when these
     /// were sent.
-    pub fn adverts(&self, lab: &Network, first: usize) -> Result<Vec<Advert>, AllocError> {
-        let mut adverts = Vec::new(self.alloc);
+    pub fn adverts(
+        &self,
+        alloc: Global,
+        lab: &Network,
+        first: usize,
+    ) -> Result<Vec<Advert>, AllocError> {
+        let mut adverts = Vec::new(alloc);
         for (datagram, sent) in lab.sent().iter().enumerate().skip(first) {
             let horizon = self.of(sent.router);
             if horizon != Horizon::Poison
                 && let Some(router) = lab.router(sent.router)
                 && let Some(source) = addr_at(lab, sent.router, sent.iface)
-                && let Some(bytes) = bytes_by(self.alloc, horizon, router.routes(), sent)?
+                && let Some(bytes) = bytes_by(alloc, horizon, router.routes(), sent)?
             {
                 adverts.push(Advert {
                     datagram,
@@ -136,10 +141,8 @@ impl Advert {
             to_group: true,
             bytes: self.bytes.as_slice(),
         };
-        match lab.check_lie(router, &arrival) {
-            Ok(()) => Some((router, arrival)),
-            Err(_) => None,
-        }
+        lab.check_lie(router, &arrival).ok()?;
+        Some((router, arrival))
     }
 }
 

@@ -2,13 +2,13 @@
 
 use crate::context::{Context, is_name, moment_after, number};
 use crate::forms::{BadLine, FORMS, Listed, Step, Verb, Wrong};
-use crate::horizon::Horizon;
+use crate::horizon::{HORIZONS, Horizon};
 use crate::listing::Listing;
 use crate::phase::{PHASES_LIMIT, end_of_phases};
 use crate::plan::{Ticking, Wave};
-use crate::stop::{RefusalName, refusal_name};
-use crate::ways::Fate;
-use crate::words::{are_bytes, fate, hops, horizon, if_so, metric, prefix, split_off, up_to};
+use crate::stop::RefusalName;
+use crate::ways::{FATES, Fate};
+use crate::words::{are_bytes, if_so, named, prefix, split_off, up_to};
 use prefix6::{Addr6, Prefix, parse_addr};
 use ripng_wire::{Command, Rte, encode};
 use ripng_world::{Event, NetInterface};
@@ -34,8 +34,6 @@ pub struct Line<'a> {
     mtu: u32,
     pub link: u16,
     pub prefix: Prefix,
-    /// Whether ASKED is not a prefix, but the whole table.
-    asks_all: bool,
     tag: u16,
     /// TIMES, ROUNDS or PHASES.
     pub count: usize,
@@ -46,6 +44,7 @@ pub struct Line<'a> {
     port: u16,
     hop_limit: u8,
     to_group: bool,
+    command: Command,
     word: u32,
     gap: u64,
     pub seed: u64,
@@ -67,18 +66,15 @@ pub fn read_line<'a>(text: &'a str, context: &mut Context) -> Result<Line<'a>, B
     let mut last = context.last;
     for (form, (words, verb)) in FORMS.iter().enumerate() {
         let mut line = Line::new(*verb, context.last);
-        match line.follow(words, text, context) {
-            Ok(()) => {
-                context.last = line.last;
-                return Ok(line);
-            }
-            Err(wrong) if line.place > farthest => {
-                let place = line.place;
-                bad = BadLine::Word { form, place, wrong };
-                farthest = place;
-                last = line.last;
-            }
-            Err(_) => {}
+        let Err(wrong) = line.follow(words, text, context) else {
+            context.last = line.last;
+            return Ok(line);
+        };
+        let place = line.place;
+        if place > farthest {
+            farthest = place;
+            last = line.last;
+            bad = BadLine::Word { form, place, wrong };
         }
     }
     context.last = last;
@@ -101,7 +97,6 @@ impl<'a> Line<'a> {
             mtu: MTU,
             link: 0,
             prefix: Prefix::new(Addr6::from_bits(0), 0).unwrap(),
-            asks_all: false,
             tag: 0,
             count: 1,
             now,
@@ -111,6 +106,7 @@ impl<'a> Line<'a> {
             port: RIPNG_PORT,
             hop_limit: MAX_HOP_LIMIT,
             to_group: true,
+            command: Command::Response,
             word: 0,
             gap: 0,
             seed: 0,
@@ -161,8 +157,17 @@ impl<'a> Line<'a> {
             "HOP" => self.hop_limit = number(word)?,
             "TIMES" => self.count = up_to(word, OWNED_LIMIT)?,
             "ROUNDS" => self.count = up_to(word, ROUNDS_LIMIT)?,
-            "GAP" => self.take_gap(number(word)?)?,
-            "PHASES" => self.take_phases(up_to(word, PHASES_LIMIT)?, context.latest),
+            "GAP" => {
+                self.gap = number(word)?;
+                let gaps = self.count.saturating_sub(1) as u64;
+                self.last = Some(moment_after(self.now, self.gap, gaps).ok_or(Wrong::TooLate)?);
+            }
+            "PHASES" => {
+                self.count = up_to(word, PHASES_LIMIT)?;
+                if let Some(latest) = context.latest {
+                    self.last = end_of_phases(latest, self.count);
+                }
+            }
             "SEED" => self.seed = number(word)?,
             part => self.take_other(part, word)?,
         }
@@ -176,10 +181,12 @@ impl<'a> Line<'a> {
             "ADDR" | "SOURCE" => self.addr = parse_addr(word).map_err(|_| Wrong::Differs)?,
             "PREFIX" => self.prefix = prefix(word)?,
             "ASKED" => {
+                self.command = Command::Request;
                 self.to_group = false;
-                self.asks_all = word == "all";
-                if !self.asks_all {
+                self.metric = Some(INFINITY);
+                if word != "all" {
                     self.prefix = prefix(word)?;
+                    self.metric = Some(0);
                 }
             }
             "TO" => {
@@ -189,32 +196,16 @@ impl<'a> Line<'a> {
             "HEX" => self.text = if_so(word, word == "-" || are_bytes(word.as_bytes()))?,
             "K" => self.take_places(word)?,
             "TEXT" => self.text = word,
-            "METRIC" => self.metric = metric(word)?,
-            "HOPS" => self.metric = Some(hops(word)?),
-            "FATE" => self.fate = fate(word)?,
-            "HORIZON" => self.horizon = horizon(word)?,
-            "REFUSAL" => self.refusal = Some(refusal_name(word).ok_or(Wrong::Differs)?),
+            "METRIC" if word == "none" => self.metric = None,
+            "METRIC" | "HOPS" => self.metric = Some(up_to(word, INFINITY)?),
+            "FATE" => self.fate = named(word, &FATES)?,
+            "HORIZON" => self.horizon = named(word, &HORIZONS)?,
+            "REFUSAL" => self.refusal = Some(RefusalName::of(word).ok_or(Wrong::Differs)?),
             literal => {
                 let _ = if_so(word, word == literal)?;
             }
         }
         Ok(())
-    }
-
-    /// The time between rounds. The last time is then that of the last round.
-    fn take_gap(&mut self, gap: u64) -> Result<(), Wrong> {
-        self.gap = gap;
-        let gaps = self.count.saturating_sub(1) as u64;
-        self.last = Some(moment_after(self.now, gap, gaps).ok_or(Wrong::TooLate)?);
-        Ok(())
-    }
-
-    /// How many phases there are. The last time, if routers have started, is then the end of the last one.
-    fn take_phases(&mut self, phases: usize, latest: Option<Moment>) {
-        self.count = phases;
-        if let Some(latest) = latest {
-            self.last = end_of_phases(latest, phases);
-        }
     }
 
     /// The numbers of datagrams that are lost.
@@ -230,8 +221,7 @@ impl<'a> Line<'a> {
     /// What the line lists.
     pub fn listing(&self, listed: Listed) -> Listing {
         match listed {
-            Listed::Router => Listing::Router { quiet: false },
-            Listed::QuietRouter => Listing::Router { quiet: true },
+            Listed::Router { quiet } => Listing::Router { quiet },
             Listed::Interface => Listing::Interface(NetInterface {
                 interface: Interface {
                     addr: self.addr,
@@ -250,42 +240,28 @@ impl<'a> Line<'a> {
 
     /// The event that the line makes happen at an interface of a router.
     pub fn event(&self, step: Step, router: usize, iface: usize) -> Event<'static> {
-        let now = self.now;
+        let (now, word, datagram) = (self.now, self.word, self.datagram);
+        let (cost, prefix, tag) = (self.cost, self.prefix, self.tag);
+        let reconfigure = |change| Event::Reconfigure {
+            router,
+            now,
+            change,
+        };
         match step {
             Step::Deliver => Event::Deliver {
-                datagram: self.datagram,
+                datagram,
                 router,
                 iface,
                 now,
             },
-            Step::Tick => Event::Tick {
-                router,
-                now,
-                word: self.word,
-            },
+            Step::Tick => Event::Tick { router, now, word },
             Step::Restart => Event::Restart { router, now },
             Step::Shutdown => Event::Shutdown { router, now },
             Step::Down => Event::LinkDown { router, iface, now },
             Step::Up => Event::LinkUp { router, iface, now },
-            Step::Cost | Step::Gain | Step::Drop => Event::Reconfigure {
-                router,
-                now,
-                change: self.change(step, iface),
-            },
-        }
-    }
-
-    fn change(&self, step: Step, iface: usize) -> Change {
-        let Line {
-            cost,
-            prefix,
-            tag,
-            ..
-        } = *self;
-        match step {
-            Step::Cost => Change::Cost { iface, cost },
-            Step::Gain => Change::Own { prefix, tag },
-            _ => Change::Disown { prefix },
+            Step::Cost => reconfigure(Change::Cost { iface, cost }),
+            Step::Gain => reconfigure(Change::Own { prefix, tag }),
+            Step::Drop => reconfigure(Change::Disown { prefix }),
         }
     }
 
@@ -308,11 +284,10 @@ impl<'a> Line<'a> {
 
     /// The times of rounds.
     pub fn moments(&self, alloc: Global) -> Result<Vec<Moment>, AllocError> {
-        let mut moments = Vec::new(alloc);
-        for round in 0..self.count as u64 {
-            moments.push(moment_after(self.now, self.gap, round).unwrap_or(self.now))?;
-        }
-        Ok(moments)
+        let rounds = 0..self.count as u64;
+        rounds
+            .map(|round| moment_after(self.now, self.gap, round).unwrap_or(self.now))
+            .collect(alloc)
     }
 
     /// A datagram of an outside host, with these bytes, as it arrives. If the line does not say otherwise, it comes as a Response of
@@ -329,32 +304,21 @@ impl<'a> Line<'a> {
         }
     }
 
-    /// HEX, or without it a Response with one entry, for PREFIX with the tag 0 and the metric HOPS.
+    /// HEX, or without it a message with one entry, for PREFIX or ASKED, with the tag 0: a Response with the metric HOPS, or a Request,
+    /// which for the whole table is for ::/0 with metric 16 (RFC 2080, section 2.4.1).
     pub fn bytes(&self, alloc: Global) -> Result<Vec<u8>, AllocError> {
         match self.text {
-            "" => encode(
-                alloc,
-                Command::Response,
-                &[self.entry(self.metric.unwrap_or(INFINITY))],
-            ),
+            "" => {
+                let entry = Rte {
+                    addr: self.prefix.addr().bits(),
+                    tag: 0,
+                    len: self.prefix.len(),
+                    metric: self.metric.unwrap_or(INFINITY),
+                };
+                encode(alloc, self.command, &[entry])
+            }
             "-" => Ok(Vec::new(alloc)),
             digits => hex::decode(alloc, digits).map_err(|_| AllocError),
         }
-    }
-
-    /// An entry for PREFIX with the tag 0.
-    fn entry(&self, metric: u8) -> Rte {
-        Rte {
-            addr: self.prefix.addr().bits(),
-            tag: 0,
-            len: self.prefix.len(),
-            metric,
-        }
-    }
-
-    /// A Request for the whole table, which is ::/0 with metric 16, or for a prefix (RFC 2080, section 2.4.1).
-    pub fn request(&self, alloc: Global) -> Result<Vec<u8>, AllocError> {
-        let metric = if self.asks_all { INFINITY } else { 0 };
-        encode(alloc, Command::Request, &[self.entry(metric)])
     }
 }

@@ -29,21 +29,20 @@ pub enum Listing {
 
 /// Adds a part to a network.
 pub fn list(alloc: Global, nodes: &mut Vec<Node>, listing: &Listing) -> Outcome {
-    match listing {
-        Listing::Router { quiet } => begin(alloc, nodes, *quiet),
-        Listing::Interface(interface) => Ok(newest(nodes)?.interfaces.push(*interface)?),
-        Listing::Prefixes { first, tag, count } => own(newest(nodes)?, *first, *tag, *count),
+    match *listing {
+        Listing::Router { quiet } => begin(alloc, nodes, quiet),
+        Listing::Interface(interface) => Ok(newest(nodes)?.interfaces.push(interface)?),
+        Listing::Prefixes { first, tag, count } => own(newest(nodes)?, first, tag, count),
     }
 }
 
 /// The next router begins.
 fn begin(alloc: Global, nodes: &mut Vec<Node>, quiet: bool) -> Outcome {
-    nodes.push(Node {
+    Ok(nodes.push(Node {
         interfaces: Vec::new(alloc),
         prefixes: Vec::new(alloc),
         quiet,
-    })?;
-    Ok(())
+    })?)
 }
 
 /// The router that is being listed.
@@ -120,16 +119,9 @@ fn lines_of_router(all: &[(usize, Listing)], router: usize) -> &[(usize, Listing
 
 /// At which of these lines the router of that number begins; their end if there is none.
 fn start_of_router(lines: &[(usize, Listing)], router: usize) -> usize {
-    let mut before: usize = 0;
-    for (place, (_, listing)) in lines.iter().enumerate() {
-        if let Listing::Router { .. } = listing {
-            if before == router {
-                return place;
-            }
-            before = before.saturating_add(1);
-        }
-    }
-    lines.len()
+    let places = lines.iter().enumerate();
+    let mut starts = places.filter(|(_, line)| matches!(line.1, Listing::Router { .. }));
+    starts.nth(router).map_or(lines.len(), |(place, _)| place)
 }
 
 /// Why the network of the lines up to a place is refused, if it is. For a line of prefixes all routers and interfaces count, for
@@ -142,10 +134,10 @@ fn refusal_up_to(
     let counts_prefixes = lines.get(last).is_some_and(|(_, listing)| owns(listing));
     let mut nodes = Vec::new(alloc);
     for (place, (_, listing)) in lines.iter().enumerate() {
-        let counts = if counts_prefixes {
-            place <= last || !owns(listing)
+        let counts = if owns(listing) {
+            counts_prefixes && place <= last
         } else {
-            place <= last && !owns(listing)
+            counts_prefixes || place <= last
         };
         if counts && list(alloc, &mut nodes, listing).is_err() {
             return Err(AllocError);
@@ -160,10 +152,7 @@ fn refusal_up_to(
 
 /// Whether prefixes are listed.
 fn owns(listing: &Listing) -> bool {
-    match listing {
-        Listing::Prefixes { .. } => true,
-        _ => false,
-    }
+    matches!(listing, Listing::Prefixes { .. })
 }
 
 /// What a line should have been for which a network is refused.

@@ -9,7 +9,7 @@ use crate::course::Course;
 use crate::forms::BadLine;
 use crate::horizon::Advert;
 use crate::plan::{Ticking, Wave};
-use crate::site::{Held, Routes, Site};
+use crate::site::{Held, Routes};
 use crate::stop::{Outcome, Refusal, Stop};
 use crate::watching::Watch;
 use rand_core::Rng;
@@ -23,47 +23,178 @@ use std::io;
 /// The time of a round, and the time and the word of each router's tick, in order.
 type Ticks = (Moment, Vec<(Moment, u32)>);
 
-/// An event happens, if it is not refused.
-pub fn step<V: Watch>(lab: &mut Site, event: &Event<'_>, watch: &mut V) -> Outcome
-    ensures { HasTold result V.starts V.takes V.fails V.notes (Some lab.old, watch.old) (Some lab.new, watch.new) }
-{
-    match lab.step_watched(event, watch) {
-        Ok(_) => Ok(()),
-        Err(Stopped::Refused(why)) => Err(Stop::from(why)),
-        Err(Stopped::Failed(error)) => Err(Stop::Failed(error)),
+impl Course {
+    /// An event happens, if it is not refused.
+    pub fn step<V: Watch>(&mut self, event: &Event<'_>, watch: &mut V) -> Outcome
+        ensures { HasTold result V.starts V.takes V.fails V.notes (Some self.old.site, watch.old) (Some self.new.site, watch.new) }
+    {
+        match self.site.step_watched(event, watch) {
+            Ok(_) => Ok(()),
+            Err(Stopped::Refused(why)) => Err(Stop::from(why)),
+            Err(Stopped::Failed(error)) => Err(Stop::Failed(error)),
+        }
+    }
+
+    /// A forged Response arrives, and the observer is notified. The network is verified no longer; the router is there, and accepts it.
+    /// It comes in place of a datagram of the router `sender`, if that is named.
+    pub fn lie<V: Watch>(
+        &mut self,
+        router: usize,
+        arrival: Arrival<'_>,
+        sender: Option<usize>,
+        watch: &mut V,
+    ) -> Outcome
+        ensures { HasTold result V.starts V.takes V.fails V.notes (Some self.old.site, watch.old) (Some self.new.site, watch.new) }
+    {
+        let Held::Lied(running) = &mut self.site.held else {
+            return Err(Stop::from(BadLine::BeforeStart));
+        };
+        let first = running.sent().len();
+        let answer = running.lie(router, &arrival)?;
+        let event = Event::Stranger { router, arrival };
+        Ok(watch.lied(running, &event, &answer, first, sender)?)
+    }
+
+    /// A wave is made: its ticks, and then its deliveries. What was sent before these is passed by from then on.
+    ///
+    /// # Errors
+    /// A router or a datagram is not there, a regular update is not due; out of memory, or the observer fails. What was done before it
+    /// stays done.
+    pub fn make_wave<V: Watch>(&mut self, wave: &Wave<'_>, watch: &mut V) -> Outcome
+        ensures { HasTold result V.starts V.takes V.fails V.notes (Some self.old.site, watch.old) (Some self.new.site, watch.new) }
+    {
+        let first = wave.first(self.unheard, self.sent());
+        let ticks = wave.ticks(self.alloc, self.site.running().routers(), &self.outages)?;
+        self.play(wave, None, &ticks, watch)?;
+        self.unheard = self.sent();
+        self.deliver(wave, first, watch)
+    }
+
+    /// What was sent from a number on is delivered, datagram by datagram.
+    fn deliver<V: Watch>(&mut self, wave: &Wave<'_>, first: usize, watch: &mut V) -> Outcome
+        ensures { HasTold result V.starts V.takes V.fails V.notes (Some self.old.site, watch.old) (Some self.new.site, watch.new) }
+    {
+        let end = self.sent();
+        wave.check_lost(end.saturating_sub(first))?;
+        let adverts = wave.adverts(self, first)?;
+        for datagram in first..end {
+            let events = wave.deliveries(self, first, datagram)?;
+            self.play(wave, Advert::at(&adverts, datagram), &events, watch)?;
+        }
+        Ok(())
+    }
+
+    /// Events of a wave happen, one after another. If they deliver a datagram of a router that is none of RIPng, its advert comes in
+    /// place of that.
+    pub fn play<V: Watch>(
+        &mut self,
+        wave: &Wave<'_>,
+        advert: Option<&Advert>,
+        events: &[Event<'static>],
+        watch: &mut V,
+    ) -> Outcome
+        ensures { HasTold result V.starts V.takes V.fails V.notes (Some self.old.site, watch.old) (Some self.new.site, watch.new) }
+    {
+        for event in events {
+            wave.check(self.site.running(), event)?;
+            self.bring(advert, event, watch)?;
+        }
+        Ok(())
+    }
+
+    /// An event happens; or an advert comes in its place as a forged Response, if it is not nothing. To the sender's own interfaces, which
+    /// believe none, comes the datagram.
+    fn bring<V: Watch>(
+        &mut self,
+        advert: Option<&Advert>,
+        event: &Event<'static>,
+        watch: &mut V,
+    ) -> Outcome
+        ensures { HasTold result V.starts V.takes V.fails V.notes (Some self.old.site, watch.old) (Some self.new.site, watch.new) }
+    {
+        let Some(advert) = advert else {
+            return self.step(event, watch);
+        };
+        if advert.is_nothing() {
+            return Ok(());
+        }
+        match advert.accepted(self.site.running(), event) {
+            Some((router, arrival)) => self.lie(router, arrival, Some(advert.router), watch),
+            None => self.step(event, watch),
+        }
+    }
+
+    /// A round at each of these times: every router ticks in order, with the word 0, when its regular update is due, and what these ticks
+    /// sent is delivered as in one round alone. With outages, and after a forged Response, nothing is promised of them.
+    pub fn make_rounds<V: Watch>(&mut self, moments: &[Moment], watch: &mut V) -> Outcome
+        ensures { HasTold result V.starts V.takes V.fails V.notes (Some self.old.site, watch.old) (Some self.new.site, watch.new) }
+    {
+        if self.outages.are_none()
+            && let Held::Lawful(lab) = &mut self.site.held
+        {
+            return make_whole_rounds(self.alloc, lab, moments, watch);
+        }
+        self.make_waves(moments, watch)
+    }
+
+    /// The rounds of these times, a wave each.
+    fn make_waves<V: Watch>(&mut self, moments: &[Moment], watch: &mut V) -> Outcome
+        ensures { HasTold result V.starts V.takes V.fails V.notes (Some self.old.site, watch.old) (Some self.new.site, watch.new) }
+    {
+        for (round, now) in moments.iter().enumerate() {
+            let wave = Wave {
+                ticking: Ticking::Due { round },
+                moment: *now,
+                lost: "",
+            };
+            self.make_wave(&wave, watch)?;
+        }
+        Ok(())
     }
 }
 
-/// A forged Response arrives, and the observer is notified. The network is verified no longer; the router is there, and accepts it. It
-/// comes in place of a datagram of the router `sender`, if that is named.
-pub fn lie<V: Watch>(
-    site: &mut Site,
-    router: usize,
-    arrival: Arrival<'_>,
-    sender: Option<usize>,
+/// The same in a verified network, where all takes part: as [`Lab::run_rounds`] promises.
+fn make_whole_rounds<V: Watch>(
+    alloc: Global,
+    lab: &mut Lab<Routes>,
+    moments: &[Moment],
     watch: &mut V,
 ) -> Outcome
-    ensures { HasTold result V.starts V.takes V.fails V.notes (Some site.old, watch.old) (Some site.new, watch.new) }
-{
-    let Held::Lied(running) = &mut site.held else {
-        return Err(Stop::from(BadLine::BeforeStart));
-    };
-    let first = running.sent().len();
-    let answer = running.lie(router, &arrival)?;
-    let event = Event::Stranger { router, arrival };
-    Ok(watch.lied(running, &event, &answer, first, sender)?)
-}
-
-/// Rounds are made, up to a regular update that is not due.
-pub fn run_rounds<V: Watch>(lab: &mut Lab<Routes>, rounds: &[Round<'_>], watch: &mut V) -> Outcome
-    requires { All (λ r. length r.ticks ≡ length lab.old.network) rounds.now }
     ensures { HasTold result V.starts V.takes V.fails V.notes (Some lab.old, watch.old) (Some lab.new, watch.new) }
 {
-    match lab.run_rounds_watched(rounds, watch) {
+    let ticks = ticks_at(alloc, lab.routers(), moments)?;
+    let rounds = rounds_of(alloc, &ticks)?;
+    match lab.run_rounds_watched(&rounds, watch) {
         Ok(()) => Ok(()),
         Err(Stopped::Refused(why)) => Err(Stop::from(why)),
         Err(Stopped::Failed(error)) => Err(Stop::Failed(error)),
     }
+}
+
+/// A tick of each router at each time.
+fn ticks_at(alloc: Global, routers: usize, moments: &[Moment]) -> Result<Vec<Ticks>, AllocError>
+    ensures { IfOk result (λ ticks. All (λ t. length t.1.items ≡ routers) ticks.items) }
+{
+    let mut ticks = Vec::new(alloc);
+    for now in moments {
+        ticks.push((*now, vec![in alloc; (*now, 0); routers]?))?;
+    }
+    Ok(ticks)
+}
+
+/// The rounds of these ticks, each with no picks.
+fn rounds_of<'a>(alloc: Global, ticks: &'a [Ticks]) -> Result<Vec<Round<'a>>, AllocError>
+    ensures { IfOk result (λ rounds. (routers : ℕ) → All (λ t. length t.1.items ≡ routers) ticks.now → All (λ r. length r.ticks ≡ routers) rounds.items) }
+{
+    let mut rounds = Vec::new(alloc);
+    for (now, ticks) in ticks {
+        rounds.push(Round {
+            ticks,
+            picks: &[],
+            rest: *now,
+        })?;
+    }
+    Ok(rounds)
 }
 
 /// Phases are made at random, and heal as [`ripng_phases::run_phases`] has it. Says in which of them some table last changed.
@@ -95,171 +226,4 @@ fn stop_at(phase: usize, why: Stopped<PhaseRefused, io::Error>) -> Stop
         Stopped::Refused(refused) => Stop::Refused(Refusal::Phases { phase, refused }),
         Stopped::Failed(error) => Stop::Failed(error),
     }
-}
-
-/// A wave is made: its ticks, and then its deliveries. What was sent before these is passed by from then on.
-///
-/// # Errors
-/// A router or a datagram is not there, a regular update is not due; out of memory, or the observer fails. What was done before it stays
-/// done.
-pub fn make_wave<V: Watch>(
-    site: &mut Site,
-    course: &mut Course,
-    wave: &Wave<'_>,
-    watch: &mut V,
-) -> Outcome
-    ensures { HasTold result V.starts V.takes V.fails V.notes (Some site.old, watch.old) (Some site.new, watch.new) }
-{
-    let first = wave.first(course.unheard, site.running().sent().len());
-    let ticks = wave.ticks(course.alloc, site.running().routers(), &course.outages)?;
-    play(site, wave, None, &ticks, watch)?;
-    course.unheard = site.running().sent().len();
-    deliver(site, course, wave, first, watch)
-}
-
-/// What was sent from a number on is delivered, datagram by datagram.
-fn deliver<V: Watch>(
-    site: &mut Site,
-    course: &Course,
-    wave: &Wave<'_>,
-    first: usize,
-    watch: &mut V,
-) -> Outcome
-    ensures { HasTold result V.starts V.takes V.fails V.notes (Some site.old, watch.old) (Some site.new, watch.new) }
-{
-    let end = site.running().sent().len();
-    wave.check_lost(end.saturating_sub(first))?;
-    let adverts = wave.adverts(course, site.running(), first)?;
-    for datagram in first..end {
-        let events = wave.deliveries(course, site.running(), first, datagram)?;
-        play(site, wave, Advert::at(&adverts, datagram), &events, watch)?;
-    }
-    Ok(())
-}
-
-/// Events of a wave happen, one after another. If they deliver a datagram of a router that is none of RIPng, its advert comes in place of
-/// that.
-pub fn play<V: Watch>(
-    site: &mut Site,
-    wave: &Wave<'_>,
-    advert: Option<&Advert>,
-    events: &[Event<'static>],
-    watch: &mut V,
-) -> Outcome
-    ensures { HasTold result V.starts V.takes V.fails V.notes (Some site.old, watch.old) (Some site.new, watch.new) }
-{
-    for event in events {
-        wave.check(site.running(), event)?;
-        bring(site, advert, event, watch)?;
-    }
-    Ok(())
-}
-
-/// An event happens, or an advert comes, if that is not nothing.
-fn bring<V: Watch>(
-    site: &mut Site,
-    advert: Option<&Advert>,
-    event: &Event<'static>,
-    watch: &mut V,
-) -> Outcome
-    ensures { HasTold result V.starts V.takes V.fails V.notes (Some site.old, watch.old) (Some site.new, watch.new) }
-{
-    match advert {
-        None => step(site, event, watch),
-        Some(advert) if advert.is_nothing() => Ok(()),
-        Some(advert) => advertise(site, advert, event, watch),
-    }
-}
-
-/// An advert comes as a forged Response; to the sender's own interfaces, which believe none, comes the datagram.
-fn advertise<V: Watch>(
-    site: &mut Site,
-    advert: &Advert,
-    event: &Event<'static>,
-    watch: &mut V,
-) -> Outcome
-    ensures { HasTold result V.starts V.takes V.fails V.notes (Some site.old, watch.old) (Some site.new, watch.new) }
-{
-    match advert.accepted(site.running(), event) {
-        Some((router, arrival)) => lie(site, router, arrival, Some(advert.router), watch),
-        None => step(site, event, watch),
-    }
-}
-
-/// A round at each of these times: every router ticks in order, with the word 0, when its regular update is due, and what these ticks
-/// sent is delivered as in one round alone. With outages, and after a forged Response, nothing is promised of them.
-pub fn make_rounds<V: Watch>(
-    site: &mut Site,
-    course: &mut Course,
-    moments: &[Moment],
-    watch: &mut V,
-) -> Outcome
-    ensures { HasTold result V.starts V.takes V.fails V.notes (Some site.old, watch.old) (Some site.new, watch.new) }
-{
-    if course.outages.are_none()
-        && let Held::Lawful(lab) = &mut site.held
-    {
-        return make_whole_rounds(course.alloc, lab, moments, watch);
-    }
-    make_waves(site, course, moments, watch)
-}
-
-/// The rounds of these times, a wave each.
-fn make_waves<V: Watch>(
-    site: &mut Site,
-    course: &mut Course,
-    moments: &[Moment],
-    watch: &mut V,
-) -> Outcome
-    ensures { HasTold result V.starts V.takes V.fails V.notes (Some site.old, watch.old) (Some site.new, watch.new) }
-{
-    for (round, now) in moments.iter().enumerate() {
-        let wave = Wave {
-            ticking: Ticking::Due { round },
-            moment: *now,
-            lost: "",
-        };
-        make_wave(site, course, &wave, watch)?;
-    }
-    Ok(())
-}
-
-/// The same in a verified network, where all takes part: as [`Lab::run_rounds`] promises.
-fn make_whole_rounds<V: Watch>(
-    alloc: Global,
-    lab: &mut Lab<Routes>,
-    moments: &[Moment],
-    watch: &mut V,
-) -> Outcome
-    ensures { HasTold result V.starts V.takes V.fails V.notes (Some lab.old, watch.old) (Some lab.new, watch.new) }
-{
-    let ticks = ticks_at(alloc, lab.routers(), moments)?;
-    let rounds = rounds_of(alloc, &ticks)?;
-    run_rounds(lab, &rounds, watch)
-}
-
-/// A tick of each router at each time.
-fn ticks_at(alloc: Global, routers: usize, moments: &[Moment]) -> Result<Vec<Ticks>, AllocError>
-    ensures { IfOk result (λ ticks. All (λ t. length t.1.items ≡ routers) ticks.items) }
-{
-    let mut ticks = Vec::new(alloc);
-    for now in moments {
-        ticks.push((*now, vec![in alloc; (*now, 0); routers]?))?;
-    }
-    Ok(ticks)
-}
-
-/// The rounds of these ticks, each with no picks.
-fn rounds_of<'a>(alloc: Global, ticks: &'a [Ticks]) -> Result<Vec<Round<'a>>, AllocError>
-    ensures { IfOk result (λ rounds. (routers : ℕ) → All (λ t. length t.1.items ≡ routers) ticks.now → All (λ r. length r.ticks ≡ routers) rounds.items) }
-{
-    let mut rounds = Vec::new(alloc);
-    for (now, ticks) in ticks {
-        rounds.push(Round {
-            ticks,
-            picks: &[],
-            rest: *now,
-        })?;
-    }
-    Ok(rounds)
 }

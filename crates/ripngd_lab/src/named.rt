@@ -27,10 +27,8 @@ impl<'a> Names<'a> {
 
     /// The router of that number.
     pub fn of(self, router: usize) -> Named<'a> {
-        let name = match self.names.get(router) {
-            Some(name) if !name.is_empty() => Some(*name),
-            _ => None,
-        };
+        let name = self.names.get(router).copied();
+        let name = name.filter(|name| !name.is_empty());
         Named { name, router }
     }
 }

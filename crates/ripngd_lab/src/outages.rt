@@ -90,8 +90,7 @@ impl Outages {
     pub fn lose(&mut self, datagram: usize) -> Result<(), AllocError>
         ensures { OnOk result (self.new.lost.items ≡ self.old.lost.items ++ datagram ∷ []) }
     {
-        self.lost.push(datagram)?;
-        Ok(())
+        Ok(self.lost.push(datagram)?)
     }
 
     /// An event brings no datagram that is lost, else `DatagramLost`.

@@ -11,6 +11,7 @@ use crate::outages::Outages;
 use crate::site::{Network, Routes};
 use crate::stop::{Outcome, Refusal, Stop};
 use crate::watching::{Notice, Watch};
+use crate::words::OrNone;
 use rand_core::SeedableRng;
 use rand_pcg::Pcg32;
 use ripng_world::Lab;
@@ -38,11 +39,8 @@ pub struct MadePhases {
 
 impl fmt::Display for MadePhases {
     fn fmt<W: fmt::Write>(&self, f: &mut fmt::Formatter<W>) -> fmt::Result {
-        write!(f, "phases {} last change ", self.phases)?;
-        match self.last {
-            Some(last) => write!(f, "{last}"),
-            None => write!(f, "none"),
-        }
+        let MadePhases { phases, last } = *self;
+        write!(f, "phases {phases} last change {}", OrNone(last))
     }
 }
 
@@ -53,13 +51,8 @@ pub fn end_of_phases(begin: Moment, phases: usize) -> Option<Moment> {
 
 /// The last moment of all routers, if there is one.
 pub fn latest_moment(lab: &Network) -> Option<Moment> {
-    let mut latest = None;
-    for number in 0..lab.routers() {
-        if let Some(router) = lab.router(number) {
-            latest = latest.max(Some(router.last()));
-        }
-    }
-    latest
+    let routers = (0..lab.routers()).filter_map(|number| lab.router(number));
+    routers.map(|router| router.last()).max()
 }
 
 /// So many phases are made, one after another, by the chance of a generator that starts from a seed, and the observer is notified in

@@ -1,10 +1,9 @@
 //! What a line of many events makes happen: a wave of ticks, and then of deliveries. It is a plan: it says which events come
 //! next, where routers are silent, links are cut and datagrams are lost.
 
-ghost use Rattle.std.specs.Prelude.{◌≡◌, ◌∷◌, [], IfOk, map};
+ghost use Rattle.std.specs.Prelude.{◌≡◌, IfOk, map};
 ghost use Rattle.ripng_world.specs.AskedRounds.{is_other};
 ghost use Rattle.ripng_world.specs.Events.{event_of};
-ghost use Rattle.ripng_world.specs.World.{Tick};
 ghost use Rattle.ripngd_lab.specs.Plans.{addr_at, all_ticks, first_of, is_meant, is_on_cut, reaches, takes_part, ticks_of};
 
 use crate::context::number;
@@ -53,7 +52,10 @@ impl<'a> Wave<'a> {
     {
         match self.ticking {
             Ticking::Nobody => Ok(Vec::new(alloc)),
-            Ticking::One { router, word } => one_tick(alloc, router, self.moment, word),
+            Ticking::One { router, word } => {
+                let now = self.moment;
+                Ok(vec![in alloc; Event::Tick { router, now, word }]?)
+            }
             Ticking::All | Ticking::Due { .. } => all_ticks(alloc, routers, self.moment, outages),
         }
     }
@@ -71,16 +73,13 @@ impl<'a> Wave<'a> {
 
     /// A tick of a round comes only when the regular update of its router is due, else `NoRegularUpdate`.
     pub fn check(&self, lab: &Network, event: &Event<'_>) -> Outcome {
-        match (self.ticking, event) {
-            (Ticking::Due { round }, Event::Tick { router, now, .. }) => {
-                if is_due(lab, *router, *now) {
-                    return Ok(());
-                }
-                let router = *router;
-                Err(Stop::from(RoundsRefused::NoRegularUpdate { round, router }))
-            }
-            _ => Ok(()),
+        if let Ticking::Due { round } = self.ticking
+            && let &Event::Tick { router, now, .. } = event
+            && !is_due(lab, router, now)
+        {
+            return Err(Stop::from(RoundsRefused::NoRegularUpdate { round, router }));
         }
+        Ok(())
     }
 
     /// The datagrams that the wave loses are among those that it would deliver, else `NoSuchDatagram`.
@@ -98,15 +97,12 @@ impl<'a> Wave<'a> {
     }
 
     /// What comes in place of datagrams of the wave, of routers that are none of RIPng: of those that tick in it.
-    pub fn adverts(
-        &self,
-        course: &Course,
-        lab: &Network,
-        first: usize,
-    ) -> Result<Vec<Advert>, AllocError> {
+    pub fn adverts(&self, course: &Course, first: usize) -> Result<Vec<Advert>, AllocError> {
         match self.ticking {
             Ticking::Nobody => Ok(Vec::new(course.alloc)),
-            _ => course.horizons.adverts(lab, first),
+            _ => course
+                .horizons
+                .adverts(course.alloc, course.site.running(), first),
         }
     }
 
@@ -115,37 +111,30 @@ impl<'a> Wave<'a> {
     pub fn deliveries(
         &self,
         course: &Course,
-        lab: &Network,
         first: usize,
         datagram: usize,
     ) -> Result<Vec<Event<'static>>, AllocError> {
+        let (lab, outages) = (course.site.running(), &course.outages);
         let mut events = Vec::new(course.alloc);
-        let place = datagram.saturating_sub(first);
-        if self.loses(place) || course.outages.is_lost(datagram) {
+        let Some(sent) = lab.sent().get(datagram) else {
+            return Ok(events);
+        };
+        if self.loses(datagram.saturating_sub(first)) || outages.is_lost(datagram) {
             return Ok(events);
         }
-        if let Some(sent) = lab.sent().get(datagram) {
-            for router in 0..lab.routers() {
-                let to = (datagram, sent, router);
-                add_deliveries(&mut events, lab, &course.outages, to, self.moment)?;
+        for place in 0..lab.routers().saturating_mul(INTERFACE_LIMIT) {
+            let (router, iface) = (place / INTERFACE_LIMIT, place % INTERFACE_LIMIT);
+            if reaches(lab, outages, sent, router, iface) {
+                events.push(Event::Deliver {
+                    datagram,
+                    router,
+                    iface,
+                    now: self.moment,
+                })?;
             }
         }
         Ok(events)
     }
-}
-
-/// One tick.
-fn one_tick(
-    alloc: Global,
-    router: usize,
-    now: Moment,
-    word: u32,
-) -> Result<Vec<Event<'static>>, AllocError>
-    ensures { IfOk result (λ ticks. map event_of ticks.items ≡ Tick router now word ∷ []) }
-{
-    let mut ticks = Vec::new(alloc);
-    ticks.push(Event::Tick { router, now, word })?;
-    Ok(ticks)
 }
 
 /// A tick of each router that is not silent, with the word 0.
@@ -171,34 +160,10 @@ fn all_ticks(
     Ok(ticks)
 }
 
-/// Adds the deliveries of a datagram of that number to the interfaces of a router.
-fn add_deliveries(
-    events: &mut Vec<Event<'static>>,
-    lab: &Network,
-    outages: &Outages,
-    to: (usize, &Sent, usize),
-    now: Moment,
-) -> Result<(), AllocError> {
-    let (datagram, sent, router) = to;
-    for iface in 0..INTERFACE_LIMIT {
-        if reaches(lab, outages, sent, router, iface) {
-            events.push(Event::Deliver {
-                datagram,
-                router,
-                iface,
-                now,
-            })?;
-        }
-    }
-    Ok(())
-}
-
 /// Whether the regular update of a router is due, at this time or at the last one of the router.
 fn is_due(lab: &Network, router: usize, now: Moment) -> bool {
-    match lab.router(router) {
-        Some(router) => router.regular().reached(now.max(router.last())),
-        None => false,
-    }
+    lab.router(router)
+        .is_some_and(|router| router.regular().reached(now.max(router.last())))
 }
 
 /// Whether a datagram reaches an interface: another one of its link, where all take part and it is meant.

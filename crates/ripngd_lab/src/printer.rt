@@ -2,15 +2,15 @@
 
 ghost use Rattle.std.specs.Prelude.{⊤};
 
-use crate::expecting::Expected;
 use crate::horizon::Horizon;
 use crate::named::{Named, Names};
 use crate::site::{Network, Routes};
 use crate::stop::{Refusal, Unmet};
 use crate::watching::{Notice, Watch};
 use crate::ways::{Obstacle, Way};
+use crate::words::OrNone;
 use prefix6::Prefix;
-use ripng_world::{Event, PathEnd, Sent};
+use ripng_world::{Event, PathEnd};
 use route_table::{Moment, Origin, Route, RouteStore};
 use router_core::{Answer, Destination, Router};
 use std::alloc::Global;
@@ -35,8 +35,8 @@ pub struct Ending {
     pub line: usize,
     /// Why it is refused.
     pub refusal: Refusal,
-    /// How many datagrams were sent, if the routers have started.
-    pub sent: Option<usize>,
+    /// How many datagrams were sent.
+    pub sent: usize,
     /// How many of them the line has sent.
     pub sent_by_line: usize,
 }
@@ -131,15 +131,6 @@ pub struct Choice {
     pub prefix: Option<Prefix>,
 }
 
-impl Choice {
-    fn has_prefix(&self, other: Prefix) -> bool {
-        match self.prefix {
-            Some(prefix) => prefix == other,
-            None => true,
-        }
-    }
-}
-
 /// Writes the routes that are asked for, router by router, in the order of address, then length.
 ///
 /// # Errors
@@ -173,21 +164,23 @@ fn print_table<W: Write>(
         let Some(entry) = routes.walk(last) else {
             break;
         };
-        if choice.has_prefix(entry.0) {
-            print_route(name, entry.0, entry.1, out)?;
-        }
+        print_route(name, choice, entry.0, entry.1, out)?;
         last = Some(entry.0);
     }
     Ok(())
 }
 
-/// Writes the line of a route.
+/// Writes the line of a route, if it is asked for.
 fn print_route<W: Write>(
     name: Named<'_>,
+    choice: &Choice,
     prefix: Prefix,
     route: Route,
     out: &mut W,
 ) -> io::Result<()> {
+    if choice.prefix.is_some_and(|asked| asked != prefix) {
+        return Ok(());
+    }
     let metric = route.metric();
     let tag = route.tag();
     match route.origin() {
@@ -215,31 +208,19 @@ pub fn print_sent<W: Write>(
     out: &mut W,
 ) -> io::Result<()> {
     for (number, sent) in lab.sent().iter().enumerate() {
-        if asked.is_none_or(|asked| asked == number) {
-            print_datagram(alloc, names, number, sent, out)?;
+        if asked.is_some_and(|asked| asked != number) {
+            continue;
         }
+        let hex = hex::encode(alloc, sent.bytes.as_slice())?;
+        let (router, iface) = (names.of(sent.router), sent.iface);
+        write!(out, "{number} router {router} iface {iface} ")?;
+        match sent.to {
+            Destination::Group => write!(out, "group ")?,
+            Destination::Peer { addr, port } => write!(out, "peer {addr} {port} ")?,
+        }
+        writeln!(out, "{hex}")?;
     }
     Ok(())
-}
-
-/// Writes the line of a datagram.
-fn print_datagram<W: Write>(
-    alloc: Global,
-    names: Names<'_>,
-    number: usize,
-    sent: &Sent,
-    out: &mut W,
-) -> io::Result<()> {
-    let hex = hex::encode(alloc, sent.bytes.as_slice())?;
-    let router = names.of(sent.router);
-    let iface = sent.iface;
-    match sent.to {
-        Destination::Group => writeln!(out, "{number} router {router} iface {iface} group {hex}"),
-        Destination::Peer { addr, port } => writeln!(
-            out,
-            "{number} router {router} iface {iface} peer {addr} {port} {hex}"
-        ),
-    }
 }
 
 /// Writes the lines of a way.
@@ -260,8 +241,11 @@ pub fn print_way<W: Write>(names: Names<'_>, way: &Way, out: &mut W) -> io::Resu
     }
     match way.obstacle {
         Some(Obstacle::CutLink { router, link }) => {
-            let at = names.of(router);
-            writeln!(out, "{from} {addr} lost at {at}: link {link} is cut")
+            writeln!(
+                out,
+                "{from} {addr} lost at {}: link {link} is cut",
+                names.of(router)
+            )
         }
         Some(Obstacle::SilentRouter { router }) => {
             writeln!(out, "{from} {addr} lost at {}: silent", names.of(router))
@@ -295,11 +279,10 @@ pub fn print_horizon<W: Write>(
 pub fn print_unmet<W: Write>(names: Names<'_>, unmet: &Unmet, out: &mut W) -> io::Result<()> {
     match unmet {
         Unmet::Metric { expected, found } => {
-            let Expected { router, prefix, .. } = expected;
-            write!(out, "expected {} {prefix} ", names.of(*router))?;
-            print_metric(expected.metric, out)?;
-            write!(out, " found ")?;
-            print_metric(*found, out)
+            let router = names.of(expected.router);
+            let (prefix, metric) = (expected.prefix, OrNone(expected.metric));
+            let found = OrNone(*found);
+            write!(out, "expected {router} {prefix} {metric} found {found}")
         }
         Unmet::Fate {
             router,
@@ -320,13 +303,5 @@ pub fn print_unmet<W: Write>(names: Names<'_>, unmet: &Unmet, out: &mut W) -> io
                 None => write!(out, "done"),
             }
         }
-    }
-}
-
-/// Writes a metric, or `none`.
-fn print_metric<W: Write>(metric: Option<u8>, out: &mut W) -> io::Result<()> {
-    match metric {
-        Some(metric) => write!(out, "{metric}"),
-        None => write!(out, "none"),
     }
 }

@@ -88,7 +88,7 @@ pub fn words_in(line: &[u8]) -> &str {
 }
 
 fn run_line<V: Watch>(alloc: Global, session: &mut Session, line: &[u8], watch: &mut V) -> Outcome
-    ensures { HasTold result V.starts V.takes V.fails V.notes (lab_in session.old.stage, watch.old) (lab_in session.new.stage, watch.new) }
+    ensures { HasTold result V.starts V.takes V.fails V.notes (lab_in session.old.course, watch.old) (lab_in session.new.course, watch.new) }
 {
     if line.starts_with(b"#") {
         return Ok(());
@@ -98,7 +98,7 @@ fn run_line<V: Watch>(alloc: Global, session: &mut Session, line: &[u8], watch: 
     if words.is_empty() {
         return Ok(());
     }
-    let awaited = session.awaited();
+    let awaited = session.awaited.take();
     let outcome = run_words(alloc, session, words, watch);
     match awaited {
         Some(name) => await_refusal(name, outcome),
@@ -107,7 +107,7 @@ fn run_line<V: Watch>(alloc: Global, session: &mut Session, line: &[u8], watch: 
 }
 
 fn run_words<V: Watch>(alloc: Global, session: &mut Session, words: &str, watch: &mut V) -> Outcome
-    ensures { HasTold result V.starts V.takes V.fails V.notes (lab_in session.old.stage, watch.old) (lab_in session.new.stage, watch.new) }
+    ensures { HasTold result V.starts V.takes V.fails V.notes (lab_in session.old.course, watch.old) (lab_in session.new.course, watch.new) }
 {
     match session.read(words) {
         Ok(line) => session.obey(alloc, &line, watch),
@@ -119,15 +119,11 @@ fn run_words<V: Watch>(alloc: Global, session: &mut Session, words: &str, watch:
 fn await_refusal(name: RefusalName, outcome: Outcome) -> Outcome
     ensures { has_failed result ≡ has_failed outcome }
 {
-    match outcome {
-        Ok(()) => Err(Stop::Unmet(Unmet::Refusal { name, found: None })),
-        Err(Stop::Refused(found)) => {
-            if found.is_named(name.word()) {
-                return Ok(());
-            }
-            let found = Some(found);
-            Err(Stop::Unmet(Unmet::Refusal { name, found }))
-        }
-        Err(stop) => Err(stop),
-    }
+    let found = match outcome {
+        Ok(()) => None,
+        Err(Stop::Refused(found)) if found.is_named(name.word()) => return Ok(()),
+        Err(Stop::Refused(found)) => Some(found),
+        Err(stop) => return Err(stop),
+    };
+    Err(Stop::Unmet(Unmet::Refusal { name, found }))
 }

@@ -48,15 +48,6 @@ impl Model for Site {
 }
 
 impl Site {
-    /// A lab that starts.
-    pub fn lawful(lab: Lab<Routes>) -> Site
-        ensures { result ≡ lab }
-    {
-        Site {
-            held: Held::Lawful(lab),
-        }
-    }
-
     /// The same routers, of which one may have accepted a forged Response.
     pub fn lied(self) -> Site
         ensures { result ≡ self }

@@ -70,30 +70,12 @@ pub enum Stop {
 /// How a line ends: done, or as the script ends there.
 pub type Outcome = Result<(), Stop>;
 
-/// The names that `refused NAME` may have: of refusals that a line after `cold` may meet, and of a router's reasons to refuse a change.
-const NAMES: [&str; 21] = [
-    "BadLine",
-    "NoSuchLink",
-    "DatagramLost",
-    "Outage",
-    "LiedTo",
-    "NoSuchRouter",
-    "NoSuchInterface",
-    "NoSuchDatagram",
-    "OtherLink",
-    "NotAStranger",
-    "NotALiar",
-    "ReconfigureRefused",
-    "NoRegularUpdate",
-    "NoUpdateInTime",
-    "PastLastMoment",
-    "BadCost",
-    "PrefixNotAllowed",
-    "AlreadyOwned",
-    "OwnedFull",
-    "NotOwned",
-    "TableFull",
-];
+/// The names that `refused NAME` may have, one space apart: of refusals that a line after `cold` may meet, and of a router's reasons to
+/// refuse a change.
+const NAMES: &str = "BadLine NoSuchLink DatagramLost Outage LiedTo NoSuchRouter \
+    NoSuchInterface NoSuchDatagram OtherLink NotAStranger NotALiar ReconfigureRefused \
+    NoRegularUpdate NoUpdateInTime PastLastMoment BadCost PrefixNotAllowed AlreadyOwned OwnedFull \
+    NotOwned TableFull";
 
 /// The name of a refusal, by its place among all.
 #[derive(Clone, Copy, Debug, PartialEq, Eq)]
@@ -102,41 +84,32 @@ pub struct RefusalName {
 }
 
 impl RefusalName {
+    /// The name that a word is, if it is one.
+    pub fn of(word: &str) -> Option<RefusalName> {
+        let place = NAMES.split(' ').position(|name| name == word)?;
+        Some(RefusalName { place })
+    }
+
     /// The name, one word.
     pub fn word(self) -> &'static str {
-        NAMES.get(self.place).copied().unwrap_or("")
+        NAMES.split(' ').nth(self.place).unwrap_or("")
     }
-}
-
-/// The name that a word is, if it is one.
-pub fn refusal_name(word: &str) -> Option<RefusalName> {
-    let place = NAMES.iter().position(|name| *name == word)?;
-    Some(RefusalName { place })
 }
 
 impl Refusal {
-    fn name(&self) -> &'static str {
+    /// Its name, and its number if it is one of those of a network.
+    fn name_and_number(&self) -> (&'static str, Option<u8>) {
         match self {
-            Refusal::BadLine(_) => "BadLine",
-            Refusal::NameTwice => "NameTwice",
-            Refusal::NoSuchLink => "NoSuchLink",
-            Refusal::DatagramLost => "DatagramLost",
-            Refusal::Outage => "Outage",
-            Refusal::LiedTo => "LiedTo",
-            Refusal::Network(refused) => refused.name(),
-            Refusal::Event(error) => error.name(),
-            Refusal::Rounds(refused) => refused.name(),
-            Refusal::Phases { refused, .. } => refused.name(),
-        }
-    }
-
-    fn number(&self) -> Option<u8> {
-        match self {
-            Refusal::Network(refused) => Some(refused.number()),
-            Refusal::Event(error) => Some(error.number()),
-            Refusal::Rounds(refused) => Some(refused.number()),
-            Refusal::Phases { refused, .. } => Some(refused.number()),
-            _ => None,
+            Refusal::BadLine(_) => ("BadLine", None),
+            Refusal::NameTwice => ("NameTwice", None),
+            Refusal::NoSuchLink => ("NoSuchLink", None),
+            Refusal::DatagramLost => ("DatagramLost", None),
+            Refusal::Outage => ("Outage", None),
+            Refusal::LiedTo => ("LiedTo", None),
+            Refusal::Network(refused) => (refused.name(), Some(refused.number())),
+            Refusal::Event(error) => (error.name(), Some(error.number())),
+            Refusal::Rounds(refused) => (refused.name(), Some(refused.number())),
+            Refusal::Phases { refused, .. } => (refused.name(), Some(refused.number())),
         }
     }
 
@@ -144,17 +117,18 @@ impl Refusal {
     pub fn is_named(&self, name: &str) -> bool {
         match self {
             Refusal::Event(LabError::ReconfigureRefused(why)) if why.name() == name => true,
-            _ => self.name() == name,
+            _ => self.name_and_number().0 == name,
         }
     }
 }
 
 impl fmt::Display for Refusal {
     fn fmt<W: fmt::Write>(&self, f: &mut fmt::Formatter<W>) -> fmt::Result {
-        if let Some(number) = self.number() {
+        let (name, number) = self.name_and_number();
+        if let Some(number) = number {
             write!(f, "{number} ")?;
         }
-        write!(f, "{}", self.name())?;
+        f.write_str(name)?;
         match self {
             Refusal::Network(NetRefused::BadRouter { router, refusal }) => {
                 write!(f, " {router} {refusal}")

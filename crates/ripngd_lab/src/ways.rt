@@ -8,6 +8,7 @@ ghost use Rattle.ripngd_lab.specs.Ways.{fate_of};
 use crate::outages::Outages;
 use crate::site::Network;
 use crate::stop::Stop;
+use crate::words::name_of;
 use prefix6::Addr6;
 use ripng_world::{Path, PathEnd};
 use std::fmt;
@@ -23,13 +24,16 @@ pub enum Fate {
     Lost,
 }
 
+/// What each is called.
+pub const FATES: [(&str, Fate); 3] = [
+    ("arrives", Fate::Arrives),
+    ("loops", Fate::Loops),
+    ("lost", Fate::Lost),
+];
+
 impl fmt::Display for Fate {
     fn fmt<W: fmt::Write>(&self, f: &mut fmt::Formatter<W>) -> fmt::Result {
-        match self {
-            Fate::Arrives => write!(f, "arrives"),
-            Fate::Loops => write!(f, "loops"),
-            Fate::Lost => write!(f, "lost"),
-        }
+        f.write_str(name_of(self, &FATES))
     }
 }
 
@@ -99,19 +103,13 @@ fn obstacle_on(lab: &Network, outages: &Outages, from: usize, path: &Path) -> Op
 
 /// The obstacle that a silent router is.
 fn silence_at(outages: &Outages, router: usize) -> Option<Obstacle> {
-    if outages.is_silent(router) {
-        Some(Obstacle::SilentRouter { router })
-    } else {
-        None
-    }
+    let is_silent = outages.is_silent(router);
+    is_silent.then_some(Obstacle::SilentRouter { router })
 }
 
 /// The obstacle that a cut link is, where an interface is on one.
 fn cut_at(lab: &Network, outages: &Outages, router: usize, iface: usize) -> Option<Obstacle> {
     let link = lab.link(router, iface)?;
-    if outages.is_cut(link) {
-        Some(Obstacle::CutLink { router, link })
-    } else {
-        None
-    }
+    let is_cut = outages.is_cut(link);
+    is_cut.then_some(Obstacle::CutLink { router, link })
 }

@@ -2,19 +2,15 @@
 
 use crate::context::number;
 use crate::forms::Wrong;
-use crate::horizon::Horizon;
-use crate::ways::Fate;
 use prefix6::{Prefix, parse_prefix};
-use route_table::INFINITY;
+use std::fmt;
+use std::str::FromStr;
 
 /// The next word, and what follows it, if a word does. For K and TEXT all words are one.
 pub fn split_off<'a>(part: &str, left: &'a str) -> (&'a str, Option<&'a str>) {
-    if part == "K" || part == "TEXT" {
-        return (left, None);
-    }
     match left.split_once(' ') {
-        Some((word, more)) => (word, Some(more)),
-        None => (left, None),
+        Some((word, more)) if part != "K" && part != "TEXT" => (word, Some(more)),
+        _ => (left, None),
     }
 }
 
@@ -24,48 +20,43 @@ pub fn if_so(word: &str, fits: bool) -> Result<&str, Wrong> {
 }
 
 /// A number from 1 to `most`.
-pub fn up_to(word: &str, most: usize) -> Result<usize, Wrong> {
-    let count: usize = number(word)?;
-    if count == 0 || count > most {
-        return Err(Wrong::Differs);
+pub fn up_to<N: FromStr + Ord + Default + Copy>(word: &str, most: N) -> Result<N, Wrong>
+where
+    N::Err: Drop,
+{
+    let count = number(word)?;
+    if count > N::default() && count <= most {
+        return Ok(count);
     }
-    Ok(count)
+    Err(Wrong::Differs)
 }
 
-/// The metric of a route, 1 to 16, or none as `none`.
-pub fn metric(word: &str) -> Result<Option<u8>, Wrong> {
-    if word == "none" {
-        return Ok(None);
-    }
-    Ok(Some(hops(word)?))
-}
+/// What there is, or `none`.
+#[derive(Clone, Copy)]
+pub struct OrNone<T>(pub Option<T>);
 
-/// A metric, 1 to 16.
-pub fn hops(word: &str) -> Result<u8, Wrong> {
-    let metric: u8 = number(word)?;
-    if metric == 0 || metric > INFINITY {
-        return Err(Wrong::Differs);
-    }
-    Ok(metric)
-}
-
-/// What becomes of packets.
-pub fn fate(word: &str) -> Result<Fate, Wrong> {
-    match word {
-        "arrives" => Ok(Fate::Arrives),
-        "loops" => Ok(Fate::Loops),
-        "lost" => Ok(Fate::Lost),
-        _ => Err(Wrong::Differs),
+impl<T: fmt::Display> fmt::Display for OrNone<T> {
+    fn fmt<W: fmt::Write>(&self, f: &mut fmt::Formatter<W>) -> fmt::Result {
+        match &self.0 {
+            Some(there) => write!(f, "{there}"),
+            None => f.write_str("none"),
+        }
     }
 }
 
-/// What a router advertises on the link on which it learned a route.
-pub fn horizon(word: &str) -> Result<Horizon, Wrong> {
-    match word {
-        "none" => Ok(Horizon::None),
-        "split" => Ok(Horizon::Split),
-        "poison" => Ok(Horizon::Poison),
-        _ => Err(Wrong::Differs),
+/// What has the name.
+pub fn named<T: Copy>(word: &str, names: &[(&str, T)]) -> Result<T, Wrong> {
+    match names.iter().find(|(name, _)| *name == word) {
+        Some((_, named)) => Ok(*named),
+        None => Err(Wrong::Differs),
+    }
+}
+
+/// The name that something has.
+pub fn name_of<T: PartialEq>(named: &T, names: &[(&'static str, T)]) -> &'static str {
+    match names.iter().find(|(_, other)| other == named) {
+        Some((name, _)) => name,
+        None => "",
     }
 }
 

@@ -5,8 +5,8 @@ use Rattle.ripngd_lab.proofs.script.run_words.Goals as goal
 
 pub returns-in-Err : goal.returns-in-Err
 returns-in-Err g c =
-    untold_as g.V.Watch.starts g.V.Observer.takes g.V.Observer.fails g.V.Watch.notes (Err c.from.result) (lab_in c.args.session.now.stage) (lab_in c.read.new.self.stage) c.args.watch.now (ap lab_in c.read.ensures)
+    untold_as g.V.Watch.starts g.V.Observer.takes g.V.Observer.fails g.V.Watch.notes (Err c.from.result) (lab_in c.args.session.now.course) (lab_in c.read.new.self.course) c.args.watch.now (ap lab_in c.read.ensures)
 
 pub returns-in-Ok : goal.returns-in-Ok
 returns-in-Ok g c =
-    told_from g.V.Watch.starts g.V.Observer.takes g.V.Observer.fails g.V.Watch.notes c.obey.result (lab_in c.args.session.now.stage) (lab_in c.read.new.self.stage) c.args.watch.now (lab_in c.obey.new.self.stage, c.obey.new.watch) (ap lab_in (sym c.read.ensures)) c.obey.ensures
+    told_from g.V.Watch.starts g.V.Observer.takes g.V.Observer.fails g.V.Watch.notes c.obey.result (lab_in c.args.session.now.course) (lab_in c.read.new.self.course) c.args.watch.now (lab_in c.obey.new.self.course, c.obey.new.watch) (ap lab_in (sym c.read.ensures)) c.obey.ensures

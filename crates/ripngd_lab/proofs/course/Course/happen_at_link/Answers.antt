@@ -1,0 +1,11 @@
+use Rattle.std.proofs.Common.{Some}
+use Rattle.ripngd_lab.proofs.ScriptWatching.{untold, has_told}
+use Rattle.ripngd_lab.proofs.course.Course.happen_at_link.Goals as goal
+
+pub returns-in_err-events : goal.returns-in_err-events
+returns-in_err-events g c =
+    has_told g.V.Watch.starts g.V.Observer.takes g.V.Observer.fails g.V.Watch.notes c.from_residual.result (Some c.args.self.now.site, c.args.watch.now) (Some c.args.self.now.site, c.args.watch.now) (untold g.V.Watch.starts g.V.Observer.takes g.V.Observer.fails g.V.Watch.notes (Some c.args.self.now.site, c.args.watch.now))
+
+pub returns-in_err-set_cut : goal.returns-in_err-set_cut
+returns-in_err-set_cut g c =
+    has_told g.V.Watch.starts g.V.Observer.takes g.V.Observer.fails g.V.Watch.notes c.from_residual-in_err-set_cut.result (Some c.args.self.now.site, c.args.watch.now) (Some c.args.self.now.site, c.args.watch.now) (untold g.V.Watch.starts g.V.Observer.takes g.V.Observer.fails g.V.Watch.notes (Some c.args.self.now.site, c.args.watch.now))

@@ -1,6 +1,0 @@
-use Rattle.std.proofs.Common.{Some}
-use Rattle.ripngd_lab.specs.ScriptWatching.{IsToldOfLab}
-use Rattle.ripngd_lab.proofs.moving.play.Given as goal
-
-abbrev pub invariant-loop-event : goal.invariant-loop-event
-invariant-loop-event g l = IsToldOfLab g.V.Watch.starts g.V.Observer.takes g.V.Watch.notes (Some l.fn.site, l.fn.watch) (Some l.site, l.watch)
