@@ -1,10 +1,11 @@
 -- Texts that grow, token by token.
-use Rattle.std.proofs.Common.{◌≡◌, ◌∙◌, refl, ap, List, [], ◌∷◌, ◌++◌, map, flat_map, append_assoc}
+use Rattle.std.proofs.Common.{◌≡◌, ◌∙◌, ℕ, false, refl, ap, List, [], ◌∷◌, ◌++◌, map, flat_map, append_assoc}
 use Rattle.json.specs.Json.{Json}
+use Rattle.json.specs.Print.{print}
 use Rattle.json.specs.Token.{Token, begin_array, end_array}
 use Rattle.json.specs.Tree.{items_tokens, json_tokens}
 use Rattle.ripngd_trace.specs.Growing.{Grows}
-use Rattle.ripngd_trace.specs.Json.{items_of, list_of}
+use Rattle.ripngd_trace.specs.Json.{items_of, list_of, text_of}
 use Rattle.ripngd_trace.specs.declared.json_text.JsonText.{JsonText}
 
 -- some tokens, and then others
@@ -26,3 +27,10 @@ module _ {X : Type 0} (json : X → Json) where
 
   pub list_tokens : (xs : List X) → begin_array ∷ (flat_map (λ x. json_tokens (json x)) xs ++ end_array ∷ []) ≡ json_tokens (list_of json xs)
   list_tokens xs = ap (λ (ts : List Token). begin_array ∷ ts) (items_and_end xs)
+
+-- a text that had nothing, and has a value's tokens, is the value's
+pub whole_text : (a b : JsonText) (json : Json) (bytes : List ℕ) → a.writer.before ≡ [] → a.writer.tokens ≡ [] → Grows a b (json_tokens json)
+    → (b.refused ≡ false) × (bytes ≡ b.writer.before ++ print b.writer.tokens) → bytes ≡ text_of json
+whole_text a b json bytes nothing none grows is =
+    is.1 ∙ ap (λ (old : List ℕ). old ++ print b.writer.tokens) (grows.before ∙ nothing)
+    ∙ ap print ((grows.written is.0).1 ∙ ap (λ (ts : List Token). ts ++ json_tokens json) none)

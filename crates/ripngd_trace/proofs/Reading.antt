@@ -49,6 +49,10 @@ pub on_ok : {X E P Q : Type 0} (r : Result X E) → OnOk r P → (P → Q) → O
 on_ok (Ok x) p leads = leads p
 on_ok (Err e) p leads = tt
 
+pub on_any : {X E P : Type 0} (r : Result X E) → P → OnErr r P
+on_any (Ok x) p = tt
+on_any (Err e) p = p
+
 pub on_err : {X E P Q : Type 0} (r : Result X E) → OnErr r P → (P → Q) → OnErr r Q
 on_err (Ok x) p leads = tt
 on_err (Err e) p leads = leads p

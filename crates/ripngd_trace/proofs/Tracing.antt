@@ -9,7 +9,6 @@ use Rattle.ripngd_trace.specs.Reading.{IsTraced, IsTracedUntil}
 use Rattle.ripngd_trace.specs.Saying.{BreaksOff, SameOutput, SaysAside, SaysEvent, SaysStart, said_by}
 use Rattle.ripngd_trace.specs.declared.tracer.Tracer.{Tracer}
 use Rattle.ripngd_trace.specs.declared.writing.Form.{Form}
-use Rattle.ripngd_trace.specs.declared.writing.Form.TheVariants as form
 use Rattle.ripngd_trace.proofs.Reading.{kept, kept_until, lines_told, until_told}
 
 module _ {W : Type 0} (contents : W → Option (List ℕ)) where
@@ -45,20 +44,20 @@ module _ {W : Type 0} (contents : W → Option (List ℕ)) where
     until_form until =
         kept_until (λ (t : Tracer W). t.form) starts_by takes_by fails_by notes_by (λ a l now b h. h.1.0) (λ a what b h. h.1.0) (λ a what b h. h.1.0) (λ a what b h. h.1.0) (None, v) (end, v') until
 
-    module _ (old out : W) (nothing : v.known.routers.items ≡ []) (json : v.form ≡ form.Json) (first : v.out.now ≡ old) (last : out ≡ v'.out.now) where
-      begins : (said_by contents v).written ≡ contents old
-      begins = ap (λ (f : Form). written_as f (contents v.out.now)) json ∙ ap contents first
+    module _ (old out : W) (nothing : v.known.routers.items ≡ []) (first : v.out.now ≡ old) (last : out ≡ v'.out.now) where
+      begins : (said_by contents v).written ≡ written_as v.form (contents old)
+      begins = ap (λ (o : W). written_as v.form (contents o)) first
 
-      ends : v'.form ≡ v.form → (said_by contents v').written ≡ contents out
-      ends same = ap (λ (f : Form). written_as f (contents v'.out.now)) (same ∙ json) ∙ ap contents (sym last)
+      ends : v'.form ≡ v.form → (said_by contents v').written ≡ written_as v.form (contents out)
+      ends same = ap (λ (f : Form). written_as f (contents v'.out.now)) same ∙ ap (λ (o : W). written_as v.form (contents o)) (sym last)
 
       -- what it writes to has the lines
-      pub traced : IsToldOfLab starts_by takes_by notes_by (None, v) (end, v') → IsTraced (contents old) end (contents out)
+      pub traced : IsToldOfLab starts_by takes_by notes_by (None, v) (end, v') → IsTraced (written_as v.form (contents old)) end (written_as v.form (contents out))
       traced told =
           subst₂ (λ (a b : Option (List ℕ)). IsTraced a end b) begins (ends (told_form told))
           (lines_told (said_by contents) starts_by takes_by fails_by notes_by (λ a l now b h. h.0) (λ a what b h. h.0) (λ a what b h. h.0) (λ a what b h. h.0) told.0 None v end v' [] refl nothing told.1)
 
-      pub traced_until : IsToldUntil starts_by takes_by fails_by notes_by (None, v) (end, v') → IsTracedUntil (contents old) end (contents out)
+      pub traced_until : IsToldUntil starts_by takes_by fails_by notes_by (None, v) (end, v') → IsTracedUntil (written_as v.form (contents old)) end (written_as v.form (contents out))
       traced_until until =
           subst₂ (λ (a b : Option (List ℕ)). IsTracedUntil a end b) begins (ends (until_form until))
           (until_told (said_by contents) starts_by takes_by fails_by notes_by (λ a l now b h. h.0) (λ a what b h. h.0) (λ a what b h. h.0) (λ a what b h. h.0) v end v' nothing until)

@@ -1,5 +1,5 @@
 //! Parts of records: of an event its router, its moment, the sender of its datagram, what was sent and which update was due; of a
-//! router its configuration.
+//! router its interfaces.
 
 ghost use Rattle.std.specs.Prelude.{◌≡◌, IfOk, map};
 ghost use Rattle.std.specs.List.{enumerate_from};
@@ -11,7 +11,6 @@ ghost use Rattle.ripngd_trace.specs.Updates.{TellsUpdate, update_by};
 
 use crate::known::KnownRouter;
 use crate::records::{InterfaceRecord, SenderRecord, SentRecord, Timers, UpdateRecord};
-use prefix6::Prefix;
 use ripng_world::{Event, Running};
 use ripngd_lab::addr_at;
 use route_table::{Moment, RouteStore};
@@ -41,14 +40,12 @@ pub fn sender_at<S: RouteStore>(lab: &Running<S>, event: &Event<'_>) -> Option<S
     let &Event::Deliver { datagram, .. } = event else {
         return None;
     };
-    match lab.sent().get(datagram) {
-        Some(sent) => Some(SenderRecord {
-            router: sent.router,
-            iface: sent.iface,
-            addr: addr_at(lab, sent.router, sent.iface),
-        }),
-        None => None,
-    }
+    let sent = lab.sent().get(datagram)?;
+    Some(SenderRecord {
+        router: sent.router,
+        iface: sent.iface,
+        addr: addr_at(lab, sent.router, sent.iface),
+    })
 }
 
 /// The datagrams that were sent from a number on, in order.
@@ -64,11 +61,9 @@ pub fn sent_since<S: RouteStore>(
 {
     let sent = lab.sent();
     let mut records = Vec::new(alloc);
-    for number in first..sent.len() {
-        records.push(SentRecord {
-            datagram: number,
-            sent: &sent[number],
-        })?;
+    for datagram in first..sent.len() {
+        let sent = &sent[datagram];
+        records.push(SentRecord { datagram, sent })?;
     }
     Ok(records)
 }
@@ -117,28 +112,13 @@ pub fn interface_records<S: RouteStore>(
 ) -> Result<Vec<InterfaceRecord>, AllocError>
     ensures { IfOk result (λ records. records.items ≡ map (interface_record lab.now router) (enumerate_from 0 config.now.interfaces)) }
 {
-    let mut records = Vec::new(alloc);
-    for (number, interface) in config.interfaces().iter().enumerate() {
-        records.push(InterfaceRecord {
+    let interfaces = config.interfaces().iter().enumerate();
+    interfaces
+        .map(|(number, interface)| InterfaceRecord {
             addr: interface.addr,
             cost: interface.cost,
             mtu: interface.mtu,
             link: lab.link(router, number),
-        })?;
-    }
-    Ok(records)
-}
-
-/// The prefixes that a router owns, each with its tag, in order.
-///
-/// # Errors
-/// Out of memory.
-pub fn owned_by(alloc: Global, config: &RouterConfig) -> Result<Vec<(Prefix, u16)>, AllocError>
-    ensures { IfOk result (λ records. records.items ≡ config.now.prefixes) }
-{
-    let mut records = Vec::new(alloc);
-    for (prefix, tag) in config.prefixes() {
-        records.push((*prefix, *tag))?;
-    }
-    Ok(records)
+        })
+        .collect(alloc)
 }

@@ -43,15 +43,10 @@ impl JsonText {
     pub fn into_bytes(self) -> Result<Vec<u8>, AllocError>
         ensures { IfOk result (λ bytes. (self.refused ≡ false) × (bytes.items ≡ self.writer.before ++ print self.writer.tokens)) }
     {
-        let JsonText {
-            alloc: _,
-            writer,
-            refused,
-        } = self;
-        if refused {
+        if self.refused {
             return Err(AllocError);
         }
-        Ok(writer.into_inner())
+        Ok(self.writer.into_inner())
     }
 
     /// Writes a token, with the comma that it wants before it.
@@ -59,20 +54,14 @@ impl JsonText {
         requires { IsPrintable (token_of token) }
         ensures { Grows self.old self.new (token_of token.entry ∷ []) }
     {
-        match self.writer.token(token) {
-            Ok(()) => {}
-            Err(_) => self.refused = true,
-        }
+        self.refused |= self.writer.token(token).is_err();
     }
 
     /// Writes a number.
     pub fn number(&mut self, n: u64)
         ensures { Grows self.old self.new (number (decimal n) ∷ []) }
     {
-        match self.writer.u64(n) {
-            Ok(()) => {}
-            Err(_) => self.refused = true,
-        }
+        self.refused |= self.writer.u64(n).is_err();
     }
 
     /// Writes a string: what a value prints.

@@ -7,10 +7,10 @@ ghost use Rattle.ripngd_trace.specs.Records.{LeadsTo, known_as};
 ghost use Rattle.ripngd_trace.specs.Saying.{EventIsTold, StartIsTold, knows};
 ghost use Rattle.ripngd_trace.specs.Starting.{AreTold, TellsRouter};
 
-use crate::events::{interface_records, moment_of, owned_by, sender_at, sent_since, update_of};
+use crate::events::{interface_records, moment_of, sender_at, sent_since, update_of};
 use crate::offers::offers_of;
 use crate::records::{EventRecord, Happened, RouterRecord, StartRecord, Telling, Timers};
-use crate::tables::{News, news_of, timers_in, timers_of};
+use crate::tables::{News, news_of, timers_in};
 use ripng_world::{Event, Running};
 use ripngd_lab::Routes;
 use route_table::{Moment, RouteStore};
@@ -46,22 +46,6 @@ impl KnownRouter {
     }
 }
 
-/// What a reader has to learn of one of the routers that are known. Then it is known, and all others are as they were.
-fn learn_of(
-    alloc: Global,
-    known: &mut [KnownRouter],
-    number: usize,
-    router: &Router<Routes>,
-) -> Result<News, AllocError>
-    ensures listed { IfOk result (λ news. IfSome (slice_get known.old number) (λ before. LeadsTo before.table news.routes.items news.gone.items router.now.table)) }
-    ensures known { OnOk result (known.new ≡ slice_set known.old number (known_as router.now)) }
-{
-    if number >= known.len() {
-        return Ok(News::none(alloc));
-    }
-    known[number].learn(alloc, router)
-}
-
 impl<'a> Known<'a> {
     /// At no line yet, and of no router.
     pub fn new(alloc: Global, telling: Telling<'a>) -> Known<'a>
@@ -93,7 +77,7 @@ impl<'a> Known<'a> {
         self.routers.push(known)?;
         let config = router.config();
         let interfaces = interface_records(self.alloc, lab, number, config)?;
-        let prefixes = owned_by(self.alloc, config)?;
+        let prefixes = Vec::from_slice(self.alloc, config.prefixes())?;
         Ok(RouterRecord {
             quiet: config.is_quiet(),
             interfaces,
@@ -146,8 +130,13 @@ impl<'a> Known<'a> {
         ensures line { self.new.line ≡ self.old.line }
     {
         match lab.router(router) {
-            Some(moved) => learn_of(self.alloc, &mut self.routers, router, moved),
-            None => Ok(News::none(self.alloc)),
+            Some(moved) if router < self.routers.len() => {
+                self.routers[router].learn(self.alloc, moved)
+            }
+            _ => Ok(News {
+                routes: Vec::new(self.alloc),
+                gone: Vec::new(self.alloc),
+            }),
         }
     }
 
@@ -188,7 +177,7 @@ impl<'a> Known<'a> {
             offers,
             update,
             sent,
-            timers: timers_of(lab, router),
+            timers: lab.router(router).map(|router| timers_in(router)),
             routes: news.routes,
             gone: news.gone,
         })

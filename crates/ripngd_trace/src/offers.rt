@@ -2,7 +2,7 @@
 
 ghost use Rattle.std.specs.Prelude.{◌≡◌, IfOk, map};
 ghost use Rattle.ripng_world.specs.Events.{event_of};
-ghost use Rattle.ripngd_trace.specs.Offers.{TellsArrival, TellsOffers, came, is_noted, offer_record, offer_records, route_after};
+ghost use Rattle.ripngd_trace.specs.Offers.{TellsOffers, came, is_noted, offer_record, offer_records, route_after};
 
 use crate::known::KnownRouter;
 use crate::records::OfferRecord;
@@ -10,7 +10,7 @@ use prefix6::{Addr6, Prefix};
 use ripng_world::{Event, Running, Sent};
 use ripngd_lab::{Routes, addr_at};
 use route_table::{Moment, Route, RouteStore};
-use router_core::{Answer, Arrival, Destination, MAX_HOP_LIMIT, Note, Offered, RIPNG_PORT, Router};
+use router_core::{Answer, Arrival, Destination, MAX_HOP_LIMIT, Note, Offered, RIPNG_PORT};
 use std::alloc::{AllocError, Global};
 
 /// A datagram of the network as it comes to an interface of its link.
@@ -92,23 +92,6 @@ fn offer_records<S: RouteStore>(
     Ok(records)
 }
 
-/// What a datagram of the network offered to the router that it came to, by the table that is known of that router.
-fn delivered(
-    alloc: Global,
-    router: &Router<Routes>,
-    known: &Routes,
-    arrival: &Arrival<'_>,
-    notes: &[Note],
-) -> Result<Vec<OfferRecord>, AllocError>
-    ensures { IfOk result (λ records. TellsArrival known.now router.now arrival.entry.now notes.now records.items) }
-{
-    if arrival.iface >= router.config().interfaces().len() {
-        return Ok(Vec::new(alloc));
-    }
-    let offers = router.offers(arrival)?;
-    offer_records(alloc, known, notes, offers.as_slice())
-}
-
 /// What an event offered to the router that moved, by the tables of the routers as they were known. Only a delivery offers
 /// anything: a datagram of no router brings no Response that is accepted.
 ///
@@ -123,30 +106,20 @@ pub fn offers_of(
 ) -> Result<Vec<OfferRecord>, AllocError>
     ensures { IfOk result (λ records. TellsOffers known.now lab.now (event_of event.entry.now) answer.now.notes records.items) }
 {
-    let &Event::Deliver {
+    if let &Event::Deliver {
         datagram,
         router,
         iface,
         now,
     } = event
-    else {
-        return Ok(Vec::new(alloc));
-    };
-    match (
-        known.get(router),
-        lab.router(router),
-        lab.sent().get(datagram),
-    ) {
-        (Some(known), Some(moved), Some(sent)) => {
-            let arrival = came(lab, sent, iface, now);
-            delivered(
-                alloc,
-                moved,
-                &known.table,
-                &arrival,
-                answer.notes.as_slice(),
-            )
-        }
-        _ => Ok(Vec::new(alloc)),
+        && let Some(known) = known.get(router)
+        && let Some(moved) = lab.router(router)
+        && let Some(sent) = lab.sent().get(datagram)
+        && iface < moved.config().interfaces().len()
+    {
+        let offers = moved.offers(&came(lab, sent, iface, now))?;
+        let notes = answer.notes.as_slice();
+        return offer_records(alloc, &known.table, notes, offers.as_slice());
     }
+    Ok(Vec::new(alloc))
 }

@@ -62,6 +62,13 @@ pub struct EventRecord<'a, 'b> {
     pub gone: Vec<Prefix>,
 }
 
+impl<'a, 'b> EventRecord<'a, 'b> {
+    /// Whether a forwarding table changes, or a route is deleted.
+    pub fn changes_tables(&self) -> bool {
+        !(self.answer.changes.as_slice().is_empty() && self.gone.is_empty())
+    }
+}
+
 /// How records are told in English.
 #[derive(Clone, Copy)]
 pub struct Telling<'a> {

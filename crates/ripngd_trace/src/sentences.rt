@@ -6,41 +6,36 @@ use crate::records::{
 };
 use fib::{Hop, RouteChange};
 use prefix6::{Addr6, Prefix};
-use ripng_wire::{Command, Rtes, decode};
+use ripng_wire::{Command, decode};
 use ripng_world::Event;
-use ripngd_lab::{MadePhases, Named};
+use ripngd_lab::MadePhases;
 use router_core::{Arrival, Change, Note, Reason};
 use std::fmt::{self, Display, Formatter, Write};
 
 /// A router, by its name if it has one, or as `R0`.
 #[derive(Clone, Copy)]
-struct Told<'a>(Named<'a>);
-
-impl<'a> Told<'a> {
-    fn of(telling: Telling<'a>, router: usize) -> Told<'a> {
-        Told(telling.names.of(router))
-    }
-}
+struct Told<'a>(Telling<'a>, usize);
 
 impl<'a> Display for Told<'a> {
     fn fmt<W: Write>(&self, f: &mut Formatter<W>) -> fmt::Result {
-        match self.0.name {
+        let Told(telling, router) = self;
+        match telling.names.of(*router).name {
             Some(name) => f.write_str(name),
-            None => write!(f, "R{}", self.0.router),
+            None => write!(f, "R{router}"),
         }
     }
 }
 
+/// Writes what the line of a start or of an event begins with: its number, and the moment in seconds.
+fn write_head<W: Write>(line: usize, now: u64, f: &mut Formatter<W>) -> fmt::Result {
+    write!(f, "line {line}: {}.{:03} s ", now / 1000, now % 1000)
+}
+
 impl<'a> Display for StartRecord<'a> {
     fn fmt<W: Write>(&self, f: &mut Formatter<W>) -> fmt::Result {
+        write_head(self.line, self.now, f)?;
         let (routers, sent) = (self.routers.len(), self.sent.len());
-        writeln!(
-            f,
-            "line {}: {}.{:03} s {routers} routers start; {sent} datagrams are sent",
-            self.line,
-            self.now / 1000,
-            self.now % 1000
-        )
+        writeln!(f, "{routers} routers start; {sent} datagrams are sent")
     }
 }
 
@@ -54,7 +49,7 @@ impl<'a, 'b> Display for Happened<'a, 'b> {
             } => {
                 write!(f, "hears datagram {datagram}")?;
                 if let Some(sender) = self.sender {
-                    write!(f, " of {}", Told::of(self.telling, sender.router))?;
+                    write!(f, " of {}", Told(self.telling, sender.router))?;
                 }
                 write!(f, " on interface {iface}")
             }
@@ -77,25 +72,14 @@ impl<'a, 'b> Happened<'a, 'b> {
     fn write_stranger<W: Write>(&self, arrival: &Arrival<'_>, f: &mut Formatter<W>) -> fmt::Result {
         let Arrival { source, iface, .. } = arrival;
         if let Some(forger) = self.forger {
-            let forger = Told::of(self.telling, forger);
-            write!(
-                f,
-                "hears {forger}, which is not RIPng, on interface {iface}"
-            )?;
+            let told = Told(self.telling, forger);
+            write!(f, "hears {told}, which is not RIPng, on interface {iface}")?;
             return write_message(arrival.bytes, f);
         }
         if self.is_forged {
             return write!(f, "believes a lie of {source} on interface {iface}");
         }
         write!(f, "hears the stranger {source} on interface {iface}")
-    }
-
-    /// Whether it is a tick or an arrival.
-    fn is_moving(&self) -> bool {
-        matches!(
-            self.event,
-            Event::Deliver { .. } | Event::Stranger { .. } | Event::Tick { .. }
-        )
     }
 }
 
@@ -133,51 +117,26 @@ fn due(update: UpdateRecord) -> &'static str {
     }
 }
 
-fn write_offers<W: Write>(offers: &[OfferRecord], f: &mut Formatter<W>) -> fmt::Result {
-    for OfferRecord {
-        prefix,
-        metric,
-        why,
-        ..
-    } in offers {
-        write!(f, "; {prefix} at {metric}, {}", outcome(*why))?;
-    }
-    Ok(())
+fn write_offer<W: Write>(offer: &OfferRecord, f: &mut Formatter<W>) -> fmt::Result {
+    let (prefix, metric) = (offer.prefix, offer.metric);
+    write!(f, "; {prefix} at {metric}, {}", outcome(offer.why))
 }
 
-fn write_notes<W: Write>(notes: &[Note], f: &mut Formatter<W>) -> fmt::Result {
-    for Note { entry, kind } in notes {
-        write!(f, "; entry {entry} is skipped, {kind}")?;
+fn write_change<W: Write>(change: &RouteChange, f: &mut Formatter<W>) -> fmt::Result {
+    match change {
+        RouteChange::Install { prefix, hop, .. } => match hop {
+            Hop::Direct => write!(f, "; {prefix} is forwarded directly"),
+            Hop::Via { next_hop, .. } => write!(f, "; {prefix} is forwarded to {next_hop}"),
+        },
+        RouteChange::Withdraw { prefix } => write!(f, "; {prefix} is forwarded no more"),
     }
-    Ok(())
 }
 
-fn write_changes<W: Write>(changes: &[RouteChange], f: &mut Formatter<W>) -> fmt::Result {
-    for change in changes {
-        match change {
-            RouteChange::Install {
-                prefix,
-                hop: Hop::Via { next_hop, .. },
-                ..
-            } => write!(f, "; {prefix} is forwarded to {next_hop}")?,
-            RouteChange::Install { prefix, .. } => write!(f, "; {prefix} is forwarded directly")?,
-            RouteChange::Withdraw { prefix } => write!(f, "; {prefix} is forwarded no more")?,
-        }
-    }
-    Ok(())
-}
-
-/// The datagrams that were sent, and what they say.
-fn write_sent<W: Write>(sent: &[SentRecord<'_>], f: &mut Formatter<W>) -> fmt::Result {
-    for SentRecord { datagram, sent } in sent {
-        write!(
-            f,
-            "; datagram {datagram} is sent on interface {}",
-            sent.iface
-        )?;
-        write_message(sent.bytes.as_slice(), f)?;
-    }
-    Ok(())
+/// Writes that a datagram was sent, and what it says.
+fn write_sent<W: Write>(record: &SentRecord<'_>, f: &mut Formatter<W>) -> fmt::Result {
+    let (datagram, iface) = (record.datagram, record.sent.iface);
+    write!(f, "; datagram {datagram} is sent on interface {iface}")?;
+    write_message(record.sent.bytes.as_slice(), f)
 }
 
 /// What a datagram says: of a Response each entry, with its metric.
@@ -188,33 +147,13 @@ fn write_message<W: Write>(bytes: &[u8], f: &mut Formatter<W>) -> fmt::Result {
     if message.command() == Command::Request {
         return f.write_str(": a Request");
     }
-    write_entries(message.entries(), f)
-}
-
-fn write_entries<W: Write>(entries: Rtes<'_>, f: &mut Formatter<W>) -> fmt::Result {
-    let mut is_first = true;
-    for entry in entries {
-        if is_first {
-            f.write_str(":")?;
-        } else {
-            f.write_str(",")?;
-        }
-        is_first = false;
+    for (place, entry) in message.entries().enumerate() {
+        f.write_str(if place == 0 { ":" } else { "," })?;
         let addr = Addr6::from_bits(entry.addr);
         match Prefix::new(addr, entry.len) {
-            Ok(prefix) if !entry.is_next_hop() => {
-                write!(f, " {prefix} at {}", entry.metric)?;
-            }
+            Ok(prefix) if !entry.is_next_hop() => write!(f, " {prefix} at {}", entry.metric)?,
             _ => write!(f, " next hop {addr}")?,
         }
-    }
-    Ok(())
-}
-
-/// The prefixes that had a route and have none.
-fn write_gone<W: Write>(gone: &[Prefix], f: &mut Formatter<W>) -> fmt::Result {
-    for prefix in gone {
-        write!(f, "; the route to {prefix} is deleted")?;
     }
     Ok(())
 }
@@ -222,10 +161,11 @@ fn write_gone<W: Write>(gone: &[Prefix], f: &mut Formatter<W>) -> fmt::Result {
 impl<'a, 'b> EventRecord<'a, 'b> {
     /// Whether nothing is said of it.
     fn is_passed_over(&self) -> bool {
-        self.happened.telling.changes_only
-            && self.happened.is_moving()
-            && self.answer.changes.as_slice().is_empty()
-            && self.gone.is_empty()
+        let is_moving = matches!(
+            self.happened.event,
+            Event::Deliver { .. } | Event::Stranger { .. } | Event::Tick { .. }
+        );
+        self.happened.telling.changes_only && is_moving && !self.changes_tables()
     }
 }
 
@@ -234,27 +174,26 @@ impl<'a, 'b> Display for EventRecord<'a, 'b> {
         if self.is_passed_over() {
             return Ok(());
         }
-        write!(
-            f,
-            "line {}: {}.{:03} s {} {}",
-            self.line,
-            self.now / 1000,
-            self.now % 1000,
-            Told::of(self.happened.telling, self.router),
-            self.happened
-        )?;
-        if let Some(fault) = self.answer.fault {
+        let (answer, happened) = (self.answer, &self.happened);
+        write_head(self.line, self.now, f)?;
+        write!(f, "{} {happened}", Told(happened.telling, self.router))?;
+        if let Some(fault) = answer.fault {
             write!(f, "; it is refused, {fault}")?;
         }
         if let Some(update) = self.update {
             write!(f, "; {}", due(update))?;
         }
-        write_offers(&self.offers, f)?;
-        write_notes(self.answer.notes.as_slice(), f)?;
-        write_changes(self.answer.changes.as_slice(), f)?;
-        write_gone(&self.gone, f)?;
-        write_sent(&self.sent, f)?;
-        if self.happened.is_forged && self.happened.forger.is_none() {
+        self.offers
+            .iter()
+            .try_for_each(|offer| write_offer(offer, f))?;
+        let mut notes = answer.notes.as_slice().iter();
+        notes.try_for_each(|Note { entry, kind }| write!(f, "; entry {entry} is skipped, {kind}"))?;
+        let mut changes = answer.changes.as_slice().iter();
+        changes.try_for_each(|change| write_change(change, f))?;
+        let mut gone = self.gone.iter();
+        gone.try_for_each(|prefix| write!(f, "; the route to {prefix} is deleted"))?;
+        self.sent.iter().try_for_each(|sent| write_sent(sent, f))?;
+        if happened.is_forged && happened.forger.is_none() {
             f.write_str("; from here on nothing is promised")?;
         }
         f.write_str("\n")
@@ -273,17 +212,11 @@ impl<'a> Display for AsideRecord<'a> {
             Action::GoesRound { rounds, last } => {
                 write!(f, "line {}: {rounds} rounds are made; ", self.line)?;
                 match last {
-                    Some(last) => writeln!(
-                        f,
-                        "tables last changed in round {last}, counted from 0"
-                    ),
+                    Some(at) => writeln!(f, "tables last changed in round {at}, counted from 0"),
                     None => writeln!(f, "no table changed"),
                 }
             }
-            Action::Makes { phases, last } => {
-                let (phases, last) = (*phases, *last);
-                writeln!(f, "{}", MadePhases { phases, last })
-            }
+            &Action::Makes { phases, last } => writeln!(f, "{}", MadePhases { phases, last }),
             Action::Ends { how, why, .. } => writeln!(f, "line {} {how}{why}", self.line),
         }
     }

@@ -1,6 +1,6 @@
 //! Records of routers: their timers, and those of their routes that a reader does not know yet.
 
-ghost use Rattle.std.specs.Prelude.{◌≡◌, None, IfOk, IsTrue, OnOk, option_map, slice_get};
+ghost use Rattle.std.specs.Prelude.{◌≡◌, None, IfOk, IsTrue, OnOk};
 ghost use Rattle.std.specs.FinMap as map_of;
 ghost use Rattle.prefix6.specs.Prefix.{Prefix6};
 ghost use Rattle.route_table.specs.Table.{Table};
@@ -8,7 +8,6 @@ ghost use Rattle.ripngd_trace.specs.Records.{LeadsTo, timers_in, with_routes, ta
 
 use crate::records::Timers;
 use prefix6::Prefix;
-use ripng_world::Running;
 use route_table::{Route, RouteStore};
 use router_core::Router;
 use std::alloc::{AllocError, Global};
@@ -22,16 +21,6 @@ pub fn timers_in<S: RouteStore>(router: &Router<S>) -> Timers
         regular: router.regular().ms(),
         hold: router.hold().ms(),
         due: router.next_due(),
-    }
-}
-
-/// The timers of a router of a lab, if there is such a router.
-pub fn timers_of<S: RouteStore>(lab: &Running<S>, router: usize) -> Option<Timers>
-    ensures { result ≡ option_map timers_in (slice_get lab.now.world.states router) }
-{
-    match lab.router(router) {
-        Some(router) => Some(timers_in(router)),
-        None => None,
     }
 }
 
@@ -55,10 +44,7 @@ fn forget<S: RouteStore>(
     ensures gone { OnOk result (map_of.get (S.table table.now) prefix ≡ None → map_of.get (S.table known.new) prefix ≡ None) }
     ensures fewer { OnOk result ((p : Prefix6) → map_of.get (S.table known.old) p ≡ None → map_of.get (S.table known.new) p ≡ None) }
 {
-    if table.get(&prefix).is_some() {
-        return Ok(());
-    }
-    if known.get(&prefix).is_none() {
+    if table.get(&prefix).is_some() || known.get(&prefix).is_none() {
         return Ok(());
     }
     gone.push(prefix)?;
@@ -83,20 +69,6 @@ fn forget_all<S: RouteStore>(
     Ok(gone)
 }
 
-/// Puts a route into a table, whether it has one to the prefix or not.
-fn put<S: RouteStore>(table: &mut S, prefix: Prefix, route: Route) -> Result<(), AllocError>
-    ensures { OnOk result (S.table table.new ≡ map_of.insert (S.table table.old) prefix route) }
-{
-    if table.get(&prefix).is_some() {
-        table.replace(&prefix, route);
-        return Ok(());
-    }
-    match table.add(prefix, route) {
-        Ok(()) => Ok(()),
-        Err(_) => Err(AllocError),
-    }
-}
-
 /// Whether two routes are the same.
 fn is_same(held: &Route, route: &Route) -> bool
     ensures { IsTrue result → held.now ≡ route.now }
@@ -118,13 +90,12 @@ fn learn<S: RouteStore>(
     ensures listed { OnOk result ((t : Table) → S.table known.old ≡ with_routes t news.old.items → S.table known.new ≡ with_routes t news.new.items) }
     ensures held { OnOk result (S.table known.new ≡ map_of.insert (S.table known.old) prefix route) }
 {
-    if let Some(held) = known.get(&prefix)
-        && is_same(&held, &route)
-    {
-        return Ok(());
+    match known.get(&prefix) {
+        Some(held) if is_same(&held, &route) => return Ok(()),
+        Some(_) => known.replace(&prefix, route),
+        None => known.add(prefix, route).map_err(|_| AllocError)?,
     }
     news.push((prefix, route))?;
-    put(known, prefix, route)?;
     Ok(())
 }
 
@@ -151,16 +122,6 @@ pub struct News {
     /// The routes to put into it, once the prefixes are taken out.
     pub routes: Vec<(Prefix, Route)>,
     pub gone: Vec<Prefix>,
-}
-
-impl News {
-    /// Nothing.
-    pub fn none(alloc: Global) -> News {
-        News {
-            routes: Vec::new(alloc),
-            gone: Vec::new(alloc),
-        }
-    }
 }
 
 /// What a reader who knows a table has to learn of what it is now. Then the table is known.

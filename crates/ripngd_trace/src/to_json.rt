@@ -1,10 +1,8 @@
 //! What is written as JSON, and which JSON it is: values, and objects by their members.
 
-ghost use Rattle.std.specs.Prelude.{flat_map, string_bytes};
 ghost use Rattle.hex.specs.Hex.{encode_lower};
 ghost use Rattle.json.specs.Json.{Json, Members as JsonMembers, boolean, member, no_members, string};
 ghost use Rattle.json.specs.Tree.{json_tokens, members_tokens};
-ghost use Rattle.router_core.specs.Adoption.{reason_name};
 ghost use Rattle.ripngd_trace.specs.Growing.{Grows};
 ghost use Rattle.ripngd_trace.specs.Json.{address_of, list_of, number_of, option_of, prefix_of};
 
@@ -14,7 +12,7 @@ use crate::json_text::JsonText;
 use json::Token;
 use prefix6::{Addr6, Prefix};
 use route_table::Deadline;
-use router_core::{Listed, Reason};
+use router_core::Listed;
 
 /// What has a JSON value.
 pub trait ToJson {
@@ -44,40 +42,29 @@ impl Members for () {
     }
 }
 
-/// A member, and those after it.
-#[derive(Drop)]
-pub struct Member<'a, T, R> {
-    pub name: &'static str,
-    pub value: &'a T,
-    pub rest: R,
-}
-
-impl<'a, T: ToJson, R: Members> Members for Member<'a, T, R> {
-    ghost members = { λ m. member m.name.now (T.json m.value.now) (R.members m.rest) };
+/// A member by its name and its value, and those after it.
+impl<'a, T: ToJson, R: Members> Members for (&'static str, &'a T, R) {
+    ghost members = { λ m. member m.0.now (T.json m.1.now) (R.members m.2) };
 
     fn write_members(&self, text: &mut JsonText) {
-        text.token(Token::Key(self.name));
-        self.value.write_json(text);
-        self.rest.write_members(text);
+        text.token(Token::Key(self.0));
+        self.1.write_json(text);
+        self.2.write_members(text);
     }
 }
 
-/// Members of an object: of each field that is named, and of each name with its value, as in `members!(self; line, "record" => &"lost")`.
+/// Members of an object, in order: fields and references under their own names, and other references under the names before them, as in
+/// `members!(self.line, "record": &"lost", datagram)`.
 macro_rules! members {
-    ($of:ident;) => { () };
-    ($of:ident; $name:literal => $value:expr $(, $($more:tt)*)?) => {
-        $crate::to_json::Member {
-            name: $name,
-            value: $value,
-            rest: $crate::to_json::members!($of; $($($more)*)?),
-        }
+    () => { () };
+    ($name:literal: $value:expr $(, $($more:tt)*)?) => {
+        ($name, $value, $crate::to_json::members!($($($more)*)?))
     };
-    ($of:ident; $field:ident $(, $($more:tt)*)?) => {
-        $crate::to_json::Member {
-            name: stringify!($field),
-            value: &$of.$field,
-            rest: $crate::to_json::members!($of; $($($more)*)?),
-        }
+    ($of:ident.$field:ident $(, $($more:tt)*)?) => {
+        (stringify!($field), &$of.$field, $crate::to_json::members!($($($more)*)?))
+    };
+    ($value:ident $(, $($more:tt)*)?) => {
+        (stringify!($value), $value, $crate::to_json::members!($($($more)*)?))
     };
 }
 
@@ -148,14 +135,6 @@ impl<'a> ToJson for &'a str {
     }
 }
 
-impl ToJson for String {
-    ghost json = { λ s. string (string_bytes s) };
-
-    fn write_json(&self, text: &mut JsonText) {
-        text.token(Token::String(self.as_str()));
-    }
-}
-
 /// Bytes, in hexadecimal digits.
 impl<'a> ToJson for &'a [u8] {
     ghost json = { λ bytes. string (encode_lower bytes.now) };
@@ -183,15 +162,6 @@ impl ToJson for Prefix {
     }
 }
 
-/// By the name of the row.
-impl ToJson for Reason {
-    ghost json = { λ row. string (reason_name row) };
-
-    fn write_json(&self, text: &mut JsonText) {
-        text.token(Token::String(self.name()));
-    }
-}
-
 /// What is not there is `null`.
 impl<T: ToJson> ToJson for Option<T> {
     ghost json = { option_of T.json };
@@ -204,21 +174,14 @@ impl<T: ToJson> ToJson for Option<T> {
     }
 }
 
-/// Writes values one after another.
-fn write_each<T: ToJson>(values: &[T], text: &mut JsonText)
-    ensures { Grows text.old text.new (flat_map (λ value. json_tokens (T.json value)) values.now) }
-{
-    for value in values {
-        value.write_json(text);
-    }
-}
-
 /// Writes a list, in order.
 fn write_list<T: ToJson>(values: &[T], text: &mut JsonText)
     ensures { Grows text.old text.new (json_tokens (list_of T.json values.now)) }
 {
     text.token(Token::BeginArray);
-    write_each(values, text);
+    for value in values {
+        value.write_json(text);
+    }
     text.token(Token::EndArray);
 }
 

@@ -1,9 +1,10 @@
 //! A script, traced or explained: one observer, which writes a record of each thing that happens.
 
-ghost use Rattle.std.specs.Prelude.{◌≡◌, [], OnErr, OnOk, Option};
+ghost use Rattle.std.specs.Prelude.{OnErr, OnOk, Option};
 ghost use Rattle.ripng_world.specs.Events.{event_of};
 ghost use Rattle.ripng_world.specs.Labs.{LabValue};
 ghost use Rattle.ripngd_lab.specs.Asides.{Broken, Prints};
+ghost use Rattle.ripngd_trace.specs.Lines.{written_as};
 ghost use Rattle.ripngd_trace.specs.Reading.{IsPrintWord, IsTraced, IsTracedUntil};
 ghost use Rattle.ripngd_trace.specs.Saying.{BreaksOff, SameOutput, SaysAlone, SaysAside, SaysEvent, SaysMove, SaysStart, said_by};
 
@@ -12,8 +13,8 @@ use crate::records::{Action, AsideRecord, HintRecord, Telling};
 use crate::writing::{Form, write_record};
 use ripng_world::{Event, Running};
 use ripngd_lab::{
-    Ending, MadePhases, Names, Notice, Routes, Watch, hint_of, names_of, print_horizon,
-    print_routes, print_sent, print_unmet, print_way, watched,
+    Ending, MadePhases, Names, Notice, Printer, Routes, Watch, hint_of, names_of, print_unmet,
+    watched,
 };
 use route_table::Moment;
 use router_core::Answer;
@@ -31,28 +32,7 @@ pub fn trace<W: Write>(alloc: Global, script: &[u8], out: &mut W) -> io::Result<
     ensures traced { OnOk result ((lab : Option LabValue) × IsTraced (W.contents out.old) lab (W.contents out.new)) }
     ensures traced_until { OnErr result ((lab : Option LabValue) × IsTracedUntil (W.contents out.old) lab (W.contents out.new)) }
 {
-    let names = match names_of(alloc, script) {
-        Ok(names) => names,
-        Err(error) => return Err(io::Error::from(error)),
-    };
-    let telling = Telling {
-        names: Names::new(&names),
-        changes_only: false,
-    };
-    let mut tracer = Tracer::new(alloc, script, Form::Json, telling, out);
-    let outcome = watched(alloc, script, &mut tracer);
-    let Tracer {
-        script: _,
-        ticks: _,
-        ticks_at_change: _,
-        known,
-        form: _,
-        out: written,
-    } = tracer;
-    drop(known);
-    // No effect at run time. The proof reads what `out` holds from this use of the reference.
-    let _ = &*written;
-    outcome
+    observed(alloc, script, Form::Json, false, out)
 }
 
 /// Runs a script as [`ripngd_lab::lab`] does, and returns whether every line was done. Beside what its lines print, a line of
@@ -68,13 +48,42 @@ pub fn explain<W: Write>(
     changes_only: bool,
     out: &mut W,
 ) -> io::Result<bool> {
+    observed(alloc, script, Form::English, changes_only, out)
+}
+
+/// Runs a script, and writes a record of each thing that happens.
+fn observed<W: Write>(
+    alloc: Global,
+    script: &[u8],
+    form: Form,
+    changes_only: bool,
+    out: &mut W,
+) -> io::Result<bool>
+    ensures traced { OnOk result ((lab : Option LabValue) × IsTraced (written_as form (W.contents out.old)) lab (written_as form (W.contents out.new))) }
+    ensures traced_until { OnErr result ((lab : Option LabValue) × IsTracedUntil (written_as form (W.contents out.old)) lab (written_as form (W.contents out.new))) }
+{
     let names = names_of(alloc, script)?;
-    let telling = Telling {
-        names: Names::new(&names),
-        changes_only,
+    let names = Names::new(&names);
+    let mut tracer = Tracer {
+        script,
+        ticks: 0,
+        ticks_at_change: 0,
+        known: Known::new(
+            alloc,
+            Telling {
+                names,
+                changes_only,
+            },
+        ),
+        form,
+        out,
     };
-    let mut tracer = Tracer::new(alloc, script, Form::English, telling, out);
-    watched(alloc, script, &mut tracer)
+    let outcome = watched(alloc, script, &mut tracer);
+    let Tracer { known, out, .. } = tracer;
+    drop(known);
+    // No effect at run time. The proof reads what `out` holds from this use of the reference.
+    let _ = &*out;
+    outcome
 }
 
 /// The observer that writes the records.
@@ -92,29 +101,6 @@ pub struct Tracer<'a, W: Write> {
 }
 
 impl<'a, W: Write> Tracer<'a, W> {
-    /// It is at no line yet, and knows no table.
-    fn new(
-        alloc: Global,
-        script: &'a [u8],
-        form: Form,
-        telling: Telling<'a>,
-        out: &'a mut W,
-    ) -> Tracer<'a, W>
-        ensures known { result.known.routers.items ≡ [] }
-        ensures form { result.form ≡ form }
-        ensures out { result.out.now ≡ out.old }
-        ensures same_reference { result.out.ghost_name ≡ out.entry.ghost_name }
-    {
-        Tracer {
-            script,
-            ticks: 0,
-            ticks_at_change: 0,
-            known: Known::new(alloc, telling),
-            form,
-            out,
-        }
-    }
-
     /// Reports an event that was done, or a forged Response, which comes as the datagram of an outside host, or of the router `forger`.
     fn report(
         &mut self,
@@ -133,12 +119,8 @@ impl<'a, W: Write> Tracer<'a, W> {
             .event_record(lab, event, is_forged, answer, first, forger)?;
         let is_tick = matches!(event, Event::Tick { .. });
         self.ticks = self.ticks.saturating_add(usize::from(is_tick));
-        let changes = answer
-            .changes
-            .as_slice()
-            .len()
-            .saturating_add(record.gone.len());
-        let ticks = self.ticks.saturating_mul(changes.min(1));
+        let changes = usize::from(record.changes_tables());
+        let ticks = self.ticks.saturating_mul(changes);
         self.ticks_at_change = self.ticks_at_change.max(ticks);
         write_record(self.known.alloc, self.form, &record, self.out)
     }
@@ -228,49 +210,37 @@ impl<'a, W: Write> Watch for Tracer<'a, W> {
     }
 
     fn noticed(&mut self, notice: Notice<'_>) -> io::Result<()> {
-        let mut prints = Vec::new(self.known.alloc);
+        let alloc = self.known.alloc;
         let names = self.known.telling.names;
-        match notice {
-            Notice::Routes(lab, choice) => {
-                print_routes(names, lab, &choice, &mut prints)?;
-                self.report_prints("print", &prints)
-            }
-            Notice::Datagrams(lab, asked) => {
-                print_sent(self.known.alloc, names, lab, asked, &mut prints)?;
-                self.report_prints("sent", &prints)
-            }
-            Notice::Way(way) => {
-                print_way(names, &way, &mut prints)?;
-                self.report_prints("path", &prints)
-            }
-            Notice::Horizon { router, horizon } => {
-                print_horizon(names, router, horizon, &mut prints)?;
-                self.report_prints("horizon", &prints)
-            }
-            Notice::Said(text) => {
-                writeln!(prints, "{text}")?;
-                self.report_prints("say", &prints)
-            }
-            Notice::Lost(datagram) => self.report_action(Action::Loses { datagram }),
-            Notice::Rounds(rounds) => {
+        let mut prints = Vec::new(alloc);
+        let word = match &notice {
+            Notice::Routes(..) => "print",
+            Notice::Datagrams(..) => "sent",
+            Notice::Way(_) => "path",
+            Notice::Horizon { .. } => "horizon",
+            Notice::Said(_) => "say",
+            &Notice::Lost(datagram) => return self.report_action(Action::Loses { datagram }),
+            &Notice::Rounds(rounds) => {
                 let last = self.last_round(rounds);
-                self.report_action(Action::GoesRound { rounds, last })
+                return self.report_action(Action::GoesRound { rounds, last });
             }
-            Notice::Phases(MadePhases { phases, last }) => {
-                self.report_action(Action::Makes { phases, last })
+            &Notice::Phases(MadePhases { phases, last }) => {
+                return self.report_action(Action::Makes { phases, last });
             }
             Notice::Refused(ending) => {
-                let hint = self.hint_of(&ending)?;
-                let why = format!(in self.known.alloc; "{}", ending.refusal)?;
+                let hint = self.hint_of(ending)?;
+                let why = format!(in alloc; "{}", ending.refusal)?;
                 let (how, why) = ("refused ", why.as_str());
-                self.report_action(Action::Ends { how, why, hint })
+                return self.report_action(Action::Ends { how, why, hint });
             }
             Notice::Unmet(unmet) => {
-                print_unmet(names, &unmet, &mut prints)?;
+                print_unmet(names, unmet, &mut prints)?;
                 let why = str::from_utf8(&prints).unwrap_or("");
                 let (how, hint) = ("", None);
-                self.report_action(Action::Ends { how, why, hint })
+                return self.report_action(Action::Ends { how, why, hint });
             }
-        }
+        };
+        Printer::new(alloc, names, &mut prints).noticed(notice)?;
+        self.report_prints(word, &prints)
     }
 }

@@ -1,13 +1,12 @@
 //! Records written, in one of two forms.
 
-ghost use Rattle.std.specs.Prelude.{◌≡◌, ◌<◌, ℕ, IfOk, OnErr, OnOk, length, take};
+ghost use Rattle.std.specs.Prelude.{◌<◌, ℕ, OnErr, OnOk, length, take};
 ghost use Rattle.std.specs.Io.KnownBytes.{Appends};
-ghost use Rattle.ripngd_trace.specs.Json.{text_of};
 ghost use Rattle.ripngd_trace.specs.Lines.{WritesLess, WritesRecord, written_as};
 
 use crate::json_text::JsonText;
 use crate::to_json::ToJson;
-use std::alloc::{AllocError, Global};
+use std::alloc::Global;
 use std::fmt::Display;
 use std::io::{self, ErrorKind, Write};
 
@@ -44,18 +43,11 @@ fn write_line<T: ToJson, W: Write>(alloc: Global, value: &T, out: &mut W) -> io:
     ensures whole { OnOk result (WritesRecord (T.json value.now) (W.contents out.old) (W.contents out.new)) }
     ensures broken { OnErr result (WritesLess (W.contents out.old) (W.contents out.new)) }
 {
-    let mut text = text_of(alloc, value)?;
-    text.push(b'\n')?;
-    write_bytes(&text, out)
-}
-
-/// The text of a value, as JSON.
-fn text_of<T: ToJson>(alloc: Global, value: &T) -> Result<Vec<u8>, AllocError>
-    ensures { IfOk result (λ bytes. bytes.items ≡ text_of (T.json value.now)) }
-{
     let mut text = JsonText::new(alloc);
     value.write_json(&mut text);
-    text.into_bytes()
+    let mut line = text.into_bytes()?;
+    line.push(b'\n')?;
+    write_bytes(&line, out)
 }
 
 /// Writes bytes, as `write_all` does; but where that fails, it is known what was written.

@@ -23,7 +23,7 @@ impl<'a> ToJson for StartRecord<'a> {
     ghost json = { json_of_start };
 
     fn write_json(&self, text: &mut JsonText) {
-        text.object(&members!(self; line, "record" => &"start", now, routers, sent));
+        text.object(&members!(self.line, "record": &"start", self.now, self.routers, self.sent));
     }
 }
 
@@ -57,20 +57,20 @@ impl<'a> ToJson for AsideRecord<'a> {
     fn write_json(&self, text: &mut JsonText) {
         match &self.action {
             Action::Prints { word, lines, .. } => {
-                text.object(&members!(self; line, "record" => word, "prints" => lines));
+                text.object(&members!(self.line, "record": word, "prints": lines));
             }
             Action::Loses { datagram } => {
-                text.object(&members!(self; line, "record" => &"lost", "datagram" => datagram));
+                text.object(&members!(self.line, "record": &"lost", datagram));
             }
-            Action::GoesRound { rounds, last } => text.object(&members!(
-                self; line, "record" => &"rounds", "rounds" => rounds, "last" => last
-            )),
-            Action::Makes { phases, last } => text.object(&members!(
-                self; line, "record" => &"phases", "phases" => phases, "last" => last
-            )),
-            Action::Ends { why, hint, .. } => text.object(&members!(
-                self; line, "record" => &"refused", "why" => why, "hint" => hint
-            )),
+            Action::GoesRound { rounds, last } => {
+                text.object(&members!(self.line, "record": &"rounds", rounds, last));
+            }
+            Action::Makes { phases, last } => {
+                text.object(&members!(self.line, "record": &"phases", phases, last));
+            }
+            Action::Ends { why, hint, .. } => {
+                text.object(&members!(self.line, "record": &"refused", why, hint));
+            }
         }
     }
 }
@@ -79,7 +79,7 @@ impl ToJson for HintRecord {
     ghost json = { json_of_hint };
 
     fn write_json(&self, text: &mut JsonText) {
-        text.object(&members!(self; line, text));
+        text.object(&members!(self.line, "text": &self.text.as_str()));
     }
 }
 
@@ -87,7 +87,9 @@ impl ToJson for RouterRecord {
     ghost json = { json_of_router };
 
     fn write_json(&self, text: &mut JsonText) {
-        text.object(&members!(self; quiet, interfaces, prefixes, timers, routes));
+        text.object(&members!(
+            "quiet": &self.quiet, self.interfaces, self.prefixes, self.timers, self.routes
+        ));
     }
 }
 
@@ -95,7 +97,7 @@ impl ToJson for InterfaceRecord {
     ghost json = { json_of_interface };
 
     fn write_json(&self, text: &mut JsonText) {
-        text.object(&members!(self; addr, cost, mtu, link));
+        text.object(&members!(self.addr, self.cost, self.mtu, self.link));
     }
 }
 
@@ -104,7 +106,7 @@ impl ToJson for (Prefix, u16) {
     ghost json = { json_of_owned };
 
     fn write_json(&self, text: &mut JsonText) {
-        text.object(&members!(self; "prefix" => &self.0, "tag" => &self.1));
+        text.object(&members!("prefix": &self.0, "tag": &self.1));
     }
 }
 
@@ -112,7 +114,7 @@ impl ToJson for Timers {
     ghost json = { json_of_timers };
 
     fn write_json(&self, text: &mut JsonText) {
-        text.object(&members!(self; last, regular, hold, due));
+        text.object(&members!(self.last, self.regular, self.hold, self.due));
     }
 }
 
@@ -121,7 +123,7 @@ impl ToJson for (Deadline, Prefix) {
     ghost json = { json_of_due };
 
     fn write_json(&self, text: &mut JsonText) {
-        text.object(&members!(self; "until" => &self.0, "prefix" => &self.1));
+        text.object(&members!("until": &self.0, "prefix": &self.1));
     }
 }
 
@@ -130,19 +132,12 @@ impl ToJson for (Prefix, Route) {
     ghost json = { json_of_route };
 
     fn write_json(&self, text: &mut JsonText) {
-        write_route(&self.0, &self.1, text);
+        let route = &self.1;
+        text.object(&members!(
+            "prefix": &self.0, "metric": &route.metric(), "tag": &route.tag(), "gateway": &route.origin(),
+            "until": &route.deadline(), "marked": &route.is_changed()
+        ));
     }
-}
-
-fn write_route(prefix: &Prefix, route: &Route, text: &mut JsonText)
-    ensures { Grows text.old text.new (json_tokens (json_of_route (prefix.now, route.now))) }
-{
-    let (metric, tag, gateway) = (route.metric(), route.tag(), route.origin());
-    let (until, marked) = (route.deadline(), route.is_changed());
-    text.object(&members!(
-        route; "prefix" => prefix, "metric" => &metric, "tag" => &tag, "gateway" => &gateway, "until" => &until,
-        "marked" => &marked
-    ));
 }
 
 /// From where a route was learned: `null` for a local one.
@@ -156,9 +151,7 @@ impl ToJson for Origin {
                 iface,
                 from,
                 next_hop,
-            } => text.object(
-                &members!(self; "iface" => iface, "from" => from, "next_hop" => next_hop),
-            ),
+            } => text.object(&members!(iface, from, next_hop)),
         }
     }
 }
@@ -172,21 +165,13 @@ impl<'a, 'b> ToJson for Happened<'a, 'b> {
                 datagram,
                 iface,
                 ..
-            } => text.object(&members!(
-                self; "kind" => &"deliver", "datagram" => datagram, "iface" => iface, sender
-            )),
+            } => text.object(&members!("kind": &"deliver", datagram, iface, self.sender)),
             Event::Stranger { arrival, .. } => write_stranger(self.is_forged, arrival, text),
-            Event::Tick { word, .. } => {
-                text.object(&members!(self; "kind" => &"tick", "word" => word));
-            }
-            Event::Restart { .. } => text.object(&members!(self; "kind" => &"restart")),
-            Event::Shutdown { .. } => text.object(&members!(self; "kind" => &"shutdown")),
-            Event::LinkDown { iface, .. } => {
-                text.object(&members!(self; "kind" => &"link_down", "iface" => iface));
-            }
-            Event::LinkUp { iface, .. } => {
-                text.object(&members!(self; "kind" => &"link_up", "iface" => iface));
-            }
+            Event::Tick { word, .. } => text.object(&members!("kind": &"tick", word)),
+            Event::Restart { .. } => text.object(&members!("kind": &"restart")),
+            Event::Shutdown { .. } => text.object(&members!("kind": &"shutdown")),
+            Event::LinkDown { iface, .. } => text.object(&members!("kind": &"link_down", iface)),
+            Event::LinkUp { iface, .. } => text.object(&members!("kind": &"link_up", iface)),
             Event::Reconfigure { change, .. } => change.write_json(text),
         }
     }
@@ -197,11 +182,11 @@ fn write_stranger(is_forged: bool, arrival: &Arrival<'_>, text: &mut JsonText)
     ensures { Grows text.old text.new (json_tokens (json_of_stranger is_forged arrival.entry.now)) }
 {
     if is_forged {
-        text.object(&members!(arrival; "kind" => &"liar", iface, source, bytes));
+        text.object(&members!("kind": &"liar", arrival.iface, arrival.source, arrival.bytes));
     } else {
         text.object(&members!(
-            arrival; "kind" => &"stranger", iface, source, "port" => &arrival.source_port, hop_limit,
-            "group" => &arrival.to_group, bytes
+            "kind": &"stranger", arrival.iface, arrival.source, "port": &arrival.source_port, arrival.hop_limit,
+            "group": &arrival.to_group, arrival.bytes
         ));
     }
 }
@@ -211,15 +196,9 @@ impl ToJson for Change {
 
     fn write_json(&self, text: &mut JsonText) {
         match self {
-            Change::Cost { iface, cost } => {
-                text.object(&members!(self; "kind" => &"cost", "iface" => iface, "cost" => cost));
-            }
-            Change::Own { prefix, tag } => {
-                text.object(&members!(self; "kind" => &"gain", "prefix" => prefix, "tag" => tag));
-            }
-            Change::Disown { prefix } => {
-                text.object(&members!(self; "kind" => &"drop", "prefix" => prefix));
-            }
+            Change::Cost { iface, cost } => text.object(&members!("kind": &"cost", iface, cost)),
+            Change::Own { prefix, tag } => text.object(&members!("kind": &"gain", prefix, tag)),
+            Change::Disown { prefix } => text.object(&members!("kind": &"drop", prefix)),
         }
     }
 }
@@ -228,7 +207,7 @@ impl ToJson for SenderRecord {
     ghost json = { json_of_sender };
 
     fn write_json(&self, text: &mut JsonText) {
-        text.object(&members!(self; router, iface, addr));
+        text.object(&members!(self.router, self.iface, self.addr));
     }
 }
 
@@ -236,8 +215,7 @@ impl ToJson for Fault {
     ghost json = { json_of_fault };
 
     fn write_json(&self, text: &mut JsonText) {
-        let (number, name) = (self.number(), self.name());
-        text.object(&members!(self; "number" => &number, "name" => &name));
+        text.object(&members!("number": &self.number(), "name": &self.name()));
     }
 }
 
@@ -245,29 +223,19 @@ impl ToJson for Note {
     ghost json = { json_of_note };
 
     fn write_json(&self, text: &mut JsonText) {
-        let (number, name) = (self.kind.number(), self.kind.name());
-        text.object(&members!(self; entry, "number" => &number, "name" => &name));
+        let kind = self.kind;
+        text.object(&members!(self.entry, "number": &kind.number(), "name": &kind.name()));
     }
 }
 
+/// Why an offer is adopted or not, by the name of the row.
 impl ToJson for OfferRecord {
     ghost json = { json_of_offer };
 
     fn write_json(&self, text: &mut JsonText) {
-        text.object(&members!(self; entry, prefix, metric, tag, next_hop, why));
-    }
-}
-
-impl UpdateRecord {
-    /// Its name in a record.
-    fn name(self) -> &'static str
-        ensures { result.now ≡ update_name self }
-    {
-        match self {
-            UpdateRecord::Regular => "regular",
-            UpdateRecord::Triggered => "triggered",
-            UpdateRecord::Held => "held",
-        }
+        text.object(&members!(
+            self.entry, self.prefix, self.metric, self.tag, self.next_hop, "why": &self.why.name()
+        ));
     }
 }
 
@@ -275,7 +243,11 @@ impl ToJson for UpdateRecord {
     ghost json = { json_of_update };
 
     fn write_json(&self, text: &mut JsonText) {
-        text.token(Token::String(self.name()));
+        text.token(Token::String(match self {
+            UpdateRecord::Regular => "regular",
+            UpdateRecord::Triggered => "triggered",
+            UpdateRecord::Held => "held",
+        }));
     }
 }
 
@@ -288,12 +260,8 @@ impl ToJson for RouteChange {
                 prefix,
                 hop,
                 metric,
-            } => text.object(&members!(
-                self; "change" => &"add", "prefix" => prefix, "metric" => metric, "via" => hop
-            )),
-            RouteChange::Withdraw { prefix } => {
-                text.object(&members!(self; "change" => &"del", "prefix" => prefix));
-            }
+            } => text.object(&members!("change": &"add", prefix, metric, "via": hop)),
+            RouteChange::Withdraw { prefix } => text.object(&members!("change": &"del", prefix)),
         }
     }
 }
@@ -305,9 +273,7 @@ impl ToJson for Hop {
     fn write_json(&self, text: &mut JsonText) {
         match self {
             Hop::Direct => text.token(Token::Null),
-            Hop::Via { iface, next_hop } => {
-                text.object(&members!(self; "iface" => iface, "next_hop" => next_hop));
-            }
+            Hop::Via { iface, next_hop } => text.object(&members!(iface, next_hop)),
         }
     }
 }
@@ -319,9 +285,7 @@ impl ToJson for Destination {
     fn write_json(&self, text: &mut JsonText) {
         match self {
             Destination::Group => text.token(Token::Null),
-            Destination::Peer { addr, port } => {
-                text.object(&members!(self; "addr" => addr, "port" => port));
-            }
+            Destination::Peer { addr, port } => text.object(&members!(addr, port)),
         }
     }
 }
@@ -331,9 +295,7 @@ impl<'a> ToJson for SentRecord<'a> {
 
     fn write_json(&self, text: &mut JsonText) {
         let sent = self.sent;
-        let bytes = sent.bytes.as_slice();
-        text.object(&members!(
-            sent; "datagram" => &self.datagram, router, iface, "peer" => &sent.to, "bytes" => &bytes
-        ));
+        let bytes = &sent.bytes.as_slice();
+        text.object(&members!(self.datagram, sent.router, sent.iface, "peer": &sent.to, bytes));
     }
 }

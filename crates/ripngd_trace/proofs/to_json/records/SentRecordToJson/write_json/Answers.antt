@@ -14,4 +14,4 @@ returns c =
     ∷ (codes "iface", number_of r.sent.now.iface)
     ∷ (codes "peer", json_of_peer r.sent.now.to)
     ∷ (codes "bytes", hex_of bytes)
-    ∷ [])))) c.as_slice-bytes.ensures c.object.ensures
+    ∷ [])))) c.as_slice.ensures c.object.ensures
