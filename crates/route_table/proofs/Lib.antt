@@ -14,7 +14,7 @@ pub mod TrieAdd
 pub mod TrieTable
 pub mod NextDue
 pub mod PastPrefix
-pub mod DueOrChanged
+pub mod WantedEntries
 pub mod FirstDue
 pub mod SortedDue
 pub mod SortedMarks

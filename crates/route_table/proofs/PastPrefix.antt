@@ -10,10 +10,10 @@ use Rattle.std.proofs.lemmas.Option.{get_or_from_slice_get, slice_get_within}
 use Rattle.prefix6.specs.Prefix.{Prefix6, prefix_cmp}
 use Rattle.prefix6.specs.Places.{prefix_at}
 use Rattle.route_table.specs.Route.{RouteValue}
-use Rattle.route_table.specs.Blocks.{joined, block_at, IsStart}
+use Rattle.route_table.specs.Blocks.{joined, IsStart}
 use Rattle.route_table.specs.Place.{Entries, IsStartPast}
 use Rattle.route_table.specs.Table.{is_past, past}
-use Rattle.route_table.proofs.BlockLists.{joined_drop, joined_parts}
+use Rattle.route_table.proofs.BlockLists.{joined_parts}
 use Rattle.route_table.proofs.SortedDue.{starts}
 use Rattle.route_table.proofs.SortedEntries.{first_at, start_after}
 use Rattle.route_table.proofs.Walks.{drop_next, present_at}
@@ -140,16 +140,3 @@ module _ (after : Option Prefix6) (bs : List Entries) where
       ∙ filter-append (λ e. is_past after e.0) (joined (take k bs)) (joined (drop k bs))
       ∙ ap (λ (l : Entries). l ++ past after (joined (drop k bs))) (none_past after (joined (take k bs)) s.before)
       )
-
-  -- what a block gives, and what is still wanted of those behind it
-  pub run_goes_on : (k left : ℕ) (out : Entries) → k < length bs
-      → (out ++ take left (past after (block_at bs k))) ++ take (left - length (past after (block_at bs k))) (past after (joined (drop (k + 1) bs))) ≡ out ++ take left (past after (joined (drop k bs)))
-  run_goes_on k left out lt =
-      append_assoc out (take left (past after (block_at bs k))) _
-      ∙ ap (λ l. out ++ l) (
-      sym (take_both left (past after (block_at bs k)) (past after (joined (drop (k + 1) bs))))
-      ∙ ap (take left) (sym (filter-append (λ e. is_past after e.0) (block_at bs k) (joined (drop (k + 1) bs))) ∙ ap (past after) (sym (joined_drop bs k lt)))
-      )
-
-  pub run_is_out : (k left : ℕ) (out : Entries) → length bs ≤ k → out ++ take left (past after (joined (drop k bs))) ≡ out
-  run_is_out k left out le = ap (λ l. out ++ take left (past after (joined l))) (drop_all k bs le) ∙ ap (λ l. out ++ l) (take_none left) ∙ append-nil out

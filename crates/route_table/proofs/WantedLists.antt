@@ -1,5 +1,5 @@
 -- The wanted of the routes past a prefix, listed one by one and block by block.
-use Rattle.std.proofs.Common.{◌≡◌, ℕ, suc, ◌+◌, ◌-◌, ◌<◌, ◌≤◌, Bool, true, false, cond, List, [], ◌∷◌, ◌++◌, length, get_or, take, drop, Option, sym, ap, ◌∙◌, arith, append_assoc, append-nil}
+use Rattle.std.proofs.Common.{◌≡◌, ℕ, suc, ◌+◌, ◌-◌, ◌<◌, ◌≤◌, Bool, true, false, cond, List, [], ◌∷◌, ◌++◌, length, get_or, take, drop, Option, refl, sym, ap, ◌∙◌, arith, append_assoc, append-nil}
 use Rattle.std.proofs.lemmas.List.{drop_all, drop_more}
 use Rattle.std.proofs.lemmas.List.Elements.{filter-append}
 use Rattle.prefix6.specs.Prefix.{Prefix6}
@@ -8,6 +8,7 @@ use Rattle.route_table.specs.Place.{Entries}
 use Rattle.route_table.specs.Summary.{meets, wanted_of}
 use Rattle.route_table.specs.Table.{is_past, past}
 use Rattle.route_table.specs.declared.wanted.Wanted.{Wanted}
+use Rattle.route_table.specs.declared.wanted.Wanted.TheVariants.{Any}
 use Rattle.route_table.proofs.BlockLists.{joined_drop}
 use Rattle.route_table.proofs.PastPrefix.{run_starts, take_both, take_none}
 use Rattle.route_table.proofs.TrieLists.{Entry}
@@ -30,6 +31,11 @@ pub list_more : (out rest : Entries) (e : Entry) (left : ℕ) → 0 < left → (
 list_more out rest e left some =
     let more : suc (left - 1) ≡ left = omega arith in
     append_assoc out (e ∷ []) (take (left - 1) rest) ∙ ap (λ n. out ++ take n (e ∷ rest)) more
+
+-- a search for any route wants all of them
+pub all_wanted : (es : Entries) → es ≡ wanted_of Any es
+all_wanted [] = refl
+all_wanted (e ∷ es) = ap (λ l. e ∷ l) (all_wanted es)
 
 -- ---- block by block
 module _ (w : Wanted) (after : Option Prefix6) (bs : List Entries) where

@@ -196,12 +196,7 @@ impl Block {
     }
 
     /// Appends the first routes past the prefix, at most so many, for which the vector must have room: how many are still wanted.
-    pub fn list_run(
-        &self,
-        after: &Option<Prefix>,
-        most: usize,
-        out: &mut Vec<(Prefix, Route)>,
-    ) -> usize
+    fn list_run(&self, after: &Option<Prefix>, most: usize, out: &mut Vec<(Prefix, Route)>) -> usize
         requires room { vec_len out.old + most ≤ vec_capacity out.old }
         ensures items { out.new.items ≡ out.old.items ++ take most (past after.now self.now) }
         ensures left { result ≡ most - length (past after.now self.now) }
@@ -228,6 +223,9 @@ impl Block {
         ensures left { result ≡ most - length (wanted_of wanted (past after.now self.now)) }
         ensures room { vec_len out.new + result ≤ vec_capacity out.new }
     {
+        if let Wanted::Any = wanted {
+            return self.list_run(after, most, out);
+        }
         if !wanted.may_be_in(&self.bound) {
             return most;
         }

@@ -140,27 +140,7 @@ pub fn list(blocks: &[Block], out: &mut Vec<(Prefix, Route)>)
     }
 }
 
-/// Appends the first routes past the prefix, at most so many. The vector must have room for them.
-pub fn list_run(
-    blocks: &[Block],
-    after: &Option<Prefix>,
-    most: usize,
-    out: &mut Vec<(Prefix, Route)>,
-)
-    requires ordered { AreBlocks blocks.now }
-    requires room { vec_len out.old + most ≤ vec_capacity out.old }
-    ensures { out.new.items ≡ out.old.items ++ take most (past after.now (joined blocks.now)) }
-{
-    let mut left = most;
-    for k in start(blocks, after)..blocks.len() {
-        if left == 0 {
-            return;
-        }
-        left = blocks[k].list_run(after, left, out);
-    }
-}
-
-/// The same among the routes that are wanted.
+/// Appends the first routes past the prefix that are wanted, at most so many. The vector must have room for them.
 pub fn list_wanted(
     blocks: &[Block],
     after: &Option<Prefix>,

@@ -42,3 +42,4 @@ pub use route::{Clock, INFINITY, Origin, Route};
 pub use sorted::SortedRoutes;
 pub use store::{AddRefused, RouteStore, TABLE_LIMIT};
 pub use trie_routes::TrieRoutes;
+pub use wanted::Wanted;

@@ -1,13 +1,8 @@
 //! A table as a sorted vector of sorted blocks of routes: the store of the program.
 
-ghost use Rattle.std.specs.Prelude.{◌≡◌};
-ghost use Rattle.std.specs.FinMap.{entries};
-ghost use Rattle.route_table.specs.Due.{first_where, least_deadline};
-ghost use Rattle.route_table.specs.Summary.{meets};
-
 use crate::block::Block;
 use crate::blocks::{self, Place};
-use crate::moment::{Deadline, Moment};
+use crate::moment::Moment;
 use crate::route::Route;
 use crate::store::{AddRefused, RouteStore, TABLE_LIMIT};
 use crate::summary::Summary;
@@ -48,25 +43,6 @@ impl Model for SortedRoutes {
     ghost invariant = { λ s. IsStore s.count s.bound s.blocks.items };
 }
 
-impl SortedRoutes {
-    /// The least deadline of the routes, in milliseconds.
-    fn due_ms(&self) -> Option<u64>
-        ensures { result ≡ least_deadline (entries self.now) }
-    {
-        blocks::due_ms(&self.blocks)
-    }
-
-    /// The first route past the prefix that is wanted.
-    fn first_wanted(&self, after: Option<Prefix>, wanted: Wanted) -> Option<(Prefix, Route)>
-        ensures { result ≡ first_where (meets wanted) after (entries self.now) }
-    {
-        if !wanted.may_be_in(&self.bound) {
-            return None;
-        }
-        blocks::first_wanted(&self.blocks, &after, wanted)
-    }
-}
-
 impl RouteStore for SortedRoutes {
     ghost table = { λ s. s };
 
@@ -88,51 +64,28 @@ impl RouteStore for SortedRoutes {
         blocks::get(&self.blocks, prefix)
     }
 
-    fn walk(&self, after: Option<Prefix>) -> Option<(Prefix, Route)> {
-        self.first_wanted(after, Wanted::Any)
-    }
-
-    fn walk_due(&self, after: Option<Prefix>, now: Moment) -> Option<(Prefix, Route)> {
-        self.first_wanted(after, Wanted::Due(now.ms()))
-    }
-
-    fn walk_changed(&self, after: Option<Prefix>) -> Option<(Prefix, Route)> {
-        self.first_wanted(after, Wanted::Changed)
-    }
-
-    fn walk_due_or_changed(&self, after: Option<Prefix>, now: Moment) -> Option<(Prefix, Route)> {
-        self.first_wanted(after, Wanted::DueOrChanged(now.ms()))
-    }
-
-    fn next_due(&self) -> Option<(Deadline, Prefix)> {
-        let Some(least) = self.due_ms() else {
+    fn first_wanted(&self, after: Option<Prefix>, wanted: Wanted) -> Option<(Prefix, Route)> {
+        if !wanted.may_be_in(&self.bound) {
             return None;
-        };
-        let Some(entry) = self.first_wanted(None, Wanted::Due(least)) else {
-            return None;
-        };
-        match entry.1.deadline() {
-            Some(until) => Some((until, entry.0)),
-            None => unreachable!(),
         }
+        blocks::first_wanted(&self.blocks, &after, wanted)
+    }
+
+    fn least_due_ms(&self) -> Option<u64> {
+        blocks::due_ms(&self.blocks)
     }
 
     fn list(&self, out: &mut Vec<(Prefix, Route)>) {
         blocks::list(&self.blocks, out);
     }
 
-    fn list_run(&self, after: Option<Prefix>, most: usize, out: &mut Vec<(Prefix, Route)>) {
-        blocks::list_run(&self.blocks, &after, most, out);
-    }
-
-    fn list_changed(
+    fn list_wanted(
         &self,
         after: Option<Prefix>,
-        now: Moment,
+        wanted: Wanted,
         most: usize,
         out: &mut Vec<(Prefix, Route)>,
     ) {
-        let wanted = Wanted::DueOrChanged(now.ms());
         blocks::list_wanted(&self.blocks, &after, wanted, most, out);
     }
 

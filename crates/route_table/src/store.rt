@@ -1,12 +1,14 @@
 //! What a table of routes does, however it is stored.
 
-ghost use Rattle.std.specs.Prelude.{◌≡◌, ◌≤◌, ◌+◌, ◌++◌, ◌↔◌, ◌||◌, None, IsTrue, IsSome, IfSome, option_map, filter, take, OnOk, OnErr, vec_len, vec_capacity};
+ghost use Rattle.std.specs.Prelude.{◌≡◌, ◌≤◌, ◌+◌, ◌++◌, ◌↔◌, None, IsTrue, IsSome, IfSome, option_map, take, OnOk, OnErr, vec_len, vec_capacity};
 ghost use Rattle.std.specs.FinMap as map;
 ghost use Rattle.route_table.specs.Table.{Table, table_limit, table_with, first_past, past, add_refused_name, add_refused_number};
-ghost use Rattle.route_table.specs.Due.{first_due, first_changed, first_where, is_due, next_due, unmarked};
+ghost use Rattle.route_table.specs.Due.{first_due, first_changed, first_where, least_deadline, next_due, unmarked};
+ghost use Rattle.route_table.specs.Summary.{meets, wanted_of};
 
 use crate::moment::{Deadline, Moment};
 use crate::route::Route;
+use crate::wanted::Wanted;
 use prefix6::Prefix;
 use std::alloc::Global;
 use thiserror::Error;
@@ -71,76 +73,65 @@ pub trait RouteStore: Drop {
     fn get(&self, prefix: &Prefix) -> Option<Route>
         ensures { result ≡ map.get (table self.now) prefix.now };
 
-    /// The route of the least prefix past the given one, or of the least prefix of all. Prefixes
-    /// are in the order of address, then length.
+    /// The first route past the prefix, or of all, that a search looks for. Prefixes are in the order of address, then length.
+    fn first_wanted(&self, after: Option<Prefix>, wanted: Wanted) -> Option<(Prefix, Route)>
+        ensures { result ≡ first_where (meets wanted) after (map.entries (table self.now)) };
+
+    /// The least deadline of all timers, in milliseconds (RFC 2080, section 2.3).
+    fn least_due_ms(&self) -> Option<u64>
+        ensures { result ≡ least_deadline (map.entries (table self.now)) };
+
+    /// The route of the least prefix past the given one, or of the least prefix of all.
     fn walk(&self, after: Option<Prefix>) -> Option<(Prefix, Route)>
-        ensures { result ≡ first_past after (table self.now) };
+        ensures { result ≡ first_past after (table self.now) }
+    {
+        self.first_wanted(after, Wanted::Any)
+    }
 
     /// The same among routes whose timer has ended: their deadline is reached (RFC 2080, section 2.3).
     fn walk_due(&self, after: Option<Prefix>, now: Moment) -> Option<(Prefix, Route)>
-        ensures { result ≡ first_due now after (table self.now) };
+        ensures { result ≡ first_due now after (table self.now) }
+    {
+        self.first_wanted(after, Wanted::Due(now.ms()))
+    }
 
     /// The same among routes whose route change flag is set (RFC 2080, section 2.5.1).
     fn walk_changed(&self, after: Option<Prefix>) -> Option<(Prefix, Route)>
-        ensures { result ≡ first_changed after (table self.now) };
-
-    /// The same among routes whose timer has ended or whose route change flag is set.
-    fn walk_due_or_changed(&self, after: Option<Prefix>, now: Moment) -> Option<(Prefix, Route)>
-        ensures { result ≡ first_where (λ r. is_due now r || r.changed) after (map.entries (table self.now)) }
+        ensures { result ≡ first_changed after (table self.now) }
     {
-        let past = after;
-        let Some(due) = self.walk_due(after, now) else {
-            return self.walk_changed(past);
-        };
-        let Some(changed) = self.walk_changed(past) else {
-            return Some(due);
-        };
-        if changed.0 < due.0 {
-            Some(changed)
-        } else {
-            Some(due)
-        }
+        self.first_wanted(after, Wanted::Changed)
     }
 
     /// The least deadline of all timers, with the first prefix whose route has it.
     fn next_due(&self) -> Option<(Deadline, Prefix)>
-        ensures { result ≡ next_due (table self.now) };
+        ensures { result ≡ next_due (table self.now) }
+    {
+        let least = self.least_due_ms()?;
+        let entry = self.first_wanted(None, Wanted::Due(least))?;
+        let until = entry.1.deadline()?;
+        Some((until, entry.0))
+    }
 
     /// Appends all routes in the order of their prefixes. The vector must have room for them, so no memory is taken.
     fn list(&self, out: &mut Vec<(Prefix, Route)>)
         requires room { vec_len out.old + map.len (table self.now) ≤ vec_capacity out.old }
         ensures { out.new.items ≡ out.old.items ++ map.entries (table self.now) };
 
-    /// Appends the first routes past the prefix in their order: `most` of them, or all if there are fewer. The vector must have
-    /// room for `most`, so no memory is taken.
-    fn list_run(&self, after: Option<Prefix>, most: usize, out: &mut Vec<(Prefix, Route)>)
-        requires room { vec_len out.old + most ≤ vec_capacity out.old }
-        ensures { out.new.items ≡ out.old.items ++ take most (past after (map.entries (table self.now))) }
-    {
-        let mut after = after;
-        for _done in 0..most {
-            let Some(entry) = self.walk(after) else {
-                return;
-            };
-            out.push_reserved((entry.0, entry.1));
-            after = Some(entry.0);
-        }
-    }
-
-    /// The same among routes whose timer has ended or whose route change flag is set.
-    fn list_changed(
+    /// Appends the first routes past the prefix that a search looks for, in their order: `most` of them, or all if there are fewer.
+    /// The vector must have room for `most`, so no memory is taken.
+    fn list_wanted(
         &self,
         after: Option<Prefix>,
-        now: Moment,
+        wanted: Wanted,
         most: usize,
         out: &mut Vec<(Prefix, Route)>,
     )
         requires room { vec_len out.old + most ≤ vec_capacity out.old }
-        ensures { out.new.items ≡ out.old.items ++ take most (filter (λ e. is_due now e.1 || e.1.changed) (past after (map.entries (table self.now)))) }
+        ensures { out.new.items ≡ out.old.items ++ take most (wanted_of wanted (past after (map.entries (table self.now)))) }
     {
         let mut after = after;
         for _done in 0..most {
-            let Some(entry) = self.walk_due_or_changed(after, now) else {
+            let Some(entry) = self.first_wanted(after, wanted) else {
                 return;
             };
             out.push_reserved((entry.0, entry.1));

@@ -1,11 +1,5 @@
 //! A table as a trie of routes.
 
-ghost use Rattle.std.specs.Prelude.{◌≡◌};
-ghost use Rattle.std.specs.FinMap.{entries};
-ghost use Rattle.route_table.specs.Due.{first_where, least_deadline};
-ghost use Rattle.route_table.specs.Summary.{meets};
-
-use crate::moment::{Deadline, Moment};
 use crate::route::Route;
 use crate::store::{AddRefused, RouteStore, TABLE_LIMIT};
 use crate::trie::{self, Node};
@@ -41,25 +35,6 @@ impl Model for TrieRoutes {
     ghost invariant = { λ s. IsTrie s.count s.root };
 }
 
-impl TrieRoutes {
-    /// The least deadline of the routes, in milliseconds.
-    fn due_ms(&self) -> Option<u64>
-        ensures { result ≡ least_deadline (entries self.now) }
-    {
-        trie::due_ms(&self.root)
-    }
-
-    /// The first route past the prefix that is wanted.
-    fn first_wanted(&self, after: Option<Prefix>, wanted: Wanted) -> Option<(Prefix, Route)>
-        ensures { result ≡ first_where (meets wanted) after (entries self.now) }
-    {
-        match after {
-            None => trie::first(&self.root, wanted).copied(),
-            Some(after) => trie::first_past(&self.root, &after, wanted).copied(),
-        }
-    }
-}
-
 impl RouteStore for TrieRoutes {
     ghost table = { λ s. s };
 
@@ -79,29 +54,15 @@ impl RouteStore for TrieRoutes {
         trie::get(&self.root, prefix)
     }
 
-    fn walk(&self, after: Option<Prefix>) -> Option<(Prefix, Route)> {
-        self.first_wanted(after, Wanted::Any)
-    }
-
-    fn walk_due(&self, after: Option<Prefix>, now: Moment) -> Option<(Prefix, Route)> {
-        self.first_wanted(after, Wanted::Due(now.ms()))
-    }
-
-    fn walk_changed(&self, after: Option<Prefix>) -> Option<(Prefix, Route)> {
-        self.first_wanted(after, Wanted::Changed)
-    }
-
-    fn next_due(&self) -> Option<(Deadline, Prefix)> {
-        let Some(least) = self.due_ms() else {
-            return None;
-        };
-        let Some(entry) = self.first_wanted(None, Wanted::Due(least)) else {
-            return None;
-        };
-        match entry.1.deadline() {
-            Some(until) => Some((until, entry.0)),
-            None => unreachable!(),
+    fn first_wanted(&self, after: Option<Prefix>, wanted: Wanted) -> Option<(Prefix, Route)> {
+        match after {
+            None => trie::first(&self.root, wanted).copied(),
+            Some(after) => trie::first_past(&self.root, &after, wanted).copied(),
         }
+    }
+
+    fn least_due_ms(&self) -> Option<u64> {
+        trie::due_ms(&self.root)
     }
 
     fn list(&self, out: &mut Vec<(Prefix, Route)>) {

@@ -12,6 +12,7 @@ use Rattle.route_table.specs.declared.route.Clock.{Clock}
 use Rattle.route_table.specs.declared.route.Clock.TheVariants.{Fixed, Live, Dying}
 use Rattle.route_table.specs.Table.{Table, map_entries}
 use Rattle.route_table.specs.Due.{first_where, is_due, is_reached}
+use Rattle.route_table.specs.Summary.{meets}
 use Rattle.route_table.proofs.TableLaws.{entries-map_values}
 use Rattle.router_core.specs.Adoption.{lost}
 use Rattle.router_core.specs.Ageing.{aged, aged_by_clock, without_mark}
@@ -79,14 +80,14 @@ or_right true b h = absurd (true_false h)
     true_false t = cc
 or_right false b h = h
 
-pub not_told : (now : ℕ) (which : Selection) (r : RouteValue) → may_be_told now which r ≡ false → told_route now which r ≡ None
+pub not_told : (now : ℕ) (which : Selection) (r : RouteValue) → meets (may_be_told now which) r ≡ false → told_route now which r ≡ None
 not_told now Every r h = absurd (cc)
 not_told now Unreachable r h = absurd (cc)
 not_told now Changed r h =
     ap (option_and_then (λ left. cond (selected Changed left) (Some left) None)) (aged-kept now r (or_left (is_due now r) r.changed h))
     ∙ ap (λ b. cond b (Some r) None) (or_right (is_due now r) r.changed h)
 
-pub not_told-test : (now : ℕ) (which : Selection) (e : Entry) → may_be_told now which e.1 ≡ false → is_some (told_route now which e.1) ≡ false
+pub not_told-test : (now : ℕ) (which : Selection) (e : Entry) → meets (may_be_told now which) e.1 ≡ false → is_some (told_route now which e.1) ≡ false
 not_told-test now which e h = ap is_some (not_told now which e.1 h)
 
 told_one : (which : Selection) (p : Prefix6) (o : Option RouteValue) (l : List Entry) (m : List Entry) → l ≡ filter (λ t. selected which t.1) m

@@ -10,8 +10,9 @@ use Rattle.std.proofs.Math.Seq.{take-append-add}
 use Rattle.prefix6.specs.Prefix.{Prefix6, prefix_cmp}
 use Rattle.route_table.specs.Route.{RouteValue}
 use Rattle.route_table.specs.Place.{Entries}
+use Rattle.route_table.specs.Summary.{meets}
 use Rattle.route_table.specs.Table.{is_past, map_entries, past}
-use Rattle.route_table.proofs.DueOrChanged.{Entry, passing_rest}
+use Rattle.route_table.proofs.WantedEntries.{Entry, passing_rest}
 use Rattle.route_table.proofs.TableLaws.{fewer}
 use Rattle.route_table.proofs.Walks.{present_at}
 use Rattle.router_core.specs.Settling.{told_route, may_be_told}
@@ -29,7 +30,7 @@ module _ (now : ℕ) (which : Selection) where
 
   -- those past a prefix that may be told
   abbrev pub found : Option Prefix6 → Entries → Entries
-  found after es = filter (λ e. may_be_told now which e.1) (past after es)
+  found after es = filter (λ e. meets (may_be_told now which) e.1) (past after es)
 
   told_past : (after : Option Prefix6) (es : Entries) → past after (told es) ≡ told (past after es)
   told_past after [] = refl
@@ -41,11 +42,11 @@ module _ (now : ℕ) (which : Selection) where
       by rest (Some y) true is at = rw (is, at, is) (ap (λ l. (e.0, y) ∷ l) rest)
       by rest (Some y) false is at = rw (is, at) rest
 
-  told_found : (es : Entries) → told es ≡ told (filter (λ e. may_be_told now which e.1) es)
+  told_found : (es : Entries) → told es ≡ told (filter (λ e. meets (may_be_told now which) e.1) es)
   told_found [] = refl
-  told_found (e ∷ es) = by (told_found es) (may_be_told now which e.1) refl
+  told_found (e ∷ es) = by (told_found es) (meets (may_be_told now which) e.1) refl
     where
-      by : told es ≡ told (filter (λ x. may_be_told now which x.1) es) → (b : Bool) → may_be_told now which e.1 ≡ b → told (e ∷ es) ≡ told (cond b (e ∷ filter (λ x. may_be_told now which x.1) es) (filter (λ x. may_be_told now which x.1) es))
+      by : told es ≡ told (filter (λ x. meets (may_be_told now which) x.1) es) → (b : Bool) → meets (may_be_told now which) e.1 ≡ b → told (e ∷ es) ≡ told (cond b (e ∷ filter (λ x. meets (may_be_told now which) x.1) es) (filter (λ x. meets (may_be_told now which) x.1) es))
       by rest true is = ap (cons_option (option_map (λ y. (e.0, y)) (told_route now which e.1))) rest
       by rest false is = ap (λ o. cons_option (option_map (λ y. (e.0, y)) o) (told es)) (not_told now which e.1 is) ∙ rest
 
@@ -60,7 +61,7 @@ module _ (now : ℕ) (which : Selection) where
         let n = most - length run in
         let rest = past (Some e.0) (told es) in
         let behind : rest ≡ told (drop n (found after es)) =
-        told_past (Some e.0) es ∙ told_found (past (Some e.0) es) ∙ ap told (passing_rest (may_be_told now which) after es sorted n e batch is last) in
+        told_past (Some e.0) es ∙ told_found (past (Some e.0) es) ∙ ap told (passing_rest (meets (may_be_told now which)) after es sorted n e batch is last) in
         let all : past after (told es) ≡ told batch ++ rest =
         told_are ∙ ap told (sym (take-append-drop n (found after es))) ∙ filter_map-append _ (take n (found after es)) (drop n (found after es))
         ∙ ap (λ l. told l ++ told (drop n (found after es))) (sym is) ∙ ap (λ l. told batch ++ l) (sym behind) in
@@ -84,7 +85,7 @@ module _ (now : ℕ) (which : Selection) where
           slice_get_within batch (length batch - 1) e last,
           ap length is,
           length-take n (found after es),
-          ap length (passing_rest (may_be_told now which) after es sorted n e batch is last),
+          ap length (passing_rest (meets (may_be_told now which)) after es sorted n e batch is last),
           length-drop n (found after es),
         )
 

@@ -108,6 +108,16 @@ module _ (now : ℕ) where
           let rest : map_entries (aged now) es ≡ es = cc in
           reached-earlier (deadline e.1) (least_deadline es) ∙ ap₂ (λ a b. a || b) (not_due e.1 (is ∙ ap Some route)) (deeper rest)
 
+  -- where a search finds no route that is due, the least deadline is not reached
+  pub none_found : (es : List Entry) → is_some (first_where (is_due now) None es) ≡ false → is_reached now (least_deadline es) ≡ false
+  none_found [] h = refl
+  none_found (e ∷ es) h = reached-earlier (deadline e.1) (least_deadline es) ∙ by (is_due now e.1) (none_found es) h
+    where
+      by : (b : Bool) → (is_some (first_where (is_due now) None es) ≡ false → is_reached now (least_deadline es) ≡ false)
+          → is_some (cond (b && true) (Some e) (first_where (is_due now) None es)) ≡ false → (b || is_reached now (least_deadline es)) ≡ false
+      by true deeper found = absurd (cc)
+      by false deeper found = deeper found
+
 -- ---- what the code asks of the store
 any_found : (es : List Entry) → is_some (first_where (λ r. r.changed) None es) ≡ list_any (λ (t : Entry). t.1.changed) es
 any_found [] = refl
@@ -212,8 +222,18 @@ module _ (old : State) (now word : ℕ) where
     pub idle_is_before : IsIdle old now answer new ↔ (now < wakes_at old)
     idle_is_before = (before_idle, idle_before)
 
--- the value that the code computes, piece by piece
-pub woken : (s : State) (first result : ℕ) (triggered ages : Option ℕ) → triggered ≡ triggered_at s → ages ≡ least_deadline (entries s.table)
-    → first ≡ or_earlier s.regular triggered → result ≡ or_earlier first ages → result ≡ wakes_at s
-woken s first result triggered ages triggered_is ages_is first_is result_is =
-    result_is ∙ ap (λ m. or_earlier m ages) (first_is ∙ ap (or_earlier s.regular) triggered_is) ∙ ap (or_earlier (or_earlier s.regular (triggered_at s))) ages_is
+-- a deadline that is not reached is later
+not_reached : (m : ℕ) (o : Option ℕ) → is_reached m o ≡ false → m ≡ or_earlier m o
+not_reached m None h = refl
+not_reached m (Some n) h = let later : m < n = grind (arith, nat_tests, h) in omega arith
+
+module _ (s : State) (update : ℕ) (triggered : Option ℕ) (triggered_is : triggered ≡ triggered_at s) (update_is : update ≡ or_earlier s.regular triggered) where
+  update_at : update ≡ or_earlier s.regular (triggered_at s)
+  update_at = update_is ∙ ap (or_earlier s.regular) triggered_is
+
+  -- the value that the code computes: the next update, or the least deadline where that is asked for
+  pub woken : (result : ℕ) (ages : Option ℕ) → ages ≡ least_deadline (entries s.table) → result ≡ or_earlier update ages → result ≡ wakes_at s
+  woken result ages ages_is result_is = result_is ∙ ap₂ or_earlier update_at ages_is
+
+  pub woken_by_update : is_reached update (least_deadline (entries s.table)) ≡ false → update ≡ wakes_at s
+  woken_by_update none = not_reached update (least_deadline (entries s.table)) none ∙ ap (λ m. or_earlier m (least_deadline (entries s.table))) update_at

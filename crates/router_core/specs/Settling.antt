@@ -1,7 +1,8 @@
 -- Which routes an update advertises, and as what (RFC 2080, 2.3 and 2.5).
-use Rattle.std.specs.Prelude.{ℕ, Bool, true, ◌||◌, if◌then◌else◌, Option, Some, None, option_and_then}
+use Rattle.std.specs.Prelude.{ℕ, if◌then◌else◌, Option, Some, None, option_and_then}
 use Rattle.route_table.specs.Route.{RouteValue}
-use Rattle.route_table.specs.Due.{is_due}
+use Rattle.route_table.specs.declared.wanted.Wanted.{Wanted}
+use Rattle.route_table.specs.declared.wanted.Wanted.TheVariants.{Any, DueOrChanged}
 use Rattle.route_table.specs.Table.{Table, map_values}
 use Rattle.router_core.specs.Adoption.{lost}
 use Rattle.router_core.specs.Ageing.{aged}
@@ -23,8 +24,8 @@ settled_table now which table = map_values (settled now which) table
 abbrev pub told_route : ℕ → Selection → RouteValue → Option RouteValue
 told_route now which r = option_and_then (λ left. if selected which left then Some left else None) (settled now which r)
 
--- whether an update may advertise a route: a triggered one only if a timer has ended or the route change flag is set
-abbrev pub may_be_told : ℕ → Selection → RouteValue → Bool
-may_be_told now Every r = true
-may_be_told now Changed r = is_due now r || r.changed
-may_be_told now Unreachable r = true
+-- which routes an update may advertise: a triggered one only those whose timer has ended or whose route change flag is set
+abbrev pub may_be_told : ℕ → Selection → Wanted
+may_be_told now Every = Any
+may_be_told now Changed = DueOrChanged now
+may_be_told now Unreachable = Any

@@ -1,9 +1,8 @@
 //! The routes that an update advertises, a run of them at a time, found without a look at the others (RFC 2080, section 2.5).
 
-ghost use Rattle.std.specs.Prelude.{◌≡◌, ◌++◌, filter, take, IfOk, IsTrue, OnOk};
+ghost use Rattle.std.specs.Prelude.{◌≡◌, ◌++◌, take, IfOk, IsTrue, OnOk};
 ghost use Rattle.std.specs.List.{list_any};
 ghost use Rattle.std.specs.FinMap.{entries};
-ghost use Rattle.route_table.specs.Due.{first_where};
 ghost use Rattle.route_table.specs.Table.{map_entries, past};
 ghost use Rattle.router_core.specs.Output.{selected};
 ghost use Rattle.router_core.specs.Settling.{settled, settled_table, told_route, may_be_told};
@@ -12,7 +11,7 @@ use crate::age::age;
 use crate::tell::Selection;
 use crate::timers::GARBAGE_TIME_MS;
 use prefix6::Prefix;
-use route_table::{Moment, Route, RouteStore};
+use route_table::{Moment, Route, RouteStore, Wanted};
 use std::alloc::{AllocError, Global};
 
 /// What is left of a route as an update is made.
@@ -37,20 +36,15 @@ fn told_route(route: Route, which: Selection, now: Moment) -> Option<Route>
     }
 }
 
-/// The first route past the prefix that the update may advertise.
-fn walk_told<S: RouteStore>(
-    store: &S,
-    which: Selection,
-    after: Option<Prefix>,
-    now: Moment,
-) -> Option<(Prefix, Route)>
-    ensures { result ≡ first_where (may_be_told now which) after (entries (S.table store.now)) }
+/// Which routes of the table an update may advertise.
+fn may_be_told(which: Selection, now: Moment) -> Wanted
+    ensures { result ≡ may_be_told now which }
 {
     match which {
         // A regular update has all routes (RFC 2080, section 2.5), and so has the last one.
-        Selection::Every | Selection::Unreachable => store.walk(after),
+        Selection::Every | Selection::Unreachable => Wanted::Any,
         // A triggered one has those with the route change flag, which a timer that has ended sets too (2.3 and 2.5.1).
-        Selection::Changed => store.walk_due_or_changed(after, now),
+        Selection::Changed => Wanted::DueOrChanged(now.ms()),
     }
 }
 
@@ -58,9 +52,10 @@ fn walk_told<S: RouteStore>(
 pub fn has_told<S: RouteStore>(store: &S, which: Selection, now: Moment) -> bool
     ensures { result ≡ list_any (λ t. selected which t.1) (entries (settled_table now which (S.table store.now))) }
 {
+    let wanted = may_be_told(which, now);
     let mut after = None;
     for _ in 0..store.len() {
-        let Some(entry) = walk_told(store, which, after, now) else {
+        let Some(entry) = store.first_wanted(after, wanted) else {
             return false;
         };
         if told_route(entry.1, which, now).is_some() {
@@ -69,26 +64,6 @@ pub fn has_told<S: RouteStore>(store: &S, which: Selection, now: Moment) -> bool
         after = Some(entry.0);
     }
     false
-}
-
-/// The first routes past the prefix that the update may advertise, as they are in the store: `most` of them, or all if there are
-/// fewer.
-fn batch_past<S: RouteStore>(
-    alloc: Global,
-    store: &S,
-    which: Selection,
-    now: Moment,
-    after: Option<Prefix>,
-    most: usize,
-) -> Result<Vec<(Prefix, Route)>, AllocError>
-    ensures { IfOk result (λ batch. batch.items ≡ take most (filter (λ e. may_be_told now which e.1) (past after (entries (S.table store.now))))) }
-{
-    let mut batch = Vec::with_capacity(alloc, most)?;
-    match which {
-        Selection::Every | Selection::Unreachable => store.list_run(after, most, &mut batch),
-        Selection::Changed => store.list_changed(after, now, most, &mut batch),
-    }
-    Ok(batch)
 }
 
 /// Appends those routes of a batch that the update advertises, as it advertises them.
@@ -134,12 +109,15 @@ pub fn told_run<S: RouteStore>(
 {
     let mut run = Vec::with_capacity(alloc, most)?;
     if is_as_stored(store, which, now) {
-        store.list_run(after, most, &mut run);
+        store.list_wanted(after, Wanted::Any, most, &mut run);
         return Ok(run);
     }
+    let wanted = may_be_told(which, now);
     let mut after = after;
     while run.len() < most {
-        let batch = batch_past(alloc, store, which, now, after, most - run.len())?;
+        let left = most - run.len();
+        let mut batch = Vec::with_capacity(alloc, left)?;
+        store.list_wanted(after, wanted, left, &mut batch);
         let Some(last) = batch.last() else {
             return Ok(run);
         };

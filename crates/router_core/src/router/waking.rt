@@ -1,15 +1,15 @@
 //! When a router next has something to do without a datagram.
 
-ghost use Rattle.std.specs.Prelude.{◌≡◌, ℕ, ◌<◌, ◌↔◌, max};
+ghost use Rattle.std.specs.Prelude.{◌≡◌, ℕ, ◌<◌, ◌↔◌, false, max};
 ghost use Rattle.std.specs.FinMap.{entries};
-ghost use Rattle.route_table.specs.Due.{least_deadline, next_due};
+ghost use Rattle.route_table.specs.Due.{is_reached, least_deadline, next_due};
 ghost use Rattle.router_core.specs.Machine.{Happening, Moves, State};
 ghost use Rattle.router_core.specs.Waking.{IsIdle, or_earlier, triggered_at, wakes_at};
 ghost use Rattle.router_core.specs.declared.answer.Answer.{Answer};
 
 use super::Router;
 use prefix6::Prefix;
-use route_table::{Deadline, RouteStore};
+use route_table::{Deadline, Moment, RouteStore};
 
 /// The earlier of a deadline and of another, if there is another.
 fn or_earlier(deadline: Deadline, other: Option<Deadline>) -> Deadline
@@ -50,6 +50,16 @@ impl<S: RouteStore> Router<S> {
         }
     }
 
+    /// Whether the timer of a route may end by a deadline. Where none does, the store mostly says so without a look at the routes.
+    fn ages_by(&self, deadline: Deadline) -> bool
+        ensures { result ≡ false → is_reached deadline (least_deadline (entries self.now.table)) ≡ false }
+    {
+        match Moment::new(deadline.ms()) {
+            None => true,
+            Some(by) => self.store.walk_due(None, by).is_some(),
+        }
+    }
+
     /// When a tick next has something to do: the regular update is due, the delay of a triggered one ends while a route change
     /// flag is set, or a route times out or is deleted. A tick at an earlier moment answers nothing, and changes only the moment
     /// of the last step. One at this moment or later does more. A moment that is not past the last step means at once.
@@ -60,9 +70,11 @@ impl<S: RouteStore> Router<S> {
         ensures idle { (now word : ℕ) (answer : Answer) (new : State) → Moves self.now (Happening.Ticks now word) answer new
             → (IsIdle self.now (max self.now.last now) answer new ↔ (max self.now.last now < result)) }
     {
-        or_earlier(
-            or_earlier(self.regular, self.triggered_at()),
-            self.ages_at(),
-        )
+        let update = or_earlier(self.regular, self.triggered_at());
+        if self.ages_by(update) {
+            or_earlier(update, self.ages_at())
+        } else {
+            update
+        }
     }
 }

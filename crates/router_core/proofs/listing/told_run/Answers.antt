@@ -1,9 +1,29 @@
-use Rattle.std.proofs.Common.{◌≡◌, ◌++◌, take, ◌-◌, ◌<◌, length, sym, ap, ◌∙◌, arith, append-nil}
+use Rattle.std.proofs.Common.{◌≡◌, ℕ, [], ◌++◌, take, ◌-◌, ◌<◌, length, Option, sym, ap, ap₂, ◌∙◌, arith, append-nil}
 use Rattle.std.specs.FinMap.{entries, entries_sorted}
+use Rattle.prefix6.specs.Prefix.{Prefix6}
 use Rattle.route_table.specs.Place.{Entries}
+use Rattle.route_table.specs.Summary.{wanted_of}
 use Rattle.route_table.specs.Table.{past}
+use Rattle.route_table.specs.declared.wanted.Wanted.{Wanted}
+use Rattle.route_table.specs.declared.wanted.Wanted.TheVariants.{Any}
+use Rattle.route_table.proofs.WantedLists.{all_wanted}
+use Rattle.router_core.specs.Settling.{may_be_told}
+use Rattle.router_core.specs.declared.tell.Selection.{Selection}
 use Rattle.router_core.proofs.ToldRuns.{told, found, no_last, run_grows, run_fits, run_ends, found_less}
 use Rattle.router_core.proofs.listing.told_run.Goals as goal
+
+-- a batch is the first of those that may be told
+batch_is : (now : ℕ) (which : Selection) (after : Option Prefix6) (es : Entries) (n : ℕ) (made empty : Entries) (w : Wanted)
+    → made ≡ empty ++ take n (wanted_of w (past after es)) → empty ≡ [] → w ≡ may_be_told now which → made ≡ take n (found now which after es)
+batch_is now which after es n made empty w made_is empty_is w_is =
+    made_is ∙ ap₂ (λ (l : Entries) v. l ++ take n (wanted_of v (past after es))) empty_is w_is
+
+pub returns-then-is_as_stored : goal.returns-then-is_as_stored
+returns-then-is_as_stored g c =
+    let es : Entries = entries (g.S.RouteStore.table c.args.store.now) in
+    c.list_wanted.ensures
+    ∙ ap (λ (l : Entries). l ++ take c.args.most (wanted_of Any (past c.args.after es))) c.in_ok-run.ensures.items
+    ∙ ap (take c.args.most) (sym (all_wanted (past c.args.after es)) ∙ ap (past c.args.after) (sym (c.is_as_stored.ensures c.if-is_as_stored.true)))
 
 pub loop-alloc-init : goal.loop-alloc-init
 loop-alloc-init g c =
@@ -18,9 +38,10 @@ pub loop-alloc-preserved : goal.loop-alloc-preserved
 loop-alloc-preserved g c =
     let t = g.S.RouteStore.table c.args.store.now in
     let run = c.loop-alloc.run.items in
-    let batch = c.in_ok-batch.batch.items in
+    let batch = c.list_wanted-in-loop-alloc.new.out.items in
     let is : batch ≡ take (c.args.most - length run) (found c.args.now c.args.which c.loop-alloc.after (entries t)) =
-    c.in_ok-batch.ensures ∙ ap (λ n. take (c.args.most - n) (found c.args.now c.args.which c.loop-alloc.after (entries t))) (c.len-in-loop-alloc.ensures ∙ c.loop-alloc.run.ok.0) in
+    batch_is c.args.now c.args.which c.loop-alloc.after (entries t) (c.args.most - c.len-in-loop-alloc.result) batch c.in_ok-batch.batch.items c.may_be_told-wanted.result c.list_wanted-in-loop-alloc.ensures c.in_ok-batch.ensures.items c.may_be_told-wanted.ensures
+    ∙ ap (λ n. take (c.args.most - n) (found c.args.now c.args.which c.loop-alloc.after (entries t))) (c.len-in-loop-alloc.ensures ∙ c.loop-alloc.run.ok.0) in
     let grown : c.push_told.new.run.items ≡ run ++ told c.args.now c.args.which batch = c.in_ok-push_told.ensures ∙ ap (λ l. run ++ told c.args.now c.args.which l) c.deref-in-loop-alloc.ensures.value in
     record {
       items =
@@ -33,18 +54,23 @@ loop-alloc-preserved g c =
 pub loop-alloc-smaller : goal.loop-alloc-smaller
 loop-alloc-smaller g c =
     let t = g.S.RouteStore.table c.args.store.now in
-    found_less c.args.now c.args.which c.loop-alloc.after (entries t) (entries_sorted t) (c.args.most - c.len-in-loop-alloc.result) c.in_ok-batch.batch.items c.in-Some.last.now
-    c.in_ok-batch.ensures (sym (rw c.deref.ensures.value at c.in-Some.ensures.value))
+    let batch = c.list_wanted-in-loop-alloc.new.out.items in
+    let left = c.args.most - c.len-in-loop-alloc.result in
+    found_less c.args.now c.args.which c.loop-alloc.after (entries t) (entries_sorted t) left batch c.in-Some.last.now
+    (batch_is c.args.now c.args.which c.loop-alloc.after (entries t) left batch c.in_ok-batch.batch.items c.may_be_told-wanted.result c.list_wanted-in-loop-alloc.ensures c.in_ok-batch.ensures.items c.may_be_told-wanted.ensures)
+    (sym (rw c.deref.ensures.value at c.in-Some.ensures.value))
 
 pub returns-in_default : goal.returns-in_default
 returns-in_default g c =
     let t = g.S.RouteStore.table c.args.store.now in
     let run = c.loop-alloc.run.items in
+    let batch = c.list_wanted-in-loop-alloc.new.out.items in
     let size : c.len-in-loop-alloc.result ≡ length run = c.len-in-loop-alloc.ensures ∙ c.loop-alloc.run.ok.0 in
     let more : 0 < c.args.most - length run = omega (arith, c.loop-alloc-test.true, c.len.ensures, c.loop-alloc.run.ok.0) in
-    sym (run_ends c.args.now c.args.which c.loop-alloc.after (entries t) (entries_sorted t) run c.in_ok-batch.batch.items (c.args.most - length run) more
-    (c.in_ok-batch.ensures ∙ ap (λ n. take (c.args.most - n) (found c.args.now c.args.which c.loop-alloc.after (entries t))) size)
-    (no_last c.in_ok-batch.batch.items (sym (rw c.deref.ensures.value at c.in_default.ensures.value))))
+    sym (run_ends c.args.now c.args.which c.loop-alloc.after (entries t) (entries_sorted t) run batch (c.args.most - length run) more
+    (batch_is c.args.now c.args.which c.loop-alloc.after (entries t) (c.args.most - c.len-in-loop-alloc.result) batch c.in_ok-batch.batch.items c.may_be_told-wanted.result c.list_wanted-in-loop-alloc.ensures c.in_ok-batch.ensures.items c.may_be_told-wanted.ensures
+    ∙ ap (λ n. take (c.args.most - n) (found c.args.now c.args.which c.loop-alloc.after (entries t))) size)
+    (no_last batch (sym (rw c.deref.ensures.value at c.in_default.ensures.value))))
     ∙ c.loop-alloc.invariant.items
 
 pub returns : goal.returns

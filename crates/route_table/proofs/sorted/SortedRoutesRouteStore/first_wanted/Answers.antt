@@ -4,7 +4,7 @@ use Rattle.route_table.specs.Summary.{meets}
 use Rattle.route_table.specs.Blocks.{joined}
 use Rattle.route_table.proofs.BlockBounds.{nothing_wanted}
 use Rattle.route_table.proofs.SortedTable.{entries_are}
-use Rattle.route_table.proofs.sorted.SortedRoutes.first_wanted.Goals as goal
+use Rattle.route_table.proofs.sorted.SortedRoutesRouteStore.first_wanted.Goals as goal
 
 pub returns-then-not-may_be_in : goal.returns-then-not-may_be_in
 returns-then-not-may_be_in c = nothing_wanted c.args.wanted c.args.after c.self.inside.bound (joined c.self.inside.blocks.items) (sym c.may_be_in.ensures ∙ c.if-not-may_be_in.true) c.self.invariant.covered

@@ -3,7 +3,7 @@ use Rattle.route_table.specs.Due.{first_where}
 use Rattle.route_table.specs.Summary.{meets}
 use Rattle.route_table.specs.Trie.{linked}
 use Rattle.route_table.proofs.SortedTable.{entries_are}
-use Rattle.route_table.proofs.trie_routes.TrieRoutes.first_wanted.Goals as goal
+use Rattle.route_table.proofs.trie_routes.TrieRoutesRouteStore.first_wanted.Goals as goal
 
 pub returns-in-None : goal.returns-in-None
 returns-in-None c =
