@@ -34,7 +34,9 @@ fn bytes_of(entry: Rte) -> [u8; ENTRY_LEN]
     ensures fits { Fits entry }
 {
     let mut bytes = [0; ENTRY_LEN];
-    NetworkEndian::write_u128(&mut bytes, entry.addr);
+    // The address in two halves: a processor turns the bytes of a half around at once.
+    NetworkEndian::write_u64(&mut bytes, (entry.addr / (1 << 64)) as u64);
+    NetworkEndian::write_u64(&mut bytes[8..], (entry.addr % (1 << 64)) as u64);
     // Tag, length and metric in one: a processor that writes them apart and then copies them together waits for itself.
     let last = (u32::from(entry.tag) * 256 + u32::from(entry.len)) * 256 + u32::from(entry.metric);
     NetworkEndian::write_u32(&mut bytes[16..], last);
