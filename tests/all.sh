@@ -15,12 +15,12 @@ trap 'rm -rf "$folder"' EXIT
 
 # The longest first. What stands behind a colon is given to the suite, too.
 suites="links.sh page.py:chromium page.py:firefox lab_file.py page.py:modules sending.py neighbors.py control.py sockets.py watching.py
-growth.py growth_of_calls.py mutated.py cases.py scripts.py paths.py hints.py"
+growth.py rows.py growth_of_calls.py mutated.py cases.py scripts.py paths.py hints.py"
 
 # `arguments SUITE`: which of the two programs a suite is given, and its word.
 arguments() {
     case $1 in
-        growth_of_calls.py) echo "$rows" ;;
+        rows.py | growth_of_calls.py) echo "$rows" ;;
         *:*) echo "$program" "${1#*:}" ;;
         *) echo "$program" ;;
     esac
@@ -29,7 +29,7 @@ arguments() {
 # `run SUITE`: leaves what it said, and how many seconds it took. What fills processors gives way to what looks at the clock.
 run() {
     local begun=$SECONDS gives_way=
-    [[ $1 != growth* ]] || gives_way='nice -n 10'
+    [[ $1 != @(growth*|rows.py) ]] || gives_way='nice -n 10'
     local words
     read -ra words <<< "$(arguments "$1")"
     $gives_way "tests/${1%:*}" "${words[@]}" > "$folder/$1" 2>&1

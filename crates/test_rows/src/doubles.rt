@@ -4,7 +4,7 @@
 ghost use Rattle.std.specs.Prelude.{None, ⊤};
 ghost use Rattle.rand_core.specs.Steps.{steps_u32, stream_of};
 
-use crate::row::{Row, moment};
+use crate::row::moment;
 use crate::writing::write_send;
 use rand_core::utils::NextWord;
 use rand_core::{Rng, utils};
@@ -13,67 +13,56 @@ use route_table::Moment;
 use router_core::{Arrival, Fault, Note, Outgoing};
 use std::alloc::{AllocError, Global};
 use std::cell::{RefCell, RefMut};
+use std::collections::VecDeque;
 use std::io::{self, ErrorKind, Write};
 
 /// There is room for so many bytes of what happens, so that no double takes memory.
 const ROOM: usize = 100_000;
 
-/// How often doubles were called, and how often a datagram was given.
-#[derive(Clone, Copy, Default)]
-struct Counts {
-    recvs: usize,
-    given: usize,
-    sends: usize,
-    writes: usize,
-    asked: usize,
-}
-
 /// What doubles are to do, and what happened to them.
 #[derive(Drop)]
 pub struct Script {
     /// What each `recv` gives that does not fail, in order; those past them give none.
-    pub coming: Vec<Option<(Arrival<'static>, Vec<u8>)>>,
+    pub coming: VecDeque<Option<(Arrival<'static>, Vec<u8>)>>,
     /// What the clock gives, in order; then the last of them for ever.
-    pub moments: Vec<Moment>,
-    /// Which call fails, counted from 0.
-    pub failing_recv: Option<usize>,
-    pub failing_send: Option<usize>,
-    failing_write: Option<usize>,
-    counts: Counts,
+    pub moments: VecDeque<Moment>,
+    /// How many calls do not fail before the one that does.
+    pub failing_recv: Option<u32>,
+    pub failing_send: Option<u32>,
+    pub failing_write: Option<u32>,
     /// What happened, a line each, and the line of the log that has begun.
     told: String,
     line: Vec<u8>,
 }
 
-/// The number of a call.
-fn next(count: &mut usize) -> usize {
-    let number = *count;
-    *count = number.saturating_add(1);
-    number
+/// Whether the call that is made now fails.
+fn fails(failing: &mut Option<u32>) -> bool {
+    let is_now = *failing == Some(0);
+    *failing = failing.and_then(|calls| calls.checked_sub(1));
+    is_now
 }
 
 impl Script {
     pub fn new(alloc: Global) -> Result<Script, AllocError> {
         Ok(Script {
-            coming: Vec::new(alloc),
-            moments: Vec::new(alloc),
+            coming: VecDeque::new(alloc),
+            moments: VecDeque::new(alloc),
             failing_recv: None,
             failing_send: None,
             failing_write: None,
-            counts: Counts::default(),
             told: String::with_capacity(alloc, ROOM)?,
             line: Vec::with_capacity(alloc, ROOM)?,
         })
     }
 
     fn recv(&mut self, buffer: &mut [u8]) -> Result<Option<Received>, LinkFault> {
-        let is_failing = self.failing_recv == Some(next(&mut self.counts.recvs));
+        let is_failing = fails(&mut self.failing_recv);
         let how = if is_failing { " fails" } else { "" };
         let _ = writeln!(self.told, "recv into {}{how}", buffer.len());
         if is_failing {
             return Err(LinkFault);
         }
-        let Some(Some((arrival, bytes))) = self.coming.get(next(&mut self.counts.given)) else {
+        let Some(Some((arrival, bytes))) = self.coming.pop_front() else {
             return Ok(None);
         };
         let len = bytes.len();
@@ -91,32 +80,26 @@ impl Script {
         }))
     }
 
-    fn send(&mut self, outgoing: &Outgoing) -> Result<(), LinkFault> {
-        let is_failing = self.failing_send == Some(next(&mut self.counts.sends));
-        let _ = write!(self.told, "{}", if is_failing { "failing " } else { "" });
-        let bytes = outgoing.bytes.as_slice();
-        let _ = write_send(&mut self.told, outgoing.iface, outgoing.to, bytes);
-        if is_failing { Err(LinkFault) } else { Ok(()) }
-    }
-
     fn now(&mut self) -> Moment {
-        let last = self.moments.len().saturating_sub(1);
-        let place = next(&mut self.counts.asked).min(last);
-        let now = self.moments.get(place).copied();
-        let now = now.unwrap_or(moment(0));
+        let now = self.moments.front().copied().unwrap_or(moment(0));
+        if self.moments.len() > 1 {
+            let _ = self.moments.pop_front();
+        }
         let _ = writeln!(self.told, "at {}", now.ms());
         now
     }
 
     fn write(&mut self, buf: &[u8]) -> io::Result<()> {
-        if self.failing_write == Some(next(&mut self.counts.writes)) {
-            return Err(io::Error::from(ErrorKind::Other));
-        }
-        self.line.extend_from_slice(buf)?;
-        if buf.ends_with(b"\n") {
+        let is_failing = fails(&mut self.failing_write);
+        let written = if is_failing { b"fails\n" } else { buf };
+        self.line.extend_from_slice(written)?;
+        if written.ends_with(b"\n") {
             let line = std::str::from_utf8(self.line.as_slice()).unwrap_or("no text\n");
             write!(self.told, "log {line}")?;
             self.line.clear();
+        }
+        if is_failing {
+            return Err(io::Error::from(ErrorKind::Other));
         }
         Ok(())
     }
@@ -131,25 +114,24 @@ impl<'a> Doubles<'a> {
         self.0.try_borrow_mut().ok()
     }
 
-    /// All begins anew, and that write of the log fails.
-    pub fn rewind(&self, failing: Option<usize>) {
+    /// After so many writes of the log one fails, or none.
+    pub fn fail_write(&self, failing: Option<u32>) {
         if let Some(mut script) = self.script() {
-            script.counts = Counts::default();
             script.failing_write = failing;
-            script.told.clear();
-            script.line.clear();
         }
     }
 
-    /// What happened, which is not told again, and how often the log was written.
-    pub fn take(&self, row: &Row<'_>) -> Result<(String, usize), AllocError> {
-        let mut text = String::new(row.alloc);
+    /// What happened, which is not told again, and the line of the log that was not written to its end.
+    pub fn take(&self, alloc: Global) -> Result<String, AllocError> {
+        let mut text = String::new(alloc);
         let Some(mut script) = self.script() else {
             return Err(AllocError);
         };
         text.push_str(script.told.as_str())?;
+        text.push_str(std::str::from_utf8(script.line.as_slice()).unwrap_or("no text"))?;
         script.told.clear();
-        Ok((text, script.counts.writes))
+        script.line.clear();
+        Ok(text)
     }
 }
 
@@ -170,7 +152,12 @@ impl<'a> Link for Doubles<'a> {
 
     fn send(&mut self, outgoing: &Outgoing) -> Result<(), LinkFault> {
         let mut script = self.script().ok_or(LinkFault)?;
-        script.send(outgoing)
+        let is_failing = fails(&mut script.failing_send);
+        let how = if is_failing { "failing " } else { "" };
+        let _ = write!(script.told, "{how}");
+        let bytes = outgoing.bytes.as_slice();
+        let _ = write_send(&mut script.told, outgoing.iface, outgoing.to, bytes);
+        if is_failing { Err(LinkFault) } else { Ok(()) }
     }
 }
 

@@ -1,13 +1,14 @@
-//! An engine over the doubles of a script.
+//! An engine over the doubles of a script, and `show` on paper that fails.
 
-use crate::calls::event_of;
+use crate::calls::read_event;
 use crate::doubles::{Doubles, Zeros};
-use crate::forwarding::entries_of;
-use crate::routers::config_of;
+use crate::forwarding::write_entries;
+use crate::routers::read_config;
 use crate::row::{Done, Row};
 use crate::writing::write_router;
 use ripng_world::Event;
 use ripngd_engine::{Engine, EngineFault};
+use ripngd_show::{PrintFault, show};
 use route_table::RouteStore;
 use router_core::Change;
 use std::alloc::AllocError;
@@ -25,151 +26,107 @@ pub fn plan(row: &mut Row<'_>, doubles: Doubles<'_>, verb: &str) -> Done {
         return row.spoil();
     };
     match verb {
-        "at" => script.moments.push(row.moment())?,
-        "fail-recv" => script.failing_recv = Some(row.number()),
-        "fail-send" => script.failing_send = Some(row.number()),
-        _ if !row.has_more() => script.coming.push(None)?,
+        "at" => script.moments.push_back(row.moment())?,
+        "fail-recv" => script.failing_recv = Some(row.read(0)),
+        "fail-send" => script.failing_send = Some(row.read(0)),
+        "fail-write" => script.failing_write = Some(row.read(0)),
+        _ if row.rest.is_empty() => script.coming.push_back(None)?,
         _ => {
             let arrival = row.arrival();
-            script.coming.push(Some((arrival, row.bytes()?)))?;
+            script.coming.push_back(Some((arrival, row.bytes()?)))?;
         }
     }
     Ok(())
 }
 
-/// Starts with the configuration that words ask for, of two interfaces; a write of the log may fail.
-fn start_once<'a, S: RouteStore>(
-    row: &mut Row<'_>,
-    doubles: Doubles<'a>,
-    failing: Option<usize>,
-) -> Result<Result<Rig<'a, S>, EngineFault>, AllocError> {
-    doubles.rewind(failing);
-    let Ok(config) = config_of(row)? else {
-        return Err(AllocError);
-    };
-    if config.interfaces().len() != 2 {
-        return Err(AllocError);
-    }
-    let mut log = doubles;
-    match Engine::start(row.alloc, config, doubles, doubles, Zeros, &mut log) {
-        Ok(engine) => Ok(Ok(Rig { doubles, engine })),
-        Err(fault) => Ok(Err(fault)),
-    }
-}
-
-/// Starts, and again if that wanted memory before anything was logged. If it wanted memory for the forwarding table alone, the case is
-/// over.
+/// Starts with the configuration that words ask for. If it wanted memory for the forwarding table alone, the case is over.
 pub fn start<'a, S: RouteStore>(
     row: &mut Row<'_>,
     doubles: Doubles<'a>,
 ) -> Result<Option<Rig<'a, S>>, AllocError> {
-    let asked = row.rest();
-    for _ in 0..2 {
-        row.put(asked);
-        let started = start_once(row, doubles, None)?;
-        let (text, writes) = doubles.take(row)?;
-        if started.is_ok() || writes > 0 {
-            if started.is_err() {
-                row.end("the first forwarding table");
-            }
-            row.text.push_str(text.as_str())?;
-            return Ok(started.ok());
+    let config = match read_config(row)? {
+        Ok(config) if config.interfaces().len() == 2 => config,
+        _ => {
+            row.spoil()?;
+            return Ok(None);
         }
-        row.refuse_new()?;
-    }
-    Err(AllocError)
-}
-
-/// Starts and makes turns, of which one write of the log may fail: what happened and is forwarded then, how often the log was written, and
-/// whether it is said to have failed.
-fn spoiled<'a, S: RouteStore>(
-    row: &mut Row<'a>,
-    doubles: Doubles<'_>,
-    asked: &'a str,
-    failing: Option<usize>,
-) -> Result<(String, usize, bool), AllocError> {
-    row.put(asked);
-    let turns = row.read(0);
-    let Ok(mut rig) = start_once::<S>(row, doubles, failing)? else {
-        return Err(AllocError);
     };
     let mut log = doubles;
-    let _ = rig.engine.turns(turns, &mut log);
-    let (mut text, writes) = doubles.take(row)?;
-    text.push_str(entries_of(row, rig.engine.fib())?.as_str())?;
-    Ok((text, writes, rig.engine.report().log_failed))
-}
-
-/// The lines that a log was given, or the others.
-fn lines_of(text: &String, are_logged: bool) -> Result<String, AllocError> {
-    let mut lines = String::new(*text.allocator());
-    for line in text.as_str().lines() {
-        if line.starts_with("log ") == are_logged {
-            writeln!(lines, "{line}")?;
+    let started = Engine::start(row.alloc, config, doubles, doubles, Zeros, &mut log);
+    row.text = doubles.take(row.alloc)?;
+    match started {
+        Ok(engine) => Ok(Some(Rig { doubles, engine })),
+        Err(_) if row.text.as_str().contains("send") => {
+            row.end("the first forwarding table")?;
+            Ok(None)
         }
+        Err(_) => row.refuse(),
     }
-    Ok(lines)
 }
 
-/// Whether each write of the log that fails ends the log, and nothing else.
-pub fn spoil_each<S: RouteStore>(row: &mut Row<'_>, doubles: Doubles<'_>) -> Done {
-    let asked = row.rest();
-    let (whole, writes, _) = spoiled::<S>(row, doubles, asked, None)?;
-    let (others, lines) = (lines_of(&whole, false)?, lines_of(&whole, true)?);
-    let mut is_alone = writes > 1;
-    for failing in 0..writes {
-        let (text, count, has_failed) = spoiled::<S>(row, doubles, asked, Some(failing))?;
-        is_alone = is_alone
-            && has_failed
-            && count == failing.saturating_add(1)
-            && lines_of(&text, false)?.as_str() == others.as_str()
-            && lines.as_str().starts_with(lines_of(&text, true)?.as_str());
+/// Writes what `show` prints and how it ends, and whether it says of each write that fails what it is, and then writes no more.
+pub fn write_shown(row: &mut Row<'_>, doubles: Doubles<'_>) -> Done {
+    let (digits, mut paper) = (row.rest(), doubles);
+    let ended = show(row.alloc, digits, &mut paper);
+    let whole = doubles.take(row.alloc)?;
+    let mut is_told = true;
+    for failing in 0..1000 {
+        doubles.fail_write(Some(failing));
+        let again = show(row.alloc, digits, &mut paper);
+        let text = doubles.take(row.alloc)?;
+        if again == ended && text.as_str() == whole.as_str() {
+            break;
+        }
+        let written = text.as_str().strip_suffix("fails\n");
+        is_told = is_told
+            && again == Err(PrintFault::Write)
+            && written.is_some_and(|written| whole.as_str().starts_with(written));
     }
-    writeln!(row.text, "each failed write ends the log alone: {is_alone}")
+    doubles.fail_write(None);
+    writeln!(
+        row.text,
+        "{whole}{ended:?}, each failed write told: {is_told}"
+    )
 }
 
 impl<'a, S: RouteStore> Rig<'a, S> {
-    /// The forwarding table was refused memory: it is as it was, and no other turn does anything. So the case is over.
-    fn end(&mut self, row: &mut Row<'_>, before: &String) -> Done {
-        row.end("the forwarding table");
-        let ended = self.engine.turns(1, &mut self.doubles);
-        let (text, _) = self.doubles.take(row)?;
-        let is_over = ended == Err(EngineFault::OutOfMemory) && text.as_str().is_empty();
-        if !is_over || entries_of(row, self.engine.fib())?.as_str() != before.as_str() {
-            writeln!(row.text, "an engine that has ended went on")?;
-        }
-        Ok(())
-    }
-
-    /// A step or an entry was lost: a step is counted once, and the next turn goes on. So the case is over, since a route may lack.
-    fn lose(&mut self, row: &mut Row<'_>, lost: u64) -> Done {
-        row.end(if lost == 0 {
-            "a route of an engine"
+    /// The engine wanted memory. It is over, and its forwarding table is as it was before the turns, which no other turn changes; or a step
+    /// or an entry was lost, which is counted once, and the next turn goes on. So the case is over, since a route may lack.
+    fn end(&mut self, row: &mut Row<'_>, before: &String, is_ended: bool) -> Done {
+        let lost = self.engine.report().lost_memory;
+        row.end(match lost {
+            _ if is_ended => "the forwarding table",
+            0 => "a route of an engine",
+            _ => "a step of an engine",
+        })?;
+        let next = self.engine.turns(1, &mut self.doubles);
+        let (text, mut after) = (self.doubles.take(row.alloc)?, String::new(row.alloc));
+        write_entries(&mut after, self.engine.fib())?;
+        let is_right = if is_ended {
+            next.is_err() && text.is_empty() && after.as_str() == before.as_str()
         } else {
-            "a step of an engine"
-        });
-        let ended = self.engine.turns(1, &mut self.doubles);
-        if lost > 1 || ended.is_err() || self.engine.report().lost_memory != lost {
-            writeln!(row.text, "what was lost was not counted once")?;
+            next.is_ok() && lost <= 1 && self.engine.report().lost_memory == lost
+        };
+        if !is_right {
+            writeln!(row.text, "an engine has lost memory in another way")?;
         }
         Ok(())
     }
 
     fn turns(&mut self, row: &mut Row<'_>) -> Done {
-        let (before, mut watch) = (entries_of(row, self.engine.fib())?, self.doubles);
-        let count = row.read(0);
+        let (count, mut watch, mut before) = (row.read(0), self.doubles, String::new(row.alloc));
+        write_entries(&mut before, self.engine.fib())?;
         let ended = self
             .engine
             .turns_observed(count, &mut self.doubles, &mut watch);
-        let (text, _) = self.doubles.take(row)?;
-        let lost = self.engine.report().lost_memory;
-        if lost > 0 || text.as_str().contains("NoMemory") {
-            return self.lose(row, lost);
+        let text = self.doubles.take(row.alloc)?;
+        if self.engine.report().lost_memory > 0 || text.as_str().contains("NoMemory") {
+            return self.end(row, &before, false);
         }
-        row.text.push_str(text.as_str())?;
+        row.text = text;
         match ended {
             Ok(()) => Ok(()),
-            Err(EngineFault::OutOfMemory) => self.end(row, &before),
+            Err(EngineFault::OutOfMemory) => self.end(row, &before, true),
             Err(fault) => writeln!(row.text, "fault {fault}"),
         }
     }
@@ -177,7 +134,7 @@ impl<'a, S: RouteStore> Rig<'a, S> {
     /// Makes a step between two turns, at an interface that there is.
     fn step(&mut self, row: &mut Row<'_>, verb: &str) -> Done {
         let (engine, log) = (&mut self.engine, &mut self.doubles);
-        let ended = match event_of(row, verb, 0) {
+        let ended = match read_event(row, verb, 0) {
             Event::Shutdown { .. } => engine.shutdown(log),
             Event::LinkDown { iface, .. } => engine.link_down(iface, log),
             Event::LinkUp { iface, .. } => engine.link_up(iface, log),
@@ -191,10 +148,10 @@ impl<'a, S: RouteStore> Rig<'a, S> {
             }
             _ => return row.spoil(),
         };
-        let (text, _) = self.doubles.take(row)?;
+        row.text = self.doubles.take(row.alloc)?;
         match ended {
-            Ok(()) => row.text.push_str(text.as_str()),
-            Err(fault) => writeln!(row.text, "{text}{fault:?}"),
+            Ok(()) => Ok(()),
+            Err(fault) => writeln!(row.text, "{fault:?}"),
         }
     }
 
@@ -202,10 +159,7 @@ impl<'a, S: RouteStore> Rig<'a, S> {
     pub fn obey(&mut self, row: &mut Row<'_>, verb: &str) -> Done {
         match verb {
             "turns" => self.turns(row),
-            "entries" => {
-                let entries = entries_of(row, self.engine.fib())?;
-                row.text.push_str(entries.as_str())
-            }
+            "entries" => write_entries(&mut row.text, self.engine.fib()),
             "show" => write_router(&mut row.text, self.engine.router()),
             "report" => writeln!(row.text, "{:?}", self.engine.report()),
             _ => self.step(row, verb),

@@ -1,10 +1,9 @@
 //! Rows of calls and what must come of them, played over both stores of routes: of stores, of one router, of a forwarding table, of
-//! networks, of an engine over doubles, of `show` with failing writes, and random commands. README.md says how a file of them is
-//! written, and how the program is run.
+//! networks, of an engine over doubles, and of `show` with failing writes. README.md says how a file of them is written, and how the
+//! program is run.
 #![tactic(auto)]
 
 mod calls;
-mod chance;
 mod doubles;
 mod engines;
 mod forwarding;
@@ -16,26 +15,16 @@ mod stores;
 mod writing;
 
 use crate::player::played;
-use crate::row::Row;
-use route_table::{SortedRoutes, TrieRoutes};
+use route_table::{RouteStore, SortedRoutes, TrieRoutes};
 use std::io::{self, ErrorKind};
 use std::process::ExitCode;
 use std::{env, fs};
 
-/// How many cases turned out as they must, and how many did not.
-#[derive(Clone, Copy)]
-struct Tally {
-    passed: u32,
-    failed: u32,
-}
-
-/// Says how a case turned out over a store, and whether as it must.
-fn judge(rt: &HostRuntime, name: &str, case: &str, row: &Row<'_>) -> io::Result<bool> {
-    if !row.refused.is_empty() {
-        eprintln!(rt; "refused: {}", row.refused)?;
-    }
-    let text = row.text.as_str().trim_end();
-    if text == case || (row.is_over && case.starts_with(text)) {
+/// Plays a case over a store: says how it turned out, and whether as it must.
+fn is_met<S: RouteStore>(rt: &HostRuntime, name: &str, case: &str) -> io::Result<bool> {
+    let (text, is_over) = played::<S>(rt.clone()?, case)?;
+    let text = text.as_str().trim_end();
+    if text == case || (is_over && case.starts_with(text)) {
         return Ok(true);
     }
     let other = case.lines().zip(text.lines()).find(|(a, b)| a != b);
@@ -44,48 +33,40 @@ fn judge(rt: &HostRuntime, name: &str, case: &str, row: &Row<'_>) -> io::Result<
     Ok(false)
 }
 
-/// Plays a case over both stores.
-fn play(rt: &HostRuntime, tally: &mut Tally, text: &str) -> io::Result<()> {
+/// Plays a case over both stores, and says whether it turned out as it must.
+fn is_passed(rt: &HostRuntime, text: &str) -> io::Result<bool> {
     let (name, case) = text.split_once('\n').unwrap_or((text, ""));
     let case = case.trim_end();
-    let sorted = played::<SortedRoutes>(rt.clone()?, case)?;
-    let trie = played::<TrieRoutes>(rt.clone()?, case)?;
-    if judge(rt, name, case, &sorted)? && judge(rt, name, case, &trie)? {
-        tally.passed = tally.passed.saturating_add(1);
-        println!(rt; "ok {name}")
-    } else {
-        tally.failed = tally.failed.saturating_add(1);
-        Ok(())
+    let is_passed = is_met::<SortedRoutes>(rt, name, case)?
+        && is_met::<TrieRoutes>(rt, name, case)?;
+    if is_passed {
+        println!(rt; "ok {name}")?;
     }
+    Ok(is_passed)
 }
 
-/// Plays the cases of a file.
-fn play_file(rt: &HostRuntime, tally: &mut Tally, file: &str) -> io::Result<()> {
-    let text = fs::read_to_string(rt, file)?;
-    let text = text.as_str().replace(rt.alloc(), "\\\n", "")?;
-    for case in text.as_str().split("\n# ").skip(1) {
-        play(rt, tally, case)?;
-    }
-    Ok(())
-}
-
-/// Plays the files that arguments name.
-fn play_all(rt: &HostRuntime) -> io::Result<Tally> {
-    let mut tally = Tally {
-        passed: 0,
-        failed: 0,
-    };
+/// Plays the cases of the files that arguments name, and answers how many failed.
+fn play(rt: &HostRuntime) -> io::Result<u32> {
+    let (mut passed, mut failed) = (0u32, 0u32);
     for word in env::args(rt)?.skip(1) {
-        play_file(rt, &mut tally, word.as_str())?;
+        let text = fs::read_to_string(rt, word.as_str())?;
+        let text = text.as_str().replace(rt.alloc(), "\\\n", "")?;
+        for case in text.as_str().split("\n# ").skip(1) {
+            if is_passed(rt, case)? {
+                passed = passed.saturating_add(1);
+            } else {
+                failed = failed.saturating_add(1);
+            }
+        }
     }
-    println!(rt; "{} passed, {} failed", tally.passed, tally.failed)?;
-    Ok(tally)
+    println!(rt; "{passed} passed, {failed} failed")?;
+    Ok(failed)
 }
 
 fn main(rt: HostRuntime) -> ExitCode {
-    ExitCode::from(match play_all(&rt) {
-        Ok(tally) if tally.failed > 0 => 1,
-        Ok(_) => 0,
+    ExitCode::from(match play(&rt) {
+        Ok(0) => 0,
+        Ok(_) => 1,
         Err(error) if error.kind() == ErrorKind::OutOfMemory => 3,
         Err(_) => 2,
     })

@@ -2,9 +2,10 @@
 
 use crate::doubles::{Doubles, Script};
 use crate::engines::{self, Rig};
-use crate::forwarding::Forwarding;
+use crate::forwarding::{Forwarding, write_entries};
 use crate::row::{Done, Row};
-use crate::{chance, networks, routers, stores};
+use crate::writing::{write_lab, write_readers};
+use crate::{networks, routers, stores};
 use fib::Fib;
 use ripng_world::{Event, Lab};
 use route_table::RouteStore;
@@ -41,9 +42,27 @@ impl<'a, 'b, S: RouteStore> Player<'a, 'b, S> {
         }
     }
 
+    /// All that readers say of what the call may change. Where time is told, nobody asks.
+    fn readers(&self, row: &Row<'_>) -> Result<String, AllocError> {
+        let mut text = String::new(row.alloc);
+        if row.form == "time" {
+            return Ok(text);
+        }
+        if let Some(router) = &self.router {
+            write_readers(&mut text, router)?;
+        }
+        if let Some(lab) = &self.lab {
+            write_lab(&mut text, lab)?;
+        }
+        if row.call == "apply" {
+            write_entries(&mut text, &self.forwarding.fib)?;
+        }
+        Ok(text)
+    }
+
     /// Does a command by which something begins, or one of what has begun.
     fn obey(&mut self, row: &mut Row<'b>, command: &'b str) -> Done {
-        let verb = row.begin(command);
+        let verb = row.call;
         if let Some(router) = &mut self.router {
             return routers::obey(row, router, verb);
         }
@@ -54,50 +73,68 @@ impl<'a, 'b, S: RouteStore> Player<'a, 'b, S> {
             return rig.obey(row, verb);
         }
         match verb {
-            "start" | "router" => self.router = routers::come_up(row, verb)?,
-            "node" | "iface" | "owns" => {
+            "start" | "router" => self.router = routers::come_up(row)?,
+            "node" => {
                 let _ = row.rest();
                 self.nodes.push(command)?;
             }
             "cold" => self.lab = networks::cold(row, self.nodes.as_slice())?,
-            "random" => chance::compare::<S>(row)?,
-            "at" | "coming" | "fail-recv" | "fail-send" => engines::plan(row, self.doubles, verb)?,
-            "engine" => self.rig = engines::start(row, self.doubles)?,
-            "each-write" => engines::spoil_each::<S>(row, self.doubles)?,
-            _ => {
-                if !self.forwarding.obey(row, verb)? {
-                    stores::obey(row, &mut self.store, verb)?;
-                }
+            "at" | "coming" | "fail-recv" | "fail-send" | "fail-write" => {
+                engines::plan(row, self.doubles, verb)?
             }
+            "engine" => self.rig = engines::start(row, self.doubles)?,
+            "digits" => engines::write_shown(row, self.doubles)?,
+            "install" | "withdraw" | "apply" | "lookup" | "lookups" | "entries" => {
+                self.forwarding.obey(row, verb)?
+            }
+            _ => stores::obey(row, &mut self.store, verb)?,
         }
         Ok(())
     }
 
+    /// Does a command. Where its call was refused memory, readers have to say what they said before, and it is done again.
+    fn play(&mut self, row: &mut Row<'b>, command: &'b str) -> Done {
+        row.begin(command);
+        let before = self.readers(row)?;
+        let done = self.obey(row, command);
+        if done.is_ok() || !row.is_refused {
+            return done;
+        }
+        row.tell_refused(row.call)?;
+        let after = self.readers(row)?;
+        row.begin(command);
+        if after.as_str() != before.as_str() {
+            writeln!(row.text, "a refused call changed what readers say")?;
+        }
+        self.obey(row, command)
+    }
+
     /// Does what a line asks for, behind the line itself. Of a remark nothing comes, and a line that must come out asks for nothing.
-    fn follow(&mut self, row: &mut Row<'b>, line: &'b str) -> Done {
+    fn follow(&mut self, row: &mut Row<'b>, line: &'b str, text: &mut String) -> Done {
         if line.starts_with(';') {
-            writeln!(row.text, "{line}")?;
+            writeln!(text, "{line}")?;
         }
         if let Some(command) = line.strip_prefix("> ") {
-            writeln!(row.text, "{line}")?;
-            self.obey(row, command)?;
+            self.play(row, command)?;
+            write!(text, "{line}\n{}", row.text)?;
             if !row.is_read() {
-                writeln!(row.text, "no such command")?;
+                writeln!(text, "no such command")?;
             }
         }
         Ok(())
     }
 }
 
-/// How a case turns out over a store.
-pub fn played<S: RouteStore>(rt: HostRuntime, case: &str) -> Result<Row<'_>, AllocError> {
+/// How a case turns out over a store, and whether it was over before its end.
+pub fn played<S: RouteStore>(rt: HostRuntime, case: &str) -> Result<(String, bool), AllocError> {
     let mut row = Row::new(rt);
     let script = RefCell::new(Script::new(row.alloc)?);
     let mut player: Player<'_, '_, S> = Player::new(&row, &script);
+    let mut text = String::new(row.alloc);
     for line in case.lines() {
         if !row.is_over {
-            player.follow(&mut row, line)?;
+            player.follow(&mut row, line, &mut text)?;
         }
     }
-    Ok(row)
+    Ok((text, row.is_over))
 }

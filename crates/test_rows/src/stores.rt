@@ -1,15 +1,10 @@
-//! A store of routes, and what stands alone: moments, datagrams, and `show` on paper that fails.
+//! A store of routes, and what stands alone: moments and datagrams.
 
-use crate::doubles::{Doubles, Script};
-use crate::routers::write_due;
-use crate::row::{Done, Row, moment, site};
-use crate::writing::{write_bytes, write_found, write_one, write_routes};
+use crate::row::{Done, Row, moment};
+use crate::writing::{write_bytes, write_due, write_found, write_one, write_routes};
 use prefix6::{Addr6, Prefix};
 use ripng_wire::{MAX_ENTRIES, Rte, decode, encode};
-use ripngd_show::{PrintFault, show};
 use route_table::{Moment, Origin, Route, RouteStore};
-use std::alloc::AllocError;
-use std::cell::RefCell;
 
 /// A route of metric 2 and tag 7 that was learned of fe80::2, by way of fe80::9, and is alive until a moment.
 fn live(until: u32) -> Route {
@@ -21,18 +16,19 @@ fn live(until: u32) -> Route {
     Route::live(2, 7, origin, moment(0).later(until))
 }
 
-/// The route that `own TAG`, `live UNTIL` or `lost UNTIL` says.
-fn route_of(row: &mut Row<'_>) -> Route {
-    match row.next() {
+/// The route that `own TAG`, `live UNTIL` or `lost UNTIL` says, with a mark if `changed` stands behind it.
+fn read_route(row: &mut Row<'_>) -> Route {
+    let route = match row.next() {
         "own" => Route::own(row.read(0)),
         "live" => live(row.read(0)),
-        "told" => live(row.read(0)).with_mark(false),
-        _ => live(0).lost(moment(0).later(row.read(0))).with_mark(false),
-    }
+        _ => live(0).lost(moment(0).later(row.read(0))),
+    };
+    route.with_mark(row.next() == "changed")
 }
 
 /// Adds a route to a prefix that has none.
-fn add<S: RouteStore>(row: &mut Row<'_>, store: &mut S, prefix: Prefix, route: Route) -> Done {
+fn add<S: RouteStore>(row: &mut Row<'_>, store: &mut S) -> Done {
+    let (prefix, route) = (row.prefix(), read_route(row));
     if store.get(&prefix).is_some() {
         return writeln!(row.text, "it has a route");
     }
@@ -42,19 +38,6 @@ fn add<S: RouteStore>(row: &mut Row<'_>, store: &mut S, prefix: Prefix, route: R
     }
 }
 
-/// Own routes to so many sites, each with its number as tag.
-fn fill<S: RouteStore>(row: &mut Row<'_>, store: &mut S) -> Done {
-    for number in 0..row.read(0) {
-        add(
-            row,
-            store,
-            site(number),
-            Route::own((number % 65_536) as u16),
-        )?;
-    }
-    Ok(())
-}
-
 /// Changes the route to a prefix, if there is one.
 fn change<S: RouteStore>(row: &mut Row<'_>, store: &mut S, verb: &str) -> Done {
     let prefix = row.prefix();
@@ -62,7 +45,7 @@ fn change<S: RouteStore>(row: &mut Row<'_>, store: &mut S, verb: &str) -> Done {
         return writeln!(row.text, "no route");
     }
     if verb == "replace" {
-        store.replace(&prefix, route_of(row));
+        store.replace(&prefix, read_route(row));
     } else {
         store.remove(&prefix);
     }
@@ -72,52 +55,15 @@ fn change<S: RouteStore>(row: &mut Row<'_>, store: &mut S, verb: &str) -> Done {
 /// The first route, or the first past a prefix: of all, of those that are due, of those that are marked.
 fn walk<S: RouteStore>(row: &mut Row<'_>, store: &S, verb: &str) -> Option<(Prefix, Route)> {
     let due = if verb == "walk-due" { row.read(0) } else { 0 };
-    let after = if row.has_more() {
-        Some(row.prefix())
-    } else {
+    let after = if row.rest.is_empty() {
         None
+    } else {
+        Some(row.prefix())
     };
     match verb {
         "walk" => store.walk(after),
         "walk-due" => store.walk_due(after, moment(due)),
         _ => store.walk_changed(after),
-    }
-}
-
-/// Writes what a store answers.
-fn ask<S: RouteStore>(row: &mut Row<'_>, store: &S, verb: &str) -> Done {
-    match verb {
-        "get" => write_one(row, store),
-        "length" => writeln!(row.text, "{}, empty {}", store.len(), store.is_empty()),
-        "list" => write_routes(&mut row.text, store),
-        "walk" | "walk-due" | "walk-changed" => {
-            let found = walk(row, store, verb);
-            write_found(&mut row.text, found)
-        }
-        "next-due" => write_due(&mut row.text, store.next_due()),
-        _ => obey_alone(row, verb),
-    }
-}
-
-/// Does a command.
-pub fn obey<S: RouteStore>(row: &mut Row<'_>, store: &mut S, verb: &str) -> Done {
-    match verb {
-        "add" => {
-            let (prefix, route) = (row.prefix(), route_of(row));
-            add(row, store, prefix, route)
-        }
-        "fill" => fill(row, store),
-        "replace" | "remove" => change(row, store, verb),
-        "update" => {
-            let (prefix, route) = (row.prefix(), route_of(row));
-            let made = store.update(&prefix, |_| route);
-            write_found(&mut row.text, made.map(|made| (prefix, made.0)))
-        }
-        "unmark" => {
-            store.unmark();
-            Ok(())
-        }
-        _ => ask(row, store, verb),
     }
 }
 
@@ -131,7 +77,7 @@ fn write_moment(row: &mut Row<'_>) -> Done {
     writeln!(row.text, "deadline {}, reached {is_reached}", until.ms())
 }
 
-/// The bytes that the entries of a datagram are written as, and again if that wanted memory.
+/// The bytes that the entries of a datagram are written as.
 fn write_encoded(row: &mut Row<'_>) -> Done {
     let bytes = row.bytes()?;
     let datagram = match decode(bytes.as_slice()) {
@@ -142,56 +88,39 @@ fn write_encoded(row: &mut Row<'_>) -> Done {
     if entries.len() > MAX_ENTRIES {
         return row.spoil();
     }
-    for _ in 0..2 {
-        match encode(row.alloc, datagram.command(), entries.as_slice()) {
-            Ok(bytes) => {
-                write!(row.text, "bytes")?;
-                return write_bytes(&mut row.text, bytes.as_slice());
-            }
-            Err(AllocError) => row.refuse_new()?,
+    match encode(row.alloc, datagram.command(), entries.as_slice()) {
+        Ok(bytes) => {
+            write!(row.text, "bytes")?;
+            write_bytes(&mut row.text, bytes.as_slice())
         }
+        Err(_) => row.refuse(),
     }
-    Err(AllocError)
 }
 
-/// What `show` says where a write fails, what it wrote before, and how often it wrote.
-fn shown(
-    row: &Row<'_>,
-    digits: &str,
-    failing: Option<usize>,
-) -> Result<(Result<bool, PrintFault>, String, usize), AllocError> {
-    let script = RefCell::new(Script::new(row.alloc)?);
-    let mut paper = Doubles(&script);
-    paper.rewind(failing);
-    let ended = show(row.alloc, digits, &mut paper);
-    let (text, writes) = paper.take(row)?;
-    Ok((ended, text, writes))
-}
-
-/// What `show` prints, how it ends, and whether it says of each failing write what it is, and then writes no more.
-fn write_shown(row: &mut Row<'_>) -> Done {
-    let digits = row.rest();
-    let (ended, whole, writes) = shown(row, digits, None)?;
-    let mut is_told = true;
-    for failing in 0..writes {
-        let (ended, text, count) = shown(row, digits, Some(failing))?;
-        is_told = is_told
-            && ended == Err(PrintFault::Write)
-            && count == failing.saturating_add(1)
-            && whole.as_str().starts_with(text.as_str());
-    }
-    writeln!(
-        row.text,
-        "{whole}{ended:?}, each failed write told: {is_told}"
-    )
-}
-
-/// Does a command of what stands alone.
-fn obey_alone(row: &mut Row<'_>, verb: &str) -> Done {
+/// Does a command.
+pub fn obey<S: RouteStore>(row: &mut Row<'_>, store: &mut S, verb: &str) -> Done {
     match verb {
+        "add" => add(row, store),
+        "replace" | "remove" => change(row, store, verb),
+        "update" => {
+            let (prefix, route) = (row.prefix(), read_route(row));
+            let made = store.update(&prefix, |_| route);
+            write_found(&mut row.text, made.map(|made| (prefix, made.0)))
+        }
+        "unmark" => {
+            store.unmark();
+            Ok(())
+        }
+        "get" => write_one(row, store),
+        "length" => writeln!(row.text, "{}, empty {}", store.len(), store.is_empty()),
+        "list" => write_routes(&mut row.text, store),
+        "walk" | "walk-due" | "walk-changed" => {
+            let found = walk(row, store, verb);
+            write_found(&mut row.text, found)
+        }
+        "next-due" => write_due(&mut row.text, store.next_due()),
         "moment" => write_moment(row),
         "encode" => write_encoded(row),
-        "digits" => write_shown(row),
         _ => row.spoil(),
     }
 }

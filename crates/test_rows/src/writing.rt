@@ -4,8 +4,8 @@ use crate::row::{Done, Row};
 use prefix6::Prefix;
 use ripng_world::{Lab, Sent};
 use ripngd_engine::ChangeLine;
-use route_table::{Clock, Origin, Route, RouteStore};
-use router_core::{Answer, Destination, NoteKind, Outgoing, Router};
+use route_table::{Clock, Deadline, Origin, Route, RouteStore};
+use router_core::{Answer, Destination, Router};
 
 /// Bytes as hexadecimal digits, four bytes a word, as RFC 2080 draws a datagram.
 pub fn write_bytes(out: &mut String, bytes: &[u8]) -> Done {
@@ -25,17 +25,13 @@ pub fn write_send(out: &mut String, iface: usize, to: Destination, bytes: &[u8])
     write_bytes(out, bytes)
 }
 
-fn write_clock(out: &mut String, clock: Clock) -> Done {
-    match clock {
-        Clock::Fixed => Ok(()),
-        Clock::Live(until) => write!(out, " live until {}", until.ms()),
-        Clock::Dying(until) => write!(out, " dying until {}", until.ms()),
-    }
-}
-
-/// A route: metric, tag, where it comes from, its deadline, and whether it is marked as changed.
-fn write_route(out: &mut String, route: &Route) -> Done {
-    write!(out, "metric {} tag {}", route.metric(), route.tag())?;
+/// A route that was found with its prefix: metric, tag, where it comes from, its deadline, and whether it is marked as changed.
+pub fn write_found(out: &mut String, found: Option<(Prefix, Route)>) -> Done {
+    let Some((prefix, route)) = found else {
+        return writeln!(out, "no route");
+    };
+    let (metric, tag) = (route.metric(), route.tag());
+    write!(out, "{prefix} metric {metric} tag {tag}")?;
     match route.origin() {
         Origin::Own => write!(out, " own")?,
         Origin::Learned {
@@ -44,19 +40,12 @@ fn write_route(out: &mut String, route: &Route) -> Done {
             next_hop,
         } => write!(out, " via {next_hop} iface {iface} from {from}")?,
     }
-    write_clock(out, route.clock())?;
-    writeln!(out, "{}", if route.is_changed() { " changed" } else { "" })
-}
-
-/// A route that was found with its prefix.
-pub fn write_found(out: &mut String, found: Option<(Prefix, Route)>) -> Done {
-    match found {
-        Some((prefix, route)) => {
-            write!(out, "{prefix} ")?;
-            write_route(out, &route)
-        }
-        None => writeln!(out, "no route"),
+    match route.clock() {
+        Clock::Fixed => {}
+        Clock::Live(until) => write!(out, " live until {}", until.ms())?,
+        Clock::Dying(until) => write!(out, " dying until {}", until.ms())?,
     }
+    writeln!(out, "{}", if route.is_changed() { " changed" } else { "" })
 }
 
 /// The route to the prefix that the next word says.
@@ -66,19 +55,22 @@ pub fn write_one<S: RouteStore>(row: &mut Row<'_>, store: &S) -> Done {
     write_found(&mut row.text, found)
 }
 
-/// All routes of a store, in order, one by one.
+/// All routes of a store, in order.
 pub fn write_routes<S: RouteStore>(out: &mut String, store: &S) -> Done {
-    let mut after = None;
-    for _ in 0..store.len() {
-        let Some(entry) = store.walk(after) else {
-            break;
-        };
-        let prefix = entry.0;
-        let route = entry.1;
+    let mut routes = Vec::with_capacity(*out.allocator(), store.len())?;
+    store.list(&mut routes);
+    for (prefix, route) in routes {
         write_found(out, Some((prefix, route)))?;
-        after = Some(prefix);
     }
     Ok(())
+}
+
+/// When something is due, and which.
+pub fn write_due(out: &mut String, due: Option<(Deadline, Prefix)>) -> Done {
+    match due {
+        Some((until, prefix)) => writeln!(out, "{} {prefix}", until.ms()),
+        None => writeln!(out, "nothing is due"),
+    }
 }
 
 /// All that a call answered: fault, sends, changes and notes, a line each.
@@ -98,56 +90,12 @@ pub fn write_answer(out: &mut String, answer: &Answer) -> Done {
     Ok(())
 }
 
-/// How many datagrams an interface sends, the size of the first and of the last, and the last entry.
-fn write_sizes(out: &mut String, sends: &[Outgoing], iface: usize) -> Done {
-    let (mut count, mut first, mut last) = (0usize, 0, &[] as &[u8]);
-    for send in sends.iter().filter(|send| send.iface == iface) {
-        last = send.bytes.as_slice();
-        first = if count == 0 { last.len() } else { first };
-        count = count.saturating_add(1);
-    }
-    if count == 0 {
-        return Ok(());
-    }
-    write!(
-        out,
-        "{count} sends {iface}, {first} to {} bytes, last",
-        last.len()
-    )?;
-    write_bytes(out, &last[last.len().saturating_sub(20)..])
-}
-
-/// A long answer by number: what two interfaces send, how many changes there are, and how many notes of each kind.
-pub fn write_counts(out: &mut String, answer: &Answer) -> Done {
-    if let Some(fault) = answer.fault {
-        writeln!(out, "fault {fault:?}")?;
-    }
-    write_sizes(out, answer.sends.as_slice(), 0)?;
-    write_sizes(out, answer.sends.as_slice(), 1)?;
-    writeln!(out, "{} changes", answer.changes.as_slice().len())?;
-    for kind in [
-        NoteKind::BadLength,
-        NoteKind::BadPrefix,
-        NoteKind::BadMetric,
-    ] {
-        let notes = answer.notes.as_slice().iter();
-        let count = notes.filter(|note| note.kind == kind).count();
-        if count > 0 {
-            writeln!(out, "{count} notes {kind:?}")?;
-        }
-    }
-    Ok(())
-}
-
 /// Every route of a router, in order; the moment of its last step, when its next regular update is due, and until when it holds
 /// triggered ones.
 pub fn write_router<S: RouteStore>(out: &mut String, router: &Router<S>) -> Done {
     write_routes(out, router.routes())?;
-    let (last, regular, hold) = (
-        router.last().ms(),
-        router.regular().ms(),
-        router.hold().ms(),
-    );
+    let (last, regular) = (router.last().ms(), router.regular().ms());
+    let hold = router.hold().ms();
     writeln!(out, "last {last} regular {regular} hold {hold}")
 }
 
