@@ -1,5 +1,5 @@
 -- What follows from how a write or a test ended.
-use Rattle.std.proofs.Common.{◌≡◌, ◌++◌, ℕ, Bool, true, false, List, [], ◌∷◌, Option, Some, Result, Ok, Err, refl, subst, sym, inl, inr}
+use Rattle.std.proofs.Common.{◌≡◌, ◌++◌, ℕ, Bool, true, false, List, [], ◌∷◌, Option, Some, Result, Ok, Err, refl, subst, sym, inr}
 use Rattle.std.specs.Prelude.{◌==◌, IsOk, OnOk, codes, is_err}
 use Rattle.std.specs.FinMap as map_of
 use Rattle.std.specs.Io.KnownBytes.{Appends}
@@ -65,9 +65,3 @@ pub stops_again : (a m b : Seen) (r : Result (Unit {0}) ChangeFault) (done : Run
 stops_again a m b (Ok u) done out is first again = subst (λ (o : Reply × RunState). ObeysStop a o.0 b) (sym is) (m, first, again)
 stops_again a m b (Err (Refused why)) done out is first again = subst (λ (o : Reply × RunState). ObeysStop a o.0 b) (sym is) (inr (m, first, again))
 stops_again a m b (Err Ended) done out is first again = subst (λ (o : Reply × RunState). ObeysStop a o.0 b) (sym is) (inr (m, first, again))
-
--- the first time was refused memory
-pub stops_at_once : (a b : Seen) (e : ChangeFault) (done : RunState) (out : Reply × RunState) → out ≡ step_reply (Err e) done
-    → StepAnswer ShutsDownOnce a (Err e) b → ObeysStop a out.0 b
-stops_at_once a b (Refused why) done out is step = subst (λ (o : Reply × RunState). ObeysStop a o.0 b) (sym is) (inl step)
-stops_at_once a b Ended done out is step = subst (λ (o : Reply × RunState). ObeysStop a o.0 b) (sym is) (inl step)

@@ -1,27 +1,25 @@
 //! What a running router does for a command, and its answer: at once, or in pieces.
 
-ghost use Rattle.std.specs.Prelude.{◌≡◌, ◌≢◌, ◌↔◌, ◌⊎◌, ◌++◌, ◌∷◌, IsOk, IsTrue, OnOk, Some, false, true};
+ghost use Rattle.std.specs.Prelude.{◌≡◌, ◌≢◌, ◌↔◌, ◌⊎◌, ◌++◌, ◌∷◌, IsOk, IsTrue, OnOk, Option, Some, false};
 ghost use Rattle.std.specs.FinMap as map_of;
 ghost use Rattle.std.specs.Io.KnownBytes.{Appends};
 ghost use Rattle.std.specs.List.{enumerate_from};
 ghost use Rattle.router_core.specs.Reconfiguring.{NamesInterface};
-ghost use Rattle.ripngd_engine.specs.Changing.{LinkComesUpOnce, LinkGoesDownOnce};
 ghost use Rattle.ripngd_engine.specs.Seen.{seen};
-ghost use Rattle.ripngd_control.specs.Answers.{AnswersCommand, Continues, GainsLines, ObeysChange, ObeysLink, ObeysStop, step_reply};
+ghost use Rattle.fib.specs.Entries.{Entry, IsLookedUp};
+ghost use Rattle.ripngd_control.specs.Answers.{AnswersCommand, Continues, GainsLines, Obeys, step_reply};
 ghost use Rattle.ripngd_control.specs.Printed.{interface_lines, lookup_text, reply_line, status_answer};
 ghost use Rattle.ripngd_control.specs.declared.command.PeerChange.{PeerChange};
 
-use crate::command::Command;
-use crate::counts::{Counts, Losses};
-use crate::lookup::{Lookup, look_up};
+use crate::command::{Command, Destination};
+use crate::counts::Losses;
 use crate::monitor::Monitor;
-use crate::neighbors::Neighbors;
 use crate::pieces::{write_routes, write_table};
 use crate::reply::{Peering, Reply};
 use fib::Fib;
 use prefix6::Prefix;
 use rand_core::Rng;
-use ripngd_engine::{ChangeFault, Engine, Link, LinkChange, TimeSource};
+use ripngd_engine::{ChangeFault, Engine, Link, LinkChange, RouteLine, TimeSource};
 use route_table::RouteStore;
 use router_core::{Change, Interface, Router, RouterConfig};
 use std::io::{self, Write};
@@ -67,11 +65,22 @@ fn write_reply<W: Write>(reply: Reply, out: &mut W) -> Rest
     all_of(writeln!(out, "{reply}"))
 }
 
-/// Writes what was looked up.
-fn write_lookup<W: Write>(found: Lookup, out: &mut W) -> Rest
-    ensures { GainsLines (W.contents out.old) result (W.contents out.new) (lookup_text found.0 ++ (10 ∷ reply_line Reply.Done)) }
+/// Writes the line of the longest match of an address in a forwarding table, or `no route`, and `ok`.
+fn write_lookup<W: Write>(fib: &Fib, destination: Destination, out: &mut W) -> Rest
+    ensures { (found : Option Entry) × IsLookedUp fib.now destination.0 found
+        × GainsLines (W.contents out.old) result (W.contents out.new) (lookup_text found ++ (10 ∷ reply_line Reply.Done)) }
 {
-    all_of(writeln!(out, "{found}\nok"))
+    match fib.longest_match(destination.0) {
+        Some((prefix, hop, metric)) => {
+            let line = RouteLine {
+                prefix,
+                hop,
+                metric,
+            };
+            all_of(writeln!(out, "{line}\nok"))
+        }
+        None => all_of(writeln!(out, "no route\nok")),
+    }
 }
 
 /// Writes `interface I address ADDR cost C mtu M`, a line for each interface.
@@ -90,20 +99,21 @@ fn write_interfaces<W: Write>(interfaces: &[Interface], out: &mut W) -> io::Resu
 
 /// Writes a line for each interface, `now MS routes N` with the moment of the last step and the number of entries of the forwarding
 /// table, the counts, what was lost, the neighbors, and `ok`.
-fn write_status<S: RouteStore, W: Write>(
+fn write_status<S: RouteStore, E, W: Write>(
     router: &Router<S>,
     fib: &Fib,
-    counts: Counts,
+    monitor: &Monitor<E>,
     lost: Losses,
-    neighbors: &Neighbors,
     out: &mut W,
 ) -> io::Result<()>
     ensures { OnOk result (Appends (W.contents out.old) (W.contents out.new)
-        (status_answer router.now.config.interfaces router.now.last (map_of.len fib.now) counts lost neighbors.now)) }
+        (status_answer router.now.config.interfaces router.now.last (map_of.len fib.now) monitor.now.counts lost monitor.now.neighbors)) }
 {
     write_interfaces(router.config().interfaces(), out)?;
     let now = router.last().ms();
     let routes = fib.len();
+    let counts = monitor.counts();
+    let neighbors = monitor.neighbors();
     writeln!(
         out,
         "now {now} routes {routes}\n{counts}\n{lost}\n{neighbors}ok"
@@ -120,24 +130,6 @@ fn names_interface(config: &RouterConfig, change: &Change) -> bool
     }
 }
 
-/// Changes the configuration of an engine's router. Returns the reply, and whether the router goes on.
-fn obey<S: RouteStore, L: Link, C: TimeSource, R: Rng + Drop, W: Write>(
-    engine: &mut Engine<S, L, C, R>,
-    change: Change,
-    log: &mut W,
-) -> (Reply, RunState)
-    requires { engine.old.ended ≡ false }
-    ensures obeys { ObeysChange change (seen R.stream W.contents engine.old log.old) result.0
-        (seen R.stream W.contents engine.new log.new) }
-    ensures goes_on { result.1 ≢ RunState.Ended → engine.new.ended ≡ false }
-    ensures no_stop { result.1 ≢ RunState.Stopped }
-{
-    if !names_interface(engine.router().config(), &change) {
-        return (Reply::NoSuchInterface, RunState::Running);
-    }
-    step_reply(engine.reconfigure(change, log), RunState::Running)
-}
-
 /// The reply to a step of an engine, and whether the router goes on. `done` says so of a step that was done, or refused.
 fn step_reply(stepped: Result<(), ChangeFault>, done: RunState) -> (Reply, RunState)
     ensures { result ≡ step_reply stepped done }
@@ -149,45 +141,38 @@ fn step_reply(stepped: Result<(), ChangeFault>, done: RunState) -> (Reply, RunSt
     }
 }
 
-/// Shuts an engine's router down, twice: neighbors that lose a datagram of its last update receive the other one.
-fn shut_down<S: RouteStore, L: Link, C: TimeSource, R: Rng + Drop, W: Write>(
+/// Does a command that is a step of an engine. Returns the reply, and whether the router goes on.
+///
+/// A stop shuts the router down twice: neighbors that lose a datagram of its last update receive the other one.
+fn make_step<S: RouteStore, L: Link, C: TimeSource, R: Rng + Drop, W: Write>(
     engine: &mut Engine<S, L, C, R>,
+    command: Command,
     log: &mut W,
 ) -> (Reply, RunState)
     requires { engine.old.ended ≡ false }
-    ensures obeys { ObeysStop (seen R.stream W.contents engine.old log.old) result.0
+    ensures obeys { Obeys command (seen R.stream W.contents engine.old log.old) result.0
         (seen R.stream W.contents engine.new log.new) }
     ensures goes_on { result.1 ≢ RunState.Ended → engine.new.ended ≡ false }
-    ensures ends { result.1 ≢ RunState.Running }
+    ensures stops { result.1 ≡ RunState.Stopped → command ≡ Command.Stop }
+    ensures ends { command ≡ Command.Stop → result.1 ≢ RunState.Running }
 {
-    let stepped = match engine.shutdown(log) {
-        Ok(()) => engine.shutdown(log),
-        Err(fault) => Err(fault),
-    };
-    step_reply(stepped, RunState::Stopped)
-}
-
-/// Takes the link of an interface down, or lets it be up again. Returns the reply, and whether the router goes on.
-fn set_link<S: RouteStore, L: Link, C: TimeSource, R: Rng + Drop, W: Write>(
-    engine: &mut Engine<S, L, C, R>,
-    iface: usize,
-    is_up: bool,
-    log: &mut W,
-) -> (Reply, RunState)
-    requires { engine.old.ended ≡ false }
-    ensures down { is_up ≡ false → ObeysLink (LinkGoesDownOnce iface) iface (seen R.stream W.contents engine.old log.old) result.0
-        (seen R.stream W.contents engine.new log.new) }
-    ensures up { is_up ≡ true → ObeysLink (LinkComesUpOnce iface) iface (seen R.stream W.contents engine.old log.old) result.0
-        (seen R.stream W.contents engine.new log.new) }
-    ensures goes_on { result.1 ≢ RunState.Ended → engine.new.ended ≡ false }
-    ensures no_stop { result.1 ≢ RunState.Stopped }
-{
-    if iface >= engine.router().config().interfaces().len() {
-        (Reply::NoSuchInterface, RunState::Running)
-    } else if is_up {
-        step_reply(engine.link_up(iface, log), RunState::Running)
-    } else {
-        step_reply(engine.link_down(iface, log), RunState::Running)
+    let config = engine.router().config();
+    let interfaces = config.interfaces().len();
+    match command {
+        Command::Stop => match engine.shutdown(log) {
+            Ok(()) => step_reply(engine.shutdown(log), RunState::Stopped),
+            Err(fault) => step_reply(Err(fault), RunState::Stopped),
+        },
+        Command::LinkDown(iface) if iface < interfaces => {
+            step_reply(engine.link_down(iface, log), RunState::Running)
+        }
+        Command::LinkUp(iface) if iface < interfaces => {
+            step_reply(engine.link_up(iface, log), RunState::Running)
+        }
+        Command::Reconfigure(change) if names_interface(config, &change) => {
+            step_reply(engine.reconfigure(change, log), RunState::Running)
+        }
+        _ => (Reply::NoSuchInterface, RunState::Running),
     }
 }
 
@@ -224,49 +209,31 @@ pub(crate) fn respond<
         Some(Command::Routes) => (Rest::Routes(None), RunState::Running),
         Some(Command::Table) => (Rest::Table(None), RunState::Running),
         Some(Command::Lookup(destination)) => {
-            let found = look_up(engine.fib(), destination);
-            (write_lookup(found, out), RunState::Running)
+            let rest = write_lookup(engine.fib(), destination, out);
+            (rest, RunState::Running)
         }
         Some(Command::Counts) => {
             let counts = monitor.counts();
-            (
-                all_of(writeln!(out, "{counts}\n{lost}\nok")),
-                RunState::Running,
-            )
+            let written = writeln!(out, "{counts}\n{lost}\nok");
+            (all_of(written), RunState::Running)
         }
         Some(Command::Neighbors) => {
             let neighbors = monitor.neighbors();
             (all_of(writeln!(out, "{neighbors}ok")), RunState::Running)
         }
         Some(Command::Status) => {
-            let router = engine.router();
-            let fib = engine.fib();
-            let told = monitor.counts();
-            let heard = monitor.neighbors();
-            let written = write_status(router, fib, told, lost, heard, out);
+            let written = write_status(engine.router(), engine.fib(), monitor, lost, out);
             (all_of(written), RunState::Running)
         }
-        Some(Command::Stop) => {
-            let (reply, state) = shut_down(engine, log);
-            (write_reply(reply, out), state)
-        }
         Some(Command::StopNow) => (write_reply(Reply::Done, out), RunState::Stopped),
-        Some(Command::LinkDown(iface)) => {
-            let (reply, state) = set_link(engine, iface, false, log);
-            (write_reply(reply, out), state)
-        }
-        Some(Command::LinkUp(iface)) => {
-            let (reply, state) = set_link(engine, iface, true, log);
-            (write_reply(reply, out), state)
-        }
-        Some(Command::Reconfigure(change)) => {
-            let (reply, state) = obey(engine, change, log);
-            (write_reply(reply, out), state)
-        }
         Some(Command::Link(change)) => {
             peering.order(change);
             engine.change_link(peering);
             (write_reply(peering.reply(), out), RunState::Running)
+        }
+        Some(step) => {
+            let (reply, state) = make_step(engine, step, log);
+            (write_reply(reply, out), state)
         }
         None => (write_reply(Reply::NoSuchCommand, out), RunState::Running),
     }

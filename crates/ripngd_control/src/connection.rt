@@ -1,7 +1,6 @@
 //! The connection of one client: its line is received and its answer is sent, by calls that never wait.
 
-ghost use Rattle.std.specs.Prelude.{◌≡◌, ◌≢◌, ◌≤◌, ◌/◌, ◌↔◌, IfSome, IsTrue, None, false, vec_len};
-ghost use Rattle.std.specs.Duration.{as_nanos};
+ghost use Rattle.std.specs.Prelude.{◌≡◌, ◌≢◌, ◌≤◌, IfSome, IsTrue, None, false, vec_len};
 ghost use Rattle.ripngd_control.specs.Clients.{BeginsWith, GrowsByReceived, ShrinksBySent};
 
 use crate::answering::{Rest, write_rest};
@@ -12,10 +11,13 @@ use router_core::Router;
 use std::io::{self, ErrorKind, Read, Write};
 use std::os::unix::net::UnixStream;
 use std::rt::Clock;
-use std::time::{Duration, Instant};
+use std::time::Instant;
 
 /// The most bytes of a line, its line feed included.
 pub(crate) const LINE_LIMIT: usize = 1_024;
+
+/// How many milliseconds a client may keep others waiting.
+const PATIENCE: u128 = 2_000;
 
 /// How many pieces a client is sent at most between two turns.
 const PIECES: usize = 16;
@@ -64,13 +66,6 @@ fn send<T: Write>(stream: &mut T, text: &mut Vec<u8>) -> Option<usize>
     }
 }
 
-/// Whether a client has kept others waiting too long: 2 seconds.
-fn is_too_long(wait: Duration) -> bool
-    ensures { IsTrue result ↔ (2_000 ≤ as_nanos wait / 1_000_000) }
-{
-    wait.as_millis() >= 2_000
-}
-
 /// A client that has connected.
 #[derive(Drop)]
 pub(crate) struct Connection {
@@ -114,14 +109,6 @@ impl Connection {
         is_there
     }
 
-    /// Makes the next piece of the answer if the last one was sent, and returns whether there is something to send.
-    fn refill<S: RouteStore>(&mut self, router: &Router<S>, fib: &Fib) -> bool {
-        if let (true, Some(rest)) = (self.text.is_empty(), self.rest) {
-            self.rest = Some(write_rest(router, fib, rest, &mut self.text));
-        }
-        !self.text.is_empty()
-    }
-
     /// Sends as much of its answer as it takes now, and returns whether the connection goes on. A client that takes something may keep
     /// others waiting for 2 seconds more.
     pub(crate) fn send<R: Clock, S: RouteStore>(
@@ -134,8 +121,11 @@ impl Connection {
             return false;
         };
         for _ in 0..PIECES {
-            let is_in_time = !is_too_long(now.duration_since(self.since));
-            if !self.refill(router, fib) {
+            let is_in_time = now.duration_since(self.since).as_millis() < PATIENCE;
+            if let (true, Some(rest)) = (self.text.is_empty(), self.rest) {
+                self.rest = Some(write_rest(router, fib, rest, &mut self.text));
+            }
+            if self.text.is_empty() {
                 return is_in_time && self.rest.is_none();
             }
             match send(&mut self.stream, &mut self.text) {

@@ -3,7 +3,7 @@
 ghost use Rattle.std.specs.Prelude.{◌↔◌, IsTrue};
 ghost use Rattle.ripngd_control.specs.Clients.{IsPrivate};
 
-use std::fs;
+use std::fs::{self, Metadata};
 use std::io::ErrorKind;
 use std::net::Net;
 use std::os::fd::{AsRawFd, RawFd};
@@ -26,8 +26,7 @@ pub enum ListenFault {
 #[derive(Drop)]
 pub(crate) struct ControlSocket {
     listener: UnixListener,
-    dev: u64,
-    ino: u64,
+    file: Metadata,
 }
 
 /// Whether only its owner may write to a file of this mode.
@@ -38,9 +37,9 @@ fn is_private(mode: u32) -> bool
 }
 
 /// Removes a file, if it is this one.
-fn remove<R: Files>(rt: &R, path: &str, dev: u64, ino: u64) {
+fn remove<R: Files>(rt: &R, path: &str, file: &Metadata) {
     if let Ok(about) = fs::symlink_metadata(rt, path) {
-        if about.dev() == dev && about.ino() == ino {
+        if about.dev() == file.dev() && about.ino() == file.ino() {
             let _ = fs::remove_file(rt, path);
         }
     }
@@ -58,7 +57,7 @@ fn remove_stale<R: Files + Net>(rt: &R, path: &str) -> Result<(), ListenFault> {
     match UnixStream::connect(rt, path) {
         Ok(_) => Err(ListenFault::Taken),
         Err(error) if error.kind() == ErrorKind::ConnectionRefused => {
-            remove(rt, path, about.dev(), about.ino());
+            remove(rt, path, &about);
             Ok(())
         }
         Err(_) => Err(ListenFault::Failed),
@@ -76,13 +75,12 @@ impl ControlSocket {
         listener
             .set_nonblocking(true)
             .map_err(|_| ListenFault::Failed)?;
-        let about = fs::symlink_metadata(rt, path).map_err(|_| ListenFault::Failed)?;
-        let (dev, ino) = (about.dev(), about.ino());
-        if !is_private(about.mode()) {
-            remove(rt, path, dev, ino);
+        let file = fs::symlink_metadata(rt, path).map_err(|_| ListenFault::Failed)?;
+        if !is_private(file.mode()) {
+            remove(rt, path, &file);
             return Err(ListenFault::Shared);
         }
-        Ok(ControlSocket { listener, dev, ino })
+        Ok(ControlSocket { listener, file })
     }
 
     /// The descriptor at which clients are seen to connect.
@@ -99,6 +97,6 @@ impl ControlSocket {
 
     /// Stops listening, and removes the file if it is still the one that was made.
     pub(crate) fn close<R: Files>(self, rt: &R, path: &str) {
-        remove(rt, path, self.dev, self.ino);
+        remove(rt, path, &self.file);
     }
 }

@@ -12,7 +12,6 @@ mod command;
 mod connection;
 mod control_socket;
 mod counts;
-mod lookup;
 mod monitor;
 mod neighbors;
 mod pieces;

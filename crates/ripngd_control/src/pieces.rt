@@ -17,11 +17,7 @@ const PIECE: usize = 256;
 /// A route to a prefix at a moment, written `PREFIX metric M tag T ORIGIN CLOCK`, with ` marked` at its end if its route change flag is
 /// set.
 #[derive(Clone, Copy)]
-struct RouteStatus {
-    prefix: Prefix,
-    route: Route,
-    moment: Moment,
-}
+struct RouteStatus(Prefix, Route, Moment);
 
 /// `own`, or `via ADDR iface I from ADDR`.
 #[derive(Clone, Copy)]
@@ -60,14 +56,10 @@ impl Display for ClockText {
 }
 
 impl Display for RouteStatus {
-    ghost output = { λ s. Some (status_text s.prefix s.route s.moment) };
+    ghost output = { λ s. Some (status_text s.0 s.1 s.2) };
 
     fn fmt<W: fmt::Write>(&self, f: &mut fmt::Formatter<W>) -> fmt::Result {
-        let RouteStatus {
-            prefix,
-            route,
-            moment,
-        } = *self;
+        let RouteStatus(prefix, route, moment) = *self;
         let metric = route.metric();
         let tag = route.tag();
         let origin = OriginText(route.origin());
@@ -95,11 +87,7 @@ pub(crate) fn write_routes<S: RouteStore, W: Write>(
         let Some((prefix, route)) = routes.walk(last) else {
             return Ok(None);
         };
-        let status = RouteStatus {
-            prefix,
-            route,
-            moment,
-        };
+        let status = RouteStatus(prefix, route, moment);
         writeln!(out, "{status}")?;
         last = Some(prefix);
     }

@@ -85,20 +85,13 @@ impl Refusals {
         self.by_number[number] = self.by_number[number].saturating_add(1);
     }
 
-    /// Counts each note.
-    fn count_notes(&mut self, notes: &[Note])
-        ensures { Refused (λ number. notes_of number notes.now) self.old self.new }
-    {
-        for note in notes {
-            self.raise(Refusal::Entry(note.kind));
-        }
-    }
-
     /// Counts what was refused of a datagram: the whole for a fault, or the entries that have notes.
     pub(crate) fn count(&mut self, fault: Option<Fault>, notes: &[Note])
         ensures { Refused (λ number. is_fault number fault + notes_of number notes.now) self.old self.new }
     {
-        self.count_notes(notes);
+        for note in notes {
+            self.raise(Refusal::Entry(note.kind));
+        }
         if let Some(fault) = fault {
             self.raise(Refusal::Arrival(fault));
         }
