@@ -1,9 +1,10 @@
-//! What the words of a line may stand for, by the lines before it.
+//! What the words of a line may stand for, by themselves or by the lines before it.
 
 use crate::forms::Wrong;
 use crate::stop::{Refusal, Stop};
 use route_table::Moment;
 use std::alloc::Global;
+use std::fmt;
 use std::str::FromStr;
 
 /// What the lines before have said and done.
@@ -49,14 +50,12 @@ impl Context {
 
     /// NOW: milliseconds, or `+` and how many there are since the last time.
     pub fn moment(&self, word: &str) -> Result<Moment, Wrong> {
-        match word.strip_prefix('+') {
-            Some(gap) => {
-                let gap = number(gap)?;
-                let last = self.last.ok_or(Wrong::NoTime)?;
-                moment_after(last, gap, 1).ok_or(Wrong::TooLate)
-            }
-            None => Moment::new(number(word)?).ok_or(Wrong::Differs),
-        }
+        let Some(gap) = word.strip_prefix('+') else {
+            return Moment::new(number(word)?).ok_or(Wrong::Differs);
+        };
+        let gap = number(gap)?;
+        let last = self.last.ok_or(Wrong::NoTime)?;
+        moment_after(last, gap, 1).ok_or(Wrong::TooLate)
     }
 
     /// N: the number of a datagram, or `last`, or `last-K`, the one that was sent K before it.
@@ -83,6 +82,18 @@ where
     word.parse().map_err(|_| Wrong::Differs)
 }
 
+/// A number from 1 to `most`.
+pub fn up_to<N: FromStr + Ord + Default + Copy>(word: &str, most: N) -> Result<N, Wrong>
+where
+    N::Err: Drop,
+{
+    let count = number(word)?;
+    if count > N::default() && count <= most {
+        return Ok(count);
+    }
+    Err(Wrong::Differs)
+}
+
 /// The moment so many gaps later, if there is one.
 pub fn moment_after(now: Moment, gap: u64, gaps: u64) -> Option<Moment> {
     Moment::new(gap.checked_mul(gaps)?.checked_add(now.ms())?)
@@ -94,9 +105,37 @@ pub fn is_name(word: &str) -> bool {
     bytes
         .first()
         .is_some_and(|first| first.is_ascii_alphabetic())
-        && bytes.iter().all(is_in_name)
+        && bytes.iter().all(|byte| byte.is_ascii_alphanumeric() || matches!(byte, b'-' | b'_'))
 }
 
-fn is_in_name(byte: &u8) -> bool {
-    byte.is_ascii_alphanumeric() || *byte == b'-' || *byte == b'_'
+/// What there is, or `none`.
+#[derive(Clone, Copy)]
+pub struct OrNone<T>(pub Option<T>);
+
+impl<T: fmt::Display> fmt::Display for OrNone<T> {
+    fn fmt<W: fmt::Write>(&self, f: &mut fmt::Formatter<W>) -> fmt::Result {
+        match &self.0 {
+            Some(there) => write!(f, "{there}"),
+            None => f.write_str("none"),
+        }
+    }
+}
+
+/// What has the name.
+pub fn named<T: Copy>(word: &str, names: &[(&str, T)]) -> Result<T, Wrong> {
+    let found = names.iter().find(|(name, _)| *name == word);
+    Ok(found.ok_or(Wrong::Differs)?.1)
+}
+
+/// The name that something has.
+pub fn name_of<T: PartialEq>(named: &T, names: &[(&'static str, T)]) -> &'static str {
+    let found = names.iter().find(|(_, other)| other == named);
+    found.map_or("", |(name, _)| name)
+}
+
+/// Pairs of hexadecimal digits, at least one.
+pub fn are_bytes(digits: &[u8]) -> bool {
+    !digits.is_empty()
+        && digits.len().is_multiple_of(2)
+        && digits.iter().all(|digit| digit.is_ascii_hexdigit())
 }

@@ -10,10 +10,9 @@ use crate::expecting::{Expected, Missed, meet};
 use crate::forms::{Action, Step};
 use crate::horizon::Horizons;
 use crate::line::Line;
-use crate::outages::Outages;
+use crate::outages::{Outages, set_member};
 use crate::phase::make_phases;
 use crate::plan::Ticking;
-use crate::printer::Choice;
 use crate::site::{Held, Routes, Site};
 use crate::stop::{Outcome, Refusal, Stop, Unmet};
 use crate::watching::{Notice, Watch};
@@ -50,14 +49,6 @@ impl Course {
         }
     }
 
-    /// The same, of which no lab is left: from now on nothing is promised of the network but each step.
-    pub fn lied(mut self) -> Course
-        ensures { result.site ≡ self.site }
-    {
-        self.site = self.site.lied();
-        self
-    }
-
     /// How many datagrams were sent.
     pub fn sent(&self) -> usize {
         self.site.running().sent().len()
@@ -70,21 +61,22 @@ impl Course {
     pub fn act<V: Watch>(&mut self, action: Action, line: &Line<'_>, watch: &mut V) -> Outcome
         ensures { HasTold result V.starts V.takes V.fails V.notes (Some self.old.site, watch.old) (Some self.new.site, watch.new) }
     {
+        let (router, word) = (line.router, line.word);
         match action {
             Action::Step(kind) => self.happen(kind, line, watch),
             Action::AtLink(kind) => self.happen_at_link(kind, line, watch),
             Action::Arrive => self.arrive(line, watch),
-            Action::Tell => self.make_wave(&line.wave(line.ticking()), watch),
+            Action::Tell => self.make_wave(&line.wave(Ticking::One { router, word }), watch),
             Action::Hear => self.make_wave(&line.wave(Ticking::Nobody), watch),
             Action::Round => self.make_wave(&line.wave(Ticking::All), watch),
             Action::Rounds => self.go_round(line, watch),
             Action::Phases => self.go_on(line, watch),
             Action::Lose => self.lose(line.datagram, watch),
-            Action::Silent(silent) => self.set_silent(line.router, silent),
+            Action::Silent(silent) => self.set_silent(router, silent),
             Action::Cut(cut) => self.set_cut(line, cut),
             Action::PrintAll => self.show_routes(None, None, watch),
-            Action::PrintRouter => self.show_routes(Some(line.router), None, watch),
-            Action::PrintRoute => self.show_routes(Some(line.router), Some(line.prefix), watch),
+            Action::PrintRouter => self.show_routes(Some(router), None, watch),
+            Action::PrintRoute => self.show_routes(Some(router), Some(&line.prefix), watch),
             Action::PrintAllSent => self.show_sent(None, watch),
             Action::PrintSent => self.show_sent(Some(line.datagram), watch),
             Action::Say => self.tell(Notice::Said(line.text), watch),
@@ -120,7 +112,11 @@ impl Course {
         if kind == Step::Cost {
             return self.play(&wave, None, &events, watch);
         }
-        self.outages.set_cut(line.link, kind == Step::Down)?;
+        set_member(
+            &mut self.outages.cut,
+            usize::from(line.link),
+            kind == Step::Down,
+        )?;
         self.play(&wave, None, &events, watch)
     }
 
@@ -163,11 +159,11 @@ impl Course {
         ensures told { HasTold result V.starts V.takes V.fails V.notes (Some self.old.site, watch.old) (Some self.new.site, watch.new) }
         ensures lost { OnOk result (self.new.outages.lost.items ≡ self.old.outages.lost.items ++ datagram ∷ []) }
     {
-        self.check_datagram(Some(datagram))?;
+        check_named(Some(datagram), self.sent(), LabError::NoSuchDatagram)?;
         if self.outages.is_lost(datagram) {
             return Err(Stop::Refused(Refusal::DatagramLost));
         }
-        self.outages.lose(datagram)?;
+        self.outages.lost.push(datagram)?;
         self.tell(Notice::Lost(datagram), watch)
     }
 
@@ -184,21 +180,24 @@ impl Course {
     fn show_routes<V: Watch>(
         &self,
         router: Option<usize>,
-        prefix: Option<Prefix>,
+        prefix: Option<&Prefix>,
         watch: &mut V,
     ) -> Outcome
         ensures { HasTold result V.starts V.takes V.fails V.notes (Some self.now.site, watch.old) (Some self.now.site, watch.new) }
     {
-        self.check_router(router)?;
-        let routes = Notice::Routes(self.site.running(), Choice { router, prefix });
-        self.tell(routes, watch)
+        check_named(
+            router,
+            self.site.running().routers(),
+            LabError::NoSuchRouter,
+        )?;
+        self.tell(Notice::Routes(self.site.running(), router, prefix), watch)
     }
 
     /// A line that prints datagrams.
     fn show_sent<V: Watch>(&self, asked: Option<usize>, watch: &mut V) -> Outcome
         ensures { HasTold result V.starts V.takes V.fails V.notes (Some self.now.site, watch.old) (Some self.now.site, watch.new) }
     {
-        self.check_datagram(asked)?;
+        check_named(asked, self.sent(), LabError::NoSuchDatagram)?;
         self.tell(Notice::Datagrams(self.site.running(), asked), watch)
     }
 
@@ -244,7 +243,7 @@ impl Course {
         if router >= self.site.running().routers() {
             return Err(Stop::from(LabError::NoSuchRouter));
         }
-        Ok(self.outages.set_silent(router, silent)?)
+        Ok(set_member(&mut self.outages.silent, router, silent)?)
     }
 
     /// A link is cut from now on, or no longer.
@@ -253,31 +252,7 @@ impl Course {
         ensures site { self.new.site ≡ self.old.site }
     {
         let _ = self.events_at(Step::Down, line)?;
-        Ok(self.outages.set_cut(line.link, cut)?)
-    }
-
-    /// There is such a router, if one is named.
-    pub fn check_router(&self, router: Option<usize>) -> Outcome
-        ensures { OnOk result (IfSome router (λ r. r < length self.now.site.network)) }
-    {
-        match router {
-            Some(router) if router >= self.site.running().routers() => {
-                Err(Stop::from(LabError::NoSuchRouter))
-            }
-            _ => Ok(()),
-        }
-    }
-
-    /// Such a datagram was sent, if one is named.
-    fn check_datagram(&self, datagram: Option<usize>) -> Outcome
-        ensures { OnOk result (IfSome datagram (λ d. d < length self.now.site.world.sent)) }
-    {
-        match datagram {
-            Some(datagram) if datagram >= self.site.running().sent().len() => {
-                Err(Stop::from(LabError::NoSuchDatagram))
-            }
-            _ => Ok(()),
-        }
+        Ok(set_member(&mut self.outages.cut, usize::from(line.link), cut)?)
     }
 
     /// An event at each interface on the link of a line, by router and interface; `NoSuchLink` if none is on it.
@@ -294,5 +269,15 @@ impl Course {
             return Err(Stop::Refused(Refusal::NoSuchLink));
         }
         Ok(events)
+    }
+}
+
+/// There is one of that number among so many, if one is named; else the error.
+pub fn check_named(number: Option<usize>, count: usize, error: LabError) -> Outcome
+    ensures { OnOk result (IfSome number (λ n. n < count)) }
+{
+    match number {
+        Some(number) if number >= count => Err(Stop::from(error)),
+        _ => Ok(()),
     }
 }

@@ -20,7 +20,8 @@ pub enum Verb {
 /// A part of a network.
 #[derive(Clone, Copy, Debug, PartialEq, Eq)]
 pub enum Listed {
-    Router { quiet: bool },
+    /// A router, and whether it is quiet.
+    Router(bool),
     Interface,
     Prefixes,
 }
@@ -70,13 +71,10 @@ pub enum Step {
 /// The forms. A word in capitals is a part, and `..` at the end repeats K. If a line leaves several forms at the same word, the first
 /// is the one that a hint names.
 pub const FORMS: [(&str, Verb); 49] = [
-    ("router NAME", Verb::List(Listed::Router { quiet: false })),
-    (
-        "router quiet NAME",
-        Verb::List(Listed::Router { quiet: true }),
-    ),
-    ("router quiet", Verb::List(Listed::Router { quiet: true })),
-    ("router", Verb::List(Listed::Router { quiet: false })),
+    ("router NAME", Verb::List(Listed::Router(false))),
+    ("router quiet NAME", Verb::List(Listed::Router(true))),
+    ("router quiet", Verb::List(Listed::Router(true))),
+    ("router", Verb::List(Listed::Router(false))),
     ("iface ADDR COST MTU LINK", Verb::List(Listed::Interface)),
     ("iface ADDR COST LINK", Verb::List(Listed::Interface)),
     ("own PREFIX TAG times TIMES", Verb::List(Listed::Prefixes)),
@@ -179,14 +177,6 @@ pub fn first_word(text: &str) -> &str {
 /// The words of a form, by its number among all.
 pub fn words_of_form(form: usize) -> &'static str {
     FORMS.get(form).map_or("", |(words, _)| words)
-}
-
-/// The part at a place of a form; where the form repeats its last one, that is K.
-pub fn part_at(form: usize, place: usize) -> &'static str {
-    match words_of_form(form).split(' ').nth(place) {
-        Some("..") | None => "K",
-        Some(part) => part,
-    }
 }
 
 /// What a part is, in the words after `is`; nothing of a word that stands for itself.

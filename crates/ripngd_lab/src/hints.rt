@@ -1,6 +1,6 @@
 //! Hints: what a refused line of a script should have been.
 
-use crate::forms::{BadLine, FORMS, Wrong, first_word, meaning, part_at, words_of_form};
+use crate::forms::{BadLine, FORMS, Wrong, first_word, meaning, words_of_form};
 use crate::listing::fault_of;
 use crate::named::{Names, names_of};
 use crate::printer::{Ending, Printer};
@@ -9,8 +9,8 @@ use crate::stop::Refusal;
 use ripng_world::LabError;
 use router_core::ReconfigureRefused;
 use std::alloc::{AllocError, Global};
-use std::fmt;
 use std::io::{self, Write};
+use std::str::FromStr;
 use strsim::levenshtein;
 
 /// A first word is near another if at most this many letters differ.
@@ -18,18 +18,6 @@ const NEAR: usize = 2;
 
 /// A longer word is near none.
 const LONGEST: usize = 12;
-
-/// A hint. Its text says what to write.
-#[derive(Clone, Copy, Debug, PartialEq, Eq)]
-pub enum Hint<'a> {
-    Text(&'static str),
-    /// Why a line is malformed, or out of place.
-    Bad { line: &'a str, why: BadLine },
-    /// No line begins with the word, but one with a word that is near.
-    Near { word: &'a str, near: &'static str },
-    /// How many there are to be named.
-    Count { count: usize, what: &'static str },
-}
 
 /// Runs a script as [`lab`](crate::lab) does. If a refused line ends it, `err` gets a line `ripngd: line L: ..` with a hint, if there
 /// is one; for a network that is refused, L is the line with the fault. If `err` or memory fails, there is no hint.
@@ -53,76 +41,86 @@ pub fn lab_hinted<W: Write, E: Write>(
     Ok(done)
 }
 
-/// The hint for the refused line that ended a script, and the number of the line that is at fault, if there is a hint.
+/// The hint for the refused line that ended a script, which says what to write, and the number of the line that is at fault, if there is
+/// a hint.
 ///
 /// # Errors
 /// Out of memory.
-pub fn hint_of<'a>(
+pub fn hint_of(
     alloc: Global,
-    script: &'a [u8],
+    script: &[u8],
     ending: &Ending,
-) -> Result<Option<(usize, Hint<'a>)>, AllocError> {
+) -> Result<Option<(usize, String)>, AllocError> {
     let mut lines = script.split(|byte| *byte == b'\n');
     let line = words_in(lines.nth(ending.line.saturating_sub(1)).unwrap_or(&[]));
     let hint = match ending.refusal {
         Refusal::BadLine(why) => hint_of_bad(alloc, line, why)?,
-        Refusal::NameTwice => Hint::Text("an earlier router has that name"),
-        Refusal::NoSuchLink => Hint::Text("no iface is on that link"),
-        Refusal::DatagramLost => Hint::Text("an earlier line says that this datagram is lost"),
-        Refusal::Outage => {
-            Hint::Text("in phases all take part: a router is silent or a link is cut")
-        }
-        Refusal::Network(refused) => {
-            let fault = fault_of(alloc, script, refused)?;
-            return Ok(fault.map(|(line, meaning)| (line, Hint::Text(meaning))));
-        }
+        Refusal::Network(refused) => return fault_of(alloc, script, ending.line, refused),
         Refusal::Event(LabError::NoSuchRouter) => {
-            counted(names_of(alloc, script)?.len(), "routers")
+            counted(alloc, names_of(alloc, script)?.len(), "routers")?
         }
-        Refusal::Event(LabError::NoSuchDatagram) => hint_of_datagram(line, ending),
-        Refusal::Event(why) => Hint::Text(meaning_of(why)),
-        Refusal::Rounds(_) => Hint::Text(
-            "a regular update is not due yet: rounds lie at least 15000 milliseconds apart",
-        ),
-        _ => return Ok(None),
+        Refusal::Event(LabError::NoSuchDatagram) => hint_of_datagram(alloc, line, ending)?,
+        refusal => String::from_str(alloc, meaning_of(refusal))?,
     };
-    Ok(Some((ending.line, hint)))
+    Ok(Some((ending.line, hint)).filter(|(_, hint)| !hint.is_empty()))
 }
 
-/// What is wrong with an event.
-fn meaning_of(why: LabError) -> &'static str {
-    match why {
-        LabError::NoSuchInterface =>
-            "a router's interfaces are numbered from 0, by its iface lines",
-        LabError::OtherLink => "the datagram was sent on another link than that of the interface",
-        LabError::NotAStranger => "the router takes it for a neighbor's: liar forges a Response",
-        LabError::NotALiar => "the router refuses it: liar is for a Response that it accepts",
-        LabError::ReconfigureRefused(change) => match change {
-            ReconfigureRefused::BadCost => "COST is a number from 1 to 15",
-            ReconfigureRefused::PrefixNotAllowed => "PREFIX is neither multicast nor link-local",
-            ReconfigureRefused::AlreadyOwned => "the router owns the prefix already: drop it first",
-            ReconfigureRefused::NotOwned =>
-                "the router owns no such prefix: look at its length too",
-            _ => "the router has no room for one more prefix",
+/// What is wrong with a line that is well formed, and stands where it may; nothing if the script does not show it.
+fn meaning_of(refusal: Refusal) -> &'static str {
+    match refusal {
+        Refusal::NameTwice => "an earlier router has that name",
+        Refusal::NoSuchLink => "no iface is on that link",
+        Refusal::DatagramLost => "an earlier line says that this datagram is lost",
+        Refusal::Outage => "in phases all take part: a router is silent or a link is cut",
+        Refusal::Rounds(_) =>
+            "a regular update is not due yet: rounds lie at least 15000 milliseconds apart",
+        Refusal::Event(why) => match why {
+            LabError::NoSuchInterface =>
+                "a router's interfaces are numbered from 0, by its iface lines",
+            LabError::OtherLink =>
+                "the datagram was sent on another link than that of the interface",
+            LabError::NotAStranger =>
+                "the router takes it for a neighbor's: liar forges a Response",
+            LabError::NotALiar => "the router refuses it: liar is for a Response that it accepts",
+            LabError::ReconfigureRefused(change) => match change {
+                ReconfigureRefused::BadCost => "COST is a number from 1 to 15",
+                ReconfigureRefused::PrefixNotAllowed =>
+                    "PREFIX is neither multicast nor link-local",
+                ReconfigureRefused::AlreadyOwned =>
+                    "the router owns the prefix already: drop it first",
+                ReconfigureRefused::NotOwned =>
+                    "the router owns no such prefix: look at its length too",
+                _ => "the router has no room for one more prefix",
+            },
+            _ => "",
         },
         _ => "",
     }
 }
 
 /// What a malformed line, or one out of place, should have been.
-fn hint_of_bad<'a>(alloc: Global, line: &'a str, why: BadLine) -> Result<Hint<'a>, AllocError> {
+fn hint_of_bad(alloc: Global, line: &str, why: BadLine) -> Result<String, AllocError> {
     if !line.starts_with("say ")
         && let Some(wrong) = wrong_spacing(line)
     {
-        return Ok(Hint::Text(wrong));
+        return String::from_str(alloc, wrong);
     }
-    let word = first_word(line);
-    if why == BadLine::Unknown
-        && let Some(near) = nearest(alloc, word)?
-    {
-        return Ok(Hint::Near { word, near });
+    let verb = first_word(line);
+    match why {
+        BadLine::NoText => String::from_str(alloc, "it is no text in UTF-8"),
+        BadLine::Unknown => match nearest(alloc, verb)? {
+            Some(near) => format!(in alloc; "no line begins with {verb}: is it {near}?"),
+            None => format!(in alloc; "no line begins with {verb}"),
+        },
+        BadLine::Word { form, place, wrong } => hint_of_word(alloc, line, form, place, wrong),
+        BadLine::BeforeStart => format!(in alloc; "{verb} comes after cold"),
+        BadLine::AfterStart => format!(in alloc; "{verb} comes before cold"),
+        BadLine::SecondStart => String::from_str(alloc, "cold comes once"),
+        BadLine::NoRouter => format!(in alloc; "{verb} comes after a router"),
+        BadLine::PastLastPrefix => {
+            String::from_str(alloc, "the row goes on past the last prefix of its length")
+        }
     }
-    Ok(Hint::Bad { line, why })
 }
 
 /// What is wrong with a line whatever its words are.
@@ -157,75 +155,52 @@ fn nearest(alloc: Global, word: &str) -> Result<Option<&'static str>, AllocError
 }
 
 /// How many datagrams there are for a line to name.
-fn hint_of_datagram<'a>(line: &str, ending: &Ending) -> Hint<'a> {
-    if line.starts_with("hear ") {
-        return Hint::Text(
+fn hint_of_datagram(alloc: Global, line: &str, ending: &Ending) -> Result<String, AllocError> {
+    match first_word(line) {
+        "hear" => String::from_str(
+            alloc,
             "fewer datagrams are heard: they are counted from 0 for the first that was not passed by yet",
-        );
-    }
-    if line.starts_with("tell ") {
-        return counted(ending.sent_by_line, "datagrams of this tick");
-    }
-    counted(ending.sent, "datagrams that were sent")
-}
-
-fn counted<'a>(count: usize, what: &'static str) -> Hint<'a> {
-    Hint::Count { count, what }
-}
-
-impl<'a> fmt::Display for Hint<'a> {
-    fn fmt<W: fmt::Write>(&self, f: &mut fmt::Formatter<W>) -> fmt::Result {
-        match self {
-            Hint::Text(text) => write!(f, "{text}"),
-            Hint::Bad { line, why } => write_bad(line, *why, f),
-            Hint::Near { word, near } => { write!(f, "no line begins with {word}: is it {near}?") }
-            Hint::Count { count, what } => match count.checked_sub(1) {
-                Some(last) => write!(f, "there are {count} {what}, from 0 to {last}"),
-                None => write!(f, "there are no {what}"),
-            },
-        }
+        ),
+        "tell" => counted(alloc, ending.sent_by_line, "datagrams of this tick"),
+        _ => counted(alloc, ending.sent, "datagrams that were sent"),
     }
 }
 
-/// Writes why a line is malformed, or out of place.
-fn write_bad<W: fmt::Write>(line: &str, why: BadLine, f: &mut fmt::Formatter<W>) -> fmt::Result {
-    let verb = first_word(line);
-    match why {
-        BadLine::NoText => write!(f, "it is no text in UTF-8"),
-        BadLine::Unknown => write!(f, "no line begins with {verb}"),
-        BadLine::Word { form, place, wrong } => write_word(line, form, place, wrong, f),
-        BadLine::BeforeStart => write!(f, "{verb} comes after cold"),
-        BadLine::AfterStart => write!(f, "{verb} comes before cold"),
-        BadLine::SecondStart => write!(f, "cold comes once"),
-        BadLine::NoRouter => write!(f, "{verb} comes after a router"),
-        BadLine::PastLastPrefix => write!(f, "the row goes on past the last prefix of its length"),
+/// How many there are to be named.
+fn counted(alloc: Global, count: usize, what: &str) -> Result<String, AllocError> {
+    match count.checked_sub(1) {
+        Some(last) => format!(in alloc; "there are {count} {what}, from 0 to {last}"),
+        None => format!(in alloc; "there are no {what}"),
     }
 }
 
-/// Writes what is wrong with the word at a place of a line.
-fn write_word<W: fmt::Write>(
+/// What is wrong with the word at a place of a line. Where a form repeats its last part, that is K.
+fn hint_of_word(
+    alloc: Global,
     line: &str,
     form: usize,
     place: usize,
     wrong: Wrong,
-    f: &mut fmt::Formatter<W>,
-) -> fmt::Result {
+) -> Result<String, AllocError> {
     let verb = first_word(line);
     let word = line.split(' ').nth(place).unwrap_or("");
+    let part = match words_of_form(form).split(' ').nth(place) {
+        Some("..") | None => "K",
+        Some(part) => part,
+    };
+    let (what, is) = match meaning(part) {
+        "" => ("it", part),
+        meaning => (part, meaning),
+    };
     match wrong {
-        Wrong::Differs => write!(f, "word {place} of {verb}: ")?,
-        Wrong::Missing => write!(f, "word {place} of {verb} is missing: ")?,
+        Wrong::Differs => format!(in alloc; "word {place} of {verb}: {what} is {is}"),
+        Wrong::Missing => format!(in alloc; "word {place} of {verb} is missing: {what} is {is}"),
         Wrong::TooMany => {
-            return write!(f, "a word is too many: the form is {}", words_of_form(form));
+            format!(in alloc; "a word is too many: the form is {}", words_of_form(form))
         }
-        Wrong::NoName => return write!(f, "word {place}: no router has the name {word}"),
-        Wrong::NoTime => return write!(f, "word {place}: no earlier line names a time"),
-        Wrong::TooLate => return write!(f, "word {place}: the last time is 2^60 milliseconds"),
-        Wrong::NotSent => return write!(f, "word {place}: fewer datagrams were sent"),
-    }
-    let part = part_at(form, place);
-    match meaning(part) {
-        "" => write!(f, "it is {part}"),
-        meaning => write!(f, "{part} is {meaning}"),
+        Wrong::NoName => format!(in alloc; "word {place}: no router has the name {word}"),
+        Wrong::NoTime => format!(in alloc; "word {place}: no earlier line names a time"),
+        Wrong::TooLate => format!(in alloc; "word {place}: the last time is 2^60 milliseconds"),
+        Wrong::NotSent => format!(in alloc; "word {place}: fewer datagrams were sent"),
     }
 }

@@ -3,14 +3,12 @@
 
 use crate::plan::addr_at;
 use crate::site::Network;
-use crate::words::name_of;
 use prefix6::{Addr6, Prefix};
 use ripng_wire::{Command, Rte, decode, encode};
 use ripng_world::{Event, Sent};
 use route_table::{Origin, Route, RouteStore};
 use router_core::{Arrival, Destination, MAX_HOP_LIMIT, RIPNG_PORT};
 use std::alloc::{AllocError, Global};
-use std::fmt;
 
 /// What a router advertises of a route on the link on which it learned it.
 #[derive(Clone, Copy, Debug, PartialEq, Eq)]
@@ -30,12 +28,6 @@ pub const HORIZONS: [(&str, Horizon); 3] = [
     ("poison", Horizon::Poison),
 ];
 
-impl fmt::Display for Horizon {
-    fn fmt<W: fmt::Write>(&self, f: &mut fmt::Formatter<W>) -> fmt::Result {
-        f.write_str(name_of(self, &HORIZONS))
-    }
-}
-
 /// The routers with another horizon than RIPng's.
 #[derive(Drop)]
 pub struct Horizons {
@@ -51,7 +43,7 @@ pub struct Advert {
     /// The address of the interface that sent it.
     source: Addr6,
     /// Its bytes; nothing comes if there are none.
-    bytes: Vec<u8>,
+    pub bytes: Vec<u8>,
 }
 
 impl Horizons {
@@ -71,13 +63,6 @@ impl Horizons {
         Ok(())
     }
 
-    fn of(&self, router: usize) -> Horizon {
-        match self.changed.iter().find(|(other, _)| *other == router) {
-            Some((_, horizon)) => *horizon,
-            None => Horizon::Poison,
-        }
-    }
-
     /// What comes in place of the datagrams from a number on, of routers with another horizon. Their tables are as they were when these
     /// were sent.
     pub fn adverts(
@@ -88,11 +73,11 @@ impl Horizons {
     ) -> Result<Vec<Advert>, AllocError> {
         let mut adverts = Vec::new(alloc);
         for (datagram, sent) in lab.sent().iter().enumerate().skip(first) {
-            let horizon = self.of(sent.router);
-            if horizon != Horizon::Poison
+            let changed = self.changed.iter().find(|(other, _)| *other == sent.router);
+            if let Some((_, horizon)) = changed
                 && let Some(router) = lab.router(sent.router)
                 && let Some(source) = addr_at(lab, sent.router, sent.iface)
-                && let Some(bytes) = bytes_by(alloc, horizon, router.routes(), sent)?
+                && let Some(bytes) = bytes_by(alloc, *horizon, router.routes(), sent)?
             {
                 adverts.push(Advert {
                     datagram,
@@ -110,11 +95,6 @@ impl Advert {
     /// What comes in place of a datagram, if something else does.
     pub fn at(adverts: &[Advert], datagram: usize) -> Option<&Advert> {
         adverts.iter().find(|advert| advert.datagram == datagram)
-    }
-
-    /// Whether nothing comes.
-    pub fn is_nothing(&self) -> bool {
-        self.bytes.is_empty()
     }
 
     /// The router of a delivery, and what comes to it, if it accepts that.

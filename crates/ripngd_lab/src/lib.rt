@@ -21,18 +21,15 @@ mod site;
 mod stop;
 mod watching;
 mod ways;
-mod words;
 
 pub use expecting::{Expected, Missed, meet};
 pub use forms::{BadLine, Wrong};
-pub use hints::{Hint, hint_of, lab_hinted};
+pub use hints::{hint_of, lab_hinted};
 pub use horizon::Horizon;
 pub use named::{Named, Names, names_of};
 pub use phase::MadePhases;
 pub use plan::addr_at;
-pub use printer::{
-    Choice, Ending, Printer, print_horizon, print_routes, print_sent, print_unmet, print_way,
-};
+pub use printer::{Ending, Printer, print_unmet};
 pub use script::{lab, watched};
 pub use site::{Network, Routes};
 pub use stop::{Refusal, RefusalName, Unmet};

@@ -1,19 +1,17 @@
 //! A line of a script: what it does, and what its words stand for.
 
-use crate::context::{Context, is_name, moment_after, number};
-use crate::forms::{BadLine, FORMS, Listed, Step, Verb, Wrong};
+use crate::context::{Context, are_bytes, is_name, moment_after, named, number, up_to};
+use crate::forms::{BadLine, FORMS, Step, Verb, Wrong};
 use crate::horizon::{HORIZONS, Horizon};
-use crate::listing::Listing;
 use crate::phase::{PHASES_LIMIT, end_of_phases};
 use crate::plan::{Ticking, Wave};
 use crate::stop::RefusalName;
 use crate::ways::{FATES, Fate};
-use crate::words::{are_bytes, if_so, named, prefix, split_off, up_to};
-use prefix6::{Addr6, Prefix, parse_addr};
+use prefix6::{Addr6, Prefix, parse_addr, parse_prefix};
 use ripng_wire::{Command, Rte, encode};
-use ripng_world::{Event, NetInterface};
+use ripng_world::Event;
 use route_table::{INFINITY, Moment};
-use router_core::{Arrival, Change, Interface, MAX_HOP_LIMIT, OWNED_LIMIT, RIPNG_PORT};
+use router_core::{Arrival, Change, MAX_HOP_LIMIT, OWNED_LIMIT, RIPNG_PORT};
 use std::alloc::{AllocError, Global};
 
 /// The most rounds of one line.
@@ -30,11 +28,11 @@ pub struct Line<'a> {
     pub text: &'a str,
     /// ADDR or SOURCE.
     pub addr: Addr6,
-    cost: u8,
-    mtu: u32,
+    pub cost: u8,
+    pub mtu: u32,
     pub link: u16,
     pub prefix: Prefix,
-    tag: u16,
+    pub tag: u16,
     /// TIMES, ROUNDS or PHASES.
     pub count: usize,
     pub now: Moment,
@@ -45,7 +43,7 @@ pub struct Line<'a> {
     hop_limit: u8,
     to_group: bool,
     command: Command,
-    word: u32,
+    pub word: u32,
     gap: u64,
     pub seed: u64,
     pub metric: Option<u8>,
@@ -119,7 +117,7 @@ impl<'a> Line<'a> {
         }
     }
 
-    /// Reads the words of a line by those of a form, up to the first that does not fit.
+    /// Reads the words of a line by those of a form, up to the first that does not fit. For K and TEXT all that are left are one.
     fn follow(&mut self, form: &str, text: &'a str, context: &Context) -> Result<(), Wrong> {
         let mut rest = Some(text);
         for part in form.split(' ') {
@@ -127,7 +125,10 @@ impl<'a> Line<'a> {
                 break;
             }
             let left = rest.ok_or(Wrong::Missing)?;
-            let (word, more) = split_off(part, left);
+            let (word, more) = match left.split_once(' ') {
+                Some((word, more)) if part != "K" && part != "TEXT" => (word, Some(more)),
+                _ => (left, None),
+            };
             self.take(part, word, context)?;
             rest = more;
             self.place = self.place.saturating_add(1);
@@ -177,23 +178,21 @@ impl<'a> Line<'a> {
     /// Reads a word as a part that is no number, or as itself.
     fn take_other(&mut self, part: &str, word: &'a str) -> Result<(), Wrong> {
         match part {
-            "NAME" => self.text = if_so(word, is_name(word) && word != "quiet")?,
+            "NAME" if is_name(word) && word != "quiet" => self.text = word,
+            "HEX" if word == "-" || are_bytes(word.as_bytes()) => self.text = word,
+            "NAME" | "HEX" => return Err(Wrong::Differs),
             "ADDR" | "SOURCE" => self.addr = parse_addr(word).map_err(|_| Wrong::Differs)?,
-            "PREFIX" => self.prefix = prefix(word)?,
+            "PREFIX" => self.prefix = parse_prefix(word).map_err(|_| Wrong::Differs)?,
             "ASKED" => {
                 self.command = Command::Request;
                 self.to_group = false;
                 self.metric = Some(INFINITY);
                 if word != "all" {
-                    self.prefix = prefix(word)?;
+                    self.prefix = parse_prefix(word).map_err(|_| Wrong::Differs)?;
                     self.metric = Some(0);
                 }
             }
-            "TO" => {
-                self.to_group = word == "group";
-                let _ = if_so(word, self.to_group || word == "peer")?;
-            }
-            "HEX" => self.text = if_so(word, word == "-" || are_bytes(word.as_bytes()))?,
+            "TO" => self.to_group = named(word, &[("group", true), ("peer", false)])?,
             "K" => self.take_places(word)?,
             "TEXT" => self.text = word,
             "METRIC" if word == "none" => self.metric = None,
@@ -201,9 +200,8 @@ impl<'a> Line<'a> {
             "FATE" => self.fate = named(word, &FATES)?,
             "HORIZON" => self.horizon = named(word, &HORIZONS)?,
             "REFUSAL" => self.refusal = Some(RefusalName::of(word).ok_or(Wrong::Differs)?),
-            literal => {
-                let _ = if_so(word, word == literal)?;
-            }
+            literal if literal == word => {}
+            _ => return Err(Wrong::Differs),
         }
         Ok(())
     }
@@ -216,26 +214,6 @@ impl<'a> Line<'a> {
         }
         self.text = words;
         Ok(())
-    }
-
-    /// What the line lists.
-    pub fn listing(&self, listed: Listed) -> Listing {
-        match listed {
-            Listed::Router { quiet } => Listing::Router { quiet },
-            Listed::Interface => Listing::Interface(NetInterface {
-                interface: Interface {
-                    addr: self.addr,
-                    cost: self.cost,
-                    mtu: self.mtu,
-                },
-                link: self.link,
-            }),
-            Listed::Prefixes => Listing::Prefixes {
-                first: self.prefix,
-                tag: self.tag,
-                count: self.count,
-            },
-        }
     }
 
     /// The event that the line makes happen at an interface of a router.
@@ -262,14 +240,6 @@ impl<'a> Line<'a> {
             Step::Cost => reconfigure(Change::Cost { iface, cost }),
             Step::Gain => reconfigure(Change::Own { prefix, tag }),
             Step::Drop => reconfigure(Change::Disown { prefix }),
-        }
-    }
-
-    /// The router of the line ticks.
-    pub fn ticking(&self) -> Ticking {
-        Ticking::One {
-            router: self.router,
-            word: self.word,
         }
     }
 

@@ -1,8 +1,6 @@
 //! What moves a network, with a report to the observer of the script: an event, a forged Response, waves of plans, rounds, phases.
 
-ghost use Rattle.std.specs.Prelude.{◌≡◌, ℕ, All, IfErr, IfOk, OnOk, Some, length};
-ghost use Rattle.ripng_phases.specs.Making.{AreMadePhases, HealsIn};
-ghost use Rattle.ripngd_lab.specs.Phasing.{IsStopAt, StopsInPhase};
+ghost use Rattle.std.specs.Prelude.{◌≡◌, All, IfOk, Some, length};
 ghost use Rattle.ripngd_lab.specs.ScriptWatching.{HasTold};
 
 use crate::course::Course;
@@ -10,15 +8,12 @@ use crate::forms::BadLine;
 use crate::horizon::Advert;
 use crate::plan::{Ticking, Wave};
 use crate::site::{Held, Routes};
-use crate::stop::{Outcome, Refusal, Stop};
+use crate::stop::{Outcome, Stop};
 use crate::watching::Watch;
-use rand_core::Rng;
-use ripng_phases::PhaseRefused;
 use ripng_world::{Event, Lab, Round, Stopped};
 use route_table::Moment;
 use router_core::Arrival;
 use std::alloc::{AllocError, Global};
-use std::io;
 
 /// The time of a round, and the time and the word of each router's tick, in order.
 type Ticks = (Moment, Vec<(Moment, u32)>);
@@ -67,13 +62,6 @@ impl Course {
         let ticks = wave.ticks(self.alloc, self.site.running().routers(), &self.outages)?;
         self.play(wave, None, &ticks, watch)?;
         self.unheard = self.sent();
-        self.deliver(wave, first, watch)
-    }
-
-    /// What was sent from a number on is delivered, datagram by datagram.
-    fn deliver<V: Watch>(&mut self, wave: &Wave<'_>, first: usize, watch: &mut V) -> Outcome
-        ensures { HasTold result V.starts V.takes V.fails V.notes (Some self.old.site, watch.old) (Some self.new.site, watch.new) }
-    {
         let end = self.sent();
         wave.check_lost(end.saturating_sub(first))?;
         let adverts = wave.adverts(self, first)?;
@@ -115,7 +103,7 @@ impl Course {
         let Some(advert) = advert else {
             return self.step(event, watch);
         };
-        if advert.is_nothing() {
+        if advert.bytes.is_empty() {
             return Ok(());
         }
         match advert.accepted(self.site.running(), event) {
@@ -134,13 +122,6 @@ impl Course {
         {
             return make_whole_rounds(self.alloc, lab, moments, watch);
         }
-        self.make_waves(moments, watch)
-    }
-
-    /// The rounds of these times, a wave each.
-    fn make_waves<V: Watch>(&mut self, moments: &[Moment], watch: &mut V) -> Outcome
-        ensures { HasTold result V.starts V.takes V.fails V.notes (Some self.old.site, watch.old) (Some self.new.site, watch.new) }
-    {
         for (round, now) in moments.iter().enumerate() {
             let wave = Wave {
                 ticking: Ticking::Due { round },
@@ -163,7 +144,12 @@ fn make_whole_rounds<V: Watch>(
     ensures { HasTold result V.starts V.takes V.fails V.notes (Some lab.old, watch.old) (Some lab.new, watch.new) }
 {
     let ticks = ticks_at(alloc, lab.routers(), moments)?;
-    let rounds = rounds_of(alloc, &ticks)?;
+    let rounds = ticks.iter().map(|(now, ticks)| Round {
+        ticks,
+        picks: &[],
+        rest: *now,
+    });
+    let rounds: Vec<Round<'_>> = rounds.collect(alloc)?;
     match lab.run_rounds_watched(&rounds, watch) {
         Ok(()) => Ok(()),
         Err(Stopped::Refused(why)) => Err(Stop::from(why)),
@@ -180,50 +166,4 @@ fn ticks_at(alloc: Global, routers: usize, moments: &[Moment]) -> Result<Vec<Tic
         ticks.push((*now, vec![in alloc; (*now, 0); routers]?))?;
     }
     Ok(ticks)
-}
-
-/// The rounds of these ticks, each with no picks.
-fn rounds_of<'a>(alloc: Global, ticks: &'a [Ticks]) -> Result<Vec<Round<'a>>, AllocError>
-    ensures { IfOk result (λ rounds. (routers : ℕ) → All (λ t. length t.1.items ≡ routers) ticks.now → All (λ r. length r.ticks ≡ routers) rounds.items) }
-{
-    let mut rounds = Vec::new(alloc);
-    for (now, ticks) in ticks {
-        rounds.push(Round {
-            ticks,
-            picks: &[],
-            rest: *now,
-        })?;
-    }
-    Ok(rounds)
-}
-
-/// Phases are made at random, and heal as [`ripng_phases::run_phases`] has it. Says in which of them some table last changed.
-pub fn run_phases<V: Watch, R: Rng>(
-    alloc: Global,
-    lab: &mut Lab<Routes>,
-    phases: usize,
-    rng: &mut R,
-    watch: &mut V,
-) -> Result<Option<usize>, Stop>
-    ensures told { HasTold result V.starts V.takes V.fails V.notes (Some lab.old, watch.old) (Some lab.new, watch.new) }
-    ensures made { IfOk result (λ last. AreMadePhases V.takes lab.old.network (lab.old.world, watch.old) phases last (lab.new.world, watch.new)) }
-    ensures heals { OnOk result (HealsIn lab.old.network lab.old.world phases lab.new.world) }
-    ensures stopped { IfErr result (λ stop. StopsInPhase V.takes V.fails (lab.old, watch.old) stop (lab.new, watch.new)) }
-{
-    let (phase, outcome) = ripng_phases::run_phases(alloc, lab, phases, rng, watch);
-    match outcome {
-        Ok(last) => Ok(last),
-        Err(why) => Err(stop_at(phase, why)),
-    }
-}
-
-/// What a script says where phases stop in the one of that number.
-fn stop_at(phase: usize, why: Stopped<PhaseRefused, io::Error>) -> Stop
-    ensures { IsStopAt phase why result }
-{
-    match why {
-        Stopped::Refused(PhaseRefused::OutOfMemory) => Stop::Failed(io::Error::from(AllocError)),
-        Stopped::Refused(refused) => Stop::Refused(Refusal::Phases { phase, refused }),
-        Stopped::Failed(error) => Stop::Failed(error),
-    }
 }

@@ -2,7 +2,7 @@
 //! `rounds`, `tell` and `hear` would do, let no `phases` be, and hold back nothing that a line says of one datagram or of one
 //! router; what is lost comes to nobody.
 
-ghost use Rattle.std.specs.Prelude.{◌≡◌, ◌++◌, ◌∷◌, [], false, true, IsFalse, IsTrue, OnErr, OnOk};
+ghost use Rattle.std.specs.Prelude.{◌≡◌, false, true, IsFalse, IsTrue, OnErr, OnOk};
 ghost use Rattle.ripng_world.specs.Events.{event_of};
 ghost use Rattle.ripngd_lab.specs.Losing.{brings_lost, is_lost};
 ghost use Rattle.ripngd_lab.specs.Phasing.{AllTakePart};
@@ -16,11 +16,11 @@ use std::alloc::{AllocError, Global};
 #[derive(Drop)]
 pub struct Outages {
     /// Routers, by number.
-    silent: Vec<usize>,
+    pub silent: Vec<usize>,
     /// Links, by number.
-    cut: Vec<u16>,
+    pub cut: Vec<usize>,
     /// Datagrams, by number.
-    lost: Vec<usize>,
+    pub lost: Vec<usize>,
 }
 
 impl Outages {
@@ -52,31 +52,7 @@ impl Outages {
     pub fn is_cut(&self, link: u16) -> bool
         ensures { result ≡ is_cut self.now link }
     {
-        self.cut.iter().any(|cut| *cut == link)
-    }
-
-    /// A router takes no part from now on, or takes part again.
-    pub fn set_silent(&mut self, router: usize, silent: bool) -> Result<(), AllocError>
-        ensures { OnOk result (self.new.silent.items ≡ with_member silent router self.old.silent.items) }
-    {
-        self.silent.retain(|other| *other != router);
-        if silent {
-            self.silent.push(router)?;
-            return Ok(());
-        }
-        Ok(())
-    }
-
-    /// Nothing crosses a link from now on, or all does again.
-    pub fn set_cut(&mut self, link: u16, cut: bool) -> Result<(), AllocError>
-        ensures { OnOk result (self.new.cut.items ≡ with_member cut link self.old.cut.items) }
-    {
-        self.cut.retain(|other| *other != link);
-        if cut {
-            self.cut.push(link)?;
-            return Ok(());
-        }
-        Ok(())
+        self.cut.iter().any(|cut| *cut == usize::from(link))
     }
 
     /// Whether a datagram is lost.
@@ -84,13 +60,6 @@ impl Outages {
         ensures { result ≡ is_lost self.now.lost.items datagram }
     {
         self.lost.iter().any(|lost| *lost == datagram)
-    }
-
-    /// A datagram is lost from now on.
-    pub fn lose(&mut self, datagram: usize) -> Result<(), AllocError>
-        ensures { OnOk result (self.new.lost.items ≡ self.old.lost.items ++ datagram ∷ []) }
-    {
-        Ok(self.lost.push(datagram)?)
     }
 
     /// An event brings no datagram that is lost, else `DatagramLost`.
@@ -105,4 +74,16 @@ impl Outages {
             _ => Ok(()),
         }
     }
+}
+
+/// What is of that number is among all of these from now on, or is not.
+pub fn set_member(members: &mut Vec<usize>, member: usize, is_in: bool) -> Result<(), AllocError>
+    ensures { OnOk result (members.new.items ≡ with_member is_in member members.old.items) }
+{
+    members.retain(|other| *other != member);
+    if is_in {
+        members.push(member)?;
+        return Ok(());
+    }
+    Ok(())
 }

@@ -2,22 +2,21 @@
 
 ghost use Rattle.std.specs.Prelude.{IfErr, OnOk, Some};
 ghost use Rattle.ripng_phases.specs.Making.{HealsIn};
-ghost use Rattle.ripngd_lab.specs.Phasing.{AllTakePart, AreMadeAndCounted, StopsPhases};
+ghost use Rattle.ripngd_lab.specs.Phasing.{AllTakePart, AreMadeAndCounted, IsStopAt, StopsPhases};
 ghost use Rattle.ripngd_lab.specs.ScriptWatching.{HasTold};
 
-use crate::context::moment_after;
-use crate::moving::run_phases;
+use crate::context::{OrNone, moment_after};
 use crate::outages::Outages;
 use crate::site::{Network, Routes};
 use crate::stop::{Outcome, Refusal, Stop};
 use crate::watching::{Notice, Watch};
-use crate::words::OrNone;
 use rand_core::SeedableRng;
 use rand_pcg::Pcg32;
-use ripng_world::Lab;
+use ripng_phases::{PhaseRefused, run_phases};
+use ripng_world::{Lab, Stopped};
 use route_table::Moment;
-use std::alloc::Global;
-use std::fmt;
+use std::alloc::{AllocError, Global};
+use std::{fmt, io};
 
 /// The most phases of one line.
 pub const PHASES_LIMIT: usize = 1000;
@@ -80,6 +79,20 @@ pub fn make_phases<V: Watch>(
         return Err(Stop::Refused(Refusal::Outage));
     }
     let mut rng = Pcg32::seed_from_u64(seed);
-    let last = run_phases(alloc, lab, phases, &mut rng, watch)?;
-    Ok(watch.noticed(Notice::Phases(MadePhases { phases, last }))?)
+    let (phase, outcome) = run_phases(alloc, lab, phases, &mut rng, watch);
+    match outcome {
+        Ok(last) => Ok(watch.noticed(Notice::Phases(MadePhases { phases, last }))?),
+        Err(why) => Err(stop_at(phase, why)),
+    }
+}
+
+/// What a script says where phases stop in the one of that number.
+fn stop_at(phase: usize, why: Stopped<PhaseRefused, io::Error>) -> Stop
+    ensures { IsStopAt phase why result }
+{
+    match why {
+        Stopped::Refused(PhaseRefused::OutOfMemory) => Stop::Failed(io::Error::from(AllocError)),
+        Stopped::Refused(refused) => Stop::Refused(Refusal::Phases { phase, refused }),
+        Stopped::Failed(error) => Stop::Failed(error),
+    }
 }

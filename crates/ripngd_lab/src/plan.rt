@@ -4,7 +4,7 @@
 ghost use Rattle.std.specs.Prelude.{◌≡◌, IfOk, map};
 ghost use Rattle.ripng_world.specs.AskedRounds.{is_other};
 ghost use Rattle.ripng_world.specs.Events.{event_of};
-ghost use Rattle.ripngd_lab.specs.Plans.{addr_at, all_ticks, first_of, is_meant, is_on_cut, reaches, takes_part, ticks_of};
+ghost use Rattle.ripngd_lab.specs.Plans.{addr_at, all_ticks, first_of, is_meant, reaches, takes_part, ticks_of};
 
 use crate::context::number;
 use crate::course::Course;
@@ -50,13 +50,11 @@ impl<'a> Wave<'a> {
     ) -> Result<Vec<Event<'static>>, AllocError>
         ensures { IfOk result (λ ticks. map event_of ticks.items ≡ ticks_of self.now outages.now routers) }
     {
+        let now = self.moment;
         match self.ticking {
             Ticking::Nobody => Ok(Vec::new(alloc)),
-            Ticking::One { router, word } => {
-                let now = self.moment;
-                Ok(vec![in alloc; Event::Tick { router, now, word }]?)
-            }
-            Ticking::All | Ticking::Due { .. } => all_ticks(alloc, routers, self.moment, outages),
+            Ticking::One { router, word } => Ok(vec![in alloc; Event::Tick { router, now, word }]?),
+            Ticking::All | Ticking::Due { .. } => all_ticks(alloc, routers, now, outages),
         }
     }
 
@@ -71,11 +69,13 @@ impl<'a> Wave<'a> {
         }
     }
 
-    /// A tick of a round comes only when the regular update of its router is due, else `NoRegularUpdate`.
+    /// A tick of a round comes only when the regular update of its router is due, at its time or at the last one of the router, else
+    /// `NoRegularUpdate`.
     pub fn check(&self, lab: &Network, event: &Event<'_>) -> Outcome {
         if let Ticking::Due { round } = self.ticking
             && let &Event::Tick { router, now, .. } = event
-            && !is_due(lab, router, now)
+            && let Some(ticking) = lab.router(router)
+            && !ticking.regular().reached(now.max(ticking.last()))
         {
             return Err(Stop::from(RoundsRefused::NoRegularUpdate { round, router }));
         }
@@ -90,10 +90,6 @@ impl<'a> Wave<'a> {
             }
         }
         Ok(())
-    }
-
-    fn loses(&self, place: usize) -> bool {
-        self.lost.split(' ').any(|word| number(word) == Ok(place))
     }
 
     /// What comes in place of datagrams of the wave, of routers that are none of RIPng: of those that tick in it.
@@ -119,7 +115,9 @@ impl<'a> Wave<'a> {
         let Some(sent) = lab.sent().get(datagram) else {
             return Ok(events);
         };
-        if self.loses(datagram.saturating_sub(first)) || outages.is_lost(datagram) {
+        let place = datagram.saturating_sub(first);
+        let mut lost = self.lost.split(' ');
+        if outages.is_lost(datagram) || lost.any(|word| number(word) == Ok(place)) {
             return Ok(events);
         }
         for place in 0..lab.routers().saturating_mul(INTERFACE_LIMIT) {
@@ -160,12 +158,6 @@ fn all_ticks(
     Ok(ticks)
 }
 
-/// Whether the regular update of a router is due, at this time or at the last one of the router.
-fn is_due(lab: &Network, router: usize, now: Moment) -> bool {
-    lab.router(router)
-        .is_some_and(|router| router.regular().reached(now.max(router.last())))
-}
-
 /// Whether a datagram reaches an interface: another one of its link, where all take part and it is meant.
 fn reaches(lab: &Network, outages: &Outages, sent: &Sent, router: usize, iface: usize) -> bool
     ensures { result ≡ reaches outages.now lab.now sent.now router iface }
@@ -191,17 +183,9 @@ fn is_other(lab: &Network, sent: &Sent, router: usize, iface: usize) -> bool
 fn takes_part(lab: &Network, outages: &Outages, sent: &Sent, router: usize) -> bool
     ensures { result ≡ takes_part outages.now lab.now sent.now router }
 {
-    !outages.is_silent(sent.router) && !outages.is_silent(router) && !is_on_cut(lab, outages, sent)
-}
-
-/// Whether the link of a datagram is cut.
-fn is_on_cut(lab: &Network, outages: &Outages, sent: &Sent) -> bool
-    ensures { result ≡ is_on_cut outages.now lab.now sent.now }
-{
-    match lab.link(sent.router, sent.iface) {
-        Some(link) => outages.is_cut(link),
-        None => false,
-    }
+    let link = lab.link(sent.router, sent.iface);
+    let is_on_cut = link.is_some_and(|link| outages.is_cut(link));
+    !outages.is_silent(sent.router) && !outages.is_silent(router) && !is_on_cut
 }
 
 /// Whether a datagram is for an interface: one to an asker is for that of its address alone.
@@ -210,10 +194,9 @@ fn is_meant(lab: &Network, to: Destination, router: usize, iface: usize) -> bool
 {
     match to {
         Destination::Group => true,
-        Destination::Peer { addr, .. } => match addr_at(lab, router, iface) {
-            Some(own) => own == addr,
-            None => false,
-        },
+        Destination::Peer { addr, .. } => {
+            addr_at(lab, router, iface).is_some_and(|own| own == addr)
+        }
     }
 }
 

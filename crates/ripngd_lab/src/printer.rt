@@ -2,17 +2,17 @@
 
 ghost use Rattle.std.specs.Prelude.{⊤};
 
-use crate::horizon::Horizon;
+use crate::context::{OrNone, name_of};
+use crate::horizon::{HORIZONS, Horizon};
 use crate::named::{Named, Names};
 use crate::site::{Network, Routes};
 use crate::stop::{Refusal, Unmet};
 use crate::watching::{Notice, Watch};
-use crate::ways::{Obstacle, Way};
-use crate::words::OrNone;
+use crate::ways::{FATES, Obstacle, Way};
 use prefix6::Prefix;
 use ripng_world::{Event, PathEnd};
 use route_table::{Moment, Origin, Route, RouteStore};
-use router_core::{Answer, Destination, Router};
+use router_core::{Answer, Destination};
 use std::alloc::Global;
 use std::io::{self, Write};
 
@@ -50,6 +50,108 @@ impl<'a, W: Write> Printer<'a, W> {
             line: 0,
             ending: None,
             out,
+        }
+    }
+
+    /// Writes the routes of a router, or of all, to a prefix, or to all, in the order of routers, then of addresses, then of lengths.
+    fn print_routes(
+        &mut self,
+        lab: &Network,
+        router: Option<usize>,
+        prefix: Option<&Prefix>,
+    ) -> io::Result<()> {
+        for number in 0..lab.routers() {
+            if router.is_none_or(|asked| asked == number)
+                && let Some(router) = lab.router(number)
+            {
+                self.print_table(self.names.of(number), router.routes(), prefix)?;
+            }
+        }
+        Ok(())
+    }
+
+    /// Writes the routes of one table, to a prefix, or to all.
+    fn print_table(
+        &mut self,
+        name: Named<'_>,
+        routes: &Routes,
+        asked: Option<&Prefix>,
+    ) -> io::Result<()> {
+        let mut last = None;
+        for _ in 0..routes.len() {
+            let Some(entry) = routes.walk(last) else {
+                break;
+            };
+            self.print_route(name, asked, entry.0, entry.1)?;
+            last = Some(entry.0);
+        }
+        Ok(())
+    }
+
+    /// Writes the line of a route, if its prefix is asked for, or none is.
+    fn print_route(
+        &mut self,
+        name: Named<'_>,
+        asked: Option<&Prefix>,
+        prefix: Prefix,
+        route: Route,
+    ) -> io::Result<()> {
+        if asked.is_some_and(|asked| *asked != prefix) {
+            return Ok(());
+        }
+        let (metric, tag) = (route.metric(), route.tag());
+        write!(self.out, "{name} {prefix} metric {metric} tag {tag} ")?;
+        match route.origin() {
+            Origin::Own => writeln!(self.out, "own"),
+            Origin::Learned {
+                iface,
+                from,
+                next_hop,
+            } => writeln!(self.out, "via {next_hop} iface {iface} from {from}"),
+        }
+    }
+
+    /// Writes the datagram of that number, or all that were ever sent, in order.
+    fn print_sent(&mut self, lab: &Network, asked: Option<usize>) -> io::Result<()> {
+        for (number, sent) in lab.sent().iter().enumerate() {
+            if asked.is_some_and(|asked| asked != number) {
+                continue;
+            }
+            let hex = hex::encode(self.alloc, sent.bytes.as_slice())?;
+            let (router, iface) = (self.names.of(sent.router), sent.iface);
+            write!(self.out, "{number} router {router} iface {iface} ")?;
+            match sent.to {
+                Destination::Group => write!(self.out, "group ")?,
+                Destination::Peer { addr, port } => write!(self.out, "peer {addr} {port} ")?,
+            }
+            writeln!(self.out, "{hex}")?;
+        }
+        Ok(())
+    }
+
+    /// Writes the lines of a way.
+    fn print_way(&mut self, way: &Way) -> io::Result<()> {
+        let (from, addr) = (self.names.of(way.router), way.addr);
+        write!(self.out, "{from} {addr} path {from}")?;
+        for hop in way.path.hops.iter() {
+            write!(self.out, " {}", self.names.of(hop.router))?;
+        }
+        match way.path.end {
+            PathEnd::Delivered => writeln!(self.out, " delivered")?,
+            PathEnd::NoRoute => writeln!(self.out, " no route")?,
+            PathEnd::NextHopIsNobodys => writeln!(self.out, " next hop is nobody's")?,
+            PathEnd::Loops { from } => writeln!(self.out, " loops from {}", self.names.of(from))?,
+        }
+        match way.obstacle {
+            Some(Obstacle::CutLink { router, link }) => {
+                let at = self.names.of(router);
+                writeln!(self.out, "{from} {addr} lost at {at}: link {link} is cut")
+            }
+            Some(Obstacle::SilentRouter { router }) => {
+                let at = self.names.of(router);
+                writeln!(self.out, "{from} {addr} lost at {at}: silent")
+            }
+            None => Ok(()),
         }
     }
 }
@@ -98,13 +200,16 @@ impl<'a, W: Write> Watch for Printer<'a, W> {
 
     fn noticed(&mut self, notice: Notice<'_>) -> io::Result<()> {
         match notice {
-            Notice::Routes(lab, choice) => print_routes(self.names, lab, &choice, self.out),
-            Notice::Datagrams(lab, asked) => {
-                print_sent(self.alloc, self.names, lab, asked, self.out)
-            }
-            Notice::Way(way) => print_way(self.names, &way, self.out),
+            Notice::Routes(lab, router, prefix) => self.print_routes(lab, router, prefix),
+            Notice::Datagrams(lab, asked) => self.print_sent(lab, asked),
+            Notice::Way(way) => self.print_way(&way),
             Notice::Horizon { router, horizon } => {
-                print_horizon(self.names, router, horizon, self.out)
+                let (router, name) = (self.names.of(router), name_of(&horizon, &HORIZONS));
+                let words = match horizon {
+                    Horizon::Poison => "as RIPng, but nothing is promised",
+                    _ => "not RIPng, nothing is promised",
+                };
+                writeln!(self.out, "{router} horizon {name}: {words}")
             }
             Notice::Said(text) => writeln!(self.out, "{text}"),
             Notice::Lost(_) | Notice::Rounds(_) => Ok(()),
@@ -120,156 +225,6 @@ impl<'a, W: Write> Watch for Printer<'a, W> {
             }
         }
     }
-}
-
-/// Which routes are asked for.
-#[derive(Clone, Copy, Debug, PartialEq, Eq)]
-pub struct Choice {
-    /// Those of this router alone, or of all.
-    pub router: Option<usize>,
-    /// Those to this prefix alone, or to all.
-    pub prefix: Option<Prefix>,
-}
-
-/// Writes the routes that are asked for, router by router, in the order of address, then length.
-///
-/// # Errors
-/// Of the writer.
-pub fn print_routes<W: Write>(
-    names: Names<'_>,
-    lab: &Network,
-    choice: &Choice,
-    out: &mut W,
-) -> io::Result<()> {
-    for number in 0..lab.routers() {
-        if choice.router.is_none_or(|asked| asked == number)
-            && let Some(router) = lab.router(number)
-        {
-            print_table(names.of(number), router, choice, out)?;
-        }
-    }
-    Ok(())
-}
-
-/// Writes the routes of one router that are asked for.
-fn print_table<W: Write>(
-    name: Named<'_>,
-    router: &Router<Routes>,
-    choice: &Choice,
-    out: &mut W,
-) -> io::Result<()> {
-    let routes = router.routes();
-    let mut last = None;
-    for _ in 0..routes.len() {
-        let Some(entry) = routes.walk(last) else {
-            break;
-        };
-        print_route(name, choice, entry.0, entry.1, out)?;
-        last = Some(entry.0);
-    }
-    Ok(())
-}
-
-/// Writes the line of a route, if it is asked for.
-fn print_route<W: Write>(
-    name: Named<'_>,
-    choice: &Choice,
-    prefix: Prefix,
-    route: Route,
-    out: &mut W,
-) -> io::Result<()> {
-    if choice.prefix.is_some_and(|asked| asked != prefix) {
-        return Ok(());
-    }
-    let metric = route.metric();
-    let tag = route.tag();
-    match route.origin() {
-        Origin::Own => writeln!(out, "{name} {prefix} metric {metric} tag {tag} own"),
-        Origin::Learned {
-            iface,
-            from,
-            next_hop,
-        } => writeln!(
-            out,
-            "{name} {prefix} metric {metric} tag {tag} via {next_hop} iface {iface} from {from}"
-        ),
-    }
-}
-
-/// Writes the datagram of that number, or all that were ever sent, in order.
-///
-/// # Errors
-/// Of the writer, or out of memory.
-pub fn print_sent<W: Write>(
-    alloc: Global,
-    names: Names<'_>,
-    lab: &Network,
-    asked: Option<usize>,
-    out: &mut W,
-) -> io::Result<()> {
-    for (number, sent) in lab.sent().iter().enumerate() {
-        if asked.is_some_and(|asked| asked != number) {
-            continue;
-        }
-        let hex = hex::encode(alloc, sent.bytes.as_slice())?;
-        let (router, iface) = (names.of(sent.router), sent.iface);
-        write!(out, "{number} router {router} iface {iface} ")?;
-        match sent.to {
-            Destination::Group => write!(out, "group ")?,
-            Destination::Peer { addr, port } => write!(out, "peer {addr} {port} ")?,
-        }
-        writeln!(out, "{hex}")?;
-    }
-    Ok(())
-}
-
-/// Writes the lines of a way.
-///
-/// # Errors
-/// Of the writer.
-pub fn print_way<W: Write>(names: Names<'_>, way: &Way, out: &mut W) -> io::Result<()> {
-    let (from, addr) = (names.of(way.router), way.addr);
-    write!(out, "{from} {addr} path {from}")?;
-    for hop in way.path.hops.iter() {
-        write!(out, " {}", names.of(hop.router))?;
-    }
-    match way.path.end {
-        PathEnd::Delivered => writeln!(out, " delivered")?,
-        PathEnd::NoRoute => writeln!(out, " no route")?,
-        PathEnd::NextHopIsNobodys => writeln!(out, " next hop is nobody's")?,
-        PathEnd::Loops { from } => writeln!(out, " loops from {}", names.of(from))?,
-    }
-    match way.obstacle {
-        Some(Obstacle::CutLink { router, link }) => {
-            writeln!(
-                out,
-                "{from} {addr} lost at {}: link {link} is cut",
-                names.of(router)
-            )
-        }
-        Some(Obstacle::SilentRouter { router }) => {
-            writeln!(out, "{from} {addr} lost at {}: silent", names.of(router))
-        }
-        None => Ok(()),
-    }
-}
-
-/// Writes the line of a router that has another horizon from now on.
-///
-/// # Errors
-/// Of the writer.
-pub fn print_horizon<W: Write>(
-    names: Names<'_>,
-    router: usize,
-    horizon: Horizon,
-    out: &mut W,
-) -> io::Result<()> {
-    let router = names.of(router);
-    let words = match horizon {
-        Horizon::Poison => "as RIPng, but nothing is promised",
-        _ => "not RIPng, nothing is promised",
-    };
-    writeln!(out, "{router} horizon {horizon}: {words}")
 }
 
 /// Writes what is not as a line expects, as it stands after `line L `, without the end of the line.
@@ -291,6 +246,7 @@ pub fn print_unmet<W: Write>(names: Names<'_>, unmet: &Unmet, out: &mut W) -> io
             found,
         } => {
             let router = names.of(*router);
+            let (expected, found) = (name_of(expected, &FATES), name_of(found, &FATES));
             write!(
                 out,
                 "expected path {router} {addr} {expected} found {found}"

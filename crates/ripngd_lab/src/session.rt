@@ -5,7 +5,7 @@ ghost use Rattle.ripngd_lab.specs.Asides.{Broken};
 ghost use Rattle.ripngd_lab.specs.ScriptWatching.{HasTold, StartsAt, has_failed, lab_in};
 
 use crate::context::Context;
-use crate::course::Course;
+use crate::course::{Course, check_named};
 use crate::forms::{Action, BadLine, Listed, Verb};
 use crate::line::{Line, read_line};
 use crate::listing::list;
@@ -14,7 +14,7 @@ use crate::printer::Ending;
 use crate::site::Routes;
 use crate::stop::{Outcome, Refusal, RefusalName, Stop};
 use crate::watching::Watch;
-use ripng_world::{Lab, NetConfig, Node};
+use ripng_world::{Lab, LabError, NetConfig, Node};
 use route_table::Moment;
 use std::alloc::Global;
 use std::mem;
@@ -91,10 +91,10 @@ impl Session {
         if self.course.is_some() {
             return Err(Stop::from(BadLine::AfterStart));
         }
-        if matches!(listed, Listed::Router { .. }) {
+        if matches!(listed, Listed::Router(_)) {
             self.context.name_next(alloc, line.text)?;
         }
-        list(alloc, &mut self.nodes, &line.listing(listed))
+        list(alloc, &mut self.nodes, listed, line)
     }
 
     /// The routers start.
@@ -140,7 +140,8 @@ impl Session {
     fn bend<V: Watch>(&mut self, line: &Line<'_>, watch: &mut V) -> Outcome
         ensures { HasTold result V.starts V.takes V.fails V.notes (lab_in self.old.course, watch.old) (lab_in self.new.course, watch.new) }
     {
-        self.running()?.check_router(Some(line.router))?;
+        let routers = self.running()?.site.running().routers();
+        check_named(Some(line.router), routers, LabError::NoSuchRouter)?;
         self.give_up();
         match &mut self.course {
             Some(course) => course.bend(line, watch),
@@ -166,21 +167,14 @@ impl Session {
     fn give_up(&mut self)
         ensures { lab_in self.new.course ≡ lab_in self.old.course }
     {
-        self.course = lied(self.course.take());
+        if let Some(mut course) = self.course.take() {
+            course.site = course.site.lied();
+            self.course = Some(course);
+        }
     }
 }
 
-/// The same network, of which no lab is left.
-fn lied(course: Option<Course>) -> Option<Course>
-    ensures { lab_in result ≡ lab_in course }
-{
-    match course {
-        Some(course) => Some(course.lied()),
-        None => None,
-    }
-}
-
-/// The routers of a network start at one time, which the observer is notified of.
+/// A network is checked, and its routers start at one time, which the observer is notified of.
 fn begin_lab<V: Watch>(
     alloc: Global,
     nodes: Vec<Node>,
@@ -190,16 +184,9 @@ fn begin_lab<V: Watch>(
     ensures started { IfOk result (λ lab. StartsAt lab now × V.starts watch.old lab now watch.new) }
     ensures untold { OnErr result (watch.new ≡ watch.old ⊎ has_failed result ≡ true × V.notes watch.old Broken watch.new) }
 {
-    let lab = start(alloc, nodes, now)?;
-    watch.started(lab.running(), now)?;
-    Ok(lab)
-}
-
-/// Checks the network and starts its routers at one time.
-fn start(alloc: Global, nodes: Vec<Node>, now: Moment) -> Result<Lab<Routes>, Stop>
-    ensures { IfOk result (λ lab. StartsAt lab now) }
-{
     let moments = vec![in alloc; now; nodes.len()]?;
     let network = NetConfig::check(alloc, nodes)?;
-    Ok(Lab::cold(alloc, network, moments.as_slice())?)
+    let lab = Lab::cold(alloc, network, moments.as_slice())?;
+    watch.started(lab.running(), now)?;
+    Ok(lab)
 }

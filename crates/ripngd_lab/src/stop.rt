@@ -79,20 +79,18 @@ const NAMES: &str = "BadLine NoSuchLink DatagramLost Outage LiedTo NoSuchRouter 
 
 /// The name of a refusal, by its place among all.
 #[derive(Clone, Copy, Debug, PartialEq, Eq)]
-pub struct RefusalName {
-    place: usize,
-}
+pub struct RefusalName(usize);
 
 impl RefusalName {
     /// The name that a word is, if it is one.
     pub fn of(word: &str) -> Option<RefusalName> {
         let place = NAMES.split(' ').position(|name| name == word)?;
-        Some(RefusalName { place })
+        Some(RefusalName(place))
     }
 
     /// The name, one word.
     pub fn word(self) -> &'static str {
-        NAMES.split(' ').nth(self.place).unwrap_or("")
+        NAMES.split(' ').nth(self.0).unwrap_or("")
     }
 }
 

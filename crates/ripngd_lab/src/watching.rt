@@ -8,10 +8,11 @@ ghost use Rattle.ripngd_lab.specs.Notices.{aside_of};
 
 use crate::horizon::Horizon;
 use crate::phase::MadePhases;
-use crate::printer::{Choice, Ending};
+use crate::printer::Ending;
 use crate::site::{Network, Routes};
 use crate::stop::Unmet;
 use crate::ways::Way;
+use prefix6::Prefix;
 use ripng_world::Event;
 use route_table::Moment;
 use router_core::Answer;
@@ -20,8 +21,8 @@ use std::io;
 /// What a line did, beside events.
 #[derive(Drop)]
 pub enum Notice<'a> {
-    /// `print` asks for these routes.
-    Routes(&'a Network, Choice),
+    /// `print` asks for the routes of this router, or of all, to this prefix, or to all.
+    Routes(&'a Network, Option<usize>, Option<&'a Prefix>),
     /// `sent` asks for the datagram of that number, or for all.
     Datagrams(&'a Network, Option<usize>),
     /// `path`: where packets go.

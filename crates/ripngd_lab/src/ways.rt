@@ -8,10 +8,8 @@ ghost use Rattle.ripngd_lab.specs.Ways.{fate_of};
 use crate::outages::Outages;
 use crate::site::Network;
 use crate::stop::Stop;
-use crate::words::name_of;
 use prefix6::Addr6;
 use ripng_world::{Path, PathEnd};
-use std::fmt;
 
 /// What becomes of packets.
 #[derive(Clone, Copy, Debug, PartialEq, Eq)]
@@ -30,12 +28,6 @@ pub const FATES: [(&str, Fate); 3] = [
     ("loops", Fate::Loops),
     ("lost", Fate::Lost),
 ];
-
-impl fmt::Display for Fate {
-    fn fmt<W: fmt::Write>(&self, f: &mut fmt::Formatter<W>) -> fmt::Result {
-        f.write_str(name_of(self, &FATES))
-    }
-}
 
 /// Why packets get no further than a router, though its table forwards them.
 #[derive(Clone, Copy, Debug, PartialEq, Eq)]
@@ -92,24 +84,16 @@ impl Way {
 fn obstacle_on(lab: &Network, outages: &Outages, from: usize, path: &Path) -> Option<Obstacle> {
     let mut router = from;
     for hop in path.hops.iter() {
-        let obstacle = silence_at(outages, router).or(cut_at(lab, outages, router, hop.iface));
-        if obstacle.is_some() {
-            return obstacle;
+        if outages.is_silent(router) {
+            break;
+        }
+        if let Some(link) = lab.link(router, hop.iface)
+            && outages.is_cut(link)
+        {
+            return Some(Obstacle::CutLink { router, link });
         }
         router = hop.router;
     }
-    silence_at(outages, router)
-}
-
-/// The obstacle that a silent router is.
-fn silence_at(outages: &Outages, router: usize) -> Option<Obstacle> {
     let is_silent = outages.is_silent(router);
     is_silent.then_some(Obstacle::SilentRouter { router })
-}
-
-/// The obstacle that a cut link is, where an interface is on one.
-fn cut_at(lab: &Network, outages: &Outages, router: usize, iface: usize) -> Option<Obstacle> {
-    let link = lab.link(router, iface)?;
-    let is_cut = outages.is_cut(link);
-    is_cut.then_some(Obstacle::CutLink { router, link })
 }

@@ -4,17 +4,17 @@ use Rattle.ripngd_lab.specs.declared.stop.Stop.TheVariants.{Refused}
 use Rattle.ripngd_lab.proofs.ScriptWatching.{untold, has_told, given_ok}
 use Rattle.ripngd_lab.proofs.course.Course.lose.Goals as goal
 
-pub returns-in_err-check_datagram-clause-told : goal.returns-in_err-check_datagram-clause-told
-returns-in_err-check_datagram-clause-told g c =
+pub returns-in_err-check_named-clause-told : goal.returns-in_err-check_named-clause-told
+returns-in_err-check_named-clause-told g c =
     has_told g.V.Watch.starts g.V.Observer.takes g.V.Observer.fails g.V.Watch.notes c.from_residual.result (Some c.args.self.now.site, c.args.watch.now) (Some c.args.self.now.site, c.args.watch.now) (untold g.V.Watch.starts g.V.Observer.takes g.V.Observer.fails g.V.Watch.notes (Some c.args.self.now.site, c.args.watch.now))
 
 pub returns-then-is_lost-clause-told : goal.returns-then-is_lost-clause-told
 returns-then-is_lost-clause-told g c =
     has_told g.V.Watch.starts g.V.Observer.takes g.V.Observer.fails g.V.Watch.notes (Err (Refused DatagramLost)) (Some c.args.self.now.site, c.args.watch.now) (Some c.args.self.now.site, c.args.watch.now) (untold g.V.Watch.starts g.V.Observer.takes g.V.Observer.fails g.V.Watch.notes (Some c.args.self.now.site, c.args.watch.now))
 
-pub returns-in_err-lose-clause-told : goal.returns-in_err-lose-clause-told
-returns-in_err-lose-clause-told g c =
-    has_told g.V.Watch.starts g.V.Observer.takes g.V.Observer.fails g.V.Watch.notes c.from_residual-in_err-lose.result (Some c.args.self.now.site, c.args.watch.now) (Some c.args.self.now.site, c.args.watch.now) (untold g.V.Watch.starts g.V.Observer.takes g.V.Observer.fails g.V.Watch.notes (Some c.args.self.now.site, c.args.watch.now))
+pub returns-in_err-push-clause-told : goal.returns-in_err-push-clause-told
+returns-in_err-push-clause-told g c =
+    has_told g.V.Watch.starts g.V.Observer.takes g.V.Observer.fails g.V.Watch.notes c.from_residual-in_err-push.result (Some c.args.self.now.site, c.args.watch.now) (Some c.args.self.now.site, c.args.watch.now) (untold g.V.Watch.starts g.V.Observer.takes g.V.Observer.fails g.V.Watch.notes (Some c.args.self.now.site, c.args.watch.now))
 
 pub returns-clause-lost : goal.returns-clause-lost
-returns-clause-lost g c = given_ok c.tell.result c.in_ok-lose.ensures
+returns-clause-lost g c = given_ok c.tell.result c.in_ok-push.ensures.items

@@ -8,9 +8,9 @@ returns-in_err-running g c =
     has_told g.V.Watch.starts g.V.Observer.takes g.V.Observer.fails g.V.Watch.notes c.from_residual.result (lab_in c.args.self.now.course, c.args.watch.now) (lab_in c.args.self.now.course, c.args.watch.now)
     (untold g.V.Watch.starts g.V.Observer.takes g.V.Observer.fails g.V.Watch.notes (lab_in c.args.self.now.course, c.args.watch.now))
 
-pub returns-in_err-check_router : goal.returns-in_err-check_router
-returns-in_err-check_router g c =
-    has_told g.V.Watch.starts g.V.Observer.takes g.V.Observer.fails g.V.Watch.notes c.from_residual-in_err-check_router.result (lab_in c.args.self.now.course, c.args.watch.now) (lab_in c.args.self.now.course, c.args.watch.now)
+pub returns-in_err-check_named : goal.returns-in_err-check_named
+returns-in_err-check_named g c =
+    has_told g.V.Watch.starts g.V.Observer.takes g.V.Observer.fails g.V.Watch.notes c.from_residual-in_err-check_named.result (lab_in c.args.self.now.course, c.args.watch.now) (lab_in c.args.self.now.course, c.args.watch.now)
     (untold g.V.Watch.starts g.V.Observer.takes g.V.Observer.fails g.V.Watch.notes (lab_in c.args.self.now.course, c.args.watch.now))
 
 pub returns-in-Some : goal.returns-in-Some

@@ -1,10 +1,6 @@
 use Rattle.std.proofs.Common.{Some}
-use Rattle.ripngd_lab.proofs.ScriptWatching.{untold, told_on, handed_on}
-use Rattle.ripngd_lab.proofs.course.Course.make_waves.Goals as goal
-
-pub loop-round-init : goal.loop-round-init
-loop-round-init g c =
-    untold g.V.Watch.starts g.V.Observer.takes g.V.Observer.fails g.V.Watch.notes (Some c.args.self.now.site, c.args.watch.now)
+use Rattle.ripngd_lab.proofs.ScriptWatching.{told_on, handed_on}
+use Rattle.ripngd_lab.proofs.course.Course.make_rounds.Goals as goal
 
 pub returns-in_err-make_wave : goal.returns-in_err-make_wave
 returns-in_err-make_wave g c =
@@ -13,7 +9,3 @@ returns-in_err-make_wave g c =
 pub loop-round-preserved : goal.loop-round-preserved
 loop-round-preserved g c =
     told_on g.V.Watch.starts g.V.Observer.takes g.V.Observer.fails g.V.Watch.notes (Some c.args.self.now.site, c.args.watch.now) (Some c.loop-round.self.site, c.loop-round.watch) (Some c.make_wave.new.self.site, c.make_wave.new.watch) c.loop-round.invariant c.in_ok-make_wave.ensures
-
-pub returns : goal.returns
-returns g c =
-    c.loop-round.invariant
