@@ -6,7 +6,7 @@ use Rattle.json.specs.Token.{Token, begin_array, end_array}
 use Rattle.json.specs.Tree.{items_tokens, json_tokens}
 use Rattle.ripngd_trace.specs.Growing.{Grows}
 use Rattle.ripngd_trace.specs.Json.{items_of, list_of, text_of}
-use Rattle.ripngd_trace.specs.declared.json_text.JsonText.{JsonText}
+use Rattle.ripngd_trace.specs.declared.to_json.JsonText.{JsonText}
 
 -- some tokens, and then others
 pub Grows-then : {a b c : JsonText} {ts us : List Token} → Grows a b ts → Grows b c us → Grows a c (ts ++ us)

@@ -7,5 +7,4 @@ pub mod Reading
 pub mod Routes
 pub mod Starting
 pub mod Telling
-pub mod Told
 pub mod Tracing

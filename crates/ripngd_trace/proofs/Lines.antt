@@ -8,8 +8,8 @@ use Rattle.std.proofs.lemmas.List.{length-drop, take-append-le, take_rest}
 use Rattle.json.specs.Json.{Json}
 use Rattle.ripngd_trace.specs.Json.{text_of}
 use Rattle.ripngd_trace.specs.Lines.{WritesLess, WritesRecord, written_as}
-use Rattle.ripngd_trace.specs.declared.writing.Form.{Form}
-use Rattle.ripngd_trace.specs.declared.writing.Form.TheVariants as form
+use Rattle.ripngd_trace.specs.declared.to_json.Form.{Form}
+use Rattle.ripngd_trace.specs.declared.to_json.Form.TheVariants as form
 use Rattle.ripngd_trace.proofs.Starting.{length_push}
 
 module _ {X E : Type 0} (result : Result X E) (json : Json) (bytes : List ℕ) (old new : Option (List ℕ)) (is : bytes ≡ text_of json ++ 10 ∷ []) where

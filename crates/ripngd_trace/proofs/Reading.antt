@@ -78,11 +78,11 @@ module _ (is_forged : Bool) (l l1 : LabValue) (e : Event) (answer : Answer) (wha
       ∙ ap (λ (i : ℕ). slice_set known.routers i (known_as move.new)) told.tells.router_is ∙ ap (λ (ks : List KnownRouter). slice_set ks (router_of e) (known_as move.new)) is
       ∙ sym (map-set known_as l.world.states (router_of e) move.new) ∙ ap (map known_as) (sym move.states)
 
-  leads : LeadsTo move.old.table r.routes.items r.gone.items move.new.table
+  leads : LeadsTo move.old.table r.news.routes.items r.news.gone.items move.new.table
   leads =
-      of_some (slice_get l1.world.states r.router) move.new (λ (s : State). LeadsTo move.old.table r.routes.items r.gone.items s.table) is_now
+      of_some (slice_get l1.world.states r.router) move.new (λ (s : State). LeadsTo move.old.table r.news.routes.items r.news.gone.items s.table) is_now
       (of_some (slice_get known.routers r.router) (known_as move.old)
-      (λ (k : KnownRouter). IfSome (slice_get l1.world.states r.router) (λ (s : State). LeadsTo k.table r.routes.items r.gone.items s.table)) was told.listed)
+      (λ (k : KnownRouter). IfSome (slice_get l1.world.states r.router) (λ (s : State). LeadsTo k.table r.news.routes.items r.news.gone.items s.table)) was told.listed)
 
   table_was : slice_get (tables_of l.world) (router_of e) ≡ Some move.old.table
   table_was = get_map (λ (s : State). s.table) l.world.states (router_of e) ∙ ap (option_map (λ (s : State). s.table)) move.old_is
@@ -90,9 +90,9 @@ module _ (is_forged : Bool) (l l1 : LabValue) (e : Event) (answer : Answer) (wha
   -- and a reader has its table
   shown_after : (shown : List Table) → shown ≡ tables_of l.world → read_line shown (EventLine is_forged r) ≡ tables_of l1.world
   shown_after shown shows =
-      ap (λ (i : ℕ). slice_set shown i (with_routes (taken_out (get_or shown i map_of.empty) r.gone.items) r.routes.items)) told.tells.router_is
-      ∙ ap (λ (ts : List Table). slice_set ts (router_of e) (with_routes (taken_out (get_or ts (router_of e) map_of.empty) r.gone.items) r.routes.items)) shows
-      ∙ ap (λ (t : Table). slice_set (tables_of l.world) (router_of e) (with_routes (taken_out t r.gone.items) r.routes.items))
+      ap (λ (i : ℕ). slice_set shown i (with_routes (taken_out (get_or shown i map_of.empty) r.news.gone.items) r.news.routes.items)) told.tells.router_is
+      ∙ ap (λ (ts : List Table). slice_set ts (router_of e) (with_routes (taken_out (get_or ts (router_of e) map_of.empty) r.news.gone.items) r.news.routes.items)) shows
+      ∙ ap (λ (t : Table). slice_set (tables_of l.world) (router_of e) (with_routes (taken_out t r.news.gone.items) r.news.routes.items))
       (get_some (tables_of l.world) (router_of e) move.old.table map_of.empty table_was)
       ∙ ap (slice_set (tables_of l.world) (router_of e)) leads
       ∙ sym (map-set (λ (s : State). s.table) l.world.states (router_of e) move.new) ∙ ap (map (λ (s : State). s.table)) (sym move.states)
@@ -124,7 +124,7 @@ printed_words : (a : Action) → IsPrinted a → HasWord a
 printed_words (action.Prints word lines text) is = is
 printed_words (action.Loses datagram) is = tt
 printed_words (action.GoesRound rounds last) is = tt
-printed_words (action.Makes phases last) is = tt
+printed_words (action.Makes made) is = tt
 printed_words (action.Ends how why hint) is = tt
 
 pub printed : {a : Action} {said said' : Said} → SaysAlone a said said' → IsPrinted a → SaysAside said Prints said'
@@ -225,7 +225,7 @@ module _ {V : Type 0} (f : V → Said) (st : V → LabValue → ℕ → V → Ty
   lines_told (Counts phases last ∷ ts) lab v end v' shown shows known told =
       let mid = told.0 in
       let says : SaysAside (f v) (CountsPhases phases last) (f mid.1) = notes v (CountsPhases phases last) mid.1 told.1.1 in
-      aside_on lab mid.0 end shown (f v) (f mid.1) (f v') (action.Makes phases last) tt told.1.0 known shows says
+      aside_on lab mid.0 end shown (f v) (f mid.1) (f v') (action.Makes (record { phases = phases; last = last })) tt told.1.0 known shows says
       (λ shows1 known1. lines_told ts mid.0 mid.1 end v' shown shows1 known1 told.2)
   lines_told (Deceives router x answer ∷ ts) lab v end v' shown shows known told =
       let mid = told.0 in

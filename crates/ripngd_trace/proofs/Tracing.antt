@@ -8,7 +8,7 @@ use Rattle.ripngd_trace.specs.Lines.{written_as}
 use Rattle.ripngd_trace.specs.Reading.{IsTraced, IsTracedUntil}
 use Rattle.ripngd_trace.specs.Saying.{BreaksOff, SameOutput, SaysAside, SaysEvent, SaysStart, said_by}
 use Rattle.ripngd_trace.specs.declared.tracer.Tracer.{Tracer}
-use Rattle.ripngd_trace.specs.declared.writing.Form.{Form}
+use Rattle.ripngd_trace.specs.declared.to_json.Form.{Form}
 use Rattle.ripngd_trace.proofs.Reading.{kept, kept_until, lines_told, until_told}
 
 module _ {W : Type 0} (contents : W → Option (List ℕ)) where

@@ -1,5 +1,7 @@
 -- The JSON of each record (RFC 8259): an object that has a member for each field, in order; and its text.
-use Rattle.std.specs.Prelude.{ℕ, List, [], ◌∷◌, Option, Some, None, Bool, true, false, map, codes, decimal, string_bytes}
+use Rattle.std.specs.Prelude.{ℕ, List, [], ◌∷◌, Option, Some, None, Bool, true, false, map, codes, decimal, String, string_bytes}
+use Rattle.std.specs.Borrow.{Bor}
+use Rattle.std.specs.Global.{Global}
 use Rattle.hex.specs.Hex.{encode_lower}
 use Rattle.json.specs.Json.{Json, null, boolean, number, string, array, object, Items, no_items, item, Members, no_members, member}
 use Rattle.json.specs.Print.{print}
@@ -21,21 +23,19 @@ use Rattle.router_core.specs.declared.answer.Destination.{Destination}
 use Rattle.router_core.specs.declared.answer.Destination.TheVariants.{Group, Peer}
 use Rattle.router_core.specs.declared.answer.Note.{Note}
 use Rattle.router_core.specs.declared.arrival.Fault.{Fault}
+use Rattle.router_core.specs.declared.config.Interface.{Interface}
 use Rattle.router_core.specs.declared.reconfiguring.Change.{Change}
 use Rattle.router_core.specs.declared.reconfiguring.Change.TheVariants.{Cost, Own, Disown}
 use Rattle.ripng_world.specs.Events.{event_of}
+use Rattle.ripng_world.specs.declared.sent.Sent.{Sent}
 use Rattle.ripng_world.specs.World.{Event, Deliver, Stranger, Tick, Restart, Shutdown, LinkDown, LinkUp, Reconfigure}
 use Rattle.ripngd_trace.specs.declared.records.Action.{Action}
 use Rattle.ripngd_trace.specs.declared.records.Action.TheVariants as action
 use Rattle.ripngd_trace.specs.declared.records.AsideRecord.{AsideRecord}
 use Rattle.ripngd_trace.specs.declared.records.EventRecord.{EventRecord}
 use Rattle.ripngd_trace.specs.declared.records.Happened.{Happened}
-use Rattle.ripngd_trace.specs.declared.records.HintRecord.{HintRecord}
-use Rattle.ripngd_trace.specs.declared.records.InterfaceRecord.{InterfaceRecord}
 use Rattle.ripngd_trace.specs.declared.records.OfferRecord.{OfferRecord}
 use Rattle.ripngd_trace.specs.declared.records.RouterRecord.{RouterRecord}
-use Rattle.ripngd_trace.specs.declared.records.SenderRecord.{SenderRecord}
-use Rattle.ripngd_trace.specs.declared.records.SentRecord.{SentRecord}
 use Rattle.ripngd_trace.specs.declared.records.StartRecord.{StartRecord}
 use Rattle.ripngd_trace.specs.declared.records.Timers.{Timers}
 use Rattle.ripngd_trace.specs.declared.records.UpdateRecord.{UpdateRecord}
@@ -83,13 +83,14 @@ object_of members = object (members_of members)
 
 -- ---- a router
 
-unfoldable pub json_of_interface : InterfaceRecord → Json
+-- with the number of its link
+unfoldable pub json_of_interface : Interface × Option ℕ → Json
 json_of_interface r =
     object_of
-    ((codes "addr", address_of r.addr)
-    ∷ (codes "cost", number_of r.cost)
-    ∷ (codes "mtu", number_of r.mtu)
-    ∷ (codes "link", option_of number_of r.link)
+    ((codes "addr", address_of r.0.addr)
+    ∷ (codes "cost", number_of r.0.cost)
+    ∷ (codes "mtu", number_of r.0.mtu)
+    ∷ (codes "link", option_of number_of r.1)
     ∷ [])
 
 unfoldable pub json_of_owned : Prefix6 × ℕ → Json
@@ -141,12 +142,13 @@ json_of_router r =
 
 -- ---- what happened
 
-unfoldable pub json_of_sender : SenderRecord → Json
+-- from where a datagram was sent
+unfoldable pub json_of_sender : Bor Sent × Option ℕ → Json
 json_of_sender r =
     object_of
-    ((codes "router", number_of r.router)
-    ∷ (codes "iface", number_of r.iface)
-    ∷ (codes "addr", option_of address_of r.addr)
+    ((codes "router", number_of r.0.now.router)
+    ∷ (codes "iface", number_of r.0.now.iface)
+    ∷ (codes "addr", option_of address_of r.1)
     ∷ [])
 
 -- the kind of what happened, and what there is to say of it
@@ -177,7 +179,7 @@ json_of_reconfigured (Own p tag) = happened_as (codes "gain") ((codes "prefix", 
 json_of_reconfigured (Disown p) = happened_as (codes "drop") ((codes "prefix", prefix_of p) ∷ [])
 
 -- an event, whether its stranger lies, and who sent the datagram of a delivery
-abbrev pub json_by_event : Event → Bool → Option SenderRecord → Json
+abbrev pub json_by_event : Event → Bool → Option (Bor Sent × Option ℕ) → Json
 json_by_event (Deliver datagram router iface now) is_forged sender =
     happened_as (codes "deliver")
     ((codes "datagram", number_of datagram)
@@ -247,14 +249,14 @@ unfoldable pub json_of_peer : Destination → Json
 json_of_peer Group = null
 json_of_peer (Peer addr port) = object_of ((codes "addr", address_of addr) ∷ (codes "port", number_of port) ∷ [])
 
-unfoldable pub json_of_sent : SentRecord → Json
+unfoldable pub json_of_sent : ℕ × Bor Sent → Json
 json_of_sent r =
     object_of
-    ((codes "datagram", number_of r.datagram)
-    ∷ (codes "router", number_of r.sent.now.router)
-    ∷ (codes "iface", number_of r.sent.now.iface)
-    ∷ (codes "peer", json_of_peer r.sent.now.to)
-    ∷ (codes "bytes", hex_of r.sent.now.bytes)
+    ((codes "datagram", number_of r.0)
+    ∷ (codes "router", number_of r.1.now.router)
+    ∷ (codes "iface", number_of r.1.now.iface)
+    ∷ (codes "peer", json_of_peer r.1.now.to)
+    ∷ (codes "bytes", hex_of r.1.now.bytes)
     ∷ [])
 
 -- ---- the records of lines
@@ -284,18 +286,18 @@ json_of_event r =
     ∷ (codes "changes", list_of json_of_change r.answer.now.changes)
     ∷ (codes "sent", list_of json_of_sent r.sent.items)
     ∷ (codes "timers", option_of json_of_timers r.timers)
-    ∷ (codes "routes", list_of json_of_route r.routes.items)
-    ∷ (codes "gone", list_of prefix_of r.gone.items)
+    ∷ (codes "routes", list_of json_of_route r.news.routes.items)
+    ∷ (codes "gone", list_of prefix_of r.news.gone.items)
     ∷ [])
 
-unfoldable pub json_of_hint : HintRecord → Json
-json_of_hint r = object_of ((codes "line", number_of r.line) ∷ (codes "text", string (string_bytes r.text)) ∷ [])
+unfoldable pub json_of_hint : ℕ × String Global → Json
+json_of_hint r = object_of ((codes "line", number_of r.0) ∷ (codes "text", string (string_bytes r.1)) ∷ [])
 
 abbrev pub json_by_action : ℕ → Action → Json
 json_by_action line (action.Prints word lines text) = record_as line word.now ((codes "prints", list_of (λ text. string text.now) lines.items) ∷ [])
 json_by_action line (action.Loses datagram) = record_as line (codes "lost") ((codes "datagram", number_of datagram) ∷ [])
 json_by_action line (action.GoesRound rounds last) = record_as line (codes "rounds") ((codes "rounds", number_of rounds) ∷ (codes "last", option_of number_of last) ∷ [])
-json_by_action line (action.Makes phases last) = record_as line (codes "phases") ((codes "phases", number_of phases) ∷ (codes "last", option_of number_of last) ∷ [])
+json_by_action line (action.Makes made) = record_as line (codes "phases") ((codes "phases", number_of made.phases) ∷ (codes "last", option_of number_of made.last) ∷ [])
 json_by_action line (action.Ends how why hint) = record_as line (codes "refused") ((codes "why", string why.now) ∷ (codes "hint", option_of json_of_hint hint) ∷ [])
 
 unfoldable pub json_of_aside : AsideRecord → Json

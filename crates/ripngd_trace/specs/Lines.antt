@@ -3,8 +3,8 @@ use Rattle.std.specs.Prelude.{◌≡◌, ◌⊎◌, ℕ, List, [], ◌∷◌, �
 use Rattle.std.specs.Io.KnownBytes.{Appends}
 use Rattle.json.specs.Json.{Json}
 use Rattle.ripngd_trace.specs.Json.{text_of}
-use Rattle.ripngd_trace.specs.declared.writing.Form.{Form}
-use Rattle.ripngd_trace.specs.declared.writing.Form.TheVariants as form
+use Rattle.ripngd_trace.specs.declared.to_json.Form.{Form}
+use Rattle.ripngd_trace.specs.declared.to_json.Form.TheVariants as form
 
 -- what a writer has of records in this form, where that is known: of English nothing is claimed
 abbrev pub written_as : Form → Option (List ℕ) → Option (List ℕ)

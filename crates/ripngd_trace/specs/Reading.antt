@@ -37,7 +37,7 @@ pub data Line : Type 0 where
 -- router that moved without what is gone and with the routes that are told; else what it had
 abbrev pub read_line : List Table → Line → List Table
 read_line shown (StartLine r) = map (λ router. with_routes map_of.empty router.routes.items) r.routers.items
-read_line shown (EventLine is_forged r) = slice_set shown r.router (with_routes (taken_out (get_or shown r.router map_of.empty) r.gone.items) r.routes.items)
+read_line shown (EventLine is_forged r) = slice_set shown r.router (with_routes (taken_out (get_or shown r.router map_of.empty) r.news.gone.items) r.news.routes.items)
 read_line shown (AsideLine r) = shown
 
 -- ---- what there is to know
@@ -71,7 +71,7 @@ abbrev pub HasWord : Action → Type 0
 HasWord (Prints word lines text) = IsPrintWord word.now
 HasWord (Loses datagram) = ⊤
 HasWord (GoesRound rounds last) = ⊤
-HasWord (Makes phases last) = ⊤
+HasWord (Makes made) = ⊤
 HasWord (Ends how why hint) = ⊤
 
 -- a record of an event has the offers and the update of it, by the lab before and the lab after

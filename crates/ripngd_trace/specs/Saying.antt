@@ -51,7 +51,7 @@ pub record StartIsTold (known : Knows) (lab : LabValue) (now : ℕ) (r : StartRe
 -- router's own; that router is known from then on as it is, and all others as they were
 pub record EventIsTold (is_forged : Bool) (known : Knows) (what : Told) (r : EventRecord) (known' : Knows) : Type 0 where
   pub tells : RecordTells is_forged known.line what r
-  pub listed : IfSome (slice_get known.routers r.router) (λ before. IfSome (slice_get what.lab.world.states r.router) (λ state. LeadsTo before.table r.routes.items r.gone.items state.table))
+  pub listed : IfSome (slice_get known.routers r.router) (λ before. IfSome (slice_get what.lab.world.states r.router) (λ state. LeadsTo before.table r.news.routes.items r.news.gone.items state.table))
   pub offers : TellsOffers known.routers what.lab what.event what.answer.notes r.offers.items
   pub update : TellsUpdate known.routers what.lab what.event r.update
   pub routers_are : IfSome (slice_get what.lab.world.states r.router) (λ state. known'.routers ≡ slice_set known.routers r.router (known_as state))
@@ -78,7 +78,7 @@ abbrev pub IsPrinted : Action → Type 0
 IsPrinted (action.Prints word lines text) = IsPrintWord word.now
 IsPrinted (action.Loses datagram) = ⊤
 IsPrinted (action.GoesRound rounds last) = ⊤
-IsPrinted (action.Makes phases last) = ⊥
+IsPrinted (action.Makes made) = ⊥
 IsPrinted (action.Ends how why hint) = ⊤
 
 -- the record of such an action is written, as one line, and all that is known stays
@@ -91,6 +91,6 @@ pub record SaysAlone (a : Action) (said said' : Said) : Type 0 where
 abbrev pub SaysAside : Said → Aside → Said → Type 0
 SaysAside said (NextLine number) said' = said' ≡ record said { known = record said.known { line = number } }
 SaysAside said Prints said' = (a : Action) × IsPrinted a × SaysAlone a said said'
-SaysAside said (CountsPhases phases last) said' = SaysAlone (action.Makes phases last) said said'
+SaysAside said (CountsPhases phases last) said' = SaysAlone (action.Makes (record { phases = phases; last = last })) said said'
 SaysAside said (Lie what) said' = SaysMove true said what said'
 SaysAside said Broken said' = WritesLess said.written said'.written

@@ -1,5 +1,5 @@
 -- What the record of the start says of each router.
-use Rattle.std.specs.Prelude.{◌≡◌, ℕ, List, [], map, length, Some, slice_get}
+use Rattle.std.specs.Prelude.{◌≡◌, ℕ, List, [], map, length, Option, Some, slice_get}
 use Rattle.std.specs.FinMap as map_of
 use Rattle.std.specs.List.{enumerate_from}
 use Rattle.router_core.specs.Machine.{State}
@@ -7,13 +7,12 @@ use Rattle.router_core.specs.declared.config.Interface.{Interface}
 use Rattle.ripng_world.specs.Labs.{LabValue, link_at}
 use Rattle.ripngd_trace.specs.Events.{sent_from, sent_said}
 use Rattle.ripngd_trace.specs.Records.{LeadsTo, timers_in}
-use Rattle.ripngd_trace.specs.declared.records.InterfaceRecord.{InterfaceRecord}
 use Rattle.ripngd_trace.specs.declared.records.RouterRecord.{RouterRecord}
 use Rattle.ripngd_trace.specs.declared.records.StartRecord.{StartRecord}
 
 -- an interface of a router, with its number and its link
-abbrev pub interface_record : LabValue → ℕ → ℕ × Interface → InterfaceRecord
-interface_record lab router i = record { addr = i.1.addr; cost = i.1.cost; mtu = i.1.mtu; link = link_at lab.network router i.0 }
+abbrev pub interface_record : LabValue → ℕ → ℕ × Interface → Interface × Option ℕ
+interface_record lab router i = (i.1, link_at lab.network router i.0)
 
 -- what a router was asked to be, its timers, and all its routes
 pub record TellsRouter (lab : LabValue) (router : ℕ) (r : RouterRecord) : Type 0 where

@@ -2,16 +2,10 @@
 #![tactic(auto)]
 
 mod events;
-mod json_text;
 mod known;
-mod laws;
-mod offers;
 mod records;
 mod sentences;
-mod tables;
 mod to_json;
 mod tracer;
-mod writing;
 
-pub use laws::readers_know_each_table;
-pub use tracer::{explain, trace};
+pub use tracer::{explain, readers_know_each_table, trace};

@@ -3,9 +3,9 @@
 
 use prefix6::{Addr6, Prefix};
 use ripng_world::{Event, Sent};
-use ripngd_lab::Names;
+use ripngd_lab::{MadePhases, Names};
 use route_table::{Deadline, Route};
-use router_core::{Answer, Reason};
+use router_core::{Answer, Interface, Reason};
 
 /// The routers have started: the network, each router's first state, and what they sent.
 #[derive(Drop)]
@@ -14,7 +14,8 @@ pub struct StartRecord<'a> {
     /// The moment of the cold start.
     pub now: u64,
     pub routers: Vec<RouterRecord>,
-    pub sent: Vec<SentRecord<'a>>,
+    /// Each datagram that was sent, with its number among all that were ever sent.
+    pub sent: Vec<(usize, &'a Sent)>,
 }
 
 /// A router that has started.
@@ -22,21 +23,12 @@ pub struct StartRecord<'a> {
 pub struct RouterRecord {
     /// Whether it only listens.
     pub quiet: bool,
-    pub interfaces: Vec<InterfaceRecord>,
+    /// Each with the number of its link, which is none only where the network has no such interface.
+    pub interfaces: Vec<(Interface, Option<u16>)>,
     /// Those that it owns, each with its tag.
     pub prefixes: Vec<(Prefix, u16)>,
     pub timers: Timers,
     pub routes: Vec<(Prefix, Route)>,
-}
-
-/// An interface of a router.
-#[derive(Clone, Copy)]
-pub struct InterfaceRecord {
-    pub addr: Addr6,
-    pub cost: u8,
-    pub mtu: u32,
-    /// None only where the network has no such interface.
-    pub link: Option<u16>,
 }
 
 /// An event was done: what a router was given, what it answered, and what it then was.
@@ -54,49 +46,41 @@ pub struct EventRecord<'a, 'b> {
     pub offers: Vec<OfferRecord>,
     /// Which update was due at a tick.
     pub update: Option<UpdateRecord>,
-    pub sent: Vec<SentRecord<'a>>,
+    /// Each datagram that was sent, with its number among all that were ever sent.
+    pub sent: Vec<(usize, &'a Sent)>,
     pub timers: Option<Timers>,
-    /// The routes that are new or have changed.
-    pub routes: Vec<(Prefix, Route)>,
-    /// The prefixes that had a route and have none.
-    pub gone: Vec<Prefix>,
+    pub news: News,
 }
 
 impl<'a, 'b> EventRecord<'a, 'b> {
     /// Whether a forwarding table changes, or a route is deleted.
     pub fn changes_tables(&self) -> bool {
-        !(self.answer.changes.as_slice().is_empty() && self.gone.is_empty())
+        !(self.answer.changes.as_slice().is_empty() && self.news.gone.is_empty())
     }
 }
 
-/// How records are told in English.
-#[derive(Clone, Copy)]
-pub struct Telling<'a> {
-    pub names: Names<'a>,
-    /// Whether nothing is said of ticks and arrivals that change no forwarding table.
-    pub changes_only: bool,
+/// What a reader who knows a table has to learn of what it is now.
+#[derive(Drop)]
+pub struct News {
+    /// The routes that are new or have changed, to put into it once the prefixes are taken out.
+    pub routes: Vec<(Prefix, Route)>,
+    /// The prefixes that had a route and have none.
+    pub gone: Vec<Prefix>,
 }
 
 /// What happened, and from where.
 #[derive(Clone, Copy)]
 pub struct Happened<'a, 'b> {
-    pub telling: Telling<'a>,
+    pub names: Names<'a>,
+    /// Whether nothing is said in English of ticks and arrivals that change no forwarding table.
+    pub changes_only: bool,
     pub event: &'a Event<'b>,
     /// Whether the outside host of the event forges a Response, which the router takes for a neighbor's.
     pub is_forged: bool,
     /// The router from which it comes, if it is one, which is then none of RIPng.
     pub forger: Option<usize>,
-    /// The router that sent the datagram of a delivery.
-    pub sender: Option<SenderRecord>,
-}
-
-/// From where a datagram of the network came.
-#[derive(Clone, Copy)]
-pub struct SenderRecord {
-    pub router: usize,
-    pub iface: usize,
-    /// The address of that interface.
-    pub addr: Option<Addr6>,
+    /// The datagram of a delivery, and the address of the interface that it was sent from.
+    pub sender: Option<(&'a Sent, Option<Addr6>)>,
 }
 
 /// An offer, and the row of the table of adoption that it fell under (RFC 2080, section 2.4.2).
@@ -122,14 +106,6 @@ pub enum UpdateRecord {
     Triggered,
     /// A route change flag is set, and the delay after the last triggered update is not over.
     Held,
-}
-
-/// A datagram that was sent.
-#[derive(Clone, Copy)]
-pub struct SentRecord<'a> {
-    /// Its number among all that were ever sent.
-    pub datagram: usize,
-    pub sent: &'a Sent,
 }
 
 /// The timers of a router.
@@ -174,26 +150,14 @@ pub enum Action<'a> {
         last: Option<usize>,
     },
     /// So many phases were made.
-    Makes {
-        phases: usize,
-        /// In which of them, numbered from 0, the table of some router last changed, apart from its timers.
-        last: Option<usize>,
-    },
+    Makes(MadePhases),
     /// It is refused, or expects what is not so, and ends the script.
     Ends {
         /// What stands between `line L ` and `why` where the script is run.
         how: &'static str,
         /// What stands after `line L refused ` where the script is run, or after `line L ` of what is not as expected.
         why: &'a str,
-        /// The hint that standard error has where the script is run.
-        hint: Option<HintRecord>,
+        /// The hint that standard error has where the script is run, behind the number of the line that has the fault.
+        hint: Option<(usize, String)>,
     },
-}
-
-/// What a line should have been.
-#[derive(Drop)]
-pub struct HintRecord {
-    /// The line that has the fault.
-    pub line: usize,
-    pub text: String,
 }

@@ -1,29 +1,19 @@
 //! What the records say, in English: lines, of which each part is one of a record's members.
 
-use crate::records::{
-    Action, AsideRecord, EventRecord, Happened, OfferRecord, SentRecord, StartRecord, Telling,
-    UpdateRecord,
-};
+use crate::records::{Action, AsideRecord, EventRecord, Happened, StartRecord, UpdateRecord};
 use fib::{Hop, RouteChange};
 use prefix6::{Addr6, Prefix};
 use ripng_wire::{Command, decode};
 use ripng_world::Event;
-use ripngd_lab::MadePhases;
+use ripngd_lab::Names;
 use router_core::{Arrival, Change, Note, Reason};
 use std::fmt::{self, Display, Formatter, Write};
 
-/// A router, by its name if it has one, or as `R0`.
-#[derive(Clone, Copy)]
-struct Told<'a>(Telling<'a>, usize);
-
-impl<'a> Display for Told<'a> {
-    fn fmt<W: Write>(&self, f: &mut Formatter<W>) -> fmt::Result {
-        let Told(telling, router) = self;
-        match telling.names.of(*router).name {
-            Some(name) => f.write_str(name),
-            None => write!(f, "R{router}"),
-        }
-    }
+/// Writes a router: its name if it has one, or its number as in `R0`.
+fn write_router<W: Write>(names: Names<'_>, router: usize, f: &mut Formatter<W>) -> fmt::Result {
+    let named = names.of(router);
+    let sign = if named.name.is_some() { "" } else { "R" };
+    write!(f, "{sign}{named}")
 }
 
 /// Writes what the line of a start or of an event begins with: its number, and the moment in seconds.
@@ -48,8 +38,9 @@ impl<'a, 'b> Display for Happened<'a, 'b> {
                 ..
             } => {
                 write!(f, "hears datagram {datagram}")?;
-                if let Some(sender) = self.sender {
-                    write!(f, " of {}", Told(self.telling, sender.router))?;
+                if let Some((sent, _)) = self.sender {
+                    f.write_str(" of ")?;
+                    write_router(self.names, sent.router, f)?;
                 }
                 write!(f, " on interface {iface}")
             }
@@ -57,12 +48,15 @@ impl<'a, 'b> Display for Happened<'a, 'b> {
             Event::Tick { .. } => f.write_str("looks at its timers"),
             Event::Restart { .. } => f.write_str("starts again"),
             Event::Shutdown { .. } => f.write_str("shuts down"),
-            Event::LinkDown { iface, .. } => write!(
-                f,
-                "sees the link of interface {iface} go down"
-            ),
+            Event::LinkDown { iface, .. } => {
+                write!(f, "sees the link of interface {iface} go down")
+            }
             Event::LinkUp { iface, .. } => write!(f, "sees the link of interface {iface} come up"),
-            Event::Reconfigure { change, .. } => write_reconfigured(change, f),
+            Event::Reconfigure { change, .. } => match change {
+                Change::Cost { iface, cost } => write!(f, "has cost {cost} on interface {iface}"),
+                Change::Own { prefix, tag } => write!(f, "owns {prefix} with tag {tag}"),
+                Change::Disown { prefix } => write!(f, "owns {prefix} no longer"),
+            },
         }
     }
 }
@@ -72,22 +66,15 @@ impl<'a, 'b> Happened<'a, 'b> {
     fn write_stranger<W: Write>(&self, arrival: &Arrival<'_>, f: &mut Formatter<W>) -> fmt::Result {
         let Arrival { source, iface, .. } = arrival;
         if let Some(forger) = self.forger {
-            let told = Told(self.telling, forger);
-            write!(f, "hears {told}, which is not RIPng, on interface {iface}")?;
+            f.write_str("hears ")?;
+            write_router(self.names, forger, f)?;
+            write!(f, ", which is not RIPng, on interface {iface}")?;
             return write_message(arrival.bytes, f);
         }
         if self.is_forged {
             return write!(f, "believes a lie of {source} on interface {iface}");
         }
         write!(f, "hears the stranger {source} on interface {iface}")
-    }
-}
-
-fn write_reconfigured<W: Write>(change: &Change, f: &mut Formatter<W>) -> fmt::Result {
-    match change {
-        Change::Cost { iface, cost } => write!(f, "has cost {cost} on interface {iface}"),
-        Change::Own { prefix, tag } => write!(f, "owns {prefix} with tag {tag}"),
-        Change::Disown { prefix } => write!(f, "owns {prefix} no longer"),
     }
 }
 
@@ -106,37 +93,6 @@ fn outcome(row: Reason) -> &'static str {
         Reason::Revived => "the route was lost: taken",
         Reason::Gone => "the route is lost already: nothing changes",
     }
-}
-
-/// Which update was due.
-fn due(update: UpdateRecord) -> &'static str {
-    match update {
-        UpdateRecord::Regular => "a regular update is due",
-        UpdateRecord::Triggered => "a triggered update is due",
-        UpdateRecord::Held => "a triggered update is held",
-    }
-}
-
-fn write_offer<W: Write>(offer: &OfferRecord, f: &mut Formatter<W>) -> fmt::Result {
-    let (prefix, metric) = (offer.prefix, offer.metric);
-    write!(f, "; {prefix} at {metric}, {}", outcome(offer.why))
-}
-
-fn write_change<W: Write>(change: &RouteChange, f: &mut Formatter<W>) -> fmt::Result {
-    match change {
-        RouteChange::Install { prefix, hop, .. } => match hop {
-            Hop::Direct => write!(f, "; {prefix} is forwarded directly"),
-            Hop::Via { next_hop, .. } => write!(f, "; {prefix} is forwarded to {next_hop}"),
-        },
-        RouteChange::Withdraw { prefix } => write!(f, "; {prefix} is forwarded no more"),
-    }
-}
-
-/// Writes that a datagram was sent, and what it says.
-fn write_sent<W: Write>(record: &SentRecord<'_>, f: &mut Formatter<W>) -> fmt::Result {
-    let (datagram, iface) = (record.datagram, record.sent.iface);
-    write!(f, "; datagram {datagram} is sent on interface {iface}")?;
-    write_message(record.sent.bytes.as_slice(), f)
 }
 
 /// What a datagram says: of a Response each entry, with its metric.
@@ -158,41 +114,29 @@ fn write_message<W: Write>(bytes: &[u8], f: &mut Formatter<W>) -> fmt::Result {
     Ok(())
 }
 
-impl<'a, 'b> EventRecord<'a, 'b> {
-    /// Whether nothing is said of it.
-    fn is_passed_over(&self) -> bool {
-        let is_moving = matches!(
-            self.happened.event,
-            Event::Deliver { .. } | Event::Stranger { .. } | Event::Tick { .. }
-        );
-        self.happened.telling.changes_only && is_moving && !self.changes_tables()
-    }
-}
-
 impl<'a, 'b> Display for EventRecord<'a, 'b> {
     fn fmt<W: Write>(&self, f: &mut Formatter<W>) -> fmt::Result {
-        if self.is_passed_over() {
+        let happened = &self.happened;
+        let is_moving = matches!(
+            happened.event,
+            Event::Deliver { .. } | Event::Stranger { .. } | Event::Tick { .. }
+        );
+        if happened.changes_only && is_moving && !self.changes_tables() {
             return Ok(());
         }
-        let (answer, happened) = (self.answer, &self.happened);
         write_head(self.line, self.now, f)?;
-        write!(f, "{} {happened}", Told(happened.telling, self.router))?;
-        if let Some(fault) = answer.fault {
+        write_router(happened.names, self.router, f)?;
+        write!(f, " {happened}")?;
+        if let Some(fault) = self.answer.fault {
             write!(f, "; it is refused, {fault}")?;
         }
-        if let Some(update) = self.update {
-            write!(f, "; {}", due(update))?;
+        match self.update {
+            Some(UpdateRecord::Regular) => f.write_str("; a regular update is due")?,
+            Some(UpdateRecord::Triggered) => f.write_str("; a triggered update is due")?,
+            Some(UpdateRecord::Held) => f.write_str("; a triggered update is held")?,
+            None => {}
         }
-        self.offers
-            .iter()
-            .try_for_each(|offer| write_offer(offer, f))?;
-        let mut notes = answer.notes.as_slice().iter();
-        notes.try_for_each(|Note { entry, kind }| write!(f, "; entry {entry} is skipped, {kind}"))?;
-        let mut changes = answer.changes.as_slice().iter();
-        changes.try_for_each(|change| write_change(change, f))?;
-        let mut gone = self.gone.iter();
-        gone.try_for_each(|prefix| write!(f, "; the route to {prefix} is deleted"))?;
-        self.sent.iter().try_for_each(|sent| write_sent(sent, f))?;
+        write_told(self, f)?;
         if happened.is_forged && happened.forger.is_none() {
             f.write_str("; from here on nothing is promised")?;
         }
@@ -200,24 +144,53 @@ impl<'a, 'b> Display for EventRecord<'a, 'b> {
     }
 }
 
+/// Writes what was offered, skipped, changed, deleted and sent.
+fn write_told<W: Write>(record: &EventRecord<'_, '_>, f: &mut Formatter<W>) -> fmt::Result {
+    for offer in &record.offers {
+        let (prefix, metric) = (offer.prefix, offer.metric);
+        write!(f, "; {prefix} at {metric}, {}", outcome(offer.why))?;
+    }
+    for Note { entry, kind } in record.answer.notes.as_slice() {
+        write!(f, "; entry {entry} is skipped, {kind}")?;
+    }
+    for change in record.answer.changes.as_slice() {
+        match change {
+            RouteChange::Install { prefix, hop, .. } => match hop {
+                Hop::Direct => write!(f, "; {prefix} is forwarded directly")?,
+                Hop::Via { next_hop, .. } => write!(f, "; {prefix} is forwarded to {next_hop}")?,
+            },
+            RouteChange::Withdraw { prefix } => write!(f, "; {prefix} is forwarded no more")?,
+        }
+    }
+    for prefix in &record.news.gone {
+        write!(f, "; the route to {prefix} is deleted")?;
+    }
+    for (datagram, sent) in &record.sent {
+        write!(
+            f,
+            "; datagram {datagram} is sent on interface {}",
+            sent.iface
+        )?;
+        write_message(sent.bytes.as_slice(), f)?;
+    }
+    Ok(())
+}
+
 impl<'a> Display for AsideRecord<'a> {
     fn fmt<W: Write>(&self, f: &mut Formatter<W>) -> fmt::Result {
+        let line = self.line;
         match &self.action {
             Action::Prints { text, .. } => f.write_str(*text),
-            Action::Loses { datagram } => writeln!(
-                f,
-                "line {}: datagram {datagram} is lost",
-                self.line
-            ),
+            Action::Loses { datagram } => writeln!(f, "line {line}: datagram {datagram} is lost"),
             Action::GoesRound { rounds, last } => {
-                write!(f, "line {}: {rounds} rounds are made; ", self.line)?;
+                write!(f, "line {line}: {rounds} rounds are made; ")?;
                 match last {
                     Some(at) => writeln!(f, "tables last changed in round {at}, counted from 0"),
                     None => writeln!(f, "no table changed"),
                 }
             }
-            &Action::Makes { phases, last } => writeln!(f, "{}", MadePhases { phases, last }),
-            Action::Ends { how, why, .. } => writeln!(f, "line {} {how}{why}", self.line),
+            Action::Makes(made) => writeln!(f, "{made}"),
+            Action::Ends { how, why, .. } => writeln!(f, "line {line} {how}{why}"),
         }
     }
 }

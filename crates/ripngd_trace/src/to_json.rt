@@ -1,18 +1,78 @@
-//! What is written as JSON, and which JSON it is: values, and objects by their members.
+//! What is written as JSON (RFC 8259), and which JSON it is: values, and objects by their members; and records, in one of two forms.
 
+ghost use Rattle.std.specs.Prelude.{◌<◌, ◌∷◌, [], ℕ, IfSome, OnErr, OnOk, decimal, length, take};
+ghost use Rattle.std.specs.Io.KnownBytes.{Appends};
 ghost use Rattle.hex.specs.Hex.{encode_lower};
-ghost use Rattle.json.specs.Json.{Json, Members as JsonMembers, boolean, member, no_members, string};
+ghost use Rattle.json.specs.Json.{Json, Members as JsonMembers, boolean, member, no_members, object, string};
+ghost use Rattle.json.specs.Print.{IsPrintable};
+ghost use Rattle.json.specs.Reads.{token_of};
+ghost use Rattle.json.specs.Token.{key, number, string as string_token};
 ghost use Rattle.json.specs.Tree.{json_tokens, members_tokens};
 ghost use Rattle.ripngd_trace.specs.Growing.{Grows};
 ghost use Rattle.ripngd_trace.specs.Json.{address_of, list_of, number_of, option_of, prefix_of};
+ghost use Rattle.ripngd_trace.specs.Lines.{WritesLess, WritesRecord, written_as};
 
 mod records;
 
-use crate::json_text::JsonText;
-use json::Token;
+use json::{Token, Writer};
 use prefix6::{Addr6, Prefix};
 use route_table::Deadline;
 use router_core::Listed;
+use std::alloc::{AllocError, Global};
+use std::fmt::Display;
+use std::io::{self, ErrorKind, Write};
+
+/// A text that grows until memory runs out. Its writer asks only at its end whether it did.
+#[derive(Drop)]
+pub struct JsonText {
+    alloc: Global,
+    writer: Writer,
+    /// Whether memory ran out.
+    refused: bool,
+}
+
+impl JsonText {
+    /// Writes a token, with the comma that it wants before it.
+    pub fn token(&mut self, token: Token<'_>)
+        requires { IsPrintable (token_of token) }
+        ensures { Grows self.old self.new (token_of token.entry ∷ []) }
+    {
+        self.refused |= self.writer.token(token).is_err();
+    }
+
+    /// Writes a number.
+    pub fn number(&mut self, n: u64)
+        ensures { Grows self.old self.new (number (decimal n) ∷ []) }
+    {
+        self.refused |= self.writer.u64(n).is_err();
+    }
+
+    /// Writes a string: what a value prints.
+    pub fn printed<T: Display>(&mut self, value: &T)
+        ensures { IfSome (T.output value.now) (λ text. Grows self.old self.new (string_token text ∷ [])) }
+    {
+        match format!(in self.alloc; "{value}") {
+            Ok(text) => self.token(Token::String(text.as_str())),
+            Err(_) => self.refused = true,
+        }
+    }
+
+    /// Writes an object.
+    pub fn object<M: Members>(&mut self, members: &M)
+        ensures { Grows self.old self.new (json_tokens (object (M.members members.now))) }
+    {
+        self.token(Token::BeginObject);
+        members.write_members(self);
+    }
+
+    /// Writes a member of an object.
+    pub fn member<T: ToJson>(&mut self, name: &str, value: &T)
+        ensures { Grows self.old self.new (key name.now ∷ json_tokens (T.json value.now)) }
+    {
+        self.token(Token::Key(name));
+        value.write_json(self);
+    }
+}
 
 /// What has a JSON value.
 pub trait ToJson {
@@ -140,7 +200,10 @@ impl<'a> ToJson for &'a [u8] {
     ghost json = { λ bytes. string (encode_lower bytes.now) };
 
     fn write_json(&self, text: &mut JsonText) {
-        text.hex(*self);
+        match hex::encode(text.alloc, *self) {
+            Ok(digits) => text.token(Token::String(digits.as_str())),
+            Err(_) => text.refused = true,
+        }
     }
 }
 
@@ -199,4 +262,67 @@ impl<T: ToJson> ToJson for Listed<T> {
     fn write_json(&self, text: &mut JsonText) {
         write_list(self.as_slice(), text);
     }
+}
+
+/// The form of records.
+#[derive(Clone, Copy)]
+pub enum Form {
+    /// A record is a line of JSON.
+    Json,
+    /// A record is what it prints, in English.
+    English,
+}
+
+/// Writes a record.
+///
+/// # Errors
+/// Out of memory, before anything is written; else the error of `out`, after a beginning of the record.
+pub fn write_record<T: ToJson + Display, W: Write>(
+    alloc: Global,
+    form: Form,
+    value: &T,
+    out: &mut W,
+) -> io::Result<()>
+    ensures whole { OnOk result (WritesRecord (T.json value.now) (written_as form (W.contents out.old)) (written_as form (W.contents out.new))) }
+    ensures broken { OnErr result (WritesLess (written_as form (W.contents out.old)) (written_as form (W.contents out.new))) }
+{
+    match form {
+        Form::Json => {
+            let writer = Writer::new(Vec::new(alloc));
+            let mut text = JsonText {
+                alloc,
+                writer,
+                refused: false,
+            };
+            value.write_json(&mut text);
+            if text.refused {
+                return Err(io::Error::from(AllocError));
+            }
+            let mut line = text.writer.into_inner();
+            line.push(b'\n')?;
+            write_bytes(&line, out)
+        }
+        Form::English => write!(out, "{value}"),
+    }
+}
+
+/// Writes bytes, as `write_all` does; but where that fails, it is known what was written.
+fn write_bytes<W: Write>(bytes: &[u8], out: &mut W) -> io::Result<()>
+    requires { 0 < length bytes.now }
+    ensures whole { OnOk result (Appends (W.contents out.old) (W.contents out.new) bytes.now) }
+    ensures broken { OnErr result ((count : ℕ) × count < length bytes.now × Appends (W.contents out.old) (W.contents out.new) (take count bytes.now)) }
+{
+    let mut written = 0;
+    for _ in 0..u64::MAX {
+        match out.write(&bytes[written..]) {
+            Ok(0) => return Err(io::Error::from(ErrorKind::WriteZero)),
+            Ok(count) => written += count,
+            Err(error) if error.kind() == ErrorKind::Interrupted => {}
+            Err(error) => return Err(error),
+        }
+        if written == bytes.len() {
+            return Ok(());
+        }
+    }
+    Err(io::Error::from(ErrorKind::WriteZero))
 }

@@ -1,20 +1,20 @@
 //! A script, traced or explained: one observer, which writes a record of each thing that happens.
 
-ghost use Rattle.std.specs.Prelude.{OnErr, OnOk, Option};
+ghost use Rattle.std.specs.Prelude.{◌≡◌, [], None, OnErr, OnOk, Option};
 ghost use Rattle.ripng_world.specs.Events.{event_of};
 ghost use Rattle.ripng_world.specs.Labs.{LabValue};
 ghost use Rattle.ripngd_lab.specs.Asides.{Broken, Prints};
+ghost use Rattle.ripngd_lab.specs.ScriptWatching.{IsToldOfLab, IsToldUntil};
 ghost use Rattle.ripngd_trace.specs.Lines.{written_as};
 ghost use Rattle.ripngd_trace.specs.Reading.{IsPrintWord, IsTraced, IsTracedUntil};
-ghost use Rattle.ripngd_trace.specs.Saying.{BreaksOff, SameOutput, SaysAlone, SaysAside, SaysEvent, SaysMove, SaysStart, said_by};
+ghost use Rattle.ripngd_trace.specs.Saying.{BreaksOff, Said, SameOutput, SaysAlone, SaysAside, SaysEvent, SaysMove, SaysStart, said_by};
 
 use crate::known::Known;
-use crate::records::{Action, AsideRecord, HintRecord, Telling};
-use crate::writing::{Form, write_record};
-use ripng_world::{Event, Running};
+use crate::records::{Action, AsideRecord};
+use crate::to_json::{Form, write_record};
+use ripng_world::Event;
 use ripngd_lab::{
-    Ending, MadePhases, Names, Notice, Printer, Routes, Watch, hint_of, names_of, print_unmet,
-    watched,
+    Ending, Names, Network, Notice, Printer, Routes, Watch, hint_of, names_of, print_unmet, watched,
 };
 use route_table::Moment;
 use router_core::Answer;
@@ -68,13 +68,13 @@ fn observed<W: Write>(
         script,
         ticks: 0,
         ticks_at_change: 0,
-        known: Known::new(
+        known: Known {
             alloc,
-            Telling {
-                names,
-                changes_only,
-            },
-        ),
+            names,
+            changes_only,
+            line: 0,
+            routers: Vec::new(alloc),
+        },
         form,
         out,
     };
@@ -104,7 +104,7 @@ impl<'a, W: Write> Tracer<'a, W> {
     /// Reports an event that was done, or a forged Response, which comes as the datagram of an outside host, or of the router `forger`.
     fn report(
         &mut self,
-        lab: &Running<Routes>,
+        lab: &Network,
         event: &Event<'_>,
         is_forged: bool,
         answer: &Answer,
@@ -155,12 +155,11 @@ impl<'a, W: Write> Tracer<'a, W> {
     }
 
     /// What a refused line should have been, if the script shows that.
-    fn hint_of(&self, ending: &Ending) -> Result<Option<HintRecord>, AllocError> {
+    fn hint_of(&self, ending: &Ending) -> Result<Option<(usize, String)>, AllocError> {
         let Some((line, hint)) = hint_of(self.known.alloc, self.script, ending)? else {
             return Ok(None);
         };
-        let text = format!(in self.known.alloc; "{hint}")?;
-        Ok(Some(HintRecord { line, text }))
+        Ok(Some((line, format!(in self.known.alloc; "{hint}")?)))
     }
 }
 
@@ -173,7 +172,7 @@ impl<'a, W: Write> ripng_world::Observer<Routes> for Tracer<'a, W> {
 
     fn happened(
         &mut self,
-        lab: &Running<Routes>,
+        lab: &Network,
         event: &Event<'_>,
         answer: &Answer,
         first: usize,
@@ -193,14 +192,14 @@ impl<'a, W: Write> Watch for Tracer<'a, W> {
         self.ticks_at_change = 0;
     }
 
-    fn started(&mut self, lab: &Running<Routes>, now: Moment) -> io::Result<()> {
+    fn started(&mut self, lab: &Network, now: Moment) -> io::Result<()> {
         let record = self.known.start_record(lab, now)?;
         write_record(self.known.alloc, self.form, &record, self.out)
     }
 
     fn lied(
         &mut self,
-        running: &Running<Routes>,
+        running: &Network,
         event: &Event<'_>,
         answer: &Answer,
         first: usize,
@@ -211,7 +210,7 @@ impl<'a, W: Write> Watch for Tracer<'a, W> {
 
     fn noticed(&mut self, notice: Notice<'_>) -> io::Result<()> {
         let alloc = self.known.alloc;
-        let names = self.known.telling.names;
+        let names = self.known.names;
         let mut prints = Vec::new(alloc);
         let word = match &notice {
             Notice::Routes(..) => "print",
@@ -224,9 +223,7 @@ impl<'a, W: Write> Watch for Tracer<'a, W> {
                 let last = self.last_round(rounds);
                 return self.report_action(Action::GoesRound { rounds, last });
             }
-            &Notice::Phases(MadePhases { phases, last }) => {
-                return self.report_action(Action::Makes { phases, last });
-            }
+            &Notice::Phases(made) => return self.report_action(Action::Makes(made)),
             Notice::Refused(ending) => {
                 let hint = self.hint_of(ending)?;
                 let why = format!(in alloc; "{}", ending.refusal)?;
@@ -244,3 +241,12 @@ impl<'a, W: Write> Watch for Tracer<'a, W> {
         self.report_prints(word, &prints)
     }
 }
+
+/// An observer that is notified of all that happens in a script's lab, knows no table before, and makes of each notice what the
+/// tracer makes of it, has traced the script: a reader of the lines has each router's table after each of them.
+pub fn readers_know_each_table()
+    ensures told { (said said' : Said) (lab : Option LabValue) → said.known.routers ≡ [] → IsToldOfLab SaysStart SaysEvent SaysAside (None, said) (lab, said')
+        → IsTraced said.written lab said'.written }
+    ensures told_until { (said said' : Said) (lab : Option LabValue) → said.known.routers ≡ [] → IsToldUntil SaysStart SaysEvent BreaksOff SaysAside (None, said) (lab, said')
+        → IsTracedUntil said.written lab said'.written }
+{}

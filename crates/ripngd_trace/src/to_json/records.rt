@@ -2,22 +2,20 @@
 #![tactic(auto, unfolding(crate::specs::Json::json_of_aside, crate::specs::Json::json_of_change, crate::specs::Json::json_of_due, crate::specs::Json::json_of_event, crate::specs::Json::json_of_fault, crate::specs::Json::json_of_happened, crate::specs::Json::json_of_hint, crate::specs::Json::json_of_hop, crate::specs::Json::json_of_interface, crate::specs::Json::json_of_note, crate::specs::Json::json_of_offer, crate::specs::Json::json_of_origin, crate::specs::Json::json_of_owned, crate::specs::Json::json_of_peer, crate::specs::Json::json_of_reconfigured, crate::specs::Json::json_of_route, crate::specs::Json::json_of_router, crate::specs::Json::json_of_sender, crate::specs::Json::json_of_sent, crate::specs::Json::json_of_start, crate::specs::Json::json_of_stranger, crate::specs::Json::json_of_timers))]
 
 ghost use Rattle.std.specs.Prelude.{◌≡◌};
-ghost use Rattle.json.specs.Tree.{json_tokens};
-ghost use Rattle.ripngd_trace.specs.Growing.{Grows};
 ghost use Rattle.ripngd_trace.specs.Json.{json_of_aside, json_of_change, json_of_due, json_of_event, json_of_fault, json_of_happened, json_of_hint, json_of_hop, json_of_interface, json_of_note, json_of_offer, json_of_origin, json_of_owned, json_of_peer, json_of_reconfigured, json_of_route, json_of_router, json_of_sender, json_of_sent, json_of_start, json_of_stranger, json_of_timers, json_of_update, update_name};
 
-use crate::json_text::JsonText;
 use crate::records::{
-    Action, AsideRecord, EventRecord, Happened, HintRecord, InterfaceRecord, OfferRecord,
-    RouterRecord, SenderRecord, SentRecord, StartRecord, Timers, UpdateRecord,
+    Action, AsideRecord, EventRecord, Happened, OfferRecord, RouterRecord, StartRecord, Timers,
+    UpdateRecord,
 };
-use crate::to_json::{ToJson, members};
+use crate::to_json::{JsonText, ToJson, members};
 use fib::{Hop, RouteChange};
 use json::Token;
-use prefix6::Prefix;
-use ripng_world::Event;
+use prefix6::{Addr6, Prefix};
+use ripng_world::{Event, Sent};
+use ripngd_lab::MadePhases;
 use route_table::{Deadline, Origin, Route};
-use router_core::{Arrival, Change, Destination, Fault, Note};
+use router_core::{Change, Destination, Fault, Interface, Note};
 
 impl<'a> ToJson for StartRecord<'a> {
     ghost json = { json_of_start };
@@ -45,8 +43,8 @@ impl<'a, 'b> ToJson for EventRecord<'a, 'b> {
         text.member("changes", &answer.changes);
         text.member("sent", &self.sent);
         text.member("timers", &self.timers);
-        text.member("routes", &self.routes);
-        text.member("gone", &self.gone);
+        text.member("routes", &self.news.routes);
+        text.member("gone", &self.news.gone);
         text.token(Token::EndObject);
     }
 }
@@ -65,7 +63,7 @@ impl<'a> ToJson for AsideRecord<'a> {
             Action::GoesRound { rounds, last } => {
                 text.object(&members!(self.line, "record": &"rounds", rounds, last));
             }
-            Action::Makes { phases, last } => {
+            Action::Makes(MadePhases { phases, last }) => {
                 text.object(&members!(self.line, "record": &"phases", phases, last));
             }
             Action::Ends { why, hint, .. } => {
@@ -75,11 +73,12 @@ impl<'a> ToJson for AsideRecord<'a> {
     }
 }
 
-impl ToJson for HintRecord {
+/// A hint, behind the number of the line that has the fault.
+impl ToJson for (usize, String) {
     ghost json = { json_of_hint };
 
     fn write_json(&self, text: &mut JsonText) {
-        text.object(&members!(self.line, "text": &self.text.as_str()));
+        text.object(&members!("line": &self.0, "text": &self.1.as_str()));
     }
 }
 
@@ -93,11 +92,13 @@ impl ToJson for RouterRecord {
     }
 }
 
-impl ToJson for InterfaceRecord {
+/// An interface of a router, with the number of its link.
+impl ToJson for (Interface, Option<u16>) {
     ghost json = { json_of_interface };
 
     fn write_json(&self, text: &mut JsonText) {
-        text.object(&members!(self.addr, self.cost, self.mtu, self.link));
+        let (interface, link) = self;
+        text.object(&members!(interface.addr, interface.cost, interface.mtu, link));
     }
 }
 
@@ -166,7 +167,15 @@ impl<'a, 'b> ToJson for Happened<'a, 'b> {
                 iface,
                 ..
             } => text.object(&members!("kind": &"deliver", datagram, iface, self.sender)),
-            Event::Stranger { arrival, .. } => write_stranger(self.is_forged, arrival, text),
+            Event::Stranger { arrival, .. } if self.is_forged => {
+                text.object(
+                    &members!("kind": &"liar", arrival.iface, arrival.source, arrival.bytes),
+                );
+            }
+            Event::Stranger { arrival, .. } => text.object(&members!(
+                "kind": &"stranger", arrival.iface, arrival.source, "port": &arrival.source_port, arrival.hop_limit,
+                "group": &arrival.to_group, arrival.bytes
+            )),
             Event::Tick { word, .. } => text.object(&members!("kind": &"tick", word)),
             Event::Restart { .. } => text.object(&members!("kind": &"restart")),
             Event::Shutdown { .. } => text.object(&members!("kind": &"shutdown")),
@@ -174,20 +183,6 @@ impl<'a, 'b> ToJson for Happened<'a, 'b> {
             Event::LinkUp { iface, .. } => text.object(&members!("kind": &"link_up", iface)),
             Event::Reconfigure { change, .. } => change.write_json(text),
         }
-    }
-}
-
-/// Writes a datagram of an outside host, or a forged Response.
-fn write_stranger(is_forged: bool, arrival: &Arrival<'_>, text: &mut JsonText)
-    ensures { Grows text.old text.new (json_tokens (json_of_stranger is_forged arrival.entry.now)) }
-{
-    if is_forged {
-        text.object(&members!("kind": &"liar", arrival.iface, arrival.source, arrival.bytes));
-    } else {
-        text.object(&members!(
-            "kind": &"stranger", arrival.iface, arrival.source, "port": &arrival.source_port, arrival.hop_limit,
-            "group": &arrival.to_group, arrival.bytes
-        ));
     }
 }
 
@@ -203,11 +198,13 @@ impl ToJson for Change {
     }
 }
 
-impl ToJson for SenderRecord {
+/// From where a datagram was sent: the router, and its interface with the address.
+impl<'a> ToJson for (&'a Sent, Option<Addr6>) {
     ghost json = { json_of_sender };
 
     fn write_json(&self, text: &mut JsonText) {
-        text.object(&members!(self.router, self.iface, self.addr));
+        let (sent, addr) = self;
+        text.object(&members!(sent.router, sent.iface, addr));
     }
 }
 
@@ -290,12 +287,13 @@ impl ToJson for Destination {
     }
 }
 
-impl<'a> ToJson for SentRecord<'a> {
+/// A datagram that was sent, with its number.
+impl<'a> ToJson for (usize, &'a Sent) {
     ghost json = { json_of_sent };
 
     fn write_json(&self, text: &mut JsonText) {
-        let sent = self.sent;
+        let (datagram, sent) = self;
         let bytes = &sent.bytes.as_slice();
-        text.object(&members!(self.datagram, sent.router, sent.iface, "peer": &sent.to, bytes));
+        text.object(&members!(datagram, sent.router, sent.iface, "peer": &sent.to, bytes));
     }
 }

@@ -11,11 +11,11 @@ returns-clause-traced g c =
     on_ok c.watched-outcome.result c.watched-outcome.ensures.told
     (λ h.
     let same = told_same g.W.Write.contents _ c.watched-outcome.new.watch h.0 h.1 in
-    (h.0, traced g.W.Write.contents _ c.watched-outcome.new.watch h.0 c.args.out.now _ c.new.ensures refl (search (rules, same)) h.1))
+    (h.0, traced g.W.Write.contents _ c.watched-outcome.new.watch h.0 c.args.out.now _ c.new.ensures.items refl (search (rules, same)) h.1))
 
 pub returns-clause-traced_until : goal.returns-clause-traced_until
 returns-clause-traced_until g c =
     on_err c.watched-outcome.result c.watched-outcome.ensures.told_until
     (λ h.
     let same = until_same g.W.Write.contents _ c.watched-outcome.new.watch h.0 h.1 in
-    (h.0, traced_until g.W.Write.contents _ c.watched-outcome.new.watch h.0 c.args.out.now _ c.new.ensures refl (search (rules, same)) h.1))
+    (h.0, traced_until g.W.Write.contents _ c.watched-outcome.new.watch h.0 c.args.out.now _ c.new.ensures.items refl (search (rules, same)) h.1))
