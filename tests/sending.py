@@ -20,6 +20,11 @@ from suite import same
 OWN = "2001:db8::/32"
 MANY = "".join(prefix(f"2001:db8:{number:x}::/48") for number in range(1_024))
 """More prefixes than go into 16 datagrams of 1,280 bytes, which have 61 entries each: 17 tell them."""
+ASKED = 4
+"""So many answers, the update and the Request of the start are 86 datagrams: a pause for one peer, which gets 64 at once. The socket of a
+neighbor that does not read holds 93."""
+CROWD = 8
+"""Peers that share those 64, so each datagram for all of them counts for one of 8."""
 STAMPED = 35
 """The option SO_TIMESTAMPNS of sockets, which Python has no name for."""
 FAULTY = response(entry(OWN, 17))
@@ -109,19 +114,21 @@ def a_send_that_is_interrupted_is_tried_16_times(case):
 # When it is sent.
 
 @listed
-def sixteen_datagrams_go_at_once_and_as_many_four_milliseconds_later(case):
-    """At 0 the Request of the start and 15 datagrams of the answers to two askers; the rest of them and of the update, 36, at their pace
-    while a turn waits, which ends in time. On the other interface the update waits for itself alone."""
-    ports, neighbors = (case.port(), case.port()), [case.neighbor() for _ in range(3)]
-    text = interface(1, ports[0], peer(2, neighbors[0].port, port=2_000))
-    text += interface(2, ports[1], peer(3, neighbors[1].port), peer(4, neighbors[2].port))
-    router = Ordered(case, "paced", text + MANY, "--turns", "3", clock=0)
-    neighbors[0].send(ports[0], REQUEST, 2)
+def sixty_four_datagrams_go_at_once_and_as_many_sixteen_milliseconds_later(case):
+    """At 0 the Request of the start and 63 datagrams of the answers; the rest of them and of the update at their pace while a turn waits,
+    which ends in time. On the other interface, with eight peers, of the Request and the update eight go at a time. Behind what came it
+    sleeps for 12 milliseconds, in which more may come, and looks."""
+    ports, neighbor, crowd = (case.port(), case.port()), case.neighbor(), [case.neighbor() for _ in range(CROWD)]
+    text = interface(1, ports[0], peer(2, neighbor.port, port=2_000))
+    text += interface(100, ports[1], *(peer(101 + number, one.port) for number, one in enumerate(crowd)))
+    router = Ordered(case, "paced", text + MANY, "--turns", f"{ASKED + 1}", clock=0)
+    neighbor.send(ports[0], REQUEST, ASKED)
     router.done()
-    same("when it was sent", router.sends(ports[0]), {0: 16, 4: 16, 8: 16, 12: 4})
-    same("when it was sent to two peers", router.sends(ports[1]), {0: 32, 4: 4})
-    same("how long it waited", router.waits(), [50, 0, 4, 4, 4, 38])
-    same("what was sent behind the Request", neighbors[0].rest()[1:], 3 * neighbors[1].rest()[1:])
+    same("when it was sent", router.sends(ports[0]), {0: 64, 16: 22})
+    same("when it was sent to eight peers", router.sends(ports[1]), {0: 64, 16: 64, 32: 16})
+    same("how long it waited", router.waits(), [50, 0, 0, 0, 0, 4, 16, 18])
+    same("how long it slept", [ms for _, _, ms, _ in router.calls("sleep")], [12])
+    same("what was sent behind the Request", neighbor.rest()[1:], (ASKED + 1) * crowd[0].rest()[1:])
 
 
 @listed
@@ -130,87 +137,89 @@ def what_waits_goes_out_at_the_end_at_its_pace_and_in_order(case):
     neighbor, port = case.neighbor(), case.port()
     text = interface(1, port, peer(2, neighbor.port, port=2_000)) + MANY
     whole = []
-    for clock, moments in (("0", {0: 16, 4: 16, 8: 16, 12: 4}), ("still", {0: 52})):
-        router = Ordered(case, f"ending{clock}", text, "--turns", "2", clock=clock)
-        neighbor.send(port, REQUEST, 2)
+    for clock, moments in (("0", {0: 64, 16: 22}), ("still", {0: 86})):
+        router = Ordered(case, f"ending{clock}", text, "--turns", f"{ASKED}", clock=clock)
+        neighbor.send(port, REQUEST, ASKED)
         router.done()
         same("when it was sent", router.sends(port), moments)
         if clock == "0":
-            same("how long it slept", [ms for _, _, ms, _ in router.calls("sleep")], [4, 4, 4])
+            same("how long it slept", [ms for _, _, ms, _ in router.calls("sleep")], [16])
         same("what was lost", router.said(), "")
         whole.append(neighbor.rest())
-    same("how many came", [len(came) for came in whole], [52, 52])
-    same("whether each whole table came in order", whole[0][1:18] == whole[0][18:35] == whole[0][35:] == whole[1][1:18], True)
-    numbers = [struct.unpack(">H", datagram[at + 4:at + 6])[0] for datagram in whole[0][1:18] for at in range(4, len(datagram), 20)]
+    same("how many came", [len(came) for came in whole], [86, 86])
+    tables = [came[at:at + 17] for came in whole for at in range(1, 86, 17)]
+    same("whether each whole table came in order", tables, len(tables) * tables[:1])
+    numbers = [struct.unpack(">H", datagram[at + 4:at + 6])[0] for datagram in tables[0] for at in range(4, len(datagram), 20)]
     same("the order of what was told", numbers, list(range(1_024)))
 
 
 @listed
 def no_turn_waits_while_a_datagram_is_there(case):
     """Not for what is still to be sent, either."""
-    neighbor, port = case.neighbor(), case.port()
-    router = Ordered(case, "eager", interface(1, port, peer(2, neighbor.port)) + MANY, "-d", "--turns", "40", clock=0)
-    neighbor.send(port, FAULTY, 40)
+    crowd, port = [case.neighbor() for _ in range(CROWD)], case.port()
+    text = interface(1, port, *(peer(2 + number, one.port) for number, one in enumerate(crowd))) + MANY
+    router = Ordered(case, "eager", text, "-d", "--turns", "40", clock=0)
+    crowd[0].send(port, FAULTY, 40)
     router.done()
     same("how long it waited", router.waits(), [50] + 39 * [0])
-    same("when it was sent", router.sends(port), {0: 16, 4: 2})
+    same("when it was sent", router.sends(port), {0: 64, 16: 64, 32: 16})
 
 
 @listed
 def more_than_4096_that_wait_are_refused(case):
-    """While the clock stands still: of the 17 datagrams to each of 250 askers, of the update and the Request, 16 go and 4,096 wait."""
+    """While the clock stands still: of the 17 datagrams to each of 250 askers, of the update and the Request, 64 go and 4,096 wait."""
     neighbor, port = case.neighbor(), case.port()
     router = Ordered(case, "full", interface(1, port, peer(2, neighbor.port, port=2_000)) + MANY, "-d", "--turns", "250", clock="still")
     neighbor.send(port, REQUEST, 250)
     router.done()
-    refused = 250 * 17 + 17 + 1 - 16 - 4_096
+    refused = 250 * 17 + 17 + 1 - 64 - 4_096
     same("what is said", router.said(),
          f"arrivals 250 sends {250 * 17 + 17} failed {refused}\nripngd: lost sends {refused}, lost steps 0\n")
-    same("how many were sent", router.sends(port), {0: 16 + 4_096})
+    same("how many were sent", router.sends(port), {0: 64 + 4_096})
 
 
 @listed
 def what_waited_and_could_not_be_sent_is_counted(case):
     neighbor, port = case.neighbor(), case.port()
     text = interface(1, port, peer(2, neighbor.port, port=2_000)) + MANY
-    router = Ordered(case, "failing", text, "-d", "--turns", "2", clock=0, fail=f"sendto:17:99:{EPERM}")
-    neighbor.send(port, REQUEST, 2)
+    router = Ordered(case, "failing", text, "-d", "--turns", f"{ASKED}", clock=0, fail=f"sendto:65:99:{EPERM}")
+    neighbor.send(port, REQUEST, ASKED)
     router.done()
-    same("how many came", len(neighbor.rest()), 16)
-    same("what is said", router.said(), "arrivals 2 sends 51 failed 0\nripngd: lost sends 36, lost steps 0\n")
+    same("how many came", len(neighbor.rest()), 64)
+    same("what is said", router.said(), "arrivals 4 sends 85 failed 0\nripngd: lost sends 22, lost steps 0\n")
 
 
 @listed
 def what_is_for_a_peer_that_has_gone_is_lost(case):
-    """While the clock stands still, 16 datagrams go: the Request of the start, and 15 of the first answer. Two of it and the update wait.
-    The peer goes behind the first turn. What came from it before is heard, but the 17 datagrams of the second answer are for nobody, and so
-    are the two at the end. The update is for the group, of which nobody is there: it is sent to nobody, and not lost."""
-    neighbor, port = case.neighbor(), case.port()
-    text = interface(1, port, peer(2, neighbor.port, port=2_000)) + MANY
+    """While the clock stands still, eight datagrams go to one of eight peers: the Request of the start, and seven of the first answer. Ten of
+    it and the update wait. The peer goes behind the first turn. What came from it before is heard, but the 17 datagrams of the second
+    answer are for nobody, and so are the ten at the end. The update is for those that are still there, and not lost."""
+    crowd, port = [case.neighbor() for _ in range(CROWD)], case.port()
+    text = interface(1, port, *(peer(2 + number, one.port, port=2_000) for number, one in enumerate(crowd))) + MANY
     router = Ordered(case, "left", text, "--control", "left.sock", "-d", "--turns", "2", clock="still")
     client = router.client().say(b"unpeer 0 fe80::2\n")
-    neighbor.send(port, REQUEST, 2)
+    crowd[0].send(port, REQUEST, 2)
     router.done()
     same("the answer to unpeer", client.all(), "ok\n")
     client.close()
-    same("how many came", len(neighbor.rest()), 16)
-    same("what is said", router.said(), "arrivals 2 sends 51 failed 17\nripngd: lost sends 19, lost steps 0\n")
+    same("how many came", [len(one.rest()) for one in crowd[:2]], [8, 18])
+    same("what is said", router.said(), "arrivals 2 sends 51 failed 17\nripngd: lost sends 27, lost steps 0\n")
 
 
 @listed
 def the_pace_is_kept_by_the_clock_of_the_system(case):
-    """By the stamps of the system at the receiver. Of 33 datagrams in a row 16 stand between two pauses, which lie four of its whole
-    milliseconds apart, and so three at least."""
-    neighbor, port = case.neighbor(), case.port()
-    neighbor.socket.setsockopt(socket.SOL_SOCKET, STAMPED, 1)
-    router = case.start("real", interface(1, port, peer(2, neighbor.port, port=2_000)) + MANY)
+    """By the stamps of the system at the receiver, one of eight. Of 17 datagrams in a row eight stand between two pauses, which lie sixteen
+    of its whole milliseconds apart, and so fifteen at least."""
+    crowd, port = [case.neighbor() for _ in range(CROWD)], case.port()
+    crowd[0].socket.setsockopt(socket.SOL_SOCKET, STAMPED, 1)
+    router = case.start("real", interface(1, port, *(peer(2 + number, one.port, port=2_000) for number, one in enumerate(crowd))) + MANY)
     moments = []
-    neighbor.send(port, REQUEST, 3)
+    crowd[0].send(port, REQUEST, 3)
     while len(moments) < 1 + 4 * 17:
-        _, [(_, _, stamp)], _, _ = neighbor.socket.recvmsg(2_048, 64)
+        _, [(_, _, stamp)], _, _ = crowd[0].socket.recvmsg(2_048, 64)
         moments.append(struct.unpack("qq", stamp)[0] * 1_000 + struct.unpack("qq", stamp)[1] / 1e6)
-    spans = [later - moment for moment, later in zip(moments, moments[32:])]
-    same(f"whether the least of {spans} is three milliseconds", min(spans) >= 3, True)
+    spans = [later - moment for moment, later in zip(moments, moments[16:])]
+    same(f"whether the least of {spans} is fifteen milliseconds", min(spans) >= 15, True)
     same("whether it runs", router.is_there(), True)
 
 

@@ -1,49 +1,60 @@
-//! The pace of sending: 16 datagrams at once, and then a pause. A socket of loopback holds about 90 datagrams of an update of a whole
-//! table. More are lost, and the sender is not told.
+//! The pace of sending: some datagrams at once, and then a pause. A socket of loopback holds about 90 datagrams of an update of a whole
+//! table. More are lost, and the sender is not told. So the routers on a link share what each of their sockets holds, as if all of them
+//! sent at once.
 
-ghost use Rattle.std.specs.Prelude.{◌≡◌, ◌+◌, ◌-◌, ◌<◌, ◌≤◌, min};
+ghost use Rattle.std.specs.Prelude.{◌≡◌, ◌+◌, ◌-◌, ◌^◌, ◌<◌, ◌≤◌, min};
+ghost use Rattle.ripngd_udp.specs.SendQueue.{share_among};
 
-/// How many datagrams go out without a pause.
-const AT_ONCE: usize = 16;
+/// How many datagrams the socket of a neighbor may get without a pause.
+const AT_ONCE: usize = 64;
 
-/// After how many milliseconds as many may go out again.
-const PAUSE_MS: u64 = 4;
+/// After how many milliseconds it may get as many again.
+const PAUSE_MS: u64 = 16;
+
+/// How many datagrams an interface with so many peers may send without a pause: its share, and at least one.
+pub(crate) fn share_among(peers: usize) -> usize
+    ensures share { result ≡ share_among peers }
+    ensures some { 1 ≤ result }
+    ensures few { result ≤ 64 }
+{
+    (AT_ONCE / peers.max(1)).max(1)
+}
 
 /// How many datagrams may go out now.
 #[derive(Clone, Copy, Debug, PartialEq, Eq)]
 pub(crate) struct Pace {
-    /// When the count last began anew, in milliseconds.
-    since: u64,
-    /// How many may go out before the next pause.
+    /// When the pause is over, in milliseconds.
+    opens: u64,
+    /// How many may go out before that.
     left: usize,
-    ghost few: { left ≤ 16 },
+    ghost few: { left ≤ 64 },
 }
 
 impl Pace {
     /// The pace before anything was sent.
     pub(crate) fn new() -> Pace
-        ensures { (result.since ≡ 0) × (result.left ≡ 16) }
+        ensures { (result.opens ≡ 0) × (result.left ≡ 0) }
     {
-        Pace {
-            since: 0,
-            left: AT_ONCE,
-        }
+        Pace { opens: 0, left: 0 }
     }
 
-    /// How many of `wanted` datagrams may go out at a moment, in milliseconds. They are counted as sent.
-    pub(crate) fn take(&mut self, wanted: usize, now: u64) -> usize
-        ensures few { result ≤ 16 }
-        ensures paused { now < self.old.since + 4
-            → (result ≡ min wanted self.old.left) × (self.new.left ≡ self.old.left - result) × (self.new.since ≡ self.old.since) }
-        ensures anew { self.old.since + 4 ≤ now
-            → (result ≡ min wanted 16) × (self.new.left ≡ 16 - result) × (self.new.since ≡ now) }
+    /// How many of `wanted` datagrams may go out at a moment, in milliseconds, where `share` may without a pause. They are counted as
+    /// sent, and the pause begins behind them: so no more than a share goes out in any 16 milliseconds.
+    pub(crate) fn take(&mut self, wanted: usize, share: usize, now: u64) -> usize
+        requires { share ≤ 64 }
+        ensures paused { now < self.old.opens → (result ≡ min wanted self.old.left) × (self.new.left ≡ self.old.left - result) }
+        ensures anew { self.old.opens ≤ now → (result ≡ min wanted share) × (self.new.left ≡ share - result) }
+        ensures pause { 0 < result → self.new.opens ≡ min (now + 16) (2 ^ 64 - 1) }
+        ensures none { result ≡ 0 → self.new.opens ≡ self.old.opens }
     {
-        if now.saturating_sub(self.since) >= PAUSE_MS {
-            self.since = now;
-            self.left = AT_ONCE;
+        if self.opens <= now {
+            self.left = share;
         }
         let taken = wanted.min(self.left);
-        self.left -= taken;
+        if taken > 0 {
+            self.opens = now.saturating_add(PAUSE_MS);
+            self.left -= taken;
+        }
         taken
     }
 
@@ -52,7 +63,7 @@ impl Pace {
         if self.left > 0 {
             0
         } else {
-            PAUSE_MS.saturating_sub(now.saturating_sub(self.since))
+            self.opens.saturating_sub(now)
         }
     }
 }

@@ -1,10 +1,12 @@
 //! The peers on the link of an interface, and how they change.
 
-ghost use Rattle.std.specs.Prelude.{◌≡◌, IfErr, IfOk, OnErr, OnOk, Some, length, map, vec_len};
+ghost use Rattle.std.specs.Prelude.{◌≡◌, ◌≤◌, IfErr, IfOk, OnErr, OnOk, Some, length, map, vec_len};
 ghost use Rattle.std.specs.Result.{result_err};
 ghost use Rattle.ripng_wire.specs.Wire.{first_reason};
 ghost use Rattle.ripngd_udp.specs.Peers.{adding_fault, has_peer_address, is_group_port, links_at, on_link, removing_reasons_at, with_peer, without_peer};
+ghost use Rattle.ripngd_udp.specs.SendQueue.{share_among};
 
+use crate::pace::share_among;
 use crate::peer_refused::PeerRefused;
 use prefix6::Addr6;
 use ripngd_engine::{Peer, Place, has_clash};
@@ -49,6 +51,15 @@ impl PeerTable {
     /// The peers.
     pub(crate) fn peers(&self) -> &[Peer] {
         self.peers.as_slice()
+    }
+
+    /// How many datagrams may go out to them without a pause.
+    pub(crate) fn share(&self) -> usize
+        ensures share { result ≡ share_among (length self.now.peers) }
+        ensures some { 1 ≤ result }
+        ensures few { result ≤ 64 }
+    {
+        share_among(self.peers.len())
     }
 
     /// Whether a peer has this address.

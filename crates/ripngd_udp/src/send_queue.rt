@@ -1,7 +1,7 @@
 //! The queue of datagrams that wait to be sent on an interface. They go out in order, at the pace of its peers.
 
-ghost use Rattle.std.specs.Prelude.{◌≡◌, ◌+◌, ◌<◌, ◌≤◌, ◌++◌, ◌∷◌, [], IfOk, IfSome, IsNone, OnErr, OnOk, drop, is_ok, length};
-ghost use Rattle.ripngd_udp.specs.SendQueue.{goes_at_once, waiting_after};
+ghost use Rattle.std.specs.Prelude.{◌≡◌, ◌<◌, ◌≤◌, ◌++◌, ◌∷◌, [], IfOk, IfSome, IsNone, OnErr, OnOk, drop, is_ok, length};
+ghost use Rattle.ripngd_udp.specs.SendQueue.{goes_at_once, share_among, waiting_after};
 
 use crate::pace::Pace;
 use crate::peer_table::PeerTable;
@@ -78,11 +78,11 @@ impl SendQueue {
         now: u64,
     ) -> Result<(), LinkFault>
         ensures waits { self.new.waiting.items ≡ waiting_after
-            (goes_at_once self.old.waiting.items self.old.pace.since self.old.pace.left now)
+            (goes_at_once self.old.waiting.items self.old.pace.opens self.old.pace.left now)
             self.old.waiting.items outgoing.now (is_ok result) }
         ensures room { length self.new.waiting.items ≤ 4096 }
     {
-        if self.waiting.is_empty() && self.pace.take(1, now) == 1 {
+        if self.waiting.is_empty() && self.pace.take(1, peer_table.share(), now) == 1 {
             send(socket, peer_table, outgoing)
         } else if is_known(peer_table, &outgoing.to) {
             self.keep(outgoing)
@@ -106,8 +106,8 @@ impl SendQueue {
         failed
     }
 
-    /// Sends as many of those that wait as the pace allows at a moment, in milliseconds: 16 where the pause is over, or else what is
-    /// left of the last 16. Without a moment it sends all. Returns how many failed.
+    /// Sends as many of those that wait as the pace allows at a moment, in milliseconds: the share of the interface where the pause is
+    /// over, or else what is left of the last share. Without a moment it sends all. Returns how many failed.
     pub(crate) fn send_waiting(
         &mut self,
         socket: &UdpSocket,
@@ -115,12 +115,13 @@ impl SendQueue {
         moment: Option<u64>,
     ) -> u64
         ensures all { IsNone moment → self.new.waiting.items ≡ [] }
-        ensures due { IfSome moment (λ now. self.old.pace.since + 4 ≤ now → self.new.waiting.items ≡ drop 16 self.old.waiting.items) }
-        ensures paused { IfSome moment (λ now. now < self.old.pace.since + 4
+        ensures due { IfSome moment (λ now. self.old.pace.opens ≤ now
+            → self.new.waiting.items ≡ drop (share_among (length peer_table.now.peers)) self.old.waiting.items) }
+        ensures paused { IfSome moment (λ now. now < self.old.pace.opens
             → self.new.waiting.items ≡ drop self.old.pace.left self.old.waiting.items) }
     {
         let count = match moment {
-            Some(now) => self.pace.take(self.waiting.len(), now),
+            Some(now) => self.pace.take(self.waiting.len(), peer_table.share(), now),
             None => self.waiting.len(),
         };
         self.send_some(socket, peer_table, count)

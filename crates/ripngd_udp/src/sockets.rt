@@ -6,9 +6,15 @@ ghost use Rattle.ripngd_udp.specs.Udp.{GoesOn, SendsLate};
 use crate::udp::Udp;
 use ripngd_engine::{LinkFault, Received, TimeSource};
 use std::rt::Clock;
+use std::thread;
+use std::time::Duration;
 
 /// How often a turn polls at most.
 const LOOKS: u32 = 64;
+
+/// For how many milliseconds more datagrams may come behind one that came, so that the process is woken once for all of them. The
+/// pace of the neighbors leaves room for these in the socket.
+const GATHER_MS: u64 = 12;
 
 impl<R: Clock> Udp<'_, R> {
     /// Sends as much of what waits as the pace allows at a moment, or all without a moment.
@@ -65,6 +71,21 @@ impl<R: Clock> Udp<'_, R> {
             }
         }
         Ok(())
+    }
+
+    /// Waits as `poll`. Where a datagram came last, more of them come together first.
+    ///
+    /// # Errors
+    /// The system cannot wait for them.
+    fn wait(&mut self, limit: u64) -> Result<(), LinkFault>
+        requires { limit ≤ 400 }
+        ensures { self.new ≡ self.old }
+    {
+        if !self.is_busy || limit == 0 {
+            return self.poll(limit);
+        }
+        thread::sleep(self.rt, Duration::from_millis(limit.min(GATHER_MS)));
+        self.poll(0)
     }
 
     /// Reads what is there at the sockets that are ready.
@@ -124,10 +145,11 @@ impl<R: Clock> Udp<'_, R> {
             self.send_waiting(Some(moment));
             let now = self.clock.now().ms();
             let limit = self.limit(now, end);
-            self.poll(limit)?;
+            self.wait(limit)?;
             self.take_all(buffer)?;
             let given = self.take_next(buffer);
             self.was_silent = given.is_none();
+            self.is_busy = given.is_some();
             self.since = self.clock.now().ms();
             if given.is_some() || self.was_called || self.since >= end {
                 return Ok(given);

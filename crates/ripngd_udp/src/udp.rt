@@ -80,7 +80,7 @@ pub struct Udp<'a, R: Clock> {
     pub(crate) peer_tables: Vec<PeerTable>,
     pub(crate) counts: Counts,
     pub(crate) waiting: Polled,
-    rt: &'a R,
+    pub(crate) rt: &'a R,
     pub(crate) clock: Uptime<'a, R>,
     /// The interface that is served next.
     pub(crate) next: usize,
@@ -90,6 +90,8 @@ pub struct Udp<'a, R: Clock> {
     pub(crate) since: u64,
     /// Whether the last `recv` gave no datagram.
     pub(crate) was_silent: bool,
+    /// Whether a datagram came when it was looked for one last, so that more are to be expected.
+    pub(crate) is_busy: bool,
     /// Whether something was there to read at what is watched, in the last `recv`.
     pub(crate) was_called: bool,
     pub(crate) transcript: Transcript,
@@ -146,6 +148,7 @@ impl<'a, R: Clock> Udp<'a, R> {
             pause: LONGEST_MS,
             since: 0,
             was_silent: false,
+            is_busy: false,
             was_called: false,
             transcript: Transcript::of(&Entry::Nothing),
         })
@@ -251,7 +254,8 @@ impl<'a, R: Clock> Udp<'a, R> {
 }
 
 /// A call of `recv` first sends what has waited long enough, and reads all sockets. If no datagram is there, it waits for one, at all
-/// sockets at once, as long as `wait_at_most` says. Interfaces are served in turn.
+/// sockets at once, as long as `wait_at_most` says; where the last call gave one, it lets more come together first. Interfaces are
+/// served in turn.
 impl<R: Clock> Link for Udp<'_, R> {
     ghost use Rattle.std.specs.Prelude.{◌≡◌, ◌<◌, ◌≤◌, ◌++◌, ◌∷◌, [], IfOk, IfSome, Some, is_ok, length};
     ghost use Rattle.ripngd_engine.specs.Link.{Handed, recv_call};
