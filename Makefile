@@ -1,5 +1,5 @@
 # make              leaves the program at bin/ripngd, in some minutes. It is not proved, and says so
-# make prove        proves it and builds it, and puts it in the place of the other; with CRATE=, proves that crate and all that stand on it
+# make prove        proves it and builds it, and puts it in the place of the other; with CRATE=, proves that crate, all that stand on it, and what those need
 # make test         the merge gate: every proof, the edits that must fail, all tests of the proved program
 # make check        all tests of the program that stands at bin/ripngd, proved or not
 # make lab SCRIPT=  runs a network of routers from a script
@@ -54,13 +54,8 @@ bin/ripngd: crates.txt $(shell find crates -path '*/src/*.rt' ! -path 'crates/te
 bin/test_rows: $(shell find crates/*/src -name '*.rt')
 	tools/unproved.sh crates/test_rows $@
 
-ifdef CRATE
 prove:
-	rt ci $$(tools/crates.py above $(CRATE))
-else
-prove:
-	tools/prove.sh ripngd_program bin/ripngd
-endif
+	tools/prove.sh $(if $(CRATE),--above $(CRATE),ripngd_program bin/ripngd)
 
 test:
 	.ci/run

@@ -3,6 +3,7 @@
 
     tools/crates.py below CRATE        the crate, and all that it stands on
     tools/crates.py above CRATE        the crate, and all that stand on it
+    tools/crates.py around CRATE       these, and all that they stand on
 """
 import pathlib
 import sys
@@ -21,7 +22,8 @@ def main():
     way, crate = sys.argv[1:]
     if crate not in USES:
         sys.exit(f"crates.txt has no crate {crate}")
-    found = below(crate) if way == "below" else {one for one in USES if crate in below(one)}
+    above = {one for one in USES if crate in below(one)}
+    found = {"below": below(crate), "above": above, "around": set().union(*map(below, above))}[way]
     print(*(one for one in USES if one in found))
 
 

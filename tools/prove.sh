@@ -3,27 +3,33 @@
 #
 #     tools/prove.sh [CRATE [PROGRAM]]             ripngd_program and bin/ripngd if none is named
 #     tools/prove.sh --libraries CRATE FOLDER      a library: it, and those below it, stay in the new folder FOLDER with what `rt ci` made of them
+#     tools/prove.sh --above CRATE                 all that stand on a crate, and what those need: nothing stays
 #
-# `rt ci` runs over a copy of the crate and of those below it, without the edits that must fail. What it passes it keeps on this
-# machine, and the merge gate takes it from there; so it takes from the gate what that passed. The exit status is 0 exactly where all is proved.
+# `rt ci` runs over a copy of these crates, without the edits that must fail. The exit status is 0 exactly where all is proved.
 set -eu
 
 cd "$(dirname "$0")/.."
+way=below
+program=
 if [ "${1:-}" = --libraries ]; then
     crate=$2
-    program=
     folder=$(realpath -m "$3")
     mkdir "$folder"
 else
-    crate=${1:-ripngd_program}
-    program=$(realpath -m "${2:-bin/ripngd}")
+    if [ "${1:-}" = --above ]; then
+        way=around
+        crate=$2
+    else
+        crate=${1:-ripngd_program}
+        program=$(realpath -m "${2:-bin/ripngd}")
+    fi
     folder=$(mktemp -d)
     trap 'rm -rf "$folder"' EXIT
 fi
 
 mkdir "$folder/crates"
 cp HANDLES "$folder"
-for name in $(tools/crates.py below "$crate"); do
+for name in $(tools/crates.py "$way" "$crate"); do
     grep -E "^$name( staticlib)?:" crates.txt >> "$folder/crates.txt"
     mkdir "$folder/crates/$name"
     find "crates/$name" -mindepth 1 -maxdepth 1 ! -name out ! -name must-fail -exec cp -r -t "$folder/crates/$name" {} +
