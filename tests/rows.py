@@ -141,8 +141,14 @@ class RandomCommands:
         # The routes by the number and length of their prefixes, these in order, those of marked routes, and those of each deadline.
         self.routes, self.order, self.marked, self.due = {}, [], [], {}
         for turn in range(count):
-            self.turn(turn)
+            length = self.chance.randrange(17)
+            self.turn(turn, (self.chance.getrandbits(length) << 128 - length if length else 0, length))
             if turn % 200 == 199:
+                self.list()
+        # At last all routes are removed, so that what is left of blocks is joined again and again.
+        while self.routes:
+            self.turn(count, self.chance.choice(self.order), leaves=True)
+            if len(self.routes) % 400 == 0:
                 self.list()
         if min(self.done["add"] - 4096, self.done["replace"] - 1000, self.done["remove"] - 1000, self.updated - 1000) <= 0:
             raise Failed(f"too few of a kind: {self.done}, {self.updated} updated")
@@ -185,9 +191,7 @@ class RandomCommands:
         until = self.routes[key][2]
         return until is not None and until <= now
 
-    def turn(self, turn):
-        length = self.chance.randrange(17)
-        key = self.chance.getrandbits(length) << 128 - length if length else 0, length
+    def turn(self, turn, key, leaves=False):
         prefix, now = text(*key), self.chance.randrange(100)
         say = lambda command, *answers: self.lines.extend([f"> {command}", *answers])
         words = lambda route: f"{route[0]} {route[1]}{' changed' if route[3] else ''}"
@@ -198,7 +202,7 @@ class RandomCommands:
             if key in self.routes:
                 self.updated += 1
                 self.put(key, route)
-        verb = self.chance.choice(("replace", "remove")) if key in self.routes else "add"
+        verb = "remove" if leaves else self.chance.choice(("replace", "remove")) if key in self.routes else "add"
         route = None if verb == "remove" else self.route(turn)
         say(f"{verb} {prefix}" if route is None else f"{verb} {prefix} {words(route)}")
         self.put(key, route)

@@ -1,13 +1,13 @@
 -- Blocks after one of them was changed, parted or taken out.
-use Rattle.std.proofs.Common.{◌≡◌, ℕ, zero, suc, Bool, true, false, if◌then◌else◌, get_or, ◌+◌, ◌<◌, ◌≤◌, List, [], ◌∷◌, ◌++◌, length, take, drop, set, map, Result, Ok, Err, refl, sym, ap, ap₂, subst, ◌∙◌, arith, append_assoc, length-append, length-take, length-drop}
+use Rattle.std.proofs.Common.{◌≡◌, ℕ, zero, suc, Bool, true, false, if◌then◌else◌, get_or, ◌+◌, ◌-◌, ◌<◌, ◌≤◌, List, [], ◌∷◌, ◌++◌, length, take, drop, set, map, Result, Ok, Err, refl, sym, ap, ap₂, subst, ◌∙◌, arith, append_assoc, length-append, length-take, length-drop}
 use mathlib.Core.Bool.{false≢true}
 use Rattle.std.specs.Prelude.{T, All, OnOk, OnErr}
 use Rattle.std.specs.List.{insert, remove}
 use Rattle.std.specs.declared.cmp.Ordering.TheVariants.{Less}
 use Rattle.std.specs.FinMap.{is_sorted}
-use Rattle.std.specs.FinMap.Entries.{put}
-use Rattle.std.proofs.lemmas.List.{append-nil, take_all, drop_all, drop_more, length-map, take_at, drop_at, get_or_at, get_or_read, length_push, length-take-le, take_more_set, drop-set-lt, take-append-drop}
-use Rattle.std.proofs.lemmas.List.Elements.{All-append, All-cons, All-take, All-drop, All-map, All-weaker, filter_map-append}
+use Rattle.std.specs.FinMap.Entries.{put, is_sorted-where_key}
+use Rattle.std.proofs.lemmas.List.{append-nil, take_all, drop_all, drop_more, length-map, take_at, drop_at, get_or_at, get_or_read, length_push, length-take-le, length-set, get_or_append_left, set-append_left, take_more_set, drop-set-lt, take-append-drop}
+use Rattle.std.proofs.lemmas.List.Elements.{All-append, All-cons, All-take, All-drop, All-set, All-map, All-weaker, filter_map-append}
 use Rattle.std.specs.Option.{option_map}
 use Rattle.prefix6.specs.Prefix.{Prefix6, prefix_cmp}
 use Rattle.prefix6.proofs.PrefixLaws.{prefixes_total}
@@ -16,10 +16,12 @@ use Rattle.route_table.specs.Place.{Entries}
 use Rattle.route_table.specs.Table.{map_entries}
 use Rattle.route_table.specs.Due.{without_mark}
 use Rattle.route_table.specs.Summary.{SummaryValue, both}
-use Rattle.route_table.specs.Trie.{in_turn}
+use Rattle.route_table.specs.Trie.{in_turn, without}
 use Rattle.route_table.specs.Blocks.{block_limit, joined, block_at, Covers, StartsAt, AreBlocks, AreFilled, IsHome, HasRoom}
+use Rattle.route_table.proofs.SortedMarks.{written_back}
 use Rattle.route_table.proofs.BlockBounds.{covers_join}
-use Rattle.route_table.proofs.BlockLists.{joined-append, joined_at, joined_take, before_block, below_from, above_from}
+use Rattle.route_table.proofs.BlockLists.{joined-append, joined_at, joined_take, sorted_right, before_block, below_from, above_from}
+use Rattle.route_table.proofs.BlockEdits.{sorted_left}
 use Rattle.route_table.proofs.TrieLists.{Entry, put_right, put_some, turned}
 use Rattle.route_table.proofs.TrieMarks.{plain_length}
 
@@ -59,6 +61,58 @@ removed_empty [] i lt none = absurd (omega arith)
 removed_empty ([] ∷ bs) zero lt none = refl
 removed_empty ((e ∷ b) ∷ bs) zero lt none = absurd (omega arith)
 removed_empty (b ∷ bs) (suc i) lt none = ap (λ l. b ++ l) (removed_empty bs i (omega arith) none)
+
+-- ---- what is left where a route was taken out
+pub left_blocks : (bs : List Entries) (p : Prefix6) (i : ℕ) (b : Entries) → AreBlocks bs → joined (set bs i b) ≡ without p (joined bs) → 0 < length b → AreBlocks (set bs i b)
+left_blocks bs p i b h is some = record {
+  sorted = subst (λ l. T (is_sorted prefix_cmp l)) (sym is) (is_sorted-where_key {X = RouteValue} prefix_cmp _ (joined bs) h.sorted);
+  filled = All-set (λ (b : Entries). 0 < length b) bs i b some h.filled;
+}
+
+pub same_blocks : (bs cs : List Entries) → AreBlocks bs → joined cs ≡ joined bs → AreFilled cs → AreBlocks cs
+same_blocks bs cs h same filled = record { sorted = subst (λ l. T (is_sorted prefix_cmp l)) (sym same) h.sorted; filled = filled }
+
+-- ---- two side by side that become one: the last of fs takes what the first of us has
+pub side_by_side : (fs us : List Entries) (i : ℕ) → length fs ≡ i + 1 → 0 < length us → T (is_sorted prefix_cmp (joined (fs ++ us))) → (x y : Entries) → T (is_sorted prefix_cmp (get_or fs i x ++ get_or us 0 y))
+side_by_side [] us i len some h x y = absurd (omega arith)
+side_by_side (f ∷ fs) [] i len some h x y = absurd (omega arith)
+side_by_side (f ∷ []) (u ∷ us) zero len some h x y = sorted_left (f ++ u) (joined us) (subst (λ l. T (is_sorted prefix_cmp l)) (sym (append_assoc f u (joined us))) h)
+side_by_side (f ∷ []) (u ∷ us) (suc i) len some h x y = absurd (omega arith)
+side_by_side (f ∷ g ∷ fs) (u ∷ us) zero len some h x y = absurd (omega arith)
+side_by_side (f ∷ g ∷ fs) (u ∷ us) (suc i) len some h x y = side_by_side (g ∷ fs) (u ∷ us) i (omega arith) some (sorted_right f (joined ((g ∷ fs) ++ u ∷ us)) h) x y
+
+joined_over : (fs us : List Entries) (i : ℕ) (x y c : Entries) → length fs ≡ i + 1 → 0 < length us → c ≡ get_or fs i x ++ get_or us 0 y → joined (remove (set fs i c ++ us) (suc i)) ≡ joined (fs ++ us)
+joined_over [] us i x y c len some is = absurd (omega arith)
+joined_over (f ∷ fs) [] i x y c len some is = absurd (omega arith)
+joined_over (f ∷ []) (u ∷ us) zero x y c len some is = ap (λ l. l ++ joined us) is ∙ append_assoc f u (joined us)
+joined_over (f ∷ []) (u ∷ us) (suc i) x y c len some is = absurd (omega arith)
+joined_over (f ∷ g ∷ fs) (u ∷ us) zero x y c len some is = absurd (omega arith)
+joined_over (f ∷ g ∷ fs) (u ∷ us) (suc i) x y c len some is = ap (λ l. f ++ l) (joined_over (g ∷ fs) (u ∷ us) i x y c (omega arith) some is)
+
+filled_without : (bs : List Entries) (i : ℕ) → AreFilled bs → AreFilled (remove bs i)
+filled_without bs i h =
+    let P = λ (b : Entries). 0 < length b in
+    All-append P (take i bs) (drop (suc i) bs) (All-take P i bs h) (All-drop P (suc i) bs h)
+
+pub record IsJoined (bs cs : List Entries) : Type 0 where
+  pub same : joined cs ≡ joined bs
+  pub filled : AreFilled cs
+
+-- bs was lent as fs and us, the last of fs became c, and the block behind it was taken out
+pub is_joined : (bs fs us cs : List Entries) (n at : ℕ) (x y c : Entries) → AreBlocks bs → bs ≡ fs ++ us → length fs ≡ at → (at ≡ 0 → ⊥) → at < length bs → n ≡ length bs
+    → c ≡ get_or fs (at - 1) x ++ get_or us 0 y → cs ≡ remove (take n ((set fs (at - 1) c ++ us) ++ drop (length (set fs (at - 1) c ++ us)) bs)) at → IsJoined bs cs
+is_joined bs fs us cs n at x y c h parts len not lt counted is cs_is =
+    let i = at - 1 in
+    let next : at ≡ suc i = omega (arith, not) in
+    let inside : i < length fs = omega (arith, len, not) in
+    let same : length (set fs i c ++ us) ≡ length bs = length-append (set fs i c) us ∙ ap (λ m. m + length us) (length-set fs i c) ∙ sym (ap length parts ∙ length-append fs us) in
+    let whole : cs ≡ remove (set fs i c ++ us) (suc i) = cs_is ∙ ap₂ (λ (l : List Entries) (m : ℕ). remove l m) (written_back n (set fs i c ++ us) bs counted same) next in
+    let some : 0 < length c = omega (arith, ap length is, length-append (get_or fs i x) (get_or us 0 y), subst (λ (l : Entries). 0 < length l) (ap (λ l. get_or l i x) parts ∙ get_or_append_left fs us x i inside) (h.filled i x (omega (arith, lt)))) in
+    record {
+      same = ap joined whole ∙ joined_over fs us i x y c (omega (arith, len, not)) (omega (arith, len, lt, ap length parts, length-append fs us)) is ∙ sym (ap joined parts);
+      filled = subst AreFilled (sym whole) (filled_without (set fs i c ++ us) (suc i)
+          (subst AreFilled (set-append_left fs us i c inside) (All-set (λ (b : Entries). 0 < length b) (fs ++ us) i c some (subst AreFilled parts h.filled))));
+    }
 
 -- ---- one more at the end
 pub joined_push : (bs : List Entries) (p : Prefix6) (v : RouteValue) → All (λ e. prefix_cmp e.0 p ≡ Less) (joined bs) → joined (bs ++ ((p, v) ∷ []) ∷ []) ≡ put prefix_cmp p v (joined bs)

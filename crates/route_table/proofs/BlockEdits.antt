@@ -1,5 +1,5 @@
 -- A block after one route was put, changed or taken out, and the parts of one.
-use Rattle.std.proofs.Common.{◌≡◌, ℕ, zero, suc, ◌+◌, ◌-◌, ◌<◌, Bool, true, false, [], ◌∷◌, ◌++◌, length, get_or, take, drop, set, if◌then◌else◌, sym, ap, subst, ◌∙◌, inl, inr, arith, length-take, length-drop}
+use Rattle.std.proofs.Common.{◌≡◌, ℕ, zero, suc, ◌+◌, ◌-◌, ◌<◌, ◌≤◌, Bool, true, false, [], ◌∷◌, ◌++◌, length, get_or, take, drop, set, if◌then◌else◌, sym, ap, subst, ◌∙◌, inl, inr, arith, length-append, length-take, length-drop}
 use mathlib.Core.Bool.{false≢true}
 use Rattle.std.specs.Prelude.{T, All, None, is_some}
 use Rattle.std.specs.List.{insert, remove}
@@ -24,7 +24,7 @@ use Rattle.route_table.proofs.TableLaws.{and_left, and_right, and_both, is_sorte
 use Rattle.route_table.proofs.TrieLists.{Entry}
 use Rattle.route_table.proofs.TrieMarks.{plain_length}
 use Rattle.route_table.proofs.BlockLists.{sorted_right}
-use Rattle.route_table.proofs.BlockBounds.{covers_set, covers_insert, covers_summed, covers_plain}
+use Rattle.route_table.proofs.BlockBounds.{covers_set, covers_insert, covers_summed, covers_join, covers_plain}
 
 -- ---- parts of a sorted list
 below_left : (x : Prefix6) (xs ys : Entries) → T (below_all prefix_cmp x (xs ++ ys)) → T (below_all prefix_cmp x xs)
@@ -57,6 +57,10 @@ starts_set : (f : Prefix6) (es : Entries) (k : Prefix6) (v : RouteValue) (i : �
 starts_set f [] k v i a h = tt
 starts_set f (e ∷ es) k v zero a h = sym (a.has_prefix e) ∙ h
 starts_set f (e ∷ es) k v (suc i) a h = h
+
+starts_append : (f : Prefix6) (es us : Entries) → 0 < length es → StartsAt f es → StartsAt f (es ++ us)
+starts_append f [] us some h = absurd (omega arith)
+starts_append f (e ∷ es) us some h = h
 
 starts_plain : (f : Prefix6) (es : Entries) → StartsAt f es → StartsAt f (map_entries without_mark es)
 starts_plain f [] h = tt
@@ -120,6 +124,15 @@ module _ (first : Prefix6) (bound : SummaryValue) (es : Entries) (h : IsBlock fi
     starts = starts;
     covered = covers_summed s fs exact;
   }
+
+  -- with the routes of the block behind it
+  pub absorbed_block : (first' : Prefix6) (bound' : SummaryValue) (us : Entries) → IsBlock first' bound' us → (s : SummaryValue) (fs : Entries) → 0 < length es → T (is_sorted prefix_cmp (es ++ us)) → fs ≡ es ++ us → s ≡ both bound bound' → length es + length us ≤ block_limit → IsBlock first s fs
+  absorbed_block first' bound' us upper s fs some sorted is more few = subst (λ l. IsBlock first s l) (sym is) (subst (λ x. IsBlock first x (es ++ us)) (sym more) (record {
+    sorted = sorted;
+    few = omega (arith, length-append es us);
+    starts = starts_append first es us some h.starts;
+    covered = covers_join bound bound' es us h.covered upper.covered;
+  }))
 
   -- without its marks
   pub plain_block : (fs : Entries) (s : SummaryValue) → fs ≡ map_entries without_mark es → s ≡ record bound { changed = false } → IsBlock first s fs

@@ -1,7 +1,7 @@
 //! A block: a few routes in the order of their prefixes, with a bound that lets a search skip them.
 
-ghost use Rattle.std.specs.Prelude.{◌≡◌, ◌+◌, ◌-◌, ◌<◌, ◌≤◌, ◌↔◌, [], ◌∷◌, ◌++◌, length, take, drop, IsTrue, IfOk, IfSome, OnOk, OnErr, All, None, Some, vec_len, vec_capacity};
-ghost use Rattle.std.specs.FinMap.{find};
+ghost use Rattle.std.specs.Prelude.{◌≡◌, ◌+◌, ◌-◌, ◌<◌, ◌≤◌, ◌↔◌, [], ◌∷◌, ◌++◌, length, take, drop, IsTrue, IfOk, IfSome, OnOk, OnErr, All, None, Some, T, if◌then◌else◌, vec_len, vec_capacity};
+ghost use Rattle.std.specs.FinMap.{find, is_sorted};
 ghost use Rattle.std.specs.declared.cmp.Ordering.TheVariants.{Less};
 ghost use Rattle.std.specs.FinMap.Entries.{put};
 ghost use Rattle.prefix6.specs.Prefix.{prefix_cmp};
@@ -23,7 +23,8 @@ use std::marker::Model;
 /// The most routes of a block.
 const LIMIT: usize = 128;
 
-/// How many routes a full block keeps when it is split.
+/// How many routes a full block keeps when it is split, and the most that two blocks have together when they are joined: at least so
+/// many routes come or go between the one and the other.
 const HALF: usize = 64;
 
 /// At most `LIMIT` routes. The summary is a bound: no deadline is earlier, and no route change flag is set unless it says so.
@@ -278,6 +279,24 @@ impl Block {
             changes: 0,
             routes,
         })
+    }
+
+    /// Appends the routes of the block behind it, if the two have at most `HALF` together and there is room for them: whether it did.
+    /// No memory is taken.
+    pub fn absorb(&mut self, upper: &Block) -> bool
+        requires some { 0 < length self.old }
+        requires ordered { T (is_sorted prefix_cmp (self.old ++ upper.now)) }
+        ensures { self.new ≡ (if result then self.old ++ upper.now else self.old) }
+    {
+        if self.len() + upper.len() > HALF.min(self.routes.capacity()) {
+            return false;
+        }
+        let Ok(()) = self.routes.extend_from_slice(&upper.routes) else {
+            unreachable!()
+        };
+        self.bound = self.bound.and(upper.bound);
+        self.changes = self.changes.saturating_add(upper.changes);
+        true
     }
 
     /// Replaces the route to a prefix by what `make` returns for it: the route before and after.

@@ -202,7 +202,26 @@ pub fn unmark(blocks: &mut Vec<Block>) -> Summary
     bound
 }
 
-/// Removes the route to a prefix, and its block if that is left empty.
+/// Joins a block with the one before it, if both are small and there is room for both in that one.
+fn join(blocks: &mut Vec<Block>, at: usize)
+    requires { AreBlocks blocks.old.items }
+    ensures same { joined blocks.new.items ≡ joined blocks.old.items }
+    ensures filled { AreFilled blocks.new.items }
+{
+    if at == 0 || at >= blocks.len() {
+        return;
+    }
+    let (lower, upper) = blocks.split_at_mut(at);
+    if lower[at - 1].absorb(&upper[0]) {
+        let _ = blocks.remove(at);
+    }
+}
+
+/// Removes the route to a prefix, and its block if that is left empty, or else joins this with the block behind it or before it if they
+/// are small. Two blocks side by side then have more than 64 routes, or the first never had room for so many.
+///
+/// The worst case is a bisection over the blocks, a look at the 128 routes of one, and twice a copy of at most 63 routes and a move of
+/// all blocks behind.
 pub fn remove(blocks: &mut Vec<Block>, prefix: &Prefix)
     requires ordered { AreBlocks blocks.old.items }
     requires present { IsSome (find prefix_cmp prefix.now (joined blocks.old.items)) }
@@ -215,7 +234,10 @@ pub fn remove(blocks: &mut Vec<Block>, prefix: &Prefix)
     blocks[block].remove(at, prefix);
     if blocks[block].len() == 0 {
         let _ = blocks.remove(block);
+        return;
     }
+    join(blocks, block + 1);
+    join(blocks, block);
 }
 
 /// Whether a prefix that has no route is to begin a block after all others. It does so if the last block is full, so that routes
