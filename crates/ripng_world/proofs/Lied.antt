@@ -1,34 +1,21 @@
 -- What it means that nothing refuses a lie, how its router moves, and what is then promised of those that run.
-use Rattle.std.proofs.Common.{◌≡◌, ℕ, ◌<◌, ◌++◌, not, Bool, true, false, cond, List, [], ◌∷◌, map, length, Option, Some, None, option_map, slice_get, refl, ap, sym, subst, ◌∙◌}
+use Rattle.std.proofs.Common.{◌≡◌, ℕ, ◌<◌, ◌++◌, not, Bool, true, false, List, [], map, length, Option, Some, None, option_map, slice_get, refl, ap, sym, subst, ◌∙◌}
 use Rattle.std.specs.Option.{option_map_or}
 use Rattle.std.proofs.lemmas.List.{append-nil}
 use Rattle.std.proofs.lemmas.Option.{slice_get-map}
-use Rattle.ripng_wire.specs.Wire.{first_reason}
 use Rattle.ripng_wire.proofs.FirstReason.{each_passes}
-use Rattle.router_core.proofs.ReasonsOfEach.{first_reason-append}
 use Rattle.router_core.specs.Machine.{State, Arrives}
 use Rattle.router_core.specs.Received.{Received}
 use Rattle.router_core.specs.declared.answer.Answer.{Answer}
 use Rattle.router_core.specs.declared.reconfiguring.Change.{Change}
-use Rattle.ripng_world.specs.Labs.{is_heard_at, lab_of, missing_interface_reasons}
+use Rattle.ripng_world.specs.Labs.{is_heard_at, lab_of}
 use Rattle.ripng_world.specs.Lying.{Lies, lie_fault, lie_reasons}
 use Rattle.ripng_world.specs.Network.{interface_at}
 use Rattle.ripng_world.specs.Stations.{StationValue, IsMoveAt, network_of, world_of}
 use Rattle.ripng_world.specs.World.{is_heard, sent_by}
-use Rattle.ripng_world.specs.declared.event.LabError.TheVariants.{NotALiar}
 use Rattle.ripng_world.specs.declared.network.NetInterface.{NetInterface}
 use Rattle.ripng_world.specs.declared.sent.Sent.{Sent}
 use Rattle.ripng_world.proofs.StationMoves.{interface_within, moved_at, some_of, within}
-
--- the test of a lie, where there is such an interface
-pub lie_tested : (stations : List StationValue) (sent : List Sent) (reconfigurations : List (ℕ × Change)) (router : ℕ) (x : Received) (s : StationValue) (b : Bool)
-    → None ≡ first_reason (missing_interface_reasons (network_of stations) router x.iface) → slice_get stations router ≡ Some s → is_heard s.state x ≡ b
-    → cond (not b) (Some NotALiar) None ≡ lie_fault (lab_of stations sent reconfigurations) router x
-lie_tested stations sent reconfigurations router x s b there here heard =
-    let at : is_heard_at (world_of stations sent reconfigurations) router x ≡ is_heard s.state x =
-    ap (λ (o : Option State). option_map_or (λ t. is_heard t x) o false) (slice_get-map (λ (t : StationValue). t.state) stations router ∙ ap (option_map (λ (t : StationValue). t.state)) here) in
-    sym (first_reason-append (missing_interface_reasons (network_of stations) router x.iface) ((not (is_heard_at (world_of stations sent reconfigurations) router x), NotALiar) ∷ []) (sym there)
-    ∙ ap (λ (a : Bool). cond (not a) (Some NotALiar) None) (at ∙ heard))
 
 -- an arrival that may be a liar's
 pub record IsLiar (stations : List StationValue) (router : ℕ) (x : Received) : Type 0 where

@@ -1,11 +1,11 @@
 -- Who has the address of a next hop, and where a router forwards packets.
-use Rattle.std.proofs.Common.{◌≡◌, ℕ, ◌+◌, ◌<◌, ◌≤◌, ◌==◌, Bool, true, false, cond, nat_lt, List, [], length, get_or, Some, None, option_map, slice_get, refl, ap, sym, subst, ◌∙◌, arith}
+use Rattle.std.proofs.Common.{◌≡◌, ℕ, ◌+◌, ◌<◌, ◌≤◌, ◌==◌, Bool, true, false, cond, nat_lt, List, length, get_or, Some, None, option_map, slice_get, refl, ap, sym, subst, ◌∙◌, arith}
 use Rattle.std.specs.List.{position, position_or_len}
 use Rattle.std.proofs.lemmas.Bool.{and_from, and_parts, eq-eqb, eqb-true, false≢true, ltb-false}
 use Rattle.std.proofs.lemmas.List.{length-map}
 use Rattle.std.proofs.lemmas.List.Quantifiers.{position-Some}
 use Rattle.std.proofs.lemmas.List.Sums.{fails_before_first}
-use Rattle.std.proofs.lemmas.Option.{slice_get-get_or, slice_get-map, slice_get_past, slice_get_within}
+use Rattle.std.proofs.lemmas.Option.{slice_get-get_or, slice_get_within}
 use Rattle.prefix6.specs.Prefix.{Prefix6}
 use Rattle.fib.specs.Forwarding.{Forwarding, IsMatch, IsLongestMatch}
 use Rattle.fib.specs.declared.change.Hop.{Hop as FibHop}
@@ -17,8 +17,9 @@ use Rattle.router_core.specs.Machine.{State}
 use Rattle.ripng_world.specs.Network.{Network, interface_at}
 use Rattle.ripng_world.specs.Packets.{Forwardings, ForwardsBy, HandsOn, forwardings_of}
 use Rattle.ripng_world.specs.Path.{ForwardsToNobody, HasNoMatch, LeadsTo, is_on}
-use Rattle.ripng_world.specs.Stations.{StationValue, network_of, world_of}
+use Rattle.ripng_world.specs.Stations.{StationValue, network_of}
 use Rattle.ripng_world.specs.Walks.{Hop}
+use Rattle.ripng_world.specs.World.{World}
 use Rattle.ripng_world.specs.declared.network.NetInterface.{NetInterface}
 use Rattle.ripng_world.proofs.Packets.{node_of}
 use Rattle.ripng_world.proofs.Refusals.{interface_of}
@@ -82,11 +83,11 @@ leads_nowhere net router iface next_hop none h leads = let l = leads.is_hop.1 in
 -- ---- all routers
 
 -- a hop leads to a router of the network
-pub led_inside : (stations : List StationValue) (router iface next_hop : ℕ) (h : Hop) → LeadsTo (network_of stations) router iface next_hop h → h.router < length stations
-led_inside stations router iface next_hop h leads =
+pub led_inside : (net : Network) (router iface next_hop : ℕ) (h : Hop) → LeadsTo net router iface next_hop h → h.router < length net
+led_inside net router iface next_hop h leads =
     let l = leads.is_hop.1 in
-    let n = node_of (network_of stations) h.router h.router_iface l.there l.there_is in
-    subst (λ (n : ℕ). h.router < n) (length-map stations (λ (s : StationValue). s.node)) (slice_get_within (network_of stations) h.router n.0 n.1)
+    let n = node_of net h.router h.router_iface l.there l.there_is in
+    slice_get_within net h.router n.0 n.1
 
 pub next_router : (m n : ℕ) → m ≤ n → (n ≡ m → ⊥) → m + 1 ≤ n
 next_router m n h other = omega arith
@@ -96,30 +97,26 @@ past_all m n routers h k l = omega arith
 
 -- so none leads past the last
 pub leads_past : (stations : List StationValue) (router iface next_hop other : ℕ) → length stations ≤ other → (h : Hop) → LeadsTo (network_of stations) router iface next_hop h → h.router ≡ other → ⊥
-leads_past stations router iface next_hop other past h leads same = outside h.router other (length stations) (led_inside stations router iface next_hop h leads) same past
+leads_past stations router iface next_hop other past h leads same =
+    outside h.router other (length stations) (subst (λ (n : ℕ). h.router < n) (length-map stations (λ (s : StationValue). s.node)) (led_inside (network_of stations) router iface next_hop h leads)) same past
   where
     outside : (a b n : ℕ) → a < n → a ≡ b → n ≤ b → ⊥
     outside a b n low e h = omega arith
 
 -- ---- what a router does
 
-module _ (stations : List StationValue) (addr router : ℕ) where
-  abbrev tables : Forwardings
-  tables = forwardings_of (world_of stations [] [])
+module _ (w : World) (addr router : ℕ) where
+  pub no_router : None ≡ slice_get w.states router → HasNoMatch (forwardings_of w) addr router
+  no_router past table p is m = None-Some table (sym (ap (option_map (λ (s : State). forwards s.table)) (sym past)) ∙ is)
 
-  pub no_router : length stations ≤ router → HasNoMatch tables addr router
-  no_router past table p is m = None-Some table (sym (ap (option_map (λ (s : State). forwards s.table)) (slice_get-map (λ (t : StationValue). t.state) stations router ∙ ap (option_map (λ (t : StationValue). t.state)) (slice_get_past stations router past))) ∙ is)
+  module _ (s : State) (is : Some s ≡ slice_get w.states router) (table : Table) (same : table ≡ s.table) where
+    table_is : forwardings_of w router ≡ Some (forwards table)
+    table_is = ap (option_map (λ (s : State). forwards s.table)) (sym is) ∙ ap (λ (t : Table). Some (forwards t)) (sym same)
 
-  module _ (s : StationValue) (is : slice_get stations router ≡ Some s) (table : Table) (same : table ≡ s.state.table) where
-    table_is : tables router ≡ Some (forwards table)
-    table_is =
-        ap (option_map (λ (s : State). forwards s.table)) (slice_get-map (λ (t : StationValue). t.state) stations router ∙ ap (option_map (λ (t : StationValue). t.state)) is)
-        ∙ ap (λ (t : Table). Some (forwards t)) (sym same)
-
-    pub forwards_by : (hop : FibHop) → IsLongestMatch (forwards table) addr hop → ForwardsBy tables addr router hop
+    pub forwards_by : (hop : FibHop) → IsLongestMatch (forwards table) addr hop → ForwardsBy (forwardings_of w) addr router hop
     forwards_by hop longest = record { table = forwards table; table_is = table_is; longest = longest }
 
-    pub no_match : ((p : Prefix6) → ¬ (IsMatch (forwards table) addr p)) → HasNoMatch tables addr router
+    pub no_match : ((p : Prefix6) → ¬ (IsMatch (forwards table) addr p)) → HasNoMatch (forwardings_of w) addr router
     no_match none other p e m = none p (subst (λ (t : Forwarding). IsMatch t addr p) (sym (Some-same (forwards table) other (sym table_is ∙ e))) m)
 
 pub hands_on : (net : Network) (fibs : Forwardings) (addr router iface next_hop : ℕ) (h : Hop) → ForwardsBy fibs addr router (Via iface next_hop) → LeadsTo net router iface next_hop h → HandsOn net fibs addr router h

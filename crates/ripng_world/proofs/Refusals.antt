@@ -1,34 +1,30 @@
 -- What the tests of an event come to, where the checks of a router and of an interface have passed.
-use Rattle.std.proofs.Common.{◌≡◌, ◌≢◌, ℕ, ◌<◌, ◌≤◌, Bool, true, false, not, cond, ◌==◌, nat_le, List, [], ◌∷◌, length, Option, Some, None, option_map, option_and_then, slice_get, refl, ap, ap₂, sym, subst, ◌∙◌, arith}
+use Rattle.std.proofs.Common.{◌≡◌, ℕ, ◌<◌, ◌≤◌, Bool, true, false, not, cond, nat_le, List, [], ◌∷◌, length, Option, Some, None, option_map, option_and_then, slice_get, refl, ap, ap₂, sym, subst, ◌∙◌, arith}
 use Rattle.std.specs.Option.{option_map_or}
-use Rattle.std.proofs.lemmas.List.{length-map}
 use Rattle.std.proofs.lemmas.Bool.Decides.{nat_tests}
 use Rattle.std.proofs.lemmas.Option.{slice_get-map, slice_get_past}
 use Rattle.ripng_wire.specs.Wire.{first_reason}
-use Rattle.ripng_wire.proofs.FirstReason.{each_passes}
 use Rattle.router_core.proofs.ReasonsOfEach.{first_reason-append}
 use Rattle.router_core.specs.Machine.{State}
 use Rattle.router_core.specs.Received.{Received}
-use Rattle.router_core.specs.declared.reconfiguring.Change.{Change}
-use Rattle.ripng_world.specs.Labs.{event_fault, is_heard_at, is_one_link, lab_of, link_at, link_of_datagram, missing_interface_reasons, missing_router_reasons}
-use Rattle.ripng_world.specs.Network.{Node, interface_at}
-use Rattle.ripng_world.specs.Stations.{StationValue, network_of, world_of}
-use Rattle.ripng_world.specs.World.{Deliver, Stranger, is_heard}
-use Rattle.ripng_world.specs.declared.event.LabError.TheVariants.{NoSuchRouter, NoSuchDatagram, OtherLink, NotAStranger}
+use Rattle.ripng_world.specs.Labs.{LabValue, event_fault, is_heard_at, is_one_link, link_at, link_of_datagram, missing_interface_reasons, missing_router_reasons}
+use Rattle.ripng_world.specs.Lying.{lie_fault}
+use Rattle.ripng_world.specs.Network.{Network, Node, interface_at}
+use Rattle.ripng_world.specs.Stations.{StationValue, network_of}
+use Rattle.ripng_world.specs.World.{World, Deliver, Stranger, is_heard}
+use Rattle.ripng_world.specs.declared.event.LabError.TheVariants.{NoSuchRouter, NoSuchDatagram, OtherLink, NotAStranger, NotALiar}
 use Rattle.ripng_world.specs.declared.sent.Sent.{Sent}
 
 -- ---- a router, and an interface of it
 
-pub present : (stations : List StationValue) (router : ℕ) → router < length stations → None ≡ first_reason (missing_router_reasons (network_of stations) router)
-present stations router here =
-    let size = length-map stations (λ (s : StationValue). s.node) in
-    let passed : nat_le (length (network_of stations)) router ≡ false = grind (arith, nat_tests, size, here) in
+pub present : (net : Network) (router routers : ℕ) → routers ≡ length net → router < routers → None ≡ first_reason (missing_router_reasons net router)
+present net router routers same here =
+    let passed : nat_le (length net) router ≡ false = grind (arith, nat_tests, same, here) in
     ap (λ (b : Bool). cond b (Some NoSuchRouter) None) (sym passed)
 
-pub absent : (stations : List StationValue) (router : ℕ) → length stations ≤ router → Some NoSuchRouter ≡ first_reason (missing_router_reasons (network_of stations) router)
-absent stations router past =
-    let size = length-map stations (λ (s : StationValue). s.node) in
-    let failed : nat_le (length (network_of stations)) router ≡ true = grind (arith, nat_tests, size, past) in
+pub absent : (net : Network) (router routers : ℕ) → routers ≡ length net → routers ≤ router → Some NoSuchRouter ≡ first_reason (missing_router_reasons net router)
+absent net router routers same past =
+    let failed : nat_le (length net) router ≡ true = grind (arith, nat_tests, same, past) in
     ap (λ (b : Bool). cond b (Some NoSuchRouter) None) (sym failed)
 
 pub interface_of : (stations : List StationValue) (router iface : ℕ) (s : StationValue) → slice_get stations router ≡ Some s
@@ -43,59 +39,49 @@ no_interface stations router iface past =
 
 -- ---- where there is such an interface
 
-module _ (stations : List StationValue) (sent : List Sent) (router iface : ℕ) (there : None ≡ first_reason (missing_interface_reasons (network_of stations) router iface)) where
-  pub there_within : router < length stations
-  there_within =
-      let h = (each_passes (missing_interface_reasons (network_of stations) router iface) (sym there)).0 in
-      let few : router < length (network_of stations) = grind (arith, nat_tests, h) in
-      subst (λ (n : ℕ). router < n) (length-map stations (λ (s : StationValue). s.node)) few
+module _ (lab : LabValue) (router iface : ℕ) (there : None ≡ first_reason (missing_interface_reasons lab.network router iface)) (datagram now : ℕ) where
+  tested : (past other : Bool) → nat_le (length lab.world.sent) datagram ≡ past
+      → not (is_one_link (link_of_datagram lab datagram) (link_at lab.network router iface)) ≡ other
+      → event_fault lab (Deliver datagram router iface now) ≡ cond past (Some NoSuchDatagram) (cond other (Some OtherLink) None)
+  tested past other p q =
+      first_reason-append (missing_interface_reasons lab.network router iface) (
+      (nat_le (length lab.world.sent) datagram, NoSuchDatagram)
+      ∷ (not (is_one_link (link_of_datagram lab datagram) (link_at lab.network router iface)), OtherLink)
+      ∷ []
+      ) (sym there)
+      ∙ ap₂ (λ (a b : Bool). cond a (Some NoSuchDatagram) (cond b (Some OtherLink) None)) p q
 
-  module _ (datagram : ℕ) (reconfigurations : List (ℕ × Change)) (now : ℕ) where
-    tested : (past other : Bool) → nat_le (length sent) datagram ≡ past
-        → not (is_one_link (link_of_datagram (lab_of stations sent reconfigurations) datagram) (link_at (network_of stations) router iface)) ≡ other
-        → event_fault (lab_of stations sent reconfigurations) (Deliver datagram router iface now) ≡ cond past (Some NoSuchDatagram) (cond other (Some OtherLink) None)
-    tested past other p q =
-        first_reason-append (missing_interface_reasons (network_of stations) router iface) (
-        (nat_le (length sent) datagram, NoSuchDatagram)
-        ∷ (not (is_one_link (link_of_datagram (lab_of stations sent reconfigurations) datagram) (link_at (network_of stations) router iface)), OtherLink)
-        ∷ []
-        ) (sym there)
-        ∙ ap₂ (λ (a b : Bool). cond a (Some NoSuchDatagram) (cond b (Some OtherLink) None)) p q
+  pub no_datagram : length lab.world.sent ≤ datagram → Some NoSuchDatagram ≡ event_fault lab (Deliver datagram router iface now)
+  no_datagram past =
+      let failed : nat_le (length lab.world.sent) datagram ≡ true = grind (arith, nat_tests, past) in
+      sym (tested true _ failed refl)
 
-    pub no_datagram : length sent ≤ datagram → Some NoSuchDatagram ≡ event_fault (lab_of stations sent reconfigurations) (Deliver datagram router iface now)
-    no_datagram past =
-        let failed : nat_le (length sent) datagram ≡ true = grind (arith, nat_tests, past) in
-        sym (tested true _ failed refl)
+  module _ (d : Sent) (own : Option ℕ) (link : ℕ) (few : datagram < length lab.world.sent) (is : slice_get lab.world.sent datagram ≡ Some d) (own_is : link_at lab.network d.router d.iface ≡ own)
+      (link_is : link_at lab.network router iface ≡ Some link) where
+    passed : nat_le (length lab.world.sent) datagram ≡ false
+    passed = grind (arith, nat_tests, few)
 
-    module _ (d : Sent) (own link : ℕ) (few : datagram < length sent) (is : slice_get sent datagram ≡ Some d) (own_is : link_at (network_of stations) d.router d.iface ≡ Some own)
-        (link_is : link_at (network_of stations) router iface ≡ Some link) where
-      passed : nat_le (length sent) datagram ≡ false
-      passed = grind (arith, nat_tests, few)
+    links : is_one_link (link_of_datagram lab datagram) (link_at lab.network router iface) ≡ is_one_link own (Some link)
+    links = ap₂ is_one_link (ap (option_and_then (λ (x : Sent). link_at lab.network x.router x.iface)) is ∙ own_is) link_is
 
-      links : is_one_link (link_of_datagram (lab_of stations sent reconfigurations) datagram) (link_at (network_of stations) router iface) ≡ (own == link)
-      links = ap₂ is_one_link (ap (option_and_then (λ (x : Sent). link_at (network_of stations) x.router x.iface)) is ∙ own_is) link_is
+    pub delivery_tested : (b : Bool) → is_one_link own (Some link) ≡ b → cond (not b) (Some OtherLink) None ≡ event_fault lab (Deliver datagram router iface now)
+    delivery_tested b same = sym (tested false (not b) passed (ap not (links ∙ same)))
 
-      pub deliverable : own ≡ link → None ≡ event_fault (lab_of stations sent reconfigurations) (Deliver datagram router iface now)
-      deliverable same =
-          let one : (own == link) ≡ true = grind (arith, nat_tests, same) in
-          sym (tested false false passed (ap not (links ∙ one)))
+-- ---- whether the router would accept it
 
-      pub other_link : own ≢ link → Some OtherLink ≡ event_fault (lab_of stations sent reconfigurations) (Deliver datagram router iface now)
-      other_link different =
-          let two : (own == link) ≡ false = grind (arith, nat_tests, different) in
-          sym (tested false true passed (ap not (links ∙ two)))
+pub there_as : (net : Network) (router : ℕ) (x y : Received) → y ≡ x → None ≡ first_reason (missing_interface_reasons net router y.iface) → None ≡ first_reason (missing_interface_reasons net router x.iface)
+there_as net router x y same there = subst (λ (z : Received). None ≡ first_reason (missing_interface_reasons net router z.iface)) same there
 
--- ---- whether it is a stranger's
+module _ (lab : LabValue) (router : ℕ) (x : Received) (there : None ≡ first_reason (missing_interface_reasons lab.network router x.iface)) (b : Bool) (heard : is_heard_at lab.world router x ≡ b) where
+  pub stranger_tested : cond b (Some NotAStranger) None ≡ event_fault lab (Stranger router x)
+  stranger_tested =
+      sym (first_reason-append (missing_interface_reasons lab.network router x.iface) ((is_heard_at lab.world router x, NotAStranger) ∷ []) (sym there)
+      ∙ ap (λ (a : Bool). cond a (Some NotAStranger) None) heard)
 
-pub stranger_there : (stations : List StationValue) (router : ℕ) (x y : Received) → y ≡ x → None ≡ first_reason (missing_interface_reasons (network_of stations) router y.iface)
-    → None ≡ first_reason (missing_interface_reasons (network_of stations) router x.iface)
-stranger_there stations router x y same there = subst (λ (z : Received). None ≡ first_reason (missing_interface_reasons (network_of stations) router z.iface)) same there
+  pub lie_tested : cond (not b) (Some NotALiar) None ≡ lie_fault lab router x
+  lie_tested =
+      sym (first_reason-append (missing_interface_reasons lab.network router x.iface) ((not (is_heard_at lab.world router x), NotALiar) ∷ []) (sym there)
+      ∙ ap (λ (a : Bool). cond (not a) (Some NotALiar) None) heard)
 
-pub stranger_tested : (stations : List StationValue) (sent : List Sent) (reconfigurations : List (ℕ × Change)) (router : ℕ) (x : Received) (s : StationValue) (b : Bool)
-    → None ≡ first_reason (missing_interface_reasons (network_of stations) router x.iface) → slice_get stations router ≡ Some s → is_heard s.state x ≡ b
-    → cond b (Some NotAStranger) None ≡ event_fault (lab_of stations sent reconfigurations) (Stranger router x)
-stranger_tested stations sent reconfigurations router x s b there here heard =
-    let at : is_heard_at (world_of stations sent reconfigurations) router x ≡ is_heard s.state x =
-    ap (λ (o : Option State). option_map_or (λ t. is_heard t x) o false) (slice_get-map (λ (t : StationValue). t.state) stations router ∙ ap (option_map (λ (t : StationValue). t.state)) here) in
-    sym (first_reason-append (missing_interface_reasons (network_of stations) router x.iface) ((is_heard_at (world_of stations sent reconfigurations) router x, NotAStranger) ∷ []) (sym there)
-    ∙ ap (λ (a : Bool). cond a (Some NotAStranger) None) (at ∙ heard))
+pub heard_at : (w : World) (router : ℕ) (x : Received) (o : Option State) (b : Bool) → o ≡ slice_get w.states router → option_map_or (λ s. is_heard s x) o false ≡ b → is_heard_at w router x ≡ b
+heard_at w router x o b at is = ap (λ (p : Option State). option_map_or (λ s. is_heard s x) p false) (sym at) ∙ is

@@ -1,7 +1,7 @@
 //! A lab: a lawful network that runs, with real routers and bytes. Whatever happens in it, each route of a router, and each that a
 //! datagram advertises, is backed by a walk through the network.
 
-ghost use Rattle.std.specs.Prelude.{◌≡◌, ℕ, ◌++◌, ◌∷◌, [], IfErr, IfOk, IfSome, OnOk, length, map, take, slice_get, unwrap_or};
+ghost use Rattle.std.specs.Prelude.{◌≡◌, ◌++◌, ◌∷◌, [], IfErr, IfOk, IfSome, OnOk, length, map, take, slice_get};
 ghost use Rattle.std.specs.Option.{option_copied};
 ghost use Rattle.std.specs.Result.{result_err};
 ghost use Rattle.ripng_world.specs.Events.{event_of};
@@ -40,7 +40,7 @@ impl<S: RouteStore> Model for Lab<S> {
     ghost use Rattle.prefix6.specs.Prefix.{prefix_cmp};
     ghost use Rattle.prefix6.specs.contracts.prefix.Prefix as prefix;
     ghost use Rattle.route_table.specs.contracts.route.Route as route;
-    ghost use Rattle.ripng_world.specs.Labs.{LabValue, HasRun, lab_of};
+    ghost use Rattle.ripng_world.specs.Labs.{LabValue, HasRun};
     ghost use Rattle.ripng_world.specs.Stations.{network_of, world_of};
 
     ghost Value = { LabValue };
@@ -209,10 +209,7 @@ impl<S: RouteStore> Lab<S> {
         ensures keeps { Keeps self.new }
     {
         let (done, outcome) = self.run_watched(events, &mut Unwatched);
-        match outcome {
-            Ok(()) => (done, Ok(())),
-            Err(stopped) => (done, Err(stopped.refusal())),
-        }
+        (done, outcome.map_err(|stopped| stopped.refusal()))
     }
 
     /// As `run`, and an observer is notified of each event.

@@ -11,9 +11,8 @@ ghost use Rattle.ripng_world.specs.World.{Deliver, Reconfigure, arrival_of, reco
 ghost use Rattle.ripng_world.specs.declared.sent.Sent.{Sent as SentValue};
 
 use crate::event::{Event, Happening, LabError};
-use crate::refusing::interface_at;
 use crate::sent::Sent;
-use crate::station::Station;
+use crate::station::{Station, interface_at};
 use prefix6::Addr6;
 use route_table::{Moment, RouteStore};
 use router_core::{
@@ -68,15 +67,7 @@ fn deliver<S: RouteStore>(
 pub fn again<'a>(arrival: &Arrival<'a>) -> Arrival<'a>
     ensures { result ≡ arrival.entry.now }
 {
-    Arrival {
-        now: arrival.now,
-        iface: arrival.iface,
-        source: arrival.source,
-        source_port: arrival.source_port,
-        hop_limit: arrival.hop_limit,
-        to_group: arrival.to_group,
-        bytes: arrival.bytes,
-    }
+    Arrival { ..*arrival }
 }
 
 /// Something happens at a router. Room for what the router sends is made first, and nothing is added yet.

@@ -1,9 +1,7 @@
 //! Networks: routers with interfaces on links, and which of them are lawful.
 
-ghost use Rattle.std.specs.Prelude.{◌≡◌, ◌≢◌, ◌==◌, ◌++◌, All, map, None, Some, IfErr, IfOk, OnOk};
-ghost use Rattle.std.specs.List.{list_any};
+ghost use Rattle.std.specs.Prelude.{◌≡◌, ◌≢◌, All, map, None, Some, IfErr, IfOk, OnOk};
 ghost use Rattle.std.specs.Result.{result_err};
-ghost use Rattle.prefix6.specs.Prefix.{IsPrefix};
 ghost use Rattle.ripng_wire.specs.Wire.{first_reason};
 ghost use Rattle.router_core.specs.Config.{IsConfig, reasons_of_each};
 ghost use Rattle.ripng_world.specs.Network.{IsNetwork, config_of};
@@ -165,39 +163,22 @@ fn check_router(alloc: Global, router: usize, node: Node) -> Result<NetRouter, N
     }
 }
 
-/// The addresses of more interfaces.
-fn add_addresses(all: &mut Vec<Addr6>, interfaces: &[NetInterface]) -> Result<(), AllocError>
-    ensures { OnOk result (all.new.items ≡ all.old.items ++ map (λ i. i.interface.addr) interfaces.now) }
-{
-    for interface in interfaces {
-        all.push(interface.interface.addr)?;
-    }
-    Ok(())
-}
-
 /// The addresses of all interfaces, router by router.
 fn addresses(alloc: Global, routers: &[NetRouter]) -> Result<Vec<Addr6>, AllocError>
     ensures { IfOk result (λ v. v.items ≡ addresses routers.now) }
 {
     let mut all = Vec::new(alloc);
     for router in routers {
-        add_addresses(&mut all, &router.interfaces)?;
+        all.extend(router.interfaces.iter().map(|i| i.interface.addr))?;
     }
     Ok(all)
-}
-
-/// Whether an address is one of those.
-fn has_address(addresses: &[Addr6], addr: Addr6) -> bool
-    ensures { result ≡ list_any (λ a. a == addr) addresses.now }
-{
-    addresses.iter().any(|&a| a == addr)
 }
 
 /// Whether an address is an earlier one.
 fn check_address(earlier: &[Addr6], addr: Addr6) -> Result<(), NetRefused>
     ensures { result_err result ≡ first_reason (address_reasons earlier.now addr) }
 {
-    if has_address(earlier, addr) {
+    if earlier.contains(&addr) {
         Err(NetRefused::AddressSharedInNetwork)
     } else {
         Ok(())

@@ -1,17 +1,15 @@
 //! Which datagrams come where: pairs of a datagram and another interface of its link.
 
-ghost use Rattle.std.specs.Prelude.{◌≡◌, ◌++◌, IfOk, OnOk, map};
-ghost use Rattle.std.specs.List.{filter, range_with_len};
-ghost use Rattle.ripng_world.specs.AskedRounds.{delivery, interfaces_of, is_other, pair_at, pairs_since};
+ghost use Rattle.std.specs.Prelude.{◌≡◌, IfOk};
+ghost use Rattle.std.specs.List.{filter};
+ghost use Rattle.ripng_world.specs.AskedRounds.{delivery, interfaces_of, is_other, pairs_since};
 ghost use Rattle.ripng_world.specs.Events.{event_of};
-ghost use Rattle.ripng_world.specs.Stations.{network_of};
 
 use crate::event::Event;
-use crate::refusing::link_at;
+use crate::running::Running;
 use crate::sent::Sent;
-use crate::station::Station;
 use route_table::{Moment, RouteStore};
-use std::alloc::{AllocError, Global};
+use std::alloc::AllocError;
 
 /// A datagram, and an interface that it is to come to.
 #[derive(Clone, Copy)]
@@ -35,103 +33,56 @@ impl Pair {
     }
 }
 
-/// Adds the interfaces of a router, each with the router's number.
-fn add_interfaces(
-    interfaces: &mut Vec<(usize, usize)>,
-    router: usize,
-    count: usize,
-) -> Result<(), AllocError>
-    ensures { OnOk result (interfaces.new.items ≡ interfaces.old.items ++ map (λ i. (router, i)) (range_with_len 0 count)) }
-{
-    for iface in 0..count {
-        interfaces.push((router, iface))?;
-    }
-    Ok(())
-}
-
-/// All interfaces of the network, each after its router's number, in order.
-fn interfaces<S: RouteStore>(
-    alloc: Global,
-    stations: &[Station<S>],
-) -> Result<Vec<(usize, usize)>, AllocError>
-    ensures { IfOk result (λ interfaces. interfaces.items ≡ interfaces_of (network_of stations.now)) }
-{
-    let mut interfaces = Vec::new(alloc);
-    for (router, station) in stations.iter().enumerate() {
-        add_interfaces(&mut interfaces, router, station.interfaces().len())?;
-    }
-    Ok(interfaces)
-}
-
-/// Whether the interface is another one of the datagram's link.
-fn is_other<S: RouteStore>(
-    stations: &[Station<S>],
-    datagram: &Sent,
-    router: usize,
-    iface: usize,
-) -> bool
-    ensures { result ≡ is_other (network_of stations.now) datagram.now (router, iface) }
-{
-    match (
-        link_at(stations, datagram.router, datagram.iface),
-        link_at(stations, router, iface),
-    ) {
-        (Some(own), Some(link)) => {
-            own == link && !(router == datagram.router && iface == datagram.iface)
+impl<S: RouteStore> Running<S> {
+    /// All interfaces of the network, each after its router's number, in order.
+    fn interfaces(&self) -> Result<Vec<(usize, usize)>, AllocError>
+        ensures { IfOk result (λ interfaces. interfaces.items ≡ interfaces_of self.now.network) }
+    {
+        let mut interfaces = Vec::new(self.alloc);
+        for (router, station) in self.stations.iter().enumerate() {
+            interfaces.extend((0..station.interfaces().len()).map(|iface| (router, iface)))?;
         }
-        _ => false,
+        Ok(interfaces)
     }
-}
 
-/// The other interfaces of a datagram's link, each after its router's number, in order.
-pub fn receivers<S: RouteStore>(
-    alloc: Global,
-    stations: &[Station<S>],
-    datagram: &Sent,
-) -> Result<Vec<(usize, usize)>, AllocError>
-    ensures { IfOk result (λ receivers. receivers.items ≡ filter (is_other (network_of stations.now) datagram.now) (interfaces_of (network_of stations.now))) }
-{
-    let interfaces = interfaces(alloc, stations)?;
-    let mut receivers = Vec::new(alloc);
-    for &(router, iface) in &interfaces {
-        if is_other(stations, datagram, router, iface) {
-            receivers.push((router, iface))?;
+    /// Whether the interface is another one of the datagram's link.
+    fn is_other(&self, datagram: &Sent, router: usize, iface: usize) -> bool
+        ensures { result ≡ is_other self.now.network datagram.now (router, iface) }
+    {
+        let own = self.link(datagram.router, datagram.iface);
+        match (own, self.link(router, iface)) {
+            (Some(own), Some(link)) => {
+                own == link && !(router == datagram.router && iface == datagram.iface)
+            }
+            _ => false,
         }
     }
-    Ok(receivers)
-}
 
-/// Adds a datagram with each of these interfaces.
-fn add_pairs(
-    pairs: &mut Vec<Pair>,
-    datagram: usize,
-    receivers: &[(usize, usize)],
-) -> Result<(), AllocError>
-    ensures { OnOk result (pairs.new.items ≡ pairs.old.items ++ map (pair_at datagram) receivers.now) }
-{
-    for &(router, iface) in receivers {
-        pairs.push(Pair {
-            datagram,
-            router,
-            iface,
-        })?;
+    /// The other interfaces of a datagram's link, each after its router's number, in order.
+    pub(crate) fn receivers(&self, datagram: &Sent) -> Result<Vec<(usize, usize)>, AllocError>
+        ensures { IfOk result (λ receivers. receivers.items ≡ filter (is_other self.now.network datagram.now) (interfaces_of self.now.network)) }
+    {
+        let others = self.interfaces()?.into_iter();
+        others
+            .filter(|&(router, iface)| self.is_other(datagram, router, iface))
+            .collect(self.alloc)
     }
-    Ok(())
-}
 
-/// Each datagram from a number on, with each other interface of its link, in order.
-pub fn pairs_since<S: RouteStore>(
-    alloc: Global,
-    stations: &[Station<S>],
-    sent: &[Sent],
-    first: usize,
-) -> Result<Vec<Pair>, AllocError>
-    ensures { IfOk result (λ pairs. pairs.items ≡ pairs_since (network_of stations.now) first sent.now) }
-{
-    let mut pairs = Vec::new(alloc);
-    for number in first..sent.len() {
-        let receivers = receivers(alloc, stations, &sent[number])?;
-        add_pairs(&mut pairs, number, &receivers)?;
+    /// Each datagram from a number on, with each other interface of its link, in order.
+    pub(crate) fn pairs_since(&self, first: usize) -> Result<Vec<Pair>, AllocError>
+        ensures { IfOk result (λ pairs. pairs.items ≡ pairs_since self.now.network first self.now.world.sent) }
+    {
+        let mut pairs = Vec::new(self.alloc);
+        for number in first..self.sent.len() {
+            let receivers = self.receivers(&self.sent[number])?;
+            pairs.extend(
+                receivers.iter().map(|&(router, iface)| Pair {
+                    datagram: number,
+                    router,
+                    iface,
+                }),
+            )?;
+        }
+        Ok(pairs)
     }
-    Ok(pairs)
 }

@@ -1,23 +1,26 @@
-//! Where packets go by the tables of routers that run: from router to router, until the way ends.
+//! Where packets go by the tables of routers that run: from router to router, each by its longest match, until the way ends.
 
-ghost use Rattle.std.specs.Prelude.{◌≡◌, ◌≤◌, ◌⊎◌, ◌↔◌, nat_eq, [], IfErr, IfOk, length};
+ghost use Rattle.std.specs.Prelude.{◌≡◌, ◌<◌, ◌≤◌, ◌≢◌, ◌^◌, ◌⊎◌, ◌↔◌, nat_eq, IfErr, IfOk, IfSome, IsNone, length, option_and_then, option_map, position};
+ghost use Rattle.std.specs.FinMap as map_of;
 ghost use Rattle.std.specs.List.{list_any};
+ghost use Rattle.fib.specs.Forwarding.{IsLongestMatch, IsMatch};
+ghost use Rattle.prefix6.specs.Prefix.{Prefix6, cleared};
+ghost use Rattle.router_core.specs.Changes.{forward, forwards};
 ghost use Rattle.ripng_world.specs.Healing.{network_now};
-ghost use Rattle.ripng_world.specs.Packets.{forwardings_of};
-ghost use Rattle.ripng_world.specs.Path.{IsPath};
-ghost use Rattle.ripng_world.specs.Stations.{network_of, world_of};
+ghost use Rattle.ripng_world.specs.Packets.{ForwardsBy, HandsOn, forwardings_of};
+ghost use Rattle.ripng_world.specs.Path.{EndsAt, HasNoMatch, IsPath, LeadsTo, is_on};
+ghost use Rattle.ripng_world.specs.Walks.{Hop as WalkHop};
 ghost use Rattle.ripng_world.specs.World.{past_of};
-
-mod next;
 
 use crate::event::LabError;
 use crate::lab::Lab;
+use crate::network::NetInterface;
 use crate::running::Running;
-use crate::station::Station;
-use next::hand_on;
-use prefix6::Addr6;
-use route_table::RouteStore;
-use std::alloc::{AllocError, Global};
+use crate::station::interface_at;
+use fib::Hop;
+use prefix6::{Addr6, Prefix};
+use route_table::{INFINITY, Origin, Route, RouteStore};
+use std::alloc::AllocError;
 use std::marker::Model;
 
 /// A hop of packets, across a link to another router.
@@ -81,36 +84,145 @@ fn is_passed(passed: &[usize], router: usize) -> bool
     passed.iter().any(|&earlier| router == earlier)
 }
 
-/// The way from a router, until it ends.
-///
-/// # Errors
-/// Only out of memory.
-fn walk<S: RouteStore>(
-    alloc: Global,
-    stations: &[Station<S>],
-    router: usize,
-    addr: Addr6,
-) -> Result<Path, AllocError>
-    ensures { IfOk result (IsPath (network_of stations.now) (forwardings_of (world_of stations.now [] [])) addr router) }
+/// Where packets go by a route, if it is there and not unreachable.
+fn hop_by(route: Option<Route>) -> Option<Hop>
+    ensures { result ≡ option_map (λ f. f.hop) (option_and_then forward route) }
 {
-    let mut hops = Vec::new(alloc);
-    let mut passed = Vec::new(alloc);
-    let mut at = router;
-    while !is_passed(&passed, at) {
-        match hand_on(stations, at, addr) {
-            Err(end) => return Ok(Path { hops, end }),
-            Ok(hop) => {
-                passed.push(at)?;
-                hops.push(hop)?;
-                at = hop.router;
-            }
+    let route = route?;
+    if route.metric() >= INFINITY {
+        return None;
+    }
+    match route.origin() {
+        Origin::Own => Some(Hop::Direct),
+        Origin::Learned {
+            iface,
+            next_hop,
+            ..
+        } => Some(Hop::Via { iface, next_hop }),
+    }
+}
+
+/// Where packets go by the prefix of that length that holds the address, if the table forwards to it.
+fn hop_at<S: RouteStore>(routes: &S, addr: Addr6, len: u8) -> Option<Hop>
+    requires { len ≤ 128 }
+    ensures value { result ≡ option_map (λ f. f.hop) (map_of.get (forwards (S.table routes.now)) (cleared addr len)) }
+    ensures in_range { addr < 2 ^ 128 }
+{
+    let Ok(prefix) = Prefix::new(addr, len) else {
+        unreachable!()
+    };
+    hop_by(routes.get(&prefix))
+}
+
+/// The hop of the longest prefix that the table forwards to and that holds the address (RFC 4632, section 5.1; RFC 7608, section 2),
+/// in at most 129 look-ups.
+fn longest_match<S: RouteStore>(routes: &S, addr: Addr6) -> Option<Hop>
+    ensures found { IfSome result (IsLongestMatch (forwards (S.table routes.now)) addr) }
+    ensures none { IsNone result → (p : Prefix6) → ¬ (IsMatch (forwards (S.table routes.now)) addr p) }
+{
+    for len in (0..129).rev() {
+        if let Some(hop) = hop_at(routes, addr, len) {
+            return Some(hop);
         }
     }
-    let end = PathEnd::Loops { from: at };
-    Ok(Path { hops, end })
+    None
+}
+
+/// The first of a router's interfaces that is on the link and has the address.
+fn place_on(interfaces: &[NetInterface], link: u16, addr: Addr6) -> Option<usize>
+    ensures { result ≡ position (is_on link addr) interfaces.now }
+{
+    interfaces
+        .iter()
+        .position(|i| i.link == link && i.interface.addr == addr)
 }
 
 impl<S: RouteStore> Running<S> {
+    /// The hop from a router by one of its interfaces to that other router, if it has the next hop's address on the link.
+    fn hop_to(&self, router: usize, iface: usize, next_hop: Addr6, other: usize) -> Option<PathHop>
+        ensures found { IfSome result (LeadsTo self.now.network router iface next_hop) }
+        ensures none { IsNone result → (h : WalkHop) → LeadsTo self.now.network router iface next_hop h → h.router ≢ other }
+    {
+        if other == router {
+            return None;
+        }
+        let here = interface_at(&self.stations, router, iface)?;
+        let station = self.stations.get(other)?;
+        let router_iface = place_on(station.interfaces(), here.link, next_hop)?;
+        Some(PathHop {
+            iface,
+            router: other,
+            router_iface,
+        })
+    }
+
+    /// The hop from a router by one of its interfaces to the next hop's address, if another router of the link has it.
+    fn neighbor(&self, router: usize, iface: usize, next_hop: Addr6) -> Option<PathHop>
+        ensures found { IfSome result (LeadsTo self.now.network router iface next_hop) }
+        ensures none { IsNone result → (h : WalkHop) → ¬ (LeadsTo self.now.network router iface next_hop h) }
+    {
+        for other in 0..self.routers() {
+            if let Some(hop) = self.hop_to(router, iface, next_hop, other) {
+                return Some(hop);
+            }
+        }
+        None
+    }
+
+    /// Where a router forwards packets for the address, if its table matches it.
+    fn hop_from(&self, router: usize, addr: Addr6) -> Option<Hop>
+        ensures found { IfSome result (ForwardsBy (forwardings_of self.now.world) addr router) }
+        ensures none { IsNone result → HasNoMatch (forwardings_of self.now.world) addr router }
+    {
+        longest_match(self.router(router)?.routes(), addr)
+    }
+
+    /// The hop by which a router hands on packets for the address.
+    ///
+    /// # Errors
+    /// How the way ends, if it ends there.
+    fn hand_on(&self, router: usize, addr: Addr6) -> Result<PathHop, PathEnd>
+        ensures hop { IfOk result (HandsOn self.now.network (forwardings_of self.now.world) addr router) }
+        ensures end { IfErr result (EndsAt self.now.network (forwardings_of self.now.world) addr router) }
+    {
+        let Some(hop) = self.hop_from(router, addr) else {
+            return Err(PathEnd::NoRoute);
+        };
+        match hop {
+            Hop::Direct => Err(PathEnd::Delivered),
+            Hop::Via { iface, next_hop } => {
+                match self.neighbor(router, iface, next_hop) {
+                    Some(hop) => Ok(hop),
+                    None => Err(PathEnd::NextHopIsNobodys),
+                }
+            }
+        }
+    }
+
+    /// The way from a router, until it ends.
+    ///
+    /// # Errors
+    /// Only out of memory.
+    fn walk(&self, router: usize, addr: Addr6) -> Result<Path, AllocError>
+        ensures { IfOk result (IsPath self.now.network (forwardings_of self.now.world) addr router) }
+    {
+        let mut hops = Vec::new(self.alloc);
+        let mut passed = Vec::new(self.alloc);
+        let mut at = router;
+        while !is_passed(&passed, at) {
+            match self.hand_on(at, addr) {
+                Err(end) => return Ok(Path { hops, end }),
+                Ok(hop) => {
+                    passed.push(at)?;
+                    hops.push(hop)?;
+                    at = hop.router;
+                }
+            }
+        }
+        let end = PathEnd::Loops { from: at };
+        Ok(Path { hops, end })
+    }
+
     /// The way of packets for an address from a router: each router hands them on by the longest match of its table.
     ///
     /// # Errors
@@ -123,7 +235,7 @@ impl<S: RouteStore> Running<S> {
         if router >= self.routers() {
             return Err(LabError::NoSuchRouter);
         }
-        Ok(walk(self.alloc, &self.stations, router, addr)?)
+        Ok(self.walk(router, addr)?)
     }
 }
 

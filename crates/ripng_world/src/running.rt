@@ -6,14 +6,13 @@ ghost use Rattle.std.specs.Option.{option_copied};
 ghost use Rattle.std.specs.Result.{result_err};
 ghost use Rattle.ripng_world.specs.Events.{event_of};
 ghost use Rattle.ripng_world.specs.Labs.{HappensGiving, StepEnds, link_at};
-ghost use Rattle.ripng_world.specs.Lying.{IsLieRefusal, LiesGiving, lie_fault};
+ghost use Rattle.ripng_world.specs.Lying.{IsLieRefusal, LiesGiving};
 ghost use Rattle.ripng_world.specs.Watching.{IfRefused, WatchedInPart, failures, refusal_in};
 
 use crate::event::{Event, Happening, LabError};
 use crate::moving::{act, again, file, happen};
-use crate::refusing::{check, check_liar, link_at};
 use crate::sent::Sent;
-use crate::station::Station;
+use crate::station::{Station, interface_at};
 use crate::watch::{Observer, Stopped};
 use fib::RouteChange;
 use route_table::RouteStore;
@@ -74,10 +73,7 @@ impl<S: RouteStore> Running<S> {
     pub fn router(&self, router: usize) -> Option<&Router<S>>
         ensures { option_copied result ≡ slice_get self.now.world.states router }
     {
-        match self.stations.get(router) {
-            Some(station) => Some(station.router()),
-            None => None,
-        }
+        Some(self.stations.get(router)?.router())
     }
 
     /// All datagrams ever sent, numbered from 0.
@@ -98,7 +94,7 @@ impl<S: RouteStore> Running<S> {
     pub fn link(&self, router: usize, iface: usize) -> Option<u16>
         ensures { result ≡ link_at self.now.network router iface }
     {
-        link_at(&self.stations, router, iface)
+        interface_at(&self.stations, router, iface).map(|i| i.link)
     }
 
     /// An event happens: one router moves, and answers. What it sends goes to the end of `sent`, and is not in the answer.
@@ -111,7 +107,7 @@ impl<S: RouteStore> Running<S> {
         ensures network { self.new.network ≡ self.old.network }
         ensures ends { StepEnds self.old (event_of event.entry.now) (result_err result) self.new }
     {
-        check(&self.stations, &self.sent, event)?;
+        self.check(event)?;
         let answer = happen(
             &mut self.stations,
             &mut self.sent,
@@ -139,24 +135,11 @@ impl<S: RouteStore> Running<S> {
         ensures untold { IfErr result (λ why. IfRefused why (λ _. watch.new ≡ watch.old)) }
     {
         let first = self.sent().len();
-        let answer = match self.step(event) {
-            Ok(answer) => answer,
-            Err(why) => return Err(Stopped::Refused(why)),
-        };
+        let answer = self.step(event)?;
         match watch.happened(self, event, &answer, first) {
             Ok(()) => Ok(answer),
             Err(fault) => Err(Stopped::Failed(fault)),
         }
-    }
-
-    /// Whether a datagram is a forged Response: the router would accept it as one from a neighbor.
-    ///
-    /// # Errors
-    /// The first reason that it is not: no such router, no such interface, or a datagram that any outside host may send.
-    pub fn check_lie(&self, router: usize, arrival: &Arrival<'_>) -> Result<(), LabError>
-        ensures { result_err result ≡ lie_fault self.now router arrival.entry.now }
-    {
-        check_liar(&self.stations, router, arrival)
     }
 
     /// A forged Response comes: the router accepts it as one from a neighbor, but no router of the network has sent it. The router

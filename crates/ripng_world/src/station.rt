@@ -5,8 +5,8 @@ ghost use Rattle.std.specs.FinMap as map_of;
 ghost use Rattle.router_core.specs.Machine.{Moves, Reconfigures, Starts};
 ghost use Rattle.router_core.specs.Reconfiguring.{NamesInterface, reconfigure_fault};
 ghost use Rattle.ripng_world.specs.Events.{happening_of};
-ghost use Rattle.ripng_world.specs.Network.{config_of};
-ghost use Rattle.ripng_world.specs.Stations.{IsPlaced, most_sends};
+ghost use Rattle.ripng_world.specs.Network.{config_of, interface_at};
+ghost use Rattle.ripng_world.specs.Stations.{IsPlaced, most_sends, network_of};
 
 use crate::event::Happening;
 use crate::network::{NetInterface, NetRouter, Node};
@@ -38,6 +38,17 @@ impl<S: RouteStore> Model for Station<S> {
     ghost view = { λ s. record { node = s.node; state = s.router } };
 
     ghost invariant = { λ s. length s.router.config.interfaces ≡ length s.node.interfaces };
+}
+
+/// An interface of a router of the network.
+pub fn interface_at<S: RouteStore>(
+    stations: &[Station<S>],
+    router: usize,
+    iface: usize,
+) -> Option<NetInterface>
+    ensures { result ≡ interface_at (network_of stations.now) router iface }
+{
+    stations.get(router)?.interface(iface)
 }
 
 impl<S: RouteStore> Station<S> {

@@ -10,7 +10,7 @@ ghost use Rattle.ripng_world.specs.Watching.{HeardInPart, WatchedInPart, Watched
 ghost use Rattle.ripng_world.specs.World.{WorldRun};
 
 use super::Lab;
-use crate::pairs::{Pair, pairs_since, receivers};
+use crate::pairs::Pair;
 use crate::sent::Sent;
 use crate::watch::{Observer, Stopped, Unwatched};
 use route_table::{Moment, RouteStore};
@@ -33,7 +33,7 @@ impl<S: RouteStore> Lab<S> {
     pub fn receivers(&self, datagram: &Sent) -> Result<Vec<(usize, usize)>, AllocError>
         ensures { IfOk result (λ receivers. receivers.items ≡ filter (is_other self.now.network datagram.now) (interfaces_of self.now.network)) }
     {
-        receivers(self.running.alloc, &self.running.stations, datagram)
+        self.running.receivers(datagram)
     }
 
     /// A datagram comes to an interface of its link.
@@ -117,12 +117,7 @@ impl<S: RouteStore> Lab<S> {
         ensures delivered { OnOk result (WatchedRun V.takes heard self.old.network (self.old.world, watch.old) (deliveries_of (pairs_since self.old.network first self.old.world.sent) picks.now rest) (self.new.world, watch.new)) }
         ensures stopped { IfErr result (λ why. HeardInPart V.takes V.fails why self.old.network (self.old.world, watch.old) (deliveries_of (pairs_since self.old.network first self.old.world.sent) picks.now rest) (self.new.world, watch.new)) }
     {
-        let pairs = pairs_since(
-            self.running.alloc,
-            &self.running.stations,
-            &self.running.sent,
-            first,
-        )?;
+        let pairs = self.running.pairs_since(first)?;
         let picked = self.deliver_picked(&pairs, picks, watch)?;
         self.deliver_others(&pairs, &picked, rest, watch)
     }
@@ -139,10 +134,8 @@ impl<S: RouteStore> Lab<S> {
         ensures stopped { OnErr result (StopForMemory self.old.network self.old.world (deliveries_since self.old.network first self.old.world.sent now) self.new.world) }
         ensures keeps { Keeps self.new }
     {
-        match self.deliver_since_watched(first, now, &mut Unwatched) {
-            Ok(()) => Ok(()),
-            Err(stopped) => Err(stopped.refusal()),
-        }
+        self.deliver_since_watched(first, now, &mut Unwatched)
+            .map_err(|stopped| stopped.refusal())
     }
 
     /// As `deliver_since`, and an observer is notified of each delivery.

@@ -128,10 +128,8 @@ impl<S: RouteStore> Lab<S> {
         ensures refused { IfErr result (λ why. HaveStopped self.old.network self.old.world rounds.entry.now why self.new.world) }
         ensures keeps { Keeps self.new }
     {
-        match self.run_rounds_watched(rounds, &mut Unwatched) {
-            Ok(()) => Ok(()),
-            Err(stopped) => Err(stopped.refusal()),
-        }
+        self.run_rounds_watched(rounds, &mut Unwatched)
+            .map_err(|stopped| stopped.refusal())
     }
 
     /// As `run_rounds`, and an observer is notified of each event.

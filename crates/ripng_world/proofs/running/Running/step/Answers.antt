@@ -1,7 +1,7 @@
 use Rattle.std.proofs.Common.{◌≡◌, ℕ, List, [], ◌∷◌, ◌++◌, map, take, drop, length, refl, sym, subst, ◌∙◌, ap, ap₂}
 use Rattle.router_core.specs.declared.reconfiguring.Change.{Change}
 use Rattle.ripng_world.specs.Events.{event_of}
-use Rattle.ripng_world.specs.Labs.{IsRefusal, event_fault, lab_of}
+use Rattle.ripng_world.specs.Labs.{IsRefusal, LabValue, event_fault, lab_of}
 use Rattle.ripng_world.specs.Rounds.{router_of}
 use Rattle.ripng_world.specs.Stations.{StationValue, MoveStations, network_of, world_of}
 use Rattle.ripng_world.specs.World.{Happens, reconfigurations_in, sent_by}
@@ -47,8 +47,7 @@ returns-clause-network g c = rw (← c.self.view_is, stations g c) (moves g c).n
 pub returns-clause-ends : goal.returns-clause-ends
 returns-clause-ends g c =
     let reconfigurations = c.self.inside.reconfigurations.items in
-    let none = sym (c.in_ok-check.ensures reconfigurations
-    ∙ ap₂ (λ (ss : List StationValue) (ds : List Sent). event_fault (lab_of ss ds reconfigurations) (event_of c.args.event.now)) c.deref.ensures.value c.deref-2.ensures.value) in
+    let none = ap (λ (l : LabValue). event_fault l (event_of c.args.event.now)) c.self.view_is ∙ sym c.in_ok-check.ensures in
     rw (← c.self.view_is) (record {
       reconfigurations = done g c;
       passes = happened_passes (lab_of c.self.inside.stations.items c.self.inside.sent.items reconfigurations) (event_of c.args.event.now) c.in_ok-answer.answer
@@ -64,7 +63,7 @@ happen-requires g c =
     let reconfigurations = c.self.inside.reconfigurations.items in
     let e = event_of c.args.event.now in
     ap (λ (ss : List StationValue). event_fault (lab_of ss sent reconfigurations) e) c.deref_mut.ensures.value
-    ∙ sym (c.in_ok-check.ensures reconfigurations ∙ ap₂ (λ (ss : List StationValue) (ds : List Sent). event_fault (lab_of ss ds reconfigurations) e) c.deref.ensures.value c.deref-2.ensures.value)
+    ∙ ap (λ (l : LabValue). event_fault l e) c.self.view_is ∙ sym c.in_ok-check.ensures
 
 pub file-requires : goal.file-requires
 file-requires g c = c.in_ok-answer.ensures.room
@@ -74,7 +73,7 @@ returns-in_err-check-clause-ends g c =
     let reconfigurations = c.self.inside.reconfigurations.items in
     let lab = lab_of c.self.inside.stations.items c.self.inside.sent.items reconfigurations in
     let e = event_of c.args.event.now in
-    let fault = sym (c.in_err-check.ensures reconfigurations ∙ ap₂ (λ (ss : List StationValue) (ds : List Sent). event_fault (lab_of ss ds reconfigurations) e) c.deref.ensures.value c.deref-2.ensures.value) in
+    let fault = ap (λ (l : LabValue). event_fault l e) c.self.view_is ∙ sym c.in_err-check.ensures in
     rw (← c.self.view_is) (step_refused lab lab e c.from_residual.result c.in_err-check.field-0.0 c.from_residual.ensures.1 (refused_first lab e c.in_err-check.field-0.0 fault) refl)
 
 pub returns-in_err-answer-clause-ends : goal.returns-in_err-answer-clause-ends
