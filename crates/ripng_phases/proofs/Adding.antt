@@ -38,15 +38,3 @@ added_in xs i u lt =
       others = λ other v e. elim (set_other xs i (Some u) other (Some v) e) [ inl a ↦ inl (a.0, Some-same v u a.1) | inr b ↦ inr b ];
       kept = λ other v e. elim (set_kept xs i (Some u) other (Some v) e) [ inl a ↦ (u, a) | inr b ↦ (v, b) ];
     }
-
-pub added_out : (xs : List (Option Update)) (i : ℕ) (u : Update) → length xs ≤ i → IsAdded xs i u xs
-added_out xs i u le =
-    record {
-      as_many = refl;
-      here = λ lt. absurd (no i (length xs) lt le);
-      others = λ other v e. inr e;
-      kept = λ other v e. (v, e);
-    }
-  where
-    no : (a b : ℕ) → a < b → b ≤ a → ⊥
-    no a b e f = omega arith

@@ -54,12 +54,6 @@ module _ {V : Type 0} (t : V → Told → V → Type 0) (s : LabValue × V) (fir
       waits t s first begin course (record course { moment = due }) a u refl i.0 (λ _. i.1)
 
 module _ {V F : Type 0} (t f : V → Told → V → Type 0) where
-  -- one part after another
-  pub goes_then : {Y : Type 0} (r : Result Y (Stopped PhaseRefused F)) (old mid new : LabValue × V) (course course' course'' : Course) → GoesOn {X = ⊤} {F = F} t f (Ok tt) old course mid course'
-      → GoesOn t f r mid course' new course'' → GoesOn t f r old course new course''
-  goes_then (Ok y) old mid new course course' course'' first rest = λ s number begin is. rest s number begin (first s number begin is)
-  goes_then (Err why) old mid new course course' course'' first rest = λ s number begin is. rest s number begin (first s number begin is)
-
   -- an error that is handed on
   pub goes_handed : {Y : Type 0} (r : Result Y (Stopped PhaseRefused F)) (why : Stopped PhaseRefused F) (old new : LabValue × V) (course course' course'' : Course) → IsErrAnd r (λ e. e ≡ why)
       → GoesOn {X = ⊤} t f (Err why) old course new course' → GoesOn t f r old course new course''
@@ -123,12 +117,6 @@ module _ {V F : Type 0} (t f : V → Told → V → Type 0) where
         ends = nothing_last F t f s.0.network (s'.0.world, s'.1) OutOfMemory;
         too_late = tt;
       }
-
-  -- a phase that is compared, and stops, hands its error on
-  pub cut_handed : {X : Type 0} (r : Result X (Stopped PhaseRefused F)) (from why : Stopped PhaseRefused F) (s : LabValue × V) (first begin : ℕ) (s' : LabValue × V) → IsErrAnd r (λ e. e ≡ from) → from ≡ why
-      → IsCutShort t f s first begin why s' → IfErr r (λ e. IsCutShort t f s first begin e s')
-  cut_handed (Ok x) from why s first begin s' is same cut = absurd is
-  cut_handed (Err e) from why s first begin s' is same cut = subst (λ (x : Stopped PhaseRefused F). IsCutShort t f s first begin x s') (sym (is ∙ same)) cut
 
   -- a router ticks, or is cut short at it
   pub goes_nudged : (r : Result ⊤ (Stopped PhaseRefused F)) (old new : LabValue × V) (course : Course) (router word : ℕ) → new.0.network ≡ old.0.network

@@ -1,6 +1,6 @@
 //! How far a phase has come: its clock, which datagrams were handed on, and which regular updates were sent.
 
-ghost use Rattle.std.specs.Prelude.{◌≡◌, ◌≤◌, ◌<◌, IsTrue, Some, length, slice_get};
+ghost use Rattle.std.specs.Prelude.{◌≡◌, ◌≤◌, ◌<◌, IsTrue, Some, slice_get};
 ghost use Rattle.ripng_phases.specs.Making.{IsAdded, IsKept};
 ghost use Rattle.ripng_phases.specs.declared.course.Update.{Update as UpdateValue};
 
@@ -59,10 +59,8 @@ impl Course {
     pub fn keeps(&self, datagram: usize) -> bool
         ensures { IsKept self.now.told.items datagram → IsTrue result }
     {
-        self.told.iter().any(|told| match told {
-            Some(update) => update.first <= datagram && datagram < update.end,
-            None => false,
-        })
+        let of = |update: Update| update.first <= datagram && datagram < update.end;
+        self.told.iter().any(|told| told.is_some_and(of))
     }
 
     /// A router has sent its regular update. All datagrams up to its end have to be handed on.
@@ -70,17 +68,9 @@ impl Course {
         ensures told { IsAdded self.old.told.items router update self.new.told.items }
         ensures same { self.new ≡ record self.old { told = self.new.told; until = update.end } }
     {
-        put(&mut self.told, router, update);
         self.until = update.end;
+        if router < self.told.len() {
+            self.told[router] = Some(update);
+        }
     }
-}
-
-/// The regular update of a router is put at its place, if it has one.
-fn put(told: &mut [Option<Update>], router: usize, update: Update)
-    ensures { IsAdded told.old router update told.new }
-{
-    if router >= told.len() {
-        return;
-    }
-    told[router] = Some(update);
 }

@@ -14,7 +14,7 @@ ghost use Rattle.ripng_phases.specs.declared.course.Update.{Update as UpdateValu
 use crate::acting::{hand_on, tick};
 use crate::course::{Course, PHASE_MS};
 use crate::refused::PhaseRefused;
-use crate::shown::{ShownRoute, are_same, shown_routes};
+use crate::shown::{are_same, shown_routes};
 use rand_core::Rng;
 use ripng_world::{Lab, Observer, Stopped};
 use route_table::{Moment, RouteStore};
@@ -46,27 +46,6 @@ fn hand_until<S: RouteStore, V: Observer<S>, R: Rng>(
     Ok(())
 }
 
-/// Time passes, some router ticks, and some datagrams are handed on.
-fn turn<S: RouteStore, V: Observer<S>, R: Rng>(
-    lab: &mut Lab<S>,
-    course: &mut Course,
-    most_ms: u32,
-    rng: &mut R,
-    watch: &mut V,
-) -> Result<(), Stopped<PhaseRefused, V::Fault>>
-    requires { 0 < most_ms }
-    ensures network { lab.new.network ≡ lab.old.network }
-    ensures goes { GoesOn V.takes V.fails result (lab.old, watch.old) course.old (lab.new, watch.new) course.new }
-    ensures routers { length course.new.told.items ≡ length course.old.told.items }
-{
-    course.pass(rng.next_u32() % most_ms);
-    let router = rng.next_u32() as usize % lab.routers().max(1);
-    tick(lab, course, router, rng.next_u32(), watch)?;
-    let count = rng.next_u32() as usize % 8;
-    let end = course.next.saturating_add(count);
-    hand_until(lab, course, end, rng, watch)
-}
-
 /// The longest that one of these turns waits, in milliseconds.
 fn share(turns: usize) -> u32
     ensures { 0 < result }
@@ -77,7 +56,7 @@ fn share(turns: usize) -> u32
     }
 }
 
-/// Routers tick and receive at random.
+/// Time passes, some router ticks, and some datagrams are handed on, again and again at random.
 fn make_turns<S: RouteStore, V: Observer<S>, R: Rng>(
     lab: &mut Lab<S>,
     course: &mut Course,
@@ -91,7 +70,12 @@ fn make_turns<S: RouteStore, V: Observer<S>, R: Rng>(
     let turns = lab.routers().saturating_mul(TURNS);
     let most_ms = share(turns);
     for _ in 0..turns {
-        turn(lab, course, most_ms, rng, watch)?;
+        course.pass(rng.next_u32() % most_ms);
+        let router = rng.next_u32() as usize % lab.routers().max(1);
+        tick(lab, course, router, rng.next_u32(), watch)?;
+        let count = rng.next_u32() as usize % 8;
+        let end = course.next.saturating_add(count);
+        hand_until(lab, course, end, rng, watch)?;
     }
     Ok(())
 }
@@ -112,30 +96,7 @@ fn due_moment<S: RouteStore>(lab: &Lab<S>, course: &Course, router: usize) -> Op
     }
 }
 
-/// A router sends its regular update as soon as it is due.
-fn tell<S: RouteStore, V: Observer<S>>(
-    lab: &mut Lab<S>,
-    course: &mut Course,
-    router: usize,
-    word: u32,
-    watch: &mut V,
-) -> Result<(), Stopped<PhaseRefused, V::Fault>>
-    ensures network { lab.new.network ≡ lab.old.network }
-    ensures goes { GoesOn V.takes V.fails result (lab.old, watch.old) course.old (lab.new, watch.new) course.new }
-    ensures told { OnOk result (router < length course.old.told.items → (u : UpdateValue) × (slice_get course.new.told.items router ≡ Some (Some u))) }
-    ensures kept { (other : ℕ) (u : UpdateValue) → slice_get course.old.told.items other ≡ Some (Some u) → (v : UpdateValue) × (slice_get course.new.told.items other ≡ Some (Some v)) }
-    ensures routers { length course.new.told.items ≡ length course.old.told.items }
-{
-    match due_moment(lab, course, router) {
-        Some(due) => {
-            course.moment = due;
-            tick(lab, course, router, word, watch)
-        }
-        None => Err(Stopped::Refused(PhaseRefused::NoUpdateInTime { router })),
-    }
-}
-
-/// Each router that has not sent its regular update sends it.
+/// Each router that has not sent its regular update sends it, as soon as it is due.
 fn tell_rest<S: RouteStore, V: Observer<S>, R: Rng>(
     lab: &mut Lab<S>,
     course: &mut Course,
@@ -149,7 +110,12 @@ fn tell_rest<S: RouteStore, V: Observer<S>, R: Rng>(
 {
     for router in 0..lab.routers() {
         if !course.has_told(router) {
-            tell(lab, course, router, rng.next_u32(), watch)?;
+            let word = rng.next_u32();
+            let Some(due) = due_moment(lab, course, router) else {
+                return Err(Stopped::Refused(PhaseRefused::NoUpdateInTime { router }));
+            };
+            course.moment = due;
+            tick(lab, course, router, word, watch)?;
         }
     }
     Ok(())
@@ -202,20 +168,6 @@ fn make_phase<S: RouteStore, V: Observer<S>, R: Rng>(
     Ok(course.next)
 }
 
-/// What all routers hold, as a phase begins or is over.
-fn show<S: RouteStore, F>(
-    alloc: Global,
-    lab: &Lab<S>,
-) -> Result<Vec<ShownRoute>, Stopped<PhaseRefused, F>>
-    ensures shown { IfOk result (λ shown. shown.items ≡ shown_in lab.now.network lab.now.world) }
-    ensures memory { IfErr result (λ why. why ≡ Stopped.Refused PhaseRefused.OutOfMemory) }
-{
-    match shown_routes(alloc, lab) {
-        Ok(shown) => Ok(shown),
-        Err(_) => Err(Stopped::Refused(PhaseRefused::OutOfMemory)),
-    }
-}
-
 /// One phase, as [`make_phase`] has it. Returns also whether all tables are as they were before.
 fn compare_phase<S: RouteStore, V: Observer<S>, R: Rng>(
     alloc: Global,
@@ -232,9 +184,13 @@ fn compare_phase<S: RouteStore, V: Observer<S>, R: Rng>(
     ensures in_time { OnOk result (begin ≤ 2 ^ 60) }
     ensures compared { IfOk result (λ r. IsTrue r.1 ↔ (shown_in lab.old.network lab.new.world ≡ shown_in lab.old.network lab.old.world)) }
 {
-    let before = show(alloc, lab)?;
+    let Ok(before) = shown_routes(alloc, lab) else {
+        return Err(Stopped::Refused(PhaseRefused::OutOfMemory));
+    };
     let next = make_phase(alloc, lab, begin, first, rng, watch)?;
-    let after = show(alloc, lab)?;
+    let Ok(after) = shown_routes(alloc, lab) else {
+        return Err(Stopped::Refused(PhaseRefused::OutOfMemory));
+    };
     Ok((next, are_same(&after, &before)))
 }
 

@@ -33,15 +33,6 @@ fn shown_route(router: usize, prefix: Prefix, route: Route) -> ShownRoute
     }
 }
 
-/// All routes of a table, in order.
-fn routes_in<S: RouteStore>(alloc: Global, table: &S) -> Result<Vec<(Prefix, Route)>, AllocError>
-    ensures { IfOk result (λ routes. routes.items ≡ map_of.entries (S.table table.now)) }
-{
-    let mut routes = Vec::with_capacity(alloc, table.len())?;
-    table.list(&mut routes);
-    Ok(routes)
-}
-
 /// The routes of the router with that number are shown after others.
 fn show<S: RouteStore>(
     alloc: Global,
@@ -51,7 +42,8 @@ fn show<S: RouteStore>(
 ) -> Result<(), AllocError>
     ensures { OnOk result (shown.new.items ≡ shown.old.items ++ map (shown_route number) (map_of.entries router.now.table)) }
 {
-    let routes = routes_in(alloc, router.routes())?;
+    let mut routes = Vec::with_capacity(alloc, router.routes().len())?;
+    router.routes().list(&mut routes);
     for (prefix, route) in &routes {
         shown.push(shown_route(number, *prefix, *route))?;
     }
