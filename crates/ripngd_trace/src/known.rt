@@ -1,20 +1,26 @@
-//! What a reader of the records knows, and the records that it learns it from.
+//! What a reader of the records knows, and the records that it learns it from: of a start, and of an event what happened, what was sent,
+//! which update was due, what a Response offered, and why each offer is adopted or not (RFC 2080, section 2.4.2).
 
-ghost use Rattle.std.specs.Prelude.{◌≡◌, [], ◌∷◌, ◌++◌, None, IfOk, IfSome, IsTrue, OnOk, Some, slice_get, slice_set};
+ghost use Rattle.std.specs.Prelude.{◌≡◌, [], ◌∷◌, ◌++◌, None, IfOk, IfSome, OnOk, Some, map, option_map, slice_get, slice_set};
 ghost use Rattle.std.specs.FinMap as map_of;
 ghost use Rattle.prefix6.specs.Prefix.{Prefix6};
 ghost use Rattle.ripng_world.specs.Events.{event_of};
+ghost use Rattle.ripng_world.specs.Rounds.{moment_of};
+ghost use Rattle.ripngd_trace.specs.Events.{sender_at, sender_said, sent_from, sent_said};
+ghost use Rattle.ripngd_trace.specs.Offers.{TellsOffers, is_noted, offer_records, route_after};
 ghost use Rattle.ripngd_trace.specs.Records.{LeadsTo, known_as, taken_out, timers_in, with_routes};
 ghost use Rattle.ripngd_trace.specs.Saying.{EventIsTold, StartIsTold, knows};
 ghost use Rattle.ripngd_trace.specs.Starting.{TellsRouter};
+ghost use Rattle.ripngd_trace.specs.Updates.{TellsUpdate};
 
-use crate::events::{moment_of, offers_of, sender_at, sent_since, update_of};
-use crate::records::{EventRecord, Happened, News, RouterRecord, StartRecord, Timers};
-use prefix6::Prefix;
-use ripng_world::Event;
-use ripngd_lab::{Names, Network, Routes};
+use crate::records::{
+    EventRecord, Happened, News, OfferRecord, RouterRecord, StartRecord, Timers, UpdateRecord,
+};
+use prefix6::{Addr6, Prefix};
+use ripng_world::{Event, Sent};
+use ripngd_lab::{Names, Network, Routes, addr_at};
 use route_table::{Moment, Route, RouteStore};
-use router_core::{Answer, Router};
+use router_core::{Answer, Arrival, Destination, MAX_HOP_LIMIT, Note, Offered, RIPNG_PORT, Router};
 use std::alloc::{AllocError, Global};
 
 /// A router as a reader of the records knows it.
@@ -155,7 +161,7 @@ impl<'a> Known<'a> {
 }
 
 /// The timers of a router.
-pub fn timers_in<S: RouteStore>(router: &Router<S>) -> Timers
+fn timers_in<S: RouteStore>(router: &Router<S>) -> Timers
     ensures { result ≡ timers_in router.now }
 {
     Timers {
@@ -167,33 +173,18 @@ pub fn timers_in<S: RouteStore>(router: &Router<S>) -> Timers
 }
 
 /// All routes of a table, in order.
-fn routes_in<S: RouteStore>(alloc: Global, table: &S) -> Result<Vec<(Prefix, Route)>, AllocError>
-    ensures { IfOk result (λ routes. routes.items ≡ map_of.entries (S.table table.now)) }
+fn routes_in(alloc: Global, table: &Routes) -> Result<Vec<(Prefix, Route)>, AllocError>
+    ensures { IfOk result (λ routes. routes.items ≡ map_of.entries table.now) }
 {
     let mut routes = Vec::with_capacity(alloc, table.len())?;
     table.list(&mut routes);
     Ok(routes)
 }
 
-/// Whether two routes are the same.
-fn is_same(held: &Route, route: &Route) -> bool
-    ensures { IsTrue result → held.now ≡ route.now }
-{
-    held.metric() == route.metric()
-        && held.tag() == route.tag()
-        && held.is_changed() == route.is_changed()
-        && held.origin() == route.origin()
-        && held.clock() == route.clock()
-}
-
 /// Takes out of a known table the prefixes that a table has no route to. Says which, in order.
-fn forget_gone<S: RouteStore>(
-    alloc: Global,
-    known: &mut S,
-    table: &S,
-) -> Result<Vec<Prefix>, AllocError>
-    ensures listed { IfOk result (λ gone. S.table known.new ≡ taken_out (S.table known.old) gone.items) }
-    ensures gone { OnOk result ((p : Prefix6) → map_of.get (S.table table.now) p ≡ None → map_of.get (S.table known.new) p ≡ None) }
+fn forget_gone(alloc: Global, known: &mut Routes, table: &Routes) -> Result<Vec<Prefix>, AllocError>
+    ensures listed { IfOk result (λ gone. known.new ≡ taken_out known.old gone.items) }
+    ensures gone { OnOk result ((p : Prefix6) → map_of.get table.now p ≡ None → map_of.get known.new p ≡ None) }
 {
     let entries = routes_in(alloc, known)?;
     let mut gone = Vec::new(alloc);
@@ -208,20 +199,20 @@ fn forget_gone<S: RouteStore>(
 }
 
 /// Puts all routes of a table into a known one. Says which are news, in order.
-fn learn_routes<S: RouteStore>(
+fn learn_routes(
     alloc: Global,
-    known: &mut S,
-    table: &S,
+    known: &mut Routes,
+    table: &Routes,
 ) -> Result<Vec<(Prefix, Route)>, AllocError>
-    ensures listed { IfOk result (λ news. S.table known.new ≡ with_routes (S.table known.old) news.items) }
-    ensures all { OnOk result (S.table known.new ≡ with_routes (S.table known.old) (map_of.entries (S.table table.now))) }
+    ensures listed { IfOk result (λ news. known.new ≡ with_routes known.old news.items) }
+    ensures all { OnOk result (known.new ≡ with_routes known.old (map_of.entries table.now)) }
 {
     let entries = routes_in(alloc, table)?;
     let mut news = Vec::new(alloc);
     for entry in &entries {
         let (prefix, route) = *entry;
         match known.get(&prefix) {
-            Some(held) if is_same(&held, &route) => continue,
+            Some(held) if held == route && held.clock() == route.clock() => continue,
             Some(_) => known.replace(&prefix, route),
             None => known.add(prefix, route).map_err(|_| AllocError)?,
         }
@@ -234,11 +225,158 @@ fn learn_routes<S: RouteStore>(
 ///
 /// # Errors
 /// Out of memory.
-pub fn news_of<S: RouteStore>(alloc: Global, known: &mut S, table: &S) -> Result<News, AllocError>
-    ensures known { OnOk result (S.table known.new ≡ S.table table.now) }
-    ensures listed { IfOk result (λ news. LeadsTo (S.table known.old) news.routes.items news.gone.items (S.table table.now)) }
+fn news_of(alloc: Global, known: &mut Routes, table: &Routes) -> Result<News, AllocError>
+    ensures known { OnOk result (known.new ≡ table.now) }
+    ensures listed { IfOk result (λ news. LeadsTo known.old news.routes.items news.gone.items table.now) }
 {
     let gone = forget_gone(alloc, known, table)?;
     let routes = learn_routes(alloc, known, table)?;
     Ok(News { routes, gone })
+}
+
+/// The moment of an event.
+fn moment_of(event: &Event<'_>) -> Moment
+    ensures { result ≡ moment_of (event_of event.entry.now) }
+{
+    match event {
+        Event::Stranger { arrival, .. } => arrival.now,
+        Event::Deliver { now, .. }
+        | Event::Tick { now, .. }
+        | Event::Restart { now, .. }
+        | Event::Shutdown { now, .. }
+        | Event::LinkDown { now, .. }
+        | Event::LinkUp { now, .. }
+        | Event::Reconfigure { now, .. } => *now,
+    }
+}
+
+/// The datagram of a delivery, and the address of the interface that it was sent from, if it was sent.
+fn sender_at<'e>(lab: &'e Network, event: &Event<'_>) -> Option<(&'e Sent, Option<Addr6>)>
+    ensures { option_map sender_said result ≡ sender_at lab.now (event_of event.entry.now) }
+{
+    let &Event::Deliver { datagram, .. } = event else {
+        return None;
+    };
+    let sent = lab.sent().get(datagram)?;
+    Some((sent, addr_at(lab, sent.router, sent.iface)))
+}
+
+/// The datagrams that were sent from a number on, in order, each with its own.
+///
+/// # Errors
+/// Out of memory.
+fn sent_since(alloc: Global, lab: &Network, first: usize) -> Result<Vec<(usize, &Sent)>, AllocError>
+    ensures { IfOk result (λ records. map sent_said records.items ≡ sent_from first lab.now.world.sent) }
+{
+    lab.sent().iter().enumerate().skip(first).collect(alloc)
+}
+
+/// Which update was due at an event, by the timers of the routers as they were known (RFC 2080, sections 2.3 and 2.5.1): each update
+/// moves its own timer.
+fn update_of(lab: &Network, known: &[KnownRouter], event: &Event<'_>) -> Option<UpdateRecord>
+    ensures { TellsUpdate known.now lab.now (event_of event.entry.now) result }
+{
+    let &Event::Tick { router, .. } = event else {
+        return None;
+    };
+    let (Some(before), Some(moved)) = (known.get(router), lab.router(router)) else {
+        return None;
+    };
+    if moved.regular().ms() != before.timers.regular {
+        Some(UpdateRecord::Regular)
+    } else if moved.hold().ms() != before.timers.hold {
+        Some(UpdateRecord::Triggered)
+    } else if moved.routes().walk_changed(None).is_some() {
+        Some(UpdateRecord::Held)
+    } else {
+        None
+    }
+}
+
+/// Whether one of the notes is of the entry at a place.
+fn is_noted(notes: &[Note], place: usize) -> bool
+    ensures { result ≡ is_noted notes.now place }
+{
+    notes.iter().any(|note| note.entry == place)
+}
+
+/// The route to a prefix after some offers, one after another, except those of noted entries.
+fn route_after(known: &Routes, notes: &[Note], offers: &[Offered], prefix: Prefix) -> Option<Route>
+    ensures { result ≡ route_after known.now notes.now offers.now prefix }
+{
+    let mut held = known.get(&prefix);
+    for offered in offers {
+        if offered.prefix() == prefix && !is_noted(notes, offered.place()) {
+            held = offered.adopted(held);
+        }
+    }
+    held
+}
+
+/// The offers of a Response in order, each by what the table and those before it left, except those of noted entries.
+fn offer_records(
+    alloc: Global,
+    known: &Routes,
+    notes: &[Note],
+    offers: &[Offered],
+) -> Result<Vec<OfferRecord>, AllocError>
+    ensures { IfOk result (λ records. records.items ≡ offer_records known.now notes.now offers.now) }
+{
+    let mut records = Vec::new(alloc);
+    for number in 0..offers.len() {
+        let offered = &offers[number];
+        if !is_noted(notes, offered.place()) {
+            let held = route_after(known, notes, &offers[..number], offered.prefix());
+            records.push(OfferRecord {
+                entry: offered.place(),
+                prefix: offered.prefix(),
+                metric: offered.metric(),
+                tag: offered.tag(),
+                next_hop: offered.next_hop(),
+                why: offered.reason_of(held),
+            })?;
+        }
+    }
+    Ok(records)
+}
+
+/// What an event offered to the router that moved, by the tables of the routers as they were known. Only a delivery offers
+/// anything: a datagram of no router brings no Response that is accepted.
+///
+/// # Errors
+/// Out of memory.
+fn offers_of(
+    alloc: Global,
+    lab: &Network,
+    known: &[KnownRouter],
+    event: &Event<'_>,
+    answer: &Answer,
+) -> Result<Vec<OfferRecord>, AllocError>
+    ensures { IfOk result (λ records. TellsOffers known.now lab.now (event_of event.entry.now) answer.now.notes records.items) }
+{
+    if let &Event::Deliver {
+        datagram,
+        router,
+        iface,
+        now,
+    } = event
+        && let Some(known) = known.get(router)
+        && let Some(moved) = lab.router(router)
+        && let Some(sent) = lab.sent().get(datagram)
+        && iface < moved.config().interfaces().len()
+    {
+        let arrival = Arrival {
+            now,
+            iface,
+            source: addr_at(lab, sent.router, sent.iface).unwrap_or(Addr6::from_bits(0)),
+            source_port: RIPNG_PORT,
+            hop_limit: MAX_HOP_LIMIT,
+            to_group: matches!(sent.to, Destination::Group),
+            bytes: sent.bytes.as_slice(),
+        };
+        let offers = moved.offers(&arrival)?;
+        let notes = answer.notes.as_slice();
+        return offer_records(alloc, &known.table, notes, offers.as_slice());
+    }
+    Ok(Vec::new(alloc))
 }

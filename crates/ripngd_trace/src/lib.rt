@@ -1,10 +1,8 @@
 //! A script of a laboratory, traced: a line of JSON for all that happens in it; or explained: a line of English.
 #![tactic(auto)]
 
-mod events;
 mod known;
 mod records;
-mod sentences;
 mod to_json;
 mod tracer;
 

@@ -1,15 +1,14 @@
 //! What is written as JSON (RFC 8259), and which JSON it is: values, and objects by their members; and records, in one of two forms.
 
-ghost use Rattle.std.specs.Prelude.{◌<◌, ◌∷◌, [], ℕ, IfSome, OnErr, OnOk, decimal, length, take};
+ghost use Rattle.std.specs.Prelude.{◌<◌, ◌∷◌, [], ℕ, IfSome, OnErr, OnOk, length, take};
 ghost use Rattle.std.specs.Io.KnownBytes.{Appends};
-ghost use Rattle.hex.specs.Hex.{encode_lower};
 ghost use Rattle.json.specs.Json.{Json, Members as JsonMembers, boolean, member, no_members, object, string};
 ghost use Rattle.json.specs.Print.{IsPrintable};
 ghost use Rattle.json.specs.Reads.{token_of};
-ghost use Rattle.json.specs.Token.{key, number, string as string_token};
+ghost use Rattle.json.specs.Token.{key};
 ghost use Rattle.json.specs.Tree.{json_tokens, members_tokens};
 ghost use Rattle.ripngd_trace.specs.Growing.{Grows};
-ghost use Rattle.ripngd_trace.specs.Json.{address_of, list_of, number_of, option_of, prefix_of};
+ghost use Rattle.ripngd_trace.specs.Json.{address_of, hex_of, list_of, number_of, option_of, prefix_of};
 ghost use Rattle.ripngd_trace.specs.Lines.{WritesLess, WritesRecord, written_as};
 
 mod records;
@@ -40,16 +39,9 @@ impl JsonText {
         self.refused |= self.writer.token(token).is_err();
     }
 
-    /// Writes a number.
-    pub fn number(&mut self, n: u64)
-        ensures { Grows self.old self.new (number (decimal n) ∷ []) }
-    {
-        self.refused |= self.writer.u64(n).is_err();
-    }
-
     /// Writes a string: what a value prints.
     pub fn printed<T: Display>(&mut self, value: &T)
-        ensures { IfSome (T.output value.now) (λ text. Grows self.old self.new (string_token text ∷ [])) }
+        ensures { IfSome (T.output value.now) (λ text. Grows self.old self.new (json_tokens (string text))) }
     {
         match format!(in self.alloc; "{value}") {
             Ok(text) => self.token(Token::String(text.as_str())),
@@ -134,7 +126,7 @@ impl ToJson for u8 {
     ghost json = { number_of };
 
     fn write_json(&self, text: &mut JsonText) {
-        text.number(u64::from(*self));
+        u64::from(*self).write_json(text);
     }
 }
 
@@ -142,15 +134,7 @@ impl ToJson for u16 {
     ghost json = { number_of };
 
     fn write_json(&self, text: &mut JsonText) {
-        text.number(u64::from(*self));
-    }
-}
-
-impl ToJson for u32 {
-    ghost json = { number_of };
-
-    fn write_json(&self, text: &mut JsonText) {
-        text.number(u64::from(*self));
+        u64::from(*self).write_json(text);
     }
 }
 
@@ -158,7 +142,7 @@ impl ToJson for u64 {
     ghost json = { number_of };
 
     fn write_json(&self, text: &mut JsonText) {
-        text.number(*self);
+        text.refused |= text.writer.u64(*self).is_err();
     }
 }
 
@@ -166,7 +150,7 @@ impl ToJson for usize {
     ghost json = { number_of };
 
     fn write_json(&self, text: &mut JsonText) {
-        text.number(*self as u64);
+        (*self as u64).write_json(text);
     }
 }
 
@@ -175,7 +159,7 @@ impl ToJson for Deadline {
     ghost json = { number_of };
 
     fn write_json(&self, text: &mut JsonText) {
-        text.number(self.ms());
+        self.ms().write_json(text);
     }
 }
 
@@ -197,7 +181,7 @@ impl<'a> ToJson for &'a str {
 
 /// Bytes, in hexadecimal digits.
 impl<'a> ToJson for &'a [u8] {
-    ghost json = { λ bytes. string (encode_lower bytes.now) };
+    ghost json = { λ bytes. hex_of bytes.now };
 
     fn write_json(&self, text: &mut JsonText) {
         match hex::encode(text.alloc, *self) {

@@ -3,10 +3,10 @@
 ghost use Rattle.std.specs.Prelude.{◌≡◌, [], None, OnErr, OnOk, Option};
 ghost use Rattle.ripng_world.specs.Events.{event_of};
 ghost use Rattle.ripng_world.specs.Labs.{LabValue};
-ghost use Rattle.ripngd_lab.specs.Asides.{Broken, Prints};
+ghost use Rattle.ripngd_lab.specs.Asides.{Broken};
 ghost use Rattle.ripngd_lab.specs.ScriptWatching.{IsToldOfLab, IsToldUntil};
 ghost use Rattle.ripngd_trace.specs.Lines.{written_as};
-ghost use Rattle.ripngd_trace.specs.Reading.{IsPrintWord, IsTraced, IsTracedUntil};
+ghost use Rattle.ripngd_trace.specs.Reading.{IsTraced, IsTracedUntil};
 ghost use Rattle.ripngd_trace.specs.Saying.{BreaksOff, Said, SameOutput, SaysAlone, SaysAside, SaysEvent, SaysMove, SaysStart, said_by};
 
 use crate::known::Known;
@@ -18,7 +18,7 @@ use ripngd_lab::{
 };
 use route_table::Moment;
 use router_core::Answer;
-use std::alloc::{AllocError, Global};
+use std::alloc::Global;
 use std::io::{self, Write};
 use std::str;
 
@@ -136,31 +136,6 @@ impl<'a, W: Write> Tracer<'a, W> {
         };
         write_record(self.known.alloc, self.form, &record, self.out)
     }
-
-    /// Reports what a line prints.
-    fn report_prints(&mut self, word: &'static str, prints: &[u8]) -> io::Result<()>
-        requires { IsPrintWord word.now }
-        ensures whole { OnOk result (SaysAside (said_by W.contents self.old) Prints (said_by W.contents self.new) × SameOutput self.old self.new) }
-        ensures broken { OnErr result (SaysAside (said_by W.contents self.old) Broken (said_by W.contents self.new) × SameOutput self.old self.new) }
-    {
-        let text = str::from_utf8(prints).unwrap_or("");
-        let lines = text.lines().collect(self.known.alloc)?;
-        self.report_action(Action::Prints { word, lines, text })
-    }
-
-    /// In which of so many rounds, numbered from 0, tables last changed: in each there were as many ticks.
-    fn last_round(&self, rounds: usize) -> Option<usize> {
-        let ticks = self.ticks_at_change.checked_sub(1)?;
-        ticks.saturating_mul(rounds).checked_div(self.ticks)
-    }
-
-    /// What a refused line should have been, if the script shows that.
-    fn hint_of(&self, ending: &Ending) -> Result<Option<(usize, String)>, AllocError> {
-        let Some((line, hint)) = hint_of(self.known.alloc, self.script, ending)? else {
-            return Ok(None);
-        };
-        Ok(Some((line, format!(in self.known.alloc; "{hint}")?)))
-    }
 }
 
 impl<'a, W: Write> ripng_world::Observer<Routes> for Tracer<'a, W> {
@@ -209,8 +184,7 @@ impl<'a, W: Write> Watch for Tracer<'a, W> {
     }
 
     fn noticed(&mut self, notice: Notice<'_>) -> io::Result<()> {
-        let alloc = self.known.alloc;
-        let names = self.known.names;
+        let (alloc, names) = (self.known.alloc, self.known.names);
         let mut prints = Vec::new(alloc);
         let word = match &notice {
             Notice::Routes(..) => "print",
@@ -218,14 +192,16 @@ impl<'a, W: Write> Watch for Tracer<'a, W> {
             Notice::Way(_) => "path",
             Notice::Horizon { .. } => "horizon",
             Notice::Said(_) => "say",
-            &Notice::Lost(datagram) => return self.report_action(Action::Loses { datagram }),
+            &Notice::Lost(datagram) => return self.report_action(Action::Loses(datagram)),
             &Notice::Rounds(rounds) => {
-                let last = self.last_round(rounds);
+                // Numbered from 0: in each round there were as many ticks.
+                let before = self.ticks_at_change.checked_sub(1);
+                let last = before.and_then(|n| n.saturating_mul(rounds).checked_div(self.ticks));
                 return self.report_action(Action::GoesRound { rounds, last });
             }
             &Notice::Phases(made) => return self.report_action(Action::Makes(made)),
             Notice::Refused(ending) => {
-                let hint = self.hint_of(ending)?;
+                let hint = hint_of(alloc, self.script, ending)?;
                 let why = format!(in alloc; "{}", ending.refusal)?;
                 let (how, why) = ("refused ", why.as_str());
                 return self.report_action(Action::Ends { how, why, hint });
@@ -238,7 +214,9 @@ impl<'a, W: Write> Watch for Tracer<'a, W> {
             }
         };
         Printer::new(alloc, names, &mut prints).noticed(notice)?;
-        self.report_prints(word, &prints)
+        let text = str::from_utf8(&prints).unwrap_or("");
+        let lines = text.lines().collect(alloc)?;
+        self.report_action(Action::Prints { word, lines, text })
     }
 }
 

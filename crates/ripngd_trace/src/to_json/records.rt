@@ -57,7 +57,7 @@ impl<'a> ToJson for AsideRecord<'a> {
             Action::Prints { word, lines, .. } => {
                 text.object(&members!(self.line, "record": word, "prints": lines));
             }
-            Action::Loses { datagram } => {
+            Action::Loses(datagram) => {
                 text.object(&members!(self.line, "record": &"lost", datagram));
             }
             Action::GoesRound { rounds, last } => {
@@ -98,7 +98,9 @@ impl ToJson for (Interface, Option<u16>) {
 
     fn write_json(&self, text: &mut JsonText) {
         let (interface, link) = self;
-        text.object(&members!(interface.addr, interface.cost, interface.mtu, link));
+        text.object(
+            &members!(interface.addr, interface.cost, "mtu": &u64::from(interface.mtu), link),
+        );
     }
 }
 
@@ -176,7 +178,9 @@ impl<'a, 'b> ToJson for Happened<'a, 'b> {
                 "kind": &"stranger", arrival.iface, arrival.source, "port": &arrival.source_port, arrival.hop_limit,
                 "group": &arrival.to_group, arrival.bytes
             )),
-            Event::Tick { word, .. } => text.object(&members!("kind": &"tick", word)),
+            Event::Tick { word, .. } => text.object(
+                &members!("kind": &"tick", "word": &u64::from(*word)),
+            ),
             Event::Restart { .. } => text.object(&members!("kind": &"restart")),
             Event::Shutdown { .. } => text.object(&members!("kind": &"shutdown")),
             Event::LinkDown { iface, .. } => text.object(&members!("kind": &"link_down", iface)),

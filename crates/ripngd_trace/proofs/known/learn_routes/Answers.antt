@@ -1,4 +1,4 @@
-use Rattle.std.proofs.Common.{◌≡◌, ◌∙◌, ◌≤◌, ◌+◌, ◌∷◌, Err, List, Ok, OnOk, Result, Some, ap, drop, length, refl, subst, sym, true}
+use Rattle.std.proofs.Common.{◌≡◌, ◌∙◌, ◌≤◌, ◌+◌, ◌∷◌, Err, List, Ok, OnOk, Result, Some, ap, drop, length, refl, rules, subst, sym, true}
 use Rattle.std.specs.FinMap as map_of
 use Rattle.std.specs.Result.{is_ok}
 use Rattle.std.proofs.lemmas.Bool.{false≢true}
@@ -16,14 +16,14 @@ of_ok (Ok x) ok h = h
 of_ok (Err e) ok h = absurd (false≢true ok)
 
 pub loop-entry-init : goal.loop-entry-init
-loop-entry-init g c = record {
-  listed = sym (ap (with_routes (g.S.RouteStore.table c.args.known.now)) c.new-news.ensures.items);
+loop-entry-init c = record {
+  listed = sym (ap (with_routes c.args.known.now) c.new-news.ensures.items);
   all = refl;
 }
 
 pub loop-entry-preserved-in-Some : goal.loop-entry-preserved-in-Some
-loop-entry-preserved-in-Some g c =
-    let entries = map_of.entries (g.S.RouteStore.table c.args.table.now) in
+loop-entry-preserved-in-Some c =
+    let entries = map_of.entries c.args.table.now in
     let i = c.loop-entry.entry-index in
     let e = c.entry-item.result in
     let is : c.deref-entry-items.result.now ≡ entries = c.deref-entry-items.ensures.value ∙ c.in_ok-entries.ensures in
@@ -32,36 +32,36 @@ loop-entry-preserved-in-Some g c =
     (drop_more c.deref-entry-items.result.now i e c.loop-entry-test.true ∙ ap (λ x. x ∷ drop (i + 1) c.deref-entry-items.result.now) (sym c.entry-item.is)) in
     record {
       listed = c.loop-entry.invariant.listed;
-      all = ap (λ t. with_routes t (drop (i + 1) entries)) (sym (with_value-same _ e.0 (Some e.1) (sym c.get.ensures ∙ c.in-Some.is ∙ ap (λ r. Some r) (c.if-is_same.ensures refl))))
-          ∙ ap (with_routes (g.S.RouteStore.table c.loop-entry.known)) (sym next) ∙ c.loop-entry.invariant.all;
+      all = ap (λ t. with_routes t (drop (i + 1) entries)) (sym (with_value-same _ e.0 (Some e.1) (sym c.get.ensures ∙ c.in-Some.is ∙ ap (λ r. Some r) (search rules))))
+          ∙ ap (with_routes c.loop-entry.known) (sym next) ∙ c.loop-entry.invariant.all;
     }
 
 pub loop-entry-preserved : goal.loop-entry-preserved
-loop-entry-preserved g c =
-    let entries = map_of.entries (g.S.RouteStore.table c.args.table.now) in
+loop-entry-preserved c =
+    let entries = map_of.entries c.args.table.now in
     let i = c.loop-entry.entry-index in
     let e = c.entry-item.result in
     let is : c.deref-entry-items.result.now ≡ entries = c.deref-entry-items.ensures.value ∙ c.in_ok-entries.ensures in
     let next : drop i entries ≡ e ∷ drop (i + 1) entries =
     subst (λ (es : List (Prefix6 × RouteValue)). drop i es ≡ e ∷ drop (i + 1) es) is
     (drop_more c.deref-entry-items.result.now i e c.loop-entry-test.true ∙ ap (λ x. x ∷ drop (i + 1) c.deref-entry-items.result.now) (sym c.entry-item.is)) in
-    let held : g.S.RouteStore.table c.match-get.known ≡ map_of.insert (g.S.RouteStore.table c.loop-entry.known) e.0 e.1 =
+    let held : c.match-get.known ≡ map_of.insert c.loop-entry.known e.0 e.1 =
     elim c.match-get.branch [
-      | in-Some-2 w ↦ ap g.S.RouteStore.table w.known-is ∙ w.replace.ensures
+      | in-Some-2 w ↦ w.known-is ∙ w.replace.ensures
       | in-None+in_ok-map_err-in-None w ↦
-          ap g.S.RouteStore.table w.known-is ∙ of_ok w.add.result (sym w.map_err.ensures.variant ∙ ap is_ok w.in_ok-map_err-in-None.was) w.add.ensures.ok
+          w.known-is ∙ of_ok w.add.result (sym w.map_err.ensures.variant ∙ ap is_ok w.in_ok-map_err-in-None.was) w.add.ensures.ok
     ] in
     record {
-      listed = told_news (g.S.RouteStore.table c.args.known.now) _ _ c.loop-entry.news.items c.push.new.self.items e.0 e.1 held c.in_ok-push.ensures.items c.loop-entry.invariant.listed;
-      all = ap (λ t. with_routes t (drop (i + 1) entries)) held ∙ ap (with_routes (g.S.RouteStore.table c.loop-entry.known)) (sym next) ∙ c.loop-entry.invariant.all;
+      listed = told_news c.args.known.now _ _ c.loop-entry.news.items c.push.new.self.items e.0 e.1 held c.in_ok-push.ensures.items c.loop-entry.invariant.listed;
+      all = ap (λ t. with_routes t (drop (i + 1) entries)) held ∙ ap (with_routes c.loop-entry.known) (sym next) ∙ c.loop-entry.invariant.all;
     }
 
 pub returns-clause-listed : goal.returns-clause-listed
-returns-clause-listed g c = c.loop-entry.invariant.listed
+returns-clause-listed c = c.loop-entry.invariant.listed
 
 pub returns-clause-all : goal.returns-clause-all
-returns-clause-all g c =
-    let entries = map_of.entries (g.S.RouteStore.table c.args.table.now) in
+returns-clause-all c =
+    let entries = map_of.entries c.args.table.now in
     let is : c.deref-entry-items.result.now ≡ entries = c.deref-entry-items.ensures.value ∙ c.in_ok-entries.ensures in
     let none_left = drop_all c.loop-entry.entry-index entries (subst (λ (es : List (Prefix6 × RouteValue)). length es ≤ c.loop-entry.entry-index) is c.loop-entry-test.false) in
-    sym (ap (with_routes (g.S.RouteStore.table c.loop-entry.known)) none_left) ∙ c.loop-entry.invariant.all
+    sym (ap (with_routes c.loop-entry.known) none_left) ∙ c.loop-entry.invariant.all

@@ -2,7 +2,7 @@ use Rattle.std.proofs.Common.{◌∙◌}
 use Rattle.std.proofs.lemmas.Iterator.{YieldsList-from_slice}
 use Rattle.std.proofs.lemmas.Iterator.Adapters.{YieldsList-from_skip}
 use Rattle.std.proofs.lemmas.Iterator.Consumers.{YieldsList-at, YieldsList-from_enumerate, map_from_collect}
-use Rattle.ripngd_trace.proofs.events.sent_since.Goals as goal
+use Rattle.ripngd_trace.proofs.known.sent_since.Goals as goal
 
 pub returns : goal.returns
 returns c =
