@@ -127,9 +127,6 @@ printed_words (action.GoesRound rounds last) is = tt
 printed_words (action.Makes made) is = tt
 printed_words (action.Ends how why hint) is = tt
 
-pub printed : {a : Action} {said said' : Said} → SaysAlone a said said' → IsPrinted a → SaysAside said Prints said'
-printed {a} says is = (a, is, says)
-
 -- what is left to be read
 abbrev pub LinesFrom : Option LabValue → List Table → Said → Option LabValue → Said → Type 0
 LinesFrom lab shown said end said' = (lines : List Line) × TellsScript lab shown lines end × AreWritten lines said.written said'.written
