@@ -10,7 +10,7 @@ use Rattle.ripng_phases.specs.declared.refused.PhaseRefused.{PhaseRefused}
 use Rattle.ripng_phases.specs.declared.refused.PhaseRefused.TheVariants.{OutOfMemory}
 use Rattle.ripngd_lab.specs.Asides.{Aside, CountsPhases}
 use Rattle.ripngd_lab.specs.ScriptWatching.{is_failure}
-use Rattle.ripngd_lab.specs.declared.outages.Outages.{Outages}
+use Rattle.ripngd_lab.specs.declared.plan.Outages.{Outages}
 use Rattle.ripngd_lab.specs.declared.stop.Refusal.TheVariants.{Outage, Phases}
 use Rattle.ripngd_lab.specs.declared.stop.Stop.{Stop}
 use Rattle.ripngd_lab.specs.declared.stop.Stop.TheVariants.{Refused, Failed}

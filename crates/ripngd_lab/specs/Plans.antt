@@ -9,7 +9,7 @@ use Rattle.ripng_world.specs.Labs.{LabValue, link_at}
 use Rattle.ripng_world.specs.Rounds.{router_of}
 use Rattle.ripng_world.specs.World.{Event, Tick}
 use Rattle.ripng_world.specs.declared.sent.Sent.{Sent}
-use Rattle.ripngd_lab.specs.declared.outages.Outages.{Outages}
+use Rattle.ripngd_lab.specs.declared.plan.Outages.{Outages}
 use Rattle.ripngd_lab.specs.declared.plan.Ticking.{Ticking}
 use Rattle.ripngd_lab.specs.declared.plan.Ticking.TheVariants.{Nobody, One, All, Due}
 use Rattle.ripngd_lab.specs.declared.plan.Wave.{Wave}

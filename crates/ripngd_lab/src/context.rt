@@ -1,7 +1,6 @@
 //! What the words of a line may stand for, by themselves or by the lines before it.
 
-use crate::forms::Wrong;
-use crate::stop::{Refusal, Stop};
+use crate::{Refusal, Stop, Wrong};
 use route_table::Moment;
 use std::alloc::Global;
 use std::fmt;
@@ -71,10 +70,7 @@ impl Context {
 }
 
 /// A number that fits its type, in decimal digits without sign or leading zero.
-pub fn number<N: FromStr>(word: &str) -> Result<N, Wrong>
-where
-    N::Err: Drop,
-{
+pub fn number<N: FromStr<Err: Drop>>(word: &str) -> Result<N, Wrong> {
     let has_digits_alone = word.as_bytes().iter().all(|byte| byte.is_ascii_digit());
     if !has_digits_alone || (word.starts_with('0') && word != "0") {
         return Err(Wrong::Differs);
@@ -83,15 +79,14 @@ where
 }
 
 /// A number from 1 to `most`.
-pub fn up_to<N: FromStr + Ord + Default + Copy>(word: &str, most: N) -> Result<N, Wrong>
+pub fn up_to<N>(word: &str, most: N) -> Result<N, Wrong>
 where
-    N::Err: Drop,
+    N: FromStr<Err: Drop> + Ord + Default + Copy,
 {
-    let count = number(word)?;
-    if count > N::default() && count <= most {
-        return Ok(count);
+    match number(word)? {
+        count if count > N::default() && count <= most => Ok(count),
+        _ => Err(Wrong::Differs),
     }
-    Err(Wrong::Differs)
 }
 
 /// The moment so many gaps later, if there is one.
@@ -101,11 +96,8 @@ pub fn moment_after(now: Moment, gap: u64, gaps: u64) -> Option<Moment> {
 
 /// Whether a word may be a name: a letter, and then letters, digits, `-` and `_`.
 pub fn is_name(word: &str) -> bool {
-    let bytes = word.as_bytes();
-    bytes
-        .first()
-        .is_some_and(|first| first.is_ascii_alphabetic())
-        && bytes.iter().all(|byte| byte.is_ascii_alphanumeric() || matches!(byte, b'-' | b'_'))
+    word.starts_with(|first: char| first.is_ascii_alphabetic())
+        && word.chars().all(|letter| letter.is_ascii_alphanumeric() || matches!(letter, '-' | '_'))
 }
 
 /// What there is, or `none`.

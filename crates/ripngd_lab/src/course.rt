@@ -6,17 +6,15 @@ ghost use Rattle.ripngd_lab.specs.Notices.{aside_of};
 ghost use Rattle.ripngd_lab.specs.Plans.{with_member};
 ghost use Rattle.ripngd_lab.specs.ScriptWatching.{HasTold};
 
-use crate::expecting::{Expected, Missed, meet};
 use crate::forms::{Action, Step};
-use crate::horizon::Horizons;
-use crate::line::Line;
-use crate::outages::{Outages, set_member};
-use crate::phase::make_phases;
-use crate::plan::Ticking;
-use crate::site::{Held, Routes, Site};
-use crate::stop::{Outcome, Refusal, Stop, Unmet};
-use crate::watching::{Notice, Watch};
-use crate::ways::Way;
+use crate::horizon::{Horizons, set_horizon};
+use crate::moving::make_phases;
+use crate::plan::{Ticking, set_member};
+use crate::site::{Held, Site};
+use crate::{
+    Expected, Line, Missed, Notice, Outages, Outcome, Refusal, Routes, Stop, Unmet, Watch, Way,
+    meet,
+};
 use prefix6::Prefix;
 use ripng_world::{Event, Lab, LabError};
 use router_core::INTERFACE_LIMIT;
@@ -44,8 +42,12 @@ impl Course {
                 held: Held::Lawful(lab),
             },
             unheard: 0,
-            outages: Outages::new(alloc),
-            horizons: Horizons::new(alloc),
+            outages: Outages {
+                silent: Vec::new(alloc),
+                cut: Vec::new(alloc),
+                lost: Vec::new(alloc),
+            },
+            horizons: Vec::new(alloc),
         }
     }
 
@@ -74,9 +76,9 @@ impl Course {
             Action::Lose => self.lose(line.datagram, watch),
             Action::Silent(silent) => self.set_silent(router, silent),
             Action::Cut(cut) => self.set_cut(line, cut),
-            Action::PrintAll => self.show_routes(None, None, watch),
-            Action::PrintRouter => self.show_routes(Some(router), None, watch),
-            Action::PrintRoute => self.show_routes(Some(router), Some(&line.prefix), watch),
+            Action::PrintAll => self.print(None, None, watch),
+            Action::PrintRouter => self.print(Some(router), None, watch),
+            Action::PrintRoute => self.print(Some(router), Some(&line.prefix), watch),
             Action::PrintAllSent => self.show_sent(None, watch),
             Action::PrintSent => self.show_sent(Some(line.datagram), watch),
             Action::Say => self.tell(Notice::Said(line.text), watch),
@@ -112,11 +114,8 @@ impl Course {
         if kind == Step::Cost {
             return self.play(&wave, None, &events, watch);
         }
-        set_member(
-            &mut self.outages.cut,
-            usize::from(line.link),
-            kind == Step::Down,
-        )?;
+        let link = usize::from(line.link);
+        set_member(&mut self.outages.cut, link, kind == Step::Down)?;
         self.play(&wave, None, &events, watch)
     }
 
@@ -172,25 +171,17 @@ impl Course {
         ensures { HasTold result V.starts V.takes V.fails V.notes (Some self.old.site, watch.old) (Some self.new.site, watch.new) }
     {
         let (router, horizon) = (line.router, line.horizon);
-        self.horizons.set(router, horizon)?;
+        set_horizon(&mut self.horizons, router, horizon)?;
         self.tell(Notice::Horizon { router, horizon }, watch)
     }
 
-    /// A line that prints routes.
-    fn show_routes<V: Watch>(
-        &self,
-        router: Option<usize>,
-        prefix: Option<&Prefix>,
-        watch: &mut V,
-    ) -> Outcome
+    /// Prints the routes of a router, or of all, to a prefix, or to all.
+    fn print<V: Watch>(&self, router: Option<usize>, to: Option<&Prefix>, watch: &mut V) -> Outcome
         ensures { HasTold result V.starts V.takes V.fails V.notes (Some self.now.site, watch.old) (Some self.now.site, watch.new) }
     {
-        check_named(
-            router,
-            self.site.running().routers(),
-            LabError::NoSuchRouter,
-        )?;
-        self.tell(Notice::Routes(self.site.running(), router, prefix), watch)
+        let routers = self.site.running().routers();
+        check_named(router, routers, LabError::NoSuchRouter)?;
+        self.tell(Notice::Routes(self.site.running(), router, to), watch)
     }
 
     /// A line that prints datagrams.

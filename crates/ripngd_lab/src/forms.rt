@@ -3,8 +3,11 @@
 /// What a line does.
 #[derive(Clone, Copy, Debug, PartialEq, Eq)]
 pub enum Verb {
-    /// It lists a part of the network, before the start.
-    List(Listed),
+    /// It lists a router, before the start, and whether that is quiet.
+    Router(bool),
+    /// It lists an interface of the last router, or prefixes that this owns.
+    Interface,
+    Prefixes,
     /// All routers start.
     Start,
     /// A forged Response arrives.
@@ -15,15 +18,6 @@ pub enum Verb {
     Await,
     /// It is about a network that runs.
     Act(Action),
-}
-
-/// A part of a network.
-#[derive(Clone, Copy, Debug, PartialEq, Eq)]
-pub enum Listed {
-    /// A router, and whether it is quiet.
-    Router(bool),
-    Interface,
-    Prefixes,
 }
 
 /// What is done with a network that runs.
@@ -71,14 +65,14 @@ pub enum Step {
 /// The forms. A word in capitals is a part, and `..` at the end repeats K. If a line leaves several forms at the same word, the first
 /// is the one that a hint names.
 pub const FORMS: [(&str, Verb); 49] = [
-    ("router NAME", Verb::List(Listed::Router(false))),
-    ("router quiet NAME", Verb::List(Listed::Router(true))),
-    ("router quiet", Verb::List(Listed::Router(true))),
-    ("router", Verb::List(Listed::Router(false))),
-    ("iface ADDR COST MTU LINK", Verb::List(Listed::Interface)),
-    ("iface ADDR COST LINK", Verb::List(Listed::Interface)),
-    ("own PREFIX TAG times TIMES", Verb::List(Listed::Prefixes)),
-    ("own PREFIX TAG", Verb::List(Listed::Prefixes)),
+    ("router NAME", Verb::Router(false)),
+    ("router quiet NAME", Verb::Router(true)),
+    ("router quiet", Verb::Router(true)),
+    ("router", Verb::Router(false)),
+    ("iface ADDR COST MTU LINK", Verb::Interface),
+    ("iface ADDR COST LINK", Verb::Interface),
+    ("own PREFIX TAG times TIMES", Verb::Prefixes),
+    ("own PREFIX TAG", Verb::Prefixes),
     ("cold NOW", Verb::Start),
     ("deliver N R I NOW", Verb::Act(Action::Step(Step::Deliver))),
     (
@@ -190,9 +184,8 @@ pub fn meaning(part: &str) -> &'static str {
         "PREFIX" => "a prefix, like 2001:db8::/32",
         "TAG" | "PORT" => "a number from 0 to 65535",
         "TIMES" => "a number from 1 to 1024",
-        "NOW" => {
-            "a number of milliseconds, up to 2^60, or + and such a number since the last moment"
-        }
+        "NOW" =>
+            "a number of milliseconds, up to 2^60, or + and such a number since the last moment",
         "N" => "the number of a datagram, from 0, or last, or last-K",
         "K" => "the number of a datagram that is lost, from 0 for the first",
         "R" => "a router: its number, from 0, or its name",

@@ -1,13 +1,11 @@
 //! Hints: what a refused line of a script should have been.
 
-use crate::forms::{BadLine, FORMS, Wrong, first_word, meaning, words_of_form};
-use crate::listing::fault_of;
-use crate::named::{Names, names_of};
-use crate::printer::{Ending, Printer};
-use crate::script::{watched, words_in};
-use crate::stop::Refusal;
-use ripng_world::LabError;
-use router_core::ReconfigureRefused;
+use crate::forms::{FORMS, Verb, first_word, meaning, words_of_form};
+use crate::line::read_line;
+use crate::script::{list, words_in};
+use crate::{BadLine, Context, Ending, Names, Printer, Refusal, Wrong, names_of, watched};
+use ripng_world::{LabError, NetConfig, NetRefused};
+use router_core::{ConfigRefused, ReconfigureRefused};
 use std::alloc::{AllocError, Global};
 use std::io::{self, Write};
 use std::str::FromStr;
@@ -18,6 +16,9 @@ const NEAR: usize = 2;
 
 /// A longer word is near none.
 const LONGEST: usize = 12;
+
+/// What a line should have been, or out of memory.
+type Hint = Result<String, AllocError>;
 
 /// Runs a script as [`lab`](crate::lab) does. If a refused line ends it, `err` gets a line `ripngd: line L: ..` with a hint, if there
 /// is one; for a network that is refused, L is the line with the fault. If `err` or memory fails, there is no hint.
@@ -59,7 +60,11 @@ pub fn hint_of(
         Refusal::Event(LabError::NoSuchRouter) => {
             counted(alloc, names_of(alloc, script)?.len(), "routers")?
         }
-        Refusal::Event(LabError::NoSuchDatagram) => hint_of_datagram(alloc, line, ending)?,
+        Refusal::Event(LabError::NoSuchDatagram) => match first_word(line) {
+            "hear" => String::from_str(alloc, meaning_of(ending.refusal))?,
+            "tell" => counted(alloc, ending.sent_by_line, "datagrams of this tick")?,
+            _ => counted(alloc, ending.sent, "datagrams that were sent")?,
+        },
         refusal => String::from_str(alloc, meaning_of(refusal))?,
     };
     Ok(Some((ending.line, hint)).filter(|(_, hint)| !hint.is_empty()))
@@ -77,6 +82,8 @@ fn meaning_of(refusal: Refusal) -> &'static str {
         Refusal::Event(why) => match why {
             LabError::NoSuchInterface =>
                 "a router's interfaces are numbered from 0, by its iface lines",
+            LabError::NoSuchDatagram =>
+                "fewer datagrams are heard: they are counted from 0 for the first that was not passed by yet",
             LabError::OtherLink =>
                 "the datagram was sent on another link than that of the interface",
             LabError::NotAStranger =>
@@ -99,7 +106,7 @@ fn meaning_of(refusal: Refusal) -> &'static str {
 }
 
 /// What a malformed line, or one out of place, should have been.
-fn hint_of_bad(alloc: Global, line: &str, why: BadLine) -> Result<String, AllocError> {
+fn hint_of_bad(alloc: Global, line: &str, why: BadLine) -> Hint {
     if !line.starts_with("say ")
         && let Some(wrong) = wrong_spacing(line)
     {
@@ -117,9 +124,7 @@ fn hint_of_bad(alloc: Global, line: &str, why: BadLine) -> Result<String, AllocE
         BadLine::AfterStart => format!(in alloc; "{verb} comes before cold"),
         BadLine::SecondStart => String::from_str(alloc, "cold comes once"),
         BadLine::NoRouter => format!(in alloc; "{verb} comes after a router"),
-        BadLine::PastLastPrefix => {
-            String::from_str(alloc, "the row goes on past the last prefix of its length")
-        }
+        _ => String::from_str(alloc, "the row goes on past the last prefix of its length"),
     }
 }
 
@@ -154,20 +159,8 @@ fn nearest(alloc: Global, word: &str) -> Result<Option<&'static str>, AllocError
     Ok(near)
 }
 
-/// How many datagrams there are for a line to name.
-fn hint_of_datagram(alloc: Global, line: &str, ending: &Ending) -> Result<String, AllocError> {
-    match first_word(line) {
-        "hear" => String::from_str(
-            alloc,
-            "fewer datagrams are heard: they are counted from 0 for the first that was not passed by yet",
-        ),
-        "tell" => counted(alloc, ending.sent_by_line, "datagrams of this tick"),
-        _ => counted(alloc, ending.sent, "datagrams that were sent"),
-    }
-}
-
 /// How many there are to be named.
-fn counted(alloc: Global, count: usize, what: &str) -> Result<String, AllocError> {
+fn counted(alloc: Global, count: usize, what: &str) -> Hint {
     match count.checked_sub(1) {
         Some(last) => format!(in alloc; "there are {count} {what}, from 0 to {last}"),
         None => format!(in alloc; "there are no {what}"),
@@ -175,16 +168,11 @@ fn counted(alloc: Global, count: usize, what: &str) -> Result<String, AllocError
 }
 
 /// What is wrong with the word at a place of a line. Where a form repeats its last part, that is K.
-fn hint_of_word(
-    alloc: Global,
-    line: &str,
-    form: usize,
-    place: usize,
-    wrong: Wrong,
-) -> Result<String, AllocError> {
+fn hint_of_word(alloc: Global, line: &str, form: usize, place: usize, wrong: Wrong) -> Hint {
     let verb = first_word(line);
     let word = line.split(' ').nth(place).unwrap_or("");
-    let part = match words_of_form(form).split(' ').nth(place) {
+    let words = words_of_form(form);
+    let part = match words.split(' ').nth(place) {
         Some("..") | None => "K",
         Some(part) => part,
     };
@@ -195,12 +183,90 @@ fn hint_of_word(
     match wrong {
         Wrong::Differs => format!(in alloc; "word {place} of {verb}: {what} is {is}"),
         Wrong::Missing => format!(in alloc; "word {place} of {verb} is missing: {what} is {is}"),
-        Wrong::TooMany => {
-            format!(in alloc; "a word is too many: the form is {}", words_of_form(form))
-        }
+        Wrong::TooMany => format!(in alloc; "a word is too many: the form is {words}"),
         Wrong::NoName => format!(in alloc; "word {place}: no router has the name {word}"),
         Wrong::NoTime => format!(in alloc; "word {place}: no earlier line names a time"),
         Wrong::TooLate => format!(in alloc; "word {place}: the last time is 2^60 milliseconds"),
         Wrong::NotSent => format!(in alloc; "word {place}: fewer datagrams were sent"),
+    }
+}
+
+/// The number, from 1, of the line with the fault of a network that is refused at the line `cold`, and what the line should have been.
+/// It is the first line, of a router that is named, such that the network of the lines up to it is refused for the same reason.
+pub fn fault_of(
+    alloc: Global,
+    script: &[u8],
+    cold: usize,
+    refused: NetRefused,
+) -> Result<Option<(usize, String)>, AllocError> {
+    let mut context = Context::new(alloc);
+    let mut routers = 0_usize;
+    for (place, text) in script.split(|byte| *byte == b'\n').take(cold).enumerate() {
+        if let Ok(line) = read_line(words_in(text), &mut context) {
+            routers = routers.saturating_add(usize::from(matches!(line.verb, Verb::Router(_))));
+            let is_of_router = match refused {
+                NetRefused::BadRouter { router, .. } => routers == router.saturating_add(1),
+                _ => true,
+            };
+            let owns = line.verb == Verb::Prefixes;
+            if is_of_router && refusal_up_to(alloc, script, cold, place, owns)? == Some(refused) {
+                let meaning = String::from_str(alloc, meaning_of_network(refused))?;
+                return Ok(Some((place.saturating_add(1), meaning)));
+            }
+        }
+    }
+    Ok(None)
+}
+
+/// Why the network of the lines up to a place is refused, if it is. For a line of prefixes all routers and interfaces count, for
+/// another one no prefixes do.
+fn refusal_up_to(
+    alloc: Global,
+    script: &[u8],
+    cold: usize,
+    last: usize,
+    counts_prefixes: bool,
+) -> Result<Option<NetRefused>, AllocError> {
+    let mut context = Context::new(alloc);
+    let mut nodes = Vec::new(alloc);
+    for (place, text) in script.split(|byte| *byte == b'\n').take(cold).enumerate() {
+        if let Ok(line) = read_line(words_in(text), &mut context) {
+            let counts = match line.verb {
+                Verb::Prefixes => counts_prefixes && place <= last,
+                _ => counts_prefixes || place <= last,
+            };
+            if counts && list(alloc, &mut nodes, &line).is_err() {
+                return Err(AllocError);
+            }
+        }
+    }
+    match NetConfig::check(alloc, nodes) {
+        Ok(_) => Ok(None),
+        Err(NetRefused::OutOfMemory) => Err(AllocError),
+        Err(refused) => Ok(Some(refused)),
+    }
+}
+
+/// What a line should have been for which a network is refused.
+fn meaning_of_network(refused: NetRefused) -> &'static str {
+    match refused {
+        NetRefused::TooManyRouters => "a network has at most 64 routers",
+        NetRefused::AddressSharedInNetwork =>
+            "word 1 of iface: ADDR is that of an earlier interface of the network",
+        NetRefused::BadRouter { refusal, .. } => match refusal {
+            ConfigRefused::NoInterface => "a router has at least one iface line after it",
+            ConfigRefused::TooManyInterfaces => "a router has at most 16 interfaces",
+            ConfigRefused::AddressNotLinkLocal =>
+                "word 1 of iface: ADDR is a link-local address, of fe80::/10, like fe80::1",
+            ConfigRefused::AddressTwice =>
+                "word 1 of iface: ADDR is that of an earlier interface of the router",
+            ConfigRefused::BadCost => "word 2 of iface: COST is a number from 1 to 15",
+            ConfigRefused::BadMtu => "word 3 of iface: MTU is a number from 1280 to 65535",
+            ConfigRefused::TooManyPrefixes => "a router owns at most 1024 prefixes",
+            ConfigRefused::PrefixTwice => "word 1 of own: the router owns the prefix already",
+            ConfigRefused::PrefixNotAllowed =>
+                "word 1 of own: PREFIX is a prefix that is neither multicast nor link-local, like 2001:db8::/32",
+        },
+        NetRefused::OutOfMemory => "",
     }
 }

@@ -1,12 +1,11 @@
 //! Horizons: what a router advertises on the link on which it learned a route. RIPng has split horizon with poisoned reverse; a router
 //! without it is no router of RIPng, and nothing is promised of its network.
 
-use crate::plan::addr_at;
-use crate::site::Network;
+use crate::{Course, Network, addr_at};
 use prefix6::{Addr6, Prefix};
 use ripng_wire::{Command, Rte, decode, encode};
 use ripng_world::{Event, Sent};
-use route_table::{Origin, Route, RouteStore};
+use route_table::{Origin, RouteStore};
 use router_core::{Arrival, Destination, MAX_HOP_LIMIT, RIPNG_PORT};
 use std::alloc::{AllocError, Global};
 
@@ -29,15 +28,12 @@ pub const HORIZONS: [(&str, Horizon); 3] = [
 ];
 
 /// The routers with another horizon than RIPng's.
-#[derive(Drop)]
-pub struct Horizons {
-    changed: Vec<(usize, Horizon)>,
-}
+pub type Horizons = Vec<(usize, Horizon)>;
 
 /// A Response that comes in place of a datagram.
 #[derive(Drop)]
 pub struct Advert {
-    datagram: usize,
+    pub datagram: usize,
     /// The router that sent it.
     pub router: usize,
     /// The address of the interface that sent it.
@@ -46,42 +42,31 @@ pub struct Advert {
     pub bytes: Vec<u8>,
 }
 
-impl Horizons {
-    /// All routers are RIPng's.
-    pub fn new(alloc: Global) -> Horizons {
-        Horizons {
-            changed: Vec::new(alloc),
-        }
+/// A router has that horizon from now on.
+pub fn set_horizon(horizons: &mut Horizons, of: usize, horizon: Horizon) -> Result<(), AllocError> {
+    horizons.retain(|(other, _)| *other != of);
+    if horizon != Horizon::Poison {
+        horizons.push((of, horizon))?;
     }
+    Ok(())
+}
 
-    /// A router has that horizon from now on.
-    pub fn set(&mut self, router: usize, horizon: Horizon) -> Result<(), AllocError> {
-        self.changed.retain(|(other, _)| *other != router);
-        if horizon != Horizon::Poison {
-            self.changed.push((router, horizon))?;
-        }
-        Ok(())
-    }
-
+impl Advert {
     /// What comes in place of the datagrams from a number on, of routers with another horizon. Their tables are as they were when these
     /// were sent.
-    pub fn adverts(
-        &self,
-        alloc: Global,
-        lab: &Network,
-        first: usize,
-    ) -> Result<Vec<Advert>, AllocError> {
+    pub fn all_from(course: &Course, first: usize) -> Result<Vec<Advert>, AllocError> {
+        let (alloc, lab) = (course.alloc, course.site.running());
         let mut adverts = Vec::new(alloc);
         for (datagram, sent) in lab.sent().iter().enumerate().skip(first) {
-            let changed = self.changed.iter().find(|(other, _)| *other == sent.router);
-            if let Some((_, horizon)) = changed
-                && let Some(router) = lab.router(sent.router)
-                && let Some(source) = addr_at(lab, sent.router, sent.iface)
-                && let Some(bytes) = bytes_by(alloc, *horizon, router.routes(), sent)?
+            let router = sent.router;
+            if let Some((_, horizon)) = course.horizons.iter().find(|(other, _)| *other == router)
+                && let Some(sender) = lab.router(router)
+                && let Some(source) = addr_at(lab, router, sent.iface)
+                && let Some(bytes) = bytes_by(alloc, *horizon, sender.routes(), sent)?
             {
                 adverts.push(Advert {
                     datagram,
-                    router: sent.router,
+                    router,
                     source,
                     bytes,
                 })?;
@@ -89,27 +74,10 @@ impl Horizons {
         }
         Ok(adverts)
     }
-}
 
-impl Advert {
-    /// What comes in place of a datagram, if something else does.
-    pub fn at(adverts: &[Advert], datagram: usize) -> Option<&Advert> {
-        adverts.iter().find(|advert| advert.datagram == datagram)
-    }
-
-    /// The router of a delivery, and what comes to it, if it accepts that.
-    pub fn accepted<'b>(
-        &'b self,
-        lab: &Network,
-        event: &Event<'_>,
-    ) -> Option<(usize, Arrival<'b>)> {
-        let &Event::Deliver {
-            router,
-            iface,
-            now,
-            ..
-        } = event
-        else {
+    /// What comes to the router of a delivery, if it accepts that.
+    pub fn accepted<'b>(&'b self, lab: &Network, event: &Event<'_>) -> Option<Arrival<'b>> {
+        let &Event::Deliver { iface, now, .. } = event else {
             return None;
         };
         let arrival = Arrival {
@@ -121,8 +89,8 @@ impl Advert {
             to_group: true,
             bytes: self.bytes.as_slice(),
         };
-        lab.check_lie(router, &arrival).ok()?;
-        Some((router, arrival))
+        lab.check_lie(event.router(), &arrival).ok()?;
+        Some(arrival)
     }
 }
 
@@ -140,21 +108,16 @@ fn bytes_by<S: RouteStore>(
         return Ok(None);
     }
     let mut entries = Vec::new(alloc);
-    let mut is_same = true;
     for entry in message.entries() {
-        let told = entry_by(horizon, table, sent.iface, entry);
-        is_same = is_same && told == Some(entry);
-        if let Some(told) = told {
+        if let Some(told) = entry_by(horizon, table, sent.iface, entry) {
             entries.push(told)?;
         }
-    }
-    if is_same {
-        return Ok(None);
     }
     if entries.is_empty() {
         return Ok(Some(Vec::new(alloc)));
     }
-    Ok(Some(encode(alloc, Command::Response, &entries)?))
+    let bytes = encode(alloc, Command::Response, &entries)?;
+    Ok(Some(bytes).filter(|bytes| bytes.as_slice() != sent.bytes.as_slice()))
 }
 
 /// What a router with that horizon, which is not RIPng's, advertises on an interface in place of an entry.
@@ -162,22 +125,19 @@ fn entry_by<S: RouteStore>(horizon: Horizon, table: &S, iface: usize, entry: Rte
     match held_from(table, iface, entry) {
         None => Some(entry),
         Some(_) if horizon == Horizon::Split => None,
-        Some(route) => Some(Rte {
-            metric: route.metric(),
-            ..entry
-        }),
+        Some(metric) => Some(Rte { metric, ..entry }),
     }
 }
 
-/// The route that an entry advertises, if it was learned on the interface.
-fn held_from<S: RouteStore>(table: &S, learned: usize, entry: Rte) -> Option<Route> {
+/// The metric of the route that an entry advertises, if it was learned on the interface.
+fn held_from<S: RouteStore>(table: &S, learned: usize, entry: Rte) -> Option<u8> {
     if entry.is_next_hop() {
         return None;
     }
     let prefix = Prefix::new(Addr6::from_bits(entry.addr), entry.len).ok()?;
     let route = table.get(&prefix)?;
     match route.origin() {
-        Origin::Learned { iface, .. } if iface == learned => Some(route),
+        Origin::Learned { iface, .. } if iface == learned => Some(route.metric()),
         _ => None,
     }
 }

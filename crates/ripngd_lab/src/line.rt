@@ -1,12 +1,12 @@
 //! A line of a script: what it does, and what its words stand for.
 
-use crate::context::{Context, are_bytes, is_name, moment_after, named, number, up_to};
-use crate::forms::{BadLine, FORMS, Step, Verb, Wrong};
-use crate::horizon::{HORIZONS, Horizon};
-use crate::phase::{PHASES_LIMIT, end_of_phases};
+use crate::context::{are_bytes, is_name, moment_after, named, number, up_to};
+use crate::expecting::FATES;
+use crate::forms::{FORMS, Step, Verb};
+use crate::horizon::HORIZONS;
+use crate::moving::{PHASES_LIMIT, end_of_phases};
 use crate::plan::{Ticking, Wave};
-use crate::stop::RefusalName;
-use crate::ways::{FATES, Fate};
+use crate::{BadLine, Context, Fate, Horizon, RefusalName, Wrong};
 use prefix6::{Addr6, Prefix, parse_addr, parse_prefix};
 use ripng_wire::{Command, Rte, encode};
 use ripng_world::Event;
@@ -165,9 +165,8 @@ impl<'a> Line<'a> {
             }
             "PHASES" => {
                 self.count = up_to(word, PHASES_LIMIT)?;
-                if let Some(latest) = context.latest {
-                    self.last = end_of_phases(latest, self.count);
-                }
+                let count = self.count;
+                self.last = context.latest.and_then(|now| end_of_phases(now, count));
             }
             "SEED" => self.seed = number(word)?,
             part => self.take_other(part, word)?,
@@ -186,7 +185,6 @@ impl<'a> Line<'a> {
             "ASKED" => {
                 self.command = Command::Request;
                 self.to_group = false;
-                self.metric = Some(INFINITY);
                 if word != "all" {
                     self.prefix = parse_prefix(word).map_err(|_| Wrong::Differs)?;
                     self.metric = Some(0);

@@ -1,22 +1,52 @@
-//! What moves a network, with a report to the observer of the script: an event, a forged Response, waves of plans, rounds, phases.
+//! What moves a network, with a report to the observer of the script: an event, a forged Response, waves of plans, rounds, and phases:
+//! stretches of a minute, by chance, in which all that matters gets through once, with no rounds.
 
-ghost use Rattle.std.specs.Prelude.{◌≡◌, All, IfOk, Some, length};
+ghost use Rattle.std.specs.Prelude.{◌≡◌, All, IfErr, IfOk, OnOk, Some, length};
+ghost use Rattle.ripng_phases.specs.Making.{HealsIn};
+ghost use Rattle.ripngd_lab.specs.Phasing.{AllTakePart, AreMadeAndCounted, IsStopAt, StopsPhases};
 ghost use Rattle.ripngd_lab.specs.ScriptWatching.{HasTold};
 
-use crate::course::Course;
-use crate::forms::BadLine;
+use crate::context::{OrNone, moment_after};
 use crate::horizon::Advert;
 use crate::plan::{Ticking, Wave};
-use crate::site::{Held, Routes};
-use crate::stop::{Outcome, Stop};
-use crate::watching::Watch;
+use crate::site::Held;
+use crate::{BadLine, Course, Notice, Outages, Outcome, Refusal, Routes, Stop, Watch};
+use rand_core::SeedableRng;
+use rand_pcg::Pcg32;
+use ripng_phases::{PhaseRefused, run_phases};
 use ripng_world::{Event, Lab, Round, Stopped};
 use route_table::Moment;
 use router_core::Arrival;
 use std::alloc::{AllocError, Global};
+use std::{fmt, io};
+
+/// The most phases of one line.
+pub const PHASES_LIMIT: usize = 1000;
+
+/// How long a phase takes, in milliseconds.
+const PHASE_MS: u64 = 60_000;
+
+/// The last moment that there is, in milliseconds.
+const LAST_MS: u64 = 1 << 60;
 
 /// The time of a round, and the time and the word of each router's tick, in order.
 type Ticks = (Moment, Vec<(Moment, u32)>);
+
+/// What became of a line of phases.
+#[derive(Clone, Copy, Debug, PartialEq, Eq)]
+pub struct MadePhases {
+    /// How many were made.
+    pub phases: usize,
+    /// In which of them, numbered from 0, the table of some router last changed, but for how long a route lives on.
+    pub last: Option<usize>,
+}
+
+impl fmt::Display for MadePhases {
+    fn fmt<W: fmt::Write>(&self, f: &mut fmt::Formatter<W>) -> fmt::Result {
+        let MadePhases { phases, last } = *self;
+        write!(f, "phases {phases} last change {}", OrNone(last))
+    }
+}
 
 impl Course {
     /// An event happens, if it is not refused.
@@ -58,16 +88,18 @@ impl Course {
     pub fn make_wave<V: Watch>(&mut self, wave: &Wave<'_>, watch: &mut V) -> Outcome
         ensures { HasTold result V.starts V.takes V.fails V.notes (Some self.old.site, watch.old) (Some self.new.site, watch.new) }
     {
-        let first = wave.first(self.unheard, self.sent());
+        let begin = self.sent();
+        let first = wave.first(self.unheard, begin);
         let ticks = wave.ticks(self.alloc, self.site.running().routers(), &self.outages)?;
         self.play(wave, None, &ticks, watch)?;
         self.unheard = self.sent();
         let end = self.sent();
         wave.check_lost(end.saturating_sub(first))?;
-        let adverts = wave.adverts(self, first)?;
+        let adverts = Advert::all_from(self, begin)?;
         for datagram in first..end {
             let events = wave.deliveries(self, first, datagram)?;
-            self.play(wave, Advert::at(&adverts, datagram), &events, watch)?;
+            let advert = adverts.iter().find(|advert| advert.datagram == datagram);
+            self.play(wave, advert, &events, watch)?;
         }
         Ok(())
     }
@@ -107,7 +139,7 @@ impl Course {
             return Ok(());
         }
         match advert.accepted(self.site.running(), event) {
-            Some((router, arrival)) => self.lie(router, arrival, Some(advert.router), watch),
+            Some(arrival) => self.lie(event.router(), arrival, Some(advert.router), watch),
             None => self.step(event, watch),
         }
     }
@@ -152,7 +184,7 @@ fn make_whole_rounds<V: Watch>(
     let rounds: Vec<Round<'_>> = rounds.collect(alloc)?;
     match lab.run_rounds_watched(&rounds, watch) {
         Ok(()) => Ok(()),
-        Err(Stopped::Refused(why)) => Err(Stop::from(why)),
+        Err(Stopped::Refused(why)) => Err(Stop::from(Refusal::Rounds(why))),
         Err(Stopped::Failed(error)) => Err(Stop::Failed(error)),
     }
 }
@@ -166,4 +198,52 @@ fn ticks_at(alloc: Global, routers: usize, moments: &[Moment]) -> Result<Vec<Tic
         ticks.push((*now, vec![in alloc; (*now, 0); routers]?))?;
     }
     Ok(ticks)
+}
+
+/// When so many phases are over of which the first begins at a moment, or the last moment that there is.
+pub fn end_of_phases(begin: Moment, phases: usize) -> Option<Moment> {
+    moment_after(begin, PHASE_MS, phases as u64).or(Moment::new(LAST_MS))
+}
+
+/// So many phases are made, one after another, by the chance of a generator that starts from a seed, and the observer is notified in
+/// which of them some table last changed. 28 of them leave each table with the least costs of now, and nothing else below 16 hops,
+/// whatever happened before.
+///
+/// # Errors
+/// `Outage` where a router is silent or a link is cut: nothing is then done. A router whose regular update is not due in time, a
+/// phase past the last moment, out of memory, or the observer fails. What was done before it stays done.
+pub fn make_phases<V: Watch>(
+    alloc: Global,
+    lab: &mut Lab<Routes>,
+    phases: usize,
+    seed: u64,
+    outages: &Outages,
+    watch: &mut V,
+) -> Outcome
+    ensures told { HasTold result V.starts V.takes V.fails V.notes (Some lab.old, watch.old) (Some lab.new, watch.new) }
+    ensures all { OnOk result (AllTakePart outages.now) }
+    ensures made { OnOk result (AreMadeAndCounted V.takes V.notes (lab.old, watch.old) phases (lab.new, watch.new)) }
+    ensures heals { OnOk result (HealsIn lab.old.network lab.old.world phases lab.new.world) }
+    ensures stopped { IfErr result (λ stop. StopsPhases V.takes V.fails outages.now (lab.old, watch.old) stop (lab.new, watch.new)) }
+{
+    if !outages.are_none() {
+        return Err(Stop::Refused(Refusal::Outage));
+    }
+    let mut rng = Pcg32::seed_from_u64(seed);
+    let (phase, outcome) = run_phases(alloc, lab, phases, &mut rng, watch);
+    match outcome {
+        Ok(last) => Ok(watch.noticed(Notice::Phases(MadePhases { phases, last }))?),
+        Err(why) => Err(stop_at(phase, why)),
+    }
+}
+
+/// What a script says where phases stop in the one of that number.
+fn stop_at(phase: usize, why: Stopped<PhaseRefused, io::Error>) -> Stop
+    ensures { IsStopAt phase why result }
+{
+    match why {
+        Stopped::Refused(PhaseRefused::OutOfMemory) => Stop::Failed(io::Error::from(AllocError)),
+        Stopped::Refused(refused) => Stop::Refused(Refusal::Phases { phase, refused }),
+        Stopped::Failed(error) => Stop::Failed(error),
+    }
 }

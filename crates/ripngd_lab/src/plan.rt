@@ -1,22 +1,91 @@
 //! What a line of many events makes happen: a wave of ticks, and then of deliveries. It is a plan: it says which events come
-//! next, where routers are silent, links are cut and datagrams are lost.
+//! next, where routers are silent, links are cut and datagrams are lost. Outages hold back what `round`, `rounds`, `tell` and `hear`
+//! would do, let no `phases` be, and hold back nothing that a line says of one datagram or of one router; what is lost comes to nobody.
 
-ghost use Rattle.std.specs.Prelude.{◌≡◌, IfOk, map};
+ghost use Rattle.std.specs.Prelude.{◌≡◌, false, true, IfOk, IsFalse, IsTrue, OnErr, OnOk, map};
 ghost use Rattle.ripng_world.specs.AskedRounds.{is_other};
 ghost use Rattle.ripng_world.specs.Events.{event_of};
-ghost use Rattle.ripngd_lab.specs.Plans.{addr_at, all_ticks, first_of, is_meant, reaches, takes_part, ticks_of};
+ghost use Rattle.ripngd_lab.specs.Losing.{brings_lost, is_lost};
+ghost use Rattle.ripngd_lab.specs.Phasing.{AllTakePart};
+ghost use Rattle.ripngd_lab.specs.Plans.{addr_at, all_ticks, first_of, is_cut, is_meant, is_silent, reaches, takes_part, ticks_of, with_member};
 
 use crate::context::number;
-use crate::course::Course;
-use crate::horizon::Advert;
-use crate::outages::Outages;
-use crate::site::Network;
-use crate::stop::{Outcome, Stop};
+use crate::{Course, Network, Outcome, Refusal, Stop};
 use prefix6::Addr6;
 use ripng_world::{Event, LabError, RoundsRefused, Running, Sent};
 use route_table::{Moment, RouteStore};
 use router_core::{Destination, INTERFACE_LIMIT};
 use std::alloc::{AllocError, Global};
+
+/// What takes no part.
+#[derive(Drop)]
+pub struct Outages {
+    /// Routers, by number.
+    pub silent: Vec<usize>,
+    /// Links, by number.
+    pub cut: Vec<usize>,
+    /// Datagrams, by number.
+    pub lost: Vec<usize>,
+}
+
+impl Outages {
+    /// Whether all routers and links take part.
+    pub fn are_none(&self) -> bool
+        ensures none { IsTrue result → AllTakePart self.now }
+        ensures some { IsFalse result → AllTakePart self.now → ⊥ }
+    {
+        self.silent.is_empty() && self.cut.is_empty()
+    }
+
+    /// Whether a router takes no part.
+    pub fn is_silent(&self, router: usize) -> bool
+        ensures { result ≡ is_silent self.now router }
+    {
+        self.silent.iter().any(|silent| *silent == router)
+    }
+
+    /// Whether nothing crosses a link.
+    pub fn is_cut(&self, link: u16) -> bool
+        ensures { result ≡ is_cut self.now link }
+    {
+        self.cut.iter().any(|cut| *cut == usize::from(link))
+    }
+
+    /// Whether a datagram is lost.
+    pub fn is_lost(&self, datagram: usize) -> bool
+        ensures { result ≡ is_lost self.now.lost.items datagram }
+    {
+        self.lost.iter().any(|lost| *lost == datagram)
+    }
+
+    /// An event brings no datagram that is lost, else `DatagramLost`.
+    pub fn check_event(&self, event: &Event<'_>) -> Outcome
+        ensures passed { OnOk result (brings_lost self.now.lost.items (event_of event.now) ≡ false) }
+        ensures refused { OnErr result (brings_lost self.now.lost.items (event_of event.now) ≡ true) }
+    {
+        match event {
+            Event::Deliver { datagram, .. } if self.is_lost(*datagram) => {
+                Err(Stop::Refused(Refusal::DatagramLost))
+            }
+            _ => Ok(()),
+        }
+    }
+}
+
+/// What is of that number is among all of these from now on, or is not.
+pub fn set_member(members: &mut Vec<usize>, member: usize, is_in: bool) -> Result<(), AllocError>
+    ensures { OnOk result (members.new.items ≡ with_member is_in member members.old.items) }
+{
+    members.retain(|other| *other != member);
+    if is_in {
+        members.push(member)?;
+        return Ok(());
+    }
+    Ok(())
+}
+
+/// Events in their order, or out of memory.
+type Events = Result<Vec<Event<'static>>, AllocError>;
 
 /// Who ticks in a wave.
 #[derive(Clone, Copy, Debug, PartialEq, Eq)]
@@ -42,12 +111,7 @@ pub struct Wave<'a> {
 
 impl<'a> Wave<'a> {
     /// The ticks, in the order of routers.
-    pub fn ticks(
-        &self,
-        alloc: Global,
-        routers: usize,
-        outages: &Outages,
-    ) -> Result<Vec<Event<'static>>, AllocError>
+    pub fn ticks(&self, alloc: Global, routers: usize, outages: &Outages) -> Events
         ensures { IfOk result (λ ticks. map event_of ticks.items ≡ ticks_of self.now outages.now routers) }
     {
         let now = self.moment;
@@ -77,39 +141,24 @@ impl<'a> Wave<'a> {
             && let Some(ticking) = lab.router(router)
             && !ticking.regular().reached(now.max(ticking.last()))
         {
-            return Err(Stop::from(RoundsRefused::NoRegularUpdate { round, router }));
+            let why = RoundsRefused::NoRegularUpdate { round, router };
+            return Err(Stop::Refused(Refusal::Rounds(why)));
         }
         Ok(())
     }
 
     /// The datagrams that the wave loses are among those that it would deliver, else `NoSuchDatagram`.
     pub fn check_lost(&self, count: usize) -> Outcome {
-        for word in self.lost.split(' ') {
-            if number::<usize>(word).is_ok_and(|place| place >= count) {
-                return Err(Stop::from(LabError::NoSuchDatagram));
-            }
+        let mut lost = self.lost.split(' ');
+        if lost.any(|word| number::<usize>(word).is_ok_and(|place| place >= count)) {
+            return Err(Stop::from(LabError::NoSuchDatagram));
         }
         Ok(())
     }
 
-    /// What comes in place of datagrams of the wave, of routers that are none of RIPng: of those that tick in it.
-    pub fn adverts(&self, course: &Course, first: usize) -> Result<Vec<Advert>, AllocError> {
-        match self.ticking {
-            Ticking::Nobody => Ok(Vec::new(course.alloc)),
-            _ => course
-                .horizons
-                .adverts(course.alloc, course.site.running(), first),
-        }
-    }
-
     /// The deliveries of a datagram, in the order of routers and interfaces. The first datagram of the wave has the number
     /// `first`.
-    pub fn deliveries(
-        &self,
-        course: &Course,
-        first: usize,
-        datagram: usize,
-    ) -> Result<Vec<Event<'static>>, AllocError> {
+    pub fn deliveries(&self, course: &Course, first: usize, datagram: usize) -> Events {
         let (lab, outages) = (course.site.running(), &course.outages);
         let mut events = Vec::new(course.alloc);
         let Some(sent) = lab.sent().get(datagram) else {
@@ -136,12 +185,7 @@ impl<'a> Wave<'a> {
 }
 
 /// A tick of each router that is not silent, with the word 0.
-fn all_ticks(
-    alloc: Global,
-    routers: usize,
-    now: Moment,
-    outages: &Outages,
-) -> Result<Vec<Event<'static>>, AllocError>
+fn all_ticks(alloc: Global, routers: usize, now: Moment, outages: &Outages) -> Events
     ensures { IfOk result (λ ticks. map event_of ticks.items ≡ all_ticks outages.now routers now) }
 {
     let mut ticks = Vec::new(alloc);
@@ -149,11 +193,8 @@ fn all_ticks(
         if outages.is_silent(router) {
             continue;
         }
-        ticks.push(Event::Tick {
-            router,
-            now,
-            word: 0,
-        })?;
+        let word = 0;
+        ticks.push(Event::Tick { router, now, word })?;
     }
     Ok(ticks)
 }
@@ -194,9 +235,7 @@ fn is_meant(lab: &Network, to: Destination, router: usize, iface: usize) -> bool
 {
     match to {
         Destination::Group => true,
-        Destination::Peer { addr, .. } => {
-            addr_at(lab, router, iface).is_some_and(|own| own == addr)
-        }
+        Destination::Peer { addr, .. } => addr_at(lab, router, iface) == Some(addr),
     }
 }
 

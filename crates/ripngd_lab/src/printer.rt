@@ -1,19 +1,19 @@
-//! What lines print: the observer of a script that writes it.
+//! What lines print: the observer of a script that writes it, and the names that a script gives its routers.
 
 ghost use Rattle.std.specs.Prelude.{⊤};
 
 use crate::context::{OrNone, name_of};
-use crate::horizon::{HORIZONS, Horizon};
-use crate::named::{Named, Names};
-use crate::site::{Network, Routes};
-use crate::stop::{Refusal, Unmet};
-use crate::watching::{Notice, Watch};
-use crate::ways::{FATES, Obstacle, Way};
+use crate::expecting::FATES;
+use crate::forms::first_word;
+use crate::horizon::HORIZONS;
+use crate::script::words_in;
+use crate::{Horizon, Network, Notice, Obstacle, Refusal, Routes, Unmet, Watch, Way};
 use prefix6::Prefix;
 use ripng_world::{Event, PathEnd};
 use route_table::{Moment, Origin, Route, RouteStore};
 use router_core::{Answer, Destination};
-use std::alloc::Global;
+use std::alloc::{AllocError, Global};
+use std::fmt;
 use std::io::{self, Write};
 
 /// Prints the routes and the datagrams that lines ask for, and the line that is refused or expects what is not so. Of events it
@@ -54,52 +54,35 @@ impl<'a, W: Write> Printer<'a, W> {
     }
 
     /// Writes the routes of a router, or of all, to a prefix, or to all, in the order of routers, then of addresses, then of lengths.
-    fn print_routes(
-        &mut self,
-        lab: &Network,
-        router: Option<usize>,
-        prefix: Option<&Prefix>,
-    ) -> io::Result<()> {
+    fn print(&mut self, lab: &Network, of: Option<usize>, to: Option<&Prefix>) -> io::Result<()> {
         for number in 0..lab.routers() {
-            if router.is_none_or(|asked| asked == number)
+            if of.is_none_or(|asked| asked == number)
                 && let Some(router) = lab.router(number)
             {
-                self.print_table(self.names.of(number), router.routes(), prefix)?;
+                self.print_table(number, router.routes(), to)?;
             }
         }
         Ok(())
     }
 
     /// Writes the routes of one table, to a prefix, or to all.
-    fn print_table(
-        &mut self,
-        name: Named<'_>,
-        routes: &Routes,
-        asked: Option<&Prefix>,
-    ) -> io::Result<()> {
+    fn print_table(&mut self, of: usize, routes: &Routes, to: Option<&Prefix>) -> io::Result<()> {
         let mut last = None;
         for _ in 0..routes.len() {
-            let Some(entry) = routes.walk(last) else {
+            let Some((prefix, route)) = routes.walk(last) else {
                 break;
             };
-            self.print_route(name, asked, entry.0, entry.1)?;
-            last = Some(entry.0);
+            if to.is_none_or(|asked| *asked == prefix) {
+                self.print_route(of, prefix, route)?;
+            }
+            last = Some(prefix);
         }
         Ok(())
     }
 
-    /// Writes the line of a route, if its prefix is asked for, or none is.
-    fn print_route(
-        &mut self,
-        name: Named<'_>,
-        asked: Option<&Prefix>,
-        prefix: Prefix,
-        route: Route,
-    ) -> io::Result<()> {
-        if asked.is_some_and(|asked| *asked != prefix) {
-            return Ok(());
-        }
-        let (metric, tag) = (route.metric(), route.tag());
+    /// Writes the line of a route.
+    fn print_route(&mut self, router: usize, prefix: Prefix, route: Route) -> io::Result<()> {
+        let (name, metric, tag) = (self.names.of(router), route.metric(), route.tag());
         write!(self.out, "{name} {prefix} metric {metric} tag {tag} ")?;
         match route.origin() {
             Origin::Own => writeln!(self.out, "own"),
@@ -114,17 +97,16 @@ impl<'a, W: Write> Printer<'a, W> {
     /// Writes the datagram of that number, or all that were ever sent, in order.
     fn print_sent(&mut self, lab: &Network, asked: Option<usize>) -> io::Result<()> {
         for (number, sent) in lab.sent().iter().enumerate() {
-            if asked.is_some_and(|asked| asked != number) {
-                continue;
+            if asked.is_none_or(|asked| asked == number) {
+                let hex = hex::encode(self.alloc, sent.bytes.as_slice())?;
+                let (router, iface) = (self.names.of(sent.router), sent.iface);
+                write!(self.out, "{number} router {router} iface {iface} ")?;
+                match sent.to {
+                    Destination::Group => write!(self.out, "group ")?,
+                    Destination::Peer { addr, port } => write!(self.out, "peer {addr} {port} ")?,
+                }
+                writeln!(self.out, "{hex}")?;
             }
-            let hex = hex::encode(self.alloc, sent.bytes.as_slice())?;
-            let (router, iface) = (self.names.of(sent.router), sent.iface);
-            write!(self.out, "{number} router {router} iface {iface} ")?;
-            match sent.to {
-                Destination::Group => write!(self.out, "group ")?,
-                Destination::Peer { addr, port } => write!(self.out, "peer {addr} {port} ")?,
-            }
-            writeln!(self.out, "{hex}")?;
         }
         Ok(())
     }
@@ -163,13 +145,7 @@ impl<'a, W: Write> ripng_world::Observer<Routes> for Printer<'a, W> {
 
     ghost fails = { λ _ _ _. ⊤ };
 
-    fn happened(
-        &mut self,
-        _lab: &Network,
-        _event: &Event<'_>,
-        _answer: &Answer,
-        _first: usize,
-    ) -> io::Result<()> {
+    fn happened(&mut self, _: &Network, _: &Event<'_>, _: &Answer, _: usize) -> io::Result<()> {
         Ok(())
     }
 }
@@ -183,24 +159,24 @@ impl<'a, W: Write> Watch for Printer<'a, W> {
         self.line = number;
     }
 
-    fn started(&mut self, _lab: &Network, _now: Moment) -> io::Result<()> {
+    fn started(&mut self, _: &Network, _: Moment) -> io::Result<()> {
         Ok(())
     }
 
     fn lied(
         &mut self,
-        _running: &Network,
-        _event: &Event<'_>,
-        _answer: &Answer,
-        _first: usize,
-        _sender: Option<usize>,
+        _: &Network,
+        _: &Event<'_>,
+        _: &Answer,
+        _: usize,
+        _: Option<usize>,
     ) -> io::Result<()> {
         Ok(())
     }
 
     fn noticed(&mut self, notice: Notice<'_>) -> io::Result<()> {
         match notice {
-            Notice::Routes(lab, router, prefix) => self.print_routes(lab, router, prefix),
+            Notice::Routes(lab, router, prefix) => self.print(lab, router, prefix),
             Notice::Datagrams(lab, asked) => self.print_sent(lab, asked),
             Notice::Way(way) => self.print_way(&way),
             Notice::Horizon { router, horizon } => {
@@ -246,11 +222,8 @@ pub fn print_unmet<W: Write>(names: Names<'_>, unmet: &Unmet, out: &mut W) -> io
             found,
         } => {
             let router = names.of(*router);
-            let (expected, found) = (name_of(expected, &FATES), name_of(found, &FATES));
-            write!(
-                out,
-                "expected path {router} {addr} {expected} found {found}"
-            )
+            let (fate, found) = (name_of(expected, &FATES), name_of(found, &FATES));
+            write!(out, "expected path {router} {addr} {fate} found {found}")
         }
         Unmet::Refusal { name, found } => {
             write!(out, "expected refused {} found ", name.word())?;
@@ -260,4 +233,57 @@ pub fn print_unmet<W: Write>(names: Names<'_>, unmet: &Unmet, out: &mut W) -> io
             }
         }
     }
+}
+
+/// The names of a script's routers.
+#[derive(Clone, Copy, Debug)]
+pub struct Names<'a> {
+    /// That of each router, in order; empty for one without a name.
+    names: &'a [&'a str],
+}
+
+/// A router of a script. Its text is its name, or its number if it has none.
+#[derive(Clone, Copy, Debug)]
+pub struct Named<'a> {
+    pub name: Option<&'a str>,
+    pub router: usize,
+}
+
+impl<'a> Names<'a> {
+    /// These names, as [`names_of`] has them.
+    pub fn new(names: &'a [&'a str]) -> Names<'a> {
+        Names { names }
+    }
+
+    /// The router of that number.
+    pub fn of(self, router: usize) -> Named<'a> {
+        let name = self.names.get(router).copied();
+        let name = name.filter(|name| !name.is_empty());
+        Named { name, router }
+    }
+}
+
+impl<'a> fmt::Display for Named<'a> {
+    fn fmt<W: fmt::Write>(&self, f: &mut fmt::Formatter<W>) -> fmt::Result {
+        match self.name {
+            Some(name) => f.write_str(name),
+            None => write!(f, "{}", self.router),
+        }
+    }
+}
+
+/// The name of each router that a script lists, in order; empty for one without a name.
+///
+/// # Errors
+/// Out of memory.
+pub fn names_of<'a>(alloc: Global, script: &'a [u8]) -> Result<Vec<&'a str>, AllocError> {
+    let mut names = Vec::new(alloc);
+    for line in script.split(|byte| *byte == b'\n') {
+        let words = words_in(line);
+        if first_word(words) == "router" {
+            let name = words.rsplit_once(' ').map_or("", |(_, name)| name);
+            names.push(if name == "quiet" { "" } else { name })?;
+        }
+    }
+    Ok(names)
 }

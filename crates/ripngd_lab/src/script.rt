@@ -1,18 +1,24 @@
-//! A script, line by line.
+//! A script, line by line: its routers are listed until they start, and then live in a network.
 
-ghost use Rattle.std.specs.Prelude.{◌<◌, ◌≡◌, IfSome, None, OnErr, OnOk, Option, length};
+ghost use Rattle.std.specs.Prelude.{◌<◌, ◌≡◌, ◌⊎◌, IfOk, IfSome, None, OnErr, OnOk, Option, length, true};
 ghost use Rattle.ripng_world.specs.Labs.{LabValue};
-ghost use Rattle.ripngd_lab.specs.ScriptWatching.{HasTold, IsToldOfLab, IsToldUntil, has_failed, lab_in};
+ghost use Rattle.ripngd_lab.specs.Asides.{Broken};
+ghost use Rattle.ripngd_lab.specs.ScriptWatching.{HasTold, IsToldOfLab, IsToldUntil, StartsAt, has_failed, lab_in};
 
-use crate::forms::BadLine;
-use crate::named::{Names, names_of};
-use crate::printer::Printer;
-use crate::session::Session;
-use crate::stop::{Outcome, RefusalName, Stop, Unmet};
-use crate::watching::{Notice, Watch};
+use crate::course::check_named;
+use crate::forms::{Action, Verb};
+use crate::line::read_line;
+use crate::{
+    BadLine, Context, Course, Ending, Line, Names, Notice, Outcome, Printer, Refusal, RefusalName,
+    Routes, Stop, Unmet, Watch, names_of,
+};
+use prefix6::{Addr6, Prefix};
+use ripng_world::{Lab, LabError, NetConfig, NetInterface, Node};
+use route_table::Moment;
+use router_core::Interface;
 use std::alloc::Global;
 use std::io::{self, Write};
-use std::str;
+use std::{mem, str};
 
 /// Runs a script, line by line, and answers whether every line was done. What its lines print is written to `out`; the
 /// first line that is refused is named by `line L refused ..`, counted from 1, and ends the script; so is the first
@@ -126,4 +132,223 @@ fn await_refusal(name: RefusalName, outcome: Outcome) -> Outcome
         Err(stop) => return Err(stop),
     };
     Err(Stop::Unmet(Unmet::Refusal { name, found }))
+}
+
+/// A script that runs.
+#[derive(Drop)]
+pub struct Session {
+    /// The routers that are listed, until they start.
+    nodes: Vec<Node>,
+    /// What words may stand for.
+    context: Context,
+    /// The network, once its routers have started.
+    course: Option<Course>,
+    /// The name that the next line is to be refused by. It counts once.
+    pub awaited: Option<RefusalName>,
+}
+
+impl Session {
+    /// Nothing is listed yet.
+    pub fn new(alloc: Global) -> Session
+        ensures { lab_in result.course ≡ None }
+    {
+        Session {
+            nodes: Vec::new(alloc),
+            context: Context::new(alloc),
+            course: None,
+            awaited: None,
+        }
+    }
+
+    /// Reads the words of the next line.
+    pub fn read<'a>(&mut self, words: &'a str) -> Result<Line<'a>, BadLine>
+        ensures { self.new.course ≡ self.old.course }
+    {
+        if let Some(course) = &self.course {
+            self.context.sent = course.sent();
+            let lab = course.site.running();
+            let routers = (0..lab.routers()).filter_map(|number| lab.router(number));
+            self.context.latest = routers.map(|router| router.last()).max();
+        }
+        read_line(words, &mut self.context)
+    }
+
+    /// How the script ends at a line that is refused.
+    pub fn ending(&self, line: usize, refusal: Refusal) -> Ending {
+        let sent = self.course.as_ref().map_or(0, |course| course.sent());
+        Ending {
+            line,
+            refusal,
+            sent,
+            sent_by_line: sent.saturating_sub(self.context.sent),
+        }
+    }
+
+    /// Does what a line says.
+    ///
+    /// # Errors
+    /// Why the script ends here. What was done before it stays done.
+    pub fn obey<V: Watch>(&mut self, alloc: Global, line: &Line<'_>, watch: &mut V) -> Outcome
+        ensures { HasTold result V.starts V.takes V.fails V.notes (lab_in self.old.course, watch.old) (lab_in self.new.course, watch.new) }
+    {
+        match line.verb {
+            Verb::Start => self.start(alloc, line.now, watch),
+            Verb::Forge => self.deceive(alloc, line, watch),
+            Verb::Bend => self.bend(line, watch),
+            Verb::Await => self.await_refusal(line),
+            Verb::Act(action) => self.act(action, line, watch),
+            Verb::Router(_) | Verb::Interface | Verb::Prefixes => self.list(alloc, line),
+        }
+    }
+
+    /// A line that lists a router, or what one has.
+    fn list(&mut self, alloc: Global, line: &Line<'_>) -> Outcome
+        ensures { self.new.course ≡ self.old.course }
+    {
+        if self.course.is_some() {
+            return Err(Stop::from(BadLine::AfterStart));
+        }
+        if matches!(line.verb, Verb::Router(_)) {
+            self.context.name_next(alloc, line.text)?;
+        }
+        list(alloc, &mut self.nodes, line)
+    }
+
+    /// The routers start.
+    fn start<V: Watch>(&mut self, alloc: Global, now: Moment, watch: &mut V) -> Outcome
+        ensures { HasTold result V.starts V.takes V.fails V.notes (lab_in self.old.course, watch.old) (lab_in self.new.course, watch.new) }
+    {
+        match &self.course {
+            Some(_) => Err(Stop::from(BadLine::SecondStart)),
+            None => {
+                let nodes = mem::replace(&mut self.nodes, Vec::new(alloc));
+                self.course = Some(Course::new(alloc, begin_lab(alloc, nodes, now, watch)?));
+                Ok(())
+            }
+        }
+    }
+
+    /// A line about routers that run.
+    fn act<V: Watch>(&mut self, action: Action, line: &Line<'_>, watch: &mut V) -> Outcome
+        ensures { HasTold result V.starts V.takes V.fails V.notes (lab_in self.old.course, watch.old) (lab_in self.new.course, watch.new) }
+    {
+        match &mut self.course {
+            Some(course) => course.act(action, line, watch),
+            None => Err(Stop::from(BadLine::BeforeStart)),
+        }
+    }
+
+    /// A forged Response arrives. If it is refused, the network stays verified.
+    fn deceive<V: Watch>(&mut self, alloc: Global, line: &Line<'_>, watch: &mut V) -> Outcome
+        ensures { HasTold result V.starts V.takes V.fails V.notes (lab_in self.old.course, watch.old) (lab_in self.new.course, watch.new) }
+    {
+        let bytes = line.bytes(alloc)?;
+        let arrival = line.arrival(&bytes);
+        let course = self.running()?;
+        course.site.running().check_lie(line.router, &arrival)?;
+        self.give_up();
+        match &mut self.course {
+            Some(course) => course.lie(line.router, arrival, None, watch),
+            None => Err(Stop::from(BadLine::BeforeStart)),
+        }
+    }
+
+    /// A router has another horizon from now on, and the network is verified no longer.
+    fn bend<V: Watch>(&mut self, line: &Line<'_>, watch: &mut V) -> Outcome
+        ensures { HasTold result V.starts V.takes V.fails V.notes (lab_in self.old.course, watch.old) (lab_in self.new.course, watch.new) }
+    {
+        let routers = self.running()?.site.running().routers();
+        check_named(Some(line.router), routers, LabError::NoSuchRouter)?;
+        self.give_up();
+        match &mut self.course {
+            Some(course) => course.bend(line, watch),
+            None => Err(Stop::from(BadLine::BeforeStart)),
+        }
+    }
+
+    /// The next line is to be refused.
+    fn await_refusal(&mut self, line: &Line<'_>) -> Outcome
+        ensures { self.new.course ≡ self.old.course }
+    {
+        let _ = self.running()?;
+        self.awaited = line.refusal;
+        Ok(())
+    }
+
+    /// The network, if its routers have started.
+    fn running(&self) -> Result<&Course, BadLine> {
+        self.course.as_ref().ok_or(BadLine::BeforeStart)
+    }
+
+    /// The network is verified no longer.
+    fn give_up(&mut self)
+        ensures { lab_in self.new.course ≡ lab_in self.old.course }
+    {
+        if let Some(mut course) = self.course.take() {
+            course.site = course.site.lied();
+            self.course = Some(course);
+        }
+    }
+}
+
+/// A network is checked, and its routers start at one time, which the observer is notified of.
+fn begin_lab<V: Watch>(
+    alloc: Global,
+    nodes: Vec<Node>,
+    now: Moment,
+    watch: &mut V,
+) -> Result<Lab<Routes>, Stop>
+    ensures started { IfOk result (λ lab. StartsAt lab now × V.starts watch.old lab now watch.new) }
+    ensures untold { OnErr result (watch.new ≡ watch.old ⊎ has_failed result ≡ true × V.notes watch.old Broken watch.new) }
+{
+    let moments = vec![in alloc; now; nodes.len()]?;
+    let network = NetConfig::check(alloc, nodes).map_err(Refusal::Network)?;
+    let lab = Lab::cold(alloc, network, moments.as_slice())?;
+    watch.started(lab.running(), now)?;
+    Ok(lab)
+}
+
+/// Adds the part of a network that a line lists, if it lists one.
+pub fn list(alloc: Global, nodes: &mut Vec<Node>, line: &Line<'_>) -> Outcome {
+    match line.verb {
+        Verb::Router(quiet) => Ok(nodes.push(Node {
+            interfaces: Vec::new(alloc),
+            prefixes: Vec::new(alloc),
+            quiet,
+        })?),
+        Verb::Interface => {
+            let (addr, cost, mtu, link) = (line.addr, line.cost, line.mtu, line.link);
+            let interface = Interface { addr, cost, mtu };
+            Ok(
+                newest(nodes)?
+                    .interfaces
+                    .push(NetInterface { interface, link })?,
+            )
+        }
+        Verb::Prefixes => own(newest(nodes)?, line),
+        _ => Ok(()),
+    }
+}
+
+/// The router that is being listed.
+fn newest(nodes: &mut [Node]) -> Result<&mut Node, BadLine> {
+    nodes.last_mut().ok_or(BadLine::NoRouter)
+}
+
+/// A router owns a row of as many prefixes as a line says.
+fn own(node: &mut Node, line: &Line<'_>) -> Outcome {
+    let mut next = Some(line.prefix);
+    for _ in 0..line.count {
+        let prefix = next.ok_or(BadLine::PastLastPrefix)?;
+        node.prefixes.push((prefix, line.tag))?;
+        next = next_prefix(prefix);
+    }
+    Ok(())
+}
+
+/// The prefix of the same length whose addresses follow those of a prefix, if there is one.
+fn next_prefix(prefix: Prefix) -> Option<Prefix> {
+    let size = 1u128 << 127u8.saturating_sub(prefix.len().checked_sub(1)?);
+    let bits = prefix.addr().bits().checked_add(size)?;
+    Prefix::new(Addr6::from_bits(bits), prefix.len()).ok()
 }

@@ -1,8 +1,6 @@
 //! Why a script ends before its last line.
 
-use crate::expecting::Expected;
-use crate::forms::BadLine;
-use crate::ways::Fate;
+use crate::{BadLine, Expected, Fate};
 use prefix6::Addr6;
 use ripng_phases::PhaseRefused;
 use ripng_world::{LabError, NetRefused, RoundsRefused};
@@ -135,11 +133,10 @@ impl fmt::Display for Refusal {
             Refusal::Rounds(RoundsRefused::NoRegularUpdate { round, router }) => {
                 write!(f, " {round} {router}")
             }
-            Refusal::Phases {
-                phase,
-                refused: PhaseRefused::NoUpdateInTime { router },
-            } => { write!(f, " {phase} {router}") }
-            Refusal::Phases { phase, .. } => write!(f, " {phase}"),
+            Refusal::Phases { phase, refused } => match refused {
+                PhaseRefused::NoUpdateInTime { router } => write!(f, " {phase} {router}"),
+                _ => write!(f, " {phase}"),
+            },
             _ => Ok(()),
         }
     }
@@ -174,29 +171,19 @@ impl From<io::Error> for Stop {
     }
 }
 
-impl From<NetRefused> for Stop {
-    fn from(refused: NetRefused) -> Stop {
-        match refused {
-            NetRefused::OutOfMemory => Stop::from(AllocError),
-            _ => Stop::Refused(Refusal::Network(refused)),
+impl From<Refusal> for Stop {
+    fn from(refusal: Refusal) -> Stop {
+        match refusal {
+            Refusal::Network(NetRefused::OutOfMemory)
+            | Refusal::Event(LabError::OutOfMemory)
+            | Refusal::Rounds(RoundsRefused::OutOfMemory { .. }) => Stop::from(AllocError),
+            _ => Stop::Refused(refusal),
         }
     }
 }
 
 impl From<LabError> for Stop {
     fn from(error: LabError) -> Stop {
-        match error {
-            LabError::OutOfMemory => Stop::from(AllocError),
-            _ => Stop::Refused(Refusal::Event(error)),
-        }
-    }
-}
-
-impl From<RoundsRefused> for Stop {
-    fn from(refused: RoundsRefused) -> Stop {
-        match refused {
-            RoundsRefused::OutOfMemory { .. } => Stop::from(AllocError),
-            RoundsRefused::NoRegularUpdate { .. } => Stop::Refused(Refusal::Rounds(refused)),
-        }
+        Stop::from(Refusal::Event(error))
     }
 }

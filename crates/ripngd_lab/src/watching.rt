@@ -6,12 +6,7 @@ ghost use Rattle.ripng_world.specs.Labs.{LabValue};
 ghost use Rattle.ripngd_lab.specs.Asides.{Aside, Broken, Lie, NextLine};
 ghost use Rattle.ripngd_lab.specs.Notices.{aside_of};
 
-use crate::horizon::Horizon;
-use crate::phase::MadePhases;
-use crate::printer::Ending;
-use crate::site::{Network, Routes};
-use crate::stop::Unmet;
-use crate::ways::Way;
+use crate::{Ending, Horizon, MadePhases, Network, Routes, Unmet, Way};
 use prefix6::Prefix;
 use ripng_world::Event;
 use route_table::Moment;

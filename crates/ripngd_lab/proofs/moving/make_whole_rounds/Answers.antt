@@ -1,4 +1,4 @@
-use Rattle.std.proofs.Common.{◌≡◌, ℕ, All, Some, Err, ap, length, sym, subst}
+use Rattle.std.proofs.Common.{Some, Err, ap}
 use Rattle.ripng_world.specs.Watching.{failures}
 use Rattle.ripngd_lab.proofs.ScriptWatching.{untold, has_told, rounds_told, rounds_none, rounds_one}
 use Rattle.ripngd_lab.proofs.moving.make_whole_rounds.Goals as goal

@@ -2,7 +2,7 @@ use Rattle.std.proofs.Common.{◌≡◌, ℕ, Some, subst}
 use Rattle.std.proofs.lemmas.Result.{IfErr-at_err, IfOk-at_ok}
 use Rattle.ripng_phases.specs.Making.{AreMadeInPart, AreMadePhases, HealsIn}
 use Rattle.ripngd_lab.proofs.ScriptWatching.{counted_on, fault_told, has_told_on, phases_told, phases_stopped}
-use Rattle.ripngd_lab.proofs.phase.make_phases.Goals as goal
+use Rattle.ripngd_lab.proofs.moving.make_phases.Goals as goal
 
 pub returns-in_err-noticed-in-Ok-clause-told : goal.returns-in_err-noticed-in-Ok-clause-told
 returns-in_err-noticed-in-Ok-clause-told g c =

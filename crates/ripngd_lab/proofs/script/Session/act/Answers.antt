@@ -1,7 +1,7 @@
 use Rattle.std.proofs.Common.{Some, Err, ap}
 use Rattle.ripngd_lab.specs.ScriptWatching.{lab_in}
 use Rattle.ripngd_lab.proofs.ScriptWatching.{told_from, untold, has_told}
-use Rattle.ripngd_lab.proofs.session.Session.act.Goals as goal
+use Rattle.ripngd_lab.proofs.script.Session.act.Goals as goal
 
 pub returns-in-Some : goal.returns-in-Some
 returns-in-Some g c =

@@ -1,6 +1,6 @@
 use Rattle.std.proofs.Common.{Some}
 use Rattle.ripngd_lab.proofs.ScriptWatching.{untold, has_told}
-use Rattle.ripngd_lab.proofs.course.Course.show_routes.Goals as goal
+use Rattle.ripngd_lab.proofs.course.Course.print.Goals as goal
 
 pub returns-in_err-check_named : goal.returns-in_err-check_named
 returns-in_err-check_named g c =

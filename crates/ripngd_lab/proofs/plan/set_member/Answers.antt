@@ -2,7 +2,7 @@ use Rattle.std.proofs.Common.{rules, ◌≡◌, ◌==◌, ◌++◌, ◌∷◌, [
 use Rattle.std.specs.List.{filter}
 use Rattle.std.proofs.lemmas.Fn.{filter_same}
 use Rattle.ripngd_lab.specs.Plans.{with_member}
-use Rattle.ripngd_lab.proofs.outages.set_member.Goals as goal
+use Rattle.ripngd_lab.proofs.plan.set_member.Goals as goal
 
 pub returns-then-is_in : goal.returns-then-is_in
 returns-then-is_in c =

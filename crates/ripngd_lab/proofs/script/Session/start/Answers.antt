@@ -2,7 +2,7 @@ use Rattle.std.proofs.Common.{Some, Option, Err, ap, sym, subst}
 use Rattle.ripng_world.specs.Labs.{LabValue}
 use Rattle.ripngd_lab.specs.ScriptWatching.{IsToldOfLab, lab_in}
 use Rattle.ripngd_lab.proofs.ScriptWatching.{not_begun, untold, has_told, started}
-use Rattle.ripngd_lab.proofs.session.Session.start.Goals as goal
+use Rattle.ripngd_lab.proofs.script.Session.start.Goals as goal
 
 pub returns-in_err-begin_lab-in-None : goal.returns-in_err-begin_lab-in-None
 returns-in_err-begin_lab-in-None g c =

@@ -1,7 +1,7 @@
 use Rattle.std.proofs.Common.{Some, Err, ap, sym, ◌∙◌}
 use Rattle.ripngd_lab.specs.ScriptWatching.{lab_in}
 use Rattle.ripngd_lab.proofs.ScriptWatching.{has_told, told_from, untold, untold_as}
-use Rattle.ripngd_lab.proofs.session.Session.deceive.Goals as goal
+use Rattle.ripngd_lab.proofs.script.Session.deceive.Goals as goal
 
 pub returns-in_err-bytes : goal.returns-in_err-bytes
 returns-in_err-bytes g c =

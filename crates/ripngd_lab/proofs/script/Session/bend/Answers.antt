@@ -1,7 +1,7 @@
 use Rattle.std.proofs.Common.{Some, Err, ap, sym, ◌∙◌}
 use Rattle.ripngd_lab.specs.ScriptWatching.{lab_in}
 use Rattle.ripngd_lab.proofs.ScriptWatching.{has_told, told_from, untold, untold_as}
-use Rattle.ripngd_lab.proofs.session.Session.bend.Goals as goal
+use Rattle.ripngd_lab.proofs.script.Session.bend.Goals as goal
 
 pub returns-in_err-running : goal.returns-in_err-running
 returns-in_err-running g c =
