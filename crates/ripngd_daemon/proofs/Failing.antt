@@ -1,6 +1,8 @@
 -- The faults of what the program calls are failures of what is asked.
 use Rattle.std.proofs.Common.{◌≡◌, ℕ, Bool, List, Option, Result, Ok, Err, refl}
-use Rattle.std.specs.Prelude.{◌≢◌, IfOk, false}
+use Rattle.std.specs.Prelude.{◌≢◌, IfOk, OnOk, false, true}
+use Rattle.std.specs.Result.{is_ok}
+use Rattle.std.proofs.lemmas.Bool.{false≢true}
 use Rattle.ripngd_config.specs.Configuration.{RefusesConfig}
 use Rattle.ripngd_config.specs.declared.fault.ConfigFault.{ConfigFault}
 use Rattle.ripngd_config.specs.declared.fault.ConfigFault.TheVariants as config_faults
@@ -30,3 +32,8 @@ pub refused_is_checked : (text : List ℕ) (fault : ConfigFault) (r : Result Boo
     → IfOk r (λ accepted. (accepted ≡ false) × (fault ≢ config_faults.OutOfMemory)) → IfOk r (λ accepted. IsChecked text accepted old new)
 refused_is_checked text fault (Ok accepted) old new refuses (is, why) = rw is (fault, why, refuses)
 refused_is_checked text fault (Err e) old new refuses written = tt
+
+-- what holds of a call that was done
+pub of_ok : {X E P : Type 0} (r : Result X E) → is_ok r ≡ true → OnOk r P → P
+of_ok (Ok x) ok h = h
+of_ok (Err e) ok h = absurd (false≢true ok)

@@ -7,7 +7,9 @@ use Rattle.std.proofs.lemmas.Fmt.{decimal_is_IsNumeral}
 use Rattle.std.proofs.lemmas.Str.Parse.{digit_from_value, without_leading_plus_none}
 use Rattle.std.proofs.lemmas.Str.Pattern.{IsSplitOnceResult, split_after}
 use Rattle.prefix6.specs.Prefix.{Prefix6, IsPrefix}
+use Rattle.prefix6.specs.Text.{ParsesAddr, Reads}
 use Rattle.prefix6.specs.Written.{written_addr, written_prefix}
+use Rattle.prefix6.specs.declared.error.PrefixError.{PrefixError}
 use Rattle.fib.specs.declared.change.Hop.{Hop}
 use Rattle.fib.specs.declared.change.Hop.TheVariants.{Via}
 use Rattle.ripngd_engine.specs.Log.{hop_text, route_text}
@@ -35,6 +37,10 @@ parsed k n (Err e) small fits h =
 -- a numeral of a number that fits is read as it
 pub number_is_read : {E : Type 0} (k n : ℕ) (text : List ℕ) (r : Result ℕ E) → n < 2 ^ k → n < 2 ^ 64 → text ≡ decimal n → ParsesUnsigned k 10 text r → result_ok r ≡ Some n
 number_is_read k n text r small fits e h = parsed k n r small fits (subst (λ t. ParsesUnsigned k 10 t r) e h)
+
+-- a written address is read as it
+pub address_is_read : (a : ℕ) (text : List ℕ) (r : Result ℕ PrefixError) → Reads (written_addr a) a → text ≡ written_addr a → ParsesAddr text r → result_ok r ≡ Some a
+address_is_read a text r reads e h = ap result_ok ((h.reads a).1 (subst (λ t. Reads t a) (sym e) reads))
 
 -- what stands after three words of a text that have been cut off
 module _ (text w1 t1 w2 t2 w3 t3 : List ℕ) (first : CutsWord text w1 t1) (second : CutsWord t1 w2 t2) (third : CutsWord t2 w3 t3) where

@@ -1,5 +1,5 @@
 -- The words of a line, and the lines.
-use Rattle.std.specs.Prelude.{◌≡◌, ◌≢◌, ℕ, Bool, true, false, Option, Some, None, List, [], ◌∷◌, ◌++◌}
+use Rattle.std.specs.Prelude.{◌≡◌, ◌≢◌, ℕ, Bool, true, false, List, [], ◌∷◌, ◌++◌}
 use Rattle.std.specs.List.{All}
 use Rattle.fib.specs.declared.change.RouteChange.{RouteChange}
 use Rattle.ripngd_engine.specs.Log.{change_text}
@@ -16,11 +16,6 @@ CutsWord line first second = (word rest : List ℕ) → IsInWord word → line �
 -- the line is not that of a change
 abbrev pub IsOfNone : List ℕ → Type 0
 IsOfNone line = (c : RouteChange) → IsWritableChange c → change_text c ≢ line
-
--- the change of a line, or `None` if it has none
-abbrev pub IsRead : List ℕ → Option RouteChange → Type 0
-IsRead line (Some c) = IsWritableChange c × (change_text c ≡ line)
-IsRead line None = IsOfNone line
 
 -- the line has a change, which comes after the earlier ones; or it has none
 abbrev pub PushesLine : List ℕ → Bool → List RouteChange → List RouteChange → Type 0

@@ -1,15 +1,14 @@
 //! `check`: whether a text is a valid configuration.
 
-ghost use Rattle.std.specs.Prelude.{◌≡◌, ◌≢◌, IfErr, IfOk, List, OnOk, false, ℕ};
-ghost use Rattle.std.specs.Io.KnownBytes.{Appends};
+ghost use Rattle.std.specs.Prelude.{◌≡◌, ◌≢◌, IfErr, IfOk, List, false, ℕ};
 ghost use Rattle.ripngd_command_line.specs.declared.asked.Ask.TheVariants as asks;
 ghost use Rattle.ripngd_daemon.specs.Failing.{MayFail};
-ghost use Rattle.ripngd_daemon.specs.Checked.{IsChecked, counts_line, peers_counted};
+ghost use Rattle.ripngd_daemon.specs.Checked.{IsChecked, peers_counted};
 
 use crate::failure::Failure;
 use crate::files::FileSource;
 use crate::warnings::write_warnings;
-use ripngd_config::{Config, ConfigFault, read_config};
+use ripngd_config::{ConfigFault, read_config};
 use ripngd_engine::Peer;
 use ripngd_show::PrintFault;
 use std::alloc::Global;
@@ -62,10 +61,18 @@ fn check_named<W: Write, E: Write>(
     ensures out_of_memory { result ≡ Err PrintFault.OutOfMemory → out.new ≡ out.old }
 {
     match read_config(alloc, text, 0, false) {
-        Ok(config) => match write_accepted(&config, out, err) {
-            Ok(()) => Ok(true),
-            Err(_) => Err(PrintFault::Write),
-        },
+        Ok(config) => {
+            let interfaces = config.router.interfaces().len();
+            let prefixes = config.router.prefixes().len();
+            let peers = count_peers(config.peers.as_slice());
+            writeln!(
+                out,
+                "ok interfaces {interfaces} prefixes {prefixes} peers {peers}"
+            )
+            .map_err(|_| PrintFault::Write)?;
+            let _ = write_warnings(&config, err);
+            Ok(true)
+        }
         Err(fault) => write_refusal(file, &fault, out, err),
     }
 }
@@ -81,26 +88,8 @@ fn count_peers(peers: &[Vec<Peer>]) -> usize
     count
 }
 
-/// Writes what a configuration has, and then warnings of what cannot work to `err`, whose failure changes nothing else.
-///
-/// # Errors
-/// Of `out`.
-fn write_accepted<W: Write, E: Write>(config: &Config, out: &mut W, err: &mut E) -> io::Result<()>
-    ensures { OnOk result (Appends (W.contents out.old) (W.contents out.new) (counts_line config.now)) }
-{
-    let interfaces = config.router.interfaces().len();
-    let prefixes = config.router.prefixes().len();
-    let peers = count_peers(config.peers.as_slice());
-    writeln!(
-        out,
-        "ok interfaces {interfaces} prefixes {prefixes} peers {peers}"
-    )?;
-    let _ = write_warnings(config, err);
-    Ok(())
-}
-
-/// Writes why the configuration of a file is refused, and returns that it is not accepted. The place of the fault goes to `err`, whose
-/// failure changes nothing else.
+/// Writes why the configuration of a file is refused, and returns that it is not accepted. The place of the fault, if it has one, goes
+/// to `err`, as `ripngd: FILE: at line 1, column 5` or with an interface or a prefix. A failure of `err` changes nothing else.
 ///
 /// # Errors
 /// `OutOfMemory` if that is the fault, and then nothing is written; `Write` where `out` failed.
@@ -114,21 +103,12 @@ pub(crate) fn write_refusal<W: Write, E: Write>(
     ensures out_of_memory { result ≡ Err PrintFault.OutOfMemory → out.new ≡ out.old }
 {
     match fault {
-        ConfigFault::OutOfMemory => Err(PrintFault::OutOfMemory),
-        _ => {
-            let _ = write_place(file, fault, err);
-            writeln!(out, "refused {fault}").map_err(|_| PrintFault::Write)?;
-            Ok(false)
-        }
-    }
-}
-
-/// Writes the place of a fault in a file, as `ripngd: FILE: at line 1, column 5` or with an interface or a prefix, if it has one.
-fn write_place<W: Write>(file: &str, fault: &ConfigFault, err: &mut W) -> io::Result<()> {
-    match fault {
+        ConfigFault::OutOfMemory => return Err(PrintFault::OutOfMemory),
         ConfigFault::BadToml(place) | ConfigFault::Router(_, Some(place)) => {
-            writeln!(err, "ripngd: {file}: at {place}")
+            let _ = writeln!(err, "ripngd: {file}: at {place}");
         }
-        _ => Ok(()),
+        _ => {}
     }
+    writeln!(out, "refused {fault}").map_err(|_| PrintFault::Write)?;
+    Ok(false)
 }

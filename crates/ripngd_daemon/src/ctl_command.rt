@@ -1,6 +1,6 @@
 //! `ctl`: sends a command to a running router, and prints its answer.
 
-ghost use Rattle.std.specs.Prelude.{◌≡◌, ◌⊎◌, ◌≤◌, IfErr, IfOk, IfSome, List, OnOk, length, ℕ};
+ghost use Rattle.std.specs.Prelude.{◌≡◌, ◌⊎◌, IfErr, IfOk, IfSome, List, OnOk, ℕ};
 ghost use Rattle.std.specs.Io.KnownBytes.{Appends};
 ghost use Rattle.ripngd_daemon.specs.Asking.{IsPrintedAnswer, IsAnswerWritten, command_line};
 ghost use Rattle.ripngd_daemon.specs.Failing.{MayFail};
@@ -54,22 +54,13 @@ fn converse(alloc: Global, command: Command, stream: &mut UnixStream) -> io::Res
     receive(alloc, stream)
 }
 
-/// The index at which the last line begins.
-fn last_line(answer: &[u8]) -> usize
-    ensures { result ≤ length answer.now }
-{
-    let end = answer.len() - answer.len().min(1);
-    match answer[..end].iter().rposition(|byte| *byte == b'\n') {
-        Some(before) => before + 1,
-        None => 0,
-    }
-}
-
 /// The part of an answer that is printed, and whether the router did the command; `None` where the answer is cut off.
 fn printed_of(answer: &[u8]) -> Option<(&[u8], bool)>
     ensures { IfSome result (λ printed. IsPrintedAnswer answer.now printed.1 printed.0.now) }
 {
-    let (lines, last) = answer.split_at(last_line(answer));
+    let end = answer.len() - answer.len().min(1);
+    let before = answer[..end].iter().rposition(|byte| *byte == b'\n');
+    let (lines, last) = answer.split_at(before.map_or(0, |before| before + 1));
     if last == b"ok\n".as_slice() {
         Some((lines, true))
     } else if last.starts_with(b"refused ") && last.ends_with(b"\n") {
@@ -77,20 +68,6 @@ fn printed_of(answer: &[u8]) -> Option<(&[u8], bool)>
     } else {
         None
     }
-}
-
-/// Prints an answer.
-fn print_answer<'a, O: Write>(
-    socket: &'a str,
-    answer: &[u8],
-    out: &mut O,
-) -> Result<bool, Failure<'a>>
-    ensures answered { IfOk result (λ accepted. IsAnswerWritten answer.now accepted (O.contents out.old) (O.contents out.new)) }
-    ensures failed { IfErr result (λ f. (f ≡ Failure.Output) ⊎ (f ≡ Failure.Answer socket.entry)) }
-{
-    let (text, accepted) = printed_of(answer).ok_or(Failure::Answer(socket))?;
-    out.write_all(text).map_err(|_| Failure::Output)?;
-    Ok(accepted)
 }
 
 /// How a command of this name is written, or where to read it.
@@ -109,17 +86,6 @@ fn usage_of(command: &str) -> &'static str {
     }
 }
 
-/// Prints that words are no command, as a router does for a line that is none, and how the command of that name is written.
-fn refuse<'a, O: Write>(command: &str, out: &mut O) -> Result<bool, Failure<'a>>
-    ensures answered { IfOk result (λ accepted. (answer : List ℕ) × IsAnswerWritten answer accepted (O.contents out.old) (O.contents out.new)) }
-    ensures failed { IfErr result (λ f. f ≡ Failure.Output) }
-{
-    match writeln!(out, "{}: {}", Reply::NoSuchCommand, usage_of(command)) {
-        Ok(()) => Ok(false),
-        Err(_) => Err(Failure::Output),
-    }
-}
-
 /// Sends a command to the router that listens at a path, and prints its answer.
 fn ask<'a, R: Net + AllocGlobal, O: Write>(
     rt: &R,
@@ -132,7 +98,9 @@ fn ask<'a, R: Net + AllocGlobal, O: Write>(
 {
     let mut stream = UnixStream::connect(rt, socket).map_err(|_| Failure::Ask(socket))?;
     let answer = converse(rt.alloc(), command, &mut stream).map_err(|_| Failure::Answer(socket))?;
-    print_answer(socket, answer.as_slice(), out)
+    let (text, accepted) = printed_of(answer.as_slice()).ok_or(Failure::Answer(socket))?;
+    out.write_all(text).map_err(|_| Failure::Output)?;
+    Ok(accepted)
 }
 
 /// `ctl PATH COMMAND..`: sends a command to the router that listens at a path, and prints its answer without the last line `ok`. Returns
@@ -152,6 +120,10 @@ pub fn ctl<'a, R: Net + AllocGlobal, O: Write>(
     let words = words_of(rt.alloc(), question).map_err(|_| Failure::OutOfMemory)?;
     match command_in(words.as_str()) {
         Some(command) => ask(rt, question.socket, command, out),
-        None => refuse(question.command, out),
+        None => {
+            let usage = usage_of(question.command);
+            writeln!(out, "{}: {usage}", Reply::NoSuchCommand).map_err(|_| Failure::Output)?;
+            Ok(false)
+        }
     }
 }

@@ -69,25 +69,6 @@ fn cannot_write<'a>(file: &'a str, error: &io::Error) -> Failure<'a>
     failed(Failure::Log(file, FileCause::of(error)), error)
 }
 
-/// Opens a file for writing at its end, and locks it until it is closed. It is created if it does not exist, and not changed.
-///
-/// # Errors
-/// `Log` with its name, if it cannot be opened or another program holds its lock; `OutOfMemory`.
-fn open_file<'a, R: Files<File = File>>(rt: &R, file: &'a str) -> Result<File, Failure<'a>>
-    ensures { IfErr result (λ f. (f ≡ Failure.OutOfMemory) ⊎ ((cause : FileCause) × (f ≡ Failure.Log file.entry cause))) }
-{
-    let lines = OpenOptions::new()
-        .append(true)
-        .create(true)
-        .open(rt, file)
-        .map_err(|error| cannot_write(file, &error))?;
-    if is_held(&lines) {
-        Err(Failure::Log(file, FileCause::InUse))
-    } else {
-        Ok(lines)
-    }
-}
-
 impl<R: Print> Target<'_, R> {
     /// Writes as much as one call can.
     fn take(&mut self, bytes: &[u8]) -> io::Result<usize>
@@ -126,7 +107,8 @@ impl<R: Print> Write for RunLog<'_, R> {
 }
 
 impl<'r, R: Files<File = File> + Print> RunLog<'r, R> {
-    /// Opens the log that is ordered, and does not change it.
+    /// Opens the log that is ordered, and does not change it. A file is opened for writing at its end, and locked until it is closed; it
+    /// is created if it does not exist.
     ///
     /// # Errors
     /// `Log` with its name, if it cannot be opened or another program holds its lock; `OutOfMemory`.
@@ -137,7 +119,17 @@ impl<'r, R: Files<File = File> + Print> RunLog<'r, R> {
         let target = match order.log {
             None => Target::Nowhere,
             Some("-") => Target::Output(rt),
-            Some(file) => Target::File(open_file(rt, file)?),
+            Some(file) => {
+                let lines = OpenOptions::new()
+                    .append(true)
+                    .create(true)
+                    .open(rt, file)
+                    .map_err(|error| cannot_write(file, &error))?;
+                if is_held(&lines) {
+                    return Err(Failure::Log(file, FileCause::InUse));
+                }
+                Target::File(lines)
+            }
         };
         Ok(RunLog {
             target,

@@ -4,7 +4,7 @@ ghost use Rattle.std.specs.Prelude.{◌≡◌, IfErr, IfOk, List, OnOk, ℕ};
 ghost use Rattle.std.specs.Io.KnownBytes.{Appends};
 ghost use Rattle.ripngd_command_line.specs.declared.asked.Ask.TheVariants as asks;
 ghost use Rattle.ripngd_daemon.specs.Failing.{MayFail};
-ghost use Rattle.ripngd_daemon.specs.Tabled.{IsTabled, bad_line_text, table_text};
+ghost use Rattle.ripngd_daemon.specs.Tabled.{IsTabled, table_text};
 
 use crate::failure::Failure;
 use crate::files::FileSource;
@@ -27,15 +27,15 @@ pub fn table<W: Write>(alloc: Global, log: &[u8], out: &mut W) -> Result<bool, P
     ensures out_of_memory { result ≡ Err PrintFault.OutOfMemory → out.new ≡ out.old }
 {
     match read_log(alloc, log) {
-        Ok(fib) => match write_table(&fib, out) {
-            Ok(()) => Ok(true),
-            Err(_) => Err(PrintFault::Write),
-        },
-        Err(LogFault::BadLine { line }) => match write_bad_line(line, out) {
-            Ok(()) => Ok(false),
-            Err(_) => Err(PrintFault::Write),
-        },
+        Ok(fib) => {
+            write_table(&fib, out).map_err(|_| PrintFault::Write)?;
+            Ok(true)
+        }
         Err(LogFault::OutOfMemory) => Err(PrintFault::OutOfMemory),
+        Err(fault @ LogFault::BadLine { line }) => {
+            writeln!(out, "line {line} refused {fault}").map_err(|_| PrintFault::Write)?;
+            Ok(false)
+        }
     }
 }
 
@@ -62,12 +62,4 @@ pub(crate) fn write_table<W: Write>(fib: &Fib, out: &mut W) -> io::Result<()>
     ensures { OnOk result (Appends (W.contents out.old) (W.contents out.new) (table_text fib.now)) }
 {
     write_entries(fib.entries(), out)
-}
-
-/// Writes which line of a log is refused.
-fn write_bad_line<W: Write>(line: usize, out: &mut W) -> io::Result<()>
-    ensures { OnOk result (Appends (W.contents out.old) (W.contents out.new) (bad_line_text line)) }
-{
-    let fault = LogFault::BadLine { line };
-    writeln!(out, "line {line} refused {fault}")
 }

@@ -7,7 +7,7 @@ use Rattle.ripngd_daemon.proofs.reading.read_changes.Goals as goal
 
 pub returns-then-not-branch-clause-refused : goal.returns-then-not-branch-clause-refused
 returns-then-not-branch-clause-refused c =
-    let none = subst (λ is_one. PushesLine c.in-Some.line.now is_one c.loop-line.changes.items c.push_line.new.changes.items) c.if-not-branch.true c.in_ok-push_line.ensures.read in
+    let none = subst (λ is_one. PushesLine c.in-Some.line.now is_one c.loop-line.changes.items c.push_line.new.changes.items) c.if-not-branch.true c.in_ok-push_line.ensures in
     let bad : IsFirstBadOfRun c.args.text.now (length c.loop-line.changes.items + 1) = record {
       before = c.loop-line.changes.items;
       bad = c.in-Some.line.now;
