@@ -126,7 +126,7 @@ def sixty_four_datagrams_go_at_once_and_as_many_sixteen_milliseconds_later(case)
     router.done()
     same("when it was sent", router.sends(ports[0]), {0: 64, 16: 22})
     same("when it was sent to eight peers", router.sends(ports[1]), {0: 64, 16: 64, 32: 16})
-    same("how long it waited", router.waits(), [50, 0, 0, 0, 0, 4, 16, 18])
+    same("how long it waited", router.waits(), [50, 0, 0, 0, 0, 0, 4, 16, 18])
     same("how long it slept", [ms for _, _, ms, _ in router.calls("sleep")], [12])
     same("what was sent behind the Request", neighbor.rest()[1:], (ASKED + 1) * crowd[0].rest()[1:])
 

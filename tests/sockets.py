@@ -98,7 +98,7 @@ def what_comes_is_read_at_once_and_no_other_socket_is(case):
     same("who was heard", refused(router), [(1, "5"), (1, "4")])
     # The second datagram was there, so the second turn did not wait. Then more may come together for 12 milliseconds of the third turn's 50.
     # Behind a read that gives nothing the socket is left.
-    same("how long it waited", router.waits(), [50, 0, 0, 38])
+    same("how long it waited", router.waits(), [50, 0, 0, 0, 38])
     same("how long it slept", [ms for _, _, ms, _ in router.calls("sleep")], [12])
     same("how often it read", (router.reads(ports[0]), router.reads(ports[1])), (0, 3))
 

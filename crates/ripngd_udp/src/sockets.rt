@@ -73,7 +73,7 @@ impl<R: Clock> Udp<'_, R> {
         Ok(())
     }
 
-    /// Waits as `poll`. Where a datagram came last, more of them come together first.
+    /// Waits as `poll`. Where a datagram came last, and none came since, more of them come together first.
     ///
     /// # Errors
     /// The system cannot wait for them.
@@ -83,6 +83,10 @@ impl<R: Clock> Udp<'_, R> {
     {
         if !self.is_busy || limit == 0 {
             return self.poll(limit);
+        }
+        self.poll(0)?;
+        if self.was_called || !self.endpoints.iter().all(|endpoint| endpoint.is_quiet()) {
+            return Ok(());
         }
         thread::sleep(self.rt, Duration::from_millis(limit.min(GATHER_MS)));
         self.poll(0)
