@@ -1,6 +1,7 @@
 """Routers that run as processes of their own, and what is beside them: neighbors' sockets, and clients of their control sockets."""
 
 import collections
+import contextlib
 import os
 import pathlib
 import signal
@@ -139,7 +140,9 @@ class Client:
         self.text = b""
 
     def say(self, text):
-        self.socket.sendall(text)
+        """Says it; nobody hears it where the other side is gone."""
+        with contextlib.suppress(BrokenPipeError):
+            self.socket.sendall(text)
         return self
 
     def more(self):

@@ -2,11 +2,11 @@
 """Each growth of calls refused in turn: crates/test_rows plays cases of its data with the first allocation refused, then with the second,
 and so on until none is; and with all refused from the first on, from the second on, and so on.
 
-    tests/growth_of_calls.py ROWS_PROGRAM
+    tests/growth_of_calls.py ROWS_PROGRAM [NAME..]        all cases, or those that have NAME in theirs
 
 A call that is refused has to leave all readers as they were, and made again it has to do what it does undisturbed: then the case
-turns out as without the refusal. An engine may lose a step, which it counts once, or end where its forwarding table is refused. What
-takes no memory succeeds whatever is refused. Only where the program itself cannot go on it ends with status 3.
+turns out as without the refusal. What takes no memory succeeds whatever is refused. Only where the program itself cannot go on it
+ends with status 3. And removed routes give their memory back.
 """
 
 import os
@@ -16,13 +16,12 @@ import sys
 
 sys.dont_write_bytecode = True
 from refusing import Refuser, is_same
-from suite import Failed, play
+from suite import Failed, named, play
 
 DATA = pathlib.Path(__file__).resolve().parent.parent / "crates/test_rows/data"
 
 # The cases, and what has to be refused at least once in each: the program tells on standard error which call it was.
 REFUSED = {
-    "what is read is written, the highest byte of each number first": "encode",
     "the longest prefix wins": "apply",
     "a default route holds all": "apply",
     "changes in order are merged": "apply",
@@ -36,11 +35,11 @@ REFUSED = {
     "a restart owns what was gained last": "gain, drop, restart",
     "a router shuts down, and its link goes down": "shutdown, link-down",
     "what changes nothing takes no memory": "router, tick",
-    "a line of three routers": "check, cold, tick, deliver, a new route, restart, hear",
-    "a line of three routers runs by one call": "check, cold, run",
-    "a line of three routers makes rounds": "check, cold, round",
-    "an engine learns a route and loses it": "engine, the first forwarding table, the forwarding table, a step of an engine, a route of an engine",
 }
+
+
+# How often routes come and go, and how many bytes one that is left may take in either store. A block of 128 routes takes 11,000.
+CYCLES, LEFT_BYTES = 200, 1000
 
 
 def texts():
@@ -93,9 +92,31 @@ def cases_of_calls(refuser):
     return [(f"calls: {name}", lambda folder, name=name: sweep(refuser, folder, name, text[name])) for name in REFUSED]
 
 
-def main(program):
+def most_bytes(refuser, folder, left):
+    """The most memory of a run in which 128 routes are added in order, CYCLES times, and each time all but the last so many are removed."""
+    lines = ["", "# routes come and go"]
+    for first in range(0, CYCLES * 128, 128):
+        prefixes = [f"2001:db8:{number:x}::/48" for number in range(first, first + 128)]
+        lines += [f"> add {prefix} live 1000" for prefix in prefixes] + [f"> remove {prefix}" for prefix in prefixes[: 128 - left]]
+    file = pathlib.Path(folder, "rows")
+    file.write_text("\n".join(lines) + "\n")
+    run, _, most = refuser.counted([str(file)])
+    if b"1 passed, 0 failed" not in run.stdout:
+        raise Failed(f"it ends with {run.returncode}: {run.stdout.decode()}")
+    return most
+
+
+def leaves_few_bytes(refuser, folder):
+    """A route that is left takes its own memory, and not that of all that came with it: small blocks of a store are joined."""
+    more = most_bytes(refuser, folder, 1) - most_bytes(refuser, folder, 0)
+    if more > CYCLES * LEFT_BYTES:
+        raise Failed(f"{CYCLES} routes that are left take {more} bytes more than none")
+
+
+def main(program, *names):
     with Refuser(program) as refuser:
-        return play(cases_of_calls(refuser))
+        memory = ("memory: a route that is left takes that of one", lambda folder: leaves_few_bytes(refuser, folder))
+        return play(named([*cases_of_calls(refuser), memory], names))
 
 
 if __name__ == "__main__":

@@ -66,7 +66,7 @@ class Router:
         process.kill()
         out, err = process.communicate()
         ended = subprocess.CompletedProcess(words, process.returncode, out, err)
-        return ended, self.judge(ended), int(count.read_text()) if count.exists() else 0
+        return ended, self.judge(ended), int(count.read_text().split()[0]) if count.exists() else 0
 
     def judge(self, ended):
         """It has ended for want of memory, or has the whole table in the end and says what was lost on the way. Its log is whole."""

@@ -33,15 +33,20 @@ class Refuser:
 
     def environment(self, nth, count):
         """Where the nth allocation is refused, or none where that is 0. At its end the program writes to `count` how many it has asked
-        for."""
+        for, and the most bytes that it had at once."""
         return dict(os.environ, LD_PRELOAD=self.library, REFUSE=str(nth), REFUSE_COUNT=str(count))
 
     def run(self, words, nth):
         """A run of the program with these words whose nth allocation is refused, and how many it has asked for."""
+        run, calls, _ = self.counted(words, nth)
+        return run, calls
+
+    def counted(self, words, nth=0):
+        """The same, with the most bytes that it had at once."""
         with tempfile.NamedTemporaryFile("r", dir=self.folder.name) as count:
             run = subprocess.run([self.program, *words], stdin=subprocess.DEVNULL, capture_output=True, timeout=SECONDS,
                                  env=self.environment(nth, count.name))
-            return run, int(count.read() or 0)
+            return run, *map(int, (count.read() or "0 0").split())
 
 
 def shown(nth, run):

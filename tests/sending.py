@@ -114,6 +114,21 @@ def a_send_that_is_interrupted_is_tried_16_times(case):
 # When it is sent.
 
 @listed
+def a_seed_decides_when_a_router_tells(case):
+    """In three minutes two routers of one seed tell at the same moments, and one of another seed at others."""
+    neighbor = case.neighbor()
+
+    def moments(name, seed):
+        port = case.port()
+        text = f"seed = {seed}\n" + interface(1, port, peer(2, neighbor.port)) + prefix(OWN)
+        return list(Ordered(case, name, text, "--seconds", "180", clock=0).done().sends(port))
+
+    first = moments("first", 7)
+    same("whether the second tells when the first does", moments("second", 7) == first, True)
+    same("whether the third does", moments("third", 8) == first, False)
+
+
+@listed
 def sixty_four_datagrams_go_at_once_and_as_many_sixteen_milliseconds_later(case):
     """At 0 the Request of the start and 63 datagrams of the answers; the rest of them and of the update at their pace while a turn waits,
     which ends in time. On the other interface, with eight peers, of the Request and the update eight go at a time. Behind what came it
@@ -126,7 +141,7 @@ def sixty_four_datagrams_go_at_once_and_as_many_sixteen_milliseconds_later(case)
     router.done()
     same("when it was sent", router.sends(ports[0]), {0: 64, 16: 22})
     same("when it was sent to eight peers", router.sends(ports[1]), {0: 64, 16: 64, 32: 16})
-    same("how long it waited", router.waits(), [50, 0, 0, 0, 0, 0, 4, 16, 18])
+    same("how long it waited", router.waits(), [50, 0, 0, 4, 16, 18])
     same("how long it slept", [ms for _, _, ms, _ in router.calls("sleep")], [12])
     same("what was sent behind the Request", neighbor.rest()[1:], (ASKED + 1) * crowd[0].rest()[1:])
 
@@ -155,14 +170,17 @@ def what_waits_goes_out_at_the_end_at_its_pace_and_in_order(case):
 
 @listed
 def no_turn_waits_while_a_datagram_is_there(case):
-    """Not for what is still to be sent, either."""
-    crowd, port = [case.neighbor() for _ in range(CROWD)], case.port()
-    text = interface(1, port, *(peer(2 + number, one.port) for number, one in enumerate(crowd))) + MANY
-    router = Ordered(case, "eager", text, "-d", "--turns", "40", clock=0)
-    crowd[0].send(port, FAULTY, 40)
-    router.done()
-    same("how long it waited", router.waits(), [50] + 39 * [0])
-    same("when it was sent", router.sends(port), {0: 64, 16: 64, 32: 16})
+    """Not for what is still to be sent, either; in a millisecond that stands still it does not even look for more."""
+    crowd = [case.neighbor() for _ in range(CROWD)]
+    for clock, later in ((0, []), (1, 39 * [0])):
+        port = case.port()
+        text = interface(1, port, *(peer(2 + number, one.port) for number, one in enumerate(crowd))) + MANY
+        router = Ordered(case, f"eager{clock}", text, "-d", "--turns", "40", clock=clock)
+        crowd[0].send(port, FAULTY, 40)
+        router.done()
+        same("how long it waited behind the first", router.waits()[1:], later)
+        if clock == 0:
+            same("when it was sent", router.sends(port), {0: 64, 16: 64, 32: 16})
 
 
 @listed

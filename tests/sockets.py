@@ -96,9 +96,9 @@ def what_comes_is_read_at_once_and_no_other_socket_is(case):
     neighbors[4].send(ports[1], FAULTY)
     router.done()
     same("who was heard", refused(router), [(1, "5"), (1, "4")])
-    # The second datagram was there, so the second turn did not wait. Then more may come together for 12 milliseconds of the third turn's 50.
-    # Behind a read that gives nothing the socket is left.
-    same("how long it waited", router.waits(), [50, 0, 0, 0, 38])
+    # The second datagram was there in that millisecond, so the second turn did not look. Then more may come together for 12 milliseconds of
+    # the third turn's 50. Behind a read that gives nothing the socket is left.
+    same("how long it waited", router.waits(), [50, 0, 0, 38])
     same("how long it slept", [ms for _, _, ms, _ in router.calls("sleep")], [12])
     same("how often it read", (router.reads(ports[0]), router.reads(ports[1])), (0, 3))
 
@@ -117,9 +117,10 @@ def interfaces_are_served_in_turn(case):
 
 @listed
 def a_neighbor_without_end_takes_no_room_of_another_interface(case):
-    """A turn takes in 512 and gives one: after 32 turns 16,352 wait, so the next has room for 32, and each later one for one."""
+    """A turn that begins in another millisecond takes in 512 and gives one: after 32 turns 16,352 wait, so the next has room for 32, and
+    each later one for one."""
     ports, neighbors, text = interfaces(case, (2, 3), (4, 5))
-    router = Ordered(case, "loud", text, "-q", "-d", "--turns", "41", clock=0, again=20_500)
+    router = Ordered(case, "loud", text, "-q", "-d", "--turns", "41", clock=1, again=20_500)
     neighbors[2].send(ports[0], FAULTY)
     neighbors[4].send(ports[1], FAULTY)
     router.done()
@@ -130,10 +131,11 @@ def a_neighbor_without_end_takes_no_room_of_another_interface(case):
 
 @listed
 def datagrams_wait_up_to_32_mib_together(case):
-    """1,024 of 32,768 bytes are just as many: 512 are taken in a turn, and one is given; so the third has room for two more."""
+    """1,024 of 32,768 bytes are just as many: 512 are taken in a turn of another millisecond, and one is given; so the third has room for
+    two more."""
     for size, reads in ((32_768, 512 + 512 + 3 + 2), (32_769, 512 + 512 + 2 + 2)):
         ports, neighbors, text = interfaces(case, (2,))
-        router = Ordered(case, f"large{size}", text, "-q", "--turns", "4", clock=0, again=20_000)
+        router = Ordered(case, f"large{size}", text, "-q", "--turns", "4", clock=1, again=20_000)
         neighbors[2].send(ports[0], bytes(size))
         router.done()
         same("how often it read", router.reads(ports[0]), reads)
@@ -185,8 +187,8 @@ def a_whole_table_on_one_of_many_interfaces_is_taken_in_at_once(case):
     source.send(ports[-1], response(*[entry(OWN, 1)] * 61), 68)
     router.done()
     same("who was heard", refused(router), 68 * [(15, "2")])
-    # Nothing was waited for in vain.
-    same("how long it waited", router.waits(), [50] + 67 * [0])
+    # Nothing was waited for in vain, and none was looked for again in that millisecond.
+    same("how long it waited", router.waits(), [50])
 
 
 @listed

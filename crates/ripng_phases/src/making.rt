@@ -7,14 +7,14 @@
 
 ghost use Rattle.std.specs.Prelude.{◌≡◌, ◌↔◌, ℕ, ◌+◌, ◌^◌, ◌<◌, ◌≤◌, ◌⊎◌, max, IfErr, IfOk, IfSome, IsTrue, OnOk, None, Some, length, slice_get};
 ghost use Rattle.router_core.specs.Machine.{State};
-ghost use Rattle.ripng_phases.specs.Changing.{last_change, shown_in};
+ghost use Rattle.ripng_phases.specs.Changing.{shown_in};
 ghost use Rattle.ripng_phases.specs.Making.{AreMadeInPart, AreMadePhases, GoesOn, HealsIn, IsCutShort, IsFresh, IsLatest, IsMadePhase, LetsArriveIn, MakesPhase};
 ghost use Rattle.ripng_phases.specs.declared.course.Update.{Update as UpdateValue};
 
 use crate::acting::{hand_on, tick};
 use crate::course::{Course, PHASE_MS};
 use crate::refused::PhaseRefused;
-use crate::shown::{are_same, shown_routes};
+use crate::shown::shown_routes;
 use rand_core::Rng;
 use ripng_world::{Lab, Observer, Stopped};
 use route_table::{Moment, RouteStore};
@@ -24,7 +24,7 @@ use std::alloc::{AllocError, Global};
 const TURNS: usize = 3;
 
 /// How long these take at most, if each waits for as long as it may, in milliseconds. It may be longer than the minute.
-const TURNS_MS: u32 = 90_000;
+const TURNS_MS: usize = 90_000;
 
 /// What was sent is handed on, up to the datagram with a number.
 fn hand_until<S: RouteStore, V: Observer<S>, R: Rng>(
@@ -46,16 +46,6 @@ fn hand_until<S: RouteStore, V: Observer<S>, R: Rng>(
     Ok(())
 }
 
-/// The longest that one of these turns waits, in milliseconds.
-fn share(turns: usize) -> u32
-    ensures { 0 < result }
-{
-    match u32::try_from(turns) {
-        Ok(turns) => (TURNS_MS / turns.max(1)).max(1),
-        Err(_) => 1,
-    }
-}
-
 /// Time passes, some router ticks, and some datagrams are handed on, again and again at random.
 fn make_turns<S: RouteStore, V: Observer<S>, R: Rng>(
     lab: &mut Lab<S>,
@@ -68,7 +58,7 @@ fn make_turns<S: RouteStore, V: Observer<S>, R: Rng>(
     ensures routers { length course.new.told.items ≡ length course.old.told.items }
 {
     let turns = lab.routers().saturating_mul(TURNS);
-    let most_ms = share(turns);
+    let most_ms = (TURNS_MS / turns.max(1)).max(1) as u32;
     for _ in 0..turns {
         course.pass(rng.next_u32() % most_ms);
         let router = rng.next_u32() as usize % lab.routers().max(1);
@@ -191,14 +181,7 @@ fn compare_phase<S: RouteStore, V: Observer<S>, R: Rng>(
     let Ok(after) = shown_routes(alloc, lab) else {
         return Err(Stopped::Refused(PhaseRefused::OutOfMemory));
     };
-    Ok((next, are_same(&after, &before)))
-}
-
-/// The last phase in which some table changed, once this one is made.
-fn last_change(last: Option<usize>, stays: bool, phase: usize) -> Option<usize>
-    ensures { result ≡ last_change last stays phase }
-{
-    if stays { last } else { Some(phase) }
+    Ok((next, after.as_slice() == before.as_slice()))
 }
 
 /// The last moment of all routers.
@@ -249,7 +232,7 @@ pub fn run_phases<S: RouteStore, V: Observer<S>, R: Rng>(
         match compare_phase(alloc, lab, begin, first, rng, watch) {
             Ok((next, stays)) => {
                 first = next;
-                last = last_change(last, stays, done);
+                last = if stays { last } else { Some(done) };
             }
             Err(stopped) => return (done, Err(stopped)),
         }

@@ -1,6 +1,6 @@
 //! What all routers of a network hold, as scripts print it: each route without its clock and its route change flag.
 
-ghost use Rattle.std.specs.Prelude.{◌≡◌, ◌++◌, ◌↔◌, IfOk, IsTrue, OnOk, length, map};
+ghost use Rattle.std.specs.Prelude.{◌≡◌, ◌++◌, IfOk, OnOk, length, map};
 ghost use Rattle.std.specs.FinMap as map_of;
 ghost use Rattle.ripng_phases.specs.Changing.{shown_below, shown_route};
 
@@ -64,11 +64,4 @@ pub fn shown_routes<S: RouteStore>(
         }
     }
     Ok(shown)
-}
-
-/// Whether two showings are the same.
-pub fn are_same(before: &[ShownRoute], after: &[ShownRoute]) -> bool
-    ensures { IsTrue result ↔ (before.now ≡ after.now) }
-{
-    before == after
 }

@@ -3,7 +3,7 @@ use Rattle.std.proofs.Common.{◌≡◌, inl, inr, ℕ, zero, suc, ◌<◌, ◌�
 use Rattle.std.specs.Prelude.{Result, Ok, Err, IfErr}
 use Rattle.std.specs.Result.{IsErrAnd, result_err}
 use Rattle.std.specs.Option.{option_map_or}
-use Rattle.std.proofs.lemmas.List.{length-map}
+use Rattle.std.proofs.lemmas.List.{append-nil, length-map}
 use Rattle.std.proofs.lemmas.Bool.{eqb-true}
 use Rattle.std.proofs.lemmas.Bool.Decides.{nat_tests}
 use Rattle.std.proofs.lemmas.Option.{slice_get-map, slice_get_within}
@@ -16,7 +16,7 @@ use Rattle.std.specs.FinMap as map_of
 use Rattle.route_table.specs.Table.{table_limit}
 use Rattle.router_core.specs.Config.{Config, has_prefix, is_usable_cost}
 use Rattle.router_core.specs.Config.{owned_limit}
-use Rattle.router_core.specs.Machine.{State, Happening, Arrives, Reconfigures, Moves}
+use Rattle.router_core.specs.Machine.{State, Happening, Arrives, Ticks, Restarts, Reconfigures, ShutsDown, LinkGoesDown, LinkComesUp, Moves}
 use Rattle.router_core.specs.Received.{Received}
 use Rattle.router_core.specs.declared.answer.Answer.{Answer}
 use Rattle.ripng_world.specs.Network.{Node, AreLinked, config_of, interface_at}
@@ -25,8 +25,9 @@ use Rattle.router_core.specs.declared.reconfiguring.Change.{Change}
 use Rattle.router_core.specs.declared.reconfiguring.Change.TheVariants.{Cost, Own, Disown}
 use Rattle.router_core.specs.declared.reconfiguring.ReconfigureRefused.{ReconfigureRefused}
 use Rattle.router_core.specs.declared.reconfiguring.ReconfigureRefused.TheVariants as refused
-use Rattle.ripng_world.specs.World.{World, Event, RouterMoves, Happens, Deliver, Stranger, Tick, Restart, Shutdown, LinkDown, LinkUp, Reconfigure, reconfigurations_of, is_heard, arrival_of, sent_by}
-use Rattle.ripng_world.specs.Stations.{StationValue, IsMoveAt, MoveStations, network_of, world_of}
+use Rattle.ripng_world.specs.Rounds.{router_of}
+use Rattle.ripng_world.specs.World.{World, Event, RouterMoves, Happens, Deliver, Stranger, Tick, Restart, Shutdown, LinkDown, LinkUp, Reconfigure, reconfigurations_in, reconfigurations_of, is_heard, arrival_of, sent_by}
+use Rattle.ripng_world.specs.Stations.{StationValue, IsMoveAt, IsPlaced, MoveStations, network_of, world_of}
 use Rattle.ripng_world.specs.Labs.{LabValue, IsRefusal, StepEnds, asked_reasons, lab_of, event_fault, event_reasons, missing_router_reasons, missing_interface_reasons, named_reasons, refusal_of, step_fault, is_one_link, link_at, link_of_datagram}
 use Rattle.ripng_world.specs.declared.event.LabError.{LabError}
 use Rattle.ripng_world.specs.declared.network.NetInterface.{NetInterface}
@@ -236,6 +237,77 @@ interface_router_within stations router iface none =
     let h = (each_passes (missing_interface_reasons (network_of stations) router iface) none).0 in
     let few : router < length (network_of stations) = grind (arith, nat_tests, h) in
     subst (λ (n : ℕ). router < n) (length-map stations (λ (s : StationValue). s.node)) few
+
+-- ---- what an event is for its router
+
+-- this, where it is no delivery and changes no configuration
+abbrev pub IsAs : Event → Happening → Type 0
+IsAs (Deliver datagram router iface now) h = ⊥
+IsAs (Stranger router x) h = h ≡ Arrives x
+IsAs (Tick router now word) h = h ≡ Ticks now word
+IsAs (Restart router now) h = h ≡ Restarts now
+IsAs (Shutdown router now) h = h ≡ ShutsDown now
+IsAs (LinkDown router now iface) h = h ≡ LinkGoesDown now iface
+IsAs (LinkUp router now iface) h = h ≡ LinkComesUp now iface
+IsAs (Reconfigure router now c) h = ⊥
+
+module _ (stations : List StationValue) (sent : List Sent) (reconfigurations : List (ℕ × Change)) where
+  -- its router is there
+  pub as_within : (e : Event) (h : Happening) → IsAs e h → event_fault (lab_of stations sent reconfigurations) e ≡ None → router_of e < length stations
+  as_within (Deliver datagram router iface now) h is none = absurd is
+  as_within (Stranger router x) h is none = stranger_within stations sent router x none
+  as_within (Tick router now word) h is none = router_within stations router none
+  as_within (Restart router now) h is none = router_within stations router none
+  as_within (Shutdown router now) h is none = router_within stations router none
+  as_within (LinkDown router now iface) h is none = interface_router_within stations router iface none
+  as_within (LinkUp router now iface) h is none = interface_router_within stations router iface none
+  as_within (Reconfigure router now c) h is none = absurd is
+
+  -- and so is its interface
+  pub as_placed : (e : Event) (h : Happening) → IsAs e h → event_fault (lab_of stations sent reconfigurations) e ≡ None → (s : StationValue) → slice_get stations (router_of e) ≡ Some s → IsPlaced s.node h
+  as_placed (Deliver datagram router iface now) h is none s here = absurd is
+  as_placed (Stranger router x) h is none s here =
+      let lawful = stranger stations sent router x none in
+      subst (IsPlaced s.node) (sym is) (interface_within stations router x.iface lawful.interface s lawful.interface_is here)
+  as_placed (Tick router now word) h is none s here = subst (IsPlaced s.node) (sym is) tt
+  as_placed (Restart router now) h is none s here = subst (IsPlaced s.node) (sym is) tt
+  as_placed (Shutdown router now) h is none s here = subst (IsPlaced s.node) (sym is) tt
+  as_placed (LinkDown router now iface) h is none s here = subst (IsPlaced s.node) (sym is) tt
+  as_placed (LinkUp router now iface) h is none s here = subst (IsPlaced s.node) (sym is) tt
+  as_placed (Reconfigure router now c) h is none s here = absurd is
+
+  -- with it the event happens
+  pub as_moves : (e : Event) (h : Happening) (answer : Answer) (stations' : List StationValue) → IsAs e h → event_fault (lab_of stations sent reconfigurations) e ≡ None
+      → IsMoveAt stations (router_of e) h answer stations' → MoveStations stations sent reconfigurations e answer stations'
+  as_moves (Deliver datagram router iface now) h answer stations' is none m = absurd is
+  as_moves (Stranger router x) h answer stations' is none m = intruded stations stations' sent router x answer none (subst (λ k. IsMoveAt stations router k answer stations') is m) reconfigurations
+  as_moves (Tick router now word) h answer stations' is none m =
+      let n = subst (λ k. IsMoveAt stations router k answer stations') is m in
+      record { happens = moved_at stations stations' router (Ticks now word) answer n sent _ reconfigurations _ refl refl; network = kept_at stations stations' router (Ticks now word) answer n }
+  as_moves (Restart router now) h answer stations' is none m =
+      let n = subst (λ k. IsMoveAt stations router k answer stations') is m in
+      record { happens = moved_at stations stations' router (Restarts now) answer n sent _ reconfigurations _ refl refl; network = kept_at stations stations' router (Restarts now) answer n }
+  as_moves (Shutdown router now) h answer stations' is none m =
+      let n = subst (λ k. IsMoveAt stations router k answer stations') is m in
+      record { happens = moved_at stations stations' router (ShutsDown now) answer n sent _ reconfigurations _ refl refl; network = kept_at stations stations' router (ShutsDown now) answer n }
+  as_moves (LinkDown router now iface) h answer stations' is none m =
+      let n = subst (λ k. IsMoveAt stations router k answer stations') is m in
+      record { happens = moved_at stations stations' router (LinkGoesDown now iface) answer n sent _ reconfigurations _ refl refl; network = kept_at stations stations' router (LinkGoesDown now iface) answer n }
+  as_moves (LinkUp router now iface) h answer stations' is none m =
+      let n = subst (λ k. IsMoveAt stations router k answer stations') is m in
+      record { happens = moved_at stations stations' router (LinkComesUp now iface) answer n sent _ reconfigurations _ refl refl; network = kept_at stations stations' router (LinkComesUp now iface) answer n }
+  as_moves (Reconfigure router now c) h answer stations' is none m = absurd is
+
+-- and no change is done
+pub as_unchanged : (e : Event) (h : Happening) (cs : List (ℕ × Change)) → IsAs e h → cs ≡ cs ++ reconfigurations_in (e ∷ [])
+as_unchanged (Deliver datagram router iface now) h cs is = absurd is
+as_unchanged (Stranger router x) h cs is = sym (append-nil cs)
+as_unchanged (Tick router now word) h cs is = sym (append-nil cs)
+as_unchanged (Restart router now) h cs is = sym (append-nil cs)
+as_unchanged (Shutdown router now) h cs is = sym (append-nil cs)
+as_unchanged (LinkDown router now iface) h cs is = sym (append-nil cs)
+as_unchanged (LinkUp router now iface) h cs is = sym (append-nil cs)
+as_unchanged (Reconfigure router now c) h cs is = absurd is
 
 -- ---- changes of the configuration
 

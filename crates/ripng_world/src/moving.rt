@@ -63,13 +63,6 @@ fn deliver<S: RouteStore>(
     Ok(answer)
 }
 
-/// A copy of an arrival, for the router that is to take it.
-pub fn again<'a>(arrival: &Arrival<'a>) -> Arrival<'a>
-    ensures { result ≡ arrival.entry.now }
-{
-    Arrival { ..*arrival }
-}
-
 /// Something happens at a router. Room for what the router sends is made first, and nothing is added yet.
 pub fn act<S: RouteStore>(
     stations: &mut [Station<S>],
@@ -127,40 +120,26 @@ pub fn happen<S: RouteStore>(
     ensures refused { IfErr result (λ why. IsRefusal (lab_of stations.old sent.old.items reconfigurations.old.items) (event_of event.entry.now) why) }
     ensures err { OnErr result (stations.new ≡ stations.old) }
 {
-    match event {
+    let happening = match event {
         Event::Deliver {
             datagram,
             router,
             iface,
             now,
-        } => Ok(deliver(stations, sent, *datagram, *router, *iface, *now)?),
-        Event::Stranger { router, arrival } => {
-            let arrives = Happening::Arrives(again(arrival));
-            Ok(act(stations, sent, *router, arrives)?)
-        }
-        Event::Tick { router, now, word } => {
-            Ok(act(stations, sent, *router, Happening::Ticks(*now, *word))?)
-        }
-        Event::Restart { router, now } => {
-            Ok(act(stations, sent, *router, Happening::Restarts(*now))?)
-        }
-        Event::Shutdown { router, now } => {
-            Ok(act(stations, sent, *router, Happening::ShutsDown(*now))?)
-        }
-        Event::LinkDown { router, now, iface } => {
-            let goes_down = Happening::LinkGoesDown(*now, *iface);
-            Ok(act(stations, sent, *router, goes_down)?)
-        }
-        Event::LinkUp { router, now, iface } => {
-            let comes_up = Happening::LinkComesUp(*now, *iface);
-            Ok(act(stations, sent, *router, comes_up)?)
-        }
+        } => return Ok(deliver(stations, sent, *datagram, *router, *iface, *now)?),
         Event::Reconfigure {
             router,
             now,
             change,
-        } => reconfigure(stations, reconfigurations, *router, *now, change),
-    }
+        } => return reconfigure(stations, reconfigurations, *router, *now, change),
+        Event::Stranger { arrival, .. } => Happening::Arrives(Arrival { ..*arrival }),
+        Event::Tick { now, word, .. } => Happening::Ticks(*now, *word),
+        Event::Restart { now, .. } => Happening::Restarts(*now),
+        Event::Shutdown { now, .. } => Happening::ShutsDown(*now),
+        Event::LinkDown { now, iface, .. } => Happening::LinkGoesDown(*now, *iface),
+        Event::LinkUp { now, iface, .. } => Happening::LinkComesUp(*now, *iface),
+    };
+    Ok(act(stations, sent, event.router(), happening)?)
 }
 
 /// What a router sent is added to all that was ever sent.

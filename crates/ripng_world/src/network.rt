@@ -174,23 +174,14 @@ fn addresses(alloc: Global, routers: &[NetRouter]) -> Result<Vec<Addr6>, AllocEr
     Ok(all)
 }
 
-/// Whether an address is an earlier one.
-fn check_address(earlier: &[Addr6], addr: Addr6) -> Result<(), NetRefused>
-    ensures { result_err result ≡ first_reason (address_reasons earlier.now addr) }
-{
-    if earlier.contains(&addr) {
-        Err(NetRefused::AddressSharedInNetwork)
-    } else {
-        Ok(())
-    }
-}
-
 /// Whether some address is an earlier one.
 fn check_addresses(addresses: &[Addr6]) -> Result<(), NetRefused>
     ensures { result_err result ≡ first_reason (reasons_of_each address_reasons addresses.now) }
 {
     for (place, &addr) in addresses.iter().enumerate() {
-        check_address(&addresses[..place], addr)?;
+        if addresses[..place].contains(&addr) {
+            return Err(NetRefused::AddressSharedInNetwork);
+        }
     }
     Ok(())
 }

@@ -1,8 +1,7 @@
 //! Where packets go by the tables of routers that run: from router to router, each by its longest match, until the way ends.
 
-ghost use Rattle.std.specs.Prelude.{◌≡◌, ◌<◌, ◌≤◌, ◌≢◌, ◌^◌, ◌⊎◌, ◌↔◌, nat_eq, IfErr, IfOk, IfSome, IsNone, length, option_and_then, option_map, position};
+ghost use Rattle.std.specs.Prelude.{◌≡◌, ◌<◌, ◌≤◌, ◌≢◌, ◌^◌, ◌⊎◌, ◌↔◌, IfErr, IfOk, IfSome, IsNone, length, option_and_then, option_map, position};
 ghost use Rattle.std.specs.FinMap as map_of;
-ghost use Rattle.std.specs.List.{list_any};
 ghost use Rattle.fib.specs.Forwarding.{IsLongestMatch, IsMatch};
 ghost use Rattle.prefix6.specs.Prefix.{Prefix6, cleared};
 ghost use Rattle.router_core.specs.Changes.{forward, forwards};
@@ -75,13 +74,6 @@ impl Model for Path {
     ghost Value = { PathValue };
 
     ghost view = { λ p. record { hops = p.hops.items; end = p.end } };
-}
-
-/// Whether a router is among those that were passed.
-fn is_passed(passed: &[usize], router: usize) -> bool
-    ensures { result ≡ list_any (nat_eq router) passed.now }
-{
-    passed.iter().any(|&earlier| router == earlier)
 }
 
 /// Where packets go by a route, if it is there and not unreachable.
@@ -190,12 +182,9 @@ impl<S: RouteStore> Running<S> {
         };
         match hop {
             Hop::Direct => Err(PathEnd::Delivered),
-            Hop::Via { iface, next_hop } => {
-                match self.neighbor(router, iface, next_hop) {
-                    Some(hop) => Ok(hop),
-                    None => Err(PathEnd::NextHopIsNobodys),
-                }
-            }
+            Hop::Via { iface, next_hop } => self
+                .neighbor(router, iface, next_hop)
+                .ok_or(PathEnd::NextHopIsNobodys),
         }
     }
 
@@ -209,7 +198,7 @@ impl<S: RouteStore> Running<S> {
         let mut hops = Vec::new(self.alloc);
         let mut passed = Vec::new(self.alloc);
         let mut at = router;
-        while !is_passed(&passed, at) {
+        while !passed.contains(&at) {
             match self.hand_on(at, addr) {
                 Err(end) => return Ok(Path { hops, end }),
                 Ok(hop) => {

@@ -41,10 +41,7 @@ impl<S: RouteStore> Running<S> {
         ensures link { IfOk result (λ link. link_at self.now.network router iface ≡ Some link) }
     {
         self.check_router(router)?;
-        match self.link(router, iface) {
-            Some(link) => Ok(link),
-            None => Err(LabError::NoSuchInterface),
-        }
+        self.link(router, iface).ok_or(LabError::NoSuchInterface)
     }
 
     /// Whether there is such a datagram, sent on the link of the interface.
@@ -104,10 +101,7 @@ impl<S: RouteStore> Running<S> {
                 router,
                 change: Change::Cost { iface, .. },
                 ..
-            } => {
-                self.check_interface(*router, *iface)?;
-                Ok(())
-            }
+            } => self.check_interface(*router, *iface).map(|_| ()),
             Event::Tick { router, .. }
             | Event::Restart { router, .. }
             | Event::Shutdown { router, .. }

@@ -10,13 +10,12 @@ ghost use Rattle.ripng_world.specs.Lying.{IsLieRefusal, LiesGiving};
 ghost use Rattle.ripng_world.specs.Watching.{IfRefused, WatchedInPart, failures, refusal_in};
 
 use crate::event::{Event, Happening, LabError};
-use crate::moving::{act, again, file, happen};
+use crate::moving::{act, file, happen};
 use crate::sent::Sent;
 use crate::station::{Station, interface_at};
 use crate::watch::{Observer, Stopped};
-use fib::RouteChange;
 use route_table::RouteStore;
-use router_core::{Answer, Arrival, Change, Fault, Listed, Note, Router};
+use router_core::{Answer, Arrival, Change, Listed, Router};
 use std::alloc::Global;
 use std::marker::Model;
 
@@ -42,23 +41,6 @@ impl<S: RouteStore> Model for Running<S> {
     ghost coded = { Prim.hlevel (codes, map_of.code {R = prefix_cmp} prefix.the_row.coded route.the_row.coded) };
 
     ghost view = { λ l. lab_of l.stations.items l.sent.items l.reconfigurations.items };
-}
-
-/// An answer without its sends, which were taken.
-fn handed_out(
-    alloc: Global,
-    fault: Option<Fault>,
-    changes: Listed<RouteChange>,
-    notes: Listed<Note>,
-) -> Answer
-    ensures { result ≡ record { fault = fault; sends = []; changes = changes; notes = notes } }
-{
-    Answer {
-        fault,
-        sends: Listed::from_vec(Vec::new(alloc)),
-        changes,
-        notes,
-    }
 }
 
 impl<S: RouteStore> Running<S> {
@@ -115,7 +97,8 @@ impl<S: RouteStore> Running<S> {
             event,
         )?;
         file(&mut self.sent, event.router(), answer.sends);
-        Ok(handed_out(self.alloc, answer.fault, answer.changes, answer.notes))
+        let sends = Listed::from_vec(Vec::new(self.alloc));
+        Ok(Answer { sends, ..answer })
     }
 
     /// As `step`, and then an observer is notified of the event with its answer.
@@ -154,9 +137,10 @@ impl<S: RouteStore> Running<S> {
         ensures err { OnErr result (self.new ≡ self.old) }
     {
         self.check_lie(router, arrival)?;
-        let arrives = Happening::Arrives(again(arrival));
+        let arrives = Happening::Arrives(Arrival { ..*arrival });
         let answer = act(&mut self.stations, &mut self.sent, router, arrives)?;
         file(&mut self.sent, router, answer.sends);
-        Ok(handed_out(self.alloc, answer.fault, answer.changes, answer.notes))
+        let sends = Listed::from_vec(Vec::new(self.alloc));
+        Ok(Answer { sends, ..answer })
     }
 }

@@ -1,6 +1,6 @@
 //! A router that runs in a network.
 
-ghost use Rattle.std.specs.Prelude.{◌≡◌, ◌≤◌, ◌/◌, [], max, IfErr, IfOk, OnErr, length, slice_get, unwrap_or};
+ghost use Rattle.std.specs.Prelude.{◌≡◌, ◌≤◌, ◌/◌, [], max, IfErr, IfOk, OnErr, length, unwrap_or};
 ghost use Rattle.std.specs.FinMap as map_of;
 ghost use Rattle.router_core.specs.Machine.{Moves, Reconfigures, Starts};
 ghost use Rattle.router_core.specs.Reconfiguring.{NamesInterface, reconfigure_fault};
@@ -48,7 +48,7 @@ pub fn interface_at<S: RouteStore>(
 ) -> Option<NetInterface>
     ensures { result ≡ interface_at (network_of stations.now) router iface }
 {
-    stations.get(router)?.interface(iface)
+    stations.get(router)?.interfaces().get(iface).copied()
 }
 
 impl<S: RouteStore> Station<S> {
@@ -81,13 +81,6 @@ impl<S: RouteStore> Station<S> {
         ensures { result.now ≡ self.now.state }
     {
         &self.router
-    }
-
-    /// One of its interfaces.
-    pub fn interface(&self, iface: usize) -> Option<NetInterface>
-        ensures { result ≡ slice_get self.now.node.interfaces iface }
-    {
-        self.node.interfaces.get(iface).copied()
     }
 
     /// Its interfaces as they were configured when it started.

@@ -5,17 +5,15 @@ ghost use Rattle.clap.specs.Words.{kind_of};
 ghost use Rattle.ripngd.specs.Exit.{AnswersAsk, AnswersWords, AsksForHelp, FailsWords, HaveFault, holds_any};
 ghost use Rattle.ripngd_daemon.specs.Failing.{MayFail};
 
-use crate::subcommands::{changes_file, explain_file, lab_file, show_digits, trace_file};
+use crate::subcommands::{explain, trace};
 use clap::error::ErrorKind;
 use ripngd_command_line::{Ask, ask, misuse_of};
 use ripngd_daemon::{
-    Failure, FileSource, History, SystemFiles, check_file, ctl, run, table_file, write_failure,
-    write_losses,
+    Failure, FileSource, History, System, SystemFiles, check_file, ctl, run, table_file,
+    write_failure, write_losses,
 };
-use std::fs::File;
+use ripngd_show::{PrintFault, show};
 use std::io::{self, Write};
-use std::net::Net;
-use std::rt::{Clock, Files};
 
 /// The exit status of the program.
 #[derive(Clone, Copy, Debug, PartialEq, Eq)]
@@ -44,7 +42,7 @@ pub(crate) enum Status {
 /// `, log failed` at its end if a write of the log failed.
 ///
 /// `out` is flushed before a status of 0 or 1 is returned. A failure of `err` changes no status.
-pub fn program<R: AllocGlobal + Files<File = File> + Print + Clock + Net, O: Write, E: Write>(
+pub fn program<R: System, O: Write, E: Write>(
     rt: &R,
     words: &[&str],
     out: &mut O,
@@ -68,13 +66,7 @@ pub fn program<R: AllocGlobal + Files<File = File> + Print + Clock + Net, O: Wri
 }
 
 /// Parses the words, and does what they ask for.
-fn outcome<
-    'a,
-    R: AllocGlobal + Files<File = File> + Print + Clock + Net,
-    F: FileSource,
-    O: Write,
-    E: Write,
->(
+fn outcome<'a, R: System, F: FileSource, O: Write, E: Write>(
     rt: &R,
     files: &F,
     words: &'a [&'a str],
@@ -102,14 +94,8 @@ fn outcome<
     }
 }
 
-/// Runs a subcommand, and returns whether its input is accepted.
-fn accepts<
-    'a,
-    R: AllocGlobal + Files<File = File> + Print + Clock + Net,
-    F: FileSource,
-    O: Write,
-    E: Write,
->(
+/// Runs a subcommand, and returns whether its input is accepted. A refused line of a script gets a hint on `err`.
+fn accepts<'a, R: System, F: FileSource, O: Write, E: Write>(
     rt: &R,
     files: &F,
     asked: Ask<'a>,
@@ -122,12 +108,16 @@ fn accepts<
     ensures failed { IfErr result (MayFail asked.entry) }
 {
     match asked {
-        Ask::Show(hex) => show_digits(rt.alloc(), hex, out),
+        Ask::Show(hex) => Ok(show(rt.alloc(), hex, out)?),
         Ask::Check(file) => check_file(rt.alloc(), files, file, out, err),
-        Ask::Lab(file) => lab_file(rt.alloc(), files, file, out, err),
-        Ask::Trace(file) => trace_file(rt.alloc(), files, file, out),
-        Ask::Explain(file) => explain_file(rt.alloc(), files, file, out),
-        Ask::Changes(file) => changes_file(rt.alloc(), files, file, out),
+        Ask::Lab(file) => {
+            let script = files.read(file)?;
+            let done = ripngd_lab::lab_hinted(rt.alloc(), script.as_slice(), out, err);
+            Ok(done.map_err(PrintFault::from)?)
+        }
+        Ask::Trace(file) => Ok(trace(rt.alloc(), files.read(file)?.as_slice(), out)?),
+        Ask::Explain(file) => Ok(explain(rt.alloc(), files.read(file)?.as_slice(), false, out)?),
+        Ask::Changes(file) => Ok(explain(rt.alloc(), files.read(file)?.as_slice(), true, out)?),
         Ask::Run(order) => run(rt, files, order, history, out, err),
         Ask::Ctl(question) => ctl(rt, question, out),
         Ask::Table(file) => table_file(rt.alloc(), files, file, out),
@@ -135,13 +125,7 @@ fn accepts<
 }
 
 /// Runs a subcommand, and flushes its output.
-fn answer<
-    'a,
-    R: AllocGlobal + Files<File = File> + Print + Clock + Net,
-    F: FileSource,
-    O: Write,
-    E: Write,
->(
+fn answer<'a, R: System, F: FileSource, O: Write, E: Write>(
     rt: &R,
     files: &F,
     asked: Ask<'a>,
@@ -191,17 +175,13 @@ fn write_clap_text<'a, O: Write, E: Write>(
     }
 }
 
-/// Whether the reader of `out` has gone.
-fn is_left<O: Write>(out: &mut O) -> bool {
-    matches!(out.flush(), Err(error) if error.kind() == io::ErrorKind::BrokenPipe)
-}
-
 /// Writes a failure to `err`, unless it is that nobody reads `out` any more, and returns its status.
 fn report<O: Write, E: Write>(failure: Failure<'_>, out: &mut O, err: &mut E) -> Status
     ensures { result ≡ Status.Failed }
 {
-    let is_silent = matches!(failure, Failure::Output) && is_left(out);
-    if !is_silent {
+    let is_left = matches!(failure, Failure::Output)
+        && matches!(out.flush(), Err(error) if error.kind() == io::ErrorKind::BrokenPipe);
+    if !is_left {
         let _ = write_failure(failure, err);
     }
     Status::Failed

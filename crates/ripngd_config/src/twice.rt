@@ -41,21 +41,16 @@ fn has_peer_at(peers: &[Peer], port: u16) -> bool
 fn is_taken(interfaces: &[InterfaceTable], port: u16) -> bool
     ensures { result ≡ is_taken interfaces.now (Some port) }
 {
-    let mut found = false;
-    for table in interfaces {
-        found |= table.local_port == port || has_peer_at(&table.peers, port);
-    }
-    found
+    interfaces.iter().any(|table| table.local_port == port || has_peer_at(&table.peers, port))
 }
 
 /// Whether an interface or a peer has the group port of this interface as its local port.
 fn has_group_port(interfaces: &[InterfaceTable], table: &InterfaceTable) -> bool
     ensures { result ≡ has_group_port interfaces.now table.now }
 {
-    match table.group_port {
-        Some(port) => is_taken(interfaces, port),
-        None => false,
-    }
+    table
+        .group_port
+        .is_some_and(|port| is_taken(interfaces, port))
 }
 
 /// Refuses the first interface whose group port is the local port of an interface or a peer.

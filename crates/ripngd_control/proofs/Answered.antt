@@ -1,15 +1,16 @@
 -- What follows from how a write or a test ended.
-use Rattle.std.proofs.Common.{◌≡◌, ◌++◌, ℕ, Bool, true, false, List, [], ◌∷◌, Option, Some, Result, Ok, Err, refl, subst, sym, inr}
-use Rattle.std.specs.Prelude.{◌==◌, IsOk, OnOk, codes, is_err}
+use Rattle.std.proofs.Common.{◌≡◌, ◌∙◌, ◌++◌, ℕ, Bool, true, false, List, [], ◌∷◌, Option, Some, Result, Ok, Err, ap, refl, subst, sym, inr}
+use Rattle.std.specs.Prelude.{◌==◌, IsOk, OnOk, codes, decimal, is_err}
 use Rattle.std.specs.FinMap as map_of
 use Rattle.std.specs.Io.KnownBytes.{Appends}
 use Rattle.std.proofs.KnownBytes.{Appends-trans}
+use Rattle.std.proofs.lemmas.List.{append_assoc}
 use Rattle.ripngd_engine.specs.Changing.{ShutsDownOnce, StepAnswer}
 use Rattle.ripngd_engine.specs.Seen.{Acts, Seen}
 use Rattle.ripngd_engine.specs.declared.report.ChangeFault.{ChangeFault}
 use Rattle.ripngd_engine.specs.declared.report.ChangeFault.TheVariants.{Refused, Ended}
 use Rattle.ripngd_control.specs.Answers.{AnswersCommand, GainsLines, ObeysStop, step_reply}
-use Rattle.ripngd_control.specs.Printed.{counts_text, losses_text, neighbors_text, reply_line, row_lines, status_answer, tally_text}
+use Rattle.ripngd_control.specs.Printed.{counts_text, last_text, losses_text, neighbors_text, refusals_text, reply_line, row_lines, status_answer, tally_text}
 use Rattle.ripngd_control.specs.declared.answering.Rest.{Rest}
 use Rattle.ripngd_control.specs.declared.answering.RunState.{RunState}
 use Rattle.ripngd_control.specs.declared.command.Command.{Command}
@@ -18,6 +19,7 @@ use Rattle.ripngd_control.specs.declared.counts.Counts.{Counts}
 use Rattle.ripngd_control.specs.declared.counts.Losses.{Losses}
 use Rattle.ripngd_control.specs.declared.neighbors.Neighbor.{Neighbor}
 use Rattle.ripngd_control.specs.declared.neighbors.Neighbors.{Neighbors}
+use Rattle.ripngd_control.specs.declared.neighbors.Tally.{Tally}
 use Rattle.ripngd_control.specs.declared.reply.Reply.{Reply}
 use Rattle.ripngd_control.specs.declared.reply.Reply.TheVariants as replies
 
@@ -38,6 +40,13 @@ appended (Err e) old mid new xs ys first second = tt
 pub apart : {P : Type 0} (b : Bool) → b ≡ false → b ≡ true → P
 apart true h is = absurd (cc)
 apart false h is = absurd (cc)
+
+-- the counts of a sender, the moment of its last Response, and what was refused of it, stand one behind the other
+pub tally_joined : (t : Tally) → (codes " arrivals " ++ (decimal t.arrivals ++ (codes " responses " ++ (decimal t.responses ++ (codes " entries "
+    ++ decimal t.entries))))) ++ (last_text t.last ++ refusals_text t.refusals) ≡ tally_text t
+tally_joined t = let rest = last_text t.last ++ refusals_text t.refusals in
+    ap (λ (l : List ℕ). codes " arrivals " ++ l) (append_assoc (decimal t.arrivals) _ rest
+    ∙ ap (λ (l : List ℕ). decimal t.arrivals ++ (codes " responses " ++ l)) (append_assoc (decimal t.responses) _ rest))
 
 -- the lines of others stand behind those of the rows
 pub others_said : (n : Neighbors) (rows : List Neighbor) → rows ≡ n.rows.items → (n.others.arrivals == 0) ≡ false

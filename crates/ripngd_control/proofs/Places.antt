@@ -1,20 +1,19 @@
--- The place of a sender's row, found one row after another.
-use Rattle.std.proofs.Common.{◌≡◌, ◌<◌, ◌≤◌, ◌+◌, ◌∙◌, ℕ, List, Bool, true, false, ap, cond, drop, get_or, length, sym}
-use Rattle.std.specs.Prelude.{not}
+-- The place of a sender's row, or how many rows there are.
+use Rattle.std.proofs.Common.{◌≡◌, ◌≤◌, ◌+◌, ◌++◌, ◌∷◌, [], ℕ, List, Bool, true, false, Some, None, ap, arith, cond, length, refl}
+use Rattle.std.specs.Prelude.{not, position}
+use Rattle.std.specs.Option.{unwrap_or}
 use Rattle.std.specs.List.{position_or_len}
-use Rattle.std.proofs.lemmas.List.{at_drop_all, at_drop_more}
+use Rattle.std.proofs.lemmas.List.Sums.{prefix_len-le-length}
+use lib.Dec.{ltb}
 
-module _ {X : Type 0} (p : X → Bool) (xs : List X) (i : ℕ) where
-  -- a row that does not pass is one place more
-  pub place_step : (x : X) → i < length xs → x ≡ get_or xs i x → p x ≡ false → position_or_len p (drop i xs) ≡ 1 + position_or_len p (drop (i + 1) xs)
-  place_step x lt is fails = at_drop_more (position_or_len p) xs i x lt
-      ∙ ap (λ (b : Bool). cond (not b) (1 + position_or_len p (drop (i + 1) xs)) 0) (ap p (sym is) ∙ fails)
+place_by : (b : Bool) (i n : ℕ) → i ≤ n → ltb i n ≡ b → unwrap_or (cond b (Some i) None) n ≡ i
+place_by true i n le is = refl
+place_by false i n le is = grind arith
 
-  -- a row that passes is the place
-  pub place_here : (x : X) → i < length xs → x ≡ get_or xs i x → p x ≡ true → position_or_len p (drop i xs) ≡ 0
-  place_here x lt is passes = at_drop_more (position_or_len p) xs i x lt
-      ∙ ap (λ (b : Bool). cond (not b) (1 + position_or_len p (drop (i + 1) xs)) 0) (ap p (sym is) ∙ passes)
+pub place_is : {X : Type 0} (p : X → Bool) (xs : List X) → unwrap_or (position p xs) (length xs) ≡ position_or_len p xs
+place_is p xs = place_by (ltb (position_or_len p xs) (length xs)) (position_or_len p xs) (length xs) (prefix_len-le-length (λ x. not (p x)) xs) refl
 
-  -- behind the last there is none
-  pub place_past : length xs ≤ i → position_or_len p (drop i xs) ≡ 0
-  place_past past = at_drop_all (position_or_len p) xs i past
+-- a row behind the others, where it passes, changes no place
+pub place_pushed : {X : Type 0} (p : X → Bool) (xs : List X) (y : X) → p y ≡ true → position_or_len p (xs ++ y ∷ []) ≡ position_or_len p xs
+place_pushed p [] y passes = rw passes refl
+place_pushed p (x ∷ xs) y passes = ap (λ (n : ℕ). cond (not (p x)) (1 + n) 0) (place_pushed p xs y passes)

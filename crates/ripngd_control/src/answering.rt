@@ -83,21 +83,7 @@ fn write_lookup<W: Write>(fib: &Fib, destination: Destination, out: &mut W) -> R
     }
 }
 
-/// Writes `interface I address ADDR cost C mtu M`, a line for each interface.
-fn write_interfaces<W: Write>(interfaces: &[Interface], out: &mut W) -> io::Result<()>
-    ensures { OnOk result (Appends (W.contents out.old) (W.contents out.new) (interface_lines (enumerate_from 0 interfaces.now))) }
-{
-    for (number, interface) in interfaces.iter().enumerate() {
-        let Interface { addr, cost, mtu } = *interface;
-        writeln!(
-            out,
-            "interface {number} address {addr} cost {cost} mtu {mtu}"
-        )?;
-    }
-    Ok(())
-}
-
-/// Writes a line for each interface, `now MS routes N` with the moment of the last step and the number of entries of the forwarding
+/// Writes `interface I address ADDR cost C mtu M` for each interface, `now MS routes N` with the moment of the last step and the number of entries of the forwarding
 /// table, the counts, what was lost, the neighbors, and `ok`.
 fn write_status<S: RouteStore, E, W: Write>(
     router: &Router<S>,
@@ -109,7 +95,14 @@ fn write_status<S: RouteStore, E, W: Write>(
     ensures { OnOk result (Appends (W.contents out.old) (W.contents out.new)
         (status_answer router.now.config.interfaces router.now.last (map_of.len fib.now) monitor.now.counts lost monitor.now.neighbors)) }
 {
-    write_interfaces(router.config().interfaces(), out)?;
+    let interfaces = router.config().interfaces();
+    for (number, interface) in interfaces.iter().enumerate() {
+        let Interface { addr, cost, mtu } = *interface;
+        writeln!(
+            out,
+            "interface {number} address {addr} cost {cost} mtu {mtu}"
+        )?;
+    }
     let now = router.last().ms();
     let routes = fib.len();
     let counts = monitor.counts();

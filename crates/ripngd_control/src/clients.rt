@@ -6,13 +6,13 @@ ghost use Rattle.ripngd_control.specs.Clients.{Heeds, TakesIn};
 
 use crate::answering::{RunState, respond};
 use crate::command::{Command, read_command};
-use crate::connection::{Connection, LINE_LIMIT, line_in};
+use crate::connection::{Connection, LINE_LIMIT};
 use crate::control_socket::{ControlSocket, ListenFault};
 use crate::counts::Losses;
 use crate::monitor::Monitor;
 use crate::reply::Peering;
 use rand_core::Rng;
-use ripngd_engine::{Engine, Entry, Link, LinkChange, TimeSource, Transcript};
+use ripngd_engine::{Engine, Entry, Link, LinkChange, TimeSource, Transcript, first_line};
 use route_table::RouteStore;
 use std::alloc::Global;
 use std::io::Write;
@@ -95,10 +95,10 @@ impl Clients {
             return None;
         }
         let received = connection.received.as_slice();
-        match line_in(received) {
+        match first_line(received) {
             None if received.len() < LINE_LIMIT => None,
             None => Some(None),
-            Some(line) => {
+            Some((line, _)) => {
                 let command = read_command(alloc, line).ok()?;
                 if command.is_some() {
                     self.transcript = Transcript::of(&Entry::Obeyed(&self.transcript, line));

@@ -1,11 +1,10 @@
 //! The connection of one client: its line is received and its answer is sent, by calls that never wait.
 
 ghost use Rattle.std.specs.Prelude.{◌≡◌, ◌≢◌, ◌≤◌, IfSome, IsTrue, None, false, vec_len};
-ghost use Rattle.ripngd_control.specs.Clients.{BeginsWith, GrowsByReceived, ShrinksBySent};
+ghost use Rattle.ripngd_control.specs.Clients.{GrowsByReceived, ShrinksBySent};
 
 use crate::answering::{Rest, write_rest};
 use fib::Fib;
-use ripngd_engine::first_line;
 use route_table::RouteStore;
 use router_core::Router;
 use std::io::{self, ErrorKind, Read, Write};
@@ -21,14 +20,6 @@ const PATIENCE: u128 = 2_000;
 
 /// How many pieces a client is sent at most between two turns.
 const PIECES: usize = 16;
-
-/// The first line of some bytes, without its line feed, or `None` if it is not complete.
-pub(crate) fn line_in(bytes: &[u8]) -> Option<&[u8]>
-    ensures { IfSome result (λ line. BeginsWith line.now bytes.now) }
-{
-    let (line, _) = first_line(bytes)?;
-    Some(line)
-}
 
 /// Whether an error of a socket only says that the call would wait, or was interrupted.
 fn is_passing(kind: ErrorKind) -> bool {

@@ -32,18 +32,7 @@ impl Display for Origin {
     }
 }
 
-/// Writes `ORIGIN entry E noted NR NAME` for each note.
-fn write_notes<W: Write>(origin: Origin, notes: &[Note], out: &mut W) -> io::Result<()>
-    ensures { OnOk result (Appends (W.contents out.old) (W.contents out.new) (note_lines origin.0 notes.now)) }
-{
-    for note in notes {
-        let refusal = Refusal::Entry(note.kind);
-        writeln!(out, "{origin} entry {} {refusal}", note.entry)?;
-    }
-    Ok(())
-}
-
-/// Writes `ORIGIN refused NR NAME` for the fault of a datagram, if there is one, and the lines of its notes.
+/// Writes `ORIGIN refused NR NAME` for the fault of a datagram, if there is one, and `ORIGIN entry E noted NR NAME` for each note.
 fn write_lines<W: Write>(
     arrived: Arrived,
     fault: Option<Fault>,
@@ -57,7 +46,11 @@ fn write_lines<W: Write>(
         let refusal = Refusal::Arrival(fault);
         writeln!(out, "{origin} {refusal}")?;
     }
-    write_notes(origin, notes, out)
+    for note in notes {
+        let refusal = Refusal::Entry(note.kind);
+        writeln!(out, "{origin} entry {} {refusal}", note.entry)?;
+    }
+    Ok(())
 }
 
 /// An observer that counts, in all and by neighbor, and writes lines unless it is muted. The first write that fails ends the lines,

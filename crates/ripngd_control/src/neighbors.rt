@@ -1,9 +1,8 @@
 //! The counts of each sender, by interface and address.
 
-ghost use Rattle.std.specs.Prelude.{◌≡◌, ◌≤◌, Some, length, vec_capacity};
-ghost use Rattle.std.specs.Fmt.{WritesOnOk};
+ghost use Rattle.std.specs.Prelude.{◌≡◌, Some, position, vec_capacity};
 ghost use Rattle.ripngd_engine.specs.Run.{counted};
-ghost use Rattle.ripngd_control.specs.Printed.{last_text, neighbors_text, row_lines, tally_text};
+ghost use Rattle.ripngd_control.specs.Printed.{neighbors_text, tally_text};
 ghost use Rattle.ripngd_control.specs.Watching.{CountsOf, KnowsNobody, Tallied, is_of, is_sound_response, no_tally, place_of, with_row};
 
 use crate::refusals::Refusals;
@@ -79,33 +78,21 @@ impl Tally {
     }
 }
 
-/// When the last Response arrived, written ` last MS`, or nothing.
-#[derive(Clone, Copy)]
-struct LastText(Option<u64>);
-
-impl Display for LastText {
-    ghost output = { λ l. Some (last_text l.0) };
-
-    fn fmt<W: fmt::Write>(&self, f: &mut fmt::Formatter<W>) -> fmt::Result {
-        match self.0 {
-            None => Ok(()),
-            Some(ms) => write!(f, " last {ms}"),
-        }
-    }
-}
-
 /// ` arrivals A responses R entries E`, ` last MS` if there was a Response, and after it, on lines of their own, what was refused.
 /// The last line has no line feed.
 impl Display for Tally {
     ghost output = { λ t. Some (tally_text t) };
 
     fn fmt<W: fmt::Write>(&self, f: &mut fmt::Formatter<W>) -> fmt::Result {
-        let last = LastText(self.last);
         write!(
             f,
-            " arrivals {} responses {} entries {}{last}{}",
-            self.arrivals, self.responses, self.entries, self.refusals
-        )
+            " arrivals {} responses {} entries {}",
+            self.arrivals, self.responses, self.entries
+        )?;
+        if let Some(ms) = self.last {
+            write!(f, " last {ms}")?;
+        }
+        write!(f, "{}", self.refusals)
     }
 }
 
@@ -120,28 +107,11 @@ pub struct Neighbor {
     pub tally: Tally,
 }
 
-impl Neighbor {
-    /// Whether it is the sender of an arrival.
-    fn is_of(&self, arrived: &Arrived) -> bool
-        ensures { result ≡ is_of arrived.now self.now }
-    {
-        self.iface == arrived.iface && self.source == arrived.source
-    }
-}
-
-/// The index of the row of an arrival's sender, or how many rows there are where it has none.
-fn place_of(rows: &[Neighbor], arrived: &Arrived) -> usize
-    ensures value { result ≡ place_of arrived.now rows.now }
-    ensures within { result ≤ length rows.now }
+/// The index of the row of an arrival's sender, if it has one.
+fn place_of(rows: &[Neighbor], arrived: &Arrived) -> Option<usize>
+    ensures { result ≡ position (is_of arrived.now) rows.now }
 {
-    let mut place = 0;
-    while place < rows.len() {
-        if rows[place].is_of(arrived) {
-            return place;
-        }
-        place += 1;
-    }
-    place
+    rows.iter().position(|row| row.iface == arrived.iface && row.source == arrived.source)
 }
 
 /// The counts of each sender: a row for each of the first 64, in the order of their first datagrams, and one for all others together.
@@ -178,13 +148,14 @@ impl Neighbors {
 
     /// The index of the row of an arrival's sender, or how many rows there are where it has none. A new sender gets a row while there
     /// is room.
+    #[tactic(auto, using(crate::proofs::Places::place_is))]
     fn row_of(&mut self, arrived: &Arrived) -> usize
         ensures place { result ≡ place_of arrived.now self.new.rows.items }
         ensures rows { self.new.rows.items ≡ with_row arrived.now (vec_capacity self.old.rows) self.old.rows.items }
         ensures room { vec_capacity self.new.rows ≡ vec_capacity self.old.rows }
         ensures others { self.new.others ≡ self.old.others }
     {
-        let place = place_of(self.rows.as_slice(), arrived);
+        let place = place_of(self.rows.as_slice(), arrived).unwrap_or(self.rows.len());
         if place == self.rows.len() && place < self.rows.capacity() {
             self.rows.push_reserved(Neighbor {
                 iface: arrived.iface,
@@ -218,25 +189,17 @@ impl Neighbors {
     }
 }
 
-/// The lines of each row, and of all others together if there are any.
+/// `iface I from ADDR` and the counts, a line for each row, and `others` and theirs if there are any.
 impl Display for Neighbors {
     ghost output = { λ n. Some (neighbors_text n) };
 
     fn fmt<W: fmt::Write>(&self, f: &mut fmt::Formatter<W>) -> fmt::Result {
-        write_rows(f, self.rows.as_slice())?;
+        for row in self.rows.as_slice() {
+            writeln!(f, "iface {} from {}{}", row.iface, row.source, row.tally)?;
+        }
         if self.others.arrivals == 0 {
             return Ok(());
         }
         writeln!(f, "others{}", self.others)
     }
-}
-
-/// `iface I from ADDR` and the counts, a line for each row.
-fn write_rows<W: fmt::Write>(f: &mut fmt::Formatter<W>, rows: &[Neighbor]) -> fmt::Result
-    ensures { WritesOnOk W.write_str_gives f.old result (row_lines rows.now) f.new }
-{
-    for row in rows {
-        writeln!(f, "iface {} from {}{}", row.iface, row.source, row.tally)?;
-    }
-    Ok(())
 }

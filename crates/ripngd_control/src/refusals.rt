@@ -1,8 +1,7 @@
 //! What a router refuses, and how often: datagrams for a fault, and entries of Responses for a note.
 
 ghost use Rattle.std.specs.Prelude.{◌≡◌, ◌+◌, ◌<◌, ◌==◌, Some, if◌then◌else◌};
-ghost use Rattle.std.specs.Fmt.{WritesOnOk};
-ghost use Rattle.ripngd_control.specs.Printed.{count_line, count_lines, refusal_number, refusal_text, refusals_text};
+ghost use Rattle.ripngd_control.specs.Printed.{refusal_number, refusal_text, refusals_text};
 ghost use Rattle.ripngd_control.specs.Watching.{Refused, is_fault, no_refusals, notes_of};
 
 use ripng_wire::WireError;
@@ -103,30 +102,12 @@ impl Display for Refusals {
     ghost output = { λ r. Some (refusals_text r) };
 
     fn fmt<W: fmt::Write>(&self, f: &mut fmt::Formatter<W>) -> fmt::Result {
-        write_lines(f, &REFUSALS, &self.by_number)
+        for refusal in REFUSALS.as_slice() {
+            let count = self.by_number[refusal.number()];
+            if count > 0 {
+                write!(f, "\n{refusal} {count}")?;
+            }
+        }
+        Ok(())
     }
-}
-
-/// Writes a line for each of these refusals that was counted.
-fn write_lines<W: fmt::Write>(
-    f: &mut fmt::Formatter<W>,
-    refusals: &[Refusal],
-    counts: &[u64; 25],
-) -> fmt::Result
-    ensures { WritesOnOk W.write_str_gives f.old result (count_lines counts.now refusals.now) f.new }
-{
-    for refusal in refusals {
-        write_line(f, *refusal, counts[refusal.number()])?;
-    }
-    Ok(())
-}
-
-/// Writes a line for a refusal, unless its count is 0.
-fn write_line<W: fmt::Write>(f: &mut fmt::Formatter<W>, refusal: Refusal, count: u64) -> fmt::Result
-    ensures { WritesOnOk W.write_str_gives f.old result (count_line refusal count) f.new }
-{
-    if count == 0 {
-        return Ok(());
-    }
-    write!(f, "\n{refusal} {count}")
 }

@@ -25,5 +25,5 @@ pub use failure::{Failure, FileCause, write_failure};
 pub use files::{FileSource, SystemFiles};
 pub use history::{History, write_losses};
 pub use reading::{LogFault, logs_are_read_one_way, read_log, written_logs_are_read_back};
-pub use run_command::run;
+pub use run_command::{System, run};
 pub use table_command::{table, table_file};

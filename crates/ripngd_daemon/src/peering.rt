@@ -1,6 +1,5 @@
 //! Changes of a router's peers while it runs.
 
-use prefix6::Addr6;
 use ripngd_control::{PeerChange, Peering, Reply};
 use ripngd_engine::{LinkChange, Peer};
 use ripngd_udp::Udp;
@@ -12,17 +11,6 @@ use std::rt::Clock;
 pub(crate) struct PeerUpdate {
     change: Option<PeerChange>,
     reply: Reply,
-}
-
-/// A peer with the defaults of a configuration.
-fn plain_peer(addr: Addr6, local_port: u16) -> Peer {
-    Peer {
-        addr,
-        local_port,
-        port: RIPNG_PORT,
-        hop_limit: MAX_HOP_LIMIT,
-        to_group: true,
-    }
 }
 
 impl PeerUpdate {
@@ -53,7 +41,17 @@ impl<'r, R: Clock> LinkChange<Udp<'r, R>> for PeerUpdate {
             return;
         };
         let outcome = match change {
-            PeerChange::Add { iface, addr, port } => link.add_peer(iface, plain_peer(addr, port)),
+            // A peer with the defaults of a configuration.
+            PeerChange::Add { iface, addr, port } => link.add_peer(
+                iface,
+                Peer {
+                    addr,
+                    local_port: port,
+                    port: RIPNG_PORT,
+                    hop_limit: MAX_HOP_LIMIT,
+                    to_group: true,
+                },
+            ),
             PeerChange::Remove { iface, addr } => link.remove_peer(iface, addr),
         };
         self.reply = match outcome {

@@ -24,6 +24,11 @@ use std::io::Write;
 use std::net::Net;
 use std::rt::{Clock, Files};
 
+/// What a router needs of the system: memory, files, standard output, the clock and sockets.
+pub trait System: AllocGlobal + Files<File = File> + Print + Clock + Net {}
+
+impl<R: AllocGlobal + Files<File = File> + Print + Clock + Net> System for R {}
+
 /// A router that is ready to start: its ports are bound, and its log is open.
 #[derive(Drop)]
 struct Ready<'r, R: Clock> {
@@ -49,13 +54,7 @@ struct Ready<'r, R: Clock> {
 /// # Errors
 /// The first failure of these: the log is the configuration; reading the configuration; opening or locking the log; binding a port;
 /// listening; beginning the log; the link; memory; `out`.
-pub fn run<
-    'a,
-    R: Files<File = File> + Print + Clock + Net + AllocGlobal,
-    F: FileSource,
-    O: Write,
-    E: Write,
->(
+pub fn run<'a, R: System, F: FileSource, O: Write, E: Write>(
     rt: &R,
     files: &F,
     order: Order<'a>,
@@ -106,12 +105,7 @@ fn clients_of<'a, R: Files + Net + Clock>(
 }
 
 /// Opens the log, binds the ports, listens, and runs.
-fn run_configured<
-    'a,
-    R: Files<File = File> + Print + Clock + Net + AllocGlobal,
-    O: Write,
-    E: Write,
->(
+fn run_configured<'a, R: System, O: Write, E: Write>(
     rt: &R,
     order: Order<'a>,
     config: Config,
@@ -144,7 +138,7 @@ fn run_configured<
 
 /// Begins the log, starts the router, makes its turns, and writes its forwarding table. With `-d` it writes what is refused, and the
 /// counts.
-fn run_ready<'r, 'a, R: Files<File = File> + Print + Clock + Net + AllocGlobal, O: Write, E: Write>(
+fn run_ready<'r, 'a, R: System, O: Write, E: Write>(
     rt: &'r R,
     order: Order<'a>,
     ready: Ready<'r, R>,
@@ -161,24 +155,19 @@ fn run_ready<'r, 'a, R: Files<File = File> + Print + Clock + Net + AllocGlobal, 
     ensures ran { OnOk result (ShowsRun order.entry ready.entry.router ready.entry.rng history.new (O.contents out.old) (O.contents out.new)) }
     ensures failed { IfErr result (MayFail (Ask.Run order.entry)) }
 {
-    let Ready {
-        router,
-        link,
-        rng,
-        mut log,
-    } = ready;
+    let mut log = ready.log;
     log.begin(order)?;
-    let interfaces = router.interfaces().len();
+    let interfaces = ready.router.interfaces().len();
     let plural = if interfaces == 1 { "" } else { "s" };
     let _ = writeln!(err, "ripngd: running, {interfaces} interface{plural}");
     let mut monitor = Monitor::new(rt.alloc(), err, !order.debug);
     let clock = Uptime::new(rt);
     let mut engine: UdpEngine<'r, R> = Engine::start(
         rt.alloc(),
-        router,
-        link,
+        ready.router,
+        ready.link,
         clock,
-        rng,
+        ready.rng,
         &mut log,
     )?;
     tell_of_log(&engine, order.log.is_none(), &mut monitor);

@@ -2,7 +2,6 @@
 //! locked while it is open.
 
 ghost use Rattle.std.specs.Prelude.{◌≡◌, ◌≢◌, ◌⊎◌, ◌++◌, [], IfErr, IfOk, OnOk, Some, option_map};
-ghost use Rattle.std.specs.Io.{WritesAtMost};
 ghost use Rattle.ripngd_daemon.specs.Failing.{MayFail};
 ghost use Rattle.ripngd_daemon.specs.Written.{begins_with};
 ghost use Rattle.ripngd_daemon.specs.declared.failure.FileCause.{FileCause};
@@ -69,19 +68,6 @@ fn cannot_write<'a>(file: &'a str, error: &io::Error) -> Failure<'a>
     failed(Failure::Log(file, FileCause::of(error)), error)
 }
 
-impl<R: Print> Target<'_, R> {
-    /// Writes as much as one call can.
-    fn take(&mut self, bytes: &[u8]) -> io::Result<usize>
-        ensures { WritesAtMost result bytes.now }
-    {
-        match self {
-            Target::Nowhere => Err(io::Error::from(io::ErrorKind::WriteZero)),
-            Target::Output(rt) => rt.write_some(bytes),
-            Target::File(file) => file.write(bytes),
-        }
-    }
-}
-
 impl<R> Target<'_, R> {
     /// Empties a regular file. Devices and pipes have nothing to empty.
     fn empty(&mut self) -> io::Result<()> {
@@ -96,7 +82,11 @@ impl<R: Print> Write for RunLog<'_, R> {
     ghost contents = { λ log. Some log.written.past.bytes };
 
     fn write(&mut self, buf: &[u8]) -> io::Result<usize> {
-        let taken = self.target.take(buf)?;
+        let taken = match &mut self.target {
+            Target::Nowhere => return Err(io::Error::from(io::ErrorKind::WriteZero)),
+            Target::Output(rt) => rt.write_some(buf)?,
+            Target::File(file) => file.write(buf)?,
+        };
         self.written = Transcript::of(&Entry::Wrote(&self.written, &buf[..taken]));
         Ok(taken)
     }

@@ -1,23 +1,22 @@
 //! `table`: prints the forwarding table that a log makes.
 
-ghost use Rattle.std.specs.Prelude.{◌≡◌, IfErr, IfOk, List, OnOk, ℕ};
+ghost use Rattle.std.specs.Prelude.{◌≡◌, IfErr, IfOk, List, ℕ};
 ghost use Rattle.std.specs.Io.KnownBytes.{Appends};
 ghost use Rattle.ripngd_command_line.specs.declared.asked.Ask.TheVariants as asks;
 ghost use Rattle.ripngd_daemon.specs.Failing.{MayFail};
-ghost use Rattle.ripngd_daemon.specs.Tabled.{IsTabled, table_text};
+ghost use Rattle.ripngd_daemon.specs.Tabled.{IsTabled};
 
 use crate::failure::Failure;
 use crate::files::FileSource;
 use crate::reading::{LogFault, read_log};
-use fib::Fib;
 use ripngd_engine::write_entries;
 use ripngd_show::PrintFault;
 use std::alloc::Global;
-use std::io::{self, Write};
+use std::io::Write;
 
-/// Writes the forwarding table that the lines of a log make, as [`write_table`] does. Returns whether each of them is the line of a
-/// change; if not, the first that is not gives `line L refused 1 BadLine` in place of a table. Bytes after the last line feed do not
-/// count.
+/// Writes the forwarding table that the lines of a log make: a line `PREFIX metric M direct` or `PREFIX metric M via ADDR iface I` for
+/// each entry, in the order of address, then length. Returns whether each of the lines is that of a change; if not, the first that is
+/// not gives `line L refused 1 BadLine` in place of a table. Bytes after the last line feed do not count.
 ///
 /// # Errors
 /// `OutOfMemory` before anything is written; `Write` where `out` failed.
@@ -28,7 +27,7 @@ pub fn table<W: Write>(alloc: Global, log: &[u8], out: &mut W) -> Result<bool, P
 {
     match read_log(alloc, log) {
         Ok(fib) => {
-            write_table(&fib, out).map_err(|_| PrintFault::Write)?;
+            write_entries(fib.entries(), out).map_err(|_| PrintFault::Write)?;
             Ok(true)
         }
         Err(LogFault::OutOfMemory) => Err(PrintFault::OutOfMemory),
@@ -54,12 +53,4 @@ pub fn table_file<'a, F: FileSource, O: Write>(
     ensures failed { IfErr result (MayFail (asks.Table file.entry)) }
 {
     Ok(table(alloc, files.read(file)?.as_slice(), out)?)
-}
-
-/// Writes a line `PREFIX metric M direct` or `PREFIX metric M via ADDR iface I` for each entry of a forwarding table, in the order of
-/// address, then length.
-pub(crate) fn write_table<W: Write>(fib: &Fib, out: &mut W) -> io::Result<()>
-    ensures { OnOk result (Appends (W.contents out.old) (W.contents out.new) (table_text fib.now)) }
-{
-    write_entries(fib.entries(), out)
 }

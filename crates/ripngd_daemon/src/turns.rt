@@ -11,11 +11,10 @@ ghost use Rattle.ripngd_daemon.specs.Tabled.{table_text};
 use crate::failure::Failure;
 use crate::history::losses_of;
 use crate::peering::PeerUpdate;
-use crate::table_command::write_table;
 use rand_pcg::Pcg32;
 use ripngd_command_line::{Ask, Order};
 use ripngd_control::{Clients, Monitor, RunState};
-use ripngd_engine::{Engine, EngineFault, LinkChange};
+use ripngd_engine::{Engine, EngineFault, LinkChange, write_entries};
 use ripngd_udp::{Udp, Uptime};
 use route_table::{Moment, SortedRoutes};
 use std::io::Write;
@@ -195,5 +194,5 @@ pub(crate) fn show_turns<'a, R: Clock + AllocGlobal, W: Write, E: Write, O: Writ
     ensures failed { IfErr result (MayFail (Ask.Run order.entry)) }
 {
     make_turns(rt, order, engine, clients, log, monitor)?;
-    write_table(engine.fib(), out).map_err(|_| Failure::Output)
+    write_entries(engine.fib().entries(), out).map_err(|_| Failure::Output)
 }

@@ -57,17 +57,22 @@ impl Course {
     }
 
     /// Does what a line says. The output of a router goes to the observer alone.
-    ///
-    /// # Errors
-    /// Why the script ends here. What was done before it stays done.
     pub fn act<V: Watch>(&mut self, action: Action, line: &Line<'_>, watch: &mut V) -> Outcome
         ensures { HasTold result V.starts V.takes V.fails V.notes (Some self.old.site, watch.old) (Some self.new.site, watch.new) }
     {
         let (router, word) = (line.router, line.word);
         match action {
-            Action::Step(kind) => self.happen(kind, line, watch),
+            Action::Step(kind) => {
+                let event = line.event(kind, router, line.iface);
+                self.outages.check_event(&event)?;
+                self.step(&event, watch)
+            }
             Action::AtLink(kind) => self.happen_at_link(kind, line, watch),
-            Action::Arrive => self.arrive(line, watch),
+            Action::Arrive => {
+                let bytes = line.bytes(self.alloc)?;
+                let arrival = line.arrival(&bytes);
+                self.step(&Event::Stranger { router, arrival }, watch)
+            }
             Action::Tell => self.make_wave(&line.wave(Ticking::One { router, word }), watch),
             Action::Hear => self.make_wave(&line.wave(Ticking::Nobody), watch),
             Action::Round => self.make_wave(&line.wave(Ticking::All), watch),
@@ -96,39 +101,16 @@ impl Course {
         Ok(watch.noticed(notice)?)
     }
 
-    /// An event happens, if it does not bring what is lost.
-    fn happen<V: Watch>(&mut self, kind: Step, line: &Line<'_>, watch: &mut V) -> Outcome
-        ensures { HasTold result V.starts V.takes V.fails V.notes (Some self.old.site, watch.old) (Some self.new.site, watch.new) }
-    {
-        let event = line.event(kind, line.router, line.iface);
-        self.outages.check_event(&event)?;
-        self.step(&event, watch)
-    }
-
     /// An event at each interface on a link. Where the link goes down it is cut, and where it comes up it is mended.
     fn happen_at_link<V: Watch>(&mut self, kind: Step, line: &Line<'_>, watch: &mut V) -> Outcome
         ensures { HasTold result V.starts V.takes V.fails V.notes (Some self.old.site, watch.old) (Some self.new.site, watch.new) }
     {
         let events = self.events_at(kind, line)?;
-        let wave = line.wave(Ticking::Nobody);
-        if kind == Step::Cost {
-            return self.play(&wave, None, &events, watch);
-        }
         let link = usize::from(line.link);
-        set_member(&mut self.outages.cut, link, kind == Step::Down)?;
-        self.play(&wave, None, &events, watch)
-    }
-
-    /// A datagram of an outside host arrives.
-    fn arrive<V: Watch>(&mut self, line: &Line<'_>, watch: &mut V) -> Outcome
-        ensures { HasTold result V.starts V.takes V.fails V.notes (Some self.old.site, watch.old) (Some self.new.site, watch.new) }
-    {
-        let bytes = line.bytes(self.alloc)?;
-        let stranger = Event::Stranger {
-            router: line.router,
-            arrival: line.arrival(&bytes),
-        };
-        self.step(&stranger, watch)
+        if kind != Step::Cost {
+            set_member(&mut self.outages.cut, link, kind == Step::Down)?;
+        }
+        self.play(&line.wave(Ticking::Nobody), None, &events, watch)
     }
 
     /// Rounds are made, and what they sent is passed by.

@@ -192,7 +192,8 @@ fn hint_of_word(alloc: Global, line: &str, form: usize, place: usize, wrong: Wro
 }
 
 /// The number, from 1, of the line with the fault of a network that is refused at the line `cold`, and what the line should have been.
-/// It is the first line, of a router that is named, such that the network of the lines up to it is refused for the same reason.
+/// It is the first line, of a router that is named, such that the network of the lines up to it is refused for the same reason. With a
+/// line of prefixes all routers and interfaces count, with another one no prefixes do.
 pub fn fault_of(
     alloc: Global,
     script: &[u8],
@@ -208,36 +209,35 @@ pub fn fault_of(
                 NetRefused::BadRouter { router, .. } => routers == router.saturating_add(1),
                 _ => true,
             };
-            let owns = line.verb == Verb::Prefixes;
-            if is_of_router && refusal_up_to(alloc, script, cold, place, owns)? == Some(refused) {
+            let number = place.saturating_add(1);
+            let (listed, owned) = match line.verb {
+                Verb::Prefixes => (cold, number),
+                _ => (number, 0),
+            };
+            if is_of_router && refusal_of(alloc, script, listed, owned)? == Some(refused) {
                 let meaning = String::from_str(alloc, meaning_of_network(refused))?;
-                return Ok(Some((place.saturating_add(1), meaning)));
+                return Ok(Some((number, meaning)));
             }
         }
     }
     Ok(None)
 }
 
-/// Why the network of the lines up to a place is refused, if it is. For a line of prefixes all routers and interfaces count, for
-/// another one no prefixes do.
-fn refusal_up_to(
+/// Why a network is refused, if it is: its routers and interfaces are of so many lines of the script, its prefixes of so many.
+fn refusal_of(
     alloc: Global,
     script: &[u8],
-    cold: usize,
-    last: usize,
-    counts_prefixes: bool,
+    listed: usize,
+    owned: usize,
 ) -> Result<Option<NetRefused>, AllocError> {
     let mut context = Context::new(alloc);
     let mut nodes = Vec::new(alloc);
-    for (place, text) in script.split(|byte| *byte == b'\n').take(cold).enumerate() {
-        if let Ok(line) = read_line(words_in(text), &mut context) {
-            let counts = match line.verb {
-                Verb::Prefixes => counts_prefixes && place <= last,
-                _ => counts_prefixes || place <= last,
-            };
-            if counts && list(alloc, &mut nodes, &line).is_err() {
-                return Err(AllocError);
-            }
+    for (place, text) in script.split(|byte| *byte == b'\n').take(listed).enumerate() {
+        if let Ok(line) = read_line(words_in(text), &mut context)
+            && (line.verb != Verb::Prefixes || place < owned)
+            && list(alloc, &mut nodes, &line).is_err()
+        {
+            return Err(AllocError);
         }
     }
     match NetConfig::check(alloc, nodes) {

@@ -120,24 +120,17 @@ fn bytes_by<S: RouteStore>(
     Ok(Some(bytes).filter(|bytes| bytes.as_slice() != sent.bytes.as_slice()))
 }
 
-/// What a router with that horizon, which is not RIPng's, advertises on an interface in place of an entry.
-fn entry_by<S: RouteStore>(horizon: Horizon, table: &S, iface: usize, entry: Rte) -> Option<Rte> {
-    match held_from(table, iface, entry) {
-        None => Some(entry),
-        Some(_) if horizon == Horizon::Split => None,
-        Some(metric) => Some(Rte { metric, ..entry }),
+/// What a router with that horizon, which is not RIPng's, advertises on an interface in place of an entry: another metric, or nothing, of
+/// a route that it learned there.
+fn entry_by<S: RouteStore>(horizon: Horizon, table: &S, learned: usize, entry: Rte) -> Option<Rte> {
+    if !entry.is_next_hop()
+        && let Ok(prefix) = Prefix::new(Addr6::from_bits(entry.addr), entry.len)
+        && let Some(route) = table.get(&prefix)
+        && let Origin::Learned { iface, .. } = route.origin()
+        && iface == learned
+    {
+        let metric = route.metric();
+        return (horizon != Horizon::Split).then_some(Rte { metric, ..entry });
     }
-}
-
-/// The metric of the route that an entry advertises, if it was learned on the interface.
-fn held_from<S: RouteStore>(table: &S, learned: usize, entry: Rte) -> Option<u8> {
-    if entry.is_next_hop() {
-        return None;
-    }
-    let prefix = Prefix::new(Addr6::from_bits(entry.addr), entry.len).ok()?;
-    let route = table.get(&prefix)?;
-    match route.origin() {
-        Origin::Learned { iface, .. } if iface == learned => Some(route.metric()),
-        _ => None,
-    }
+    Some(entry)
 }

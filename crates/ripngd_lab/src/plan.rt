@@ -3,11 +3,10 @@
 //! would do, let no `phases` be, and hold back nothing that a line says of one datagram or of one router; what is lost comes to nobody.
 
 ghost use Rattle.std.specs.Prelude.{◌≡◌, false, true, IfOk, IsFalse, IsTrue, OnErr, OnOk, map};
-ghost use Rattle.ripng_world.specs.AskedRounds.{is_other};
 ghost use Rattle.ripng_world.specs.Events.{event_of};
 ghost use Rattle.ripngd_lab.specs.Losing.{brings_lost, is_lost};
 ghost use Rattle.ripngd_lab.specs.Phasing.{AllTakePart};
-ghost use Rattle.ripngd_lab.specs.Plans.{addr_at, all_ticks, first_of, is_cut, is_meant, is_silent, reaches, takes_part, ticks_of, with_member};
+ghost use Rattle.ripngd_lab.specs.Plans.{addr_at, all_ticks, first_of, is_cut, is_silent, reaches, ticks_of, with_member};
 
 use crate::context::number;
 use crate::{Course, Network, Outcome, Refusal, Stop};
@@ -199,41 +198,21 @@ fn all_ticks(alloc: Global, routers: usize, now: Moment, outages: &Outages) -> E
     Ok(ticks)
 }
 
-/// Whether a datagram reaches an interface: another one of its link, where all take part and it is meant.
+/// Whether a datagram reaches an interface: another one of its link, where neither router is silent and the link is not cut. One to an
+/// asker reaches that of its address alone.
 fn reaches(lab: &Network, outages: &Outages, sent: &Sent, router: usize, iface: usize) -> bool
     ensures { result ≡ reaches outages.now lab.now sent.now router iface }
 {
-    is_other(lab, sent, router, iface)
-        && takes_part(lab, outages, sent, router)
-        && is_meant(lab, sent.to, router, iface)
-}
-
-/// Whether an interface is another one of the datagram's link.
-fn is_other(lab: &Network, sent: &Sent, router: usize, iface: usize) -> bool
-    ensures { result ≡ is_other lab.now.network sent.now (router, iface) }
-{
-    match (lab.link(sent.router, sent.iface), lab.link(router, iface)) {
-        (Some(own), Some(link)) => {
-            own == link && !(router == sent.router && iface == sent.iface)
-        }
-        _ => false,
+    let links = (lab.link(sent.router, sent.iface), lab.link(router, iface));
+    let (Some(own), Some(link)) = links else {
+        return false;
+    };
+    let is_other = own == link && !(router == sent.router && iface == sent.iface);
+    let is_silent = outages.is_silent(sent.router) || outages.is_silent(router);
+    if !is_other || is_silent || outages.is_cut(own) {
+        return false;
     }
-}
-
-/// Whether neither the sender nor a router is silent, and the sender's link is not cut.
-fn takes_part(lab: &Network, outages: &Outages, sent: &Sent, router: usize) -> bool
-    ensures { result ≡ takes_part outages.now lab.now sent.now router }
-{
-    let link = lab.link(sent.router, sent.iface);
-    let is_on_cut = link.is_some_and(|link| outages.is_cut(link));
-    !outages.is_silent(sent.router) && !outages.is_silent(router) && !is_on_cut
-}
-
-/// Whether a datagram is for an interface: one to an asker is for that of its address alone.
-fn is_meant(lab: &Network, to: Destination, router: usize, iface: usize) -> bool
-    ensures { result ≡ is_meant lab.now to router iface }
-{
-    match to {
+    match sent.to {
         Destination::Group => true,
         Destination::Peer { addr, .. } => addr_at(lab, router, iface) == Some(addr),
     }

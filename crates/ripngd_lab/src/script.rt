@@ -6,7 +6,7 @@ ghost use Rattle.ripngd_lab.specs.Asides.{Broken};
 ghost use Rattle.ripngd_lab.specs.ScriptWatching.{HasTold, IsToldOfLab, IsToldUntil, StartsAt, has_failed, lab_in};
 
 use crate::course::check_named;
-use crate::forms::{Action, Verb};
+use crate::forms::Verb;
 use crate::line::read_line;
 use crate::{
     BadLine, Context, Course, Ending, Line, Names, Notice, Outcome, Printer, Refusal, RefusalName,
@@ -105,19 +105,10 @@ fn run_line<V: Watch>(alloc: Global, session: &mut Session, line: &[u8], watch: 
         return Ok(());
     }
     let awaited = session.awaited.take();
-    let outcome = run_words(alloc, session, words, watch);
+    let outcome = session.obey(alloc, words, watch);
     match awaited {
         Some(name) => await_refusal(name, outcome),
         None => outcome,
-    }
-}
-
-fn run_words<V: Watch>(alloc: Global, session: &mut Session, words: &str, watch: &mut V) -> Outcome
-    ensures { HasTold result V.starts V.takes V.fails V.notes (lab_in session.old.course, watch.old) (lab_in session.new.course, watch.new) }
-{
-    match session.read(words) {
-        Ok(line) => session.obey(alloc, &line, watch),
-        Err(bad) => Err(Stop::from(bad)),
     }
 }
 
@@ -161,7 +152,7 @@ impl Session {
     }
 
     /// Reads the words of the next line.
-    pub fn read<'a>(&mut self, words: &'a str) -> Result<Line<'a>, BadLine>
+    fn read<'a>(&mut self, words: &'a str) -> Result<Line<'a>, BadLine>
         ensures { self.new.course ≡ self.old.course }
     {
         if let Some(course) = &self.course {
@@ -184,20 +175,28 @@ impl Session {
         }
     }
 
-    /// Does what a line says.
-    ///
-    /// # Errors
-    /// Why the script ends here. What was done before it stays done.
-    pub fn obey<V: Watch>(&mut self, alloc: Global, line: &Line<'_>, watch: &mut V) -> Outcome
+    /// Does what the words of the next line say.
+    pub fn obey<V: Watch>(&mut self, alloc: Global, words: &str, watch: &mut V) -> Outcome
         ensures { HasTold result V.starts V.takes V.fails V.notes (lab_in self.old.course, watch.old) (lab_in self.new.course, watch.new) }
     {
+        let line = match self.read(words) {
+            Ok(line) => line,
+            Err(bad) => return Err(Stop::from(bad)),
+        };
         match line.verb {
+            Verb::Router(_) | Verb::Interface | Verb::Prefixes => self.list(alloc, &line),
             Verb::Start => self.start(alloc, line.now, watch),
-            Verb::Forge => self.deceive(alloc, line, watch),
-            Verb::Bend => self.bend(line, watch),
-            Verb::Await => self.await_refusal(line),
-            Verb::Act(action) => self.act(action, line, watch),
-            Verb::Router(_) | Verb::Interface | Verb::Prefixes => self.list(alloc, line),
+            Verb::Forge => self.deceive(alloc, &line, watch),
+            Verb::Bend => self.bend(&line, watch),
+            Verb::Await => {
+                let _ = self.running()?;
+                self.awaited = line.refusal;
+                Ok(())
+            }
+            Verb::Act(action) => match &mut self.course {
+                Some(course) => course.act(action, &line, watch),
+                None => Err(Stop::from(BadLine::BeforeStart)),
+            },
         }
     }
 
@@ -228,16 +227,6 @@ impl Session {
         }
     }
 
-    /// A line about routers that run.
-    fn act<V: Watch>(&mut self, action: Action, line: &Line<'_>, watch: &mut V) -> Outcome
-        ensures { HasTold result V.starts V.takes V.fails V.notes (lab_in self.old.course, watch.old) (lab_in self.new.course, watch.new) }
-    {
-        match &mut self.course {
-            Some(course) => course.act(action, line, watch),
-            None => Err(Stop::from(BadLine::BeforeStart)),
-        }
-    }
-
     /// A forged Response arrives. If it is refused, the network stays verified.
     fn deceive<V: Watch>(&mut self, alloc: Global, line: &Line<'_>, watch: &mut V) -> Outcome
         ensures { HasTold result V.starts V.takes V.fails V.notes (lab_in self.old.course, watch.old) (lab_in self.new.course, watch.new) }
@@ -264,15 +253,6 @@ impl Session {
             Some(course) => course.bend(line, watch),
             None => Err(Stop::from(BadLine::BeforeStart)),
         }
-    }
-
-    /// The next line is to be refused.
-    fn await_refusal(&mut self, line: &Line<'_>) -> Outcome
-        ensures { self.new.course ≡ self.old.course }
-    {
-        let _ = self.running()?;
-        self.awaited = line.refusal;
-        Ok(())
     }
 
     /// The network, if its routers have started.

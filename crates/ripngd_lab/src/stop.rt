@@ -65,7 +65,7 @@ pub enum Stop {
     Failed(io::Error),
 }
 
-/// How a line ends: done, or as the script ends there.
+/// How a line ends: done, or as the script ends there. What was done before that stays done.
 pub type Outcome = Result<(), Stop>;
 
 /// The names that `refused NAME` may have, one space apart: of refusals that a line after `cold` may meet, and of a router's reasons to

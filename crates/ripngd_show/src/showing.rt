@@ -2,12 +2,12 @@
 
 ghost use Rattle.std.specs.Prelude.{◌≡◌, ◌≢◌, ◌%◌, ℕ, Err, IfOk, List, OnOk, length};
 ghost use Rattle.std.specs.Io.KnownBytes.{Appends};
-ghost use Rattle.ripngd_show.specs.Shown.{IsBytesText, IsShown, command_text, entry_line, head_line, listing, next_hop_line, refusal_line, route_line};
+ghost use Rattle.ripngd_show.specs.Shown.{IsBytesText, IsShown, command_text, entry_line, listing};
 
 use crate::print_fault::PrintFault;
 use hex::FromHexError;
 use prefix6::Addr6;
-use ripng_wire::{Command, Datagram, Rte, WireError};
+use ripng_wire::{Command, Datagram, Rte};
 use std::alloc::Global;
 use std::io::{self, Write};
 
@@ -43,16 +43,10 @@ fn show_bytes<W: Write>(bytes: &[u8], out: &mut W) -> io::Result<bool>
             Ok(true)
         }
         Err(error) => {
-            write_refusal(out, error)?;
+            writeln!(out, "refused {error}")?;
             Ok(false)
         }
     }
-}
-
-fn write_refusal<W: Write>(out: &mut W, error: WireError) -> io::Result<()>
-    ensures { OnOk result (Appends (W.contents out.old) (W.contents out.new) (refusal_line error)) }
-{
-    writeln!(out, "refused {error}")
 }
 
 /// Writes the head line, and then a line for each entry, numbered from 0.
@@ -60,17 +54,13 @@ fn write_listing<W: Write>(out: &mut W, datagram: &Datagram<'_>) -> io::Result<(
     ensures { OnOk result (Appends (W.contents out.old) (W.contents out.new)
         (listing datagram.now.command datagram.now.entries)) }
 {
-    write_head(out, datagram.command(), datagram.entries().len())?;
+    let command = command_name(datagram.command());
+    let count = datagram.entries().len();
+    writeln!(out, "{command} entries {count}")?;
     for (index, entry) in datagram.entries().enumerate() {
         write_entry(out, index, entry)?;
     }
     Ok(())
-}
-
-fn write_head<W: Write>(out: &mut W, command: Command, count: usize) -> io::Result<()>
-    ensures { OnOk result (Appends (W.contents out.old) (W.contents out.new) (head_line command count)) }
-{
-    writeln!(out, "{} entries {count}", command_name(command))
 }
 
 fn command_name(command: Command) -> &'static str
@@ -82,34 +72,18 @@ fn command_name(command: Command) -> &'static str
     }
 }
 
-/// Writes the line of an entry, which is a route or a next hop.
+/// Writes the line of an entry, which is a next hop or a route. Its address is as it came: bits past its length too.
 #[tactic(auto, unfolding(crate::specs::Shown::entry_line))]
 fn write_entry<W: Write>(out: &mut W, index: usize, entry: Rte) -> io::Result<()>
     ensures { OnOk result (Appends (W.contents out.old) (W.contents out.new) (entry_line index entry)) }
 {
-    if entry.is_next_hop() {
-        write_next_hop(out, index, entry)
-    } else {
-        write_route(out, index, entry)
-    }
-}
-
-fn write_next_hop<W: Write>(out: &mut W, index: usize, entry: Rte) -> io::Result<()>
-    ensures { OnOk result (Appends (W.contents out.old) (W.contents out.new) (next_hop_line index entry)) }
-{
-    writeln!(out, "{index} nexthop {}", Addr6::from_bits(entry.addr))
-}
-
-/// Writes the line of a route, with its address as it came: bits past its length too.
-fn write_route<W: Write>(out: &mut W, index: usize, entry: Rte) -> io::Result<()>
-    ensures { OnOk result (Appends (W.contents out.old) (W.contents out.new) (route_line index entry)) }
-{
     let addr = Addr6::from_bits(entry.addr);
-    let Rte {
-        tag,
-        len,
-        metric,
-        ..
-    } = entry;
-    writeln!(out, "{index} {addr}/{len} tag {tag} metric {metric}")
+    if entry.is_next_hop() {
+        return writeln!(out, "{index} nexthop {addr}");
+    }
+    writeln!(
+        out,
+        "{index} {addr}/{} tag {} metric {}",
+        entry.len, entry.tag, entry.metric
+    )
 }

@@ -27,7 +27,6 @@ use std::alloc::{AllocError, Global};
 #[derive(Drop)]
 pub struct KnownRouter {
     pub table: Routes,
-    /// As the last record of it has them.
     pub timers: Timers,
 }
 
@@ -38,7 +37,6 @@ pub struct Known<'a> {
     pub names: Names<'a>,
     /// Whether nothing is said in English of ticks and arrivals that change no forwarding table.
     pub changes_only: bool,
-    /// The number of the line.
     pub line: usize,
     pub routers: Vec<KnownRouter>,
 }
@@ -74,9 +72,6 @@ impl<'a> Known<'a> {
     }
 
     /// The start of the routers. They are known from now on.
-    ///
-    /// # Errors
-    /// Out of memory.
     pub fn start_record<'e>(
         &mut self,
         lab: &'e Network,
@@ -118,9 +113,6 @@ impl<'a> Known<'a> {
     }
 
     /// An event that was done; a forged Response comes as the datagram of an outside host, and may be that of a router, `forger`.
-    ///
-    /// # Errors
-    /// Out of memory.
     pub fn event_record<'e, 'b>(
         &mut self,
         lab: &'e Network,
@@ -160,7 +152,6 @@ impl<'a> Known<'a> {
     }
 }
 
-/// The timers of a router.
 fn timers_in<S: RouteStore>(router: &Router<S>) -> Timers
     ensures { result ≡ timers_in router.now }
 {
@@ -222,9 +213,6 @@ fn learn_routes(
 }
 
 /// What a reader who knows a table has to learn of what it is now. Then the table is known.
-///
-/// # Errors
-/// Out of memory.
 fn news_of(alloc: Global, known: &mut Routes, table: &Routes) -> Result<News, AllocError>
     ensures known { OnOk result (known.new ≡ table.now) }
     ensures listed { IfOk result (λ news. LeadsTo known.old news.routes.items news.gone.items table.now) }
@@ -234,7 +222,6 @@ fn news_of(alloc: Global, known: &mut Routes, table: &Routes) -> Result<News, Al
     Ok(News { routes, gone })
 }
 
-/// The moment of an event.
 fn moment_of(event: &Event<'_>) -> Moment
     ensures { result ≡ moment_of (event_of event.entry.now) }
 {
@@ -262,9 +249,6 @@ fn sender_at<'e>(lab: &'e Network, event: &Event<'_>) -> Option<(&'e Sent, Optio
 }
 
 /// The datagrams that were sent from a number on, in order, each with its own.
-///
-/// # Errors
-/// Out of memory.
 fn sent_since(alloc: Global, lab: &Network, first: usize) -> Result<Vec<(usize, &Sent)>, AllocError>
     ensures { IfOk result (λ records. map sent_said records.items ≡ sent_from first lab.now.world.sent) }
 {
@@ -342,9 +326,6 @@ fn offer_records(
 
 /// What an event offered to the router that moved, by the tables of the routers as they were known. Only a delivery offers
 /// anything: a datagram of no router brings no Response that is accepted.
-///
-/// # Errors
-/// Out of memory.
 fn offers_of(
     alloc: Global,
     lab: &Network,

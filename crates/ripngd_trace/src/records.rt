@@ -15,7 +15,6 @@ use std::fmt::{self, Display, Formatter, Write};
 #[derive(Drop)]
 pub struct StartRecord<'a> {
     pub line: usize,
-    /// The moment of the cold start.
     pub now: u64,
     pub routers: Vec<RouterRecord>,
     /// Each datagram that was sent, with its number among all that were ever sent.
@@ -25,7 +24,6 @@ pub struct StartRecord<'a> {
 /// A router that has started.
 #[derive(Drop)]
 pub struct RouterRecord {
-    /// Whether it only listens.
     pub quiet: bool,
     /// Each with the number of its link, which is none only where the network has no such interface.
     pub interfaces: Vec<(Interface, Option<u16>)>,
@@ -39,18 +37,14 @@ pub struct RouterRecord {
 #[derive(Drop)]
 pub struct EventRecord<'a, 'b> {
     pub line: usize,
-    /// The router that moves.
     pub router: usize,
     /// The moment of the event; a router takes a moment before its last one for that.
     pub now: u64,
     pub happened: Happened<'a, 'b>,
-    /// The fault, the notes and the changes of the forwarding table.
     pub answer: &'a Answer,
     /// What a delivered Response offered, except entries that have a note.
     pub offers: Vec<OfferRecord>,
-    /// Which update was due at a tick.
     pub update: Option<UpdateRecord>,
-    /// Each datagram that was sent, with its number among all that were ever sent.
     pub sent: Vec<(usize, &'a Sent)>,
     pub timers: Option<Timers>,
     pub news: News,
@@ -90,14 +84,12 @@ pub struct Happened<'a, 'b> {
 /// An offer, and the row of the table of adoption that it fell under (RFC 2080, section 2.4.2).
 #[derive(Clone, Copy)]
 pub struct OfferRecord {
-    /// The entry that offers it.
     pub entry: usize,
     pub prefix: Prefix,
     /// With the cost of the interface that it came on.
     pub metric: u8,
     pub tag: u16,
     pub next_hop: Addr6,
-    /// The row, by its name.
     pub why: Reason,
 }
 

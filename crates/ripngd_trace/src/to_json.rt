@@ -99,8 +99,7 @@ impl<'a, T: ToJson, R: Members> Members for (&'static str, &'a T, R) {
     ghost members = { λ m. member m.0.now (T.json m.1.now) (R.members m.2) };
 
     fn write_members(&self, text: &mut JsonText) {
-        text.token(Token::Key(self.0));
-        self.1.write_json(text);
+        text.member(self.0, self.1);
         self.2.write_members(text);
     }
 }
@@ -191,7 +190,6 @@ impl<'a> ToJson for &'a [u8] {
     }
 }
 
-/// As it is written.
 impl ToJson for Addr6 {
     ghost json = { address_of };
 
@@ -200,7 +198,6 @@ impl ToJson for Addr6 {
     }
 }
 
-/// As it is written.
 impl ToJson for Prefix {
     ghost json = { prefix_of };
 

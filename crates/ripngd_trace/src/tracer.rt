@@ -89,7 +89,6 @@ fn observed<W: Write>(
 /// The observer that writes the records.
 #[derive(Drop)]
 pub struct Tracer<'a, W: Write> {
-    /// The script that is traced.
     script: &'a [u8],
     /// How many ticks the line has made.
     ticks: usize,

@@ -133,7 +133,7 @@ impl<R: Clock> Udp<'_, R> {
     }
 
     /// The next datagram: one that is there, or else the first that comes in time, or before what is watched has something to read.
-    /// Meanwhile what waits is sent at its pace.
+    /// Meanwhile what waits is sent at its pace. While datagrams wait, sockets are looked at once in a millisecond.
     ///
     /// # Errors
     /// A socket could not be read, or the system cannot wait for them.
@@ -144,6 +144,11 @@ impl<R: Clock> Udp<'_, R> {
     {
         let end = self.since.saturating_add(self.pause);
         self.was_called = false;
+        if self.clock.now().ms() == self.since
+            && let Some(received) = self.take_next(buffer)
+        {
+            return Ok(Some(received));
+        }
         for _ in 0..LOOKS {
             let moment = self.clock.now().ms();
             self.send_waiting(Some(moment));

@@ -1,6 +1,6 @@
 -- All blocks of a store and the table that they stand for.
 use Rattle.std.proofs.Common.{◌≡◌, ℕ, ◌+◌, ◌-◌, ◌<◌, ◌≤◌, cond, List, length, Option, Some, None, refl, sym, ap, subst, ◌∙◌, arith}
-use Rattle.std.specs.Prelude.{T, IsSome, is_some, option_map}
+use Rattle.std.specs.Prelude.{T, IsSome, is_some}
 use Rattle.std.specs.FinMap as map
 use Rattle.std.specs.FinMap.{from_sorted}
 use Rattle.std.specs.FinMap.Entries.{find, put, is_sorted, is_sorted-put, is_sorted-where_key, length-put, length_without}
@@ -8,9 +8,10 @@ use Rattle.prefix6.specs.Prefix.{Prefix6, prefix_cmp}
 use Rattle.prefix6.proofs.PrefixLaws.{prefixes_total}
 use Rattle.route_table.specs.Route.{RouteValue}
 use Rattle.route_table.specs.Place.{Entries}
-use Rattle.route_table.specs.Table.{Table, table_limit, table_with, map_entries}
+use Rattle.route_table.specs.Table.{Table, table_limit, map_entries}
 use Rattle.route_table.specs.Due.{without_mark}
-use Rattle.route_table.specs.Trie.{without, entries_with}
+use Rattle.route_table.specs.Trie.{without}
+use Rattle.route_table.specs.Updating.{Updates, UpdatesEntries}
 use Rattle.route_table.specs.Blocks.{joined, AreFilled, Covers, IsStore}
 use Rattle.route_table.specs.Summary.{SummaryValue}
 use Rattle.route_table.proofs.SortedTable.{get_is, table_put, sorted_unmarked}
@@ -59,17 +60,23 @@ module _ (count : ℕ) (bound : SummaryValue) (bs : List Entries) (n : IsStore c
           few = n.few;
         }
 
-    is_present : (made : RouteValue × RouteValue) → option_map (λ m. m.0) (Some made) ≡ find prefix_cmp k (joined bs) → IsSome (map.get t k)
-    is_present made b = subst IsSome (b ∙ sym (get_is (joined bs) n.blocks.sorted t is k)) refl
+    is_present : (before : RouteValue) → find prefix_cmp k (joined bs) ≡ Some before → IsSome (map.get t k)
+    is_present before held = subst IsSome (sym (get_is (joined bs) n.blocks.sorted t is k ∙ held)) refl
 
-    -- something was made of the route to the prefix, if there is one
-    pub updated : (made : Option (RouteValue × RouteValue)) → option_map (λ m. m.0) made ≡ find prefix_cmp k (joined bs) → joined cs ≡ entries_with k made (joined bs) → Covers s (joined cs) → IsStore count s cs
-    updated None b e covered = same_store e covered
-    updated (Some m) b e covered = replaced m.1 (is_present m b) e covered
+    -- the route to the prefix was changed, if there is one
+    pub updated : {X : Type 0} (by : RouteValue → X → RouteValue → Type 0) (answer : Option X) → UpdatesEntries by k (joined bs) answer (joined cs) → Covers s (joined cs) → IsStore count s cs
+    updated by None it covered = same_store it.1 covered
+    updated by (Some x) it covered = replaced it.after (is_present it.before it.held) it.placed covered
 
-    pub table_updated : (made : Option (RouteValue × RouteValue)) → joined cs ≡ entries_with k made (joined bs) → from_sorted (joined cs) ≡ table_with k made t
-    table_updated None e = ap from_sorted e ∙ is
-    table_updated (Some m) e = table_put (joined bs) n.blocks.sorted t is k m.1 (joined cs) (sym e)
+    pub table_updated : {X : Type 0} (by : RouteValue → X → RouteValue → Type 0) (answer : Option X) → UpdatesEntries by k (joined bs) answer (joined cs) → Updates by k t answer (from_sorted (joined cs))
+    table_updated by None it = (get_is (joined bs) n.blocks.sorted t is k ∙ it.0, ap from_sorted it.1 ∙ is)
+    table_updated by (Some x) it = record {
+      before = it.before;
+      after = it.after;
+      held = get_is (joined bs) n.blocks.sorted t is k ∙ it.held;
+      made = it.made;
+      placed = table_put (joined bs) n.blocks.sorted t is k it.after (joined cs) (sym it.placed);
+    }
 
     fewer : IsSome (map.get t k) → 1 + length (without k (joined bs)) ≡ length (joined bs)
     fewer found = ap (λ b. cond b 1 0 + length (without k (joined bs))) (sym (present found)) ∙ length_without prefix_cmp prefixes_total k (joined bs) n.blocks.sorted

@@ -7,3 +7,4 @@ pub mod Trie
 pub mod TrieFalls
 pub mod Packing
 pub mod Blocks
+pub mod Updating

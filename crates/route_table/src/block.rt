@@ -1,5 +1,6 @@
 //! A block: a few routes in the order of their prefixes, with a bound that lets a search skip them.
 
+ghost use Rattle.std.specs.Fn.{FnOnceReturnsAtMut};
 ghost use Rattle.std.specs.Prelude.{◌≡◌, ◌+◌, ◌-◌, ◌<◌, ◌≤◌, ◌↔◌, [], ◌∷◌, ◌++◌, length, take, drop, IsTrue, IfOk, IfSome, OnOk, OnErr, All, None, Some, T, if◌then◌else◌, vec_len, vec_capacity};
 ghost use Rattle.std.specs.FinMap.{find, is_sorted};
 ghost use Rattle.std.specs.declared.cmp.Ordering.TheVariants.{Less};
@@ -8,9 +9,10 @@ ghost use Rattle.prefix6.specs.Prefix.{prefix_cmp};
 ghost use Rattle.prefix6.specs.Places.{IsAt};
 ghost use Rattle.route_table.specs.Blocks.{block_limit, half_block, StartsAt, Covers};
 ghost use Rattle.route_table.specs.Due.{earlier, first_where, without_mark};
-ghost use Rattle.route_table.specs.Summary.{meets, summary_of, wanted_of};
+ghost use Rattle.route_table.specs.Summary.{meets, summary_of, summary_of_route, wanted_of};
 ghost use Rattle.route_table.specs.Table.{map_entries, past};
 ghost use Rattle.route_table.specs.Trie.{without};
+ghost use Rattle.route_table.specs.Updating.{ChangesEntry};
 
 use crate::route::Route;
 use crate::run;
@@ -299,26 +301,24 @@ impl Block {
         true
     }
 
-    /// Replaces the route to a prefix by what `make` returns for it: the route before and after.
-    pub fn update<F: FnOnce(Route) -> Route>(
+    /// Changes the route at a place, which is that of the prefix. Returns what `change` does, and the summary of the route then.
+    pub fn update<T, F: FnOnce(&mut Route) -> T>(
         &mut self,
         at: usize,
         prefix: &Prefix,
-        make: F,
-    ) -> (Route, Route)
-        requires callable { F.IsAlwaysCallable make }
+        change: F,
+    ) -> (T, Summary)
+        requires callable { F.IsAlwaysCallable change }
         requires place { IsAt self.old prefix.now at }
-        ensures before { find prefix_cmp prefix.now self.old ≡ Some result.0 }
-        ensures by { F.post make result.0 result.1 }
-        ensures after { self.new ≡ put prefix_cmp prefix.now result.1 self.old }
+        ensures { (it : ChangesEntry (FnOnceReturnsAtMut F.FnOnce change) prefix.now self.old result.0 self.new) × (result.1 ≡ summary_of_route it.after) }
     {
-        let before = self.routes[at].1;
-        let after = make(before);
-        self.routes[at].1 = after;
-        let bound = self.bound.and(Summary::of(&after));
+        let route = &mut self.routes[at].1;
+        let answer = change(route);
+        let summary = Summary::of(route);
+        let bound = self.bound.and(summary);
         self.changes = count_more(self.changes, self.routes.len());
         self.bound = bound_of(&self.routes, at.saturating_add(1), self.changes, bound);
-        (before, after)
+        (answer, summary)
     }
 
     /// Clears all route change flags. Where the bound says that none is set, no route is looked at. The result is a bound.

@@ -1,5 +1,6 @@
 //! A list of blocks of routes, in the order of their prefixes.
 
+ghost use Rattle.std.specs.Fn.{FnOnceReturnsAtMut};
 ghost use Rattle.std.specs.Prelude.{◌≡◌, ◌+◌, ◌<◌, ◌≤◌, ◌++◌, length, take, IfOk, IfSome, OnOk, OnErr, All, IsSome, IsTrue, [], ◌∷◌, false, None, Some, option_map, vec_len, vec_capacity};
 ghost use Rattle.std.specs.declared.cmp.Ordering.TheVariants.{Less};
 ghost use Rattle.std.specs.FinMap.{find};
@@ -9,7 +10,8 @@ ghost use Rattle.route_table.specs.Blocks.{block_at, block_limit, joined, AreBlo
 ghost use Rattle.route_table.specs.Due.{first_where, least_deadline, without_mark};
 ghost use Rattle.route_table.specs.Summary.{meets, wanted_of};
 ghost use Rattle.route_table.specs.Table.{map_entries, past};
-ghost use Rattle.route_table.specs.Trie.{without, entries_with};
+ghost use Rattle.route_table.specs.Trie.{without};
+ghost use Rattle.route_table.specs.Updating.{UpdatesEntries};
 
 use crate::block::Block;
 use crate::route::Route;
@@ -161,21 +163,19 @@ pub fn list_wanted(
     }
 }
 
-/// Replaces the route to a prefix by what `make` returns for it: the route before and after, if there is one. The bound of all is
-/// widened, and the place to look at first becomes the one after it.
-pub fn update<F: FnOnce(Route) -> Route>(
+/// Changes the route to a prefix in place, if there is one, and returns what `change` does. The bound of all routes is widened, and the
+/// place to look at first becomes the one after it.
+pub fn update<T, F: FnOnce(&mut Route) -> T>(
     blocks: &mut Vec<Block>,
     bound: &mut Summary,
     next: &mut Place,
     prefix: &Prefix,
-    make: F,
-) -> Option<(Route, Route)>
-    requires callable { F.IsAlwaysCallable make }
+    change: F,
+) -> Option<T>
+    requires callable { F.IsAlwaysCallable change }
     requires ordered { AreBlocks blocks.old.items }
     requires covered { Covers bound.old (joined blocks.old.items) }
-    ensures before { option_map (λ made. made.0) result ≡ find prefix_cmp prefix.now (joined blocks.old.items) }
-    ensures by { IfSome result (λ made. F.post make made.0 made.1) }
-    ensures after { joined blocks.new.items ≡ entries_with prefix.now result (joined blocks.old.items) }
+    ensures updates { UpdatesEntries (FnOnceReturnsAtMut F.FnOnce change) prefix.now (joined blocks.old.items) result (joined blocks.new.items) }
     ensures filled { AreFilled blocks.new.items }
     ensures covered { Covers bound.new (joined blocks.new.items) }
 {
@@ -183,9 +183,9 @@ pub fn update<F: FnOnce(Route) -> Route>(
         return None;
     };
     *next = behind(blocks, (block, at));
-    let made = blocks[block].update(at, prefix, make);
-    *bound = bound.and(Summary::of(&made.1));
-    Some(made)
+    let (answer, summary) = blocks[block].update(at, prefix, change);
+    *bound = bound.and(summary);
+    Some(answer)
 }
 
 /// Clears all route change flags. The result is a bound of all routes.

@@ -150,6 +150,15 @@ impl Route {
         }
     }
 
+    /// The same route, a valid learned one, with another end of its timeout (RFC 2080, section 2.3).
+    pub fn renewed(self, until: Deadline) -> Route
+        requires learned { is_own self.origin ≡ false }
+        requires usable { self.metric < infinity }
+        ensures { result ≡ record self { clock = Clock.Live until } }
+    {
+        Route { until, ..self }
+    }
+
     /// The same route, with its route change flag set or not.
     pub fn with_mark(self, changed: bool) -> Route
         ensures { result ≡ record self { changed = changed } }

@@ -101,18 +101,13 @@ impl RouteStore for SortedRoutes {
         Ok(())
     }
 
-    fn update<F: FnOnce(Route) -> Route>(
-        &mut self,
-        prefix: &Prefix,
-        make: F,
-    ) -> Option<(Route, Route)> {
-        blocks::update(
-            &mut self.blocks,
-            &mut self.bound,
-            &mut self.next,
-            prefix,
-            make,
-        )
+    fn replace(&mut self, prefix: &Prefix, route: Route) {
+        let _ = self.update(prefix, |held: &mut Route| *held = route);
+    }
+
+    fn update<T, F: FnOnce(&mut Route) -> T>(&mut self, prefix: &Prefix, change: F) -> Option<T> {
+        let (blocks, bound) = (&mut self.blocks, &mut self.bound);
+        blocks::update(blocks, bound, &mut self.next, prefix, change)
     }
 
     fn unmark(&mut self) {

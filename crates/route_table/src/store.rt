@@ -1,10 +1,12 @@
 //! What a table of routes does, however it is stored.
 
-ghost use Rattle.std.specs.Prelude.{◌≡◌, ◌≤◌, ◌+◌, ◌++◌, ◌↔◌, None, IsTrue, IsSome, IfSome, option_map, take, OnOk, OnErr, vec_len, vec_capacity};
+ghost use Rattle.std.specs.Prelude.{◌≡◌, ◌≤◌, ◌+◌, ◌++◌, ◌↔◌, None, IsTrue, IsSome, take, OnOk, OnErr, vec_len, vec_capacity};
 ghost use Rattle.std.specs.FinMap as map;
-ghost use Rattle.route_table.specs.Table.{Table, table_limit, table_with, first_past, past, add_refused_name, add_refused_number};
+ghost use Rattle.route_table.specs.Table.{Table, table_limit, first_past, past, add_refused_name, add_refused_number};
 ghost use Rattle.route_table.specs.Due.{first_due, first_changed, first_where, least_deadline, next_due, unmarked};
+ghost use Rattle.std.specs.Fn.{FnOnceReturnsAtMut};
 ghost use Rattle.route_table.specs.Summary.{meets, wanted_of};
+ghost use Rattle.route_table.specs.Updating.{Updates};
 
 use crate::moment::{Deadline, Moment};
 use crate::route::Route;
@@ -152,22 +154,18 @@ pub trait RouteStore: Drop {
     /// Replaces the route to this prefix.
     fn replace(&mut self, prefix: &Prefix, route: Route)
         requires present { IsSome (map.get (table self.old) prefix.now) }
-        ensures { table self.new ≡ map.insert (table self.old) prefix.now route }
-    {
-        let _ = self.update(prefix, |_| route);
-    }
+        ensures { table self.new ≡ map.insert (table self.old) prefix.now route };
 
-    /// Replaces the route to this prefix by what `make` returns for it, in one search. The result is the route before and after.
-    /// `None` if there is no route; `make` is not called then.
-    fn update<F: FnOnce(Route) -> Route>(
-        &mut self,
-        prefix: &Prefix,
-        make: F,
-    ) -> Option<(Route, Route)>
-        requires { F.IsAlwaysCallable make }
-        ensures before { option_map (λ made. made.0) result ≡ map.get (table self.old) prefix.now }
-        ensures by { IfSome result (λ made. F.post make made.0 made.1) }
-        ensures after { table self.new ≡ table_with prefix.now result (table self.old) };
+    /// Changes the route to this prefix in place, and returns what `change` does. `None` if there is no route; `change` is not called then.
+    fn update<T, F: FnOnce(&mut Route) -> T>(&mut self, prefix: &Prefix, change: F) -> Option<T>
+        requires { F.IsAlwaysCallable change }
+        ensures { Updates (FnOnceReturnsAtMut F.FnOnce change) prefix.now (table self.old) result (table self.new) }
+    {
+        let mut route = self.get(prefix)?;
+        let answer = change(&mut route);
+        self.replace(prefix, route);
+        Some(answer)
+    }
 
     /// Clears all route change flags (RFC 2080, section 2.5.1).
     fn unmark(&mut self)

@@ -1,5 +1,9 @@
 //! A table as a trie of routes.
 
+ghost use Rattle.std.specs.Prelude.{◌≡◌, IfSome, option_map};
+ghost use Rattle.std.specs.FinMap as map_of;
+ghost use Rattle.route_table.specs.Table.{table_with};
+
 use crate::route::Route;
 use crate::store::{AddRefused, RouteStore, TABLE_LIMIT};
 use crate::trie::{self, Node};
@@ -33,6 +37,24 @@ impl Model for TrieRoutes {
     ghost view = { λ s. from_sorted (linked s.root) };
 
     ghost invariant = { λ s. IsTrie s.count s.root };
+}
+
+impl TrieRoutes {
+    /// Replaces the route to a prefix by what `make` returns for it: the route before and after, if there is one.
+    fn make<F: FnOnce(Route) -> Route>(
+        &mut self,
+        prefix: &Prefix,
+        make: F,
+    ) -> Option<(Route, Route)>
+        requires { F.IsAlwaysCallable make }
+        ensures before { option_map (λ made. made.0) result ≡ map_of.get self.old prefix.now }
+        ensures by { IfSome result (λ made. F.post make made.0 made.1) }
+        ensures after { self.new ≡ table_with prefix.now result self.old }
+    {
+        let mut made = None;
+        let _ = trie::update(&mut self.root, prefix, make, &mut made);
+        made
+    }
 }
 
 impl RouteStore for TrieRoutes {
@@ -82,14 +104,8 @@ impl RouteStore for TrieRoutes {
         Ok(())
     }
 
-    fn update<F: FnOnce(Route) -> Route>(
-        &mut self,
-        prefix: &Prefix,
-        make: F,
-    ) -> Option<(Route, Route)> {
-        let mut made = None;
-        let _ = trie::update(&mut self.root, prefix, make, &mut made);
-        made
+    fn replace(&mut self, prefix: &Prefix, route: Route) {
+        let _ = self.make(prefix, |_| route);
     }
 
     fn unmark(&mut self) {

@@ -27,3 +27,4 @@ mod ConfigChanges
 pub mod Reasons
 pub mod ReasonVectors
 pub mod OfferedSteps
+mod Renewing

@@ -1,13 +1,16 @@
 //! What an offer does to the route to its prefix: the rules of adoption (RFC 2080, section 2.4.2). The row of the table of
 //! adoption that applies is [`crate::Reason`], and the lemma [`crate::adopted_by_row`] joins the two.
 
-ghost use Rattle.std.specs.Prelude.{◌≡◌, ◌≤◌, ◌<◌, None};
-ghost use Rattle.route_table.specs.Route.{infinity};
+ghost use Rattle.std.specs.Prelude.{◌≡◌, ◌≤◌, ◌<◌, IsTrue, None, Some};
+ghost use Rattle.route_table.specs.Route.{IsRoute, infinity};
 ghost use Rattle.route_table.specs.declared.route.Clock.TheVariants.{Live};
+ghost use Rattle.router_core.specs.Changes.{change};
 ghost use Rattle.router_core.specs.Adoption.{metric_through, is_reachable, taken, refreshed, is_through, is_repeated, is_preferred, adopted_by_clock, adopted};
 
+use crate::forwarding::change;
 use crate::timers::{GARBAGE_TIME_MS, HALF_TIMEOUT_MS, TIMEOUT_MS};
-use prefix6::Addr6;
+use fib::RouteChange;
+use prefix6::{Addr6, Prefix};
 use route_table::{Clock, Deadline, INFINITY, Moment, Origin, Route};
 use std::marker::Model;
 
@@ -149,6 +152,44 @@ impl Gateway {
             // An offer that is no better than the route is ignored (section 2.4.2).
             route
         }
+    }
+
+    /// Whether the offer repeats a valid route of its own gateway. Then only the timeout starts anew.
+    fn is_renewal(&self, offer: &Offer, route: Route) -> bool
+        ensures lawful { IsRoute route }
+        ensures usable { IsTrue result → metric_through self.now offer.now < infinity }
+        ensures same { IsTrue result → route ≡ record (taken self.now offer.now) { clock = route.clock; changed = route.changed } }
+    {
+        match route.origin() {
+            Origin::Own => false,
+            Origin::Learned {
+                iface,
+                from,
+                next_hop,
+            } => {
+                let metric = self.metric_through(offer);
+                metric < INFINITY
+                    && route.metric() == metric
+                    && route.tag() == offer.tag
+                    && iface == self.iface
+                    && from == self.from
+                    && next_hop == offer.next_hop
+            }
+        }
+    }
+
+    /// What the offer makes of the route to its prefix, and the change of the forwarding entry, if it changes.
+    pub fn adopt(&self, prefix: Prefix, offer: &Offer, route: &mut Route) -> Option<RouteChange>
+        ensures route { route.new ≡ adopted_by_clock self.now offer.now route.old route.old.clock }
+        ensures change { result ≡ change prefix (Some route.old) (Some route.new) }
+    {
+        let before = *route;
+        if self.is_renewal(offer, before) {
+            *route = before.renewed(self.moment.later(TIMEOUT_MS));
+            return None;
+        }
+        *route = self.adopt_by_clock(offer, before);
+        change(prefix, Some(before), Some(*route))
     }
 
     /// The route after the offer, where one is held.

@@ -1,6 +1,6 @@
 //! The output of a step: a fault, datagrams to be sent, changes of forwarding entries, and notes on skipped entries.
 
-ghost use Rattle.std.specs.Prelude.{◌≡◌, Some};
+ghost use Rattle.std.specs.Prelude.{◌≡◌, None, Some};
 ghost use Rattle.router_core.specs.Offers.{note_name, note_number, note_text};
 
 use crate::arrival::Fault;
@@ -99,4 +99,16 @@ pub struct Answer {
     pub changes: Listed<RouteChange>,
     /// Skipped entries of a Response, in the order of entries.
     pub notes: Listed<Note>,
+}
+
+/// An answer without a fault.
+pub fn answer_of(sends: Vec<Outgoing>, changes: Vec<RouteChange>, notes: Vec<Note>) -> Answer
+    ensures { result ≡ record { fault = None; sends = sends.items; changes = changes.items; notes = notes.items } }
+{
+    Answer {
+        fault: None,
+        sends: Listed::from_vec(sends),
+        changes: Listed::from_vec(changes),
+        notes: Listed::from_vec(notes),
+    }
 }

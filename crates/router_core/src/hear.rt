@@ -103,8 +103,11 @@ fn meet<S: RouteStore>(
     ensures new { OnErr result (IsTrue (adds (meeting gateway.now offer.now prefix (S.table store.old)))) }
     ensures refusal { IfErr result (λ kind. kind ≡ refusal_of_new (S.table store.old)) }
 {
-    match store.update(&prefix, |route| gateway.adopt_by_clock(offer, route)) {
-        Some((before, after)) => Ok(change(prefix, Some(before), Some(after))),
+    match store.update(
+        &prefix,
+        |route: &mut Route| gateway.adopt(prefix, offer, route),
+    ) {
+        Some(change) => Ok(change),
         None => meet_first(store, gateway, prefix, offer),
     }
 }

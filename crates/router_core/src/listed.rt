@@ -2,7 +2,9 @@
 
 ghost use Rattle.std.specs.Prelude.{◌≡◌};
 
+use std::alloc::Global;
 use std::marker::Model;
+use std::mem;
 
 /// A `Vec` that contracts see as the list of its elements. A plain `Vec` shows its capacity too, which no caller needs.
 #[derive(Drop)]
@@ -39,4 +41,14 @@ impl<T> Listed<T> {
     {
         self.items.as_slice()
     }
+}
+
+/// What a vector has. One that has nothing stays, with its room.
+pub fn taken<T: Drop>(alloc: Global, items: &mut Vec<T>) -> Vec<T>
+    ensures { result.items ≡ items.old.items }
+{
+    if items.is_empty() {
+        return Vec::new(alloc);
+    }
+    mem::replace(items, Vec::new(alloc))
 }

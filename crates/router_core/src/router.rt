@@ -20,12 +20,12 @@ mod poisoning;
 mod waking;
 
 use crate::adopt::Gateway;
-use crate::answer::{Answer, Note, Outgoing};
+use crate::answer::{Answer, Note, Outgoing, answer_of};
 use crate::arrival::{Arrival, Fault};
 use crate::config::RouterConfig;
 use crate::faults::{accept, fault_of};
 use crate::hear::hear;
-use crate::listed::Listed;
+use crate::listed::{Listed, taken};
 use crate::listing::has_told;
 use crate::reply::reply;
 use crate::start::{changes_of_start, owned_routes, requests};
@@ -46,6 +46,9 @@ pub struct Router<S: RouteStore> {
     last: Moment,
     regular: Deadline,
     hold: Deadline,
+    /// Room for the notes and changes of the next Response, which mostly has none. It is not part of the value.
+    notes: Vec<Note>,
+    changes: Vec<RouteChange>,
     alloc: Global,
 }
 
@@ -68,18 +71,6 @@ impl<S: RouteStore> Model for Router<S> {
       regular = r.regular;
       hold = r.hold;
     } };
-}
-
-/// An answer without a fault.
-fn answer_of(sends: Vec<Outgoing>, changes: Vec<RouteChange>, notes: Vec<Note>) -> Answer
-    ensures { result ≡ record { fault = None; sends = sends.items; changes = changes.items; notes = notes.items } }
-{
-    Answer {
-        fault: None,
-        sends: Listed::from_vec(sends),
-        changes: Listed::from_vec(changes),
-        notes: Listed::from_vec(notes),
-    }
 }
 
 /// The cost of an interface in hops, below 16.
@@ -128,6 +119,8 @@ impl<S: RouteStore> Router<S> {
             last: now,
             regular: now.later(0),
             hold: now.later(0),
+            notes: Vec::new(alloc),
+            changes: Vec::new(alloc),
             alloc,
         };
         Ok((router, answer))
@@ -316,17 +309,21 @@ impl<S: RouteStore> Router<S> {
     {
         let gateway = self.gateway(arrival, now);
         let entries = response.entries();
-        let mut notes = Vec::with_capacity(self.alloc, entries.len())?;
-        let mut changes = Vec::with_capacity(self.alloc, entries.len())?;
+        self.notes.clear();
+        self.changes.clear();
+        self.notes.reserve(entries.len())?;
+        self.changes.reserve(entries.len())?;
         hear(
             &mut self.store,
             &gateway,
             &self.config,
             entries,
-            &mut notes,
-            &mut changes,
+            &mut self.notes,
+            &mut self.changes,
         );
         self.last = now;
+        let notes = taken(self.alloc, &mut self.notes);
+        let changes = taken(self.alloc, &mut self.changes);
         Ok(answer_of(Vec::new(self.alloc), changes, notes))
     }
 

@@ -1,140 +1,96 @@
 //! A case is played: its commands are done one after another, and what comes out is written behind them.
 
-use crate::doubles::{Doubles, Script};
-use crate::engines::{self, Rig};
-use crate::forwarding::{Forwarding, write_entries};
+use crate::routers;
 use crate::row::{Done, Row};
-use crate::writing::{write_lab, write_readers};
-use crate::{networks, routers, stores};
+use crate::tables::Tables;
+use crate::writing::{write_entries, write_readers};
 use fib::Fib;
-use ripng_world::{Event, Lab};
 use route_table::RouteStore;
 use router_core::Router;
 use std::alloc::AllocError;
-use std::cell::RefCell;
+use std::str;
 
-/// All that commands are about.
+/// What commands are about: tables, until a router has come up.
 #[derive(Drop)]
-struct Player<'a, 'b, S: RouteStore> {
-    store: S,
-    forwarding: Forwarding,
+struct Player<S: RouteStore> {
+    tables: Tables<S>,
     router: Option<Router<S>>,
-    nodes: Vec<&'b str>,
-    lab: Option<Lab<S>>,
-    waiting: Vec<Event<'static>>,
-    doubles: Doubles<'a>,
-    rig: Option<Rig<'a, S>>,
 }
 
-impl<'a, 'b, S: RouteStore> Player<'a, 'b, S> {
-    fn new(row: &Row<'_>, script: &'a RefCell<Script>) -> Player<'a, 'b, S> {
-        let alloc = row.alloc;
-        let (fib, changes) = (Fib::new(alloc), Vec::new(alloc));
-        Player {
-            store: S::empty(alloc),
-            forwarding: Forwarding { fib, changes },
-            router: None,
-            nodes: Vec::new(alloc),
-            lab: None,
-            waiting: Vec::new(alloc),
-            doubles: Doubles(script),
-            rig: None,
+impl<S: RouteStore> Player<S> {
+    fn obey(&mut self, row: &mut Row<'_>) -> Done {
+        match (&mut self.router, row.call) {
+            (Some(router), _) => routers::obey(row, router),
+            (None, "start" | "router") => {
+                self.router = routers::come_up(row)?;
+                Ok(())
+            }
+            (None, "example") => {
+                let mut said = Vec::new(row.alloc);
+                example_router::run(row.alloc, &mut said).map_err(|_| AllocError)?;
+                write!(row.text, "{}", str::from_utf8(&said).unwrap_or("no text"))
+            }
+            (None, _) => self.tables.obey(row),
         }
     }
 
-    /// All that readers say of what the call may change. Where time is told, nobody asks.
+    /// All that readers say of what a call may change. Where time is told, nobody asks.
     fn readers(&self, row: &Row<'_>) -> Result<String, AllocError> {
         let mut text = String::new(row.alloc);
-        if row.form == "time" {
-            return Ok(text);
-        }
-        if let Some(router) = &self.router {
-            write_readers(&mut text, router)?;
-        }
-        if let Some(lab) = &self.lab {
-            write_lab(&mut text, lab)?;
-        }
-        if row.call == "apply" {
-            write_entries(&mut text, &self.forwarding.fib)?;
+        match &self.router {
+            _ if row.form == "time" => {}
+            Some(router) => write_readers(&mut text, router)?,
+            None if row.call == "apply" => write_entries(&mut text, &self.tables.fib)?,
+            None => {}
         }
         Ok(text)
     }
 
-    /// Does a command by which something begins, or one of what has begun.
-    fn obey(&mut self, row: &mut Row<'b>, command: &'b str) -> Done {
-        let verb = row.call;
-        if let Some(router) = &mut self.router {
-            return routers::obey(row, router, verb);
-        }
-        if let Some(lab) = &mut self.lab {
-            return networks::obey(row, lab, &mut self.waiting, verb);
-        }
-        if let Some(rig) = &mut self.rig {
-            return rig.obey(row, verb);
-        }
-        match verb {
-            "start" | "router" => self.router = routers::come_up(row)?,
-            "node" => {
-                let _ = row.rest();
-                self.nodes.push(command)?;
+    /// Does a command, and writes what came of it. Where its call was refused memory, readers have to say what they said before, and it is
+    /// done again.
+    fn play(&mut self, rt: &HostRuntime, command: &str, text: &mut String) -> Done {
+        let mut row = Row::new(rt.clone()?, command);
+        let before = self.readers(&row)?;
+        let mut done = self.obey(&mut row);
+        if row.is_refused {
+            let after = self.readers(&row)?;
+            row = Row::new(rt.clone()?, command);
+            if after.as_str() != before.as_str() {
+                writeln!(row.text, "a refused call changed what readers say")?;
             }
-            "cold" => self.lab = networks::cold(row, self.nodes.as_slice())?,
-            "at" | "coming" | "fail-recv" | "fail-send" | "fail-write" => {
-                engines::plan(row, self.doubles, verb)?
-            }
-            "engine" => self.rig = engines::start(row, self.doubles)?,
-            "digits" => engines::write_shown(row, self.doubles)?,
-            "install" | "withdraw" | "apply" | "lookup" | "lookups" | "entries" => {
-                self.forwarding.obey(row, verb)?
-            }
-            _ => stores::obey(row, &mut self.store, verb)?,
+            done = self.obey(&mut row);
         }
-        Ok(())
-    }
-
-    /// Does a command. Where its call was refused memory, readers have to say what they said before, and it is done again.
-    fn play(&mut self, row: &mut Row<'b>, command: &'b str) -> Done {
-        row.begin(command);
-        let before = self.readers(row)?;
-        let done = self.obey(row, command);
-        if done.is_ok() || !row.is_refused {
-            return done;
+        done?;
+        text.push_str(row.text.as_str())?;
+        if row.is_read() {
+            Ok(())
+        } else {
+            writeln!(text, "no such command")
         }
-        row.tell_refused(row.call)?;
-        let after = self.readers(row)?;
-        row.begin(command);
-        if after.as_str() != before.as_str() {
-            writeln!(row.text, "a refused call changed what readers say")?;
-        }
-        self.obey(row, command)
-    }
-
-    /// Does what a line asks for, behind the line itself. Of a remark nothing comes, and a line that must come out asks for nothing.
-    fn follow(&mut self, row: &mut Row<'b>, line: &'b str, text: &mut String) -> Done {
-        if line.starts_with(';') {
-            writeln!(text, "{line}")?;
-        }
-        if let Some(command) = line.strip_prefix("> ") {
-            self.play(row, command)?;
-            write!(text, "{line}\n{}", row.text)?;
-            if !row.is_read() {
-                writeln!(text, "no such command")?;
-            }
-        }
-        Ok(())
     }
 }
 
-/// How a case turns out over a store, and whether it was over before its end.
-pub fn played<S: RouteStore>(rt: HostRuntime, case: &str) -> Result<(String, bool), AllocError> {
-    let mut row = Row::new(rt);
-    let script = RefCell::new(Script::new(row.alloc)?);
-    let mut player: Player<'_, '_, S> = Player::new(&row, &script);
-    let mut text = String::new(row.alloc);
+/// How a case turns out over a store. A line that must come out asks for nothing, and a remark stands for itself.
+pub fn played<S: RouteStore>(rt: &HostRuntime, case: &str) -> Result<String, AllocError> {
+    let alloc = rt.alloc();
+    let tables = Tables {
+        store: S::empty(alloc),
+        fib: Fib::new(alloc),
+        changes: Vec::new(alloc),
+    };
+    let mut player: Player<S> = Player {
+        tables,
+        router: None,
+    };
+    let mut text = String::new(alloc);
     for line in case.lines() {
-        if !row.is_over {
-            player.follow(&mut row, line, &mut text)?;
+        let command = line.strip_prefix("> ");
+        if command.is_some() || line.starts_with(';') {
+            writeln!(text, "{line}")?;
+        }
+        if let Some(command) = command {
+            player.play(rt, command, &mut text)?;
         }
     }
-    Ok((text, row.is_over))
+    Ok(text)
 }

@@ -1,40 +1,21 @@
 //! One router.
 
-use crate::calls;
+ghost use Rattle.std.specs.Prelude.{◌≡◌, ◌<◌, true, length};
+ghost use Rattle.router_core.specs.Reconfiguring.{NamesInterface};
+
 use crate::row::{Done, Row, moment};
 use crate::writing::{write_answer, write_due, write_one, write_router};
 use prefix6::Addr6;
-use ripng_world::{NetInterface, Node};
 use route_table::RouteStore;
-use router_core::{ConfigRefused, Interface, Router, RouterConfig};
+use router_core::{
+    Answer, Arrival, Change, Interface, Listed, NoteKind, ReconfigureRefused, Router, RouterConfig,
+};
 use std::alloc::AllocError;
+use std::time::Instant;
 
-/// What words say of a router: `quiet`, `own PREFIX TAG`, and `iface ADDR COST MTU LINK`.
-pub fn read_node(row: &mut Row<'_>) -> Result<Node, AllocError> {
-    let mut node = Node {
-        interfaces: Vec::new(row.alloc),
-        prefixes: Vec::new(row.alloc),
-        quiet: false,
-    };
-    for _ in 0..2_000 {
-        match row.next() {
-            "" => break,
-            "quiet" => node.quiet = true,
-            "own" => node.prefixes.push((row.prefix(), row.read(0)))?,
-            "iface" => {
-                let (addr, cost, mtu) = (row.addr(), row.read(0), row.read(0));
-                let interface = Interface { addr, cost, mtu };
-                let link = row.read(0);
-                node.interfaces.push(NetInterface { interface, link })?;
-            }
-            _ => row.spoil()?,
-        }
-    }
-    Ok(node)
-}
-
-/// The configuration that words ask for, if it is accepted, with these interfaces: fe80::1 with an MTU of 1,280 and fe80::1:1 with 1,500.
-pub fn read_config(row: &mut Row<'_>) -> Result<Result<RouterConfig, ConfigRefused>, AllocError> {
+/// A router comes up, if the configuration that words ask for is accepted; with `start` its answer is written. Its interfaces are fe80::1
+/// with an MTU of 1,280 and fe80::1:1 with 1,500; behind them stand `quiet` and `own PREFIX TAG`.
+pub fn come_up<S: RouteStore>(row: &mut Row<'_>) -> Result<Option<Router<S>>, AllocError> {
     let interface = |host: u128, mtu| Interface {
         addr: Addr6::from_bits((0xfe80 << 112) + host),
         cost: 1,
@@ -42,36 +23,146 @@ pub fn read_config(row: &mut Row<'_>) -> Result<Result<RouterConfig, ConfigRefus
     };
     let interfaces = [interface(1, 1280), interface(0x1_0001, 1500)];
     let interfaces = Vec::from_slice(row.alloc, &interfaces)?;
-    let node = read_node(row)?;
-    Ok(RouterConfig::check(interfaces, node.prefixes, node.quiet))
-}
-
-/// A router comes up, if its configuration is accepted; with `start` its answer is written.
-pub fn come_up<S: RouteStore>(row: &mut Row<'_>) -> Result<Option<Router<S>>, AllocError> {
-    let config = match read_config(row)? {
-        Ok(config) => config,
+    let (mut prefixes, mut is_quiet) = (Vec::new(row.alloc), false);
+    for _ in 0..row.rest.len() {
+        match row.next() {
+            "" => break,
+            "quiet" => is_quiet = true,
+            "own" => prefixes.push((row.prefix(), row.read(0)))?,
+            _ => row.is_bad = true,
+        }
+    }
+    match RouterConfig::check(interfaces, prefixes, is_quiet) {
+        Ok(config) => start(row, config).map(|router| Some(router)),
         Err(why) => {
             writeln!(row.text, "refused {why:?}")?;
-            return Ok(None);
+            Ok(None)
         }
-    };
+    }
+}
+
+fn start<S: RouteStore>(row: &mut Row<'_>, config: RouterConfig) -> Result<Router<S>, AllocError> {
     let Ok((router, answer)) = Router::start(row.alloc, config, moment(0)) else {
         return row.refuse();
     };
     if row.call == "start" {
         write_answer(&mut row.text, &answer)?;
     }
-    Ok(Some(router))
+    Ok(router)
+}
+
+/// A datagram arrives. If an entry was skipped for want of memory, it comes once more, and what was answered first is written.
+fn hear<S: RouteStore>(
+    row: &mut Row<'_>,
+    router: &mut Router<S>,
+    arrival: Arrival<'_>,
+) -> Result<Answer, AllocError>
+    requires { arrival.iface < length router.old.config.interfaces }
+{
+    let start = Instant::now(&row.rt);
+    let answer = router.arrive(Arrival { ..arrival })?;
+    row.tell_time(start)?;
+    let mut notes = answer.notes.as_slice().iter();
+    if !notes.any(|note| note.kind == NoteKind::NoMemory) {
+        return Ok(answer);
+    }
+    row.tell_refused("a new route")?;
+    let notes = Listed::from_vec(Vec::new(row.alloc));
+    write_answer(&mut row.text, &Answer { notes, ..answer })?;
+    router.arrive(arrival)
+}
+
+/// Time passes, as often as it is asked.
+fn tick<S: RouteStore>(row: &mut Row<'_>, router: &mut Router<S>) -> Result<Answer, AllocError> {
+    let (now, word) = (row.moment(), row.read(0));
+    let start = Instant::now(&row.rt);
+    let mut answer = router.tick(now, word)?;
+    for _ in 1..row.times {
+        answer = router.tick(now, word)?;
+    }
+    row.tell_time(start)?;
+    Ok(answer)
+}
+
+/// Whether a change is of no interface, or of one that there is.
+fn is_named(config: &RouterConfig, change: &Change) -> bool
+    ensures { result ≡ true → NamesInterface config.now change.now }
+{
+    match change {
+        Change::Cost { iface, .. } => *iface < config.interfaces().len(),
+        _ => true,
+    }
+}
+
+/// The configuration is changed.
+fn change<S: RouteStore>(
+    row: &mut Row<'_>,
+    router: &mut Router<S>,
+) -> Result<Answer, ReconfigureRefused> {
+    let now = row.moment();
+    let change = match row.call {
+        "gain" => Change::Own {
+            prefix: row.prefix(),
+            tag: row.read(0),
+        },
+        "drop" => Change::Disown {
+            prefix: row.prefix(),
+        },
+        verb => {
+            row.is_bad |= verb != "cost";
+            Change::Cost {
+                iface: row.read(0),
+                cost: row.read(0),
+            }
+        }
+    };
+    if is_named(router.config(), &change) {
+        router.reconfigure(now, change)
+    } else {
+        Err(ReconfigureRefused::BadCost)
+    }
+}
+
+/// Makes a call that moves a router, and writes its answer, unless time is told. With `free` it takes no memory.
+fn act<S: RouteStore>(row: &mut Row<'_>, router: &mut Router<S>) -> Done {
+    let made = match row.call {
+        "hear" => {
+            let arrival = row.arrival();
+            let bytes = row.bytes()?;
+            let bytes = bytes.as_slice();
+            if arrival.iface >= router.config().interfaces().len() {
+                row.is_bad = true;
+                return Ok(());
+            }
+            hear(row, router, Arrival { bytes, ..arrival })
+        }
+        "tick" => tick(row, router),
+        "restart" => router.restart(row.moment()),
+        "shutdown" => router.shutdown(row.moment()),
+        "link-down" => router.link_down(row.moment(), row.read(0)),
+        "link-up" => router.link_up(row.moment(), row.read(0)),
+        _ => match change(row, router) {
+            Err(ReconfigureRefused::OutOfMemory) => Err(AllocError),
+            Err(why) => return writeln!(row.text, "refused ReconfigureRefused({why:?})"),
+            Ok(answer) => Ok(answer),
+        },
+    };
+    match made {
+        Ok(_) if row.form == "time" => Ok(()),
+        Ok(answer) => write_answer(&mut row.text, &answer),
+        Err(_) if row.form == "free" => writeln!(row.text, "refused OutOfMemory"),
+        Err(_) => row.refuse(),
+    }
 }
 
 /// Does a command.
-pub fn obey<S: RouteStore>(row: &mut Row<'_>, router: &mut Router<S>, verb: &str) -> Done {
-    match verb {
+pub fn obey<S: RouteStore>(row: &mut Row<'_>, router: &mut Router<S>) -> Done {
+    match row.call {
         "show" => write_router(&mut row.text, router),
         "route" => write_one(row, router.routes()),
         "size" => writeln!(row.text, "{}", router.routes().len()),
         "due" => write_due(&mut row.text, router.next_due()),
         "wakes" => writeln!(row.text, "{}", router.wakes_at().ms()),
-        _ => calls::obey(row, router, verb, 0),
+        _ => act(row, router),
     }
 }

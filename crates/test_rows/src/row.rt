@@ -18,51 +18,38 @@ pub struct Row<'a> {
     /// The words that were not read yet.
     pub rest: &'a str,
     pub is_bad: bool,
-    /// What stands before a command, and how often it is to be done.
+    /// What stands before the call, `free` or `time`, and how often a tick is to be made.
     pub form: &'a str,
     pub times: u32,
-    /// What came of the command.
-    pub text: String,
-    /// The call that is made, and whether it was refused memory.
+    /// The call that is to be made.
     pub call: &'a str,
+    /// What came of it, and whether it was refused memory.
+    pub text: String,
     pub is_refused: bool,
-    /// Whether the case is over, since memory was refused for good.
-    pub is_over: bool,
 }
 
 impl<'a> Row<'a> {
-    pub fn new(rt: HostRuntime) -> Row<'a> {
+    /// A command begins.
+    pub fn new(rt: HostRuntime, command: &'a str) -> Row<'a> {
         let alloc = rt.alloc();
-        Row {
+        let mut row = Row {
             rt,
             alloc,
-            rest: "",
+            rest: command,
             is_bad: false,
             form: "",
-            times: 0,
-            text: String::new(alloc),
+            times: 1,
             call: "",
+            text: String::new(alloc),
             is_refused: false,
-            is_over: false,
-        }
-    }
-
-    /// A command begins, whose verb it answers.
-    pub fn begin(&mut self, command: &'a str) -> &'a str {
-        self.text.clear();
-        self.rest = command;
-        self.is_bad = false;
-        self.is_refused = false;
-        self.form = self.next();
-        self.call = match self.form {
-            "free" | "then" => self.next(),
-            "time" => {
-                self.times = self.read(0);
-                self.next()
-            }
-            _ => self.form,
         };
-        self.call
+        row.call = row.next();
+        if row.call == "free" || row.call == "time" {
+            row.form = row.call;
+            row.times = if row.form == "time" { row.read(1) } else { 1 };
+            row.call = row.next();
+        }
+        row
     }
 
     /// Whether the command was as it should be, and read to its end.
@@ -70,21 +57,11 @@ impl<'a> Row<'a> {
         !self.is_bad && self.rest.is_empty()
     }
 
-    pub fn spoil(&mut self) -> Done {
-        self.is_bad = true;
-        Ok(())
-    }
-
     /// The next word, or none behind the last.
     pub fn next(&mut self) -> &'a str {
         let (word, rest) = self.rest.split_once(' ').unwrap_or((self.rest, ""));
         self.rest = rest;
         word
-    }
-
-    /// All that was not read.
-    pub fn rest(&mut self) -> &'a str {
-        mem::replace(&mut self.rest, "")
     }
 
     /// What the next word says, or else another, and the command is not as it should be.
@@ -110,16 +87,12 @@ impl<'a> Row<'a> {
         self.read(Prefix::new(Addr6::from_bits(0), 0).unwrap())
     }
 
-    pub fn addr(&mut self) -> Addr6 {
-        self.read(Addr6::from_bits(0))
-    }
-
     /// What `IFACE NOW SOURCE PORT HOP group` says of a datagram, or `peer` if it was not sent to the group. It has no bytes yet.
     pub fn arrival(&mut self) -> Arrival<'static> {
         Arrival {
             iface: self.read(0),
             now: self.moment(),
-            source: self.addr(),
+            source: self.read(Addr6::from_bits(0)),
             source_port: self.read(0),
             hop_limit: self.read(0),
             to_group: self.next() == "group",
@@ -130,12 +103,12 @@ impl<'a> Row<'a> {
     /// The bytes of all words that follow: hexadecimal digits, and `N*DIGITS` for digits that stand there N times.
     pub fn bytes(&mut self) -> Result<Vec<u8>, AllocError> {
         let mut bytes = Vec::new(self.alloc);
-        for word in self.rest().split(' ') {
+        for word in mem::replace(&mut self.rest, "").split(' ') {
             let (count, digits) = word.split_once('*').unwrap_or(("1", word));
             match hex::decode(self.alloc, digits) {
                 Ok(part) => {
-                    for _ in 0..count.parse::<usize>().unwrap_or(0) {
-                        bytes.extend_from_slice(part.as_slice())?;
+                    for _ in 0..count.parse().unwrap_or(0u32) {
+                        bytes.extend_from_slice(&part)?;
                     }
                 }
                 Err(hex::FromHexError::OutOfMemory) => return Err(AllocError),
@@ -145,28 +118,25 @@ impl<'a> Row<'a> {
         Ok(bytes)
     }
 
-    /// Tells on standard error how many nanoseconds passed.
+    /// Tells on standard error how many nanoseconds passed, if that is asked.
     pub fn tell_time(&self, start: io::Result<Instant>) -> Done {
+        if self.form != "time" {
+            return Ok(());
+        }
         let spent = start.and_then(|start| start.elapsed(&self.rt));
         let spent = spent.map_or(0, |spent| spent.as_nanos());
         eprintln!(self.rt; "{spent} ns").map_err(|_| AllocError)
     }
 
-    /// Tells on standard error what was refused memory.
-    pub fn tell_refused(&self, what: &str) -> Done {
-        eprintln!(self.rt; "refused: {what}").map_err(|_| AllocError)
-    }
-
-    /// The call that is made was refused memory.
+    /// The call was refused memory. It is told on standard error.
     pub fn refuse<T>(&mut self) -> Result<T, AllocError> {
         self.is_refused = true;
+        self.tell_refused(self.call)?;
         Err(AllocError)
     }
 
-    /// What was refused memory is lost for good.
-    pub fn end(&mut self, lost: &str) -> Done {
-        self.is_over = true;
-        self.tell_refused(lost)
+    pub fn tell_refused(&self, what: &str) -> Done {
+        eprintln!(self.rt; "refused: {what}").map_err(|_| AllocError)
     }
 }
 

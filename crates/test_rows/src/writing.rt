@@ -1,28 +1,29 @@
-//! What is written of routes, answers and readers.
+//! What is written of routes, hops, answers and routers.
 
 use crate::row::{Done, Row};
+use fib::{Fib, Hop, RouteChange};
 use prefix6::Prefix;
-use ripng_world::{Lab, Sent};
-use ripngd_engine::ChangeLine;
 use route_table::{Clock, Deadline, Origin, Route, RouteStore};
-use router_core::{Answer, Destination, Router};
+use router_core::{Answer, Destination, Outgoing, Router};
 
-/// Bytes as hexadecimal digits, four bytes a word, as RFC 2080 draws a datagram.
-pub fn write_bytes(out: &mut String, bytes: &[u8]) -> Done {
-    for (place, byte) in bytes.iter().enumerate() {
+/// A datagram that is sent: the interface, to whom, and its bytes, four a word, as RFC 2080 draws a datagram.
+fn write_send(out: &mut String, send: &Outgoing) -> Done {
+    match send.to {
+        Destination::Group => write!(out, "send {} group", send.iface)?,
+        Destination::Peer { addr, port } => write!(out, "send {} peer {addr} {port}", send.iface)?,
+    }
+    for (place, byte) in send.bytes.as_slice().iter().enumerate() {
         let space = if place % 4 == 0 { " " } else { "" };
         write!(out, "{space}{byte:02x}")?;
     }
     writeln!(out)
 }
 
-/// A datagram that is sent: the interface, to whom, and its bytes.
-pub fn write_send(out: &mut String, iface: usize, to: Destination, bytes: &[u8]) -> Done {
-    match to {
-        Destination::Group => write!(out, "send {iface} group")?,
-        Destination::Peer { addr, port } => write!(out, "send {iface} peer {addr} {port}")?,
+pub fn write_hop(out: &mut String, hop: Hop) -> Done {
+    match hop {
+        Hop::Direct => writeln!(out, "direct"),
+        Hop::Via { iface, next_hop } => writeln!(out, "via {next_hop} iface {iface}"),
     }
-    write_bytes(out, bytes)
 }
 
 /// A route that was found with its prefix: metric, tag, where it comes from, its deadline, and whether it is marked as changed.
@@ -73,16 +74,39 @@ pub fn write_due(out: &mut String, due: Option<(Deadline, Prefix)>) -> Done {
     }
 }
 
+/// All entries of a forwarding table, in order, and how many there are.
+pub fn write_entries(out: &mut String, fib: &Fib) -> Done {
+    for (prefix, hop, metric) in fib.entries() {
+        write!(out, "{prefix} metric {metric} ")?;
+        write_hop(out, hop)?;
+    }
+    writeln!(out, "{} entries, empty {}", fib.len(), fib.is_empty())
+}
+
+fn write_change(out: &mut String, change: &RouteChange) -> Done {
+    match *change {
+        RouteChange::Install {
+            prefix,
+            hop,
+            metric,
+        } => {
+            write!(out, "add {prefix} metric {metric} ")?;
+            write_hop(out, hop)
+        }
+        RouteChange::Withdraw { prefix } => writeln!(out, "del {prefix}"),
+    }
+}
+
 /// All that a call answered: fault, sends, changes and notes, a line each.
 pub fn write_answer(out: &mut String, answer: &Answer) -> Done {
     if let Some(fault) = answer.fault {
         writeln!(out, "fault {fault:?}")?;
     }
     for send in answer.sends.as_slice() {
-        write_send(out, send.iface, send.to, send.bytes.as_slice())?;
+        write_send(out, send)?;
     }
     for change in answer.changes.as_slice() {
-        writeln!(out, "{}", ChangeLine(*change))?;
+        write_change(out, change)?;
     }
     for note in answer.notes.as_slice() {
         writeln!(out, "note {} {:?}", note.entry, note.kind)?;
@@ -105,24 +129,4 @@ pub fn write_readers<S: RouteStore>(out: &mut String, router: &Router<S>) -> Don
     writeln!(out, "{:?} {}", config.prefixes(), config.is_quiet())?;
     writeln!(out, "{:?}", config.interfaces())?;
     write_router(out, router)
-}
-
-/// All datagrams that were sent.
-pub fn write_sent(out: &mut String, sent: &[Sent]) -> Done {
-    for (number, sent) in sent.iter().enumerate() {
-        write!(out, "{number} router {} ", sent.router)?;
-        write_send(out, sent.iface, sent.to, sent.bytes.as_slice())?;
-    }
-    Ok(())
-}
-
-/// All that a network's readers say.
-pub fn write_lab<S: RouteStore>(out: &mut String, lab: &Lab<S>) -> Done {
-    for number in 0..lab.routers() {
-        if let Some(router) = lab.router(number) {
-            write_readers(out, router)?;
-        }
-    }
-    writeln!(out, "{:?}", lab.changes_done())?;
-    write_sent(out, lab.sent())
 }

@@ -130,7 +130,6 @@ impl ToJson for (Deadline, Prefix) {
     }
 }
 
-/// A route to a prefix.
 impl ToJson for (Prefix, Route) {
     ghost json = { json_of_route };
 

@@ -8,8 +8,8 @@ ghost use Rattle.router_core.specs.Changes.{change, forwards};
 ghost use Rattle.router_core.specs.Machine.{Happening, Moves};
 ghost use Rattle.router_core.specs.Reconfiguring.{IsNamed, NamesInterface, reconfigure_fault, reconfigured_config, reconfigured_table, changes_of_reconfiguring};
 
-use super::{Router, answer_of};
-use crate::answer::Answer;
+use super::Router;
+use crate::answer::{Answer, answer_of};
 use crate::forwarding::change;
 use crate::hear::put;
 use crate::reconfiguring::{Change, ReconfigureRefused, check};

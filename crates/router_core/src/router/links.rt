@@ -5,8 +5,8 @@ ghost use Rattle.fib.specs.Forwarding.{Replays};
 ghost use Rattle.router_core.specs.Changes.{forwards};
 ghost use Rattle.router_core.specs.Machine.{Happening, Moves};
 
-use super::{Router, answer_of};
-use crate::answer::Answer;
+use super::Router;
+use crate::answer::{Answer, answer_of};
 use crate::link_down::{changes_of_link_down, lose_all_on};
 use crate::start::request_on;
 use route_table::{Moment, RouteStore};

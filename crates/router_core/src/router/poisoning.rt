@@ -8,8 +8,8 @@ ghost use Rattle.router_core.specs.Shutdown.{shutdown_messages};
 ghost use Rattle.router_core.specs.Machine.{Happening, Moves};
 ghost use Rattle.router_core.specs.Output.{AreSpelled};
 
-use super::{Router, answer_of};
-use crate::answer::{Answer, Outgoing};
+use super::Router;
+use crate::answer::{Answer, Outgoing, answer_of};
 use crate::tell::{Selection, updates};
 use route_table::{Moment, RouteStore};
 use std::alloc::AllocError;

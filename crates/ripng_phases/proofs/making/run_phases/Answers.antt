@@ -1,7 +1,9 @@
-use Rattle.std.proofs.Common.{◌≡◌, ℕ, ◌+◌, Option, length, refl, sym, subst, ◌∙◌, ap, arith}
+use Rattle.std.proofs.Common.{◌≡◌, ℕ, ◌+◌, Bool, Option, length, refl, sym, subst, ◌∙◌, ap, arith}
+use Rattle.ripng_phases.specs.Changing.{last_change}
 use Rattle.ripng_phases.specs.Making.{AreMadePhases, HealsIn, LetsArriveIn}
 use Rattle.ripng_phases.proofs.Together.{AreSoFar, all_arrive, all_heal, all_made, in_part, none_so_far, one_more}
 use Rattle.ripng_phases.proofs.making.run_phases.Goals as goal
+use Rattle.ripng_phases.proofs.making.run_phases.Goals.{then-stays, else-stays}
 
 pub loop-done-init : goal.loop-done-init
 loop-done-init g c =
@@ -19,11 +21,15 @@ returns-in-Err-clause-stopped g c =
 
 pub loop-done-preserved : goal.loop-done-preserved
 loop-done-preserved g c =
+    let last_is : c.if-stays.last ≡ last_change c.loop-done.last c.in-Ok.stays c.loop-done.done = elim c.if-stays.branch [
+      | then-stays w ↦ w.last-is ∙ sym (ap (λ (b : Bool). last_change c.loop-done.last b c.loop-done.done) w.if-stays.true)
+      | else-stays w ↦ w.last-is ∙ sym (ap (λ (b : Bool). last_change c.loop-done.last b c.loop-done.done) w.if-stays.false)
+    ] in
     record {
       network = c.in-Ok.ensures.network ∙ c.loop-done.invariant.network;
       so_far =
           subst (λ (last : Option ℕ). AreSoFar g.V.Observer.takes c.args.lab.now.network (c.args.lab.now.world, c.args.watch.now) (c.loop-done.done + 1) (c.loop-done.begin + 60_000) c.in-Ok.next last (c.compare_phase.new.lab.world, c.compare_phase.new.watch))
-          (sym c.last_change-last.ensures)
+          (sym last_is)
           (one_more g.V.Observer.takes c.args.lab.now.network (c.args.lab.now.world, c.args.watch.now) c.loop-done.done c.loop-done.begin c.loop-done.first c.loop-done.last (c.loop-done.lab, c.loop-done.watch) c.loop-done.invariant.so_far
           c.loop-done.invariant.network c.in-Ok.next c.in-Ok.stays (c.compare_phase.new.lab, c.compare_phase.new.watch) c.in-Ok.ensures.made c.in-Ok.ensures.compared);
       begins = let b = c.loop-done.invariant.begins in (b.0, b.1, (let e = b.2 in omega (arith, e)));

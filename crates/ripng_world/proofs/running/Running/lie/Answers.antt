@@ -1,4 +1,4 @@
-use Rattle.std.proofs.Common.{◌≡◌, ◌<◌, inr, inl, None, Some, List, [], ◌++◌, map, take, drop, length, slice_get, sym, subst, ◌∙◌, ap}
+use Rattle.std.proofs.Common.{◌≡◌, ◌<◌, inr, inl, None, Some, List, [], ◌++◌, map, take, drop, length, slice_get, sym, subst, ◌∙◌, ap, rules}
 use Rattle.router_core.specs.Machine.{Arrives}
 use Rattle.router_core.specs.Received.{Received}
 use Rattle.ripng_world.specs.Labs.{LabValue, lab_of}
@@ -12,7 +12,7 @@ use Rattle.ripng_world.proofs.StationMoves.{err_is, interface_within, kept_at}
 use Rattle.ripng_world.proofs.running.Running.lie.Goals as goal
 
 -- what the move left
-module _ (g : _) (c : goal.After-handed_out g) where
+module _ (g : _) (c : goal.After-from_vec-sends g) where
   stations : take c.self.inside.stations.len (c.act.new.stations ++ drop (length c.act.new.stations) c.self.inside.stations.items) ≡ c.act.new.stations
   stations = written_back c.self.inside.stations.len c.act.new.stations c.self.inside.stations.items (c.act.auto.stations ∙ ap length c.deref_mut.ensures.value) c.self.inside.stations.ok.0
 
@@ -21,8 +21,8 @@ module _ (g : _) (c : goal.After-handed_out g) where
 
   moves : IsMoveAt c.self.inside.stations.items c.args.router (Arrives c.args.arrival.now) c.in_ok-answer.answer c.act.new.stations
   moves =
-      subst (λ (x : Received). IsMoveAt c.self.inside.stations.items c.args.router (Arrives x) c.in_ok-answer.answer c.act.new.stations) c.again.ensures
-      (subst (λ (ss : List StationValue). IsMoveAt ss c.args.router (Arrives c.again.result) c.in_ok-answer.answer c.act.new.stations) c.deref_mut.ensures.value c.in_ok-answer.ensures.moves)
+      subst (λ (x : Received). IsMoveAt c.self.inside.stations.items c.args.router (Arrives x) c.in_ok-answer.answer c.act.new.stations) c.arrival.view_is
+      (rw c.deref_mut.ensures.value at c.in_ok-answer.ensures.moves)
 
   added : c.file.new.sent.items ≡ c.self.inside.sent.items ++ map (sent_by c.args.router) c.in_ok-answer.answer.sends
   added = c.file.ensures ∙ ap (λ (ds : List Sent). ds ++ map (sent_by c.args.router) c.in_ok-answer.answer.sends) c.act.ensures.sent
@@ -33,7 +33,7 @@ returns-clause-lies g c =
     rw (← c.self.view_is, stations g c) (
       answer,
       lied c.self.inside.stations.items c.act.new.stations c.self.inside.sent.items c.file.new.sent.items c.self.inside.reconfigurations.items c.args.router c.args.arrival.now answer (none g c) (moves g c) (added g c),
-      c.handed_out.ensures,
+      search rules,
     )
 
 pub returns-clause-network : goal.returns-clause-network
@@ -49,7 +49,7 @@ act-requires g c =
     record {
       there = subst (λ (ss : List StationValue). c.args.router < length ss) (sym c.deref_mut.ensures.value) (liar_within stations c.self.inside.sent.items c.args.router x none);
       placed = λ s here.
-          subst (λ (y : Received). y.iface < length s.node.interfaces) (sym c.again.ensures)
+          subst (λ (y : Received). y.iface < length s.node.interfaces) (sym c.arrival.view_is)
           (interface_within stations c.args.router x.iface lawful.interface s lawful.interface_is (subst (λ (ss : List StationValue). slice_get ss c.args.router ≡ Some s) c.deref_mut.ensures.value here));
     }
 

@@ -1,4 +1,4 @@
-use Rattle.std.proofs.Common.{◌≡◌, ℕ, List, [], ◌∷◌, ◌++◌, map, take, drop, length, refl, sym, subst, ◌∙◌, ap, ap₂}
+use Rattle.std.proofs.Common.{◌≡◌, ℕ, List, [], ◌∷◌, ◌++◌, map, take, drop, length, refl, sym, subst, ◌∙◌, ap, ap₂, rules}
 use Rattle.router_core.specs.declared.reconfiguring.Change.{Change}
 use Rattle.ripng_world.specs.Events.{event_of}
 use Rattle.ripng_world.specs.Labs.{IsRefusal, LabValue, event_fault, lab_of}
@@ -11,7 +11,7 @@ use Rattle.ripng_world.proofs.StationMoves.{happened_passes, refused_first, step
 use Rattle.ripng_world.proofs.running.Running.step.Goals as goal
 
 -- what the move left
-module _ (g : _) (c : goal.After-handed_out g) where
+module _ (g : _) (c : goal.After-from_vec-sends g) where
   stations : take c.self.inside.stations.len (c.happen.new.stations ++ drop (length c.happen.new.stations) c.self.inside.stations.items) ≡ c.happen.new.stations
   stations = written_back c.self.inside.stations.len c.happen.new.stations c.self.inside.stations.items (c.happen.auto.stations ∙ ap length c.deref_mut.ensures.value) c.self.inside.stations.ok.0
 
@@ -38,7 +38,7 @@ returns-clause-happens g c =
     rw (← c.self.view_is, stations g c) (
       answer,
       happens g c,
-      c.handed_out.ensures,
+      search rules,
     )
 
 pub returns-clause-network : goal.returns-clause-network

@@ -1,9 +1,18 @@
-use Rattle.std.proofs.Common.{ℕ, ◌+◌, ◌-◌, ◌<◌, nat_eq, List, length, ap, sym, subst, ◌∙◌}
+use Rattle.std.proofs.Common.{◌≡◌, ℕ, ◌+◌, ◌-◌, ◌<◌, ◌==◌, ◌||◌, Bool, nat_eq, List, [], ◌∷◌, length, refl, ap, ap₂, sym, subst, ◌∙◌, arith}
 use Rattle.std.specs.List.{list_any}
+use Rattle.std.proofs.lemmas.Bool.Decides.{nat_tests}
 use Rattle.ripng_world.specs.Packets.{forwardings_of}
 use Rattle.ripng_world.specs.Walks.{Hop}
 use Rattle.ripng_world.proofs.PathWalked.{ends, fewer_left, goes_round, started, went_on}
 use Rattle.ripng_world.proofs.running.Running.walk.Goals as goal
+
+-- an equation of numbers may be tested either way
+either_way : (n : ℕ) (xs : List ℕ) → list_any (nat_eq n) xs ≡ list_any (λ x. x == n) xs
+either_way n [] = refl
+either_way n (x ∷ xs) = ap₂ (λ (b c : Bool). b || c) (swap n x) (either_way n xs)
+  where
+    swap : (a b : ℕ) → (a == b) ≡ (b == a)
+    swap a b = grind (arith, nat_tests)
 
 pub loop-addr-init : goal.loop-addr-init
 loop-addr-init g c = record {
@@ -20,7 +29,7 @@ pub loop-addr-preserved : goal.loop-addr-preserved
 loop-addr-preserved g c =
     record {
       walked = went_on c.args.self.now.network (forwardings_of c.args.self.now.world) c.args.addr c.args.router c.loop-addr.hops.items c.loop-addr.passed.items c.loop-addr.at c.loop-addr.invariant.walked
-          c.in-Ok.hop (sym (ap (list_any (nat_eq c.loop-addr.at)) c.deref.ensures.value) ∙ sym c.is_passed.ensures ∙ c.loop-addr-test.true) c.in-Ok.ensures.hop
+          c.in-Ok.hop (sym (ap (list_any (nat_eq c.loop-addr.at)) c.deref.ensures.value) ∙ either_way c.loop-addr.at c.deref.result.now ∙ sym c.contains.ensures.value ∙ c.loop-addr-test.true) c.in-Ok.ensures.hop
           c.push-in-Ok.new.self.items c.push.new.self.items c.hop.inside.router c.in_ok-push-in-Ok-2.ensures.items c.in_ok-push-in-Ok.ensures.items (ap (λ (h : Hop). h.router) c.hop.view_is);
     }
 
@@ -28,9 +37,9 @@ pub loop-addr-smaller : goal.loop-addr-smaller
 loop-addr-smaller g c =
     subst (λ (rs : List ℕ). length c.args.self.now.network + 1 - length rs < length c.args.self.now.network + 1 - length c.loop-addr.passed.items) (sym c.in_ok-push-in-Ok.ensures.items)
     (fewer_left c.args.self.now.network (forwardings_of c.args.self.now.world) c.args.addr c.args.router c.loop-addr.hops.items c.loop-addr.passed.items c.loop-addr.at c.loop-addr.invariant.walked
-    c.in-Ok.hop (sym (ap (list_any (nat_eq c.loop-addr.at)) c.deref.ensures.value) ∙ sym c.is_passed.ensures ∙ c.loop-addr-test.true) c.in-Ok.ensures.hop)
+    c.in-Ok.hop (sym (ap (list_any (nat_eq c.loop-addr.at)) c.deref.ensures.value) ∙ either_way c.loop-addr.at c.deref.result.now ∙ sym c.contains.ensures.value ∙ c.loop-addr-test.true) c.in-Ok.ensures.hop)
 
 pub returns : goal.returns
 returns g c =
     goes_round c.args.self.now.network (forwardings_of c.args.self.now.world) c.args.addr c.args.router c.loop-addr.hops.items c.loop-addr.passed.items c.loop-addr.at c.loop-addr.invariant.walked
-    (sym (ap (list_any (nat_eq c.loop-addr.at)) c.deref.ensures.value) ∙ sym c.is_passed.ensures ∙ c.loop-addr-test.false)
+    (sym (ap (list_any (nat_eq c.loop-addr.at)) c.deref.ensures.value) ∙ either_way c.loop-addr.at c.deref.result.now ∙ sym c.contains.ensures.value ∙ c.loop-addr-test.false)

@@ -12,7 +12,7 @@ returns-in-ExpectPath g c =
 
 pub returns-in_err-way-in-Path : goal.returns-in_err-way-in-Path
 returns-in_err-way-in-Path g c =
-    has_told g.V.Watch.starts g.V.Observer.takes g.V.Observer.fails g.V.Watch.notes c.from_residual.result (Some c.args.self.now.site, c.args.watch.now) (Some c.args.self.now.site, c.args.watch.now) (untold g.V.Watch.starts g.V.Observer.takes g.V.Observer.fails g.V.Watch.notes (Some c.args.self.now.site, c.args.watch.now))
+    has_told g.V.Watch.starts g.V.Observer.takes g.V.Observer.fails g.V.Watch.notes c.from_residual-in_err-way-in-Path.result (Some c.args.self.now.site, c.args.watch.now) (Some c.args.self.now.site, c.args.watch.now) (untold g.V.Watch.starts g.V.Observer.takes g.V.Observer.fails g.V.Watch.notes (Some c.args.self.now.site, c.args.watch.now))
 
 pub returns-in-Silent : goal.returns-in-Silent
 returns-in-Silent g c =
@@ -21,3 +21,11 @@ returns-in-Silent g c =
 pub returns-in-Cut : goal.returns-in-Cut
 returns-in-Cut g c =
     untold_as g.V.Watch.starts g.V.Observer.takes g.V.Observer.fails g.V.Watch.notes c.set_cut.result (Some c.args.self.now.site) (Some c.set_cut.new.self.site) c.args.watch.now (ap Some c.set_cut.ensures.site)
+
+pub returns-in_err-check_event-in-Step : goal.returns-in_err-check_event-in-Step
+returns-in_err-check_event-in-Step g c =
+    has_told g.V.Watch.starts g.V.Observer.takes g.V.Observer.fails g.V.Watch.notes c.from_residual.result (Some c.args.self.now.site, c.args.watch.now) (Some c.args.self.now.site, c.args.watch.now) (untold g.V.Watch.starts g.V.Observer.takes g.V.Observer.fails g.V.Watch.notes (Some c.args.self.now.site, c.args.watch.now))
+
+pub returns-in_err-bytes-in-Arrive : goal.returns-in_err-bytes-in-Arrive
+returns-in_err-bytes-in-Arrive g c =
+    has_told g.V.Watch.starts g.V.Observer.takes g.V.Observer.fails g.V.Watch.notes c.from_residual-in_err-bytes-in-Arrive.result (Some c.args.self.now.site, c.args.watch.now) (Some c.args.self.now.site, c.args.watch.now) (untold g.V.Watch.starts g.V.Observer.takes g.V.Observer.fails g.V.Watch.notes (Some c.args.self.now.site, c.args.watch.now))

@@ -1,12 +1,20 @@
-use Rattle.std.proofs.Common.{ap}
+use Rattle.std.proofs.Common.{Err, Ok, ap, ◌∙◌}
 use Rattle.ripngd_lab.specs.ScriptWatching.{lab_in}
 use Rattle.ripngd_lab.proofs.ScriptWatching.{untold_as}
 use Rattle.ripngd_lab.proofs.script.Session.obey.Goals as goal
 
+pub returns-in-Err : goal.returns-in-Err
+returns-in-Err g c =
+    untold_as g.V.Watch.starts g.V.Observer.takes g.V.Observer.fails g.V.Watch.notes (Err c.from.result) (lab_in c.args.self.now.course) (lab_in c.read.new.self.course) c.args.watch.now (ap lab_in c.read.ensures)
+
 pub returns-in-Router : goal.returns-in-Router
 returns-in-Router g c =
-    untold_as g.V.Watch.starts g.V.Observer.takes g.V.Observer.fails g.V.Watch.notes c.list.result (lab_in c.args.self.now.course) (lab_in c.list.new.self.course) c.args.watch.now (ap lab_in c.list.ensures)
+    untold_as g.V.Watch.starts g.V.Observer.takes g.V.Observer.fails g.V.Watch.notes c.list.result (lab_in c.args.self.now.course) (lab_in c.list.new.self.course) c.args.watch.now (ap lab_in (c.list.ensures ∙ c.read.ensures))
 
-pub returns-in-Await : goal.returns-in-Await
-returns-in-Await g c =
-    untold_as g.V.Watch.starts g.V.Observer.takes g.V.Observer.fails g.V.Watch.notes c.await_refusal.result (lab_in c.args.self.now.course) (lab_in c.await_refusal.new.self.course) c.args.watch.now (ap lab_in c.await_refusal.ensures)
+pub returns-in-None : goal.returns-in-None
+returns-in-None g c =
+    untold_as g.V.Watch.starts g.V.Observer.takes g.V.Observer.fails g.V.Watch.notes (Err c.from-in-None.result) (lab_in c.args.self.now.course) (lab_in c.read.new.self.course) c.args.watch.now (ap lab_in c.read.ensures)
+
+pub returns-in_err-running-in-Await : goal.returns-in_err-running-in-Await
+returns-in_err-running-in-Await g c =
+    untold_as g.V.Watch.starts g.V.Observer.takes g.V.Observer.fails g.V.Watch.notes c.from_residual.result (lab_in c.args.self.now.course) (lab_in c.read.new.self.course) c.args.watch.now (ap lab_in c.read.ensures)

@@ -1,9 +1,0 @@
-use Rattle.std.proofs.Common.{take}
-use Rattle.std.specs.Fmt.{HasWritten, IsPlainFormatter}
-use Rattle.ripngd_control.specs.Printed.{row_lines}
-use Rattle.ripngd_control.proofs.neighbors.write_rows.Given as goal
-
--- what is written is the lines of the rows so far
-abbrev pub invariant-loop-row : goal.invariant-loop-row
-invariant-loop-row g l = IsPlainFormatter l.initial.f
-    → HasWritten g.W.Write.write_str_gives l.initial.f (row_lines (take l.row-index l.rows)) l.f

@@ -1,7 +1,0 @@
-use Rattle.std.proofs.Common.{Some}
-use Rattle.ripngd_lab.proofs.ScriptWatching.{untold, has_told}
-use Rattle.ripngd_lab.proofs.course.Course.arrive.Goals as goal
-
-pub returns-in_err-bytes : goal.returns-in_err-bytes
-returns-in_err-bytes g c =
-    has_told g.V.Watch.starts g.V.Observer.takes g.V.Observer.fails g.V.Watch.notes c.from_residual.result (Some c.args.self.now.site, c.args.watch.now) (Some c.args.self.now.site, c.args.watch.now) (untold g.V.Watch.starts g.V.Observer.takes g.V.Observer.fails g.V.Watch.notes (Some c.args.self.now.site, c.args.watch.now))
