@@ -1,10 +1,11 @@
 #!/usr/bin/env bash
-# All tests of a built program, proved or not, side by side.
+# All tests of a built program, proved or not.
 #
 #     tests/all.sh [PROGRAM [ROWS]]        bin/ripngd, and bin/test_rows of crates/test_rows, if none is named
 #
-# Each suite prints what failed in it and what it had to skip; its seconds stand behind its name. What was skipped stands in the line
-# before the last; the last is `N passed, M failed`. The exit status is 0 exactly where M is 0.
+# First come the suites in which moments count, side by side, since they mostly wait. Behind them the others fill the processors, as many
+# at once as there are. Each suite prints what failed in it and what it had to skip; its seconds stand behind its name. What was skipped
+# stands in the line before the last; the last is `N passed, M failed`. The exit status is 0 exactly where M is 0.
 set -u
 
 program=$(realpath "${1:-bin/ripngd}")
@@ -13,9 +14,11 @@ cd "$(dirname "$0")/.." || exit 1
 folder=$(mktemp -d)
 trap 'rm -rf "$folder"' EXIT
 
-# The longest first. What stands behind a colon is given to the suite, too.
-suites="links.sh page.py:chromium page.py:firefox lab_file.py page.py:modules sending.py neighbors.py control.py sockets.py watching.py
-growth.py rows.py growth_of_calls.py mutated.py cases.py scripts.py paths.py hints.py"
+# What stands behind a colon is given to the suite, too. Only `links.sh` is so long that the others do not wait for it.
+moments="sending.py neighbors.py control.py sockets.py watching.py"
+# The longest first.
+others="page.py:chromium page.py:firefox page.py:modules rows.py growth.py growth_of_calls.py cases.py lab_file.py mutated.py hints.py scripts.py
+paths.py"
 
 # `arguments SUITE`: which of the two programs a suite is given, and its word.
 arguments() {
@@ -26,23 +29,33 @@ arguments() {
     esac
 }
 
-# `run SUITE`: leaves what it said, and how many seconds it took. What fills processors gives way to what looks at the clock.
+# `run SUITE`: leaves what it said, and how many seconds it took.
 run() {
-    local begun=$SECONDS gives_way=
-    [[ $1 != @(growth*|rows.py) ]] || gives_way='nice -n 10'
-    local words
+    local begun=$SECONDS words
     read -ra words <<< "$(arguments "$1")"
-    $gives_way "tests/${1%:*}" "${words[@]}" > "$folder/$1" 2>&1
+    "tests/${1%:*}" "${words[@]}" > "$folder/$1" 2>&1
     echo $((SECONDS - begun)) > "$folder/$1.seconds"
 }
 
-for suite in $suites; do
+run links.sh &
+links=$!
+first=()
+for suite in $moments; do
+    run "$suite" &
+    first+=($!)
+done
+wait "${first[@]}"
+for suite in $others; do
+    while [ "$(jobs -rp | grep -cvx $links)" -ge "$(nproc)" ]; do
+        wait -n
+    done
     run "$suite" &
 done
 wait
 
 passed=0
 failed=0
+suites="links.sh $moments $others"
 for suite in $suites; do
     echo "== $suite, $(cat "$folder/$suite.seconds") s"
     grep -v '^ok ' "$folder/$suite"

@@ -117,7 +117,9 @@ class Chromium(Browser):
                 return answer['result']
 
     def open(self, url):
+        # Until the page before is gone: else it could still answer, and keep a draft when it goes.
         self.call('Page.navigate', url='about:blank')
+        self.wait('location.href === "about:blank"')
         self.call('Page.navigate', url=url)
         self.wait('location.href !== "about:blank" && document.readyState === "complete"')
 

@@ -34,6 +34,8 @@ SHORT_PAUSE = 0.0005
 HELD = 98
 # Triggered updates of a router are up to five seconds apart (RFC 2080 section 2.5.1): after so many in which none comes, it has told all.
 QUIET = 6.0
+# Datagrams of one update, and what a router does with those that came, are never so many seconds apart.
+PAST = 0.5
 COSTS = (
     ("learned", "learned, and told for the first time, us"),
     ("refreshed", "refreshed, us"),
@@ -105,16 +107,22 @@ class Neighbor:
             self.listen()
         self.heard_at = time.monotonic()
 
-    def takes(self, datagrams, pause=PAUSE):
-        """What the daemon takes for datagrams, and for what it tells at once."""
+    def takes(self, datagrams, pause=PAUSE, quiet=QUIET):
+        """What the daemon takes for datagrams, and for what it tells until it has been quiet for so many seconds."""
         before, self.told = self.cost(), 0
         self.send(datagrams, pause)
-        self.until_quiet()
+        self.until_quiet(quiet)
         return self.cost() - before
 
-    def until_quiet(self):
-        """Waits until nothing has come for a while."""
-        while time.monotonic() < self.heard_at + QUIET:
+    def refreshes(self, datagrams, pause=PAUSE):
+        """What the daemon takes for datagrams that tell nothing new, just after one of its updates, so that no other falls into it."""
+        self.update(IN_DATAGRAM * len(datagrams))
+        took = self.takes(datagrams, pause, PAST)
+        return took if self.told == 0 else self.refreshes(datagrams, pause)
+
+    def until_quiet(self, quiet):
+        """Waits until nothing has come for so many seconds."""
+        while time.monotonic() < self.heard_at + quiet:
             time.sleep(0.01)
             self.listen()
 
@@ -127,7 +135,7 @@ class Neighbor:
                 before = self.cost()
                 time.sleep(0.02)
                 self.listen()
-            self.until_quiet()
+            self.until_quiet(PAST)
             if self.told * 100 >= routes * HELD:
                 return self.cost() - before
         raise RuntimeError(f"it tells {self.told} routes of {routes}")
@@ -140,10 +148,8 @@ def costs(neighbor, routes, is_random=False):
     empty = neighbor.memory()
     found["learned"] = neighbor.takes(datagrams) / each
     found["at_rest"] = (neighbor.memory() - empty) / routes
-    neighbor.update(routes)
-    found["refreshed"] = neighbor.takes(datagrams) / each
-    neighbor.update(routes)
-    found["refreshed_soon"] = neighbor.takes(datagrams, SHORT_PAUSE) / each
+    found["refreshed"] = neighbor.refreshes(datagrams) / each
+    found["refreshed_soon"] = neighbor.refreshes(datagrams, SHORT_PAUSE) / each
     found["told"] = neighbor.update(routes) / each
     found["after"] = (neighbor.memory() - empty) / routes
     return found
@@ -171,7 +177,7 @@ def peak(neighbor, routes):
     time.sleep(2)
     empty = neighbor.memory()
     neighbor.send(responses(routes))
-    neighbor.until_quiet()
+    neighbor.until_quiet(QUIET)
     neighbor.update(routes)
     return {"peak": (neighbor.peak() - empty) / routes}
 

@@ -206,7 +206,7 @@ def the_page(net, program):
     try:
         found = [f"RUNTIME_DIRECTORY={folder}", f"PATH={folder}:{os.environ['PATH']}"]
         here.start("companion", "env", *found, sys.executable, COMPANION, "--unproved", ROOT / "links/bird.toml")
-        until(TRIGGERED, "the route is there", lambda: set(here.routes("proto", "152")) == {"2001:db8:b::/48"})
+        until(REGULAR, "the route is there", lambda: set(here.routes("proto", "152")) == {"2001:db8:b::/48"})
     finally:
         here.do(*words, "down", check=False)
 

@@ -10,3 +10,4 @@ pub mod Outlet
 pub mod Seen
 pub mod Changing
 pub mod Runner
+pub mod Common

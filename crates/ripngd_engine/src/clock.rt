@@ -1,7 +1,6 @@
 //! The clock that an engine reads.
 
-ghost use Rattle.std.specs.Prelude.{ℕ, [], ◌∷◌, List, Option};
-ghost use Rattle.ripngd_engine.specs.Telling.{Gains};
+ghost use Rattle.ripngd_engine.specs.Common.{ℕ, [], ◌∷◌, List, Option, Gains};
 
 use route_table::Moment;
 

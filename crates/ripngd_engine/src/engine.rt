@@ -1,9 +1,6 @@
 //! The engine: a router that runs over a link, turn after turn.
 
-ghost use Rattle.std.specs.Prelude.{◌≡◌, true, false, Err, IfOk, OnErr, length};
-ghost use Rattle.router_core.specs.Changes.{forwards};
-ghost use Rattle.router_core.specs.Reconfiguring.{NamesInterface};
-ghost use Rattle.ripngd_engine.specs.Changing.{ShutsDownOnce, LinkComesUpOnce, LinkGoesDownOnce, ReconfigureAnswer, StepAnswer};
+ghost use Rattle.ripngd_engine.specs.Common.{◌≡◌, true, false, Err, IfOk, OnErr, length, forwards, NamesInterface, ShutsDownOnce, LinkComesUpOnce, LinkGoesDownOnce, ReconfigureAnswer, StepAnswer};
 
 use crate::clock::TimeSource;
 use crate::link::{Link, LinkChange};

@@ -1,7 +1,6 @@
 //! Lemmas of runs, each the contract of a function with an empty body: they follow from the definitions alone.
 
-ghost use Rattle.std.specs.Prelude.{ℕ, ◌+◌};
-ghost use Rattle.ripngd_engine.specs.Seen.{Seen, Ran};
+ghost use Rattle.ripngd_engine.specs.Common.{ℕ, ◌+◌, Seen, Ran};
 
 /// Two calls of turns, one after the other, are one run of all their turns.
 pub fn turns_go_on()

@@ -1,8 +1,6 @@
 //! The link that an engine sends and receives over.
 
-ghost use Rattle.std.specs.Prelude.{◌≡◌, ℕ, ◌<◌, ◌≤◌, [], ◌∷◌, List, Option, length, is_ok, IfOk, IfSome};
-ghost use Rattle.ripngd_engine.specs.Link.{Call, Handed, recv_call};
-ghost use Rattle.ripngd_engine.specs.Telling.{Gains};
+ghost use Rattle.ripngd_engine.specs.Common.{◌≡◌, ℕ, ◌<◌, ◌≤◌, [], ◌∷◌, List, Option, length, is_ok, IfOk, IfSome, Call, Handed, recv_call, Gains};
 
 use prefix6::Addr6;
 use router_core::Outgoing;

@@ -1,8 +1,6 @@
 //! Where the output of a router goes: datagrams to a link, changes to a forwarding table and a log.
 
-ghost use Rattle.std.specs.Prelude.{◌≡◌, is_err};
-ghost use Rattle.ripngd_engine.specs.Run.{counted};
-ghost use Rattle.ripngd_engine.specs.Outlet.{HandsOver};
+ghost use Rattle.ripngd_engine.specs.Common.{◌≡◌, is_err, counted, HandsOver};
 
 use crate::lines::write_lines;
 use crate::link::Link;

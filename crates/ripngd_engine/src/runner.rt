@@ -1,16 +1,7 @@
 //! A router that runs: the steps of one turn.
 
-ghost use Rattle.std.specs.Prelude.{◌≡◌, ◌<◌, ◌≤◌, [], ◌∷◌, false, IfOk, IfSome, is_err, length, vec_len};
-ghost use Rattle.rand_core.specs.Stream.{next_u32};
-ghost use Rattle.ripngd_engine.specs.Telling.{Gains};
-ghost use Rattle.ripngd_engine.specs.Link.{recv_call, datagram_in};
-ghost use Rattle.ripngd_engine.specs.Run.{TakesArrival, TicksOnce};
-ghost use Rattle.std.specs.Coded.{Coded-set, →_prop};
+ghost use Rattle.ripngd_engine.specs.Common.{◌≡◌, ◌<◌, ◌≤◌, [], ◌∷◌, false, IfOk, IfSome, is_err, length, vec_len, next_u32, Gains, recv_call, datagram_in, TakesArrival, TicksOnce, Coded-set, →_prop, forwards, NamesInterface, ShutsDownOnce, LinkComesUpOnce, LinkGoesDownOnce, ReconfigureAnswer, StepAnswer, NoLink, NoMemory};
 ghost use Rattle.fib.specs.contracts.fib.Fib as forwarding;
-ghost use Rattle.router_core.specs.Changes.{forwards};
-ghost use Rattle.router_core.specs.Reconfiguring.{NamesInterface};
-ghost use Rattle.ripngd_engine.specs.Changing.{ShutsDownOnce, LinkComesUpOnce, LinkGoesDownOnce, ReconfigureAnswer, StepAnswer};
-ghost use Rattle.ripngd_engine.specs.declared.runner.TurnFault.TheVariants.{NoLink, NoMemory};
 
 use crate::clock::TimeSource;
 use crate::link::{Link, LinkFault, Received};

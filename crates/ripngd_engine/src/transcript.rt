@@ -1,8 +1,6 @@
 //! The past of a run, for proofs alone: it takes no memory, and nothing is done for it at run time.
 
-ghost use Rattle.std.specs.Prelude.{◌≡◌};
-ghost use Rattle.std.specs.Borrow.{ftrue};
-ghost use Rattle.ripngd_engine.specs.Past.{Past};
+ghost use Rattle.ripngd_engine.specs.Common.{◌≡◌, ftrue, Past};
 
 use crate::link::{LinkFault, Received};
 use crate::peer::{Peer, Place};

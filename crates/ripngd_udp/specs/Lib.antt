@@ -3,3 +3,4 @@ pub mod Udp
 pub mod SendQueue
 pub mod ReceiveQueue
 pub mod Counting
+pub mod Common

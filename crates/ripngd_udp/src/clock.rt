@@ -1,7 +1,6 @@
 //! The time since a clock was made, by the system's clock.
 
-ghost use Rattle.std.specs.Prelude.{◌≡◌, ◌/◌, ◌^◌, min};
-ghost use Rattle.std.specs.Duration.{as_nanos};
+ghost use Rattle.ripngd_udp.specs.Common.{◌≡◌, ◌/◌, ◌^◌, min, as_nanos};
 
 use ripngd_engine::TimeSource;
 use route_table::Moment;

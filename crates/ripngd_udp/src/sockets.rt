@@ -1,7 +1,6 @@
 //! The sockets of all interfaces: when they are read and written, and how long a turn waits for them.
 
-ghost use Rattle.std.specs.Prelude.{◌≡◌, ◌<◌, ◌≤◌, IfOk, IfSome, length};
-ghost use Rattle.ripngd_udp.specs.Udp.{GoesOn, SendsLate};
+ghost use Rattle.ripngd_udp.specs.Common.{◌≡◌, ◌<◌, ◌≤◌, IfOk, IfSome, length, GoesOn, SendsLate};
 
 use crate::udp::Udp;
 use ripngd_engine::{LinkFault, Received, TimeSource};

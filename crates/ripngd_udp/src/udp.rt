@@ -1,11 +1,7 @@
 //! A link of UDP sockets on loopback, in place of the real links of a router: each interface has a socket at a port of 127.0.0.1,
 //! and so has each neighbor on its link.
 
-ghost use Rattle.std.specs.Prelude.{◌≡◌, ◌↔◌, IfErr, IfOk, None, OnErr, OnOk, length, map, vec_len};
-ghost use Rattle.std.specs.IoError.{error_kind};
-ghost use Rattle.std.specs.Result.{result_err};
-ghost use Rattle.ripngd_udp.specs.Peers.{ChangesLink, RefusesFor, adding_fault, removing_fault, with_peer, without_peer};
-ghost use Rattle.ripngd_udp.specs.Udp.{NamesPortOf, SendsLate, new_link};
+ghost use Rattle.ripngd_udp.specs.Common.{◌≡◌, ◌↔◌, IfErr, IfOk, None, OnErr, OnOk, length, map, vec_len, error_kind, result_err, ChangesLink, RefusesFor, adding_fault, removing_fault, with_peer, without_peer, NamesPortOf, SendsLate, new_link};
 
 use crate::clock::Uptime;
 use crate::endpoint::{Counts, Endpoint, endpoints_at};
