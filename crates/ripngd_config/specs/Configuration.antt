@@ -1,23 +1,10 @@
 -- What a configuration's text makes a router run on, and why a text is refused.
-use Rattle.std.specs.Prelude.{◌≡◌, ◌⊎◌, ℕ, Bool, List, length, map, Some, None, unwrap_or, ⊤}
-use Rattle.std.specs.Str.{IsUtf8}
-use Rattle.toml.specs.Data.{Members}
-use Rattle.toml.specs.Parse.{parse_document}
-use Rattle.rand_core.specs.Pcg32Seed.{pcg32_seed}
-use Rattle.rand_pcg.specs.Pcg.{pcg32_of_seed}
-use Rattle.prefix6.specs.Prefix.{Prefix6}
-use Rattle.router_core.specs.Config.{Config as RouterConfig, IsConfig, config, config_fault}
-use Rattle.router_core.specs.declared.config.Interface.{Interface}
+use Rattle.ripngd_config.specs.Below.{◌≡◌, ◌⊎◌, ℕ, Bool, List, length, map, Some, None, unwrap_or, ⊤, IsUtf8, Members, parse_document, pcg32_seed, pcg32_of_seed, Prefix6, Config as RouterConfig, IsConfig, config, config_fault, Interface, ConfigFault, BadToml, OutOfMemory, Router, Place, Document, PrefixTable}
 use Rattle.ripngd_config.specs.Faults.{RefusesKey, TableHas}
 use Rattle.ripngd_config.specs.Keys.{document_keys}
 use Rattle.ripngd_config.specs.Tables.{IsDocument}
 use Rattle.ripngd_config.specs.Twice.{AreAllPeersDistinct, AreGroupPortsApart, ArePortsDistinct, RefusesTwice}
 use Rattle.ripngd_config.specs.declared.configuration.Config.{Config}
-use Rattle.ripngd_config.specs.declared.fault.ConfigFault.{ConfigFault}
-use Rattle.ripngd_config.specs.declared.fault.ConfigFault.TheVariants.{BadToml, OutOfMemory, Router}
-use Rattle.ripngd_engine.specs.declared.peer.Place.{Place}
-use Rattle.ripngd_config.specs.declared.tables.Document.{Document}
-use Rattle.ripngd_config.specs.declared.tables.PrefixTable.{PrefixTable}
 
 -- the interfaces of a document, without their peers
 abbrev pub configured_interfaces : Document → List Interface

@@ -1,8 +1,5 @@
 -- The schema of a configuration: the keys of its tables, each with what it holds.
-use Rattle.std.specs.Prelude.{◌≡◌, ℕ, Bool, true, false, List, [], ◌∷◌, codes, ⊤}
-use Rattle.std.specs.List.{list_any}
-use Rattle.std.specs.Str.{bytes_eq}
-use Rattle.toml.specs.Data.{Members, member, no_members}
+use Rattle.ripngd_config.specs.Below.{◌≡◌, ℕ, Bool, true, false, List, [], ◌∷◌, codes, ⊤, list_any, bytes_eq, Members, member, no_members}
 
 -- what a key holds (a number with its least and its greatest), and the keys of a table: name, whether it is required, kind
 mutual

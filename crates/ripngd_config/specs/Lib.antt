@@ -4,3 +4,5 @@ pub mod Values
 pub mod Tables
 pub mod Twice
 pub mod Configuration
+pub mod Below
+pub mod Common

@@ -1,12 +1,7 @@
 -- What the tables of a configuration say: each value is that at its key, or the default, and there is no other key.
-use Rattle.std.specs.Prelude.{true, [], None, Some, codes}
-use Rattle.toml.specs.Data.{Members}
+use Rattle.ripngd_config.specs.Below.{true, [], None, Some, codes, Members, Peer, Document, InterfaceTable, PrefixTable}
 use Rattle.ripngd_config.specs.Keys.{HasOnly, document_keys, interface_keys, peer_keys, prefix_keys}
 use Rattle.ripngd_config.specs.Values.{AreSections, IsAddress, IsReadAt, IsNumber, IsPrefixValue, IsSomeNumber, IsTruth}
-use Rattle.ripngd_engine.specs.declared.peer.Peer.{Peer}
-use Rattle.ripngd_config.specs.declared.tables.Document.{Document}
-use Rattle.ripngd_config.specs.declared.tables.InterfaceTable.{InterfaceTable}
-use Rattle.ripngd_config.specs.declared.tables.PrefixTable.{PrefixTable}
 
 -- the table is read as this peer
 pub record IsPeer (ms : Members) (p : Peer) : Type 0 where

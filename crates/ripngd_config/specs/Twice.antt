@@ -1,11 +1,5 @@
 -- Ports and peers that stand twice.
-use Rattle.std.specs.Prelude.{◌≡◌, ◌≢◌, ◌==◌, ◌||◌, ◌⊎◌, ℕ, Bool, true, false, List, Option, All, None, Some, slice_get, take, ⊤}
-use Rattle.std.specs.List.{AllPairs, list_any}
-use Rattle.ripngd_engine.specs.Peers.{has_clash}
-use Rattle.ripngd_engine.specs.declared.peer.Peer.{Peer}
-use Rattle.ripngd_config.specs.declared.fault.ConfigFault.{ConfigFault}
-use Rattle.ripngd_config.specs.declared.fault.ConfigFault.TheVariants.{OutOfMemory, PeerTwice, PortTwice}
-use Rattle.ripngd_config.specs.declared.tables.InterfaceTable.{InterfaceTable}
+use Rattle.ripngd_config.specs.Below.{◌≡◌, ◌≢◌, ◌==◌, ◌||◌, ◌⊎◌, ℕ, Bool, true, false, List, Option, All, None, Some, slice_get, take, ⊤, AllPairs, list_any, has_clash, Peer, ConfigFault, OutOfMemory, PeerTwice, PortTwice, InterfaceTable}
 
 -- an earlier interface has the local port of this one
 abbrev pub has_port : List InterfaceTable → InterfaceTable → Bool

@@ -1,7 +1,6 @@
 //! Why a configuration is refused.
 
-ghost use Rattle.std.specs.Prelude.{◌≡◌};
-ghost use Rattle.ripngd_config.specs.declared.fault.ConfigFault.TheVariants.{OutOfMemory};
+ghost use Rattle.ripngd_config.specs.Common.{◌≡◌, OutOfMemory};
 
 use router_core::ConfigRefused;
 use std::alloc::AllocError;

@@ -1,7 +1,6 @@
 //! The tables of a configuration, each with its keys in the order in which they are read.
 
-ghost use Rattle.ripngd_config.specs.Keys.{document_keys, interface_keys, peer_keys, prefix_keys};
-ghost use Rattle.ripngd_config.specs.Tables.{IsDocument, IsInterfaceTable, IsPeer, IsPrefixTable};
+ghost use Rattle.ripngd_config.specs.Common.{document_keys, interface_keys, peer_keys, prefix_keys, IsDocument, IsInterfaceTable, IsPeer, IsPrefixTable};
 
 use crate::fault::Read;
 use crate::section::{FromSection, Section, tables_at};

@@ -1,34 +1,11 @@
 -- What a router does for a command and answers to it (the format is this project's choice).
-use Rattle.std.specs.Prelude.{ℕ, ◌≡◌, ◌≢◌, ◌≤◌, ◌-◌, ◌⊎◌, false, true, List, [], ◌∷◌, ◌++◌, Option, None, Some, Result, Ok, Err, drop, length, option_map, slice_get, take}
+use Rattle.ripngd_control.specs.Below.{ℕ, ◌≡◌, ◌≢◌, ◌≤◌, ◌-◌, ◌⊎◌, false, true, List, [], ◌∷◌, ◌++◌, Option, None, Some, Result, Ok, Err, drop, length, option_map, slice_get, take, Appends, Prefix6, Entry, IsLookedUp, IsPast, listed, Forwarding, Hop, RouteValue, Table, first_past, State, NamesInterface, Change, LinkComesUpOnce, LinkGoesDownOnce, ReconfiguresNothing, ReconfiguresOnce, ShutsDownOnce, why_refused, entry_lines, Machine, Trace, Acts, Seen, ChangeFault, Refused, Ended, Rest, RunState, Command, Counts, Losses, Neighbors, Reply}
 use Rattle.std.specs.FinMap as map_of
-use Rattle.std.specs.Io.KnownBytes.{Appends}
-use Rattle.prefix6.specs.Prefix.{Prefix6}
-use Rattle.fib.specs.Entries.{Entry, IsLookedUp, IsPast, listed}
-use Rattle.fib.specs.Forwarding.{Forwarding}
-use Rattle.fib.specs.declared.change.Hop.{Hop}
-use Rattle.route_table.specs.Route.{RouteValue}
-use Rattle.route_table.specs.Table.{Table, first_past}
-use Rattle.router_core.specs.Machine.{State}
-use Rattle.router_core.specs.Reconfiguring.{NamesInterface}
-use Rattle.router_core.specs.declared.reconfiguring.Change.{Change}
 use Rattle.router_core.specs.declared.reconfiguring.ReconfigureRefused.TheVariants as refusals
-use Rattle.ripngd_engine.specs.Changing.{LinkComesUpOnce, LinkGoesDownOnce, ReconfiguresNothing, ReconfiguresOnce, ShutsDownOnce, why_refused}
-use Rattle.ripngd_engine.specs.Log.{entry_lines}
-use Rattle.ripngd_engine.specs.Run.{Machine, Trace}
-use Rattle.ripngd_engine.specs.Seen.{Acts, Seen}
-use Rattle.ripngd_engine.specs.declared.report.ChangeFault.{ChangeFault}
-use Rattle.ripngd_engine.specs.declared.report.ChangeFault.TheVariants.{Refused, Ended}
 use Rattle.ripngd_control.specs.Printed.{counts_text, lookup_text, losses_text, neighbors_text, reply_line, status_answer, status_lines}
-use Rattle.ripngd_control.specs.declared.answering.Rest.{Rest}
 use Rattle.ripngd_control.specs.declared.answering.Rest.TheVariants as rests
-use Rattle.ripngd_control.specs.declared.answering.RunState.{RunState}
 use Rattle.ripngd_control.specs.declared.answering.RunState.TheVariants as states
-use Rattle.ripngd_control.specs.declared.command.Command.{Command}
 use Rattle.ripngd_control.specs.declared.command.Command.TheVariants as commands
-use Rattle.ripngd_control.specs.declared.counts.Counts.{Counts}
-use Rattle.ripngd_control.specs.declared.counts.Losses.{Losses}
-use Rattle.ripngd_control.specs.declared.neighbors.Neighbors.{Neighbors}
-use Rattle.ripngd_control.specs.declared.reply.Reply.{Reply}
 use Rattle.ripngd_control.specs.declared.reply.Reply.TheVariants as replies
 
 -- ---- lines of routes, and of a forwarding table

@@ -1,12 +1,7 @@
 -- The clients of a running router: who may connect, what is received from one and sent to it, and what they make of the router.
-use Rattle.std.specs.Prelude.{◌≡◌, ◌≤◌, ◌/◌, ◌%◌, ◌⊎◌, ℕ, List, [], ◌∷◌, ◌++◌, Option, None, Some, length, take, drop}
-use Rattle.std.specs.Io.KnownBytes.{Appends, Consumes}
-use Rattle.ripngd_engine.specs.Log.{HasNoLineFeed}
-use Rattle.ripngd_engine.specs.Seen.{Seen}
+use Rattle.ripngd_control.specs.Below.{◌≡◌, ◌≤◌, ◌/◌, ◌%◌, ◌⊎◌, ℕ, List, [], ◌∷◌, ◌++◌, Option, None, Some, length, take, drop, Appends, Consumes, HasNoLineFeed, Seen, Command, Reply}
 use Rattle.ripngd_control.specs.Answers.{Obeys}
 use Rattle.ripngd_control.specs.Commands.{control_text}
-use Rattle.ripngd_control.specs.declared.command.Command.{Command}
-use Rattle.ripngd_control.specs.declared.reply.Reply.{Reply}
 
 -- whoever may write a socket's file may connect. Of its mode: neither its group nor others may
 pub record IsPrivate (mode : ℕ) : Type 0 where

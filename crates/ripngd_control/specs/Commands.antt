@@ -1,10 +1,5 @@
 -- The lines of commands (the format is this project's choice).
-use Rattle.std.specs.Prelude.{ℕ, Bool, List, ◌++◌, ◌==◌, ◌||◌, codes, decimal}
-use Rattle.std.specs.List.{list_any}
-use Rattle.prefix6.specs.Written.{written_addr, written_prefix}
-use Rattle.router_core.specs.declared.reconfiguring.Change.TheVariants.{Cost, Own, Disown}
-use Rattle.ripngd_control.specs.declared.command.PeerChange.TheVariants.{Add, Remove}
-use Rattle.ripngd_control.specs.declared.command.Command.{Command}
+use Rattle.ripngd_control.specs.Below.{ℕ, Bool, List, ◌++◌, ◌==◌, ◌||◌, codes, decimal, list_any, written_addr, written_prefix, Cost, Own, Disown, Add, Remove, Command}
 use Rattle.ripngd_control.specs.declared.command.Command.TheVariants as commands
 
 -- a command, without its line feed

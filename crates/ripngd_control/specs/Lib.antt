@@ -3,3 +3,5 @@ pub mod Printed
 pub mod Watching
 pub mod Answers
 pub mod Clients
+pub mod Below
+pub mod Common

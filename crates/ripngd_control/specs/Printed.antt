@@ -1,35 +1,7 @@
 -- What is printed of what is refused, counted, lost and answered (the format is this project's choice).
-use Rattle.std.specs.Prelude.{ℕ, ◌-◌, ◌==◌, List, [], ◌∷◌, ◌++◌, Option, None, Some, codes, decimal, flat_map, if◌then◌else◌, slice_index_or}
-use Rattle.std.specs.List.{enumerate_from}
-use Rattle.prefix6.specs.Prefix.{Prefix6}
-use Rattle.prefix6.specs.Written.{written_addr, written_prefix}
-use Rattle.fib.specs.Entries.{Entry as FibEntry}
-use Rattle.ripng_wire.specs.declared.error.WireError.TheVariants.{Short, TooLong, Ragged, BadCommand, BadVersion, NotZero}
-use Rattle.route_table.specs.Route.{RouteValue}
-use Rattle.route_table.specs.declared.route.Clock.{Clock}
-use Rattle.route_table.specs.declared.route.Clock.TheVariants.{Fixed, Live, Dying}
-use Rattle.route_table.specs.declared.route.Origin.{Origin}
-use Rattle.route_table.specs.declared.route.Origin.TheVariants.{Own, Learned}
-use Rattle.router_core.specs.Faults.{fault_number, fault_text}
-use Rattle.router_core.specs.Offers.{note_number, note_text}
-use Rattle.router_core.specs.Reconfiguring.{reconfigure_text}
-use Rattle.router_core.specs.declared.answer.Note.{Note}
-use Rattle.router_core.specs.declared.answer.NoteKind.TheVariants.{BadLength, BadPrefix, BadMetric, TableFull, NoMemory}
-use Rattle.router_core.specs.declared.arrival.Fault.{Fault}
-use Rattle.router_core.specs.declared.config.Interface.{Interface}
-use Rattle.router_core.specs.declared.arrival.Fault.TheVariants.{Wire, NotRipngPort, NotLinkLocal, OwnAddress, HopLimit, EmptyRequest, BadSource}
-use Rattle.ripngd_engine.specs.Log.{route_text}
-use Rattle.ripngd_engine.specs.Observer.{LinkReport, Processed, Sent}
-use Rattle.ripngd_engine.specs.declared.observer.Arrived.{Arrived}
-use Rattle.ripngd_control.specs.declared.counts.Counts.{Counts}
-use Rattle.ripngd_control.specs.declared.counts.Losses.{Losses}
-use Rattle.ripngd_control.specs.declared.neighbors.Neighbor.{Neighbor}
-use Rattle.ripngd_control.specs.declared.neighbors.Neighbors.{Neighbors}
-use Rattle.ripngd_control.specs.declared.neighbors.Tally.{Tally}
-use Rattle.ripngd_control.specs.declared.refusals.Refusal.{Refusal}
-use Rattle.ripngd_control.specs.declared.refusals.Refusal.TheVariants.{Arrival, Entry}
-use Rattle.ripngd_control.specs.declared.refusals.Refusals.{Refusals}
-use Rattle.ripngd_control.specs.declared.reply.Reply.{Reply}
+use Rattle.ripngd_control.specs.Below.{ℕ, ◌-◌, ◌==◌, List, [], ◌∷◌, ◌++◌, Option, None, Some, codes, decimal, flat_map, if◌then◌else◌, slice_index_or, enumerate_from, Prefix6, written_addr, written_prefix, Entry as FibEntry, Short, TooLong, Ragged, BadCommand, BadVersion, NotZero, RouteValue, Clock, Fixed, Live, Dying, Origin, Learned, fault_number, fault_text, note_number, note_text, reconfigure_text, Note, BadLength, BadPrefix, BadMetric, TableFull, NoMemory, Fault, Interface, Wire, NotRipngPort, NotLinkLocal, OwnAddress, HopLimit, EmptyRequest, BadSource, route_text, LinkReport, Processed, Sent, Arrived, Counts, Losses, Neighbor, Neighbors, Tally, Refusal, Arrival, Refusals, Reply}
+use Rattle.route_table.specs.declared.route.Origin.TheVariants.{Own}
+use Rattle.ripngd_control.specs.declared.refusals.Refusal.TheVariants.{Entry}
 use Rattle.ripngd_control.specs.declared.reply.Reply.TheVariants as replies
 
 -- ---- line by line

@@ -1,22 +1,6 @@
 -- What the monitor of a run makes of reports: what is counted, in all and by sender, and which lines are written.
-use Rattle.std.specs.Prelude.{ℕ, ◌≡◌, ◌<◌, ◌+◌, ◌-◌, ◌/◌, ◌==◌, ◌&&◌, ◌⊎◌, Bool, true, false, List, [], ◌∷◌, ◌++◌, Option, None, Some, if◌then◌else◌, length, nat_lt, replicate, slice_get, slice_index_or, slice_set, vec_capacity}
-use Rattle.std.specs.Io.KnownBytes.{Appends}
-use Rattle.std.specs.List.{count_by, position_or_len}
-use Rattle.ripng_wire.specs.Wire.{is_response}
-use Rattle.router_core.specs.Faults.{fault_number}
-use Rattle.router_core.specs.Offers.{note_number}
-use Rattle.router_core.specs.declared.answer.Note.{Note}
-use Rattle.router_core.specs.declared.arrival.Fault.{Fault}
-use Rattle.ripngd_engine.specs.Run.{counted}
-use Rattle.ripngd_engine.specs.Observer.{LinkReport, Processed, Sent}
-use Rattle.ripngd_engine.specs.declared.observer.Arrived.{Arrived}
+use Rattle.ripngd_control.specs.Below.{ℕ, ◌≡◌, ◌<◌, ◌+◌, ◌-◌, ◌/◌, ◌==◌, ◌&&◌, ◌⊎◌, Bool, true, false, List, [], ◌∷◌, ◌++◌, Option, None, Some, if◌then◌else◌, length, nat_lt, replicate, slice_get, slice_index_or, slice_set, vec_capacity, Appends, count_by, position_or_len, is_response, fault_number, note_number, Note, Fault, counted, LinkReport, Processed, Sent, Arrived, Counts, Monitor, Neighbor, Neighbors, Refusals, Tally}
 use Rattle.ripngd_control.specs.Printed.{lines_of}
-use Rattle.ripngd_control.specs.declared.counts.Counts.{Counts}
-use Rattle.ripngd_control.specs.declared.monitor.Monitor.{Monitor}
-use Rattle.ripngd_control.specs.declared.neighbors.Neighbor.{Neighbor}
-use Rattle.ripngd_control.specs.declared.neighbors.Neighbors.{Neighbors}
-use Rattle.ripngd_control.specs.declared.refusals.Refusals.{Refusals}
-use Rattle.ripngd_control.specs.declared.neighbors.Tally.{Tally}
 
 -- ---- what is counted of a report
 -- f of an arrival's fault and notes, and 0 for what was sent

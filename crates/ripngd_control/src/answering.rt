@@ -1,15 +1,7 @@
 //! What a running router does for a command, and its answer: at once, or in pieces.
 
-ghost use Rattle.std.specs.Prelude.{◌≡◌, ◌≢◌, ◌↔◌, ◌⊎◌, ◌++◌, ◌∷◌, IsOk, IsTrue, OnOk, Option, Some, false};
+ghost use Rattle.ripngd_control.specs.Common.{◌≡◌, ◌≢◌, ◌↔◌, ◌⊎◌, ◌++◌, ◌∷◌, IsOk, IsTrue, OnOk, Option, Some, false, Appends, enumerate_from, NamesInterface, seen, Entry, IsLookedUp, AnswersCommand, Continues, GainsLines, Obeys, step_reply, interface_lines, lookup_text, reply_line, status_answer, PeerChange};
 ghost use Rattle.std.specs.FinMap as map_of;
-ghost use Rattle.std.specs.Io.KnownBytes.{Appends};
-ghost use Rattle.std.specs.List.{enumerate_from};
-ghost use Rattle.router_core.specs.Reconfiguring.{NamesInterface};
-ghost use Rattle.ripngd_engine.specs.Seen.{seen};
-ghost use Rattle.fib.specs.Entries.{Entry, IsLookedUp};
-ghost use Rattle.ripngd_control.specs.Answers.{AnswersCommand, Continues, GainsLines, Obeys, step_reply};
-ghost use Rattle.ripngd_control.specs.Printed.{interface_lines, lookup_text, reply_line, status_answer};
-ghost use Rattle.ripngd_control.specs.declared.command.PeerChange.{PeerChange};
 
 use crate::command::{Command, Destination};
 use crate::counts::Losses;
@@ -83,8 +75,8 @@ fn write_lookup<W: Write>(fib: &Fib, destination: Destination, out: &mut W) -> R
     }
 }
 
-/// Writes `interface I address ADDR cost C mtu M` for each interface, `now MS routes N` with the moment of the last step and the number of entries of the forwarding
-/// table, the counts, what was lost, the neighbors, and `ok`.
+/// Writes `interface I address ADDR cost C mtu M` for each interface, `now MS routes N` with the moment of the last step and the number
+/// of entries of the forwarding table, the counts, what was lost, the neighbors, and `ok`.
 fn write_status<S: RouteStore, E, W: Write>(
     router: &Router<S>,
     fib: &Fib,

@@ -1,7 +1,6 @@
 //! The control socket and its file: how it is made, who may connect, and how it is removed.
 
-ghost use Rattle.std.specs.Prelude.{◌↔◌, IsTrue};
-ghost use Rattle.ripngd_control.specs.Clients.{IsPrivate};
+ghost use Rattle.ripngd_control.specs.Common.{◌↔◌, IsTrue, IsPrivate};
 
 use std::fs::{self, Metadata};
 use std::io::ErrorKind;

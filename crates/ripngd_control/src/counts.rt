@@ -1,12 +1,6 @@
 //! The counts of a router's datagrams, and of what was lost.
 
-ghost use Rattle.std.specs.Prelude.{◌≡◌, ◌∷◌, [], ℕ, List, Some};
-ghost use Rattle.router_core.specs.declared.answer.Outgoing.{Outgoing};
-ghost use Rattle.ripngd_engine.specs.Observer.{Processed, LinkReport, Sent, WasTold};
-ghost use Rattle.ripngd_engine.specs.declared.observer.Arrived.{Arrived};
-ghost use Rattle.ripngd_control.specs.Printed.{counts_text, losses_text};
-ghost use Rattle.ripngd_control.specs.Watching.{Counted, no_counts};
-ghost use Rattle.ripngd_control.specs.declared.counts.Counts.{Counts};
+ghost use Rattle.ripngd_control.specs.Common.{◌≡◌, ◌∷◌, [], ℕ, List, Some, Outgoing, Processed, LinkReport, Sent, WasTold, Arrived, counts_text, losses_text, Counted, no_counts, Counts};
 
 use crate::refusals::Refusals;
 use ripngd_engine::Report;

@@ -1,8 +1,6 @@
 //! The lines of routes and of a forwarding table, a piece at a time, so that a long answer never holds the router up.
 
-ghost use Rattle.std.specs.Prelude.{IfOk, Some};
-ghost use Rattle.ripngd_control.specs.Answers.{ShowsEntries, ShowsRoutes};
-ghost use Rattle.ripngd_control.specs.Printed.{clock_text, origin_text, status_text};
+ghost use Rattle.ripngd_control.specs.Common.{IfOk, Some, ShowsEntries, ShowsRoutes, clock_text, origin_text, status_text};
 
 use fib::Fib;
 use prefix6::Prefix;

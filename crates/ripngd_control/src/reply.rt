@@ -1,8 +1,6 @@
 //! The last line of an answer, and the changes of a link's peers.
 
-ghost use Rattle.std.specs.Prelude.{◌≡◌, Some};
-ghost use Rattle.ripngd_control.specs.Printed.{reply_text};
-ghost use Rattle.ripngd_control.specs.declared.reply.Reply.{Reply};
+ghost use Rattle.ripngd_control.specs.Common.{◌≡◌, Some, reply_text, Reply};
 
 use crate::command::PeerChange;
 use router_core::ReconfigureRefused;
