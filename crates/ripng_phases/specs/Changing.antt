@@ -1,13 +1,7 @@
 -- Which of several phases was the last in which some table changed.
-use Rattle.std.specs.Prelude.{◌≡◌, ◌≢◌, ℕ, suc, zero, ◌<◌, Bool, if◌then◌else◌, List, [], ◌++◌, map, take, length, Option, Some, None, slice_get}
+use Rattle.ripng_phases.specs.Below.{◌≡◌, ◌≢◌, ℕ, suc, zero, ◌<◌, Bool, if◌then◌else◌, List, [], ◌++◌, map, take, length, Option, Some, None, slice_get, Prefix6, RouteValue, State, Network, World, ShownRoute}
 use Rattle.std.specs.FinMap as map_of
-use Rattle.prefix6.specs.Prefix.{Prefix6}
-use Rattle.route_table.specs.Route.{RouteValue}
-use Rattle.router_core.specs.Machine.{State}
-use Rattle.ripng_world.specs.Network.{Network}
-use Rattle.ripng_world.specs.World.{World}
 use Rattle.ripng_phases.specs.Phases.{Step, reached, steps_of}
-use Rattle.ripng_phases.specs.declared.shown.ShownRoute.{ShownRoute}
 
 -- what is shown of a route of a router: all but its clock and its route change flag
 abbrev pub shown_route : ℕ → Prefix6 × RouteValue → ShownRoute

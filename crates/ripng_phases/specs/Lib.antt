@@ -1,5 +1,7 @@
+pub mod Below
 pub mod Changing
 pub mod Phases
 pub mod Minutes
 pub mod Refusing
 pub mod Making
+pub mod Common

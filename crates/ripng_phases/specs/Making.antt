@@ -1,25 +1,7 @@
 -- Phases as a lab makes them. Each is one minute by a true clock, in which datagrams are handed on in the order in which they were sent.
-use Rattle.std.specs.Prelude.{◌≡◌, ◌≢◌, ℕ, ◌+◌, ◌*◌, ◌^◌, ◌<◌, ◌≤◌, ⊤, ◌⊎◌, Bool, IsTrue, List, [], ◌∷◌, ◌++◌, length, All, Contains, Option, Some, Result, Ok, Err, slice_get}
-use Rattle.std.specs.List.{AllByRecursion}
-use Rattle.router_core.specs.Machine.{State}
-use Rattle.router_core.specs.declared.answer.NoteKind.TheVariants.{NoMemory}
-use Rattle.ripng_world.specs.Convergence.{IsNeverQuiet}
-use Rattle.ripng_world.specs.Healing.{network_now, FitsTablesSince, AreHealed}
-use Rattle.ripng_world.specs.Labs.{LabValue}
-use Rattle.ripng_world.specs.Network.{Network, AreLinked}
-use Rattle.ripng_world.specs.Packets.{PacketsArrive}
-use Rattle.ripng_world.specs.Rounds.{IsDueTick, moment_of}
-use Rattle.ripng_world.specs.Watching.{Told, EndsAt, IfRefused, telling}
-use Rattle.ripng_world.specs.World.{World, Event, Deliver, Tick, Happens, past_of}
-use Rattle.ripng_world.specs.declared.sent.Sent.{Sent}
-use Rattle.ripng_world.specs.declared.watch.Stopped.{Stopped}
-use Rattle.ripng_world.specs.declared.watch.Stopped.TheVariants.{Refused}
+use Rattle.ripng_phases.specs.Below.{◌≡◌, ◌≢◌, ℕ, ◌+◌, ◌*◌, ◌^◌, ◌<◌, ◌≤◌, ⊤, ◌⊎◌, Bool, IsTrue, List, [], ◌∷◌, ◌++◌, length, All, Contains, Option, Some, Result, Ok, Err, slice_get, AllByRecursion, State, NoMemory, IsNeverQuiet, network_now, FitsTablesSince, AreHealed, LabValue, Network, AreLinked, PacketsArrive, IsDueTick, moment_of, Told, EndsAt, IfRefused, telling, World, Event, Deliver, Tick, Happens, past_of, Sent, Stopped, Refused, Course, Update, PhaseRefused, NoUpdateInTime, PastLastMoment, OutOfMemory}
 use Rattle.ripng_phases.specs.Changing.{IsLastChange}
 use Rattle.ripng_phases.specs.Phases.{Step, IsOrdinary, IsHeardUpdate, Phases, Begun, events_of, reached, steps_of}
-use Rattle.ripng_phases.specs.declared.course.Course.{Course}
-use Rattle.ripng_phases.specs.declared.course.Update.{Update}
-use Rattle.ripng_phases.specs.declared.refused.PhaseRefused.{PhaseRefused}
-use Rattle.ripng_phases.specs.declared.refused.PhaseRefused.TheVariants.{NoUpdateInTime, PastLastMoment, OutOfMemory}
 
 -- ---- notices of steps
 

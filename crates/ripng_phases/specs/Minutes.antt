@@ -1,10 +1,6 @@
 -- Histories by one true clock, in milliseconds, which no router sees: links keep order, lose no regular update, and take less than 15
 -- seconds. Cut at each full minute they are phases.
-use Rattle.std.specs.Prelude.{◌≡◌, ◌≢◌, ℕ, ◌+◌, ◌-◌, ◌<◌, ◌≤◌, ◌⊎◌, List, [], ◌∷◌, ◌++◌, map, length, All, Contains, Some, slice_get}
-use Rattle.ripng_world.specs.Network.{Network, AreLinked}
-use Rattle.ripng_world.specs.Rounds.{IsDueTick, moment_of, router_of}
-use Rattle.ripng_world.specs.World.{World, Deliver, Tick}
-use Rattle.ripng_world.specs.declared.sent.Sent.{Sent}
+use Rattle.ripng_phases.specs.Below.{◌≡◌, ◌≢◌, ℕ, ◌+◌, ◌-◌, ◌<◌, ◌≤◌, ◌⊎◌, List, [], ◌∷◌, ◌++◌, map, length, All, Contains, Some, slice_get, Network, AreLinked, IsDueTick, moment_of, router_of, World, Deliver, Tick, Sent}
 use Rattle.ripng_phases.specs.Phases.{Step, Takes, IsCount, IsOvertaken, reached}
 
 -- a step, and when it happens

@@ -1,12 +1,5 @@
 -- Phases: stretches of a network's history in which all that matters gets through once, with no rounds and no common clock.
-use Rattle.std.specs.Prelude.{◌≡◌, ◌≢◌, ℕ, ◌+◌, ◌<◌, ◌≤◌, ◌⊎◌, List, [], ◌∷◌, ◌++◌, map, length, flat_map, All, Contains, Some, slice_get}
-use Rattle.router_core.specs.Timers.{garbage_time}
-use Rattle.router_core.specs.declared.answer.Answer.{Answer}
-use Rattle.router_core.specs.declared.answer.NoteKind.TheVariants.{NoMemory}
-use Rattle.ripng_world.specs.Network.{Network, AreLinked}
-use Rattle.ripng_world.specs.World.{World, Event, Deliver, Tick, Restart, Shutdown, LinkDown, LinkUp, Reconfigure, Happens}
-use Rattle.ripng_world.specs.Rounds.{Round, IsDueTick, IsMomentOf, moment_of, router_of}
-use Rattle.ripng_world.specs.declared.sent.Sent.{Sent}
+use Rattle.ripng_phases.specs.Below.{◌≡◌, ◌≢◌, ℕ, ◌+◌, ◌<◌, ◌≤◌, ◌⊎◌, List, [], ◌∷◌, ◌++◌, map, length, flat_map, All, Contains, Some, slice_get, garbage_time, Answer, NoMemory, Network, AreLinked, World, Event, Deliver, Tick, Restart, Shutdown, LinkDown, LinkUp, Reconfigure, Happens, Round, IsDueTick, IsMomentOf, moment_of, router_of, Sent}
 
 -- ---- what happens in a phase
 

@@ -1,7 +1,5 @@
 -- The refusals of phases.
-use Rattle.std.specs.Prelude.{ℕ, List, codes}
-use Rattle.ripng_phases.specs.declared.refused.PhaseRefused.{PhaseRefused}
-use Rattle.ripng_phases.specs.declared.refused.PhaseRefused.TheVariants.{NoUpdateInTime, PastLastMoment, OutOfMemory}
+use Rattle.ripng_phases.specs.Below.{ℕ, List, codes, PhaseRefused, NoUpdateInTime, PastLastMoment, OutOfMemory}
 
 -- the number of a refusal
 abbrev pub refused_number : PhaseRefused → ℕ

@@ -1,18 +1,12 @@
 //! The actions of a phase: a router ticks, and a datagram comes to its receivers.
 
-ghost use Rattle.std.specs.Prelude.{◌≡◌, ℕ, ◌<◌, ◌+◌, ◌^◌, ◌∷◌, [], IfErr, OnOk, Some, length, slice_get};
-ghost use Rattle.ripng_world.specs.Events.{event_of};
-ghost use Rattle.ripng_world.specs.Rounds.{IsDueTick};
-ghost use Rattle.ripng_world.specs.Watching.{IfRefused, WatchedRun, heard};
-ghost use Rattle.ripng_world.specs.World.{Tick};
-ghost use Rattle.ripng_phases.specs.Making.{GoesOn, IsHanded, IsHandedInPart, IsLast};
-ghost use Rattle.ripng_phases.specs.declared.course.Update.{Update as UpdateValue};
+ghost use Rattle.ripng_phases.specs.Common.{◌≡◌, ℕ, ◌<◌, ◌+◌, ◌^◌, ◌∷◌, [], IfErr, OnOk, Some, length, slice_get, event_of, IsDueTick, IfRefused, WatchedRun, heard, Tick, GoesOn, IsLast, Update as UpdateValue};
 
 use crate::course::{Course, Update};
 use crate::refused::PhaseRefused;
 use rand_core::Rng;
 use ripng_world::{Event, Lab, Observer, Stopped, wants_memory};
-use route_table::{Moment, RouteStore};
+use route_table::RouteStore;
 
 /// An event happens, and the observer is notified of it.
 fn happen<S: RouteStore, V: Observer<S>>(
@@ -63,37 +57,8 @@ pub fn tick<S: RouteStore, V: Observer<S>>(
     Ok(())
 }
 
-/// A datagram comes to these interfaces, each given after its router. Unless it is kept, each of them may lose it.
-fn hand<S: RouteStore, V: Observer<S>, R: Rng>(
-    lab: &mut Lab<S>,
-    datagram: usize,
-    now: Moment,
-    receivers: &[(usize, usize)],
-    keeps: bool,
-    rng: &mut R,
-    watch: &mut V,
-) -> Result<(), Stopped<PhaseRefused, V::Fault>>
-    ensures network { lab.new.network ≡ lab.old.network }
-    ensures handed { OnOk result (IsHanded V.takes lab.old.network (lab.old.world, watch.old) datagram now keeps receivers.now (lab.new.world, watch.new)) }
-    ensures stopped { IfErr result (λ why. IsHandedInPart V.takes V.fails lab.old.network (lab.old.world, watch.old) datagram now why (lab.new.world, watch.new)) }
-{
-    for &(router, iface) in receivers {
-        // One in four is lost.
-        if !keeps && rng.next_u32() % 4 == 0 {
-            continue;
-        }
-        let delivery = Event::Deliver {
-            datagram,
-            router,
-            iface,
-            now,
-        };
-        happen(lab, &delivery, watch)?;
-    }
-    Ok(())
-}
-
-/// The next datagram comes to each other interface of its link. It may be lost, unless it is of a regular update of this phase.
+/// The next datagram comes to each other interface of its link. Unless it is of a regular update of this phase, each of them may
+/// lose it.
 pub fn hand_on<S: RouteStore, V: Observer<S>, R: Rng>(
     lab: &mut Lab<S>,
     course: &mut Course,
@@ -109,12 +74,25 @@ pub fn hand_on<S: RouteStore, V: Observer<S>, R: Rng>(
     ensures told { course.new.told.items ≡ course.old.told.items }
 {
     let datagram = course.next;
+    let now = course.moment;
     let keeps = course.keeps(datagram);
     let receivers = match lab.receivers(&lab.sent()[datagram]) {
         Ok(receivers) => receivers,
         Err(_) => return Err(Stopped::Refused(PhaseRefused::OutOfMemory)),
     };
-    hand(lab, datagram, course.moment, &receivers, keeps, rng, watch)?;
+    for &(router, iface) in &receivers {
+        // One in four is lost.
+        if !keeps && rng.next_u32() % 4 == 0 {
+            continue;
+        }
+        let delivery = Event::Deliver {
+            datagram,
+            router,
+            iface,
+            now,
+        };
+        happen(lab, &delivery, watch)?;
+    }
     course.next += 1;
     Ok(())
 }

@@ -1,8 +1,6 @@
 //! How far a phase has come: its clock, which datagrams were handed on, and which regular updates were sent.
 
-ghost use Rattle.std.specs.Prelude.{◌≡◌, ◌≤◌, ◌<◌, IsTrue, Some, slice_get};
-ghost use Rattle.ripng_phases.specs.Making.{IsAdded, IsKept};
-ghost use Rattle.ripng_phases.specs.declared.course.Update.{Update as UpdateValue};
+ghost use Rattle.ripng_phases.specs.Common.{◌≡◌, ◌≤◌, ◌<◌, IsTrue, Some, slice_get, IsAdded, IsKept, Update as UpdateValue};
 
 use route_table::Moment;
 

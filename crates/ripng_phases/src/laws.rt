@@ -1,18 +1,6 @@
 //! Laws of phases. Each is the contract of an empty function: it follows from the definitions alone.
 
-ghost use Rattle.std.specs.Prelude.{◌≡◌, ℕ, ◌+◌, ◌*◌, ◌<◌, ◌≤◌, List, ◌++◌, length, All, Some, slice_get};
-ghost use Rattle.std.specs.List.{AllByRecursion};
-ghost use Rattle.router_core.specs.Machine.{State};
-ghost use Rattle.ripng_world.specs.Convergence.{IsNeverQuiet};
-ghost use Rattle.ripng_world.specs.Healing.{network_now, FitsTablesSince, AreHealed};
-ghost use Rattle.ripng_world.specs.Network.{Network, IsNetwork, OwnsPrefixes};
-ghost use Rattle.ripng_world.specs.Packets.{PacketsArrive};
-ghost use Rattle.ripng_world.specs.Past.{IsTableBackedSince};
-ghost use Rattle.ripng_world.specs.Rounds.{Round, SynchronousRounds};
-ghost use Rattle.ripng_world.specs.TruthSince.{IsSoundDatagramSince};
-ghost use Rattle.ripng_world.specs.World.{World, Event, IsCold, WorldRun, past_of};
-ghost use Rattle.ripng_phases.specs.Minutes.{Timed, AreFrom, IsTimely, untimed};
-ghost use Rattle.ripng_phases.specs.Phases.{Step, Begun, Phases, AreClose, ArePhases, steps_of, events_of, reached};
+ghost use Rattle.ripng_phases.specs.Common.{◌≡◌, ℕ, ◌+◌, ◌*◌, ◌<◌, ◌≤◌, List, ◌++◌, length, All, Some, slice_get, AllByRecursion, State, IsNeverQuiet, network_now, FitsTablesSince, AreHealed, Network, IsNetwork, OwnsPrefixes, PacketsArrive, IsTableBackedSince, Round, SynchronousRounds, IsSoundDatagramSince, World, Event, IsCold, WorldRun, past_of, Timed, AreFrom, IsTimely, untimed, Step, Begun, Phases, AreClose, ArePhases, steps_of, events_of, reached};
 
 /// Phases are a run of exactly their events.
 pub fn phases_are_run()

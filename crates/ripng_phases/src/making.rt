@@ -5,11 +5,7 @@
 //! Then each router that has not sent its regular update sends it, and all datagrams up to the last of these are handed on. What
 //! is left comes in the next phase.
 
-ghost use Rattle.std.specs.Prelude.{◌≡◌, ◌↔◌, ℕ, ◌+◌, ◌^◌, ◌<◌, ◌≤◌, ◌⊎◌, max, IfErr, IfOk, IfSome, IsTrue, OnOk, None, Some, length, slice_get};
-ghost use Rattle.router_core.specs.Machine.{State};
-ghost use Rattle.ripng_phases.specs.Changing.{shown_in};
-ghost use Rattle.ripng_phases.specs.Making.{AreMadeInPart, AreMadePhases, GoesOn, HealsIn, IsCutShort, IsFresh, IsLatest, IsMadePhase, LetsArriveIn, MakesPhase};
-ghost use Rattle.ripng_phases.specs.declared.course.Update.{Update as UpdateValue};
+ghost use Rattle.ripng_phases.specs.Common.{◌≡◌, ◌↔◌, ℕ, ◌+◌, ◌^◌, ◌<◌, ◌≤◌, ◌⊎◌, max, IfErr, IfOk, IfSome, IsTrue, OnOk, None, Some, length, slice_get, State, shown_in, AreMadeInPart, AreMadePhases, GoesOn, HealsIn, IsCutShort, IsFresh, IsLatest, IsMadePhase, LetsArriveIn, MakesPhase, Update as UpdateValue};
 
 use crate::acting::{hand_on, tick};
 use crate::course::{Course, PHASE_MS};
@@ -140,7 +136,6 @@ fn make_phase<S: RouteStore, V: Observer<S>, R: Rng>(
     watch: &mut V,
 ) -> Result<usize, Stopped<PhaseRefused, V::Fault>>
     requires { first ≤ length lab.old.world.sent }
-    ensures network { lab.new.network ≡ lab.old.network }
     ensures made { MakesPhase V.takes V.fails result (lab.old, watch.old) first begin (lab.new, watch.new) }
     ensures in_time { OnOk result (begin ≤ 2 ^ 60) }
 {
@@ -168,7 +163,6 @@ fn compare_phase<S: RouteStore, V: Observer<S>, R: Rng>(
     watch: &mut V,
 ) -> Result<(usize, bool), Stopped<PhaseRefused, V::Fault>>
     requires { first ≤ length lab.old.world.sent }
-    ensures network { lab.new.network ≡ lab.old.network }
     ensures made { IfOk result (λ r. IsMadePhase V.takes (lab.old, watch.old) first begin r.0 (lab.new, watch.new)) }
     ensures stopped { IfErr result (λ why. IsCutShort V.takes V.fails (lab.old, watch.old) first begin why (lab.new, watch.new)) }
     ensures in_time { OnOk result (begin ≤ 2 ^ 60) }

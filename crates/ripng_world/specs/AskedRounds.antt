@@ -1,14 +1,11 @@
 -- Rounds that a caller asks for, and the events that they make.
-use Rattle.std.specs.Prelude.{◌≡◌, ℕ, ◌%◌, ◌==◌, ◌≤◌, not, Bool, ◌&&◌, List, [], ◌∷◌, ◌++◌, map, drop, length, filter, filter_map, flat_map, option_map, slice_get}
-use Rattle.std.specs.List.{enumerate_from, list_any, range_with_len}
+use Rattle.ripng_world.specs.Below.{◌≡◌, ℕ, ◌%◌, ◌==◌, ◌≤◌, not, Bool, ◌&&◌, List, [], ◌∷◌, ◌++◌, map, drop, length, filter, filter_map, flat_map, option_map, slice_get, enumerate_from, list_any, range_with_len, Pair, Sent}
 use Rattle.ripng_world.specs.Asked.{Asked}
 use Rattle.ripng_world.specs.Convergence.{IsNeverQuiet, FitsTables, AreConverged, HaveSettled}
 use Rattle.ripng_world.specs.Labs.{is_one_link, link_at}
 use Rattle.ripng_world.specs.Network.{Network}
 use Rattle.ripng_world.specs.Rounds.{Round, AllTick, AllHeard, SynchronousRounds, AreWithinTimeout, events_of_rounds}
 use Rattle.ripng_world.specs.World.{World, Event, Deliver, Tick, WorldRun, IsCold}
-use Rattle.ripng_world.specs.declared.pairs.Pair.{Pair}
-use Rattle.ripng_world.specs.declared.sent.Sent.{Sent}
 
 -- ---- the events of a round
 

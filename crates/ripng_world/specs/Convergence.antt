@@ -1,12 +1,8 @@
 -- Convergence from a cold start, in a counted number of rounds.
-use Rattle.std.specs.Prelude.{◌≡◌, ℕ, ◌<◌, ◌≤◌, IsFalse, List, length, Contains, Some, slice_get}
+use Rattle.ripng_world.specs.Below.{◌≡◌, ℕ, ◌<◌, ◌≤◌, IsFalse, List, length, Contains, Some, slice_get, Prefix6, RouteValue, infinity, Table, table_limit, State}
 use Rattle.std.specs.FinMap as map_of
-use Rattle.prefix6.specs.Prefix.{Prefix6}
-use Rattle.route_table.specs.Route.{RouteValue, infinity}
-use Rattle.route_table.specs.Table.{Table, table_limit}
 use Rattle.ripng_world.specs.Network.{Network, Node, Owns}
 use Rattle.ripng_world.specs.Walks.{IsLeast, IsLeastWithin}
-use Rattle.router_core.specs.Machine.{State}
 use Rattle.ripng_world.specs.World.{World}
 
 -- no router of the network is quiet (passive)

@@ -1,15 +1,9 @@
 -- Deliveries one after another: what is delivered, and where they stop.
-use Rattle.std.specs.Prelude.{◌≡◌, ◌≤◌, ◌⊎◌, ℕ, List, length, map, take, Some, slice_get}
-use Rattle.std.specs.List.{Any}
-use Rattle.router_core.specs.declared.answer.Answer.{Answer}
-use Rattle.router_core.specs.declared.answer.NoteKind.TheVariants.{NoMemory}
+use Rattle.ripng_world.specs.Below.{◌≡◌, ◌≤◌, ◌⊎◌, ℕ, List, length, map, take, Some, slice_get, Any, Answer, NoMemory, Sent, Stopped, Refused, Failed}
 use Rattle.ripng_world.specs.AskedRounds.{delivery, pairs_since}
 use Rattle.ripng_world.specs.Network.{Network}
 use Rattle.ripng_world.specs.Rounds.{AllHeard}
 use Rattle.ripng_world.specs.World.{World, Event, Happens}
-use Rattle.ripng_world.specs.declared.sent.Sent.{Sent}
-use Rattle.ripng_world.specs.declared.watch.Stopped.{Stopped}
-use Rattle.ripng_world.specs.declared.watch.Stopped.TheVariants.{Refused, Failed}
 
 -- each datagram from a number on comes once to each other interface of its link, in order
 abbrev pub deliveries_since : Network → ℕ → List Sent → ℕ → List Event

@@ -1,5 +1,5 @@
 -- The events of the code as those of the model.
-use Rattle.router_core.specs.Machine.{Happening, Arrives, Ticks, Restarts, ShutsDown, LinkGoesDown, LinkComesUp}
+use Rattle.ripng_world.specs.Below.{Happening, Arrives, Ticks, Restarts, ShutsDown, LinkGoesDown, LinkComesUp}
 use Rattle.ripng_world.specs.World.{Event, Deliver, Stranger, Tick, Restart, Shutdown, LinkDown, LinkUp, Reconfigure}
 use Rattle.ripng_world.specs.declared.event.Event as coded
 use Rattle.ripng_world.specs.declared.event.Event.TheVariants as variants

@@ -1,14 +1,6 @@
 -- What a network becomes in counted rounds, whatever happened to it before: costs and owners of now, and nothing else.
-use Rattle.std.specs.Prelude.{◌≡◌, ℕ, ◌+◌, ◌<◌, ◌≤◌, List, [], ◌∷◌, ◌++◌, fold, length, Contains, Some, unwrap_or, option_map, slice_get, slice_set}
+use Rattle.ripng_world.specs.Below.{◌≡◌, ℕ, ◌+◌, ◌<◌, ◌≤◌, List, [], ◌∷◌, ◌++◌, fold, length, Contains, Some, unwrap_or, option_map, slice_get, slice_set, Prefix6, RouteValue, infinity, Table, table_limit, State, without_prefix, garbage_time, Change, Cost, Own, Disown, NetInterface}
 use Rattle.std.specs.FinMap as map_of
-use Rattle.prefix6.specs.Prefix.{Prefix6}
-use Rattle.route_table.specs.Route.{RouteValue, infinity}
-use Rattle.route_table.specs.Table.{Table, table_limit}
-use Rattle.router_core.specs.Machine.{State}
-use Rattle.router_core.specs.Reconfiguring.{without_prefix}
-use Rattle.router_core.specs.Timers.{garbage_time}
-use Rattle.router_core.specs.declared.reconfiguring.Change.{Change}
-use Rattle.router_core.specs.declared.reconfiguring.Change.TheVariants.{Cost, Own, Disown}
 use Rattle.ripng_world.specs.Asked.{Asked}
 use Rattle.ripng_world.specs.AskedRounds.{AreMade}
 use Rattle.ripng_world.specs.Convergence.{IsNeverQuiet}
@@ -17,7 +9,6 @@ use Rattle.ripng_world.specs.Past.{Past, OwnsSince}
 use Rattle.ripng_world.specs.Rounds.{Round, IsMomentOf}
 use Rattle.ripng_world.specs.Walks.{IsBackedBy, IsLeast, IsTableBackedBy, Reaches}
 use Rattle.ripng_world.specs.World.{World, Tick, past_of}
-use Rattle.ripng_world.specs.declared.network.NetInterface.{NetInterface}
 
 -- ---- the network as it is now
 

@@ -1,18 +1,6 @@
 -- A lab: a lawful network that has run since a cold start, and what then holds.
-use Rattle.std.specs.Prelude.{◌≡◌, ℕ, ◌<◌, ◌≤◌, ◌==◌, nat_le, not, Bool, false, List, [], ◌∷◌, ◌++◌, map, ◌⊎◌, length, Option, Some, None, IfNone, IfSome, is_none, option_map, option_and_then, slice_get, codes}
+use Rattle.ripng_world.specs.Below.{◌≡◌, ℕ, ◌<◌, ◌≤◌, ◌==◌, nat_le, not, Bool, false, List, [], ◌∷◌, ◌++◌, map, ◌⊎◌, length, Option, Some, None, IfNone, IfSome, is_none, option_map, option_and_then, slice_get, codes, AllByRecursion, option_map_or, Prefix6, first_reason, RouteValue, infinity, State, Received, reconfigure_reasons, Answer, Change, Cost, Own, Disown, ReconfigureRefused, LabError, NoSuchRouter, NoSuchInterface, NoSuchDatagram, OtherLink, NotAStranger, OutOfMemory, NotALiar, Sent}
 use Rattle.std.specs.FinMap as map_of
-use Rattle.std.specs.List.{AllByRecursion}
-use Rattle.std.specs.Option.{option_map_or}
-use Rattle.prefix6.specs.Prefix.{Prefix6}
-use Rattle.ripng_wire.specs.Wire.{first_reason}
-use Rattle.route_table.specs.Route.{RouteValue, infinity}
-use Rattle.router_core.specs.Machine.{State}
-use Rattle.router_core.specs.Received.{Received}
-use Rattle.router_core.specs.Reconfiguring.{reconfigure_reasons}
-use Rattle.router_core.specs.declared.answer.Answer.{Answer}
-use Rattle.router_core.specs.declared.reconfiguring.Change.{Change}
-use Rattle.router_core.specs.declared.reconfiguring.Change.TheVariants.{Cost, Own, Disown}
-use Rattle.router_core.specs.declared.reconfiguring.ReconfigureRefused.{ReconfigureRefused}
 use Rattle.router_core.specs.declared.reconfiguring.ReconfigureRefused.TheVariants as refused
 use Rattle.ripng_world.specs.Network.{Network, IsNetwork, interface_at}
 use Rattle.ripng_world.specs.Stations.{StationValue, network_of, world_of}
@@ -21,9 +9,6 @@ use Rattle.ripng_world.specs.Past.{IsTableBackedSince, IsLeastSince}
 use Rattle.ripng_world.specs.Truth.{IsSoundDatagram}
 use Rattle.ripng_world.specs.TruthSince.{IsSoundDatagramSince}
 use Rattle.ripng_world.specs.World.{World, Event, Deliver, Stranger, Tick, Restart, Shutdown, LinkDown, LinkUp, Reconfigure, Happens, WorldRun, IsCold, is_heard, past_of, reconfigurations_in}
-use Rattle.ripng_world.specs.declared.event.LabError.{LabError}
-use Rattle.ripng_world.specs.declared.event.LabError.TheVariants.{NoSuchRouter, NoSuchInterface, NoSuchDatagram, OtherLink, NotAStranger, OutOfMemory, NotALiar}
-use Rattle.ripng_world.specs.declared.sent.Sent.{Sent}
 
 -- what callers see of a lab: the network as it started, and the world
 pub record LabValue : Type 0 where

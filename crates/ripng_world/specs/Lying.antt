@@ -1,13 +1,7 @@
 -- Lies: forged Responses, which a router accepts from its link and no router of the network has sent.
-use Rattle.std.specs.Prelude.{◌≡◌, ℕ, ◌<◌, ◌⊎◌, ◌++◌, not, Bool, IsTrue, List, [], ◌∷◌, length, Option, Some, None}
-use Rattle.ripng_wire.specs.Wire.{first_reason}
-use Rattle.router_core.specs.Machine.{Arrives}
-use Rattle.router_core.specs.Received.{Received}
-use Rattle.router_core.specs.declared.answer.Answer.{Answer}
+use Rattle.ripng_world.specs.Below.{◌≡◌, ℕ, ◌<◌, ◌⊎◌, ◌++◌, not, Bool, IsTrue, List, [], ◌∷◌, length, Option, Some, None, first_reason, Arrives, Received, Answer, LabError, NotALiar, OutOfMemory}
 use Rattle.ripng_world.specs.Labs.{LabValue, is_heard_at, missing_interface_reasons}
 use Rattle.ripng_world.specs.World.{World, RouterMoves, is_heard}
-use Rattle.ripng_world.specs.declared.event.LabError.{LabError}
-use Rattle.ripng_world.specs.declared.event.LabError.TheVariants.{NotALiar, OutOfMemory}
 
 -- a forged Response comes, and the router moves as for any arrival. Networks of which anything is promised have no such event
 pub record Lies (w : World) (router : ℕ) (x : Received) (answer : Answer) (w' : World) : Type 0 where

@@ -1,10 +1,5 @@
 -- Networks: routers with interfaces on links.
-use Rattle.std.specs.Prelude.{◌≡◌, ℕ, ◌<◌, ◌≤◌, Bool, IsTrue, List, map, Option, Some, slice_get, option_and_then}
-use Rattle.prefix6.specs.Addr.{is_link_local}
-use Rattle.prefix6.specs.Prefix.{Prefix6, IsPrefix, is_routable}
-use Rattle.route_table.specs.Route.{infinity}
-use Rattle.router_core.specs.Config.{Config}
-use Rattle.ripng_world.specs.declared.network.NetInterface.{NetInterface}
+use Rattle.ripng_world.specs.Below.{◌≡◌, ℕ, ◌<◌, ◌≤◌, Bool, IsTrue, List, map, Option, Some, slice_get, option_and_then, is_link_local, Prefix6, IsPrefix, is_routable, infinity, Config, NetInterface}
 
 -- what one router of a network is configured with
 pub record Node : Type 0 where

@@ -1,11 +1,7 @@
 -- Which networks are refused. The reasons, their order and their names are this project's choice.
-use Rattle.std.specs.Prelude.{ℕ, ◌==◌, nat_lt, Bool, List, [], ◌∷◌, ◌++◌, map, length, flat_map, Option, codes}
-use Rattle.std.specs.List.{list_any}
-use Rattle.ripng_wire.specs.Wire.{first_reason}
-use Rattle.router_core.specs.Config.{config_reasons, reasons_of_each}
+use Rattle.ripng_world.specs.Below.{ℕ, ◌==◌, nat_lt, Bool, List, [], ◌∷◌, ◌++◌, map, length, flat_map, Option, codes, list_any, first_reason, config_reasons, reasons_of_each, NetRefused, TooManyRouters, AddressSharedInNetwork, BadRouter}
 use Rattle.ripng_world.specs.Network.{Network, Node, config_of}
-use Rattle.ripng_world.specs.declared.network.NetRefused.{NetRefused}
-use Rattle.ripng_world.specs.declared.network.NetRefused.TheVariants.{TooManyRouters, AddressSharedInNetwork, BadRouter, OutOfMemory}
+use Rattle.ripng_world.specs.declared.network.NetRefused.TheVariants.{OutOfMemory}
 
 -- the most routers of a network
 abbrev pub router_limit : ℕ

@@ -1,14 +1,6 @@
 -- Where packets go: from router to router, as the forwarding table of each one says.
-use Rattle.std.specs.Prelude.{◌≡◌, ℕ, ◌<◌, ◌≤◌, List, [], ◌∷◌, map, length, Option, Some, option_map, slice_get, nat_eq}
+use Rattle.ripng_world.specs.Below.{◌≡◌, ℕ, ◌<◌, ◌≤◌, List, [], ◌∷◌, map, length, Option, Some, option_map, slice_get, nat_eq, IsDistinct, Prefix6, Holds, Forward, Forwarding, IsLongestMatch, FibHop, Direct, Via, infinity, forwards, State}
 use Rattle.std.specs.FinMap as map_of
-use Rattle.std.specs.List.{IsDistinct}
-use Rattle.prefix6.specs.Prefix.{Prefix6, Holds}
-use Rattle.fib.specs.Forwarding.{Forward, Forwarding, IsLongestMatch}
-use Rattle.fib.specs.declared.change.Hop.{Hop as FibHop}
-use Rattle.fib.specs.declared.change.Hop.TheVariants.{Direct, Via}
-use Rattle.route_table.specs.Route.{infinity}
-use Rattle.router_core.specs.Changes.{forwards}
-use Rattle.router_core.specs.Machine.{State}
 use Rattle.ripng_world.specs.Asked.{Asked}
 use Rattle.ripng_world.specs.AskedRounds.{AreMade}
 use Rattle.ripng_world.specs.Convergence.{IsNeverQuiet}

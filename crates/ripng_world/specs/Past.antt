@@ -1,11 +1,5 @@
 -- All that was in force in a network since its cold start: costs, owners, and the walks at such costs to such owners.
-use Rattle.std.specs.Prelude.{◌≡◌, ◌⊎◌, ℕ, ◌+◌, List, [], ◌∷◌, Some, slice_get}
-use Rattle.prefix6.specs.Prefix.{Prefix6}
-use Rattle.ripng_wire.specs.declared.rte.Rte.{Rte}
-use Rattle.route_table.specs.Route.{RouteValue}
-use Rattle.route_table.specs.Table.{Table}
-use Rattle.router_core.specs.declared.reconfiguring.Change.{Change}
-use Rattle.router_core.specs.declared.reconfiguring.Change.TheVariants.{Cost, Own}
+use Rattle.ripng_world.specs.Below.{◌≡◌, ◌⊎◌, ℕ, ◌+◌, List, [], ◌∷◌, Some, slice_get, Prefix6, Rte, RouteValue, Table, Change, Cost, Own}
 use Rattle.ripng_world.specs.Network.{Network, Owns}
 use Rattle.ripng_world.specs.Walks.{Hop, IsWalk, IsBackedBy, IsEntryBackedBy, IsLeastBy, IsTableBackedBy, end_of, cost_of_interface}
 

@@ -1,15 +1,8 @@
 -- The way of packets by the tables of routers, and how it ends.
-use Rattle.std.specs.Prelude.{◌≡◌, ◌↔◌, ℕ, nat_eq, ◌==◌, ◌&&◌, Bool, List, [], ◌∷◌, Contains, Some, option_map}
-use Rattle.std.specs.List.{IsDistinct}
-use Rattle.prefix6.specs.Prefix.{Prefix6}
-use Rattle.fib.specs.Forwarding.{Forwarding, IsMatch}
-use Rattle.fib.specs.declared.change.Hop.TheVariants.{Via}
+use Rattle.ripng_world.specs.Below.{◌≡◌, ◌↔◌, ℕ, nat_eq, ◌==◌, ◌&&◌, Bool, List, [], ◌∷◌, Contains, Some, option_map, IsDistinct, Prefix6, Forwarding, IsMatch, Via, NetInterface, PathEnd, Delivered, NoRoute, NextHopIsNobodys, Loops}
 use Rattle.ripng_world.specs.Network.{Network, interface_at}
 use Rattle.ripng_world.specs.Packets.{Forwardings, ForwardsBy, HandsOn, DeliversItself, ArriveBy}
 use Rattle.ripng_world.specs.Walks.{Hop, IsHop, end_of}
-use Rattle.ripng_world.specs.declared.network.NetInterface.{NetInterface}
-use Rattle.ripng_world.specs.declared.path.PathEnd.{PathEnd}
-use Rattle.ripng_world.specs.declared.path.PathEnd.TheVariants.{Delivered, NoRoute, NextHopIsNobodys, Loops}
 
 -- what callers see of a way: its hops, and how it ends
 pub record PathValue : Type 0 where

@@ -1,13 +1,7 @@
 -- Rounds in which every router advertises its whole table, and every datagram arrives.
-use Rattle.std.specs.Prelude.{◌≡◌, ◌≢◌, ℕ, ◌+◌, ◌<◌, ◌≤◌, max, ◌⊎◌, List, [], ◌∷◌, ◌++◌, map, length, All, Contains, Some, slice_get, nat_eq, flat_map}
-use Rattle.std.specs.List.{IsDistinct}
-use Rattle.router_core.specs.Timers.{timeout}
-use Rattle.router_core.specs.Machine.{State}
-use Rattle.router_core.specs.declared.answer.Answer.{Answer}
-use Rattle.router_core.specs.declared.answer.NoteKind.TheVariants.{NoMemory}
+use Rattle.ripng_world.specs.Below.{◌≡◌, ◌≢◌, ℕ, ◌+◌, ◌<◌, ◌≤◌, max, ◌⊎◌, List, [], ◌∷◌, ◌++◌, map, length, All, Contains, Some, slice_get, nat_eq, flat_map, IsDistinct, timeout, State, Answer, NoMemory, Sent}
 use Rattle.ripng_world.specs.Network.{Network, AreLinked}
 use Rattle.ripng_world.specs.World.{World, Event, Deliver, Stranger, Tick, Restart, Shutdown, LinkDown, LinkUp, Reconfigure, Happens}
-use Rattle.ripng_world.specs.declared.sent.Sent.{Sent}
 
 -- the ticks of a round, and then its deliveries
 pub record Round : Type 0 where

@@ -1,18 +1,23 @@
 -- Routers of a network at their places.
-use Rattle.std.specs.Prelude.{◌≡◌, ℕ, ◌<◌, ◌*◌, ◌/◌, max, ⊤, List, [], ◌∷◌, ◌++◌, map, length, Some, slice_get, slice_set}
+use Rattle.ripng_world.specs.Below.{prefix_cmp, Table, ◌≡◌, ℕ, ◌<◌, ◌*◌, ◌/◌, max, ⊤, List, [], ◌∷◌, ◌++◌, map, length, Some, slice_get, slice_set, State, Happening, Arrives, Ticks, Restarts, Reconfigures, ShutsDown, LinkGoesDown, LinkComesUp, Moves, Answer, Change, Sent}
 use Rattle.std.specs.FinMap as map_of
-use Rattle.router_core.specs.Machine.{State, Happening, Arrives, Ticks, Restarts, Reconfigures, ShutsDown, LinkGoesDown, LinkComesUp, Moves}
-use Rattle.router_core.specs.declared.answer.Answer.{Answer}
-use Rattle.router_core.specs.declared.reconfiguring.Change.{Change}
+use Rattle.std.specs.Coded.{Coded, codes}
+use Rattle.prefix6.specs.contracts.prefix.Prefix as prefix
+use Rattle.route_table.specs.contracts.route.Route as route
 use Rattle.ripng_world.specs.Network.{Network, Node}
 use Rattle.ripng_world.specs.Rounds.{router_of}
 use Rattle.ripng_world.specs.World.{World, Event, Happens, reconfigurations_in, sent_by}
-use Rattle.ripng_world.specs.declared.sent.Sent.{Sent}
 
 -- a router that runs, and what it was configured to be when it started
 pub record StationValue : Type 0 where
   pub node : Node
   pub state : State
+
+-- how tables are coded, and all that is made of them
+abbrev pub coded_table : Coded Table
+coded_table = map_of.code {R = prefix_cmp} prefix.the_row.coded route.the_row.coded
+
+pub ruleset coded_states = (codes, coded_table)
 
 -- the network of these routers
 abbrev pub network_of : List StationValue → Network

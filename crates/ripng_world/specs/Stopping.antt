@@ -1,16 +1,12 @@
 -- Where rounds that are asked for stop, and for what.
-use Rattle.std.specs.Prelude.{◌≡◌, ◌⊎◌, ℕ, ◌+◌, ◌<◌, max, List, take, Some, slice_get, codes}
-use Rattle.router_core.specs.Machine.{State}
+use Rattle.ripng_world.specs.Below.{◌≡◌, ◌⊎◌, ℕ, ◌+◌, ◌<◌, max, List, take, Some, slice_get, codes, State, RoundsRefused, NoRegularUpdate, Stopped, Refused, Failed}
 use Rattle.ripng_world.specs.Asked.{Asked}
 use Rattle.ripng_world.specs.AskedRounds.{AreMade, round_of, ticks_of}
 use Rattle.ripng_world.specs.Delivering.{StopForMemory, StopForWatcher}
 use Rattle.ripng_world.specs.Network.{Network}
 use Rattle.ripng_world.specs.Rounds.{Round, AllTick, IsDueTick}
 use Rattle.ripng_world.specs.World.{World, Event}
-use Rattle.ripng_world.specs.declared.rounds.RoundsRefused.{RoundsRefused}
-use Rattle.ripng_world.specs.declared.rounds.RoundsRefused.TheVariants.{NoRegularUpdate, OutOfMemory}
-use Rattle.ripng_world.specs.declared.watch.Stopped.{Stopped}
-use Rattle.ripng_world.specs.declared.watch.Stopped.TheVariants.{Refused, Failed}
+use Rattle.ripng_world.specs.declared.rounds.RoundsRefused.TheVariants.{OutOfMemory}
 
 -- ---- in the ticks of a round
 

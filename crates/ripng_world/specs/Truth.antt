@@ -1,14 +1,6 @@
 -- What every table and every datagram of a network keeps.
-use Rattle.std.specs.Prelude.{◌≡◌, ◌≢◌, ℕ, ◌<◌, ◌≤◌, List, Some, option_map}
+use Rattle.ripng_world.specs.Below.{◌≡◌, ◌≢◌, ℕ, ◌<◌, ◌≤◌, List, Some, option_map, AllByRecursion, Prefix6, cleared, Rte, Response, Spells, RouteValue, infinity, Table, Gateway}
 use Rattle.std.specs.FinMap as map_of
-use Rattle.std.specs.List.{AllByRecursion}
-use Rattle.prefix6.specs.Prefix.{Prefix6, cleared}
-use Rattle.ripng_wire.specs.declared.rte.Rte.{Rte}
-use Rattle.ripng_wire.specs.declared.rte.Command.TheVariants.{Response}
-use Rattle.ripng_wire.specs.Layout.{Spells}
-use Rattle.route_table.specs.Route.{RouteValue, infinity}
-use Rattle.route_table.specs.Table.{Table}
-use Rattle.router_core.specs.Adoption.{Gateway}
 use Rattle.ripng_world.specs.Network.{Network, AreLinked, interface_at}
 use Rattle.ripng_world.specs.Walks.{IsBacked, IsEntryBacked, cost_of_interface}
 

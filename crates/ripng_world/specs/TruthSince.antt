@@ -1,10 +1,5 @@
 -- What every table and every datagram of a network keeps while costs and owners change: what `Truth` says, of all walks since.
-use Rattle.std.specs.Prelude.{ℕ, List}
-use Rattle.prefix6.specs.Prefix.{Prefix6}
-use Rattle.ripng_wire.specs.declared.rte.Rte.{Rte}
-use Rattle.route_table.specs.Route.{RouteValue}
-use Rattle.route_table.specs.Table.{Table}
-use Rattle.router_core.specs.Adoption.{Gateway}
+use Rattle.ripng_world.specs.Below.{ℕ, List, Prefix6, Rte, RouteValue, Table, Gateway}
 use Rattle.ripng_world.specs.Past.{Past, HasCostSince, IsBackedSince, IsEntryBackedSince}
 use Rattle.ripng_world.specs.Truth.{IsNeighborBy, IsSoundBy, IsSoundDatagramBy, IsSoundEntryBy, IsSoundTableBy}
 

@@ -1,12 +1,7 @@
 -- Walks through a network, their cost, and routes that are backed by one.
-use Rattle.std.specs.Prelude.{◌≡◌, ◌≢◌, ℕ, ◌+◌, ◌<◌, ◌≤◌, List, [], ◌∷◌, length, Some, unwrap_or, option_map}
+use Rattle.ripng_world.specs.Below.{◌≡◌, ◌≢◌, ℕ, ◌+◌, ◌<◌, ◌≤◌, List, [], ◌∷◌, length, Some, unwrap_or, option_map, Prefix6, cleared, Rte, RouteValue, infinity, Table, Origin, Learned}
 use Rattle.std.specs.FinMap as map_of
-use Rattle.prefix6.specs.Prefix.{Prefix6, cleared}
-use Rattle.ripng_wire.specs.declared.rte.Rte.{Rte}
-use Rattle.route_table.specs.Route.{RouteValue, infinity}
-use Rattle.route_table.specs.Table.{Table}
-use Rattle.route_table.specs.declared.route.Origin.{Origin}
-use Rattle.route_table.specs.declared.route.Origin.TheVariants.{Own, Learned}
+use Rattle.route_table.specs.declared.route.Origin.TheVariants.{Own}
 use Rattle.ripng_world.specs.Network.{Network, AreLinked, Owns, interface_at}
 
 -- from an interface of the router where a walk stands to an interface of another router of its link

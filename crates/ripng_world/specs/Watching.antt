@@ -1,7 +1,5 @@
 -- What an observer is notified of in a network that runs, event by event.
-use Rattle.std.specs.Prelude.{◌≡◌, ◌≢◌, ℕ, ◌≤◌, ⊤, ◌⊎◌, List, [], ◌∷◌, ◌++◌, take, length, All, Option, Some, None, Result, Ok, Err, slice_get}
-use Rattle.router_core.specs.declared.answer.Answer.{Answer}
-use Rattle.router_core.specs.declared.answer.NoteKind.TheVariants.{NoMemory}
+use Rattle.ripng_world.specs.Below.{◌≡◌, ◌≢◌, ℕ, ◌≤◌, ⊤, ◌⊎◌, List, [], ◌∷◌, ◌++◌, take, length, All, Option, Some, None, Result, Ok, Err, slice_get, Answer, NoMemory, Stopped, Refused, Failed}
 use Rattle.ripng_world.specs.Asked.{Asked}
 use Rattle.ripng_world.specs.AskedRounds.{AreMade, round_of, ticks_of}
 use Rattle.ripng_world.specs.Delivering.{WantsMemory}
@@ -9,8 +7,6 @@ use Rattle.ripng_world.specs.Labs.{LabValue}
 use Rattle.ripng_world.specs.Network.{Network}
 use Rattle.ripng_world.specs.Rounds.{Round, AllTick, IsDueTick, events_of_rounds}
 use Rattle.ripng_world.specs.World.{World, Event, Happens}
-use Rattle.ripng_world.specs.declared.watch.Stopped.{Stopped}
-use Rattle.ripng_world.specs.declared.watch.Stopped.TheVariants.{Refused, Failed}
 
 -- the notice of an event that was done
 pub record Told : Type 0 where

@@ -1,17 +1,7 @@
 -- A network that runs: the state of each router, and every datagram ever sent.
-use Rattle.std.specs.Prelude.{◌≡◌, ℕ, ◌<◌, suc, Bool, true, false, ◌&&◌, List, [], ◌∷◌, ◌++◌, length, map, filter_map, Option, Some, None, is_none, unwrap_or, option_map, slice_get, slice_set, IsFalse}
-use Rattle.ripng_wire.specs.Wire.{is_response}
-use Rattle.router_core.specs.Received.{Received}
-use Rattle.router_core.specs.Faults.{fault, ripng_port}
-use Rattle.router_core.specs.Machine.{State, Happening, Arrives, Ticks, Restarts, Reconfigures, ShutsDown, LinkGoesDown, LinkComesUp, Moves, Starts}
-use Rattle.router_core.specs.declared.answer.Answer.{Answer}
-use Rattle.router_core.specs.declared.answer.Outgoing.{Outgoing}
-use Rattle.router_core.specs.declared.answer.Destination.{Destination}
-use Rattle.router_core.specs.declared.answer.Destination.TheVariants.{Group, Peer}
-use Rattle.router_core.specs.declared.reconfiguring.Change.{Change}
+use Rattle.ripng_world.specs.Below.{◌≡◌, ℕ, ◌<◌, suc, Bool, true, false, ◌&&◌, List, [], ◌∷◌, ◌++◌, length, map, filter_map, Option, Some, None, is_none, unwrap_or, option_map, slice_get, slice_set, IsFalse, is_response, Received, fault, ripng_port, State, Happening, Arrives, Ticks, Restarts, Reconfigures, ShutsDown, LinkGoesDown, LinkComesUp, Moves, Starts, Answer, Outgoing, Destination, Group, Peer, Change, Sent}
 use Rattle.ripng_world.specs.Network.{Network, Node, AreLinked, config_of, interface_at}
 use Rattle.ripng_world.specs.Past.{Past}
-use Rattle.ripng_world.specs.declared.sent.Sent.{Sent}
 
 -- the routers' states, and all that was sent since the cold start
 pub record World : Type 0 where

@@ -1,10 +1,6 @@
 //! What may happen in a network, and why an event is refused.
 
-ghost use Rattle.std.specs.Prelude.{◌≡◌};
-ghost use Rattle.ripng_world.specs.Events.{event_of};
-ghost use Rattle.ripng_world.specs.Labs.{lab_error_name, lab_error_number, refusal_of};
-ghost use Rattle.ripng_world.specs.Rounds.{router_of};
-ghost use Rattle.ripng_world.specs.declared.event.LabError.TheVariants.{OutOfMemory};
+ghost use Rattle.ripng_world.specs.Common.{◌≡◌, event_of, lab_error_name, lab_error_number, refusal_of, router_of, OutOfMemory};
 
 use route_table::Moment;
 use router_core::{Arrival, Change, ReconfigureRefused};

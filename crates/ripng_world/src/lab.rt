@@ -1,16 +1,7 @@
 //! A lab: a lawful network that runs, with real routers and bytes. Whatever happens in it, each route of a router, and each that a
 //! datagram advertises, is backed by a walk through the network.
 
-ghost use Rattle.std.specs.Prelude.{◌≡◌, ◌++◌, ◌∷◌, [], IfErr, IfOk, IfSome, OnOk, length, map, take, slice_get};
-ghost use Rattle.std.specs.Option.{option_copied};
-ghost use Rattle.std.specs.Result.{result_err};
-ghost use Rattle.ripng_world.specs.Events.{event_of};
-ghost use Rattle.ripng_world.specs.Labs.{HasRun, Keeps, HasNoneBelowLeast, HasNoneBelowLeastSince, AreDatagramsSoundSince, AreDatagramsSound, HappensGiving, IsRefusedNext, StepEnds, link_at};
-ghost use Rattle.ripng_world.specs.Past.{IsTableBackedSince};
-ghost use Rattle.ripng_world.specs.Stations.{network_of, world_of};
-ghost use Rattle.ripng_world.specs.Walks.{IsTableBacked};
-ghost use Rattle.ripng_world.specs.Watching.{IfRefused, WatchedInPart, WatchedUntil, failures, failures_in, refusal_in};
-ghost use Rattle.ripng_world.specs.World.{IsCold, WorldRun, reconfigurations_in, past_of};
+ghost use Rattle.ripng_world.specs.Common.{◌≡◌, ◌++◌, ◌∷◌, [], IfErr, IfOk, IfSome, OnOk, length, map, take, slice_get, option_copied, result_err, event_of, HasRun, Keeps, HasNoneBelowLeast, HasNoneBelowLeastSince, AreDatagramsSoundSince, AreDatagramsSound, HappensGiving, IsRefusedNext, StepEnds, link_at, IsTableBackedSince, network_of, world_of, IsTableBacked, IfRefused, WatchedInPart, WatchedUntil, failures, failures_in, refusal_in, IsCold, WorldRun, reconfigurations_in, past_of, LabValue, coded_states};
 
 mod delivering;
 mod making;
@@ -35,17 +26,9 @@ pub struct Lab<S: RouteStore> {
 }
 
 impl<S: RouteStore> Model for Lab<S> {
-    ghost use Rattle.std.specs.Coded.{codes};
-    ghost use Rattle.std.specs.FinMap as map_of;
-    ghost use Rattle.prefix6.specs.Prefix.{prefix_cmp};
-    ghost use Rattle.prefix6.specs.contracts.prefix.Prefix as prefix;
-    ghost use Rattle.route_table.specs.contracts.route.Route as route;
-    ghost use Rattle.ripng_world.specs.Labs.{LabValue, HasRun};
-    ghost use Rattle.ripng_world.specs.Stations.{network_of, world_of};
-
     ghost Value = { LabValue };
 
-    ghost coded = { Prim.hlevel (codes, map_of.code {R = prefix_cmp} prefix.the_row.coded route.the_row.coded) };
+    ghost coded = { Prim.hlevel coded_states };
 
     ghost view = { λ l. l.running };
 

@@ -1,35 +1,7 @@
 //! Laws of networks. Each is the contract of an empty function: it follows from the definitions alone.
 
-ghost use Rattle.std.specs.Prelude.{◌≡◌, ℕ, ◌<◌, ◌≤◌, nat_eq, List, [], ◌∷◌, ◌++◌, length, Some, slice_get};
-ghost use Rattle.std.specs.List.{AllByRecursion, IsDistinct};
+ghost use Rattle.ripng_world.specs.Common.{◌≡◌, ℕ, ◌<◌, ◌≤◌, nat_eq, List, [], ◌∷◌, ◌++◌, length, Some, slice_get, AllByRecursion, IsDistinct, Prefix6, FibHop, RouteValue, infinity, Table, Spells, Response, Rte, Learned, aged_table, Config, Hearing, Heard, State, Happening, Moves, IsNamed, reconfigured_table, Answer, Change, Network, HasDistinctAddresses, IsNetwork, OwnsPrefixes, Forwardings, ForwardsBy, ArriveBy, AreThere, PacketsArrive, forwardings_of, routers_of, IsPath, PathValue, Delivered, Hop, IsWalk, BeginsAs, Reaches, cost, IsTableBacked, IsLeast, Past, ReachesSince, IsTableBackedSince, IsLeastSince, IsNeverQuiet, FitsTables, AreConverged, Round, SynchronousRounds, AreWithinTimeout, events_of_rounds, AreWithinGarbageTime, AreHealed, FitsTablesSince, network_now, IsNeighbor, IsSoundTable, IsSoundEntry, IsSoundDatagram, IsNeighborSince, IsSoundTableSince, IsSoundEntrySince, IsSoundDatagramSince, World, Event, IsCold, WorldRun, past_of, reconfigurations_in};
 ghost use Rattle.std.specs.FinMap as map_of;
-ghost use Rattle.prefix6.specs.Prefix.{Prefix6};
-ghost use Rattle.fib.specs.declared.change.Hop.{Hop as FibHop};
-ghost use Rattle.route_table.specs.Route.{RouteValue, infinity};
-ghost use Rattle.route_table.specs.Table.{Table};
-ghost use Rattle.ripng_wire.specs.Layout.{Spells};
-ghost use Rattle.ripng_wire.specs.declared.rte.Command.TheVariants.{Response};
-ghost use Rattle.ripng_wire.specs.declared.rte.Rte.{Rte};
-ghost use Rattle.route_table.specs.declared.route.Origin.TheVariants.{Learned};
-ghost use Rattle.router_core.specs.Ageing.{aged_table};
-ghost use Rattle.router_core.specs.Config.{Config};
-ghost use Rattle.router_core.specs.Hearing.{Hearing, Heard};
-ghost use Rattle.router_core.specs.Machine.{State, Happening, Moves};
-ghost use Rattle.router_core.specs.Reconfiguring.{IsNamed, reconfigured_table};
-ghost use Rattle.router_core.specs.declared.answer.Answer.{Answer};
-ghost use Rattle.router_core.specs.declared.reconfiguring.Change.{Change};
-ghost use Rattle.ripng_world.specs.Network.{Network, HasDistinctAddresses, IsNetwork, OwnsPrefixes};
-ghost use Rattle.ripng_world.specs.Packets.{Forwardings, ForwardsBy, ArriveBy, AreThere, PacketsArrive, forwardings_of, routers_of};
-ghost use Rattle.ripng_world.specs.Path.{IsPath, PathValue};
-ghost use Rattle.ripng_world.specs.declared.path.PathEnd.TheVariants.{Delivered};
-ghost use Rattle.ripng_world.specs.Walks.{Hop, IsWalk, BeginsAs, Reaches, cost, IsTableBacked, IsLeast};
-ghost use Rattle.ripng_world.specs.Past.{Past, ReachesSince, IsTableBackedSince, IsLeastSince};
-ghost use Rattle.ripng_world.specs.Convergence.{IsNeverQuiet, FitsTables, AreConverged};
-ghost use Rattle.ripng_world.specs.Rounds.{Round, SynchronousRounds, AreWithinTimeout, events_of_rounds};
-ghost use Rattle.ripng_world.specs.Healing.{AreWithinGarbageTime, AreHealed, FitsTablesSince, network_now};
-ghost use Rattle.ripng_world.specs.Truth.{IsNeighbor, IsSoundTable, IsSoundEntry, IsSoundDatagram};
-ghost use Rattle.ripng_world.specs.TruthSince.{IsNeighborSince, IsSoundTableSince, IsSoundEntrySince, IsSoundDatagramSince};
-ghost use Rattle.ripng_world.specs.World.{World, Event, IsCold, WorldRun, past_of, reconfigurations_in};
 
 /// A router whose routes are backed sends only entries with the cost and tag of a walk. `since` is for all costs and owners in
 /// force since a cold start, `fixed` for a network whose costs and owners never change.

@@ -1,14 +1,6 @@
 //! How the router of an event moves, once nothing refuses the event.
 
-ghost use Rattle.std.specs.Prelude.{◌≡◌, ℕ, ◌+◌, ◌<◌, ◌≤◌, ◌++◌, ◌∷◌, [], List, None, Some, IfErr, IfOk, OnErr, OnOk, map, length, slice_get, vec_len};
-ghost use Rattle.std.specs.Vec.{vec_capacity};
-ghost use Rattle.ripng_wire.specs.Wire.{first_reason};
-ghost use Rattle.router_core.specs.declared.reconfiguring.Change.{Change as ChangeValue};
-ghost use Rattle.ripng_world.specs.Events.{event_of, happening_of};
-ghost use Rattle.ripng_world.specs.Labs.{IsRefusal, event_fault, lab_of, named_reasons};
-ghost use Rattle.ripng_world.specs.Stations.{IsMoveAt, IsPlaced, MoveStations, StationValue, network_of};
-ghost use Rattle.ripng_world.specs.World.{Deliver, Reconfigure, arrival_of, reconfigurations_in, sent_by};
-ghost use Rattle.ripng_world.specs.declared.sent.Sent.{Sent as SentValue};
+ghost use Rattle.ripng_world.specs.Common.{◌≡◌, ℕ, ◌+◌, ◌<◌, ◌≤◌, ◌++◌, ◌∷◌, [], List, None, Some, IfErr, IfOk, OnErr, OnOk, map, length, slice_get, vec_len, vec_capacity, first_reason, Change as ChangeValue, event_of, happening_of, IsRefusal, event_fault, lab_of, named_reasons, IsMoveAt, IsPlaced, MoveStations, StationValue, network_of, Deliver, Reconfigure, arrival_of, reconfigurations_in, sent_by, Sent as SentValue};
 
 use crate::event::{Event, Happening, LabError};
 use crate::sent::Sent;

@@ -1,11 +1,6 @@
 //! Networks: routers with interfaces on links, and which of them are lawful.
 
-ghost use Rattle.std.specs.Prelude.{◌≡◌, ◌≢◌, All, map, None, Some, IfErr, IfOk, OnOk};
-ghost use Rattle.std.specs.Result.{result_err};
-ghost use Rattle.ripng_wire.specs.Wire.{first_reason};
-ghost use Rattle.router_core.specs.Config.{IsConfig, reasons_of_each};
-ghost use Rattle.ripng_world.specs.Network.{IsNetwork, config_of};
-ghost use Rattle.ripng_world.specs.NetworkFaults.{address_reasons, addresses, faults_of_router, net_refused_name, net_refused_number, network_fault, router_reasons};
+ghost use Rattle.ripng_world.specs.Common.{◌≡◌, ◌≢◌, All, map, None, Some, IfErr, IfOk, OnOk, result_err, first_reason, IsConfig, reasons_of_each, IsNetwork, config_of, address_reasons, addresses, faults_of_router, net_refused_name, net_refused_number, network_fault, router_reasons, Network};
 ghost use Rattle.ripng_world.specs.declared.network.NetRefused.TheVariants.{OutOfMemory};
 
 use prefix6::{Addr6, Prefix};
@@ -129,8 +124,6 @@ pub struct NetConfig {
 }
 
 impl Model for NetConfig {
-    ghost use Rattle.ripng_world.specs.Network.{Network, IsNetwork};
-
     ghost Value = { Network };
 
     ghost view = { λ n. n.routers.items };

@@ -1,14 +1,10 @@
 //! Which datagrams come where: pairs of a datagram and another interface of its link.
 
-ghost use Rattle.std.specs.Prelude.{◌≡◌, IfOk};
-ghost use Rattle.std.specs.List.{filter};
-ghost use Rattle.ripng_world.specs.AskedRounds.{delivery, interfaces_of, is_other, pairs_since};
-ghost use Rattle.ripng_world.specs.Events.{event_of};
+ghost use Rattle.ripng_world.specs.Common.{◌≡◌, IfOk, filter, interfaces_of, is_other, pairs_since};
 
-use crate::event::Event;
 use crate::running::Running;
 use crate::sent::Sent;
-use route_table::{Moment, RouteStore};
+use route_table::RouteStore;
 use std::alloc::AllocError;
 
 /// A datagram, and an interface that it is to come to.
@@ -19,32 +15,7 @@ pub struct Pair {
     pub iface: usize,
 }
 
-impl Pair {
-    /// The datagram comes to the interface.
-    pub fn delivery(&self, now: Moment) -> Event<'static>
-        ensures { event_of result ≡ delivery self.now now }
-    {
-        Event::Deliver {
-            datagram: self.datagram,
-            router: self.router,
-            iface: self.iface,
-            now,
-        }
-    }
-}
-
 impl<S: RouteStore> Running<S> {
-    /// All interfaces of the network, each after its router's number, in order.
-    fn interfaces(&self) -> Result<Vec<(usize, usize)>, AllocError>
-        ensures { IfOk result (λ interfaces. interfaces.items ≡ interfaces_of self.now.network) }
-    {
-        let mut interfaces = Vec::new(self.alloc);
-        for (router, station) in self.stations.iter().enumerate() {
-            interfaces.extend((0..station.interfaces().len()).map(|iface| (router, iface)))?;
-        }
-        Ok(interfaces)
-    }
-
     /// Whether the interface is another one of the datagram's link.
     fn is_other(&self, datagram: &Sent, router: usize, iface: usize) -> bool
         ensures { result ≡ is_other self.now.network datagram.now (router, iface) }
@@ -62,10 +33,15 @@ impl<S: RouteStore> Running<S> {
     pub(crate) fn receivers(&self, datagram: &Sent) -> Result<Vec<(usize, usize)>, AllocError>
         ensures { IfOk result (λ receivers. receivers.items ≡ filter (is_other self.now.network datagram.now) (interfaces_of self.now.network)) }
     {
-        let others = self.interfaces()?.into_iter();
-        others
-            .filter(|&(router, iface)| self.is_other(datagram, router, iface))
-            .collect(self.alloc)
+        let mut receivers = Vec::new(self.alloc);
+        for (router, station) in self.stations.iter().enumerate() {
+            let interfaces = (0..station.interfaces().len()).map(|iface| (router, iface));
+            let others = interfaces.filter(|&(router, iface)| self.is_other(
+                datagram, router, iface,
+            ));
+            receivers.extend(others)?;
+        }
+        Ok(receivers)
     }
 
     /// Each datagram from a number on, with each other interface of its link, in order.

@@ -1,15 +1,7 @@
 //! Where packets go by the tables of routers that run: from router to router, each by its longest match, until the way ends.
 
-ghost use Rattle.std.specs.Prelude.{◌≡◌, ◌<◌, ◌≤◌, ◌≢◌, ◌^◌, ◌⊎◌, ◌↔◌, IfErr, IfOk, IfSome, IsNone, length, option_and_then, option_map, position};
+ghost use Rattle.ripng_world.specs.Common.{◌≡◌, ◌<◌, ◌≤◌, ◌≢◌, ◌^◌, ◌⊎◌, ◌↔◌, IfErr, IfOk, IfSome, IsNone, length, option_and_then, option_map, position, IsLongestMatch, IsMatch, Prefix6, cleared, forward, forwards, network_now, HandsOn, forwardings_of, EndsAt, IsPath, LeadsTo, is_on, Hop as WalkHop, past_of, PathValue};
 ghost use Rattle.std.specs.FinMap as map_of;
-ghost use Rattle.fib.specs.Forwarding.{IsLongestMatch, IsMatch};
-ghost use Rattle.prefix6.specs.Prefix.{Prefix6, cleared};
-ghost use Rattle.router_core.specs.Changes.{forward, forwards};
-ghost use Rattle.ripng_world.specs.Healing.{network_now};
-ghost use Rattle.ripng_world.specs.Packets.{ForwardsBy, HandsOn, forwardings_of};
-ghost use Rattle.ripng_world.specs.Path.{EndsAt, HasNoMatch, IsPath, LeadsTo, is_on};
-ghost use Rattle.ripng_world.specs.Walks.{Hop as WalkHop};
-ghost use Rattle.ripng_world.specs.World.{past_of};
 
 use crate::event::LabError;
 use crate::lab::Lab;
@@ -69,8 +61,6 @@ pub struct Path {
 }
 
 impl Model for Path {
-    ghost use Rattle.ripng_world.specs.Path.{PathValue};
-
     ghost Value = { PathValue };
 
     ghost view = { λ p. record { hops = p.hops.items; end = p.end } };
@@ -161,14 +151,6 @@ impl<S: RouteStore> Running<S> {
         None
     }
 
-    /// Where a router forwards packets for the address, if its table matches it.
-    fn hop_from(&self, router: usize, addr: Addr6) -> Option<Hop>
-        ensures found { IfSome result (ForwardsBy (forwardings_of self.now.world) addr router) }
-        ensures none { IsNone result → HasNoMatch (forwardings_of self.now.world) addr router }
-    {
-        longest_match(self.router(router)?.routes(), addr)
-    }
-
     /// The hop by which a router hands on packets for the address.
     ///
     /// # Errors
@@ -177,7 +159,10 @@ impl<S: RouteStore> Running<S> {
         ensures hop { IfOk result (HandsOn self.now.network (forwardings_of self.now.world) addr router) }
         ensures end { IfErr result (EndsAt self.now.network (forwardings_of self.now.world) addr router) }
     {
-        let Some(hop) = self.hop_from(router, addr) else {
+        let Some(here) = self.router(router) else {
+            return Err(PathEnd::NoRoute);
+        };
+        let Some(hop) = longest_match(here.routes(), addr) else {
             return Err(PathEnd::NoRoute);
         };
         match hop {

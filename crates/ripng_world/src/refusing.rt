@@ -1,12 +1,6 @@
 //! Which events of a network are refused.
 
-ghost use Rattle.std.specs.Prelude.{◌≡◌, ℕ, Some, IfOk};
-ghost use Rattle.std.specs.Result.{result_err};
-ghost use Rattle.ripng_wire.specs.Wire.{first_reason};
-ghost use Rattle.ripng_world.specs.Events.{event_of};
-ghost use Rattle.ripng_world.specs.Labs.{event_fault, link_at, missing_interface_reasons, missing_router_reasons};
-ghost use Rattle.ripng_world.specs.Lying.{lie_fault};
-ghost use Rattle.ripng_world.specs.World.{Deliver, Stranger, is_heard};
+ghost use Rattle.ripng_world.specs.Common.{◌≡◌, ℕ, Some, IfOk, result_err, first_reason, event_of, event_fault, link_at, missing_interface_reasons, missing_router_reasons, lie_fault, Deliver, Stranger, is_heard};
 
 use crate::event::{Event, LabError};
 use crate::running::Running;

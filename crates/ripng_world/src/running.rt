@@ -1,13 +1,7 @@
 //! Routers that run in a network, with all that they have sent. Only what each step does is promised of them. More holds while no
 //! router has received a forged Response: that is promised of a `Lab`, which is made of this.
 
-ghost use Rattle.std.specs.Prelude.{◌≡◌, ◌∷◌, [], IfErr, IfOk, OnErr, length, slice_get};
-ghost use Rattle.std.specs.Option.{option_copied};
-ghost use Rattle.std.specs.Result.{result_err};
-ghost use Rattle.ripng_world.specs.Events.{event_of};
-ghost use Rattle.ripng_world.specs.Labs.{HappensGiving, StepEnds, link_at};
-ghost use Rattle.ripng_world.specs.Lying.{IsLieRefusal, LiesGiving};
-ghost use Rattle.ripng_world.specs.Watching.{IfRefused, WatchedInPart, failures, refusal_in};
+ghost use Rattle.ripng_world.specs.Common.{◌≡◌, ◌∷◌, [], IfErr, IfOk, OnErr, length, slice_get, option_copied, result_err, event_of, HappensGiving, StepEnds, link_at, IsLieRefusal, LiesGiving, IfRefused, WatchedInPart, failures, refusal_in, LabValue, lab_of, coded_states};
 
 use crate::event::{Event, Happening, LabError};
 use crate::moving::{act, file, happen};
@@ -29,16 +23,9 @@ pub struct Running<S: RouteStore> {
 }
 
 impl<S: RouteStore> Model for Running<S> {
-    ghost use Rattle.std.specs.Coded.{codes};
-    ghost use Rattle.std.specs.FinMap as map_of;
-    ghost use Rattle.prefix6.specs.Prefix.{prefix_cmp};
-    ghost use Rattle.prefix6.specs.contracts.prefix.Prefix as prefix;
-    ghost use Rattle.route_table.specs.contracts.route.Route as route;
-    ghost use Rattle.ripng_world.specs.Labs.{LabValue, lab_of};
-
     ghost Value = { LabValue };
 
-    ghost coded = { Prim.hlevel (codes, map_of.code {R = prefix_cmp} prefix.the_row.coded route.the_row.coded) };
+    ghost coded = { Prim.hlevel coded_states };
 
     ghost view = { λ l. lab_of l.stations.items l.sent.items l.reconfigurations.items };
 }

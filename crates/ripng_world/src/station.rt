@@ -1,12 +1,7 @@
 //! A router that runs in a network.
 
-ghost use Rattle.std.specs.Prelude.{◌≡◌, ◌≤◌, ◌/◌, [], max, IfErr, IfOk, OnErr, length, unwrap_or};
+ghost use Rattle.ripng_world.specs.Common.{◌≡◌, ◌≤◌, ◌/◌, [], max, IfErr, IfOk, OnErr, length, unwrap_or, Moves, Reconfigures, Starts, NamesInterface, reconfigure_fault, happening_of, config_of, interface_at, IsPlaced, most_sends, network_of, StationValue, coded_states};
 ghost use Rattle.std.specs.FinMap as map_of;
-ghost use Rattle.router_core.specs.Machine.{Moves, Reconfigures, Starts};
-ghost use Rattle.router_core.specs.Reconfiguring.{NamesInterface, reconfigure_fault};
-ghost use Rattle.ripng_world.specs.Events.{happening_of};
-ghost use Rattle.ripng_world.specs.Network.{config_of, interface_at};
-ghost use Rattle.ripng_world.specs.Stations.{IsPlaced, most_sends, network_of};
 
 use crate::event::Happening;
 use crate::network::{NetInterface, NetRouter, Node};
@@ -23,17 +18,9 @@ pub struct Station<S: RouteStore> {
 }
 
 impl<S: RouteStore> Model for Station<S> {
-    ghost use Rattle.std.specs.Coded.{codes};
-    ghost use Rattle.std.specs.FinMap as map_of;
-    ghost use Rattle.std.specs.Prelude.{◌≡◌, length};
-    ghost use Rattle.prefix6.specs.Prefix.{prefix_cmp};
-    ghost use Rattle.prefix6.specs.contracts.prefix.Prefix as prefix;
-    ghost use Rattle.route_table.specs.contracts.route.Route as route;
-    ghost use Rattle.ripng_world.specs.Stations.{StationValue};
-
     ghost Value = { StationValue };
 
-    ghost coded = { Prim.hlevel (codes, map_of.code {R = prefix_cmp} prefix.the_row.coded route.the_row.coded) };
+    ghost coded = { Prim.hlevel coded_states };
 
     ghost view = { λ s. record { node = s.node; state = s.router } };
 

@@ -1,9 +1,6 @@
 //! Observers of a lab, and how a call ends that has one.
 
-ghost use Rattle.std.specs.Prelude.{◌≡◌, ⊤, OnErr, OnOk};
-ghost use Rattle.ripng_world.specs.Events.{event_of};
-ghost use Rattle.ripng_world.specs.Watching.{Told, failures, refused_as};
-ghost use Rattle.ripng_world.specs.declared.watch.Stopped.TheVariants.{Refused};
+ghost use Rattle.ripng_world.specs.Common.{◌≡◌, ⊤, OnErr, OnOk, event_of, Told, failures, refused_as, Refused};
 
 use crate::event::Event;
 use crate::running::Running;

@@ -1,15 +1,9 @@
 //! Deliveries in a lab: what its routers sent comes to the other interfaces of the link.
 
-ghost use Rattle.std.specs.Prelude.{◌≡◌, ◌≢◌, ℕ, ◌<◌, ◌∷◌, [], IsFalse, IsTrue, All, IfErr, IfOk, OnErr, OnOk, false, length, slice_index_or, vec_len};
-ghost use Rattle.std.specs.List.{Any, filter};
-ghost use Rattle.router_core.specs.declared.answer.NoteKind.TheVariants.{NoMemory};
-ghost use Rattle.ripng_world.specs.AskedRounds.{deliveries_of, delivery, interfaces_of, is_other, is_picked, other_deliveries, pairs_since, picked_deliveries};
-ghost use Rattle.ripng_world.specs.Delivering.{StopAt, StopForMemory, deliveries_since};
-ghost use Rattle.ripng_world.specs.Labs.{Keeps};
-ghost use Rattle.ripng_world.specs.Watching.{HeardInPart, WatchedInPart, WatchedRun, failures, heard};
-ghost use Rattle.ripng_world.specs.World.{WorldRun};
+ghost use Rattle.ripng_world.specs.Common.{◌≡◌, ◌≢◌, ℕ, ◌<◌, ◌∷◌, [], IsFalse, IsTrue, All, IfErr, IfOk, OnErr, OnOk, false, length, slice_index_or, vec_len, Any, filter, NoMemory, deliveries_of, delivery, interfaces_of, is_other, is_picked, other_deliveries, pairs_since, picked_deliveries, StopAt, StopForMemory, deliveries_since, Keeps, HeardInPart, WatchedInPart, WatchedRun, failures, heard, WorldRun};
 
 use super::Lab;
+use crate::event::Event;
 use crate::pairs::Pair;
 use crate::sent::Sent;
 use crate::watch::{Observer, Stopped, Unwatched};
@@ -47,7 +41,13 @@ impl<S: RouteStore> Lab<S> {
         ensures delivered { OnOk result (WatchedRun V.takes heard self.old.network (self.old.world, watch.old) (delivery pair.now now ∷ []) (self.new.world, watch.new)) }
         ensures stopped { IfErr result (λ why. HeardInPart V.takes V.fails why self.old.network (self.old.world, watch.old) (delivery pair.now now ∷ []) (self.new.world, watch.new)) }
     {
-        let answer = match self.step_watched(&pair.delivery(now), watch) {
+        let delivery = Event::Deliver {
+            datagram: pair.datagram,
+            router: pair.router,
+            iface: pair.iface,
+            now,
+        };
+        let answer = match self.step_watched(&delivery, watch) {
             Ok(answer) => answer,
             // The datagram exists, and so does the interface on its link: only memory can have run out.
             Err(stopped) => return Err(stopped.refused_as(AllocError)),

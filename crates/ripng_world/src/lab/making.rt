@@ -1,15 +1,6 @@
 //! Rounds of a lab: every router advertises its whole table, and all of it arrives.
 
-ghost use Rattle.std.specs.Prelude.{◌≡◌, ℕ, ◌<◌, ◌↔◌, max, IsTrue, All, IfErr, OnOk, Some, length, slice_get};
-ghost use Rattle.router_core.specs.Machine.{State};
-ghost use Rattle.ripng_world.specs.AskedRounds.{AreAllMade, Converges, ticks_of};
-ghost use Rattle.ripng_world.specs.Healing.{Heals};
-ghost use Rattle.ripng_world.specs.Packets.{LetsArrive};
-ghost use Rattle.ripng_world.specs.Labs.{Keeps};
-ghost use Rattle.ripng_world.specs.Rounds.{IsDueTick};
-ghost use Rattle.ripng_world.specs.Stopping.{HaveStopped, RoundStops, RoundsStop, round_in};
-ghost use Rattle.ripng_world.specs.Watching.{AreMadeTold, IfRefused, IsMadeTold, RoundToldInPart, RoundsToldInPart, WatchedInPart, WatchedRun, due, failures};
-ghost use Rattle.ripng_world.specs.World.{Tick};
+ghost use Rattle.ripng_world.specs.Common.{◌≡◌, ℕ, ◌<◌, ◌↔◌, max, IsTrue, All, IfErr, OnOk, Some, length, slice_get, State, AreAllMade, Converges, ticks_of, Heals, LetsArrive, Keeps, IsDueTick, HaveStopped, RoundStops, RoundsStop, round_in, AreMadeTold, IfRefused, IsMadeTold, RoundToldInPart, RoundsToldInPart, WatchedInPart, WatchedRun, due, failures, Tick};
 
 use super::Lab;
 use crate::event::Event;

@@ -16,7 +16,7 @@ returns-in_default-shown_routes-clause-stopped g c =
 pub returns-clause-compared : goal.returns-clause-compared
 returns-clause-compared g c =
     let net = c.args.lab.now.network in
-    let after_is : c.as_slice.result.now ≡ shown_in net c.make_phase.new.lab.world = c.as_slice.ensures.value ∙ c.in-Ok-shown_routes.ensures ∙ ap (λ (n : Network). shown_in n c.make_phase.new.lab.world) c.in_ok-next.ensures.network in
+    let after_is : c.as_slice.result.now ≡ shown_in net c.make_phase.new.lab.world = c.as_slice.ensures.value ∙ c.in-Ok-shown_routes.ensures ∙ ap (λ (n : Network). shown_in n c.make_phase.new.lab.world) c.in_ok-next.ensures.made.network in
     let before_is : c.as_slice-2.result.now ≡ shown_in net c.args.lab.now.world = c.as_slice-2.ensures.value ∙ c.in-Ok.ensures in
     let same : IsTrue c.eq.result ↔ (c.as_slice.result.now ≡ c.as_slice-2.result.now) = slice_eq-Decides (λ a b. (search rules, search rules)) c.as_slice.result.now c.as_slice-2.result.now c.eq.result c.eq.ensures in
     (λ t. sym after_is ∙ same.0 t ∙ before_is, λ e. same.1 (after_is ∙ e ∙ sym before_is))

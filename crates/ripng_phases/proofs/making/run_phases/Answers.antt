@@ -19,6 +19,9 @@ returns-in-Err-clause-stopped g c =
     in_part g.V.Observer.takes c.args.lab.now.network (c.args.lab.now.world, c.args.watch.now) c.loop-done.done c.loop-done.begin c.loop-done.first c.loop-done.last (c.loop-done.lab, c.loop-done.watch) c.loop-done.invariant.so_far c.loop-done.invariant.network
     g.V.Observer.fails c.in-Err.stopped (c.compare_phase.new.lab, c.compare_phase.new.watch) c.loop-done.invariant.begins.0 c.loop-done.invariant.begins.1 c.loop-done.invariant.begins.2 c.in-Err.ensures.stopped
 
+pub returns-in-Err-clause-network : goal.returns-in-Err-clause-network
+returns-in-Err-clause-network g c = c.in-Err.ensures.stopped.network ∙ c.loop-done.invariant.network
+
 pub loop-done-preserved : goal.loop-done-preserved
 loop-done-preserved g c =
     let last_is : c.if-stays.last ≡ last_change c.loop-done.last c.in-Ok.stays c.loop-done.done = elim c.if-stays.branch [
@@ -26,7 +29,7 @@ loop-done-preserved g c =
       | else-stays w ↦ w.last-is ∙ sym (ap (λ (b : Bool). last_change c.loop-done.last b c.loop-done.done) w.if-stays.false)
     ] in
     record {
-      network = c.in-Ok.ensures.network ∙ c.loop-done.invariant.network;
+      network = c.in-Ok.ensures.made.network ∙ c.loop-done.invariant.network;
       so_far =
           subst (λ (last : Option ℕ). AreSoFar g.V.Observer.takes c.args.lab.now.network (c.args.lab.now.world, c.args.watch.now) (c.loop-done.done + 1) (c.loop-done.begin + 60_000) c.in-Ok.next last (c.compare_phase.new.lab.world, c.compare_phase.new.watch))
           (sym last_is)

@@ -1,0 +1,18 @@
+-- Names of std, of the crates below and of the types of this crate, passed on from one place. Declares nothing.
+pub use Rattle.std.specs.List.{AllByRecursion}
+pub use Rattle.std.specs.Prelude.{◌≡◌, ℕ, zero, suc, ◌+◌, ◌-◌, ◌*◌, ◌^◌, ◌<◌, ◌≤◌, max, Bool, ◌≢◌, ◌⊎◌, ◌↔◌, List, [], ◌∷◌, ◌++◌, map, length, take, IfSome, IfOk, IfErr, if◌then◌else◌, OnOk, IsTrue, slice_get, ⊤, Some, None, Ok, Err, codes, All, Contains, flat_map, Option, Result}
+pub use Rattle.router_core.specs.Timers.{garbage_time}
+pub use Rattle.ripng_world.specs.Common.{Prefix6, RouteValue, State, Network, World, NoMemory, IsNeverQuiet, network_now, FitsTablesSince, AreHealed, PacketsArrive, IsDueTick, Told, IfRefused, Event, Deliver, Tick, past_of, router_of, Answer, Reconfigure, Round, event_of, WatchedRun, heard, IsNetwork, OwnsPrefixes, IsTableBackedSince, SynchronousRounds, IsSoundDatagramSince, IsCold, WorldRun}
+pub use Rattle.ripng_world.specs.Labs.{LabValue}
+pub use Rattle.ripng_world.specs.Network.{AreLinked}
+pub use Rattle.ripng_world.specs.Rounds.{moment_of, IsMomentOf}
+pub use Rattle.ripng_world.specs.Watching.{EndsAt, telling}
+pub use Rattle.ripng_world.specs.World.{Happens, Restart, Shutdown, LinkDown, LinkUp}
+pub use Rattle.ripng_world.specs.declared.sent.Sent.{Sent}
+pub use Rattle.ripng_world.specs.declared.watch.Stopped.{Stopped}
+pub use Rattle.ripng_world.specs.declared.watch.Stopped.TheVariants.{Refused}
+pub use Rattle.ripng_phases.specs.declared.course.Course.{Course}
+pub use Rattle.ripng_phases.specs.declared.course.Update.{Update}
+pub use Rattle.ripng_phases.specs.declared.refused.PhaseRefused.{PhaseRefused}
+pub use Rattle.ripng_phases.specs.declared.refused.PhaseRefused.TheVariants.{NoUpdateInTime, PastLastMoment, OutOfMemory}
+pub use Rattle.ripng_phases.specs.declared.shown.ShownRoute.{ShownRoute}
