@@ -1,6 +1,5 @@
 -- Names of std, of the crates below and of the types of this crate, passed on from one place. Declares nothing.
 pub use Rattle.std.specs.List.{AllByRecursion}
-pub use Rattle.std.specs.Prelude.{◌≡◌, ℕ, zero, suc, ◌+◌, ◌-◌, ◌*◌, ◌^◌, ◌<◌, ◌≤◌, max, Bool, ◌≢◌, ◌⊎◌, ◌↔◌, List, [], ◌∷◌, ◌++◌, map, length, take, IfSome, IfOk, IfErr, if◌then◌else◌, OnOk, IsTrue, slice_get, ⊤, Some, None, Ok, Err, codes, All, Contains, flat_map, Option, Result}
 pub use Rattle.router_core.specs.Timers.{garbage_time}
 pub use Rattle.ripng_world.specs.Common.{Prefix6, RouteValue, State, Network, World, NoMemory, IsNeverQuiet, network_now, FitsTablesSince, AreHealed, PacketsArrive, IsDueTick, Told, IfRefused, Event, Deliver, Tick, past_of, router_of, Answer, Reconfigure, Round, event_of, WatchedRun, heard, IsNetwork, OwnsPrefixes, IsTableBackedSince, SynchronousRounds, IsSoundDatagramSince, IsCold, WorldRun}
 pub use Rattle.ripng_world.specs.Labs.{LabValue}

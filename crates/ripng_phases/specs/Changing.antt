@@ -1,5 +1,6 @@
 -- Which of several phases was the last in which some table changed.
-use Rattle.ripng_phases.specs.Below.{◌≡◌, ◌≢◌, ℕ, suc, zero, ◌<◌, Bool, if◌then◌else◌, List, [], ◌++◌, map, take, length, Option, Some, None, slice_get, Prefix6, RouteValue, State, Network, World, ShownRoute}
+use Rattle.std.specs.Prelude.{◌≡◌, ◌≢◌, ℕ, suc, zero, ◌<◌, Bool, if◌then◌else◌, List, [], ◌++◌, map, take, length, Option, Some, None, slice_get}
+use Rattle.ripng_phases.specs.Below.{Prefix6, RouteValue, State, Network, World, ShownRoute}
 use Rattle.std.specs.FinMap as map_of
 use Rattle.ripng_phases.specs.Phases.{Step, reached, steps_of}
 

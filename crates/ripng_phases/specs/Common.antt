@@ -1,5 +1,5 @@
 -- The names that the clauses of this crate cite, passed on from one place. Declares nothing.
-pub use Rattle.ripng_phases.specs.Below.{AllByRecursion, ◌≡◌, ℕ, ◌+◌, ◌*◌, ◌^◌, ◌<◌, ◌≤◌, max, ◌⊎◌, ◌↔◌, List, [], ◌∷◌, ◌++◌, map, length, IfSome, IfOk, IfErr, OnOk, IsTrue, slice_get, Some, None, All, State, Network, World, IsNeverQuiet, network_now, FitsTablesSince, AreHealed, PacketsArrive, IsDueTick, IfRefused, Event, Tick, past_of, Round, event_of, WatchedRun, heard, IsNetwork, OwnsPrefixes, IsTableBackedSince, SynchronousRounds, IsSoundDatagramSince, IsCold, WorldRun, Update}
+pub use Rattle.ripng_phases.specs.Below.{AllByRecursion, State, Network, World, IsNeverQuiet, network_now, FitsTablesSince, AreHealed, PacketsArrive, IsDueTick, IfRefused, Event, Tick, past_of, Round, event_of, WatchedRun, heard, IsNetwork, OwnsPrefixes, IsTableBackedSince, SynchronousRounds, IsSoundDatagramSince, IsCold, WorldRun, Update}
 pub use Rattle.ripng_phases.specs.Changing.{shown_in, shown_below, shown_route}
 pub use Rattle.ripng_phases.specs.Phases.{Step, Begun, Phases, AreClose, ArePhases, steps_of, events_of, reached}
 pub use Rattle.ripng_phases.specs.Minutes.{Timed, AreFrom, IsTimely, untimed}

@@ -1,5 +1,6 @@
 -- Phases as a lab makes them. Each is one minute by a true clock, in which datagrams are handed on in the order in which they were sent.
-use Rattle.ripng_phases.specs.Below.{◌≡◌, ◌≢◌, ℕ, ◌+◌, ◌*◌, ◌^◌, ◌<◌, ◌≤◌, ⊤, ◌⊎◌, Bool, IsTrue, List, [], ◌∷◌, ◌++◌, length, All, Contains, Option, Some, Result, Ok, Err, slice_get, AllByRecursion, State, NoMemory, IsNeverQuiet, network_now, FitsTablesSince, AreHealed, LabValue, Network, AreLinked, PacketsArrive, IsDueTick, moment_of, Told, EndsAt, IfRefused, telling, World, Event, Deliver, Tick, Happens, past_of, Sent, Stopped, Refused, Course, Update, PhaseRefused, NoUpdateInTime, PastLastMoment, OutOfMemory}
+use Rattle.std.specs.Prelude.{◌≡◌, ◌≢◌, ℕ, ◌+◌, ◌*◌, ◌^◌, ◌<◌, ◌≤◌, ⊤, ◌⊎◌, Bool, IsTrue, List, [], ◌∷◌, ◌++◌, length, All, Contains, Option, Some, Result, Ok, Err, slice_get}
+use Rattle.ripng_phases.specs.Below.{AllByRecursion, State, NoMemory, IsNeverQuiet, network_now, FitsTablesSince, AreHealed, LabValue, Network, AreLinked, PacketsArrive, IsDueTick, moment_of, Told, EndsAt, IfRefused, telling, World, Event, Deliver, Tick, Happens, past_of, Sent, Stopped, Refused, Course, Update, PhaseRefused, NoUpdateInTime, PastLastMoment, OutOfMemory}
 use Rattle.ripng_phases.specs.Changing.{IsLastChange}
 use Rattle.ripng_phases.specs.Phases.{Step, IsOrdinary, IsHeardUpdate, Phases, Begun, events_of, reached, steps_of}
 

@@ -1,6 +1,7 @@
 -- Histories by one true clock, in milliseconds, which no router sees: links keep order, lose no regular update, and take less than 15
 -- seconds. Cut at each full minute they are phases.
-use Rattle.ripng_phases.specs.Below.{◌≡◌, ◌≢◌, ℕ, ◌+◌, ◌-◌, ◌<◌, ◌≤◌, ◌⊎◌, List, [], ◌∷◌, ◌++◌, map, length, All, Contains, Some, slice_get, Network, AreLinked, IsDueTick, moment_of, router_of, World, Deliver, Tick, Sent}
+use Rattle.std.specs.Prelude.{◌≡◌, ◌≢◌, ℕ, ◌+◌, ◌-◌, ◌<◌, ◌≤◌, ◌⊎◌, List, [], ◌∷◌, ◌++◌, map, length, All, Contains, Some, slice_get}
+use Rattle.ripng_phases.specs.Below.{Network, AreLinked, IsDueTick, moment_of, router_of, World, Deliver, Tick, Sent}
 use Rattle.ripng_phases.specs.Phases.{Step, Takes, IsCount, IsOvertaken, reached}
 
 -- a step, and when it happens

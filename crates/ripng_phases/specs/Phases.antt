@@ -1,5 +1,6 @@
 -- Phases: stretches of a network's history in which all that matters gets through once, with no rounds and no common clock.
-use Rattle.ripng_phases.specs.Below.{◌≡◌, ◌≢◌, ℕ, ◌+◌, ◌<◌, ◌≤◌, ◌⊎◌, List, [], ◌∷◌, ◌++◌, map, length, flat_map, All, Contains, Some, slice_get, garbage_time, Answer, NoMemory, Network, AreLinked, World, Event, Deliver, Tick, Restart, Shutdown, LinkDown, LinkUp, Reconfigure, Happens, Round, IsDueTick, IsMomentOf, moment_of, router_of, Sent}
+use Rattle.std.specs.Prelude.{◌≡◌, ◌≢◌, ℕ, ◌+◌, ◌<◌, ◌≤◌, ◌⊎◌, List, [], ◌∷◌, ◌++◌, map, length, flat_map, All, Contains, Some, slice_get}
+use Rattle.ripng_phases.specs.Below.{garbage_time, Answer, NoMemory, Network, AreLinked, World, Event, Deliver, Tick, Restart, Shutdown, LinkDown, LinkUp, Reconfigure, Happens, Round, IsDueTick, IsMomentOf, moment_of, router_of, Sent}
 
 -- ---- what happens in a phase
 

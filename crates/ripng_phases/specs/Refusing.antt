@@ -1,5 +1,6 @@
 -- The refusals of phases.
-use Rattle.ripng_phases.specs.Below.{ℕ, List, codes, PhaseRefused, NoUpdateInTime, PastLastMoment, OutOfMemory}
+use Rattle.std.specs.Prelude.{ℕ, List, codes}
+use Rattle.ripng_phases.specs.Below.{PhaseRefused, NoUpdateInTime, PastLastMoment, OutOfMemory}
 
 -- the number of a refusal
 abbrev pub refused_number : PhaseRefused → ℕ

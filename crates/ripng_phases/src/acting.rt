@@ -1,6 +1,7 @@
 //! The actions of a phase: a router ticks, and a datagram comes to its receivers.
 
-ghost use Rattle.ripng_phases.specs.Common.{◌≡◌, ℕ, ◌<◌, ◌+◌, ◌^◌, ◌∷◌, [], IfErr, OnOk, Some, length, slice_get, event_of, IsDueTick, IfRefused, WatchedRun, heard, Tick, GoesOn, IsLast, Update as UpdateValue};
+ghost use Rattle.std.specs.Prelude.{◌≡◌, ℕ, ◌<◌, ◌+◌, ◌^◌, ◌∷◌, [], IfErr, OnOk, Some, length, slice_get};
+ghost use Rattle.ripng_phases.specs.Common.{event_of, IsDueTick, IfRefused, WatchedRun, heard, Tick, GoesOn, IsLast, Update as UpdateValue};
 
 use crate::course::{Course, Update};
 use crate::refused::PhaseRefused;

@@ -1,6 +1,7 @@
 //! How far a phase has come: its clock, which datagrams were handed on, and which regular updates were sent.
 
-ghost use Rattle.ripng_phases.specs.Common.{◌≡◌, ◌≤◌, ◌<◌, IsTrue, Some, slice_get, IsAdded, IsKept, Update as UpdateValue};
+ghost use Rattle.std.specs.Prelude.{◌≡◌, ◌≤◌, ◌<◌, IsTrue, Some, slice_get};
+ghost use Rattle.ripng_phases.specs.Common.{IsAdded, IsKept, Update as UpdateValue};
 
 use route_table::Moment;
 

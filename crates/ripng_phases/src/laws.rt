@@ -1,6 +1,7 @@
 //! Laws of phases. Each is the contract of an empty function: it follows from the definitions alone.
 
-ghost use Rattle.ripng_phases.specs.Common.{◌≡◌, ℕ, ◌+◌, ◌*◌, ◌<◌, ◌≤◌, List, ◌++◌, length, All, Some, slice_get, AllByRecursion, State, IsNeverQuiet, network_now, FitsTablesSince, AreHealed, Network, IsNetwork, OwnsPrefixes, PacketsArrive, IsTableBackedSince, Round, SynchronousRounds, IsSoundDatagramSince, World, Event, IsCold, WorldRun, past_of, Timed, AreFrom, IsTimely, untimed, Step, Begun, Phases, AreClose, ArePhases, steps_of, events_of, reached};
+ghost use Rattle.std.specs.Prelude.{◌≡◌, ℕ, ◌+◌, ◌*◌, ◌<◌, ◌≤◌, List, ◌++◌, length, All, Some, slice_get};
+ghost use Rattle.ripng_phases.specs.Common.{AllByRecursion, State, IsNeverQuiet, network_now, FitsTablesSince, AreHealed, Network, IsNetwork, OwnsPrefixes, PacketsArrive, IsTableBackedSince, Round, SynchronousRounds, IsSoundDatagramSince, World, Event, IsCold, WorldRun, past_of, Timed, AreFrom, IsTimely, untimed, Step, Begun, Phases, AreClose, ArePhases, steps_of, events_of, reached};
 
 /// Phases are a run of exactly their events.
 pub fn phases_are_run()

@@ -5,7 +5,8 @@
 //! Then each router that has not sent its regular update sends it, and all datagrams up to the last of these are handed on. What
 //! is left comes in the next phase.
 
-ghost use Rattle.ripng_phases.specs.Common.{◌≡◌, ◌↔◌, ℕ, ◌+◌, ◌^◌, ◌<◌, ◌≤◌, ◌⊎◌, max, IfErr, IfOk, IfSome, IsTrue, OnOk, None, Some, length, slice_get, State, shown_in, AreMadeInPart, AreMadePhases, GoesOn, HealsIn, IsCutShort, IsFresh, IsLatest, IsMadePhase, LetsArriveIn, MakesPhase, Update as UpdateValue};
+ghost use Rattle.std.specs.Prelude.{◌≡◌, ◌↔◌, ℕ, ◌+◌, ◌^◌, ◌<◌, ◌≤◌, ◌⊎◌, max, IfErr, IfOk, IfSome, IsTrue, OnOk, None, Some, length, slice_get};
+ghost use Rattle.ripng_phases.specs.Common.{State, shown_in, AreMadeInPart, AreMadePhases, GoesOn, HealsIn, IsCutShort, IsFresh, IsLatest, IsMadePhase, LetsArriveIn, MakesPhase, Update as UpdateValue};
 
 use crate::acting::{hand_on, tick};
 use crate::course::{Course, PHASE_MS};

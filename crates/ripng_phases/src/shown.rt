@@ -1,6 +1,7 @@
 //! What all routers of a network hold, as scripts print it: each route without its clock and its route change flag.
 
-ghost use Rattle.ripng_phases.specs.Common.{◌≡◌, ◌++◌, IfOk, OnOk, length, map, shown_below, shown_route};
+ghost use Rattle.std.specs.Prelude.{◌≡◌, ◌++◌, IfOk, OnOk, length, map};
+ghost use Rattle.ripng_phases.specs.Common.{shown_below, shown_route};
 ghost use Rattle.std.specs.FinMap as map_of;
 
 use prefix6::Prefix;

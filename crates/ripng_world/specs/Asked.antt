@@ -1,5 +1,5 @@
 -- A round, as a caller asks for it.
-use Rattle.ripng_world.specs.Below.{ℕ, List}
+use Rattle.std.specs.Prelude.{ℕ, List}
 
 -- what a caller asks of one round
 pub record Asked : Type 0 where

@@ -1,5 +1,6 @@
 -- Rounds that a caller asks for, and the events that they make.
-use Rattle.ripng_world.specs.Below.{◌≡◌, ℕ, ◌%◌, ◌==◌, ◌≤◌, not, Bool, ◌&&◌, List, [], ◌∷◌, ◌++◌, map, drop, length, filter, filter_map, flat_map, option_map, slice_get, enumerate_from, list_any, range_with_len, Pair, Sent}
+use Rattle.std.specs.Prelude.{◌≡◌, ℕ, ◌%◌, ◌==◌, ◌≤◌, not, Bool, ◌&&◌, List, [], ◌∷◌, ◌++◌, map, drop, length, filter, filter_map, flat_map, option_map, slice_get}
+use Rattle.ripng_world.specs.Below.{enumerate_from, list_any, range_with_len, Pair, Sent}
 use Rattle.ripng_world.specs.Asked.{Asked}
 use Rattle.ripng_world.specs.Convergence.{IsNeverQuiet, FitsTables, AreConverged, HaveSettled}
 use Rattle.ripng_world.specs.Labs.{is_one_link, link_at}

@@ -1,7 +1,6 @@
 -- Names of std, of the crates below and of the types of this crate, passed on from one place. Declares nothing.
 pub use Rattle.std.specs.List.{enumerate_from, list_any, range_with_len, AllByRecursion, IsDistinct}
 pub use Rattle.std.specs.Option.{option_map_or}
-pub use Rattle.std.specs.Prelude.{◌≡◌, ℕ, suc, ◌+◌, ◌*◌, ◌/◌, ◌%◌, ◌^◌, ◌<◌, ◌≤◌, max, Bool, true, false, not, ◌&&◌, ◌≢◌, ◌⊎◌, ◌↔◌, List, [], ◌∷◌, ◌++◌, map, length, take, drop, is_none, IfSome, IfNone, IfOk, IfErr, OnOk, OnErr, IsNone, IsTrue, IsFalse, nat_eq, nat_lt, nat_le, ◌==◌, slice_get, slice_index_or, slice_set, ⊤, Some, None, Ok, Err, vec_len, vec_capacity, codes, fold, All, Contains, filter, Any, position, flat_map, filter_map, Option, Result, unwrap_or, option_map, option_and_then, option_copied}
 pub use Rattle.std.specs.Result.{result_err}
 pub use Rattle.prefix6.specs.Addr.{is_link_local}
 pub use Rattle.prefix6.specs.Prefix.{Prefix6, prefix_cmp, IsPrefix, is_routable, Holds, cleared}

@@ -1,5 +1,5 @@
 -- The names that the clauses of this crate cite, passed on from one place. Declares nothing.
-pub use Rattle.ripng_world.specs.Below.{AllByRecursion, IsDistinct, ◌≡◌, ℕ, ◌+◌, ◌/◌, ◌^◌, ◌<◌, ◌≤◌, max, false, ◌≢◌, ◌⊎◌, ◌↔◌, List, [], ◌∷◌, ◌++◌, map, length, take, IfSome, IfOk, IfErr, OnOk, OnErr, IsNone, IsTrue, IsFalse, nat_eq, slice_get, slice_index_or, ⊤, Some, None, vec_len, vec_capacity, All, filter, Any, position, unwrap_or, option_map, option_and_then, option_copied, result_err, Prefix6, cleared, Spells, first_reason, Response, Rte, RouteValue, infinity, Table, Learned, IsLongestMatch, IsMatch, FibHop, aged_table, forwards, forward, Config, reasons_of_each, IsConfig, Hearing, Heard, State, Happening, Reconfigures, Moves, Starts, IsNamed, reconfigured_table, NamesInterface, reconfigure_fault, Answer, NoMemory, Change, OutOfMemory, Delivered, Sent, Refused}
+pub use Rattle.ripng_world.specs.Below.{AllByRecursion, IsDistinct, result_err, Prefix6, cleared, Spells, first_reason, Response, Rte, RouteValue, infinity, Table, Learned, IsLongestMatch, IsMatch, FibHop, aged_table, forwards, forward, Config, reasons_of_each, IsConfig, Hearing, Heard, State, Happening, Reconfigures, Moves, Starts, IsNamed, reconfigured_table, NamesInterface, reconfigure_fault, Answer, NoMemory, Change, OutOfMemory, Delivered, Sent, Refused}
 pub use Rattle.ripng_world.specs.Network.{Network, HasDistinctAddresses, IsNetwork, OwnsPrefixes, config_of, interface_at}
 pub use Rattle.ripng_world.specs.Walks.{IsTableBacked, Hop, IsWalk, BeginsAs, Reaches, cost, IsLeast}
 pub use Rattle.ripng_world.specs.Past.{IsTableBackedSince, Past, ReachesSince, IsLeastSince}

@@ -1,5 +1,6 @@
 -- Convergence from a cold start, in a counted number of rounds.
-use Rattle.ripng_world.specs.Below.{◌≡◌, ℕ, ◌<◌, ◌≤◌, IsFalse, List, length, Contains, Some, slice_get, Prefix6, RouteValue, infinity, Table, table_limit, State}
+use Rattle.std.specs.Prelude.{◌≡◌, ℕ, ◌<◌, ◌≤◌, IsFalse, List, length, Contains, Some, slice_get}
+use Rattle.ripng_world.specs.Below.{Prefix6, RouteValue, infinity, Table, table_limit, State}
 use Rattle.std.specs.FinMap as map_of
 use Rattle.ripng_world.specs.Network.{Network, Node, Owns}
 use Rattle.ripng_world.specs.Walks.{IsLeast, IsLeastWithin}

@@ -1,5 +1,6 @@
 -- Deliveries one after another: what is delivered, and where they stop.
-use Rattle.ripng_world.specs.Below.{◌≡◌, ◌≤◌, ◌⊎◌, ℕ, List, length, map, take, Some, slice_get, Any, Answer, NoMemory, Sent, Stopped, Refused, Failed}
+use Rattle.std.specs.Prelude.{◌≡◌, ◌≤◌, ◌⊎◌, ℕ, List, length, map, take, Some, slice_get, Any}
+use Rattle.ripng_world.specs.Below.{Answer, NoMemory, Sent, Stopped, Refused, Failed}
 use Rattle.ripng_world.specs.AskedRounds.{delivery, pairs_since}
 use Rattle.ripng_world.specs.Network.{Network}
 use Rattle.ripng_world.specs.Rounds.{AllHeard}

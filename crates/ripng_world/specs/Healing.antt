@@ -1,5 +1,6 @@
 -- What a network becomes in counted rounds, whatever happened to it before: costs and owners of now, and nothing else.
-use Rattle.ripng_world.specs.Below.{◌≡◌, ℕ, ◌+◌, ◌<◌, ◌≤◌, List, [], ◌∷◌, ◌++◌, fold, length, Contains, Some, unwrap_or, option_map, slice_get, slice_set, Prefix6, RouteValue, infinity, Table, table_limit, State, without_prefix, garbage_time, Change, Cost, Own, Disown, NetInterface}
+use Rattle.std.specs.Prelude.{◌≡◌, ℕ, ◌+◌, ◌<◌, ◌≤◌, List, [], ◌∷◌, ◌++◌, fold, length, Contains, Some, unwrap_or, option_map, slice_get, slice_set}
+use Rattle.ripng_world.specs.Below.{Prefix6, RouteValue, infinity, Table, table_limit, State, without_prefix, garbage_time, Change, Cost, Own, Disown, NetInterface}
 use Rattle.std.specs.FinMap as map_of
 use Rattle.ripng_world.specs.Asked.{Asked}
 use Rattle.ripng_world.specs.AskedRounds.{AreMade}

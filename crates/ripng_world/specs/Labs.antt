@@ -1,5 +1,6 @@
 -- A lab: a lawful network that has run since a cold start, and what then holds.
-use Rattle.ripng_world.specs.Below.{◌≡◌, ℕ, ◌<◌, ◌≤◌, ◌==◌, nat_le, not, Bool, false, List, [], ◌∷◌, ◌++◌, map, ◌⊎◌, length, Option, Some, None, IfNone, IfSome, is_none, option_map, option_and_then, slice_get, codes, AllByRecursion, option_map_or, Prefix6, first_reason, RouteValue, infinity, State, Received, reconfigure_reasons, Answer, Change, Cost, Own, Disown, ReconfigureRefused, LabError, NoSuchRouter, NoSuchInterface, NoSuchDatagram, OtherLink, NotAStranger, OutOfMemory, NotALiar, Sent}
+use Rattle.std.specs.Prelude.{◌≡◌, ℕ, ◌<◌, ◌≤◌, ◌==◌, nat_le, not, Bool, false, List, [], ◌∷◌, ◌++◌, map, ◌⊎◌, length, Option, Some, None, IfNone, IfSome, is_none, option_map, option_and_then, slice_get, codes}
+use Rattle.ripng_world.specs.Below.{AllByRecursion, option_map_or, Prefix6, first_reason, RouteValue, infinity, State, Received, reconfigure_reasons, Answer, Change, Cost, Own, Disown, ReconfigureRefused, LabError, NoSuchRouter, NoSuchInterface, NoSuchDatagram, OtherLink, NotAStranger, OutOfMemory, NotALiar, Sent}
 use Rattle.std.specs.FinMap as map_of
 use Rattle.router_core.specs.declared.reconfiguring.ReconfigureRefused.TheVariants as refused
 use Rattle.ripng_world.specs.Network.{Network, IsNetwork, interface_at}

@@ -1,5 +1,6 @@
 -- Lies: forged Responses, which a router accepts from its link and no router of the network has sent.
-use Rattle.ripng_world.specs.Below.{◌≡◌, ℕ, ◌<◌, ◌⊎◌, ◌++◌, not, Bool, IsTrue, List, [], ◌∷◌, length, Option, Some, None, first_reason, Arrives, Received, Answer, LabError, NotALiar, OutOfMemory}
+use Rattle.std.specs.Prelude.{◌≡◌, ℕ, ◌<◌, ◌⊎◌, ◌++◌, not, Bool, IsTrue, List, [], ◌∷◌, length, Option, Some, None}
+use Rattle.ripng_world.specs.Below.{first_reason, Arrives, Received, Answer, LabError, NotALiar, OutOfMemory}
 use Rattle.ripng_world.specs.Labs.{LabValue, is_heard_at, missing_interface_reasons}
 use Rattle.ripng_world.specs.World.{World, RouterMoves, is_heard}
 

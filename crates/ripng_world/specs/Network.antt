@@ -1,5 +1,6 @@
 -- Networks: routers with interfaces on links.
-use Rattle.ripng_world.specs.Below.{◌≡◌, ℕ, ◌<◌, ◌≤◌, Bool, IsTrue, List, map, Option, Some, slice_get, option_and_then, is_link_local, Prefix6, IsPrefix, is_routable, infinity, Config, NetInterface}
+use Rattle.std.specs.Prelude.{◌≡◌, ℕ, ◌<◌, ◌≤◌, Bool, IsTrue, List, map, Option, Some, slice_get, option_and_then}
+use Rattle.ripng_world.specs.Below.{is_link_local, Prefix6, IsPrefix, is_routable, infinity, Config, NetInterface}
 
 -- what one router of a network is configured with
 pub record Node : Type 0 where

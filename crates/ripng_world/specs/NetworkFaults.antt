@@ -1,5 +1,6 @@
 -- Which networks are refused. The reasons, their order and their names are this project's choice.
-use Rattle.ripng_world.specs.Below.{ℕ, ◌==◌, nat_lt, Bool, List, [], ◌∷◌, ◌++◌, map, length, flat_map, Option, codes, list_any, first_reason, config_reasons, reasons_of_each, NetRefused, TooManyRouters, AddressSharedInNetwork, BadRouter}
+use Rattle.std.specs.Prelude.{ℕ, ◌==◌, nat_lt, Bool, List, [], ◌∷◌, ◌++◌, map, length, flat_map, Option, codes}
+use Rattle.ripng_world.specs.Below.{list_any, first_reason, config_reasons, reasons_of_each, NetRefused, TooManyRouters, AddressSharedInNetwork, BadRouter}
 use Rattle.ripng_world.specs.Network.{Network, Node, config_of}
 use Rattle.ripng_world.specs.declared.network.NetRefused.TheVariants.{OutOfMemory}
 

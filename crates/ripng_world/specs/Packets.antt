@@ -1,5 +1,6 @@
 -- Where packets go: from router to router, as the forwarding table of each one says.
-use Rattle.ripng_world.specs.Below.{◌≡◌, ℕ, ◌<◌, ◌≤◌, List, [], ◌∷◌, map, length, Option, Some, option_map, slice_get, nat_eq, IsDistinct, Prefix6, Holds, Forward, Forwarding, IsLongestMatch, FibHop, Direct, Via, infinity, forwards, State}
+use Rattle.std.specs.Prelude.{◌≡◌, ℕ, ◌<◌, ◌≤◌, List, [], ◌∷◌, map, length, Option, Some, option_map, slice_get, nat_eq}
+use Rattle.ripng_world.specs.Below.{IsDistinct, Prefix6, Holds, Forward, Forwarding, IsLongestMatch, FibHop, Direct, Via, infinity, forwards, State}
 use Rattle.std.specs.FinMap as map_of
 use Rattle.ripng_world.specs.Asked.{Asked}
 use Rattle.ripng_world.specs.AskedRounds.{AreMade}

@@ -1,5 +1,6 @@
 -- All that was in force in a network since its cold start: costs, owners, and the walks at such costs to such owners.
-use Rattle.ripng_world.specs.Below.{◌≡◌, ◌⊎◌, ℕ, ◌+◌, List, [], ◌∷◌, Some, slice_get, Prefix6, Rte, RouteValue, Table, Change, Cost, Own}
+use Rattle.std.specs.Prelude.{◌≡◌, ◌⊎◌, ℕ, ◌+◌, List, [], ◌∷◌, Some, slice_get}
+use Rattle.ripng_world.specs.Below.{Prefix6, Rte, RouteValue, Table, Change, Cost, Own}
 use Rattle.ripng_world.specs.Network.{Network, Owns}
 use Rattle.ripng_world.specs.Walks.{Hop, IsWalk, IsBackedBy, IsEntryBackedBy, IsLeastBy, IsTableBackedBy, end_of, cost_of_interface}
 

@@ -1,5 +1,6 @@
 -- The way of packets by the tables of routers, and how it ends.
-use Rattle.ripng_world.specs.Below.{◌≡◌, ◌↔◌, ℕ, nat_eq, ◌==◌, ◌&&◌, Bool, List, [], ◌∷◌, Contains, Some, option_map, IsDistinct, Prefix6, Forwarding, IsMatch, Via, NetInterface, PathEnd, Delivered, NoRoute, NextHopIsNobodys, Loops}
+use Rattle.std.specs.Prelude.{◌≡◌, ◌↔◌, ℕ, nat_eq, ◌==◌, ◌&&◌, Bool, List, [], ◌∷◌, Contains, Some, option_map}
+use Rattle.ripng_world.specs.Below.{IsDistinct, Prefix6, Forwarding, IsMatch, Via, NetInterface, PathEnd, Delivered, NoRoute, NextHopIsNobodys, Loops}
 use Rattle.ripng_world.specs.Network.{Network, interface_at}
 use Rattle.ripng_world.specs.Packets.{Forwardings, ForwardsBy, HandsOn, DeliversItself, ArriveBy}
 use Rattle.ripng_world.specs.Walks.{Hop, IsHop, end_of}

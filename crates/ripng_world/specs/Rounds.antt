@@ -1,5 +1,6 @@
 -- Rounds in which every router advertises its whole table, and every datagram arrives.
-use Rattle.ripng_world.specs.Below.{◌≡◌, ◌≢◌, ℕ, ◌+◌, ◌<◌, ◌≤◌, max, ◌⊎◌, List, [], ◌∷◌, ◌++◌, map, length, All, Contains, Some, slice_get, nat_eq, flat_map, IsDistinct, timeout, State, Answer, NoMemory, Sent}
+use Rattle.std.specs.Prelude.{◌≡◌, ◌≢◌, ℕ, ◌+◌, ◌<◌, ◌≤◌, max, ◌⊎◌, List, [], ◌∷◌, ◌++◌, map, length, All, Contains, Some, slice_get, nat_eq, flat_map}
+use Rattle.ripng_world.specs.Below.{IsDistinct, timeout, State, Answer, NoMemory, Sent}
 use Rattle.ripng_world.specs.Network.{Network, AreLinked}
 use Rattle.ripng_world.specs.World.{World, Event, Deliver, Stranger, Tick, Restart, Shutdown, LinkDown, LinkUp, Reconfigure, Happens}
 

@@ -1,5 +1,6 @@
 -- Routers of a network at their places.
-use Rattle.ripng_world.specs.Below.{prefix_cmp, Table, ◌≡◌, ℕ, ◌<◌, ◌*◌, ◌/◌, max, ⊤, List, [], ◌∷◌, ◌++◌, map, length, Some, slice_get, slice_set, State, Happening, Arrives, Ticks, Restarts, Reconfigures, ShutsDown, LinkGoesDown, LinkComesUp, Moves, Answer, Change, Sent}
+use Rattle.std.specs.Prelude.{◌≡◌, ℕ, ◌<◌, ◌*◌, ◌/◌, max, ⊤, List, [], ◌∷◌, ◌++◌, map, length, Some, slice_get, slice_set}
+use Rattle.ripng_world.specs.Below.{prefix_cmp, Table, State, Happening, Arrives, Ticks, Restarts, Reconfigures, ShutsDown, LinkGoesDown, LinkComesUp, Moves, Answer, Change, Sent}
 use Rattle.std.specs.FinMap as map_of
 use Rattle.std.specs.Coded.{Coded, codes}
 use Rattle.prefix6.specs.contracts.prefix.Prefix as prefix

@@ -1,5 +1,6 @@
 -- Where rounds that are asked for stop, and for what.
-use Rattle.ripng_world.specs.Below.{◌≡◌, ◌⊎◌, ℕ, ◌+◌, ◌<◌, max, List, take, Some, slice_get, codes, State, RoundsRefused, NoRegularUpdate, Stopped, Refused, Failed}
+use Rattle.std.specs.Prelude.{◌≡◌, ◌⊎◌, ℕ, ◌+◌, ◌<◌, max, List, take, Some, slice_get, codes}
+use Rattle.ripng_world.specs.Below.{State, RoundsRefused, NoRegularUpdate, Stopped, Refused, Failed}
 use Rattle.ripng_world.specs.Asked.{Asked}
 use Rattle.ripng_world.specs.AskedRounds.{AreMade, round_of, ticks_of}
 use Rattle.ripng_world.specs.Delivering.{StopForMemory, StopForWatcher}

@@ -1,5 +1,6 @@
 -- What every table and every datagram of a network keeps.
-use Rattle.ripng_world.specs.Below.{◌≡◌, ◌≢◌, ℕ, ◌<◌, ◌≤◌, List, Some, option_map, AllByRecursion, Prefix6, cleared, Rte, Response, Spells, RouteValue, infinity, Table, Gateway}
+use Rattle.std.specs.Prelude.{◌≡◌, ◌≢◌, ℕ, ◌<◌, ◌≤◌, List, Some, option_map}
+use Rattle.ripng_world.specs.Below.{AllByRecursion, Prefix6, cleared, Rte, Response, Spells, RouteValue, infinity, Table, Gateway}
 use Rattle.std.specs.FinMap as map_of
 use Rattle.ripng_world.specs.Network.{Network, AreLinked, interface_at}
 use Rattle.ripng_world.specs.Walks.{IsBacked, IsEntryBacked, cost_of_interface}

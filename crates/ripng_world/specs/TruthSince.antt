@@ -1,5 +1,6 @@
 -- What every table and every datagram of a network keeps while costs and owners change: what `Truth` says, of all walks since.
-use Rattle.ripng_world.specs.Below.{ℕ, List, Prefix6, Rte, RouteValue, Table, Gateway}
+use Rattle.std.specs.Prelude.{ℕ, List}
+use Rattle.ripng_world.specs.Below.{Prefix6, Rte, RouteValue, Table, Gateway}
 use Rattle.ripng_world.specs.Past.{Past, HasCostSince, IsBackedSince, IsEntryBackedSince}
 use Rattle.ripng_world.specs.Truth.{IsNeighborBy, IsSoundBy, IsSoundDatagramBy, IsSoundEntryBy, IsSoundTableBy}
 

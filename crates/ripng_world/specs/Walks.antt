@@ -1,5 +1,6 @@
 -- Walks through a network, their cost, and routes that are backed by one.
-use Rattle.ripng_world.specs.Below.{◌≡◌, ◌≢◌, ℕ, ◌+◌, ◌<◌, ◌≤◌, List, [], ◌∷◌, length, Some, unwrap_or, option_map, Prefix6, cleared, Rte, RouteValue, infinity, Table, Origin, Learned}
+use Rattle.std.specs.Prelude.{◌≡◌, ◌≢◌, ℕ, ◌+◌, ◌<◌, ◌≤◌, List, [], ◌∷◌, length, Some, unwrap_or, option_map}
+use Rattle.ripng_world.specs.Below.{Prefix6, cleared, Rte, RouteValue, infinity, Table, Origin, Learned}
 use Rattle.std.specs.FinMap as map_of
 use Rattle.route_table.specs.declared.route.Origin.TheVariants.{Own}
 use Rattle.ripng_world.specs.Network.{Network, AreLinked, Owns, interface_at}

@@ -1,5 +1,6 @@
 -- What an observer is notified of in a network that runs, event by event.
-use Rattle.ripng_world.specs.Below.{◌≡◌, ◌≢◌, ℕ, ◌≤◌, ⊤, ◌⊎◌, List, [], ◌∷◌, ◌++◌, take, length, All, Option, Some, None, Result, Ok, Err, slice_get, Answer, NoMemory, Stopped, Refused, Failed}
+use Rattle.std.specs.Prelude.{◌≡◌, ◌≢◌, ℕ, ◌≤◌, ⊤, ◌⊎◌, List, [], ◌∷◌, ◌++◌, take, length, All, Option, Some, None, Result, Ok, Err, slice_get}
+use Rattle.ripng_world.specs.Below.{Answer, NoMemory, Stopped, Refused, Failed}
 use Rattle.ripng_world.specs.Asked.{Asked}
 use Rattle.ripng_world.specs.AskedRounds.{AreMade, round_of, ticks_of}
 use Rattle.ripng_world.specs.Delivering.{WantsMemory}

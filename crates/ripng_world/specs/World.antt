@@ -1,5 +1,6 @@
 -- A network that runs: the state of each router, and every datagram ever sent.
-use Rattle.ripng_world.specs.Below.{◌≡◌, ℕ, ◌<◌, suc, Bool, true, false, ◌&&◌, List, [], ◌∷◌, ◌++◌, length, map, filter_map, Option, Some, None, is_none, unwrap_or, option_map, slice_get, slice_set, IsFalse, is_response, Received, fault, ripng_port, State, Happening, Arrives, Ticks, Restarts, Reconfigures, ShutsDown, LinkGoesDown, LinkComesUp, Moves, Starts, Answer, Outgoing, Destination, Group, Peer, Change, Sent}
+use Rattle.std.specs.Prelude.{◌≡◌, ℕ, ◌<◌, suc, Bool, true, false, ◌&&◌, List, [], ◌∷◌, ◌++◌, length, map, filter_map, Option, Some, None, is_none, unwrap_or, option_map, slice_get, slice_set, IsFalse}
+use Rattle.ripng_world.specs.Below.{is_response, Received, fault, ripng_port, State, Happening, Arrives, Ticks, Restarts, Reconfigures, ShutsDown, LinkGoesDown, LinkComesUp, Moves, Starts, Answer, Outgoing, Destination, Group, Peer, Change, Sent}
 use Rattle.ripng_world.specs.Network.{Network, Node, AreLinked, config_of, interface_at}
 use Rattle.ripng_world.specs.Past.{Past}
 

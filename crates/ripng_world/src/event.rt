@@ -1,6 +1,7 @@
 //! What may happen in a network, and why an event is refused.
 
-ghost use Rattle.ripng_world.specs.Common.{◌≡◌, event_of, lab_error_name, lab_error_number, refusal_of, router_of, OutOfMemory};
+ghost use Rattle.std.specs.Prelude.{◌≡◌};
+ghost use Rattle.ripng_world.specs.Common.{event_of, lab_error_name, lab_error_number, refusal_of, router_of, OutOfMemory};
 
 use route_table::Moment;
 use router_core::{Arrival, Change, ReconfigureRefused};

@@ -1,7 +1,8 @@
 //! A lab: a lawful network that runs, with real routers and bytes. Whatever happens in it, each route of a router, and each that a
 //! datagram advertises, is backed by a walk through the network.
 
-ghost use Rattle.ripng_world.specs.Common.{◌≡◌, ◌++◌, ◌∷◌, [], IfErr, IfOk, IfSome, OnOk, length, map, take, slice_get, option_copied, result_err, event_of, HasRun, Keeps, HasNoneBelowLeast, HasNoneBelowLeastSince, AreDatagramsSoundSince, AreDatagramsSound, HappensGiving, IsRefusedNext, StepEnds, link_at, IsTableBackedSince, network_of, world_of, IsTableBacked, IfRefused, WatchedInPart, WatchedUntil, failures, failures_in, refusal_in, IsCold, WorldRun, reconfigurations_in, past_of, LabValue, coded_states};
+ghost use Rattle.std.specs.Prelude.{◌≡◌, ◌++◌, ◌∷◌, [], IfErr, IfOk, IfSome, OnOk, length, map, take, slice_get, option_copied};
+ghost use Rattle.ripng_world.specs.Common.{result_err, event_of, HasRun, Keeps, HasNoneBelowLeast, HasNoneBelowLeastSince, AreDatagramsSoundSince, AreDatagramsSound, HappensGiving, IsRefusedNext, StepEnds, link_at, IsTableBackedSince, network_of, world_of, IsTableBacked, IfRefused, WatchedInPart, WatchedUntil, failures, failures_in, refusal_in, IsCold, WorldRun, reconfigurations_in, past_of, LabValue, coded_states};
 
 mod delivering;
 mod making;

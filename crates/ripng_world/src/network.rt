@@ -1,6 +1,7 @@
 //! Networks: routers with interfaces on links, and which of them are lawful.
 
-ghost use Rattle.ripng_world.specs.Common.{◌≡◌, ◌≢◌, All, map, None, Some, IfErr, IfOk, OnOk, result_err, first_reason, IsConfig, reasons_of_each, IsNetwork, config_of, address_reasons, addresses, faults_of_router, net_refused_name, net_refused_number, network_fault, router_reasons, Network};
+ghost use Rattle.std.specs.Prelude.{◌≡◌, ◌≢◌, All, map, None, Some, IfErr, IfOk, OnOk};
+ghost use Rattle.ripng_world.specs.Common.{result_err, first_reason, IsConfig, reasons_of_each, IsNetwork, config_of, address_reasons, addresses, faults_of_router, net_refused_name, net_refused_number, network_fault, router_reasons, Network};
 ghost use Rattle.ripng_world.specs.declared.network.NetRefused.TheVariants.{OutOfMemory};
 
 use prefix6::{Addr6, Prefix};

@@ -1,6 +1,7 @@
 //! Which datagrams come where: pairs of a datagram and another interface of its link.
 
-ghost use Rattle.ripng_world.specs.Common.{◌≡◌, IfOk, filter, interfaces_of, is_other, pairs_since};
+ghost use Rattle.std.specs.Prelude.{◌≡◌, IfOk, filter};
+ghost use Rattle.ripng_world.specs.Common.{interfaces_of, is_other, pairs_since};
 
 use crate::running::Running;
 use crate::sent::Sent;

@@ -1,6 +1,7 @@
 //! Where packets go by the tables of routers that run: from router to router, each by its longest match, until the way ends.
 
-ghost use Rattle.ripng_world.specs.Common.{◌≡◌, ◌<◌, ◌≤◌, ◌≢◌, ◌^◌, ◌⊎◌, ◌↔◌, IfErr, IfOk, IfSome, IsNone, length, option_and_then, option_map, position, IsLongestMatch, IsMatch, Prefix6, cleared, forward, forwards, network_now, HandsOn, forwardings_of, EndsAt, IsPath, LeadsTo, is_on, Hop as WalkHop, past_of, PathValue};
+ghost use Rattle.std.specs.Prelude.{◌≡◌, ◌<◌, ◌≤◌, ◌≢◌, ◌^◌, ◌⊎◌, ◌↔◌, IfErr, IfOk, IfSome, IsNone, length, option_and_then, option_map, position};
+ghost use Rattle.ripng_world.specs.Common.{IsLongestMatch, IsMatch, Prefix6, cleared, forward, forwards, network_now, HandsOn, forwardings_of, EndsAt, IsPath, LeadsTo, is_on, Hop as WalkHop, past_of, PathValue};
 ghost use Rattle.std.specs.FinMap as map_of;
 
 use crate::event::LabError;

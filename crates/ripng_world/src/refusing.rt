@@ -1,6 +1,7 @@
 //! Which events of a network are refused.
 
-ghost use Rattle.ripng_world.specs.Common.{◌≡◌, ℕ, Some, IfOk, result_err, first_reason, event_of, event_fault, link_at, missing_interface_reasons, missing_router_reasons, lie_fault, Deliver, Stranger, is_heard};
+ghost use Rattle.std.specs.Prelude.{◌≡◌, ℕ, Some, IfOk};
+ghost use Rattle.ripng_world.specs.Common.{result_err, first_reason, event_of, event_fault, link_at, missing_interface_reasons, missing_router_reasons, lie_fault, Deliver, Stranger, is_heard};
 
 use crate::event::{Event, LabError};
 use crate::running::Running;

@@ -42,7 +42,8 @@ pub enum RoundsRefused {
 }
 
 impl RoundsRefused {
-    ghost use Rattle.ripng_world.specs.Common.{◌≡◌, stop_name, stop_number};
+    ghost use Rattle.std.specs.Prelude.{◌≡◌};
+    ghost use Rattle.ripng_world.specs.Common.{stop_name, stop_number};
 
     /// The number of the refusal, 41 or 42.
     pub fn number(self) -> u8

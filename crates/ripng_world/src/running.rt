@@ -1,7 +1,8 @@
 //! Routers that run in a network, with all that they have sent. Only what each step does is promised of them. More holds while no
 //! router has received a forged Response: that is promised of a `Lab`, which is made of this.
 
-ghost use Rattle.ripng_world.specs.Common.{◌≡◌, ◌∷◌, [], IfErr, IfOk, OnErr, length, slice_get, option_copied, result_err, event_of, HappensGiving, StepEnds, link_at, IsLieRefusal, LiesGiving, IfRefused, WatchedInPart, failures, refusal_in, LabValue, lab_of, coded_states};
+ghost use Rattle.std.specs.Prelude.{◌≡◌, ◌∷◌, [], IfErr, IfOk, OnErr, length, slice_get, option_copied};
+ghost use Rattle.ripng_world.specs.Common.{result_err, event_of, HappensGiving, StepEnds, link_at, IsLieRefusal, LiesGiving, IfRefused, WatchedInPart, failures, refusal_in, LabValue, lab_of, coded_states};
 
 use crate::event::{Event, Happening, LabError};
 use crate::moving::{act, file, happen};

@@ -1,6 +1,7 @@
 //! A router that runs in a network.
 
-ghost use Rattle.ripng_world.specs.Common.{◌≡◌, ◌≤◌, ◌/◌, [], max, IfErr, IfOk, OnErr, length, unwrap_or, Moves, Reconfigures, Starts, NamesInterface, reconfigure_fault, happening_of, config_of, interface_at, IsPlaced, most_sends, network_of, StationValue, coded_states};
+ghost use Rattle.std.specs.Prelude.{◌≡◌, ◌≤◌, ◌/◌, [], max, IfErr, IfOk, OnErr, length, unwrap_or};
+ghost use Rattle.ripng_world.specs.Common.{Moves, Reconfigures, Starts, NamesInterface, reconfigure_fault, happening_of, config_of, interface_at, IsPlaced, most_sends, network_of, StationValue, coded_states};
 ghost use Rattle.std.specs.FinMap as map_of;
 
 use crate::event::Happening;

@@ -1,6 +1,7 @@
 //! Observers of a lab, and how a call ends that has one.
 
-ghost use Rattle.ripng_world.specs.Common.{◌≡◌, ⊤, OnErr, OnOk, event_of, Told, failures, refused_as, Refused};
+ghost use Rattle.std.specs.Prelude.{◌≡◌, ⊤, OnErr, OnOk};
+ghost use Rattle.ripng_world.specs.Common.{event_of, Told, failures, refused_as, Refused};
 
 use crate::event::Event;
 use crate::running::Running;

@@ -1,6 +1,5 @@
 -- The names of std, of the crates below and of this crate's own types, passed on from one place. Declares nothing.
 pub use Rattle.std.specs.List.{list_any, AllPairs}
-pub use Rattle.std.specs.Prelude.{◌≡◌, ◌⊎◌, ℕ, Bool, List, length, map, Some, None, unwrap_or, ⊤, ◌<◌, ℤ, pos, negsuc, true, false, MatchOption, IsSomeAnd, [], ◌∷◌, codes, ◌≢◌, ◌==◌, ◌||◌, Option, All, slice_get, take, ◌≤◌, IfErr, IfOk, OnOk, is_none, option_map}
 pub use Rattle.std.specs.Str.{IsUtf8, bytes_eq}
 pub use Rattle.prefix6.specs.Prefix.{Prefix6}
 pub use Rattle.prefix6.specs.Text.{Reads, ReadsPrefix}

@@ -1,5 +1,5 @@
 -- The names that the clauses of this crate cite, passed on from one place. Declares nothing.
-pub use Rattle.ripngd_config.specs.Below.{list_any, ◌≡◌, map, Some, None, true, false, MatchOption, [], ◌==◌, IfErr, IfOk, OnOk, is_none, option_map, IsConfig, Members, get_member, table_view, view, OutOfMemory}
+pub use Rattle.ripngd_config.specs.Below.{list_any, IsConfig, Members, get_member, table_view, view, OutOfMemory}
 pub use Rattle.ripngd_config.specs.Configuration.{HasOneEach, IsConfigured, RefusesConfig, RefusesRouter, RefusesText, Says, owned_by, places_of, router_config_of}
 pub use Rattle.ripngd_config.specs.Faults.{RefusesKey, TableHas, ItemHas, KeyHas, OtherHas}
 pub use Rattle.ripngd_config.specs.Keys.{document_keys, Keys, address, number, prefix, sections, truth, interface_keys, peer_keys, prefix_keys, HasOnlyOf}

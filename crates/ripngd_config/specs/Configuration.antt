@@ -1,5 +1,6 @@
 -- What a configuration's text makes a router run on, and why a text is refused.
-use Rattle.ripngd_config.specs.Below.{◌≡◌, ◌⊎◌, ℕ, Bool, List, length, map, Some, None, unwrap_or, ⊤, IsUtf8, Members, parse_document, pcg32_seed, pcg32_of_seed, Prefix6, Config as RouterConfig, IsConfig, config, config_fault, Interface, ConfigFault, BadToml, OutOfMemory, Router, Place, Document, PrefixTable}
+use Rattle.std.specs.Prelude.{◌≡◌, ◌⊎◌, ℕ, Bool, List, length, map, Some, None, unwrap_or, ⊤, IsUtf8}
+use Rattle.ripngd_config.specs.Below.{Members, parse_document, pcg32_seed, pcg32_of_seed, Prefix6, Config as RouterConfig, IsConfig, config, config_fault, Interface, ConfigFault, BadToml, OutOfMemory, Router, Place, Document, PrefixTable}
 use Rattle.ripngd_config.specs.Faults.{RefusesKey, TableHas}
 use Rattle.ripngd_config.specs.Keys.{document_keys}
 use Rattle.ripngd_config.specs.Tables.{IsDocument}

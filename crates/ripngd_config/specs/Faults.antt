@@ -1,5 +1,6 @@
 -- Why a configuration is refused: which of the faults its tables have.
-use Rattle.ripngd_config.specs.Below.{◌≡◌, ◌⊎◌, ◌<◌, ℕ, ℤ, pos, negsuc, Bool, true, false, List, MatchOption, IsSomeAnd, None, ⊤, Data, Items, Members, as_array, as_bool, as_integer, as_str, as_table, get_member, item, member, no_items, no_members, Reads, ReadsPrefix, ConfigFault, BadToml, MissingKey, WrongType, BadValue, UnknownKey, Router, PortTwice, PeerTwice, OutOfMemory}
+use Rattle.std.specs.Prelude.{◌≡◌, ◌⊎◌, ◌<◌, ℕ, ℤ, pos, negsuc, Bool, true, false, List, MatchOption, IsSomeAnd, None, ⊤}
+use Rattle.ripngd_config.specs.Below.{Data, Items, Members, as_array, as_bool, as_integer, as_str, as_table, get_member, item, member, no_items, no_members, Reads, ReadsPrefix, ConfigFault, BadToml, MissingKey, WrongType, BadValue, UnknownKey, Router, PortTwice, PeerTwice, OutOfMemory}
 use Rattle.ripngd_config.specs.Keys.{Keys, Kind, address, is_listed, key, names_of, no_keys, number, prefix, sections, truth}
 
 -- ---- which fault a value has, by what its key holds

@@ -1,5 +1,6 @@
 -- The schema of a configuration: the keys of its tables, each with what it holds.
-use Rattle.ripngd_config.specs.Below.{◌≡◌, ℕ, Bool, true, false, List, [], ◌∷◌, codes, ⊤, list_any, bytes_eq, Members, member, no_members}
+use Rattle.std.specs.Prelude.{◌≡◌, ℕ, Bool, true, false, List, [], ◌∷◌, codes, ⊤, bytes_eq}
+use Rattle.ripngd_config.specs.Below.{list_any, Members, member, no_members}
 
 -- what a key holds (a number with its least and its greatest), and the keys of a table: name, whether it is required, kind
 mutual

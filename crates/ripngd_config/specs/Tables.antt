@@ -1,5 +1,6 @@
 -- What the tables of a configuration say: each value is that at its key, or the default, and there is no other key.
-use Rattle.ripngd_config.specs.Below.{true, [], None, Some, codes, Members, Peer, Document, InterfaceTable, PrefixTable}
+use Rattle.std.specs.Prelude.{true, [], None, Some, codes}
+use Rattle.ripngd_config.specs.Below.{Members, Peer, Document, InterfaceTable, PrefixTable}
 use Rattle.ripngd_config.specs.Keys.{HasOnly, document_keys, interface_keys, peer_keys, prefix_keys}
 use Rattle.ripngd_config.specs.Values.{AreSections, IsAddress, IsReadAt, IsNumber, IsPrefixValue, IsSomeNumber, IsTruth}
 

@@ -1,5 +1,6 @@
 -- Ports and peers that stand twice.
-use Rattle.ripngd_config.specs.Below.{◌≡◌, ◌≢◌, ◌==◌, ◌||◌, ◌⊎◌, ℕ, Bool, true, false, List, Option, All, None, Some, slice_get, take, ⊤, AllPairs, list_any, has_clash, Peer, ConfigFault, OutOfMemory, PeerTwice, PortTwice, InterfaceTable}
+use Rattle.std.specs.Prelude.{◌≡◌, ◌≢◌, ◌==◌, ◌||◌, ◌⊎◌, ℕ, Bool, true, false, List, Option, All, None, Some, slice_get, take, ⊤, AllPairs}
+use Rattle.ripngd_config.specs.Below.{list_any, has_clash, Peer, ConfigFault, OutOfMemory, PeerTwice, PortTwice, InterfaceTable}
 
 -- an earlier interface has the local port of this one
 abbrev pub has_port : List InterfaceTable → InterfaceTable → Bool

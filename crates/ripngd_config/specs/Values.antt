@@ -1,5 +1,6 @@
 -- What the values of a configuration are read as.
-use Rattle.ripngd_config.specs.Below.{◌≡◌, ◌≤◌, ℕ, pos, Bool, List, [], ◌∷◌, Option, MatchOption, IsSomeAnd, Some, Data, Items, Members, as_array, as_str, as_table, boolean, get_member, integer, item, no_items, Prefix6, Reads, ReadsPrefix}
+use Rattle.std.specs.Prelude.{◌≡◌, ◌≤◌, ℕ, pos, Bool, List, [], ◌∷◌, Option, MatchOption, IsSomeAnd, Some}
+use Rattle.ripngd_config.specs.Below.{Data, Items, Members, as_array, as_str, as_table, boolean, get_member, integer, item, no_items, Prefix6, Reads, ReadsPrefix}
 
 -- a number from low to high
 abbrev pub IsNumber : ℕ → ℕ → Data → ℕ → Type 0

@@ -1,6 +1,7 @@
 //! Reads and checks a configuration.
 
-ghost use Rattle.ripngd_config.specs.Common.{◌≡◌, IfErr, IfOk, map, HasOneEach, IsConfigured, RefusesConfig, RefusesRouter, RefusesText, Says, owned_by, places_of, router_config_of, IsConfig};
+ghost use Rattle.std.specs.Prelude.{◌≡◌, IfErr, IfOk, map};
+ghost use Rattle.ripngd_config.specs.Common.{HasOneEach, IsConfigured, RefusesConfig, RefusesRouter, RefusesText, Says, owned_by, places_of, router_config_of, IsConfig};
 
 use crate::fault::{ConfigFault, Read};
 use crate::naming::{end_of, refused_part};

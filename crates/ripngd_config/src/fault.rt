@@ -1,6 +1,7 @@
 //! Why a configuration is refused.
 
-ghost use Rattle.ripngd_config.specs.Common.{◌≡◌, OutOfMemory};
+ghost use Rattle.std.specs.Prelude.{◌≡◌};
+ghost use Rattle.ripngd_config.specs.Common.{OutOfMemory};
 
 use router_core::ConfigRefused;
 use std::alloc::AllocError;

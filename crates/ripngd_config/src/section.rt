@@ -1,6 +1,7 @@
 //! Reads a TOML table key by key. A missing or wrong value ends it with a refusal that has the path of the key.
 
-ghost use Rattle.ripngd_config.specs.Common.{◌≡◌, [], true, false, IfErr, IfOk, OnOk, None, Some, is_none, map, option_map, Members, get_member, table_view, view, ItemHas, KeyHas, RefusesKey, TableHas, OtherHas, HasOnlyOf, Keys, address, number, prefix, sections, truth, AreSections, IsAddress, IsItem, IsNumber, IsPrefixValue, IsReadAt, IsSomeNumber, IsTruth};
+ghost use Rattle.std.specs.Prelude.{◌≡◌, [], true, false, IfErr, IfOk, OnOk, None, Some, is_none, map, option_map};
+ghost use Rattle.ripngd_config.specs.Common.{Members, get_member, table_view, view, ItemHas, KeyHas, RefusesKey, TableHas, OtherHas, HasOnlyOf, Keys, address, number, prefix, sections, truth, AreSections, IsAddress, IsItem, IsNumber, IsPrefixValue, IsReadAt, IsSomeNumber, IsTruth};
 
 use crate::fault::{ConfigFault, Read};
 use prefix6::{Addr6, Prefix, parse_addr, parse_prefix};

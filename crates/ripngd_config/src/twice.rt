@@ -1,6 +1,7 @@
 //! Refuses duplicate ports and peers.
 
-ghost use Rattle.ripngd_config.specs.Common.{◌≡◌, ◌==◌, IfErr, MatchOption, OnOk, Some, list_any, AreAllPeersDistinct, AreGroupPortsApart, ArePeersDistinct, ArePortsDistinct, IsPeerTwice, RefusesTwice, has_group_port, has_port, is_taken};
+ghost use Rattle.std.specs.Prelude.{◌≡◌, ◌==◌, IfErr, MatchOption, OnOk, Some};
+ghost use Rattle.ripngd_config.specs.Common.{list_any, AreAllPeersDistinct, AreGroupPortsApart, ArePeersDistinct, ArePortsDistinct, IsPeerTwice, RefusesTwice, has_group_port, has_port, is_taken};
 
 use crate::fault::{ConfigFault, Read};
 use crate::tables::InterfaceTable;

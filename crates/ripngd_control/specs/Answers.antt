@@ -1,5 +1,6 @@
 -- What a router does for a command and answers to it (the format is this project's choice).
-use Rattle.ripngd_control.specs.Below.{ℕ, ◌≡◌, ◌≢◌, ◌≤◌, ◌-◌, ◌⊎◌, false, true, List, [], ◌∷◌, ◌++◌, Option, None, Some, Result, Ok, Err, drop, length, option_map, slice_get, take, Appends, Prefix6, Entry, IsLookedUp, IsPast, listed, Forwarding, Hop, RouteValue, Table, first_past, State, NamesInterface, Change, LinkComesUpOnce, LinkGoesDownOnce, ReconfiguresNothing, ReconfiguresOnce, ShutsDownOnce, why_refused, entry_lines, Machine, Trace, Acts, Seen, ChangeFault, Refused, Ended, Rest, RunState, Command, Counts, Losses, Neighbors, Reply}
+use Rattle.std.specs.Prelude.{ℕ, ◌≡◌, ◌≢◌, ◌≤◌, ◌-◌, ◌⊎◌, false, true, List, [], ◌∷◌, ◌++◌, Option, None, Some, Result, Ok, Err, drop, length, option_map, slice_get, take}
+use Rattle.ripngd_control.specs.Below.{Appends, Prefix6, Entry, IsLookedUp, IsPast, listed, Forwarding, Hop, RouteValue, Table, first_past, State, NamesInterface, Change, LinkComesUpOnce, LinkGoesDownOnce, ReconfiguresNothing, ReconfiguresOnce, ShutsDownOnce, why_refused, entry_lines, Machine, Trace, Acts, Seen, ChangeFault, Refused, Ended, Rest, RunState, Command, Counts, Losses, Neighbors, Reply}
 use Rattle.std.specs.FinMap as map_of
 use Rattle.router_core.specs.declared.reconfiguring.ReconfigureRefused.TheVariants as refusals
 use Rattle.ripngd_control.specs.Printed.{counts_text, lookup_text, losses_text, neighbors_text, reply_line, status_answer, status_lines}

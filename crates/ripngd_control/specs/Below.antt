@@ -1,7 +1,6 @@
 -- The names of std, of the crates below and of this crate's own types, passed on from one place. Declares nothing.
 pub use Rattle.std.specs.Io.KnownBytes.{Appends, Consumes}
 pub use Rattle.std.specs.List.{list_any, enumerate_from, count_by, position_or_len}
-pub use Rattle.std.specs.Prelude.{ℕ, ◌≡◌, ◌≢◌, ◌≤◌, ◌-◌, ◌⊎◌, false, true, List, [], ◌∷◌, ◌++◌, Option, None, Some, Result, Ok, Err, drop, length, option_map, slice_get, take, ◌/◌, ◌%◌, Bool, ◌==◌, ◌||◌, codes, decimal, flat_map, if◌then◌else◌, slice_index_or, ◌<◌, ◌+◌, ◌&&◌, nat_lt, replicate, slice_set, vec_capacity, ◌↔◌, IsOk, IsTrue, OnOk, IfOk, IfSome, IsNone, vec_len, position}
 pub use Rattle.fib.specs.Entries.{Entry, IsLookedUp, IsPast, listed}
 pub use Rattle.fib.specs.Forwarding.{Forwarding}
 pub use Rattle.fib.specs.declared.change.Hop.{Hop}

@@ -1,5 +1,6 @@
 -- The clients of a running router: who may connect, what is received from one and sent to it, and what they make of the router.
-use Rattle.ripngd_control.specs.Below.{◌≡◌, ◌≤◌, ◌/◌, ◌%◌, ◌⊎◌, ℕ, List, [], ◌∷◌, ◌++◌, Option, None, Some, length, take, drop, Appends, Consumes, HasNoLineFeed, Seen, Command, Reply}
+use Rattle.std.specs.Prelude.{◌≡◌, ◌≤◌, ◌/◌, ◌%◌, ◌⊎◌, ℕ, List, [], ◌∷◌, ◌++◌, Option, None, Some, length, take, drop}
+use Rattle.ripngd_control.specs.Below.{Appends, Consumes, HasNoLineFeed, Seen, Command, Reply}
 use Rattle.ripngd_control.specs.Answers.{Obeys}
 use Rattle.ripngd_control.specs.Commands.{control_text}
 

@@ -1,5 +1,6 @@
 -- The lines of commands (the format is this project's choice).
-use Rattle.ripngd_control.specs.Below.{ℕ, Bool, List, ◌++◌, ◌==◌, ◌||◌, codes, decimal, list_any, written_addr, written_prefix, Cost, Own, Disown, Add, Remove, Command}
+use Rattle.std.specs.Prelude.{ℕ, Bool, List, ◌++◌, ◌==◌, ◌||◌, codes, decimal}
+use Rattle.ripngd_control.specs.Below.{list_any, written_addr, written_prefix, Cost, Own, Disown, Add, Remove, Command}
 use Rattle.ripngd_control.specs.declared.command.Command.TheVariants as commands
 
 -- a command, without its line feed

@@ -1,5 +1,5 @@
 -- The names that the clauses of this crate cite, passed on from one place. Declares nothing.
-pub use Rattle.ripngd_control.specs.Below.{Appends, enumerate_from, ℕ, ◌≡◌, ◌≢◌, ◌≤◌, ◌⊎◌, false, List, [], ◌∷◌, ◌++◌, Option, None, Some, ◌==◌, codes, if◌then◌else◌, ◌<◌, ◌+◌, vec_capacity, ◌↔◌, IsOk, IsTrue, OnOk, IfOk, IfSome, IsNone, vec_len, position, Entry, IsLookedUp, LinkReport, Processed, Sent, WasTold, seen, Arrived, NamesInterface, Outgoing, PeerChange, Counts, Reply}
+pub use Rattle.ripngd_control.specs.Below.{Appends, enumerate_from, Entry, IsLookedUp, LinkReport, Processed, Sent, WasTold, seen, Arrived, NamesInterface, Outgoing, PeerChange, Counts, Reply}
 pub use Rattle.ripngd_control.specs.Answers.{Obeys, AnswersCommand, Continues, GainsLines, step_reply, ShowsEntries, ShowsRoutes}
 pub use Rattle.ripngd_control.specs.Clients.{Heeds, TakesIn, GrowsByReceived, ShrinksBySent, IsPrivate}
 pub use Rattle.ripngd_control.specs.Commands.{control_text, has_sign}

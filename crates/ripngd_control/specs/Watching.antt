@@ -1,5 +1,6 @@
 -- What the monitor of a run makes of reports: what is counted, in all and by sender, and which lines are written.
-use Rattle.ripngd_control.specs.Below.{ℕ, ◌≡◌, ◌<◌, ◌+◌, ◌-◌, ◌/◌, ◌==◌, ◌&&◌, ◌⊎◌, Bool, true, false, List, [], ◌∷◌, ◌++◌, Option, None, Some, if◌then◌else◌, length, nat_lt, replicate, slice_get, slice_index_or, slice_set, vec_capacity, Appends, count_by, position_or_len, is_response, fault_number, note_number, Note, Fault, counted, LinkReport, Processed, Sent, Arrived, Counts, Monitor, Neighbor, Neighbors, Refusals, Tally}
+use Rattle.std.specs.Prelude.{ℕ, ◌≡◌, ◌<◌, ◌+◌, ◌-◌, ◌/◌, ◌==◌, ◌&&◌, ◌⊎◌, Bool, true, false, List, [], ◌∷◌, ◌++◌, Option, None, Some, if◌then◌else◌, length, nat_lt, replicate, slice_get, slice_index_or, slice_set, vec_capacity, count_by}
+use Rattle.ripngd_control.specs.Below.{Appends, position_or_len, is_response, fault_number, note_number, Note, Fault, counted, LinkReport, Processed, Sent, Arrived, Counts, Monitor, Neighbor, Neighbors, Refusals, Tally}
 use Rattle.ripngd_control.specs.Printed.{lines_of}
 
 -- ---- what is counted of a report

@@ -1,6 +1,7 @@
 //! What a running router does for a command, and its answer: at once, or in pieces.
 
-ghost use Rattle.ripngd_control.specs.Common.{◌≡◌, ◌≢◌, ◌↔◌, ◌⊎◌, ◌++◌, ◌∷◌, IsOk, IsTrue, OnOk, Option, Some, false, Appends, enumerate_from, NamesInterface, seen, Entry, IsLookedUp, AnswersCommand, Continues, GainsLines, Obeys, step_reply, interface_lines, lookup_text, reply_line, status_answer, PeerChange};
+ghost use Rattle.std.specs.Prelude.{◌≡◌, ◌≢◌, ◌↔◌, ◌⊎◌, ◌++◌, ◌∷◌, IsOk, IsTrue, OnOk, Option, Some, false};
+ghost use Rattle.ripngd_control.specs.Common.{Appends, enumerate_from, NamesInterface, seen, Entry, IsLookedUp, AnswersCommand, Continues, GainsLines, Obeys, step_reply, interface_lines, lookup_text, reply_line, status_answer, PeerChange};
 ghost use Rattle.std.specs.FinMap as map_of;
 
 use crate::command::{Command, Destination};

@@ -1,6 +1,7 @@
 //! The clients of a running router. One at a time is served, for a bounded time between two turns.
 
-ghost use Rattle.ripngd_control.specs.Common.{◌≡◌, ◌≢◌, ◌++◌, ◌∷◌, ◌⊎◌, [], IfOk, IfSome, IsNone, None, codes, false, seen, Heeds, TakesIn};
+ghost use Rattle.std.specs.Prelude.{◌≡◌, ◌≢◌, ◌++◌, ◌∷◌, ◌⊎◌, [], IfOk, IfSome, IsNone, None, codes, false};
+ghost use Rattle.ripngd_control.specs.Common.{seen, Heeds, TakesIn};
 
 use crate::answering::{RunState, respond};
 use crate::command::{Command, read_command};

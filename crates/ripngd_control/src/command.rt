@@ -1,6 +1,7 @@
 //! The commands of clients, and their lines.
 
-ghost use Rattle.ripngd_control.specs.Common.{◌≡◌, IfOk, IfSome, IsTrue, None, Some, control_text, has_sign};
+ghost use Rattle.std.specs.Prelude.{◌≡◌, IfOk, IfSome, IsTrue, None, Some};
+ghost use Rattle.ripngd_control.specs.Common.{control_text, has_sign};
 
 use prefix6::{Addr6, parse_addr, parse_prefix};
 use router_core::Change;

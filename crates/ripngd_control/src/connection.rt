@@ -1,6 +1,7 @@
 //! The connection of one client: its line is received and its answer is sent, by calls that never wait.
 
-ghost use Rattle.ripngd_control.specs.Common.{◌≡◌, ◌≢◌, ◌≤◌, IfSome, IsTrue, None, false, vec_len, GrowsByReceived, ShrinksBySent};
+ghost use Rattle.std.specs.Prelude.{◌≡◌, ◌≢◌, ◌≤◌, IfSome, IsTrue, None, false, vec_len};
+ghost use Rattle.ripngd_control.specs.Common.{GrowsByReceived, ShrinksBySent};
 
 use crate::answering::{Rest, write_rest};
 use fib::Fib;

@@ -1,6 +1,7 @@
 //! The control socket and its file: how it is made, who may connect, and how it is removed.
 
-ghost use Rattle.ripngd_control.specs.Common.{◌↔◌, IsTrue, IsPrivate};
+ghost use Rattle.std.specs.Prelude.{◌↔◌, IsTrue};
+ghost use Rattle.ripngd_control.specs.Common.{IsPrivate};
 
 use std::fs::{self, Metadata};
 use std::io::ErrorKind;

@@ -1,6 +1,7 @@
 //! The counts of a router's datagrams, and of what was lost.
 
-ghost use Rattle.ripngd_control.specs.Common.{◌≡◌, ◌∷◌, [], ℕ, List, Some, Outgoing, Processed, LinkReport, Sent, WasTold, Arrived, counts_text, losses_text, Counted, no_counts, Counts};
+ghost use Rattle.std.specs.Prelude.{◌≡◌, ◌∷◌, [], ℕ, List, Some};
+ghost use Rattle.ripngd_control.specs.Common.{Outgoing, Processed, LinkReport, Sent, WasTold, Arrived, counts_text, losses_text, Counted, no_counts, Counts};
 
 use crate::refusals::Refusals;
 use ripngd_engine::Report;

@@ -1,6 +1,7 @@
 //! The observer of a run: it counts datagrams, and writes a line for each refused datagram and each skipped entry.
 
-ghost use Rattle.ripngd_control.specs.Common.{◌≡◌, ◌++◌, OnOk, Some, Appends, arrival_text, note_lines, refusal_lines, KnowsNobody, Monitors, no_counts};
+ghost use Rattle.std.specs.Prelude.{◌≡◌, ◌++◌, OnOk, Some};
+ghost use Rattle.ripngd_control.specs.Common.{Appends, arrival_text, note_lines, refusal_lines, KnowsNobody, Monitors, no_counts};
 
 use crate::counts::Counts;
 use crate::neighbors::Neighbors;

@@ -1,6 +1,7 @@
 //! The lines of routes and of a forwarding table, a piece at a time, so that a long answer never holds the router up.
 
-ghost use Rattle.ripngd_control.specs.Common.{IfOk, Some, ShowsEntries, ShowsRoutes, clock_text, origin_text, status_text};
+ghost use Rattle.std.specs.Prelude.{IfOk, Some};
+ghost use Rattle.ripngd_control.specs.Common.{ShowsEntries, ShowsRoutes, clock_text, origin_text, status_text};
 
 use fib::Fib;
 use prefix6::Prefix;

@@ -1,6 +1,7 @@
 //! What a router refuses, and how often: datagrams for a fault, and entries of Responses for a note.
 
-ghost use Rattle.ripngd_control.specs.Common.{◌≡◌, ◌+◌, ◌<◌, ◌==◌, Some, if◌then◌else◌, refusal_number, refusal_text, refusals_text, Refused, is_fault, no_refusals, notes_of};
+ghost use Rattle.std.specs.Prelude.{◌≡◌, ◌+◌, ◌<◌, ◌==◌, Some, if◌then◌else◌};
+ghost use Rattle.ripngd_control.specs.Common.{refusal_number, refusal_text, refusals_text, Refused, is_fault, no_refusals, notes_of};
 
 use ripng_wire::WireError;
 use router_core::{Fault, Note, NoteKind};

@@ -1,6 +1,7 @@
 //! The last line of an answer, and the changes of a link's peers.
 
-ghost use Rattle.ripngd_control.specs.Common.{◌≡◌, Some, reply_text, Reply};
+ghost use Rattle.std.specs.Prelude.{◌≡◌, Some};
+ghost use Rattle.ripngd_control.specs.Common.{reply_text, Reply};
 
 use crate::command::PeerChange;
 use router_core::ReconfigureRefused;

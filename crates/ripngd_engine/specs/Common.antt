@@ -1,5 +1,4 @@
 -- The names that the clauses of this crate cite, passed on from one place. Declares nothing.
-pub use Rattle.std.specs.Prelude.{ℕ, [], ◌∷◌, List, Option, ◌≡◌, true, false, Err, IfOk, OnErr, length, ◌+◌, ◌++◌, IfSome, IsNone, OnOk, Some, ◌<◌, ◌≤◌, is_ok, ⊤, is_err, vec_len}
 pub use Rattle.std.specs.Borrow.{ftrue}
 pub use Rattle.std.specs.Coded.{Coded-set, →_prop}
 pub use Rattle.std.specs.Io.KnownBytes.{Appends}

@@ -1,6 +1,7 @@
 //! The clock that an engine reads.
 
-ghost use Rattle.ripngd_engine.specs.Common.{ℕ, [], ◌∷◌, List, Option, Gains};
+ghost use Rattle.std.specs.Prelude.{ℕ, [], ◌∷◌, List, Option};
+ghost use Rattle.ripngd_engine.specs.Common.{Gains};
 
 use route_table::Moment;
 

@@ -1,6 +1,7 @@
 //! The engine: a router that runs over a link, turn after turn.
 
-ghost use Rattle.ripngd_engine.specs.Common.{◌≡◌, true, false, Err, IfOk, OnErr, length, forwards, NamesInterface, ShutsDownOnce, LinkComesUpOnce, LinkGoesDownOnce, ReconfigureAnswer, StepAnswer};
+ghost use Rattle.std.specs.Prelude.{◌≡◌, true, false, Err, IfOk, OnErr, length};
+ghost use Rattle.ripngd_engine.specs.Common.{forwards, NamesInterface, ShutsDownOnce, LinkComesUpOnce, LinkGoesDownOnce, ReconfigureAnswer, StepAnswer};
 
 use crate::clock::TimeSource;
 use crate::link::{Link, LinkChange};

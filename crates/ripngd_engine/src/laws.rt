@@ -1,6 +1,7 @@
 //! Lemmas of runs, each the contract of a function with an empty body: they follow from the definitions alone.
 
-ghost use Rattle.ripngd_engine.specs.Common.{ℕ, ◌+◌, Seen, Ran};
+ghost use Rattle.std.specs.Prelude.{ℕ, ◌+◌};
+ghost use Rattle.ripngd_engine.specs.Common.{Seen, Ran};
 
 /// Two calls of turns, one after the other, are one run of all their turns.
 pub fn turns_go_on()

@@ -1,6 +1,7 @@
 //! Lines of text: one for each change of a route, as the log has them, and one for each entry of a forwarding table.
 
-ghost use Rattle.ripngd_engine.specs.Common.{◌≡◌, ◌∷◌, ◌++◌, [], true, false, IfSome, IsNone, OnOk, Some, Appends, HasNoLineFeed, hop_text, route_text, change_text, entry_lines, log_of};
+ghost use Rattle.std.specs.Prelude.{◌≡◌, ◌∷◌, ◌++◌, [], true, false, IfSome, IsNone, OnOk, Some};
+ghost use Rattle.ripngd_engine.specs.Common.{Appends, HasNoLineFeed, hop_text, route_text, change_text, entry_lines, log_of};
 
 use fib::{Entries, Hop, RouteChange};
 use prefix6::Prefix;

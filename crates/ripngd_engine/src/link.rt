@@ -1,6 +1,7 @@
 //! The link that an engine sends and receives over.
 
-ghost use Rattle.ripngd_engine.specs.Common.{◌≡◌, ℕ, ◌<◌, ◌≤◌, [], ◌∷◌, List, Option, length, is_ok, IfOk, IfSome, Call, Handed, recv_call, Gains};
+ghost use Rattle.std.specs.Prelude.{◌≡◌, ℕ, ◌<◌, ◌≤◌, [], ◌∷◌, List, Option, length, is_ok, IfOk, IfSome};
+ghost use Rattle.ripngd_engine.specs.Common.{Call, Handed, recv_call, Gains};
 
 use prefix6::Addr6;
 use router_core::Outgoing;

@@ -1,6 +1,7 @@
 //! The observer of a run: it is notified of each datagram that is processed or sent.
 
-ghost use Rattle.ripngd_engine.specs.Common.{⊤, LinkReport, Processed, Sent};
+ghost use Rattle.std.specs.Prelude.{⊤};
+ghost use Rattle.ripngd_engine.specs.Common.{LinkReport, Processed, Sent};
 
 use prefix6::Addr6;
 use route_table::Moment;

@@ -1,6 +1,7 @@
 //! Where the output of a router goes: datagrams to a link, changes to a forwarding table and a log.
 
-ghost use Rattle.ripngd_engine.specs.Common.{◌≡◌, is_err, counted, HandsOver};
+ghost use Rattle.std.specs.Prelude.{◌≡◌, is_err};
+ghost use Rattle.ripngd_engine.specs.Common.{counted, HandsOver};
 
 use crate::lines::write_lines;
 use crate::link::Link;

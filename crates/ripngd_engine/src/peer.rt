@@ -1,6 +1,7 @@
 //! The ports of an interface and of its neighbors, on links that are made of sockets of 127.0.0.1.
 
-ghost use Rattle.ripngd_engine.specs.Common.{◌≡◌, has_clash};
+ghost use Rattle.std.specs.Prelude.{◌≡◌};
+ghost use Rattle.ripngd_engine.specs.Common.{has_clash};
 
 use prefix6::Addr6;
 

@@ -1,6 +1,6 @@
 //! The errors and the counts of an engine.
 
-ghost use Rattle.ripngd_engine.specs.Common.{◌≡◌};
+ghost use Rattle.std.specs.Prelude.{◌≡◌};
 ghost use Rattle.ripngd_engine.specs.declared.report.EngineFault.TheVariants as fault;
 
 use router_core::ReconfigureRefused;

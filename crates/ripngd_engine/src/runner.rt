@@ -1,6 +1,7 @@
 //! A router that runs: the steps of one turn.
 
-ghost use Rattle.ripngd_engine.specs.Common.{◌≡◌, ◌<◌, ◌≤◌, [], ◌∷◌, false, IfOk, IfSome, is_err, length, vec_len, next_u32, Gains, recv_call, datagram_in, TakesArrival, TicksOnce, Coded-set, →_prop, forwards, NamesInterface, ShutsDownOnce, LinkComesUpOnce, LinkGoesDownOnce, ReconfigureAnswer, StepAnswer, NoLink, NoMemory};
+ghost use Rattle.std.specs.Prelude.{◌≡◌, ◌<◌, ◌≤◌, [], ◌∷◌, false, IfOk, IfSome, is_err, length, vec_len};
+ghost use Rattle.ripngd_engine.specs.Common.{next_u32, Gains, recv_call, datagram_in, TakesArrival, TicksOnce, Coded-set, →_prop, forwards, NamesInterface, ShutsDownOnce, LinkComesUpOnce, LinkGoesDownOnce, ReconfigureAnswer, StepAnswer, NoLink, NoMemory};
 ghost use Rattle.fib.specs.contracts.fib.Fib as forwarding;
 
 use crate::clock::TimeSource;

@@ -1,6 +1,7 @@
 //! The past of a run, for proofs alone: it takes no memory, and nothing is done for it at run time.
 
-ghost use Rattle.ripngd_engine.specs.Common.{◌≡◌, ftrue, Past};
+ghost use Rattle.std.specs.Prelude.{◌≡◌};
+ghost use Rattle.ripngd_engine.specs.Common.{ftrue, Past};
 
 use crate::link::{LinkFault, Received};
 use crate::peer::{Peer, Place};

@@ -1,5 +1,4 @@
 -- The names that the clauses of this crate cite, passed on from one place. Declares nothing.
-pub use Rattle.std.specs.Prelude.{◌≡◌, ◌/◌, ◌^◌, min, IfErr, IfOk, length, vec_len, ◌+◌, ◌-◌, ◌<◌, ◌≤◌, OnErr, OnOk, Some, map, None, ◌↔◌, [], MatchOption, IfSome, IsTrue, is_ok, take, ◌++◌, ◌∷◌, IsNone, drop}
 pub use Rattle.std.specs.Duration.{as_nanos}
 pub use Rattle.std.specs.IoError.{error_kind}
 pub use Rattle.std.specs.Result.{result_err}

@@ -1,6 +1,7 @@
 //! The time since a clock was made, by the system's clock.
 
-ghost use Rattle.ripngd_udp.specs.Common.{◌≡◌, ◌/◌, ◌^◌, min, as_nanos};
+ghost use Rattle.std.specs.Prelude.{◌≡◌, ◌/◌, ◌^◌, min};
+ghost use Rattle.ripngd_udp.specs.Common.{as_nanos};
 
 use ripngd_engine::TimeSource;
 use route_table::Moment;

@@ -1,6 +1,7 @@
 //! The socket of an interface, with its queues of received datagrams and of those that wait to be sent.
 
-ghost use Rattle.ripngd_udp.specs.Common.{◌≡◌, IfErr, IfOk, length, vec_len, Grows, NamesPortOf};
+ghost use Rattle.std.specs.Prelude.{◌≡◌, IfErr, IfOk, length, vec_len};
+ghost use Rattle.ripngd_udp.specs.Common.{Grows, NamesPortOf};
 
 use crate::peer_table::PeerTable;
 use crate::receive_queue::ReceiveQueue;

@@ -2,7 +2,8 @@
 //! table. More are lost, and the sender is not told. So the routers on a link share what each of their sockets holds, as if all of them
 //! sent at once.
 
-ghost use Rattle.ripngd_udp.specs.Common.{◌≡◌, ◌+◌, ◌-◌, ◌^◌, ◌<◌, ◌≤◌, min, share_among};
+ghost use Rattle.std.specs.Prelude.{◌≡◌, ◌+◌, ◌-◌, ◌^◌, ◌<◌, ◌≤◌, min};
+ghost use Rattle.ripngd_udp.specs.Common.{share_among};
 
 /// How many datagrams the socket of a neighbor may get without a pause.
 const AT_ONCE: usize = 64;

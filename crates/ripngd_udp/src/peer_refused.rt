@@ -1,6 +1,7 @@
 //! Why a peer is not added to a link, or not removed from it.
 
-ghost use Rattle.ripngd_udp.specs.Common.{◌≡◌, peer_refused_text};
+ghost use Rattle.std.specs.Prelude.{◌≡◌};
+ghost use Rattle.ripngd_udp.specs.Common.{peer_refused_text};
 
 /// Why a peer is not added to a link, or not removed from it: the first of these reasons that applies.
 #[derive(Clone, Copy, Debug, PartialEq, Eq)]

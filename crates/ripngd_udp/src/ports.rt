@@ -1,6 +1,7 @@
 //! The ports of a run: which were bound, and the past of the link over them since it was closed.
 
-ghost use Rattle.ripngd_udp.specs.Common.{◌≡◌, IfErr, IfOk, None, OnErr, OnOk, Some, length, map, vec_len, links_at, NamesPortOf, new_link};
+ghost use Rattle.std.specs.Prelude.{◌≡◌, IfErr, IfOk, None, OnErr, OnOk, Some, length, map, vec_len};
+ghost use Rattle.ripngd_udp.specs.Common.{links_at, NamesPortOf, new_link};
 
 use crate::udp::{Udp, UdpError};
 use ripngd_engine::{Entry, Peer, Place, Transcript};

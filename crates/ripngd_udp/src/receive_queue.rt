@@ -1,7 +1,8 @@
 //! The queue of datagrams that an interface has received and the router has not processed yet. A socket's buffer is small, so it is
 //! emptied into this queue while the router works. Each interface has its own: a neighbor that floods one cannot fill another.
 
-ghost use Rattle.ripngd_udp.specs.Common.{◌≡◌, ◌≤◌, ◌↔◌, [], MatchOption, IfSome, IsTrue, is_ok, length, min, take, Gives, HasRoom, Keeps, MayWait, bytes_of};
+ghost use Rattle.std.specs.Prelude.{◌≡◌, ◌≤◌, ◌↔◌, [], MatchOption, IfSome, IsTrue, is_ok, length, min, take};
+ghost use Rattle.ripngd_udp.specs.Common.{Gives, HasRoom, Keeps, MayWait, bytes_of};
 
 use ripngd_engine::{Peer, Received};
 use std::alloc::{AllocError, Global};

@@ -1,6 +1,7 @@
 //! The queue of datagrams that wait to be sent on an interface. They go out in order, at the pace of its peers.
 
-ghost use Rattle.ripngd_udp.specs.Common.{◌≡◌, ◌<◌, ◌≤◌, ◌++◌, ◌∷◌, [], IfOk, IfSome, IsNone, OnErr, OnOk, drop, is_ok, length, goes_at_once, share_among, waiting_after};
+ghost use Rattle.std.specs.Prelude.{◌≡◌, ◌<◌, ◌≤◌, ◌++◌, ◌∷◌, [], IfOk, IfSome, IsNone, OnErr, OnOk, drop, is_ok, length};
+ghost use Rattle.ripngd_udp.specs.Common.{goes_at_once, share_among, waiting_after};
 
 use crate::pace::Pace;
 use crate::peer_table::PeerTable;

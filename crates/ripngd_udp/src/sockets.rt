@@ -1,6 +1,7 @@
 //! The sockets of all interfaces: when they are read and written, and how long a turn waits for them.
 
-ghost use Rattle.ripngd_udp.specs.Common.{◌≡◌, ◌<◌, ◌≤◌, IfOk, IfSome, length, GoesOn, SendsLate};
+ghost use Rattle.std.specs.Prelude.{◌≡◌, ◌<◌, ◌≤◌, IfOk, IfSome, length};
+ghost use Rattle.ripngd_udp.specs.Common.{GoesOn, SendsLate};
 
 use crate::udp::Udp;
 use ripngd_engine::{LinkFault, Received, TimeSource};

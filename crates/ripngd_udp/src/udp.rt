@@ -1,7 +1,8 @@
 //! A link of UDP sockets on loopback, in place of the real links of a router: each interface has a socket at a port of 127.0.0.1,
 //! and so has each neighbor on its link.
 
-ghost use Rattle.ripngd_udp.specs.Common.{◌≡◌, ◌↔◌, IfErr, IfOk, None, OnErr, OnOk, length, map, vec_len, error_kind, result_err, ChangesLink, RefusesFor, adding_fault, removing_fault, with_peer, without_peer, NamesPortOf, SendsLate, new_link};
+ghost use Rattle.std.specs.Prelude.{◌≡◌, ◌↔◌, IfErr, IfOk, None, OnErr, OnOk, length, map, vec_len};
+ghost use Rattle.ripngd_udp.specs.Common.{error_kind, result_err, ChangesLink, RefusesFor, adding_fault, removing_fault, with_peer, without_peer, NamesPortOf, SendsLate, new_link};
 
 use crate::clock::Uptime;
 use crate::endpoint::{Counts, Endpoint, endpoints_at};

@@ -1,6 +1,7 @@
 //! The wait for datagrams at all sockets of a link at once (`epoll`), and for what else is watched.
 
-ghost use Rattle.ripngd_udp.specs.Common.{◌≤◌, IfErr, NamesPortOf};
+ghost use Rattle.std.specs.Prelude.{◌≤◌, IfErr};
+ghost use Rattle.ripngd_udp.specs.Common.{NamesPortOf};
 
 use crate::sending::local;
 use crate::udp::{BindCause, UdpError};

@@ -1,6 +1,7 @@
 //! Deliveries in a lab: what its routers sent comes to the other interfaces of the link.
 
-ghost use Rattle.ripng_world.specs.Common.{◌≡◌, ◌≢◌, ℕ, ◌<◌, ◌∷◌, [], IsFalse, IsTrue, All, IfErr, IfOk, OnErr, OnOk, false, length, slice_index_or, vec_len, Any, filter, NoMemory, deliveries_of, delivery, interfaces_of, is_other, is_picked, other_deliveries, pairs_since, picked_deliveries, StopAt, StopForMemory, deliveries_since, Keeps, HeardInPart, WatchedInPart, WatchedRun, failures, heard, WorldRun};
+ghost use Rattle.std.specs.Prelude.{◌≡◌, ◌≢◌, ℕ, ◌<◌, ◌∷◌, [], IsFalse, IsTrue, All, IfErr, IfOk, OnErr, OnOk, false, length, slice_index_or, vec_len, Any, filter};
+ghost use Rattle.ripng_world.specs.Common.{NoMemory, deliveries_of, delivery, interfaces_of, is_other, is_picked, other_deliveries, pairs_since, picked_deliveries, StopAt, StopForMemory, deliveries_since, Keeps, HeardInPart, WatchedInPart, WatchedRun, failures, heard, WorldRun};
 
 use super::Lab;
 use crate::event::Event;

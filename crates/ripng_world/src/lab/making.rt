@@ -1,6 +1,7 @@
 //! Rounds of a lab: every router advertises its whole table, and all of it arrives.
 
-ghost use Rattle.ripng_world.specs.Common.{◌≡◌, ℕ, ◌<◌, ◌↔◌, max, IsTrue, All, IfErr, OnOk, Some, length, slice_get, State, AreAllMade, Converges, ticks_of, Heals, LetsArrive, Keeps, IsDueTick, HaveStopped, RoundStops, RoundsStop, round_in, AreMadeTold, IfRefused, IsMadeTold, RoundToldInPart, RoundsToldInPart, WatchedInPart, WatchedRun, due, failures, Tick};
+ghost use Rattle.std.specs.Prelude.{◌≡◌, ℕ, ◌<◌, ◌↔◌, max, IsTrue, All, IfErr, OnOk, Some, length, slice_get};
+ghost use Rattle.ripng_world.specs.Common.{State, AreAllMade, Converges, ticks_of, Heals, LetsArrive, Keeps, IsDueTick, HaveStopped, RoundStops, RoundsStop, round_in, AreMadeTold, IfRefused, IsMadeTold, RoundToldInPart, RoundsToldInPart, WatchedInPart, WatchedRun, due, failures, Tick};
 
 use super::Lab;
 use crate::event::Event;
