@@ -1,8 +1,6 @@
 -- What `ctl` sends to a router that runs, and prints of its answer.
 use Rattle.std.specs.Prelude.{◌≡◌, ℕ, Bool, true, false, List, [], ◌∷◌, ◌++◌, Option, codes}
-use Rattle.std.specs.Io.KnownBytes.{Appends}
-use Rattle.ripngd_control.specs.Commands.{control_text}
-use Rattle.ripngd_control.specs.declared.command.Command.{Command}
+use Rattle.ripngd_daemon.specs.Below.{Appends, control_text, Command}
 
 -- the line of a command
 abbrev pub command_line : Command → List ℕ

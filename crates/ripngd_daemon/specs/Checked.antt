@@ -1,14 +1,7 @@
 -- What `check` writes of a configuration that it accepts, and what it refuses (the format is this project's choice).
-use Rattle.std.specs.Prelude.{◌≢◌, ℕ, ◌-◌, ◌^◌, Bool, true, false, List, ◌++◌, Option, codes, decimal, length, min, vec_len, Vec}
-use Rattle.std.specs.List.{sum_by}
-use Rattle.std.specs.Io.KnownBytes.{Appends}
-use Rattle.std.specs.declared.alloc.Global.{Global}
-use Rattle.ripngd_config.specs.Configuration.{IsConfigured, RefusesConfig}
-use Rattle.ripngd_config.specs.declared.configuration.Config.{Config}
-use Rattle.ripngd_config.specs.declared.fault.ConfigFault.{ConfigFault}
+use Rattle.std.specs.Prelude.{◌≢◌, ℕ, ◌-◌, ◌^◌, Bool, true, false, List, ◌++◌, Option, codes, decimal, length, min, vec_len, Vec, sum_by}
+use Rattle.ripngd_daemon.specs.Below.{Appends, Global, IsConfigured, RefusesConfig, Config, ConfigFault, Peer, newline}
 use Rattle.ripngd_config.specs.declared.fault.ConfigFault.TheVariants.{OutOfMemory}
-use Rattle.ripngd_engine.specs.declared.peer.Peer.{Peer}
-use Rattle.ripngd_show.specs.Shown.{newline}
 
 -- the peers of all interfaces together, up to the greatest u64
 abbrev pub peers_counted : List (Vec Peer Global) → ℕ

@@ -1,8 +1,7 @@
 -- What may fail, by what is asked.
 use Rattle.std.specs.Prelude.{◌≡◌, ◌<◌, ℕ, Bool, true, false, List, Option, None, Some, option_map, IsTrue, ⊤}
-use Rattle.ripngd_command_line.specs.declared.asked.Ask.{Ask}
+use Rattle.ripngd_daemon.specs.Below.{Ask, Failure}
 use Rattle.ripngd_command_line.specs.declared.asked.Ask.TheVariants as asks
-use Rattle.ripngd_daemon.specs.declared.failure.Failure.{Failure}
 use Rattle.ripngd_daemon.specs.declared.failure.Failure.TheVariants as failures
 
 -- the file that is read for it

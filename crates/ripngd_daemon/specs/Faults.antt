@@ -1,11 +1,8 @@
 -- What the faults of what the program calls are to the program.
-use Rattle.ripngd_daemon.specs.declared.failure.Failure.{Failure}
+use Rattle.ripngd_daemon.specs.Below.{Failure, UdpError, EngineFault, PrintFault}
 use Rattle.ripngd_daemon.specs.declared.failure.Failure.TheVariants as failures
-use Rattle.ripngd_udp.specs.declared.udp.UdpError.{UdpError}
 use Rattle.ripngd_udp.specs.declared.udp.UdpError.TheVariants as link
-use Rattle.ripngd_engine.specs.declared.report.EngineFault.{EngineFault}
 use Rattle.ripngd_engine.specs.declared.report.EngineFault.TheVariants as engine
-use Rattle.ripngd_show.specs.declared.print_fault.PrintFault.{PrintFault}
 use Rattle.ripngd_show.specs.declared.print_fault.PrintFault.TheVariants as faults
 
 -- what a fault of what prints is to the program

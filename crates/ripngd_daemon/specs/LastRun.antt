@@ -1,7 +1,6 @@
 -- The runs of a log: a router that appends to a log begins with a line `start`, and only the text after the last one counts.
-use Rattle.std.specs.Prelude.{◌≡◌, ◌≢◌, ◌⊎◌, ◌+◌, ℕ, List, [], ◌∷◌, ◌++◌, codes, flat_map, length}
-use Rattle.std.specs.List.{All}
-use Rattle.ripngd_engine.specs.Log.{HasNoLineFeed}
+use Rattle.std.specs.Prelude.{◌≡◌, ◌≢◌, ◌⊎◌, ◌+◌, ℕ, List, [], ◌∷◌, ◌++◌, codes, flat_map, length, All}
+use Rattle.ripngd_daemon.specs.Below.{HasNoLineFeed}
 
 -- the line at which a run begins
 abbrev pub start_text : List ℕ

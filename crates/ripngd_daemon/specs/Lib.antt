@@ -11,3 +11,5 @@ pub mod Tabled
 pub mod Written
 pub mod Run
 pub mod Asking
+pub mod Below
+pub mod Common

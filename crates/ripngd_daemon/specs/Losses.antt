@@ -1,9 +1,6 @@
 -- What is written of what a run lost (the format is this project's choice).
 use Rattle.std.specs.Prelude.{◌≡◌, ℕ, Bool, true, false, List, [], ◌++◌, Option, None, Some, codes, decimal}
-use Rattle.ripngd_control.specs.declared.counts.Losses.{Losses}
-use Rattle.ripngd_engine.specs.Run.{counted}
-use Rattle.ripngd_engine.specs.declared.report.Report.{Report}
-use Rattle.ripngd_show.specs.Shown.{newline}
+use Rattle.ripngd_daemon.specs.Below.{Losses, counted, Report, newline}
 
 -- nothing was lost
 abbrev pub nothing_lost : Report

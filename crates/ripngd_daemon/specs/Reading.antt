@@ -1,17 +1,8 @@
 -- What a log says, and where it says nothing.
-use Rattle.std.specs.Prelude.{◌≡◌, ◌≢◌, ℕ, ◌+◌, ◌^◌, ◌<◌, List, ◌∷◌, ◌++◌, length, codes}
-use Rattle.std.specs.List.{All}
+use Rattle.std.specs.Prelude.{◌≡◌, ◌≢◌, ℕ, ◌+◌, ◌^◌, ◌<◌, List, ◌∷◌, ◌++◌, length, codes, All}
+use Rattle.ripngd_daemon.specs.Below.{IsPrefix, Hop, Direct, Via, RouteChange, Install, Withdraw, Forwarding, Replays, HasNoLineFeed, change_text, log_of, LogFault, BadLine, OutOfMemory}
 use Rattle.std.specs.FinMap as map
-use Rattle.prefix6.specs.Prefix.{IsPrefix}
-use Rattle.fib.specs.declared.change.Hop.{Hop}
-use Rattle.fib.specs.declared.change.Hop.TheVariants.{Direct, Via}
-use Rattle.fib.specs.declared.change.RouteChange.{RouteChange}
-use Rattle.fib.specs.declared.change.RouteChange.TheVariants.{Install, Withdraw}
-use Rattle.fib.specs.Forwarding.{Forwarding, Replays}
-use Rattle.ripngd_engine.specs.Log.{HasNoLineFeed, change_text, log_of}
 use Rattle.ripngd_daemon.specs.LastRun.{IsLastRun}
-use Rattle.ripngd_daemon.specs.declared.reading.LogFault.{LogFault}
-use Rattle.ripngd_daemon.specs.declared.reading.LogFault.TheVariants.{BadLine, OutOfMemory}
 
 -- a number of an interface of 64 bits, and an address of 128
 abbrev pub IsWritableHop : Hop → Type 0

@@ -1,27 +1,11 @@
 -- What a run has done.
 use Rattle.std.specs.Prelude.{◌≡◌, ◌≢◌, ◌≤◌, ◌+◌, ◌*◌, ◌⊎◌, ℕ, Bool, true, false, List, [], ◌∷◌, ◌++◌, Option, None, Some, map}
-use Rattle.std.specs.Io.KnownBytes.{Appends}
-use Rattle.rand_core.specs.Steps.{steps_u32, stream_of}
-use Rattle.rand_core.specs.Stream.{Stream}
-use Rattle.rand_pcg.specs.Lcg.{Lcg}
-use Rattle.rand_pcg.specs.Pcg.{pcg32}
-use Rattle.fib.specs.Forwarding.{Forwarding}
+use Rattle.ripngd_daemon.specs.Below.{Appends, steps_u32, stream_of, Stream, Lcg, pcg32, Forwarding, Order, IsConfigured, RefusesConfig, Config, ConfigFault, ClientsState, Heeds, ObeysLine, control_text, Stop, StopNow, Call, Ran, Seen, Started, untouched, OnLink, links_at, History}
 use Rattle.router_core.specs.Config.{Config as RouterValue}
-use Rattle.ripngd_command_line.specs.declared.asked.Order.{Order}
-use Rattle.ripngd_config.specs.Configuration.{IsConfigured, RefusesConfig}
-use Rattle.ripngd_config.specs.declared.configuration.Config.{Config}
-use Rattle.ripngd_config.specs.declared.fault.ConfigFault.{ConfigFault}
 use Rattle.ripngd_config.specs.declared.fault.ConfigFault.TheVariants as config_faults
-use Rattle.ripngd_control.specs.Clients.{ClientsState, Heeds, ObeysLine}
-use Rattle.ripngd_control.specs.Commands.{control_text}
-use Rattle.ripngd_control.specs.declared.command.Command.TheVariants.{Stop, StopNow}
-use Rattle.ripngd_engine.specs.Link.{Call}
-use Rattle.ripngd_engine.specs.Seen.{Ran, Seen, Started, untouched}
-use Rattle.ripngd_udp.specs.Peers.{OnLink, links_at}
 use Rattle.ripngd_daemon.specs.Losses.{AreLossesOf, has_failed}
 use Rattle.ripngd_daemon.specs.Tabled.{table_text}
 use Rattle.ripngd_daemon.specs.Written.{begins_with}
-use Rattle.ripngd_daemon.specs.declared.history.History.{History}
 
 -- the words that a random source has left
 abbrev pub words_of : Lcg → Stream

@@ -1,13 +1,9 @@
 -- What standard error says of a failure (the format is this project's choice).
 use Rattle.std.specs.Prelude.{ℕ, List, [], ◌++◌, codes, decimal}
-use Rattle.ripngd_daemon.specs.declared.failure.Failure.{Failure}
+use Rattle.ripngd_daemon.specs.Below.{Failure, FileCause, ListenFault, newline, BindCause}
 use Rattle.ripngd_daemon.specs.declared.failure.Failure.TheVariants as failures
-use Rattle.ripngd_daemon.specs.declared.failure.FileCause.{FileCause}
 use Rattle.ripngd_daemon.specs.declared.failure.FileCause.TheVariants as files
-use Rattle.ripngd_control.specs.declared.control_socket.ListenFault.{ListenFault}
 use Rattle.ripngd_control.specs.declared.control_socket.ListenFault.TheVariants as listening
-use Rattle.ripngd_show.specs.Shown.{newline}
-use Rattle.ripngd_udp.specs.declared.udp.BindCause.{BindCause}
 use Rattle.ripngd_udp.specs.declared.udp.BindCause.TheVariants as causes
 
 -- why a router cannot listen, after the path

@@ -1,11 +1,7 @@
 -- What `table` writes of a log, and `run` of its forwarding table (the format is this project's choice).
 use Rattle.std.specs.Prelude.{◌≡◌, ℕ, Bool, true, false, List, ◌++◌, codes, decimal}
-use Rattle.fib.specs.Entries.{listed}
-use Rattle.fib.specs.Forwarding.{Forwarding}
-use Rattle.ripngd_engine.specs.Log.{entry_lines}
+use Rattle.ripngd_daemon.specs.Below.{listed, Forwarding, entry_lines, BadLine, newline}
 use Rattle.ripngd_daemon.specs.Reading.{IsFirstBadLine, MakesTable, log_fault_text}
-use Rattle.ripngd_daemon.specs.declared.reading.LogFault.TheVariants.{BadLine}
-use Rattle.ripngd_show.specs.Shown.{newline}
 
 -- a line for each entry, `PREFIX metric M HOP`, in the order of address, then length
 abbrev pub table_text : Forwarding → List ℕ

@@ -1,10 +1,6 @@
 -- Which peers of a configuration are never heard.
 use Rattle.std.specs.Prelude.{◌==◌, ◌&&◌, ◌||◌, not, Bool, List}
-use Rattle.std.specs.List.{list_any}
-use Rattle.prefix6.specs.Addr.{is_link_local}
-use Rattle.ripngd_engine.specs.declared.peer.Peer.{Peer}
-use Rattle.ripngd_engine.specs.declared.peer.Place.{Place}
-use Rattle.router_core.specs.Faults.{ripng_port}
+use Rattle.ripngd_daemon.specs.Below.{list_any, is_link_local, Peer, Place, ripng_port}
 
 -- one of a router's places has the address of a peer
 abbrev pub has_address : List Place → Peer → Bool

@@ -1,8 +1,6 @@
 -- The words of a line, and the lines.
-use Rattle.std.specs.Prelude.{◌≡◌, ◌≢◌, ℕ, Bool, true, false, List, [], ◌∷◌, ◌++◌}
-use Rattle.std.specs.List.{All}
-use Rattle.fib.specs.declared.change.RouteChange.{RouteChange}
-use Rattle.ripngd_engine.specs.Log.{change_text}
+use Rattle.std.specs.Prelude.{◌≡◌, ◌≢◌, ℕ, Bool, true, false, List, [], ◌∷◌, ◌++◌, All}
+use Rattle.ripngd_daemon.specs.Below.{RouteChange, change_text}
 use Rattle.ripngd_daemon.specs.Reading.{IsWritableChange}
 
 -- no byte is a space (32)

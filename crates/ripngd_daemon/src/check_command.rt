@@ -1,9 +1,8 @@
 //! `check`: whether a text is a valid configuration.
 
 ghost use Rattle.std.specs.Prelude.{◌≡◌, ◌≢◌, IfErr, IfOk, List, false, ℕ};
+ghost use Rattle.ripngd_daemon.specs.Common.{MayFail, IsChecked, peers_counted};
 ghost use Rattle.ripngd_command_line.specs.declared.asked.Ask.TheVariants as asks;
-ghost use Rattle.ripngd_daemon.specs.Failing.{MayFail};
-ghost use Rattle.ripngd_daemon.specs.Checked.{IsChecked, peers_counted};
 
 use crate::failure::Failure;
 use crate::files::FileSource;

@@ -1,9 +1,7 @@
 //! `ctl`: sends a command to a running router, and prints its answer.
 
 ghost use Rattle.std.specs.Prelude.{◌≡◌, ◌⊎◌, IfErr, IfOk, IfSome, List, OnOk, ℕ};
-ghost use Rattle.std.specs.Io.KnownBytes.{Appends};
-ghost use Rattle.ripngd_daemon.specs.Asking.{IsPrintedAnswer, IsAnswerWritten, command_line};
-ghost use Rattle.ripngd_daemon.specs.Failing.{MayFail};
+ghost use Rattle.ripngd_daemon.specs.Common.{Appends, IsPrintedAnswer, IsAnswerWritten, command_line, MayFail};
 
 use crate::failure::Failure;
 use ripngd_command_line::{Ask, Question};

@@ -1,10 +1,7 @@
 //! Failures outside the program, and their messages.
 
 ghost use Rattle.std.specs.Prelude.{◌≡◌, ◌≢◌, ◌⊎◌, ◌↔◌, OnOk, Some};
-ghost use Rattle.std.specs.Io.KnownBytes.{Appends};
-ghost use Rattle.std.specs.IoError.{error_kind};
-ghost use Rattle.ripngd_daemon.specs.Faults.{failure_of, failure_of_engine, failure_of_link};
-ghost use Rattle.ripngd_daemon.specs.Said.{cause_text, failure_line, failure_text, file_cause_text, why_text};
+ghost use Rattle.ripngd_daemon.specs.Common.{Appends, error_kind, failure_of, failure_of_engine, failure_of_link, cause_text, failure_line, failure_text, file_cause_text, why_text};
 
 use ripngd_control::ListenFault;
 use ripngd_engine::EngineFault;

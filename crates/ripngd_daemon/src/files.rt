@@ -1,7 +1,7 @@
 //! The files that the program reads.
 
 ghost use Rattle.std.specs.Prelude.{◌≡◌, ◌⊎◌, IfErr, IfOk, List, ℕ};
-ghost use Rattle.ripngd_daemon.specs.declared.failure.FileCause.{FileCause};
+ghost use Rattle.ripngd_daemon.specs.Common.{FileCause};
 
 use crate::failure::{Failure, FileCause, failed};
 use std::fs;

@@ -1,11 +1,7 @@
 //! The past of a run, and what it has lost.
 
 ghost use Rattle.std.specs.Prelude.{◌≡◌, ◌≢◌, [], List, None, OnOk, Some};
-ghost use Rattle.std.specs.Io.KnownBytes.{Appends};
-ghost use Rattle.ripngd_engine.specs.Link.{Call};
-ghost use Rattle.ripngd_engine.specs.Run.{counted};
-ghost use Rattle.ripngd_daemon.specs.Losses.{AreLossesOf, has_failed, losses_line, no_losses, nothing_lost};
-ghost use Rattle.ripngd_daemon.specs.Run.{lines_of};
+ghost use Rattle.ripngd_daemon.specs.Common.{Appends, Call, counted, AreLossesOf, has_failed, losses_line, no_losses, nothing_lost, lines_of};
 
 use crate::run_log::RunLog;
 use crate::turns::UdpEngine;

@@ -2,13 +2,7 @@
 //! matter, since the result is printed and compared with the line.
 
 ghost use Rattle.std.specs.Prelude.{◌≡◌, ℕ, ◌<◌, ◌^◌, IfOk, IfSome, Some};
-ghost use Rattle.prefix6.specs.Prefix.{Prefix6, IsPrefix};
-ghost use Rattle.prefix6.specs.Written.{written_prefix};
-ghost use Rattle.fib.specs.declared.change.Hop.{Hop};
-ghost use Rattle.fib.specs.declared.change.RouteChange.{RouteChange};
-ghost use Rattle.ripngd_engine.specs.Log.{change_text, hop_text, route_text};
-ghost use Rattle.ripngd_daemon.specs.Reading.{IsWritableHop, IsWritableChange};
-ghost use Rattle.ripngd_daemon.specs.Words.{CutsWord, PushesLine};
+ghost use Rattle.ripngd_daemon.specs.Common.{Prefix6, IsPrefix, written_prefix, Hop, RouteChange, change_text, hop_text, route_text, IsWritableHop, IsWritableChange, CutsWord, PushesLine};
 
 use fib::{Hop, RouteChange};
 use prefix6::{Prefix, parse_addr, parse_prefix, prefixes_are_sets, written_texts_are_read_back};

@@ -1,13 +1,8 @@
 //! Reads the log of a router, line by line: the forwarding table that its changes make.
 
-ghost use Rattle.std.specs.Prelude.{◌≡◌, ◌≤◌, ◌<◌, ◌+◌, ◌++◌, ◌^◌, ◌↔◌, IfErr, IfOk, IsTrue, List, Some, length, ℕ};
+ghost use Rattle.std.specs.Prelude.{◌≡◌, ◌≤◌, ◌<◌, ◌+◌, ◌++◌, ◌^◌, ◌↔◌, IfErr, IfOk, IsTrue, List, Some, length, ℕ, All};
+ghost use Rattle.ripngd_daemon.specs.Common.{RouteChange, Replays, HasNoLineFeed, log_of, IsLastRun, start_text, IsFirstBadLine, IsLogOf, IsRunOf, IsWritableChange, MakesTable, RefusesLog, RefusesRun, log_fault_text};
 ghost use Rattle.std.specs.FinMap as map;
-ghost use Rattle.std.specs.List.{All};
-ghost use Rattle.fib.specs.declared.change.RouteChange.{RouteChange};
-ghost use Rattle.fib.specs.Forwarding.{Replays};
-ghost use Rattle.ripngd_engine.specs.Log.{HasNoLineFeed, log_of};
-ghost use Rattle.ripngd_daemon.specs.LastRun.{IsLastRun, start_text};
-ghost use Rattle.ripngd_daemon.specs.Reading.{IsFirstBadLine, IsLogOf, IsRunOf, IsWritableChange, MakesTable, RefusesLog, RefusesRun, log_fault_text};
 ghost use Rattle.ripngd_daemon.specs.declared.reading.LogFault.TheVariants as fault;
 
 use crate::line::push_line;

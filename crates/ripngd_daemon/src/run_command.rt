@@ -1,9 +1,7 @@
 //! `run`: one router over UDP sockets of loopback. All options take the same path.
 
 ghost use Rattle.std.specs.Prelude.{◌≡◌, ◌≢◌, [], IfErr, IfOk, List, None, OnOk, Some, length, option_map, ℕ};
-ghost use Rattle.ripngd_config.specs.Configuration.{HasOneEach};
-ghost use Rattle.ripngd_daemon.specs.Failing.{MayFail};
-ghost use Rattle.ripngd_daemon.specs.Run.{IsRan, ShowsRun, links_of, lines_of};
+ghost use Rattle.ripngd_daemon.specs.Common.{HasOneEach, MayFail, IsRan, ShowsRun, links_of, lines_of};
 
 use crate::check_command::write_refusal;
 use crate::failure::Failure;

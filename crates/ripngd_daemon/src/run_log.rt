@@ -2,9 +2,7 @@
 //! locked while it is open.
 
 ghost use Rattle.std.specs.Prelude.{◌≡◌, ◌≢◌, ◌⊎◌, ◌++◌, [], IfErr, IfOk, OnOk, Some, option_map};
-ghost use Rattle.ripngd_daemon.specs.Failing.{MayFail};
-ghost use Rattle.ripngd_daemon.specs.Written.{begins_with};
-ghost use Rattle.ripngd_daemon.specs.declared.failure.FileCause.{FileCause};
+ghost use Rattle.ripngd_daemon.specs.Common.{MayFail, begins_with, FileCause};
 
 use crate::failure::{Failure, FileCause, failed};
 use ripngd_command_line::{Ask, Order};

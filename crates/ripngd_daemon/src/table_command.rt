@@ -1,10 +1,8 @@
 //! `table`: prints the forwarding table that a log makes.
 
 ghost use Rattle.std.specs.Prelude.{◌≡◌, IfErr, IfOk, List, ℕ};
-ghost use Rattle.std.specs.Io.KnownBytes.{Appends};
+ghost use Rattle.ripngd_daemon.specs.Common.{Appends, MayFail, IsTabled};
 ghost use Rattle.ripngd_command_line.specs.declared.asked.Ask.TheVariants as asks;
-ghost use Rattle.ripngd_daemon.specs.Failing.{MayFail};
-ghost use Rattle.ripngd_daemon.specs.Tabled.{IsTabled};
 
 use crate::failure::Failure;
 use crate::files::FileSource;

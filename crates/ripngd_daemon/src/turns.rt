@@ -1,12 +1,7 @@
 //! The turns of a running router, with the commands of its clients between them.
 
 ghost use Rattle.std.specs.Prelude.{◌≡◌, ◌≢◌, ◌≤◌, ◌*◌, ◌↔◌, [], IfErr, IfOk, IsTrue, OnOk, None, false, true};
-ghost use Rattle.std.specs.Io.KnownBytes.{Appends};
-ghost use Rattle.ripngd_control.specs.Clients.{Heeds};
-ghost use Rattle.ripngd_engine.specs.Seen.{Ran, seen};
-ghost use Rattle.ripngd_daemon.specs.Failing.{MayFail};
-ghost use Rattle.ripngd_daemon.specs.Run.{IsOver, IsToldToStop, Lasts, TurnsAndHeeds, lines_of, words_of};
-ghost use Rattle.ripngd_daemon.specs.Tabled.{table_text};
+ghost use Rattle.ripngd_daemon.specs.Common.{Appends, Heeds, Ran, seen, MayFail, IsOver, IsToldToStop, Lasts, TurnsAndHeeds, lines_of, words_of, table_text};
 
 use crate::failure::Failure;
 use crate::history::losses_of;

@@ -1,7 +1,7 @@
 //! Warnings of what a configuration allows though it cannot work. Each function fails as its writer does.
 
 ghost use Rattle.std.specs.Prelude.{◌≡◌, is_some};
-ghost use Rattle.ripngd_daemon.specs.Warnings.{has_address, is_never_heard};
+ghost use Rattle.ripngd_daemon.specs.Common.{has_address, is_never_heard};
 
 use ripngd_config::Config;
 use ripngd_engine::{Peer, Place};

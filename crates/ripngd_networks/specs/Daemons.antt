@@ -1,11 +1,6 @@
 -- What a daemon does from its first start on: one act after another, each as the engine's own definitions say.
 use Rattle.std.specs.Prelude.{◌≡◌, ℕ, ◌==◌, if◌then◌else◌, List, [], ◌∷◌, map, filter_map, option_map, Option, None, Some, false}
-use Rattle.rand_core.specs.Stream.{Stream}
-use Rattle.router_core.specs.Config.{Config}
-use Rattle.router_core.specs.declared.reconfiguring.Change.{Change}
-use Rattle.ripngd_engine.specs.Changing.{ReconfiguresOnce, ShutsDownOnce, LinkGoesDownOnce, LinkComesUpOnce, ReconfiguresNothing}
-use Rattle.ripngd_engine.specs.Link.{Call, RecvFailed}
-use Rattle.ripngd_engine.specs.Run.{Machine, Trace, ComesUp, TakesIn, TicksOnce, followed_by, one_call}
+use Rattle.ripngd_networks.specs.Below.{Stream, Config, Change, ReconfiguresOnce, ShutsDownOnce, LinkGoesDownOnce, LinkComesUpOnce, ReconfiguresNothing, Call, RecvFailed, Machine, Trace, ComesUp, TakesIn, TicksOnce, followed_by, one_call}
 
 -- a daemon comes up; it asks its link once, and takes in what that gave; it ticks; its configuration is changed; it shuts down; a
 -- link of it goes down; one comes up; one of these four is refused

@@ -1,8 +1,6 @@
 -- Where the packets of daemons go: by the forwarding tables that their changes made.
 use Rattle.std.specs.Prelude.{◌≡◌, ℕ, ◌<◌, length, false, Option, Some, option_map, option_and_then, slice_get}
-use Rattle.ripng_world.specs.Network.{Network}
-use Rattle.ripng_world.specs.Packets.{Forwardings}
-use Rattle.ripngd_engine.specs.Run.{Machine}
+use Rattle.ripngd_networks.specs.Below.{Network, Forwardings, Machine}
 
 -- the forwarding tables of the network's daemons
 abbrev pub forwardings_by : Network → (ℕ → Option Machine) → Forwardings

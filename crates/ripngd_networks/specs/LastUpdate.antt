@@ -1,15 +1,7 @@
 -- What a neighbor receives of the last update of a router that shuts down, and which routes have ended then.
 use Rattle.std.specs.Prelude.{◌≡◌, ℕ, ◌<◌, ◌≤◌, ◌==◌, ◌&&◌, if◌then◌else◌, List, [], ◌∷◌, ◌++◌, map, filter, length, All, Contains, Some, slice_get}
+use Rattle.ripngd_networks.specs.Below.{Prefix6, RouteValue, IsRoute, infinity, Table, Learned, State, Happening, Arrives, Moves, Answer, Outgoing, World, Event, Deliver, is_heard, Sent}
 use Rattle.std.specs.FinMap as map_of
-use Rattle.prefix6.specs.Prefix.{Prefix6}
-use Rattle.route_table.specs.Route.{RouteValue, IsRoute, infinity}
-use Rattle.route_table.specs.Table.{Table}
-use Rattle.route_table.specs.declared.route.Origin.TheVariants.{Learned}
-use Rattle.router_core.specs.Machine.{State, Happening, Arrives, Moves}
-use Rattle.router_core.specs.declared.answer.Answer.{Answer}
-use Rattle.router_core.specs.declared.answer.Outgoing.{Outgoing}
-use Rattle.ripng_world.specs.World.{World, Event, Deliver, is_heard}
-use Rattle.ripng_world.specs.declared.sent.Sent.{Sent}
 
 -- where the table's route to the prefix was learned on the interface from that address, it is unreachable
 abbrev pub HasNoneBy : (iface from : ℕ) → Table → Prefix6 → Type 0

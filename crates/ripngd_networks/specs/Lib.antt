@@ -3,3 +3,5 @@ pub mod Links
 pub mod OnTime
 pub mod Delivering
 pub mod LastUpdate
+pub mod Below
+pub mod Common

@@ -1,16 +1,6 @@
 -- Networks of daemons, and all that is known of the links between them.
 use Rattle.std.specs.Prelude.{◌≡◌, ℕ, ◌<◌, ◌&&◌, ◌⊎◌, ⊤, List, [], ◌∷◌, ◌++◌, length, map, filter_map, flat_map, Contains, Option, None, Some, is_none, slice_get, IsFalse}
-use Rattle.std.specs.List.{AllByRecursion}
-use Rattle.ripng_wire.specs.Wire.{is_response}
-use Rattle.router_core.specs.Config.{Config}
-use Rattle.router_core.specs.Faults.{fault}
-use Rattle.router_core.specs.declared.answer.Outgoing.{Outgoing}
-use Rattle.ripng_world.specs.Network.{Network, Node, AreLinked, config_of}
-use Rattle.ripng_world.specs.Past.{Past}
-use Rattle.ripng_world.specs.World.{World, Event, IsCold, WorldRun, address_at, is_to_group, sent_by}
-use Rattle.ripng_world.specs.declared.sent.Sent.{Sent}
-use Rattle.ripngd_engine.specs.Link.{Call, Datagram, Gave, Handed}
-use Rattle.ripngd_engine.specs.Run.{Machine, arrival}
+use Rattle.ripngd_networks.specs.Below.{AllByRecursion, is_response, Config, fault, Outgoing, Network, Node, AreLinked, config_of, Past, World, Event, IsCold, WorldRun, address_at, is_to_group, sent_by, Sent, Call, Datagram, Gave, Handed, Machine, arrival}
 use Rattle.ripngd_networks.specs.Daemons.{Act, Listen, Happened, Lives, reconfigurations_by, own_deeds}
 
 -- the datagram that a call handed to a link, if it is such a call

@@ -8,22 +8,8 @@
 -- half a second more is its clock's, another half until it ticks, and 13 seconds are the links'. And 118 seconds of the true clock are
 -- less than the 120 for which a lost route is advertised, by any daemon's own.
 use Rattle.std.specs.Prelude.{◌≡◌, ◌≢◌, ℕ, ◌+◌, ◌-◌, ◌^◌, ◌<◌, ◌≤◌, max, ◌⊎◌, ⊤, List, [], ◌∷◌, ◌++◌, map, length, All, Contains, Option, Some, None, slice_get}
+use Rattle.ripngd_networks.specs.Below.{AllByRecursion, Forward, Forwarding, Prefix6, infinity, Config, Note, NoMemory, Fault, Network, Node, AreLinked, config_of, IsLeast, Sent, Datagram, Gave, Machine, Processed, Arrived}
 use Rattle.std.specs.FinMap as map_of
-use Rattle.std.specs.List.{AllByRecursion}
-use Rattle.fib.specs.Forwarding.{Forward, Forwarding}
-use Rattle.prefix6.specs.Prefix.{Prefix6}
-use Rattle.route_table.specs.Route.{infinity}
-use Rattle.router_core.specs.Config.{Config}
-use Rattle.router_core.specs.declared.answer.Note.{Note}
-use Rattle.router_core.specs.declared.answer.NoteKind.TheVariants.{NoMemory}
-use Rattle.router_core.specs.declared.arrival.Fault.{Fault}
-use Rattle.ripng_world.specs.Network.{Network, Node, AreLinked, config_of}
-use Rattle.ripng_world.specs.Walks.{IsLeast}
-use Rattle.ripng_world.specs.declared.sent.Sent.{Sent}
-use Rattle.ripngd_engine.specs.Link.{Datagram, Gave}
-use Rattle.ripngd_engine.specs.Run.{Machine}
-use Rattle.ripngd_engine.specs.Observer.{Processed}
-use Rattle.ripngd_engine.specs.declared.observer.Arrived.{Arrived}
 use Rattle.ripngd_networks.specs.Daemons.{Act, Start, Listen, Tick, Reconfigure, Shutdown, LinkDown, LinkUp, Happened, Lives, own_deeds}
 use Rattle.ripngd_networks.specs.Links.{IsCopyOf, IsOfAStranger, LiveOn, handed_by, all_handed}
 

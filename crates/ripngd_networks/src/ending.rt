@@ -1,19 +1,8 @@
 //! Laws of how routes end: a neighbor's routes by a router that shuts down, and a router's routes by a link that goes down.
 
 ghost use Rattle.std.specs.Prelude.{◌≡◌, ◌≢◌, ◌↔◌, ℕ, ◌<◌, ◌≤◌, List, [], ◌∷◌, length, Some, slice_get, true, false, IsTrue};
+ghost use Rattle.ripngd_networks.specs.Common.{Forward, Via, Prefix6, IsPrefix, is_routable, RouteValue, forwards, mtu_at, State, Happening, ShutsDown, LinkGoesDown, Moves, is_learned_on, Answer, Network, AreLinked, IsNetwork, World, Event, Shutdown, Happens, IsCold, WorldRun, address_at, AreRoutes, HasNoneBy, HearsFrom, IsDeliveredWhole, IsHeardWhole, sent_on};
 ghost use Rattle.std.specs.FinMap as map_of;
-ghost use Rattle.fib.specs.Forwarding.{Forward};
-ghost use Rattle.fib.specs.declared.change.Hop.TheVariants.{Via};
-ghost use Rattle.prefix6.specs.Prefix.{Prefix6, IsPrefix, is_routable};
-ghost use Rattle.route_table.specs.Route.{RouteValue};
-ghost use Rattle.router_core.specs.Changes.{forwards};
-ghost use Rattle.router_core.specs.Config.{mtu_at};
-ghost use Rattle.router_core.specs.Machine.{State, Happening, ShutsDown, LinkGoesDown, Moves};
-ghost use Rattle.router_core.specs.Output.{is_learned_on};
-ghost use Rattle.router_core.specs.declared.answer.Answer.{Answer};
-ghost use Rattle.ripng_world.specs.Network.{Network, AreLinked, IsNetwork};
-ghost use Rattle.ripng_world.specs.World.{World, Event, Shutdown, Happens, IsCold, WorldRun, address_at};
-ghost use Rattle.ripngd_networks.specs.LastUpdate.{AreRoutes, HasNoneBy, HearsFrom, IsDeliveredWhole, IsHeardWhole, sent_on};
 
 use ripng_world::shutdown_tells_losses;
 

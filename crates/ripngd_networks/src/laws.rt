@@ -1,32 +1,8 @@
 //! Laws of networks of daemons. Each is the contract of an empty function: it follows from the definitions alone.
 
 ghost use Rattle.std.specs.Prelude.{◌≡◌, ℕ, ◌+◌, ◌*◌, ◌<◌, ◌≤◌, List, [], ◌∷◌, ◌++◌, length, Contains, Option, Some, Result, false};
+ghost use Rattle.ripngd_networks.specs.Common.{AllByRecursion, Stream, Forward, Prefix6, RouteValue, infinity, forward, forwards, Config, IsNeverQuiet, FitsTablesSince, IsHealed, network_now, Network, IsNetwork, OwnsPrefixes, IsBacked, IsLeast, IsBackedSince, IsLeastSince, IsSoundDatagramSince, Sent, Change, LinkComesUpOnce, LinkGoesDownOnce, ReconfigureAnswer, ShutsDownOnce, StepAnswer, Machine, all_joined, Seen, Outside, Shows, Started, TurnsAnswer, EngineFault, ChangeFault, Deed, Start, Happened, Lives, reconfigurations_by, in_force, traces_of, HaveRun, IsRunOf, LiveOn, all_handed, past_of_daemons, AreOnTime, Dated, ForwardsLeast, GoOn, HappenFrom, undated, AllGoOn, forwardings_by, PacketsArriveBy};
 ghost use Rattle.std.specs.FinMap as map_of;
-ghost use Rattle.std.specs.List.{AllByRecursion};
-ghost use Rattle.rand_core.specs.Stream.{Stream};
-ghost use Rattle.fib.specs.Forwarding.{Forward};
-ghost use Rattle.prefix6.specs.Prefix.{Prefix6};
-ghost use Rattle.route_table.specs.Route.{RouteValue, infinity};
-ghost use Rattle.router_core.specs.Changes.{forward, forwards};
-ghost use Rattle.router_core.specs.Config.{Config};
-ghost use Rattle.ripng_world.specs.Convergence.{IsNeverQuiet};
-ghost use Rattle.ripng_world.specs.Healing.{FitsTablesSince, IsHealed, network_now};
-ghost use Rattle.ripng_world.specs.Network.{Network, IsNetwork, OwnsPrefixes};
-ghost use Rattle.ripng_world.specs.Walks.{IsBacked, IsLeast};
-ghost use Rattle.ripng_world.specs.Past.{IsBackedSince, IsLeastSince};
-ghost use Rattle.ripng_world.specs.TruthSince.{IsSoundDatagramSince};
-ghost use Rattle.ripng_world.specs.declared.sent.Sent.{Sent};
-ghost use Rattle.router_core.specs.declared.reconfiguring.Change.{Change};
-ghost use Rattle.ripngd_engine.specs.Changing.{LinkComesUpOnce, LinkGoesDownOnce, ReconfigureAnswer, ShutsDownOnce, StepAnswer};
-ghost use Rattle.ripngd_engine.specs.Run.{Machine, all_joined};
-ghost use Rattle.ripngd_engine.specs.Seen.{Seen, Outside, Shows, Started, TurnsAnswer};
-ghost use Rattle.ripngd_engine.specs.declared.report.EngineFault.{EngineFault};
-ghost use Rattle.ripngd_engine.specs.declared.report.ChangeFault.{ChangeFault};
-ghost use Rattle.ripngd_networks.specs.Daemons.{Deed, Start, Happened, Lives, reconfigurations_by, in_force, traces_of};
-ghost use Rattle.ripngd_networks.specs.Links.{HaveRun, IsRunOf, LiveOn, all_handed, past_of_daemons};
-ghost use Rattle.ripngd_networks.specs.OnTime.{AreOnTime, Dated, ForwardsLeast, GoOn, HappenFrom, undated};
-ghost use Rattle.ripngd_networks.specs.Delivering.{AllGoOn, forwardings_by};
-ghost use Rattle.ripng_world.specs.Packets.{PacketsArriveBy};
 
 /// What the contracts of an engine say is a daemon's life: its start, whatever was before; its turns, also those that end early
 /// because a link failed or memory ran out; changes of its configuration, shutdowns and links that go down or come up, also those
