@@ -1,6 +1,7 @@
 -- What the observer of a script is notified of beside the events of the network.
 use Rattle.std.specs.Prelude.{ℕ, Option}
-use Rattle.ripng_world.specs.Watching.{Told}
+use Rattle.ripngd_lab.specs.Below.{Told, Notice}
+use Rattle.ripngd_lab.specs.declared.watching.Notice.TheVariants.{Phases}
 
 -- of nothing that happens in the lab: the number of the script's next line; what a line prints, or why it ends the script; how many
 -- phases a line has made, and which of them, numbered from 0, last changed some table, if one did. And of a forged Response, which is no event of
@@ -11,3 +12,8 @@ pub data Aside : Type 0 where
   CountsPhases : (phases : ℕ) → (last : Option ℕ) → Aside
   Lie : Told → Aside
   Broken : Aside
+
+-- where a line did something beside events: how many phases it made, or of nothing that happens in the lab
+abbrev pub aside_of : Notice → Aside
+aside_of (Phases made) = CountsPhases made.phases made.last
+aside_of _ = Prints

@@ -1,11 +1,7 @@
--- What a script expects of a table.
+-- What a script expects of a table, and of packets on a path.
 use Rattle.std.specs.Prelude.{◌≡◌, ◌≢◌, ℕ, List, Option, None, Some, option_map, slice_get}
+use Rattle.ripngd_lab.specs.Below.{Prefix6, State, Expected, Missed, NoSuchRouter, Found, PathEnd, Delivered, Loops, Fate, FateArrives, FateLoops, Lost, Obstacle}
 use Rattle.std.specs.FinMap as map_of
-use Rattle.prefix6.specs.Prefix.{Prefix6}
-use Rattle.router_core.specs.Machine.{State}
-use Rattle.ripngd_lab.specs.declared.expecting.Expected.{Expected}
-use Rattle.ripngd_lab.specs.declared.expecting.Missed.{Missed}
-use Rattle.ripngd_lab.specs.declared.expecting.Missed.TheVariants.{NoSuchRouter, Found}
 
 -- the metric of a router's route to a prefix, if it has one
 abbrev pub metric_in : State → Prefix6 → Option ℕ
@@ -19,3 +15,9 @@ metric_at states router p = option_map (λ s. metric_in s p) (slice_get states r
 abbrev pub HasMissed : List State → Expected → Missed → Type 0
 HasMissed states e NoSuchRouter = slice_get states e.router ≡ None
 HasMissed states e (Found found) = (metric_at states e.router e.prefix ≡ Some found) × (found ≢ e.metric)
+
+-- they are lost where something is in their way, or else as the path ends
+abbrev pub fate_of : PathEnd → Option Obstacle → Fate
+fate_of Delivered None = FateArrives
+fate_of (Loops from) None = FateLoops
+fate_of end obstacle = Lost

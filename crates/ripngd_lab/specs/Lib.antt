@@ -1,9 +1,8 @@
 pub mod Asides
+pub mod Below
+pub mod Common
 pub mod Expecting
-pub mod Losing
-pub mod Notices
 pub mod Phasing
 pub mod Plans
 pub mod ScriptWatching
 pub mod Sites
-pub mod Ways

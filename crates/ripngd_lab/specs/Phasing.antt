@@ -1,19 +1,8 @@
 -- Phases of a script: when all takes part in them, and why they stop.
 use Rattle.std.specs.Prelude.{◌≡◌, ◌⊎◌, ℕ, ⊤, true, [], Option}
-use Rattle.std.specs.declared.io.Error.{Error}
-use Rattle.ripng_world.specs.Labs.{LabValue}
-use Rattle.ripng_world.specs.Watching.{Told}
-use Rattle.ripng_world.specs.declared.watch.Stopped.{Stopped}
-use Rattle.ripng_world.specs.declared.watch.Stopped.TheVariants.{Refused as IsRefused, Failed as HasFailed}
-use Rattle.ripng_phases.specs.Making.{AreMadeInPart, AreMadePhases}
-use Rattle.ripng_phases.specs.declared.refused.PhaseRefused.{PhaseRefused}
-use Rattle.ripng_phases.specs.declared.refused.PhaseRefused.TheVariants.{OutOfMemory}
+use Rattle.ripngd_lab.specs.Below.{Error, LabValue, Told, Stopped, IsRefused, HasFailed, AreMadeInPart, AreMadePhases, PhaseRefused, OutOfMemory, Outages, Outage, Phases, Stop, Refused, Failed}
 use Rattle.ripngd_lab.specs.Asides.{Aside, CountsPhases}
 use Rattle.ripngd_lab.specs.ScriptWatching.{is_failure}
-use Rattle.ripngd_lab.specs.declared.plan.Outages.{Outages}
-use Rattle.ripngd_lab.specs.declared.stop.Refusal.TheVariants.{Outage, Phases}
-use Rattle.ripngd_lab.specs.declared.stop.Stop.{Stop}
-use Rattle.ripngd_lab.specs.declared.stop.Stop.TheVariants.{Refused, Failed}
 
 -- no router is silent, and no link is cut
 abbrev pub AllTakePart : Outages → Type 0

@@ -1,18 +1,6 @@
 -- What a wave makes happen: who ticks, and where each datagram comes, where routers are silent, links are cut and datagrams are lost.
-use Rattle.std.specs.Prelude.{ℕ, ◌==◌, ◌&&◌, not, Bool, true, false, List, [], ◌∷◌, ◌++◌, map, filter, Option, option_map, option_and_then, slice_get}
-use Rattle.std.specs.List.{list_any, range_with_len}
-use Rattle.std.specs.Option.{option_map_or}
-use Rattle.router_core.specs.declared.answer.Destination.{Destination}
-use Rattle.router_core.specs.declared.answer.Destination.TheVariants.{Group, Peer}
-use Rattle.ripng_world.specs.AskedRounds.{is_other}
-use Rattle.ripng_world.specs.Labs.{LabValue, link_at}
-use Rattle.ripng_world.specs.Rounds.{router_of}
-use Rattle.ripng_world.specs.World.{Event, Tick}
-use Rattle.ripng_world.specs.declared.sent.Sent.{Sent}
-use Rattle.ripngd_lab.specs.declared.plan.Outages.{Outages}
-use Rattle.ripngd_lab.specs.declared.plan.Ticking.{Ticking}
-use Rattle.ripngd_lab.specs.declared.plan.Ticking.TheVariants.{Nobody, One, All, Due}
-use Rattle.ripngd_lab.specs.declared.plan.Wave.{Wave}
+use Rattle.std.specs.Prelude.{ℕ, ◌==◌, ◌&&◌, not, Bool, true, false, List, [], ◌∷◌, ◌++◌, map, filter, Option, option_map, option_and_then, slice_get, All}
+use Rattle.ripngd_lab.specs.Below.{list_any, range_with_len, option_map_or, Destination, Group, Peer, is_other, LabValue, link_at, router_of, Event, Deliver, Tick, Sent, Outages, Ticking, Nobody, One, Due, Wave}
 
 -- ---- outages
 
@@ -26,6 +14,15 @@ is_cut outages link = list_any (λ l. l == link) outages.cut.items
 abbrev pub with_member : Bool → ℕ → List ℕ → List ℕ
 with_member true x xs = filter (λ y. not (y == x)) xs ++ x ∷ []
 with_member false x xs = filter (λ y. not (y == x)) xs
+
+-- whether a datagram is among those that are lost
+abbrev pub is_lost : List ℕ → ℕ → Bool
+is_lost lost datagram = list_any (λ d. d == datagram) lost
+
+-- whether an event brings a datagram that is lost
+abbrev pub brings_lost : List ℕ → Event → Bool
+brings_lost lost (Deliver datagram router iface now) = is_lost lost datagram
+brings_lost lost _ = false
 
 -- ---- ticks
 

@@ -1,16 +1,7 @@
 -- What the observer of a script is notified of: the start of a lab, and then just the run that is done, event by event.
 use Rattle.std.specs.Prelude.{◌≡◌, ◌⊎◌, ℕ, Bool, true, false, List, [], ◌∷◌, Option, Some, None, Result, Ok, Err}
-use Rattle.std.specs.List.{AllByRecursion}
-use Rattle.router_core.specs.declared.answer.Answer.{Answer}
-use Rattle.ripng_world.specs.Labs.{LabValue}
-use Rattle.ripng_world.specs.Watching.{Told, telling}
-use Rattle.ripng_world.specs.Lying.{Lies}
-use Rattle.ripng_world.specs.World.{Event, Stranger, Happens, IsCold}
-use Rattle.router_core.specs.Received.{Received}
+use Rattle.ripngd_lab.specs.Below.{AllByRecursion, Answer, LabValue, Told, telling, Lies, Event, Stranger, Happens, IsCold, Received, Course, Stop, Refused, Unmet, Failed}
 use Rattle.ripngd_lab.specs.Asides.{Aside, NextLine, Prints, CountsPhases, Lie, Broken}
-use Rattle.ripngd_lab.specs.declared.course.Course.{Course}
-use Rattle.ripngd_lab.specs.declared.stop.Stop.{Stop}
-use Rattle.ripngd_lab.specs.declared.stop.Stop.TheVariants.{Refused, Unmet, Failed}
 
 -- what an observer is notified of: that all routers have started, at one moment; that an event was done, with its answer; the number of
 -- the script's next line; what a line prints, or why it ends the script; how many phases a line has made, and which last changed some

@@ -1,10 +1,7 @@
 //! A network that runs, and what lines do with it.
 
 ghost use Rattle.std.specs.Prelude.{◌≡◌, ◌<◌, ◌++◌, ◌∷◌, [], IfSome, OnOk, Some, length};
-ghost use Rattle.ripngd_lab.specs.Asides.{Prints};
-ghost use Rattle.ripngd_lab.specs.Notices.{aside_of};
-ghost use Rattle.ripngd_lab.specs.Plans.{with_member};
-ghost use Rattle.ripngd_lab.specs.ScriptWatching.{HasTold};
+ghost use Rattle.ripngd_lab.specs.Common.{Prints, aside_of, with_member, HasTold};
 
 use crate::forms::{Action, Step};
 use crate::horizon::{Horizons, set_horizon};
@@ -231,13 +228,12 @@ impl Course {
     /// An event at each interface on the link of a line, by router and interface; `NoSuchLink` if none is on it.
     fn events_at(&self, kind: Step, line: &Line<'_>) -> Result<Vec<Event<'static>>, Stop> {
         let lab = self.site.running();
-        let mut events = Vec::new(self.alloc);
-        for place in 0..lab.routers().saturating_mul(INTERFACE_LIMIT) {
-            let (router, iface) = (place / INTERFACE_LIMIT, place % INTERFACE_LIMIT);
-            if lab.link(router, iface) == Some(line.link) {
-                events.push(line.event(kind, router, iface))?;
-            }
-        }
+        let places = 0..lab.routers().saturating_mul(INTERFACE_LIMIT);
+        let events: Vec<Event<'static>> = places
+            .map(|place| (place / INTERFACE_LIMIT, place % INTERFACE_LIMIT))
+            .filter(|(router, iface)| lab.link(*router, *iface) == Some(line.link))
+            .map(|(router, iface)| line.event(kind, router, iface))
+            .collect(self.alloc)?;
         if events.is_empty() {
             return Err(Stop::Refused(Refusal::NoSuchLink));
         }

@@ -2,10 +2,7 @@
 //! on it they are lost for a reason that no table has.
 
 ghost use Rattle.std.specs.Prelude.{◌≡◌, IfErr, IfOk, OnOk, Some};
-ghost use Rattle.ripng_world.specs.Packets.{forwardings_of};
-ghost use Rattle.ripng_world.specs.Path.{IsPath};
-ghost use Rattle.ripngd_lab.specs.Expecting.{HasMissed, metric_at};
-ghost use Rattle.ripngd_lab.specs.Ways.{fate_of};
+ghost use Rattle.ripngd_lab.specs.Common.{forwardings_of, IsPath, HasMissed, metric_at, fate_of};
 
 use crate::{Network, Outages, Stop};
 use prefix6::{Addr6, Prefix};

@@ -2,9 +2,7 @@
 //! stretches of a minute, by chance, in which all that matters gets through once, with no rounds.
 
 ghost use Rattle.std.specs.Prelude.{◌≡◌, All, IfErr, IfOk, OnOk, Some, length};
-ghost use Rattle.ripng_phases.specs.Making.{HealsIn};
-ghost use Rattle.ripngd_lab.specs.Phasing.{AllTakePart, AreMadeAndCounted, IsStopAt, StopsPhases};
-ghost use Rattle.ripngd_lab.specs.ScriptWatching.{HasTold};
+ghost use Rattle.ripngd_lab.specs.Common.{HealsIn, AllTakePart, AreMadeAndCounted, IsStopAt, StopsPhases, HasTold};
 
 use crate::context::{OrNone, moment_after};
 use crate::horizon::Advert;

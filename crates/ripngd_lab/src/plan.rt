@@ -3,10 +3,7 @@
 //! would do, let no `phases` be, and hold back nothing that a line says of one datagram or of one router; what is lost comes to nobody.
 
 ghost use Rattle.std.specs.Prelude.{◌≡◌, false, true, IfOk, IsFalse, IsTrue, OnErr, OnOk, map};
-ghost use Rattle.ripng_world.specs.Events.{event_of};
-ghost use Rattle.ripngd_lab.specs.Losing.{brings_lost, is_lost};
-ghost use Rattle.ripngd_lab.specs.Phasing.{AllTakePart};
-ghost use Rattle.ripngd_lab.specs.Plans.{addr_at, all_ticks, first_of, is_cut, is_silent, reaches, ticks_of, with_member};
+ghost use Rattle.ripngd_lab.specs.Common.{event_of, brings_lost, is_lost, AllTakePart, addr_at, all_ticks, first_of, is_cut, is_silent, reaches, ticks_of, with_member};
 
 use crate::context::number;
 use crate::{Course, Network, Outcome, Refusal, Stop};
@@ -159,27 +156,25 @@ impl<'a> Wave<'a> {
     /// `first`.
     pub fn deliveries(&self, course: &Course, first: usize, datagram: usize) -> Events {
         let (lab, outages) = (course.site.running(), &course.outages);
-        let mut events = Vec::new(course.alloc);
-        let Some(sent) = lab.sent().get(datagram) else {
-            return Ok(events);
-        };
-        let place = datagram.saturating_sub(first);
+        let (now, place) = (self.moment, datagram.saturating_sub(first));
         let mut lost = self.lost.split(' ');
+        let Some(sent) = lab.sent().get(datagram) else {
+            return Ok(Vec::new(course.alloc));
+        };
         if outages.is_lost(datagram) || lost.any(|word| number(word) == Ok(place)) {
-            return Ok(events);
+            return Ok(Vec::new(course.alloc));
         }
-        for place in 0..lab.routers().saturating_mul(INTERFACE_LIMIT) {
-            let (router, iface) = (place / INTERFACE_LIMIT, place % INTERFACE_LIMIT);
-            if reaches(lab, outages, sent, router, iface) {
-                events.push(Event::Deliver {
-                    datagram,
-                    router,
-                    iface,
-                    now: self.moment,
-                })?;
-            }
-        }
-        Ok(events)
+        let places = 0..lab.routers().saturating_mul(INTERFACE_LIMIT);
+        places
+            .map(|place| (place / INTERFACE_LIMIT, place % INTERFACE_LIMIT))
+            .filter(|(router, iface)| reaches(lab, outages, sent, *router, *iface))
+            .map(|(router, iface)| Event::Deliver {
+                datagram,
+                router,
+                iface,
+                now,
+            })
+            .collect(course.alloc)
     }
 }
 

@@ -1,9 +1,7 @@
 //! A script, line by line: its routers are listed until they start, and then live in a network.
 
 ghost use Rattle.std.specs.Prelude.{◌<◌, ◌≡◌, ◌⊎◌, IfOk, IfSome, None, OnErr, OnOk, Option, length, true};
-ghost use Rattle.ripng_world.specs.Labs.{LabValue};
-ghost use Rattle.ripngd_lab.specs.Asides.{Broken};
-ghost use Rattle.ripngd_lab.specs.ScriptWatching.{HasTold, IsToldOfLab, IsToldUntil, StartsAt, has_failed, lab_in};
+ghost use Rattle.ripngd_lab.specs.Common.{LabValue, Broken, HasTold, IsToldOfLab, IsToldUntil, StartsAt, has_failed, lab_in};
 
 use crate::course::check_named;
 use crate::forms::Verb;

@@ -1,9 +1,7 @@
 //! Where a script's routers run: a lab, until somebody lies to one of them, and from then on the same routers with nothing promised.
 
 ghost use Rattle.std.specs.Prelude.{◌≡◌, ◌∷◌, [], IfErr, IfOk, length};
-ghost use Rattle.ripng_world.specs.Events.{event_of};
-ghost use Rattle.ripng_world.specs.Labs.{HappensGiving};
-ghost use Rattle.ripng_world.specs.Watching.{WatchedInPart, failures};
+ghost use Rattle.ripngd_lab.specs.Common.{event_of, HappensGiving, WatchedInPart, failures};
 
 use ripng_world::{Event, Lab, LabError, Observer, Running, Stopped};
 use route_table::SortedRoutes;

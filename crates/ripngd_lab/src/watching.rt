@@ -1,10 +1,7 @@
 //! The observer of a script.
 
 ghost use Rattle.std.specs.Prelude.{ℕ, OnErr, OnOk};
-ghost use Rattle.ripng_world.specs.Events.{event_of};
-ghost use Rattle.ripng_world.specs.Labs.{LabValue};
-ghost use Rattle.ripngd_lab.specs.Asides.{Aside, Broken, Lie, NextLine};
-ghost use Rattle.ripngd_lab.specs.Notices.{aside_of};
+ghost use Rattle.ripngd_lab.specs.Common.{event_of, LabValue, Aside, Broken, Lie, NextLine, aside_of};
 
 use crate::{Ending, Horizon, MadePhases, Network, Routes, Unmet, Way};
 use prefix6::Prefix;

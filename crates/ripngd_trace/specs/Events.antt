@@ -1,16 +1,7 @@
 -- What the record of an event says: of the event, of the answer, and of what was sent.
 use Rattle.std.specs.Prelude.{◌≡◌, ℕ, Bool, List, drop, map, Option, None, option_map, slice_get}
-use Rattle.std.specs.List.{enumerate_from}
-use Rattle.std.specs.Borrow.{Bor}
-use Rattle.ripng_world.specs.Events.{event_of}
-use Rattle.ripng_world.specs.Labs.{LabValue}
-use Rattle.ripng_world.specs.Rounds.{moment_of, router_of}
-use Rattle.ripng_world.specs.Watching.{Told}
-use Rattle.ripng_world.specs.World.{Event, Deliver}
-use Rattle.ripng_world.specs.declared.sent.Sent.{Sent}
-use Rattle.ripngd_lab.specs.Plans.{addr_at}
+use Rattle.ripngd_trace.specs.Below.{enumerate_from, Bor, event_of, LabValue, moment_of, router_of, Told, Event, Deliver, Sent, addr_at, EventRecord}
 use Rattle.ripngd_trace.specs.Records.{timers_in}
-use Rattle.ripngd_trace.specs.declared.records.EventRecord.{EventRecord}
 
 -- the datagram of a delivery, and the address that it was sent from, if it was sent
 abbrev pub sender_at : LabValue → Event → Option (Sent × Option ℕ)

@@ -1,7 +1,6 @@
 -- A text of JSON that grows.
 use Rattle.std.specs.Prelude.{◌≡◌, List, ◌++◌, false}
-use Rattle.json.specs.Token.{Token}
-use Rattle.ripngd_trace.specs.declared.to_json.JsonText.{JsonText}
+use Rattle.ripngd_trace.specs.Below.{Token, JsonText}
 
 -- these tokens are written behind the others, unless memory was refused, now or before
 pub record Grows (old new : JsonText) (tokens : List Token) : Type 0 where

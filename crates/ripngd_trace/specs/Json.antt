@@ -1,45 +1,8 @@
 -- The JSON of each record (RFC 8259): an object that has a member for each field, in order; and its text.
 use Rattle.std.specs.Prelude.{ℕ, List, [], ◌∷◌, Option, Some, None, Bool, true, false, map, codes, decimal, String, string_bytes}
-use Rattle.std.specs.Borrow.{Bor}
-use Rattle.std.specs.Global.{Global}
-use Rattle.hex.specs.Hex.{encode_lower}
-use Rattle.json.specs.Json.{Json, null, boolean, number, string, array, object, Items, no_items, item, Members, no_members, member}
-use Rattle.json.specs.Print.{print}
-use Rattle.json.specs.Tree.{json_tokens}
-use Rattle.prefix6.specs.Prefix.{Prefix6}
-use Rattle.prefix6.specs.Written.{written_addr, written_prefix}
-use Rattle.fib.specs.declared.change.Hop.{Hop}
-use Rattle.fib.specs.declared.change.Hop.TheVariants.{Direct, Via}
-use Rattle.fib.specs.declared.change.RouteChange.{RouteChange}
-use Rattle.fib.specs.declared.change.RouteChange.TheVariants.{Install, Withdraw}
-use Rattle.route_table.specs.Route.{RouteValue, deadline}
-use Rattle.route_table.specs.declared.route.Origin.{Origin}
+use Rattle.ripngd_trace.specs.Below.{Bor, Global, encode_lower, Json, null, boolean, number, string, array, object, Items, no_items, item, Members, no_members, member, print, json_tokens, Prefix6, written_addr, written_prefix, Hop, Direct, Via, RouteChange, Install, Withdraw, RouteValue, deadline, Origin, reason_name, fault_name, fault_number, note_name, note_number, Received, Destination, Group, Peer, Note, Fault, Interface, Change, Cost, Own, Disown, event_of, Sent, Event, Deliver, Stranger, Tick, Restart, Shutdown, LinkDown, LinkUp, Reconfigure, Action, AsideRecord, EventRecord, Happened, OfferRecord, RouterRecord, StartRecord, Timers, UpdateRecord, Regular, Triggered, Held}
 use Rattle.route_table.specs.declared.route.Origin.TheVariants as origin
-use Rattle.router_core.specs.Adoption.{reason_name}
-use Rattle.router_core.specs.Faults.{fault_name, fault_number}
-use Rattle.router_core.specs.Offers.{note_name, note_number}
-use Rattle.router_core.specs.Received.{Received}
-use Rattle.router_core.specs.declared.answer.Destination.{Destination}
-use Rattle.router_core.specs.declared.answer.Destination.TheVariants.{Group, Peer}
-use Rattle.router_core.specs.declared.answer.Note.{Note}
-use Rattle.router_core.specs.declared.arrival.Fault.{Fault}
-use Rattle.router_core.specs.declared.config.Interface.{Interface}
-use Rattle.router_core.specs.declared.reconfiguring.Change.{Change}
-use Rattle.router_core.specs.declared.reconfiguring.Change.TheVariants.{Cost, Own, Disown}
-use Rattle.ripng_world.specs.Events.{event_of}
-use Rattle.ripng_world.specs.declared.sent.Sent.{Sent}
-use Rattle.ripng_world.specs.World.{Event, Deliver, Stranger, Tick, Restart, Shutdown, LinkDown, LinkUp, Reconfigure}
-use Rattle.ripngd_trace.specs.declared.records.Action.{Action}
 use Rattle.ripngd_trace.specs.declared.records.Action.TheVariants as action
-use Rattle.ripngd_trace.specs.declared.records.AsideRecord.{AsideRecord}
-use Rattle.ripngd_trace.specs.declared.records.EventRecord.{EventRecord}
-use Rattle.ripngd_trace.specs.declared.records.Happened.{Happened}
-use Rattle.ripngd_trace.specs.declared.records.OfferRecord.{OfferRecord}
-use Rattle.ripngd_trace.specs.declared.records.RouterRecord.{RouterRecord}
-use Rattle.ripngd_trace.specs.declared.records.StartRecord.{StartRecord}
-use Rattle.ripngd_trace.specs.declared.records.Timers.{Timers}
-use Rattle.ripngd_trace.specs.declared.records.UpdateRecord.{UpdateRecord}
-use Rattle.ripngd_trace.specs.declared.records.UpdateRecord.TheVariants.{Regular, Triggered, Held}
 
 -- the text: no space between the tokens, and in strings the shortest escapes
 abbrev pub text_of : Json → List ℕ

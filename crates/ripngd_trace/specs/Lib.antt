@@ -1,3 +1,5 @@
+pub mod Below
+pub mod Common
 pub mod Events
 pub mod Growing
 pub mod Json

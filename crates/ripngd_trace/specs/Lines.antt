@@ -1,9 +1,7 @@
 -- What is written of a record.
 use Rattle.std.specs.Prelude.{◌≡◌, ◌⊎◌, ℕ, List, [], ◌∷◌, ◌++◌, Option, None, take}
-use Rattle.std.specs.Io.KnownBytes.{Appends}
-use Rattle.json.specs.Json.{Json}
+use Rattle.ripngd_trace.specs.Below.{Appends, Json, Form}
 use Rattle.ripngd_trace.specs.Json.{text_of}
-use Rattle.ripngd_trace.specs.declared.to_json.Form.{Form}
 use Rattle.ripngd_trace.specs.declared.to_json.Form.TheVariants as form
 
 -- what a writer has of records in this form, where that is known: of English nothing is claimed

@@ -1,22 +1,7 @@
 -- What the record of an event says of offers: what each was, and which row of the table of adoption it fell under.
 use Rattle.std.specs.Prelude.{◌≡◌, ℕ, ◌<◌, ◌==◌, ◌&&◌, not, Bool, if◌then◌else◌, List, [], length, map, take, filter, fold, Option, Some, unwrap_or, slice_get}
-use Rattle.std.specs.List.{enumerate_from, list_any}
+use Rattle.ripngd_trace.specs.Below.{enumerate_from, list_any, Prefix6, same_prefix, RouteValue, Table, adopted, metric_through, reason, ripng_port, State, Brings, Offered, Received, Note, LabValue, Event, Deliver, is_to_group, Sent, addr_at, KnownRouter, OfferRecord}
 use Rattle.std.specs.FinMap as map_of
-use Rattle.prefix6.specs.Prefix.{Prefix6, same_prefix}
-use Rattle.route_table.specs.Route.{RouteValue}
-use Rattle.route_table.specs.Table.{Table}
-use Rattle.router_core.specs.Adoption.{adopted, metric_through, reason}
-use Rattle.router_core.specs.Faults.{ripng_port}
-use Rattle.router_core.specs.Machine.{State}
-use Rattle.router_core.specs.Offering.{Brings, Offered}
-use Rattle.router_core.specs.Received.{Received}
-use Rattle.router_core.specs.declared.answer.Note.{Note}
-use Rattle.ripng_world.specs.Labs.{LabValue}
-use Rattle.ripng_world.specs.World.{Event, Deliver, is_to_group}
-use Rattle.ripng_world.specs.declared.sent.Sent.{Sent}
-use Rattle.ripngd_lab.specs.Plans.{addr_at}
-use Rattle.ripngd_trace.specs.declared.known.KnownRouter.{KnownRouter}
-use Rattle.ripngd_trace.specs.declared.records.OfferRecord.{OfferRecord}
 
 -- a datagram of the network as it comes to an interface of its link
 abbrev pub came : LabValue → Sent → ℕ → ℕ → Received

@@ -1,15 +1,7 @@
 -- What a reader of a trace has, who goes through its records from the first one on: each router's table.
 use Rattle.std.specs.Prelude.{◌≡◌, ◌⊎◌, ℕ, Bool, true, false, ⊤, List, [], ◌∷◌, map, Option, Some, None, codes, get_or, slice_set}
+use Rattle.ripngd_trace.specs.Below.{Table, Answer, Json, LabValue, telling, Received, Lies, World, Event, Stranger, Happens, StartsAt, KnownRouter, Action, Prints, Loses, GoesRound, Makes, Ends, AsideRecord, EventRecord, StartRecord}
 use Rattle.std.specs.FinMap as map_of
-use Rattle.route_table.specs.Table.{Table}
-use Rattle.router_core.specs.declared.answer.Answer.{Answer}
-use Rattle.json.specs.Json.{Json}
-use Rattle.ripng_world.specs.Labs.{LabValue}
-use Rattle.ripng_world.specs.Watching.{telling}
-use Rattle.router_core.specs.Received.{Received}
-use Rattle.ripng_world.specs.Lying.{Lies}
-use Rattle.ripng_world.specs.World.{World, Event, Stranger, Happens}
-use Rattle.ripngd_lab.specs.ScriptWatching.{StartsAt}
 use Rattle.ripngd_trace.specs.Events.{RecordTells}
 use Rattle.ripngd_trace.specs.Json.{json_of_aside, json_of_event, json_of_start}
 use Rattle.ripngd_trace.specs.Lines.{WritesLess, WritesRecord}
@@ -17,12 +9,6 @@ use Rattle.ripngd_trace.specs.Offers.{TellsOffers}
 use Rattle.ripngd_trace.specs.Records.{known_as, taken_out, with_routes}
 use Rattle.ripngd_trace.specs.Starting.{TellsStart}
 use Rattle.ripngd_trace.specs.Updates.{due_at}
-use Rattle.ripngd_trace.specs.declared.known.KnownRouter.{KnownRouter}
-use Rattle.ripngd_trace.specs.declared.records.Action.{Action}
-use Rattle.ripngd_trace.specs.declared.records.Action.TheVariants.{Prints, Loses, GoesRound, Makes, Ends}
-use Rattle.ripngd_trace.specs.declared.records.AsideRecord.{AsideRecord}
-use Rattle.ripngd_trace.specs.declared.records.EventRecord.{EventRecord}
-use Rattle.ripngd_trace.specs.declared.records.StartRecord.{StartRecord}
 
 -- ---- what a reader has
 

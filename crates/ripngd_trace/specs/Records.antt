@@ -1,13 +1,7 @@
 -- What the records of a trace say of a router, and what a reader who applies them knows.
 use Rattle.std.specs.Prelude.{◌≡◌, List, [], ◌∷◌}
+use Rattle.ripngd_trace.specs.Below.{Prefix6, next_due, RouteValue, ByPrefix, Table, State, KnownRouter, Timers}
 use Rattle.std.specs.FinMap as map_of
-use Rattle.prefix6.specs.Prefix.{Prefix6}
-use Rattle.route_table.specs.Due.{next_due}
-use Rattle.route_table.specs.Route.{RouteValue}
-use Rattle.route_table.specs.Table.{ByPrefix, Table}
-use Rattle.router_core.specs.Machine.{State}
-use Rattle.ripngd_trace.specs.declared.known.KnownRouter.{KnownRouter}
-use Rattle.ripngd_trace.specs.declared.records.Timers.{Timers}
 
 -- the timers of a router, with the next deadline of a route and the first prefix whose route has it
 abbrev pub timers_in : State → Timers

@@ -1,8 +1,7 @@
 -- What the tracer makes of what it is told.
 use Rattle.std.specs.Prelude.{◌≡◌, ⊤, ℕ, Bool, true, false, List, ◌++◌, Option, IfSome, slice_get, slice_set}
-use Rattle.ripng_world.specs.Labs.{LabValue}
-use Rattle.ripng_world.specs.Watching.{Told}
-use Rattle.ripngd_lab.specs.Asides.{Aside, NextLine, Prints, CountsPhases, Lie, Broken}
+use Rattle.ripngd_trace.specs.Below.{LabValue, Told, Aside, NextLine, CountsPhases, Lie, Broken, Known, KnownRouter, Action, EventRecord, StartRecord, Tracer}
+use Rattle.ripngd_lab.specs.Asides.{Prints}
 use Rattle.ripngd_trace.specs.Events.{RecordTells}
 use Rattle.ripngd_trace.specs.Json.{json_of_aside, json_of_event, json_of_start}
 use Rattle.ripngd_trace.specs.Lines.{WritesLess, WritesRecord, written_as}
@@ -11,13 +10,7 @@ use Rattle.ripngd_trace.specs.Reading.{IsPrintWord, known_of}
 use Rattle.ripngd_trace.specs.Records.{LeadsTo, known_as}
 use Rattle.ripngd_trace.specs.Starting.{TellsStart}
 use Rattle.ripngd_trace.specs.Updates.{TellsUpdate}
-use Rattle.ripngd_trace.specs.declared.known.Known.{Known}
-use Rattle.ripngd_trace.specs.declared.known.KnownRouter.{KnownRouter}
-use Rattle.ripngd_trace.specs.declared.records.Action.{Action}
 use Rattle.ripngd_trace.specs.declared.records.Action.TheVariants as action
-use Rattle.ripngd_trace.specs.declared.records.EventRecord.{EventRecord}
-use Rattle.ripngd_trace.specs.declared.records.StartRecord.{StartRecord}
-use Rattle.ripngd_trace.specs.declared.tracer.Tracer.{Tracer}
 
 -- the line of the script that it is at, and each router as a reader of its records knows it
 pub record Knows : Type 0 where

@@ -1,14 +1,9 @@
 -- What the record of the start says of each router.
 use Rattle.std.specs.Prelude.{◌≡◌, ℕ, List, [], map, length, Option, Some, slice_get}
+use Rattle.ripngd_trace.specs.Below.{enumerate_from, State, Interface, LabValue, link_at, RouterRecord, StartRecord}
 use Rattle.std.specs.FinMap as map_of
-use Rattle.std.specs.List.{enumerate_from}
-use Rattle.router_core.specs.Machine.{State}
-use Rattle.router_core.specs.declared.config.Interface.{Interface}
-use Rattle.ripng_world.specs.Labs.{LabValue, link_at}
 use Rattle.ripngd_trace.specs.Events.{sent_from, sent_said}
 use Rattle.ripngd_trace.specs.Records.{LeadsTo, timers_in}
-use Rattle.ripngd_trace.specs.declared.records.RouterRecord.{RouterRecord}
-use Rattle.ripngd_trace.specs.declared.records.StartRecord.{StartRecord}
 
 -- an interface of a router, with its number and its link
 abbrev pub interface_record : LabValue → ℕ → ℕ × Interface → Interface × Option ℕ

@@ -1,16 +1,7 @@
 -- What the record of a tick says of updates: which was due.
 use Rattle.std.specs.Prelude.{◌≡◌, ℕ, ◌==◌, max, not, if◌then◌else◌, List, Option, Some, None, is_some, option_and_then, slice_get}
+use Rattle.ripngd_trace.specs.Below.{list_any, first_changed, aged_table, State, is_regular_due, is_triggered_due, LabValue, Event, Tick, KnownRouter, Timers, UpdateRecord, Regular, Triggered, Held}
 use Rattle.std.specs.FinMap as map_of
-use Rattle.std.specs.List.{list_any}
-use Rattle.route_table.specs.Due.{first_changed}
-use Rattle.router_core.specs.Ageing.{aged_table}
-use Rattle.router_core.specs.Machine.{State, is_regular_due, is_triggered_due}
-use Rattle.ripng_world.specs.Labs.{LabValue}
-use Rattle.ripng_world.specs.World.{Event, Tick}
-use Rattle.ripngd_trace.specs.declared.known.KnownRouter.{KnownRouter}
-use Rattle.ripngd_trace.specs.declared.records.Timers.{Timers}
-use Rattle.ripngd_trace.specs.declared.records.UpdateRecord.{UpdateRecord}
-use Rattle.ripngd_trace.specs.declared.records.UpdateRecord.TheVariants.{Regular, Triggered, Held}
 
 -- which update is due at a tick: a regular one; else, if a route is marked, a triggered one, or one that is held
 abbrev pub due_update : State → ℕ → Option UpdateRecord

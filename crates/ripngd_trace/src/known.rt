@@ -2,16 +2,8 @@
 //! which update was due, what a Response offered, and why each offer is adopted or not (RFC 2080, section 2.4.2).
 
 ghost use Rattle.std.specs.Prelude.{◌≡◌, [], ◌∷◌, ◌++◌, None, IfOk, IfSome, OnOk, Some, map, option_map, slice_get, slice_set};
+ghost use Rattle.ripngd_trace.specs.Common.{Prefix6, event_of, moment_of, sender_at, sender_said, sent_from, sent_said, TellsOffers, is_noted, offer_records, route_after, LeadsTo, known_as, taken_out, timers_in, with_routes, EventIsTold, StartIsTold, knows, TellsRouter, TellsUpdate};
 ghost use Rattle.std.specs.FinMap as map_of;
-ghost use Rattle.prefix6.specs.Prefix.{Prefix6};
-ghost use Rattle.ripng_world.specs.Events.{event_of};
-ghost use Rattle.ripng_world.specs.Rounds.{moment_of};
-ghost use Rattle.ripngd_trace.specs.Events.{sender_at, sender_said, sent_from, sent_said};
-ghost use Rattle.ripngd_trace.specs.Offers.{TellsOffers, is_noted, offer_records, route_after};
-ghost use Rattle.ripngd_trace.specs.Records.{LeadsTo, known_as, taken_out, timers_in, with_routes};
-ghost use Rattle.ripngd_trace.specs.Saying.{EventIsTold, StartIsTold, knows};
-ghost use Rattle.ripngd_trace.specs.Starting.{TellsRouter};
-ghost use Rattle.ripngd_trace.specs.Updates.{TellsUpdate};
 
 use crate::records::{
     EventRecord, Happened, News, OfferRecord, RouterRecord, StartRecord, Timers, UpdateRecord,

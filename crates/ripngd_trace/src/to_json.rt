@@ -1,15 +1,7 @@
 //! What is written as JSON (RFC 8259), and which JSON it is: values, and objects by their members; and records, in one of two forms.
 
 ghost use Rattle.std.specs.Prelude.{◌<◌, ◌∷◌, [], ℕ, IfSome, OnErr, OnOk, length, take};
-ghost use Rattle.std.specs.Io.KnownBytes.{Appends};
-ghost use Rattle.json.specs.Json.{Json, Members as JsonMembers, boolean, member, no_members, object, string};
-ghost use Rattle.json.specs.Print.{IsPrintable};
-ghost use Rattle.json.specs.Reads.{token_of};
-ghost use Rattle.json.specs.Token.{key};
-ghost use Rattle.json.specs.Tree.{json_tokens, members_tokens};
-ghost use Rattle.ripngd_trace.specs.Growing.{Grows};
-ghost use Rattle.ripngd_trace.specs.Json.{address_of, hex_of, list_of, number_of, option_of, prefix_of};
-ghost use Rattle.ripngd_trace.specs.Lines.{WritesLess, WritesRecord, written_as};
+ghost use Rattle.ripngd_trace.specs.Common.{Appends, Json, JsonMembers, boolean, member, no_members, object, string, IsPrintable, token_of, key, json_tokens, members_tokens, Grows, address_of, hex_of, list_of, number_of, option_of, prefix_of, WritesLess, WritesRecord, written_as};
 
 mod records;
 

@@ -1,13 +1,7 @@
 //! A script, traced or explained: one observer, which writes a record of each thing that happens.
 
 ghost use Rattle.std.specs.Prelude.{◌≡◌, [], None, OnErr, OnOk, Option};
-ghost use Rattle.ripng_world.specs.Events.{event_of};
-ghost use Rattle.ripng_world.specs.Labs.{LabValue};
-ghost use Rattle.ripngd_lab.specs.Asides.{Broken};
-ghost use Rattle.ripngd_lab.specs.ScriptWatching.{IsToldOfLab, IsToldUntil};
-ghost use Rattle.ripngd_trace.specs.Lines.{written_as};
-ghost use Rattle.ripngd_trace.specs.Reading.{IsTraced, IsTracedUntil};
-ghost use Rattle.ripngd_trace.specs.Saying.{BreaksOff, Said, SameOutput, SaysAlone, SaysAside, SaysEvent, SaysMove, SaysStart, said_by};
+ghost use Rattle.ripngd_trace.specs.Common.{event_of, LabValue, Broken, IsToldOfLab, IsToldUntil, written_as, IsTraced, IsTracedUntil, BreaksOff, Said, SameOutput, SaysAlone, SaysAside, SaysEvent, SaysMove, SaysStart, said_by};
 
 use crate::known::Known;
 use crate::records::{Action, AsideRecord};

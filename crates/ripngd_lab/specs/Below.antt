@@ -1,0 +1,39 @@
+-- The names of the crates below, and of types of this one, that its specifications cite, passed on from one place. Declares nothing.
+pub use Rattle.std.specs.List.{list_any, range_with_len, AllByRecursion}
+pub use Rattle.std.specs.Option.{option_map_or}
+pub use Rattle.std.specs.declared.io.Error.{Error}
+pub use Rattle.prefix6.specs.Prefix.{Prefix6}
+pub use Rattle.router_core.specs.Machine.{State}
+pub use Rattle.router_core.specs.Received.{Received}
+pub use Rattle.router_core.specs.declared.answer.Answer.{Answer}
+pub use Rattle.router_core.specs.declared.answer.Destination.{Destination}
+pub use Rattle.router_core.specs.declared.answer.Destination.TheVariants.{Group, Peer}
+pub use Rattle.ripng_world.specs.AskedRounds.{is_other}
+pub use Rattle.ripng_world.specs.Labs.{LabValue, link_at}
+pub use Rattle.ripng_world.specs.Lying.{Lies}
+pub use Rattle.ripng_world.specs.Rounds.{router_of}
+pub use Rattle.ripng_world.specs.Watching.{Told, telling}
+pub use Rattle.ripng_world.specs.World.{Event, Tick, Stranger, Happens, IsCold, Deliver}
+pub use Rattle.ripng_world.specs.declared.path.PathEnd.{PathEnd}
+pub use Rattle.ripng_world.specs.declared.path.PathEnd.TheVariants.{Delivered, Loops}
+pub use Rattle.ripng_world.specs.declared.sent.Sent.{Sent}
+pub use Rattle.ripng_world.specs.declared.watch.Stopped.{Stopped}
+pub use Rattle.ripng_world.specs.declared.watch.Stopped.TheVariants.{Refused as IsRefused, Failed as HasFailed}
+pub use Rattle.ripng_phases.specs.Making.{AreMadeInPart, AreMadePhases}
+pub use Rattle.ripng_phases.specs.declared.refused.PhaseRefused.{PhaseRefused}
+pub use Rattle.ripng_phases.specs.declared.refused.PhaseRefused.TheVariants.{OutOfMemory}
+pub use Rattle.ripngd_lab.specs.declared.course.Course.{Course}
+pub use Rattle.ripngd_lab.specs.declared.expecting.Expected.{Expected}
+pub use Rattle.ripngd_lab.specs.declared.expecting.Fate.{Fate}
+pub use Rattle.ripngd_lab.specs.declared.expecting.Fate.TheVariants.{Arrives as FateArrives, Loops as FateLoops, Lost}
+pub use Rattle.ripngd_lab.specs.declared.expecting.Missed.{Missed}
+pub use Rattle.ripngd_lab.specs.declared.expecting.Missed.TheVariants.{NoSuchRouter, Found}
+pub use Rattle.ripngd_lab.specs.declared.expecting.Obstacle.{Obstacle}
+pub use Rattle.ripngd_lab.specs.declared.plan.Outages.{Outages}
+pub use Rattle.ripngd_lab.specs.declared.plan.Ticking.{Ticking}
+pub use Rattle.ripngd_lab.specs.declared.plan.Ticking.TheVariants.{Nobody, One, All, Due}
+pub use Rattle.ripngd_lab.specs.declared.plan.Wave.{Wave}
+pub use Rattle.ripngd_lab.specs.declared.stop.Refusal.TheVariants.{Outage, Phases}
+pub use Rattle.ripngd_lab.specs.declared.stop.Stop.{Stop}
+pub use Rattle.ripngd_lab.specs.declared.stop.Stop.TheVariants.{Refused, Failed, Unmet}
+pub use Rattle.ripngd_lab.specs.declared.watching.Notice.{Notice}
