@@ -1,6 +1,6 @@
 -- What a wave makes happen: who ticks, and where each datagram comes, where routers are silent, links are cut and datagrams are lost.
-use Rattle.std.specs.Prelude.{ℕ, ◌==◌, ◌&&◌, not, Bool, true, false, List, [], ◌∷◌, ◌++◌, map, filter, Option, option_map, option_and_then, slice_get, All}
-use Rattle.ripngd_lab.specs.Below.{list_any, range_with_len, option_map_or, Destination, Group, Peer, is_other, LabValue, link_at, router_of, Event, Deliver, Tick, Sent, Outages, Ticking, Nobody, One, Due, Wave}
+use Rattle.std.specs.Prelude.{ℕ, ◌==◌, ◌&&◌, not, Bool, true, false, List, [], ◌∷◌, ◌++◌, map, filter, Option, option_map, option_and_then, slice_get}
+use Rattle.ripngd_lab.specs.Below.{list_any, range_with_len, option_map_or, Destination, Group, Peer, is_other, LabValue, link_at, router_of, Event, Deliver, Tick, Sent, Outages, Ticking, Nobody, One, All, Due, Wave}
 
 -- ---- outages
 
