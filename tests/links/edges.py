@@ -62,7 +62,7 @@ def many_neighbors(net, program):
     o, s = net.space("o"), net.space("s")
     net.cable(o, s)
     ours = Ours(o, program, {"to-s": {"peers": 3}}, ["2001:db8:2::/48"])
-    until(20, "the router is up", ours.table)
+    until(REGULAR, "the router is up", ours.table)
     for number in range(1, 6):
         s.ip("address", "add", f"fe80::{number}/64", "dev", "to-o", "nodad")
     for number in (1, 2, 3, 1, 4, 1, 4, 5):
@@ -90,7 +90,7 @@ def a_flood(net, program):
         counts = ours.counts()
         return [counts.get(f"to-s {what}", 0) for what in ("taken", "dropped: too much at once")]
 
-    until(QUICK, lambda: f"all of the flood is taken or dropped, but {heard()}", lambda: sum(heard()) == 3000)
+    until(REGULAR, lambda: f"all of the flood is taken or dropped, but {heard()}", lambda: sum(heard()) == 3000)
     same("whether some were taken, and some dropped", [number > 0 for number in heard()], [True, True])
     more = len(list(pathlib.Path(f"/proc/{ours.process.pid}/fd").iterdir())) - before
     same("whether it has no more sockets than neighbors have room", more <= 8, True)

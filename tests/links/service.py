@@ -10,7 +10,7 @@ import sys
 import time
 
 from edges import is_router, stranger
-from least import QUICK, REGULAR, TRIGGERED
+from least import REGULAR, TRIGGERED
 from spaces import COMPANION, ROOT, Bird, Ours, same, until
 
 LINK = '[[link]]\ndevice = "to-b"\n'
@@ -90,13 +90,13 @@ def losses_are_counted(net, program):
     net.cable(o, s)
     s.link_local("to-o", "fe80::5")
     ours = Ours(o, program, {"to-s": {}}, ["2001:db8:2::/48"])
-    until(TRIGGERED, "the router is up", ours.table)
+    until(REGULAR, "the router is up", ours.table)
     stranger(s, "request")
     [router] = filter(is_router, ours.children())
     os.kill(router, signal.SIGSTOP)
     stranger(s, "responses", "::", 1000)
     os.kill(router, signal.SIGCONT)
-    until(QUICK, "all of it comes to the router", lambda: sum(map(arrivals, ours.ctl("neighbors"))) >= 1000)
+    until(REGULAR, "all of it comes to the router", lambda: sum(map(arrivals, ours.ctl("neighbors"))) >= 1000)
     same("what is lost", ours.link("to-s")["counts"].get("lost on the way to the router"), None)
     os.kill(router, signal.SIGSTOP)
     port = int(re.search(r"^local_port = (\d+)", (ours.run / "router.toml").read_text(), re.M)[1])

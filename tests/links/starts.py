@@ -44,7 +44,7 @@ def a_silent_neighbor(net, program):
     time.sleep(6)  # until nobody is asked any longer
     s.do("sysctl", "-qw", "net.ipv6.conf.to-o.addr_gen_mode=1")
     s.ip("link", "set", "to-o", "down")
-    until(QUICK, "the link is down", lambda: ours.link("to-s")["state"] == "has no carrier")
+    until(REGULAR, "the link is down", lambda: ours.link("to-s")["state"] == "has no carrier")
     s.start("late", sys.executable, HERE / "stranger.py", "to-o", "late", "fe80::5")
     until(REGULAR, "it waits", lambda: s.text("late"))
     s.ip("link", "set", "to-o", "up")
@@ -58,8 +58,8 @@ def a_late_neighbor(net, program):
     net.cable(o, f)
     owned = {"o": ["2001:db8:2::/48"], "f": ["2001:db8:3::/48"]}
     frr = Frr(f, ["to-o"], owned["f"])
-    until(QUICK, "FRR is up", lambda: "RIPng" in frr.ask("show ipv6 ripng status"))
-    until(QUICK, "FRR takes its timers", lambda: "timers" not in frr.tell("router ripng", f"timers basic {SELDOM} 360 240"))
+    until(REGULAR, "FRR is up", lambda: "RIPng" in frr.ask("show ipv6 ripng status"))
+    until(REGULAR, "FRR takes its timers", lambda: "timers" not in frr.tell("router ripng", f"timers basic {SELDOM} 360 240"))
     routers, wanted = {"f": frr, "o": Ours(o, program, {"to-f": {}}, owned["o"])}, least([("f", 1, "o", 1)], owned)
     settle(routers, wanted, REGULAR)
     f.ip("link", "set", "to-o", "down")
