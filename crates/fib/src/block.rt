@@ -1,11 +1,8 @@
 //! A block: a few entries in the order of their prefixes.
 
 ghost use Rattle.std.specs.Prelude.{◌≡◌, ◌<◌, ◌≤◌, ◌↔◌, [], ◌∷◌, length, take, drop, map as each, IsTrue, IfOk, IfErr, OnOk, OnErr, Some};
-ghost use Rattle.std.specs.FinMap.Entries.{find, put};
-ghost use Rattle.prefix6.specs.Places.{IsAt, IsGap};
-ghost use Rattle.prefix6.specs.Prefix.{prefix_cmp};
-ghost use Rattle.fib.specs.Blocks.{block_limit, forward_in, forward_of_entry, half_block, without, StartsAt};
-ghost use Rattle.fib.specs.Entries.{at_prefix};
+ghost use Rattle.fib.specs.Common.{find, put, IsAt, IsGap, prefix_cmp, block_limit, forward_in, forward_of_entry, half_block, without, StartsAt, at_prefix, codes, Pairs, IsBlock};
+ghost use Rattle.prefix6.specs.contracts.prefix.Prefix as prefix;
 
 use crate::change::Hop;
 use crate::searching::{Entry, place_of};
@@ -27,12 +24,6 @@ pub(crate) struct Block {
 }
 
 impl Model for Block {
-    ghost use Rattle.std.specs.Coded.{codes};
-    ghost use Rattle.std.specs.Prelude.{map as each};
-    ghost use Rattle.prefix6.specs.contracts.prefix.Prefix as prefix;
-    ghost use Rattle.fib.specs.Blocks.{Pairs, IsBlock};
-    ghost use Rattle.fib.specs.Entries.{at_prefix};
-
     ghost Value = { Pairs };
 
     ghost coded = { Prim.hlevel (codes, prefix.the_row.coded) };

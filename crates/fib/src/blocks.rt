@@ -1,12 +1,7 @@
 //! A list of blocks of entries, none of them empty, in the order of their prefixes.
 
 ghost use Rattle.std.specs.Prelude.{◌≡◌, ◌+◌, ◌<◌, ◌≤◌, length, map as each, option_map, take, drop, All, IfOk, IfErr, IfSome, IsNone, OnOk, OnErr, Some};
-ghost use Rattle.std.specs.declared.cmp.Ordering.TheVariants.{Less};
-ghost use Rattle.std.specs.FinMap.Entries.{find, put};
-ghost use Rattle.prefix6.specs.Places.{IsGap};
-ghost use Rattle.prefix6.specs.Prefix.{prefix_cmp};
-ghost use Rattle.fib.specs.Blocks.{block_at, block_limit, joined, without, forward_in, forward_of_entry, AreBlocks, AreFilled, IsHome, IsFrom, IsPlaced, IsVacant};
-ghost use Rattle.fib.specs.Entries.{fib_entry, AreAllPast, IsLastOf};
+ghost use Rattle.fib.specs.Common.{Less, find, put, IsGap, prefix_cmp, block_at, block_limit, joined, without, forward_in, forward_of_entry, AreBlocks, AreFilled, IsHome, IsFrom, IsPlaced, IsVacant, fib_entry, AreAllPast, IsLastOf};
 
 use crate::block::Block;
 use crate::change::Hop;

@@ -1,11 +1,9 @@
 //! The forwarding table: where packets go, by the longest prefix that contains their destination.
 
 ghost use Rattle.std.specs.Prelude.{◌≡◌, ◌↔◌, ℕ, map as each, IsTrue, IsOk, IsSome, OnOk, OnErr, IfOk, IfErr, IsNone, IfSome, option_map, count_by};
+ghost use Rattle.fib.specs.Common.{Prefix6, forward_in, is_install, Replays, IsMatch, IsLongestMatch, listed, AreAfter, AreAllPast, IsLastOf, IsLookedUp, codes, from_sorted, prefix_cmp, joined, IsFib, Forwarding};
 ghost use Rattle.std.specs.FinMap as map;
-ghost use Rattle.prefix6.specs.Prefix.{Prefix6};
-ghost use Rattle.fib.specs.Blocks.{forward_in};
-ghost use Rattle.fib.specs.Forwarding.{is_install, Replays, IsMatch, IsLongestMatch};
-ghost use Rattle.fib.specs.Entries.{listed, AreAfter, AreAllPast, IsLastOf, IsLookedUp};
+ghost use Rattle.prefix6.specs.contracts.prefix.Prefix as prefix;
 
 use crate::block::Block;
 use crate::blocks;
@@ -25,14 +23,6 @@ pub struct Fib {
 }
 
 impl Model for Fib {
-    ghost use Rattle.std.specs.Coded.{codes};
-    ghost use Rattle.std.specs.FinMap as map;
-    ghost use Rattle.std.specs.FinMap.{from_sorted};
-    ghost use Rattle.prefix6.specs.Prefix.{prefix_cmp};
-    ghost use Rattle.prefix6.specs.contracts.prefix.Prefix as prefix;
-    ghost use Rattle.fib.specs.Blocks.{joined, IsFib};
-    ghost use Rattle.fib.specs.Forwarding.{Forwarding};
-
     ghost Value = { Forwarding };
 
     ghost coded = { map.code {R = prefix_cmp} prefix.the_row.coded (Prim.hlevel codes) };

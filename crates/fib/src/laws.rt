@@ -1,9 +1,7 @@
 //! Lemmas on replay and on the longest match. Each is the contract of an empty function.
 
 ghost use Rattle.std.specs.Prelude.{◌≡◌, ℕ, List, [], ◌++◌};
-ghost use Rattle.fib.specs.declared.change.Hop.{Hop};
-ghost use Rattle.fib.specs.declared.change.RouteChange.{RouteChange};
-ghost use Rattle.fib.specs.Forwarding.{Forwarding, Replays, IsLongestMatch};
+ghost use Rattle.fib.specs.Common.{Hop, RouteChange, Forwarding, Replays, IsLongestMatch};
 
 /// Replay follows a router step by step: no changes leave the table as it is, two lists of changes one
 /// after the other are one list, and the table before and the changes determine the table after.

@@ -1,11 +1,8 @@
 //! Replaying changes: first all installs, which may want memory, and then the withdrawals, which want none.
 
 ghost use Rattle.std.specs.Prelude.{◌≡◌, ℕ, ◌≤◌, ◌++◌, [], ◌∷◌, false, IsOk, OnOk, OnErr, None, cond, count_by, drop};
-ghost use Rattle.std.specs.List.{filter};
+ghost use Rattle.fib.specs.Common.{filter, Prefix6, is_install, Replays, undone, undo_of, has_install, is_gone, restored, CanRestore, CanUndo};
 ghost use Rattle.std.specs.FinMap as map;
-ghost use Rattle.prefix6.specs.Prefix.{Prefix6};
-ghost use Rattle.fib.specs.Forwarding.{is_install, Replays};
-ghost use Rattle.fib.specs.Undo.{undone, undo_of, has_install, is_gone, restored, CanRestore, CanUndo};
 
 use crate::change::{Hop, RouteChange};
 use crate::fib::Fib;

@@ -1,8 +1,7 @@
 //! Searching entries in the order of their prefixes, each by bisection.
 
 ghost use Rattle.std.specs.Prelude.{◌≡◌, ◌≤◌, map as each, length, IfOk, IfErr, IfSome, IsNone, Some};
-ghost use Rattle.prefix6.specs.Places.{IsAt, IsGap};
-ghost use Rattle.fib.specs.Entries.{at_prefix, AreInOrder, IsLastUpTo, AreAllPast, IsPast};
+ghost use Rattle.fib.specs.Common.{IsAt, IsGap, at_prefix, AreInOrder, IsLastUpTo, AreAllPast, IsPast};
 
 use crate::change::Hop;
 use prefix6::Prefix;

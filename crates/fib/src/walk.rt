@@ -1,9 +1,7 @@
 //! The entries of a forwarding table, one after the other.
 
-ghost use Rattle.std.specs.Prelude.{◌≡◌, Some, length, map as each};
-ghost use Rattle.std.specs.Iterator.{YieldsFirst, item_count};
-ghost use Rattle.fib.specs.Blocks.{joined, AreBlocks};
-ghost use Rattle.fib.specs.Entries.{fib_entry, AreAfter};
+ghost use Rattle.std.specs.Prelude.{◌≡◌, Some, length, map as each, ◌++◌, List};
+ghost use Rattle.fib.specs.Common.{YieldsFirst, item_count, joined, AreBlocks, fib_entry, AreAfter, AreFilled, Entry as EntryValue};
 
 use crate::block::Block;
 use crate::blocks::home;
@@ -20,11 +18,7 @@ pub struct Entries<'a> {
 }
 
 impl<'a> Model for Entries<'a> {
-    ghost use Rattle.std.specs.Prelude.{◌++◌, List, map as each};
-    ghost use Rattle.fib.specs.Blocks.{joined, AreFilled};
-    ghost use Rattle.fib.specs.Entries.{Entry, fib_entry};
-
-    ghost Value = { List Entry };
+    ghost Value = { List EntryValue };
 
     ghost view = { λ e. e.run.now ++ each fib_entry (joined e.blocks.now) };
 

@@ -1,12 +1,8 @@
 //! IPv6 addresses, and the kinds of address that RIPng distinguishes (RFC 4291, section 2.4).
 
-ghost use Rattle.std.specs.Prelude.{◌≡◌, ◌<◌, ◌^◌, ◌/◌, ◌%◌, ◌==◌};
-ghost use Rattle.std.specs.Int.{w128, to_be_bytes, from_be_bytes};
-ghost use Rattle.std.specs.Ordering.{nat_cmp, as_partial_cmp};
-ghost use Rattle.std.specs.Cmp.{partial_order_from_own_ties};
-ghost use Rattle.std.specs.Cmp.Rules.{comparing};
+ghost use Rattle.std.specs.Prelude.{◌≡◌, ◌<◌, ◌^◌, ◌/◌, ◌%◌, ◌==◌, ℕ, ◌+◌, ◌*◌};
+ghost use Rattle.prefix6.specs.Common.{w128, to_be_bytes, from_be_bytes, nat_cmp, as_partial_cmp, partial_order_from_own_ties, comparing, is_link_local, is_multicast, is_unspecified, AreHalves, same_high, same_low};
 ghost use Rattle.std.proofs.Common.{rules};
-ghost use Rattle.prefix6.specs.Addr.{is_link_local, is_multicast, is_unspecified};
 
 use std::cmp::Ordering;
 use std::marker::Model;
@@ -20,9 +16,6 @@ pub struct Addr6 {
 }
 
 impl Model for Addr6 {
-    ghost use Rattle.std.specs.Prelude.{ℕ, ◌+◌, ◌*◌, ◌/◌, ◌%◌, ◌^◌};
-    ghost use Rattle.prefix6.specs.HalfWords.{AreHalves, same_high, same_low};
-
     ghost Value = { ℕ };
 
     ghost view = { λ a. a.high * 2 ^ 64 + a.low };

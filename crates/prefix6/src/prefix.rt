@@ -1,9 +1,7 @@
 //! Prefixes: the addresses that agree on their first bits (RFC 4291, section 2.3).
 
 ghost use Rattle.std.specs.Prelude.{◌≡◌, ℕ, ◌≤◌, ◌<◌, ◌^◌, ◌↔◌, IsTrue, IsOk, IfOk, IfErr};
-ghost use Rattle.prefix6.specs.Prefix.{Prefix6, IsPrefix, Holds, first_bits, cleared, is_routable, prefix_cmp};
-ghost use Rattle.prefix6.specs.Halves.{IsUnder, IsMeet, middle};
-ghost use Rattle.prefix6.specs.declared.error.PrefixError.TheVariants.{LengthTooLarge};
+ghost use Rattle.prefix6.specs.Common.{Prefix6, IsPrefix, Holds, first_bits, cleared, is_routable, prefix_cmp, IsUnder, IsMeet, middle, LengthTooLarge};
 
 use crate::addr::Addr6;
 use crate::error::PrefixError;
@@ -19,8 +17,6 @@ pub struct Prefix {
 }
 
 impl Model for Prefix {
-    ghost use Rattle.prefix6.specs.Prefix.{Prefix6, IsPrefix};
-
     ghost Value = { Prefix6 };
 
     ghost view = { λ p. record { addr = p.addr; len = p.len } };

@@ -2,12 +2,7 @@
 //! that is written (RFC 5952, sections 4.1 to 4.3).
 
 ghost use Rattle.std.specs.Prelude.{◌≡◌, ℕ, ◌<◌, ◌^◌, ◌↔◌, IfErr, List, Some};
-ghost use Rattle.std.specs.Net.Text.{hex};
-ghost use Rattle.prefix6.specs.Addr.{groups_of};
-ghost use Rattle.prefix6.specs.Prefix.{Prefix6, IsPrefix};
-ghost use Rattle.prefix6.specs.Text.{ReadsAs, Reads, ReadsPrefix, IsLengthText, address_part, length_part, ParsesAddr, ParsesPrefix};
-ghost use Rattle.prefix6.specs.Written.{written, written_addr, written_prefix, IsCanonical, IsPlainGroup};
-ghost use Rattle.prefix6.specs.declared.error.PrefixError.TheVariants.{BadLengthText};
+ghost use Rattle.prefix6.specs.Common.{hex, groups_of, Prefix6, IsPrefix, ReadsAs, Reads, ReadsPrefix, IsLengthText, address_part, length_part, ParsesAddr, ParsesPrefix, written, written_addr, written_prefix, IsCanonical, IsPlainGroup, BadLengthText};
 
 use crate::addr::Addr6;
 use crate::error::PrefixError;

@@ -1,10 +1,7 @@
 //! Lemmas on the layout: bytes have one reading, and they spell a datagram exactly where there is no reason to refuse them.
 
 ghost use Rattle.std.specs.Prelude.{◌≡◌, ◌<◌, ◌^◌, ℕ, List, All, None};
-ghost use Rattle.ripng_wire.specs.declared.rte.Command.{Command};
-ghost use Rattle.ripng_wire.specs.declared.rte.Rte.{Rte};
-ghost use Rattle.ripng_wire.specs.Layout.{Spells};
-ghost use Rattle.ripng_wire.specs.Wire.{wire_fault};
+ghost use Rattle.ripng_wire.specs.Common.{Command, Rte, Spells, wire_fault};
 
 /// No bytes spell two datagrams. So [`decode`](crate::decode) gives back the command and the entries that
 /// [`encode`](crate::encode) was given.

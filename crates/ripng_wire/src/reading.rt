@@ -1,14 +1,7 @@
 //! Datagrams read from bytes, which are borrowed: reading takes no memory.
 
 ghost use Rattle.std.specs.Prelude.{◌≡◌, ◌≤◌, length, slice_index, List, All, Some, IfOk, IsOkAnd, IfSome};
-ghost use Rattle.std.specs.Result.{result_err};
-ghost use Rattle.std.specs.Iterator.{UpTo, YieldsFirst, at_most, item_count};
-ghost use Rattle.std.specs.Iterator.SizeHint.{IsWithinCount};
-ghost use Rattle.ripng_wire.specs.declared.rte.Command.{Command};
-ghost use Rattle.ripng_wire.specs.declared.rte.Rte.{Rte};
-ghost use Rattle.ripng_wire.specs.Layout.{Fits, Spells, command_byte};
-ghost use Rattle.ripng_wire.specs.Reading.{IsMessage, MessageValue, entries_of, entry_of};
-ghost use Rattle.ripng_wire.specs.Wire.{wire_fault};
+ghost use Rattle.ripng_wire.specs.Common.{result_err, UpTo, YieldsFirst, at_most, item_count, IsWithinCount, Command, Rte, Fits, Spells, command_byte, IsMessage, MessageValue, entries_of, entry_of, wire_fault};
 
 use crate::error::WireError;
 use crate::rte::{Command, ENTRY_LEN, HEADER_LEN, MAX_ENTRIES, MAX_LEN, Rte, VERSION};

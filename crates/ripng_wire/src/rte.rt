@@ -1,7 +1,7 @@
 //! The parts of a datagram: a command and route table entries, and how many entries it may hold.
 
 ghost use Rattle.std.specs.Prelude.{◌≡◌, ◌≤◌};
-ghost use Rattle.ripng_wire.specs.Layout.{entries_for_mtu, most_entries};
+ghost use Rattle.ripng_wire.specs.Common.{is_next_hop, entries_for_mtu, most_entries};
 
 /// The version of RIPng (RFC 2080, section 2.1).
 pub(crate) const VERSION: u8 = 1;
@@ -44,8 +44,6 @@ pub struct Rte {
 }
 
 impl Rte {
-    ghost use Rattle.ripng_wire.specs.Layout.{is_next_hop};
-
     /// Whether the entry names the next hop of those that follow it (RFC 2080, section 2.1.1).
     pub fn is_next_hop(self) -> bool
         ensures { result ≡ is_next_hop self }

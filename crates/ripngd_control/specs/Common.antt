@@ -1,7 +1,8 @@
 -- The names that the clauses of this crate cite, passed on from one place. Declares nothing.
-pub use Rattle.ripngd_control.specs.Below.{Appends, enumerate_from, Entry, IsLookedUp, LinkReport, Processed, Sent, WasTold, seen, Arrived, NamesInterface, Outgoing, PeerChange, Counts, Reply}
+pub use Rattle.ripngd_engine.specs.Run.{counted}
 pub use Rattle.ripngd_control.specs.Answers.{Obeys, AnswersCommand, Continues, GainsLines, step_reply, ShowsEntries, ShowsRoutes}
-pub use Rattle.ripngd_control.specs.Clients.{Heeds, TakesIn, GrowsByReceived, ShrinksBySent, IsPrivate}
+pub use Rattle.ripngd_control.specs.Below.{Appends, enumerate_from, Entry, IsLookedUp, LinkReport, Processed, Sent, WasTold, seen, Arrived, NamesInterface, Outgoing, PeerChange, Counts, Reply}
+pub use Rattle.ripngd_control.specs.Clients.{Heeds, TakesIn, GrowsByReceived, ShrinksBySent, IsPrivate, ClientsState}
 pub use Rattle.ripngd_control.specs.Commands.{control_text, has_sign}
 pub use Rattle.ripngd_control.specs.Printed.{counts_text, lookup_text, losses_text, neighbors_text, reply_line, status_answer, interface_lines, arrival_text, note_lines, refusal_lines, tally_text, clock_text, origin_text, status_text, refusal_number, refusal_text, refusals_text, reply_text}
 pub use Rattle.ripngd_control.specs.Watching.{Counted, no_counts, KnowsNobody, Monitors, CountsOf, Tallied, is_of, is_sound_response, no_tally, place_of, with_row, Refused, is_fault, no_refusals, notes_of}

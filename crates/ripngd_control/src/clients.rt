@@ -1,7 +1,7 @@
 //! The clients of a running router. One at a time is served, for a bounded time between two turns.
 
 ghost use Rattle.std.specs.Prelude.{◌≡◌, ◌≢◌, ◌++◌, ◌∷◌, ◌⊎◌, [], IfOk, IfSome, IsNone, None, codes, false};
-ghost use Rattle.ripngd_control.specs.Common.{seen, Heeds, TakesIn};
+ghost use Rattle.ripngd_control.specs.Common.{seen, Heeds, TakesIn, ClientsState};
 
 use crate::answering::{RunState, respond};
 use crate::command::{Command, read_command};
@@ -30,8 +30,6 @@ pub struct Clients {
 }
 
 impl Model for Clients {
-    ghost use Rattle.ripngd_control.specs.Clients.{ClientsState};
-
     ghost Value = { ClientsState };
 
     ghost view = { λ c. record { lines = c.transcript.past.lines } };

@@ -1,8 +1,7 @@
 //! The counts of each sender, by interface and address.
 
 ghost use Rattle.std.specs.Prelude.{◌≡◌, Some, position, vec_capacity};
-ghost use Rattle.ripngd_control.specs.Common.{neighbors_text, tally_text, CountsOf, KnowsNobody, Tallied, is_of, is_sound_response, no_tally, place_of, with_row};
-ghost use Rattle.ripngd_engine.specs.Run.{counted};
+ghost use Rattle.ripngd_control.specs.Common.{neighbors_text, tally_text, CountsOf, KnowsNobody, Tallied, is_of, is_sound_response, no_tally, place_of, with_row, counted};
 
 use crate::refusals::Refusals;
 use prefix6::Addr6;

@@ -1,6 +1,6 @@
 -- The names that the clauses of this crate cite, passed on from one place. Declares nothing.
-pub use Rattle.ripngd_daemon.specs.Below.{Appends, error_kind, Replays, Hop, RouteChange, IsPrefix, Prefix6, written_prefix, HasOneEach, Heeds, Call, HasNoLineFeed, change_text, log_of, hop_text, route_text, counted, Ran, seen, FileCause}
 pub use Rattle.ripngd_daemon.specs.Asking.{IsPrintedAnswer, IsAnswerWritten, command_line}
+pub use Rattle.ripngd_daemon.specs.Below.{Appends, error_kind, Replays, Hop, RouteChange, IsPrefix, Prefix6, written_prefix, HasOneEach, Heeds, Call, HasNoLineFeed, change_text, log_of, hop_text, route_text, counted, Ran, seen, FileCause}
 pub use Rattle.ripngd_daemon.specs.Checked.{IsChecked, peers_counted}
 pub use Rattle.ripngd_daemon.specs.Failing.{MayFail}
 pub use Rattle.ripngd_daemon.specs.Faults.{failure_of, failure_of_engine, failure_of_link}

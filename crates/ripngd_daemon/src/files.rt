@@ -1,6 +1,6 @@
 //! The files that the program reads.
 
-ghost use Rattle.std.specs.Prelude.{◌≡◌, ◌⊎◌, IfErr, IfOk, List, ℕ};
+ghost use Rattle.std.specs.Prelude.{◌≡◌, ◌⊎◌, IfErr, IfOk, List, ℕ, ⊤};
 ghost use Rattle.ripngd_daemon.specs.Common.{FileCause};
 
 use crate::failure::{Failure, FileCause, failed};
@@ -26,8 +26,6 @@ pub trait FileSource {
 pub struct SystemFiles<'r, R>(pub &'r R);
 
 impl<R: AllocGlobal + Files> FileSource for SystemFiles<'_, R> {
-    ghost use Rattle.std.specs.Prelude.{⊤};
-
     ghost holds = { λ _ _ _. ⊤ };
 
     fn read<'a>(&self, file: &'a str) -> Result<Vec<u8>, Failure<'a>> {

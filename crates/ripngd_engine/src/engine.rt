@@ -1,7 +1,8 @@
 //! The engine: a router that runs over a link, turn after turn.
 
 ghost use Rattle.std.specs.Prelude.{◌≡◌, true, false, Err, IfOk, OnErr, length};
-ghost use Rattle.ripngd_engine.specs.Common.{forwards, NamesInterface, ShutsDownOnce, LinkComesUpOnce, LinkGoesDownOnce, ReconfigureAnswer, StepAnswer};
+ghost use Rattle.ripngd_engine.specs.Common.{forwards, NamesInterface, ShutsDownOnce, LinkComesUpOnce, LinkGoesDownOnce, ReconfigureAnswer, StepAnswer, codes, coded_table, Held, seen, untouched, Started, TurnsAnswer, TurnsObserved};
+ghost use Rattle.fib.specs.contracts.fib.Fib as forwarding;
 
 use crate::clock::TimeSource;
 use crate::link::{Link, LinkChange};
@@ -28,19 +29,9 @@ pub struct Engine<S: RouteStore, L: Link, C: TimeSource, R: Rng + Drop> {
 }
 
 impl<S: RouteStore, L: Link, C: TimeSource, R: Rng + Drop> Model for Engine<S, L, C, R> {
-    ghost use Rattle.std.specs.Prelude.{◌≡◌, false};
-    ghost use Rattle.std.specs.Coded.{codes};
-    ghost use Rattle.std.specs.FinMap as map_of;
-    ghost use Rattle.fib.specs.contracts.fib.Fib as forwarding;
-    ghost use Rattle.prefix6.specs.Prefix.{prefix_cmp};
-    ghost use Rattle.prefix6.specs.contracts.prefix.Prefix as prefix;
-    ghost use Rattle.route_table.specs.contracts.route.Route as route;
-    ghost use Rattle.router_core.specs.Changes.{forwards};
-    ghost use Rattle.ripngd_engine.specs.Seen.{Held};
-
     ghost Value = { Held R };
 
-    ghost coded = { Prim.hlevel (codes, map_of.code {R = prefix_cmp} prefix.the_row.coded route.the_row.coded, forwarding.the_row.coded) };
+    ghost coded = { Prim.hlevel (codes, coded_table, forwarding.the_row.coded) };
 
     ghost view = { λ e. record {
       router = e.runner.router;
@@ -58,8 +49,6 @@ impl<S: RouteStore, L: Link, C: TimeSource, R: Rng + Drop> Model for Engine<S, L
 }
 
 impl<S: RouteStore, L: Link, C: TimeSource, R: Rng + Drop> Engine<S, L, C, R> {
-    ghost use Rattle.ripngd_engine.specs.Seen.{seen, untouched, Started, TurnsAnswer, TurnsObserved};
-
     /// Starts a router over a link with as many interfaces. It sends its Requests (RFC 2080, section 2.4.1), and its routes are
     /// followed and logged. The log gets a line for each change of a route, in one write each, and none after a write that
     /// failed. No observer is notified: nothing has arrived yet, and `report` counts the sends that failed.

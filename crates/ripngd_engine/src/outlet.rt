@@ -1,7 +1,7 @@
 //! Where the output of a router goes: datagrams to a link, changes to a forwarding table and a log.
 
 ghost use Rattle.std.specs.Prelude.{◌≡◌, is_err};
-ghost use Rattle.ripngd_engine.specs.Common.{counted, HandsOver};
+ghost use Rattle.ripngd_engine.specs.Common.{counted, HandsOver, outlet_seen, CarriesOut};
 
 use crate::lines::write_lines;
 use crate::link::Link;
@@ -54,8 +54,6 @@ fn hand_over<L: Link, V: TrafficObserver>(
 }
 
 impl<L: Link> Outlet<L> {
-    ghost use Rattle.ripngd_engine.specs.Outlet.{outlet_seen, CarriesOut};
-
     /// Hands over the datagrams of an answer and reports each, then follows its changes, then writes their lines.
     ///
     /// # Errors

@@ -3,8 +3,9 @@ pub use Rattle.std.specs.Duration.{as_nanos}
 pub use Rattle.std.specs.IoError.{error_kind}
 pub use Rattle.std.specs.Result.{result_err}
 pub use Rattle.ripng_wire.specs.Wire.{first_reason}
+pub use Rattle.ripngd_engine.specs.Link.{Handed, recv_call}
 pub use Rattle.ripngd_udp.specs.Counting.{Grows}
-pub use Rattle.ripngd_udp.specs.Peers.{peer_refused_text, adding_fault, has_peer_address, is_group_port, links_at, on_link, removing_reasons_at, with_peer, without_peer, ChangesLink, RefusesFor, removing_fault}
+pub use Rattle.ripngd_udp.specs.Peers.{peer_refused_text, adding_fault, has_peer_address, is_group_port, links_at, on_link, removing_reasons_at, with_peer, without_peer, ChangesLink, RefusesFor, removing_fault, OnLink}
 pub use Rattle.ripngd_udp.specs.ReceiveQueue.{Gives, HasRoom, Keeps, MayWait, bytes_of}
 pub use Rattle.ripngd_udp.specs.SendQueue.{share_among, goes_at_once, waiting_after}
-pub use Rattle.ripngd_udp.specs.Udp.{NamesPortOf, new_link, GoesOn, SendsLate}
+pub use Rattle.ripngd_udp.specs.Udp.{NamesPortOf, new_link, GoesOn, SendsLate, PortsState, LinkState}

@@ -1,6 +1,6 @@
 //! The time since a clock was made, by the system's clock.
 
-ghost use Rattle.std.specs.Prelude.{◌≡◌, ◌/◌, ◌^◌, min};
+ghost use Rattle.std.specs.Prelude.{◌≡◌, ◌/◌, ◌^◌, min, None};
 ghost use Rattle.ripngd_udp.specs.Common.{as_nanos};
 
 use ripngd_engine::TimeSource;
@@ -41,8 +41,6 @@ impl<'a, R: Clock> Uptime<'a, R> {
 }
 
 impl<R: Clock> TimeSource for Uptime<'_, R> {
-    ghost use Rattle.std.specs.Prelude.{None};
-
     // Nothing is known of the system's clock.
     ghost moments = { λ _. None };
 

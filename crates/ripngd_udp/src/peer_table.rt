@@ -1,7 +1,7 @@
 //! The peers on the link of an interface, and how they change.
 
 ghost use Rattle.std.specs.Prelude.{◌≡◌, ◌≤◌, IfErr, IfOk, OnErr, OnOk, Some, length, map, vec_len};
-ghost use Rattle.ripngd_udp.specs.Common.{result_err, first_reason, adding_fault, has_peer_address, is_group_port, links_at, on_link, removing_reasons_at, with_peer, without_peer, share_among};
+ghost use Rattle.ripngd_udp.specs.Common.{result_err, first_reason, adding_fault, has_peer_address, is_group_port, links_at, on_link, removing_reasons_at, with_peer, without_peer, share_among, OnLink};
 
 use crate::pace::share_among;
 use crate::peer_refused::PeerRefused;
@@ -23,8 +23,6 @@ pub(crate) struct PeerTable {
 }
 
 impl Model for PeerTable {
-    ghost use Rattle.ripngd_udp.specs.Peers.{OnLink, on_link};
-
     ghost Value = { OnLink };
 
     ghost view = { λ n. on_link n.place n.peers.items };

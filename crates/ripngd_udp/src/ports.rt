@@ -1,7 +1,7 @@
 //! The ports of a run: which were bound, and the past of the link over them since it was closed.
 
-ghost use Rattle.std.specs.Prelude.{◌≡◌, IfErr, IfOk, None, OnErr, OnOk, Some, length, map, vec_len};
-ghost use Rattle.ripngd_udp.specs.Common.{links_at, NamesPortOf, new_link};
+ghost use Rattle.std.specs.Prelude.{◌≡◌, IfErr, IfOk, None, OnErr, OnOk, Some, length, map, vec_len, option_map};
+ghost use Rattle.ripngd_udp.specs.Common.{links_at, NamesPortOf, new_link, PortsState};
 
 use crate::udp::{Udp, UdpError};
 use ripngd_engine::{Entry, Peer, Place, Transcript};
@@ -19,10 +19,6 @@ pub struct Ports {
 }
 
 impl Model for Ports {
-    ghost use Rattle.std.specs.Prelude.{option_map};
-    ghost use Rattle.ripngd_udp.specs.Peers.{links_at};
-    ghost use Rattle.ripngd_udp.specs.Udp.{PortsState};
-
     ghost Value = { PortsState };
 
     ghost view = { λ ports. record {

@@ -1,8 +1,8 @@
 //! A link of UDP sockets on loopback, in place of the real links of a router: each interface has a socket at a port of 127.0.0.1,
 //! and so has each neighbor on its link.
 
-ghost use Rattle.std.specs.Prelude.{◌≡◌, ◌↔◌, IfErr, IfOk, None, OnErr, OnOk, length, map, vec_len};
-ghost use Rattle.ripngd_udp.specs.Common.{error_kind, result_err, ChangesLink, RefusesFor, adding_fault, removing_fault, with_peer, without_peer, NamesPortOf, SendsLate, new_link};
+ghost use Rattle.std.specs.Prelude.{◌≡◌, ◌↔◌, IfErr, IfOk, None, OnErr, OnOk, length, map, vec_len, ◌≤◌, ◌<◌, ◌++◌, ◌∷◌, [], IfSome, Some, is_ok};
+ghost use Rattle.ripngd_udp.specs.Common.{error_kind, result_err, ChangesLink, RefusesFor, adding_fault, removing_fault, with_peer, without_peer, NamesPortOf, SendsLate, new_link, LinkState, Handed, recv_call};
 
 use crate::clock::Uptime;
 use crate::endpoint::{Counts, Endpoint, endpoints_at};
@@ -95,9 +95,6 @@ pub struct Udp<'a, R: Clock> {
 }
 
 impl<'a, R: Clock> Model for Udp<'a, R> {
-    ghost use Rattle.std.specs.Prelude.{◌≡◌, ◌≤◌, vec_len};
-    ghost use Rattle.ripngd_udp.specs.Udp.{LinkState};
-
     ghost Value = { LinkState };
 
     ghost view = { λ link. record {
@@ -254,9 +251,6 @@ impl<'a, R: Clock> Udp<'a, R> {
 /// sockets at once, as long as `wait_at_most` says; where the last call gave one, it lets more come together first. Interfaces are
 /// served in turn.
 impl<R: Clock> Link for Udp<'_, R> {
-    ghost use Rattle.std.specs.Prelude.{◌≡◌, ◌<◌, ◌≤◌, ◌++◌, ◌∷◌, [], IfOk, IfSome, Some, is_ok, length};
-    ghost use Rattle.ripngd_engine.specs.Link.{Handed, recv_call};
-
     ghost calls = { λ link. Some link.calls };
 
     ghost interface_count = { λ link. link.interfaces };

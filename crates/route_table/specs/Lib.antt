@@ -8,3 +8,5 @@ pub mod TrieFalls
 pub mod Packing
 pub mod Blocks
 pub mod Updating
+pub mod Common
+pub mod Coding

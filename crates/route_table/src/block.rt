@@ -1,18 +1,8 @@
 //! A block: a few routes in the order of their prefixes, with a bound that lets a search skip them.
 
-ghost use Rattle.std.specs.Fn.{FnOnceReturnsAtMut};
 ghost use Rattle.std.specs.Prelude.{◌≡◌, ◌+◌, ◌-◌, ◌<◌, ◌≤◌, ◌↔◌, [], ◌∷◌, ◌++◌, length, take, drop, IsTrue, IfOk, IfSome, OnOk, OnErr, All, None, Some, T, if◌then◌else◌, vec_len, vec_capacity};
-ghost use Rattle.std.specs.FinMap.{find, is_sorted};
-ghost use Rattle.std.specs.declared.cmp.Ordering.TheVariants.{Less};
-ghost use Rattle.std.specs.FinMap.Entries.{put};
-ghost use Rattle.prefix6.specs.Prefix.{prefix_cmp};
-ghost use Rattle.prefix6.specs.Places.{IsAt};
-ghost use Rattle.route_table.specs.Blocks.{block_limit, half_block, StartsAt, Covers};
-ghost use Rattle.route_table.specs.Due.{earlier, first_where, without_mark};
-ghost use Rattle.route_table.specs.Summary.{meets, summary_of, summary_of_route, wanted_of};
-ghost use Rattle.route_table.specs.Table.{map_entries, past};
-ghost use Rattle.route_table.specs.Trie.{without};
-ghost use Rattle.route_table.specs.Updating.{ChangesEntry};
+ghost use Rattle.route_table.specs.Common.{FnOnceReturnsAtMut, find, is_sorted, Less, put, prefix_cmp, IsAt, block_limit, half_block, StartsAt, Covers, earlier, first_where, without_mark, meets, summary_of, summary_of_route, wanted_of, map_entries, past, without, ChangesEntry, Entries, IsBlock};
+ghost use Rattle.route_table.specs.Coding.{coded_entries};
 
 use crate::route::Route;
 use crate::run;
@@ -40,16 +30,9 @@ pub struct Block {
 }
 
 impl Model for Block {
-    ghost use Rattle.std.specs.Coded.{codes};
-    ghost use Rattle.prefix6.specs.contracts.prefix.Prefix as the_prefix;
-    ghost use Rattle.route_table.specs.Place.{Entries};
-    ghost use Rattle.route_table.specs.contracts.route.Route as the_route;
-
     ghost Value = { Entries };
 
-    ghost coded = { Prim.hlevel (codes, the_prefix.the_row.coded, the_route.the_row.coded) };
-
-    ghost use Rattle.route_table.specs.Blocks.{IsBlock};
+    ghost coded = { Prim.hlevel coded_entries };
 
     ghost view = { λ b. b.routes.items };
 

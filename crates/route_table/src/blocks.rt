@@ -1,17 +1,7 @@
 //! A list of blocks of routes, in the order of their prefixes.
 
-ghost use Rattle.std.specs.Fn.{FnOnceReturnsAtMut};
 ghost use Rattle.std.specs.Prelude.{◌≡◌, ◌+◌, ◌<◌, ◌≤◌, ◌++◌, length, take, IfOk, IfSome, OnOk, OnErr, All, IsSome, IsTrue, [], ◌∷◌, false, None, Some, option_map, vec_len, vec_capacity};
-ghost use Rattle.std.specs.declared.cmp.Ordering.TheVariants.{Less};
-ghost use Rattle.std.specs.FinMap.{find};
-ghost use Rattle.std.specs.FinMap.Entries.{put};
-ghost use Rattle.prefix6.specs.Prefix.{prefix_cmp};
-ghost use Rattle.route_table.specs.Blocks.{block_at, block_limit, joined, AreBlocks, AreFilled, Covers, HasRoom, IsHome, IsPlaced, IsStart};
-ghost use Rattle.route_table.specs.Due.{first_where, least_deadline, without_mark};
-ghost use Rattle.route_table.specs.Summary.{meets, wanted_of};
-ghost use Rattle.route_table.specs.Table.{map_entries, past};
-ghost use Rattle.route_table.specs.Trie.{without};
-ghost use Rattle.route_table.specs.Updating.{UpdatesEntries};
+ghost use Rattle.route_table.specs.Common.{FnOnceReturnsAtMut, Less, find, put, prefix_cmp, block_at, block_limit, joined, AreBlocks, AreFilled, Covers, HasRoom, IsHome, IsPlaced, IsStart, first_where, least_deadline, without_mark, meets, wanted_of, map_entries, past, without, UpdatesEntries};
 
 use crate::block::Block;
 use crate::route::Route;

@@ -1,10 +1,7 @@
 //! A lemma on `next_due`: when the next timer ends.
 
 ghost use Rattle.std.specs.Prelude.{◌≡◌, ℕ, false, Option, Some, None, option_map};
-ghost use Rattle.std.specs.FinMap.{entries};
-ghost use Rattle.prefix6.specs.Prefix.{Prefix6};
-ghost use Rattle.route_table.specs.Due.{deadline_at, first_due, is_reached, least_deadline, next_due, IsFirstDue};
-ghost use Rattle.route_table.specs.Table.{Table};
+ghost use Rattle.route_table.specs.Common.{entries, Prefix6, deadline_at, first_due, is_reached, least_deadline, next_due, IsFirstDue, Table};
 
 /// The deadline that `next_due` gives is the least of all, and no timer ends before it. The prefix is the least of those whose
 /// routes have it. It gives `None` only if no route has a timer.

@@ -1,13 +1,7 @@
 //! A slice of routes in the order of their prefixes, searched by bisection.
 
 ghost use Rattle.std.specs.Prelude.{◌≡◌, ◌+◌, ◌-◌, ◌≤◌, ◌++◌, T, IfOk, IfErr, length, take, vec_len, vec_capacity};
-ghost use Rattle.std.specs.FinMap.{is_sorted};
-ghost use Rattle.prefix6.specs.Prefix.{prefix_cmp};
-ghost use Rattle.prefix6.specs.Places.{IsAt, IsGap};
-ghost use Rattle.route_table.specs.Due.{first_where, least_deadline, without_mark};
-ghost use Rattle.route_table.specs.Place.{IsStartPast};
-ghost use Rattle.route_table.specs.Summary.{meets, summary_of, wanted_of};
-ghost use Rattle.route_table.specs.Table.{map_entries, past};
+ghost use Rattle.route_table.specs.Common.{is_sorted, prefix_cmp, IsAt, IsGap, first_where, least_deadline, without_mark, IsStartPast, meets, summary_of, wanted_of, map_entries, past};
 
 use crate::route::Route;
 use crate::summary::Summary;

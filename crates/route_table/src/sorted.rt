@@ -1,5 +1,8 @@
 //! A table as a sorted vector of sorted blocks of routes: the store of the program.
 
+ghost use Rattle.route_table.specs.Common.{from_sorted, joined, IsStore, Table};
+ghost use Rattle.route_table.specs.Coding.{coded_table};
+
 use crate::block::Block;
 use crate::blocks::{self, Place};
 use crate::moment::Moment;
@@ -26,17 +29,9 @@ pub struct SortedRoutes {
 }
 
 impl Model for SortedRoutes {
-    ghost use Rattle.std.specs.FinMap as map;
-    ghost use Rattle.std.specs.FinMap.{from_sorted};
-    ghost use Rattle.prefix6.specs.Prefix.{prefix_cmp};
-    ghost use Rattle.prefix6.specs.contracts.prefix.Prefix as prefix;
-    ghost use Rattle.route_table.specs.Blocks.{joined, IsStore};
-    ghost use Rattle.route_table.specs.Table.{Table};
-    ghost use Rattle.route_table.specs.contracts.route.Route as route;
-
     ghost Value = { Table };
 
-    ghost coded = { map.code {R = prefix_cmp} prefix.the_row.coded route.the_row.coded };
+    ghost coded = { coded_table };
 
     ghost view = { λ s. from_sorted (joined s.blocks.items) };
 

@@ -1,12 +1,8 @@
 //! What a table of routes does, however it is stored.
 
 ghost use Rattle.std.specs.Prelude.{◌≡◌, ◌≤◌, ◌+◌, ◌++◌, ◌↔◌, None, IsTrue, IsSome, take, OnOk, OnErr, vec_len, vec_capacity};
+ghost use Rattle.route_table.specs.Common.{Table, table_limit, first_past, past, add_refused_name, add_refused_number, first_due, first_changed, first_where, least_deadline, next_due, unmarked, FnOnceReturnsAtMut, meets, wanted_of, Updates};
 ghost use Rattle.std.specs.FinMap as map;
-ghost use Rattle.route_table.specs.Table.{Table, table_limit, first_past, past, add_refused_name, add_refused_number};
-ghost use Rattle.route_table.specs.Due.{first_due, first_changed, first_where, least_deadline, next_due, unmarked};
-ghost use Rattle.std.specs.Fn.{FnOnceReturnsAtMut};
-ghost use Rattle.route_table.specs.Summary.{meets, wanted_of};
-ghost use Rattle.route_table.specs.Updating.{Updates};
 
 use crate::moment::{Deadline, Moment};
 use crate::route::Route;

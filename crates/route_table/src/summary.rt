@@ -1,8 +1,7 @@
 //! What is known of several routes without a look at them, so that a search can skip them.
 
 ghost use Rattle.std.specs.Prelude.{◌≡◌, ◌↔◌, false, IsTrue, Option};
-ghost use Rattle.route_table.specs.Due.{earlier, is_reached};
-ghost use Rattle.route_table.specs.Summary.{both, no_routes, summary_of_route};
+ghost use Rattle.route_table.specs.Common.{earlier, is_reached, both, no_routes, summary_of_route};
 
 use crate::moment::Deadline;
 use crate::route::Route;

@@ -6,14 +6,7 @@
 //! A trie of n routes has n leaves and at most n - 1 forks.
 
 ghost use Rattle.std.specs.Prelude.{◌≡◌, ◌↔◌, false, ◌+◌, ◌≤◌, [], ◌∷◌, ◌++◌, length, None, Some, option_map, IsSome, IsTrue, vec_len, vec_capacity};
-ghost use Rattle.std.specs.Option.{option_copied};
-ghost use Rattle.std.specs.FinMap.{find};
-ghost use Rattle.std.specs.FinMap.Entries.{put};
-ghost use Rattle.prefix6.specs.Prefix.{Prefix6, prefix_cmp};
-ghost use Rattle.route_table.specs.Due.{first_where, least_deadline};
-ghost use Rattle.route_table.specs.Route.{RouteValue};
-ghost use Rattle.route_table.specs.Summary.{summary_of, meets};
-ghost use Rattle.route_table.specs.Trie.{linked, owned, fork_entries, AreParts, AreShared, HasEntries};
+ghost use Rattle.route_table.specs.Common.{option_copied, find, put, Prefix6, prefix_cmp, first_where, least_deadline, RouteValue, summary_of, meets, linked, owned, fork_entries, AreParts, AreShared, HasEntries};
 
 mod changing;
 mod updating;
@@ -50,15 +43,13 @@ pub struct Fork {
 }
 
 impl Model for Fork {
-    ghost use Rattle.std.specs.Coded.{codes};
     ghost use Rattle.std.specs.Prelude.{length};
-    ghost use Rattle.prefix6.specs.contracts.prefix.Prefix as the_prefix;
     ghost use Rattle.route_table.specs.Place.{Entries};
-    ghost use Rattle.route_table.specs.contracts.route.Route as the_route;
+    ghost use Rattle.route_table.specs.Coding.{coded_entries};
 
     ghost Value = { Entries };
 
-    ghost coded = { Prim.hlevel (codes, the_prefix.the_row.coded, the_route.the_row.coded) };
+    ghost coded = { Prim.hlevel coded_entries };
 
     ghost use Rattle.route_table.specs.Trie.{fork_entries, IsFork};
 

@@ -1,8 +1,9 @@
 //! A table as a trie of routes.
 
 ghost use Rattle.std.specs.Prelude.{◌≡◌, IfSome, option_map};
+ghost use Rattle.route_table.specs.Common.{from_sorted, Table, linked, IsTrie, table_with};
+ghost use Rattle.route_table.specs.Coding.{coded_table};
 ghost use Rattle.std.specs.FinMap as map_of;
-ghost use Rattle.route_table.specs.Table.{table_with};
 
 use crate::route::Route;
 use crate::store::{AddRefused, RouteStore, TABLE_LIMIT};
@@ -22,17 +23,9 @@ pub struct TrieRoutes {
 }
 
 impl Model for TrieRoutes {
-    ghost use Rattle.std.specs.FinMap as map;
-    ghost use Rattle.std.specs.FinMap.{from_sorted};
-    ghost use Rattle.prefix6.specs.Prefix.{prefix_cmp};
-    ghost use Rattle.prefix6.specs.contracts.prefix.Prefix as prefix;
-    ghost use Rattle.route_table.specs.Table.{Table};
-    ghost use Rattle.route_table.specs.Trie.{linked, IsTrie};
-    ghost use Rattle.route_table.specs.contracts.route.Route as route;
-
     ghost Value = { Table };
 
-    ghost coded = { map.code {R = prefix_cmp} prefix.the_row.coded route.the_row.coded };
+    ghost coded = { coded_table };
 
     ghost view = { λ s. from_sorted (linked s.root) };
 

@@ -1,8 +1,7 @@
 //! Which routes a search looks for.
 
 ghost use Rattle.std.specs.Prelude.{◌≡◌};
-ghost use Rattle.route_table.specs.Due.{is_reached};
-ghost use Rattle.route_table.specs.Summary.{meets, may_meet};
+ghost use Rattle.route_table.specs.Common.{is_reached, meets, may_meet};
 
 use crate::moment::Deadline;
 use crate::route::Route;

@@ -2,10 +2,7 @@
 //! adoption that applies is [`crate::Reason`], and the lemma [`crate::adopted_by_row`] joins the two.
 
 ghost use Rattle.std.specs.Prelude.{◌≡◌, ◌≤◌, ◌<◌, IsTrue, None, Some};
-ghost use Rattle.route_table.specs.Route.{IsRoute, infinity};
-ghost use Rattle.route_table.specs.declared.route.Clock.TheVariants.{Live};
-ghost use Rattle.router_core.specs.Changes.{change};
-ghost use Rattle.router_core.specs.Adoption.{metric_through, is_reachable, taken, refreshed, is_through, is_repeated, is_preferred, adopted_by_clock, adopted};
+ghost use Rattle.router_core.specs.Common.{IsRoute, infinity, Live, change, metric_through, is_reachable, taken, refreshed, is_through, is_repeated, is_preferred, adopted_by_clock, adopted, Gateway as GatewayValue, Offer as OfferValue};
 
 use crate::forwarding::change;
 use crate::timers::{GARBAGE_TIME_MS, HALF_TIMEOUT_MS, TIMEOUT_MS};
@@ -28,10 +25,6 @@ pub struct Gateway {
 }
 
 impl Model for Gateway {
-    ghost use Rattle.std.specs.Prelude.{◌<◌};
-    ghost use Rattle.route_table.specs.Route.{infinity};
-    ghost use Rattle.router_core.specs.Adoption.{Gateway as GatewayValue};
-
     ghost Value = { GatewayValue };
 
     ghost view = { λ g. record { iface = g.iface; cost = g.cost; from = g.from; moment = g.moment } };
@@ -55,10 +48,6 @@ pub struct Offer {
 }
 
 impl Model for Offer {
-    ghost use Rattle.std.specs.Prelude.{◌≤◌};
-    ghost use Rattle.route_table.specs.Route.{infinity};
-    ghost use Rattle.router_core.specs.Offers.{Offer as OfferValue};
-
     ghost Value = { OfferValue };
 
     ghost view = { λ o. record { metric = o.metric; tag = o.tag; next_hop = o.next_hop; place = o.place } };

@@ -1,7 +1,7 @@
 //! Datagrams that come to a router, and why one is refused.
 
 ghost use Rattle.std.specs.Prelude.{◌≡◌, Some};
-ghost use Rattle.router_core.specs.Faults.{fault_name, fault_number, fault_text};
+ghost use Rattle.router_core.specs.Common.{Received, fault_name, fault_number, fault_text};
 
 use prefix6::Addr6;
 use ripng_wire::WireError;
@@ -35,8 +35,6 @@ pub struct Arrival<'a> {
 }
 
 impl<'a> Model for Arrival<'a> {
-    ghost use Rattle.router_core.specs.Received.{Received};
-
     ghost Value = { Received };
 
     ghost view = { λ a. record {

@@ -1,11 +1,7 @@
 //! The configuration of a router: its interfaces, the prefixes that it owns, and whether it is passive.
 
 ghost use Rattle.std.specs.Prelude.{◌≡◌, ◌<◌, true, false, not, All, Bool, IfOk, OnErr, OnOk, Some, length};
-ghost use Rattle.std.specs.Result.{result_err};
-ghost use Rattle.prefix6.specs.Prefix.{IsPrefix, is_routable, same_prefix};
-ghost use Rattle.ripng_wire.specs.Wire.{first_reason};
-ghost use Rattle.router_core.specs.Config.{IsConfig, config, config_fault, reasons_of_each, interface_reasons, prefix_reasons, is_own_address, has_address, has_prefix, is_usable_cost, is_usable_mtu, config_refused_text};
-ghost use Rattle.router_core.specs.Reconfiguring.{reconfigured_config};
+ghost use Rattle.router_core.specs.Common.{result_err, IsPrefix, is_routable, same_prefix, first_reason, IsConfig, config, config_fault, reasons_of_each, interface_reasons, prefix_reasons, is_own_address, has_address, has_prefix, is_usable_cost, is_usable_mtu, config_refused_text, reconfigured_config, Config};
 
 use crate::reconfiguring::Change;
 use prefix6::{Addr6, Prefix};
@@ -90,8 +86,6 @@ pub struct RouterConfig {
 }
 
 impl Model for RouterConfig {
-    ghost use Rattle.router_core.specs.Config.{Config, IsConfig};
-
     ghost Value = { Config };
 
     ghost view = { λ c. record {

@@ -1,10 +1,7 @@
 //! Entries of a Response, each validated by itself (RFC 2080, sections 2.1.1 and 2.4.2).
 
 ghost use Rattle.std.specs.Prelude.{◌≡◌, ◌≤◌, Some, OnOk, IfOk};
-ghost use Rattle.std.specs.Result.{result_err};
-ghost use Rattle.prefix6.specs.Prefix.{IsPrefix};
-ghost use Rattle.route_table.specs.Route.{infinity};
-ghost use Rattle.router_core.specs.Offers.{flaw, prefix_named, usable_hop};
+ghost use Rattle.router_core.specs.Common.{result_err, IsPrefix, infinity, flaw, prefix_named, usable_hop};
 
 use crate::answer::NoteKind;
 use crate::config::RouterConfig;

@@ -2,10 +2,7 @@
 //! router is looked at, and nothing is changed: validation comes before processing.
 
 ghost use Rattle.std.specs.Prelude.{◌≡◌, IfOk};
-ghost use Rattle.std.specs.Result.{result_err};
-ghost use Rattle.ripng_wire.specs.Layout.{Spells};
-ghost use Rattle.ripng_wire.specs.Wire.{first_reason};
-ghost use Rattle.router_core.specs.Faults.{asker_reasons, fault, neighbor_reasons, request_reasons, response_reasons};
+ghost use Rattle.router_core.specs.Common.{result_err, Spells, first_reason, asker_reasons, fault, neighbor_reasons, request_reasons, response_reasons};
 
 use crate::arrival::{Arrival, Fault, MAX_HOP_LIMIT, RIPNG_PORT};
 use crate::config::RouterConfig;

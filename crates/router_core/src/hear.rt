@@ -2,13 +2,8 @@
 //! section 2.4.2). A bad entry is skipped and noted, and the next one is processed.
 
 ghost use Rattle.std.specs.Prelude.{◌≡◌, ◌<◌, ◌≤◌, ◌↔◌, [], IsTrue, IsSome, None, false, unwrap_or, IfOk, IfErr, OnOk, OnErr, length};
-ghost use Rattle.std.specs.Vec.{vec_capacity};
+ghost use Rattle.router_core.specs.Common.{vec_capacity, table_limit, changes_of_hearing, Heard, hearing, meeting, entry_meeting, table_met, change_met, adds, refusal_of_new, flaw};
 ghost use Rattle.std.specs.FinMap as map_of;
-ghost use Rattle.route_table.specs.Table.{table_limit};
-ghost use Rattle.router_core.specs.Changes.{changes_of_hearing};
-ghost use Rattle.router_core.specs.Hearing.{Heard, hearing};
-ghost use Rattle.router_core.specs.Meeting.{meeting, entry_meeting, table_met, change_met, adds, refusal_of_new};
-ghost use Rattle.router_core.specs.Offers.{flaw};
 
 use crate::adopt::{Gateway, Offer};
 use crate::answer::{Note, NoteKind};

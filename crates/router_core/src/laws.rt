@@ -1,21 +1,8 @@
 //! Lemmas on the steps of a router. Each is the contract of an empty function: it follows from the definitions alone.
 
 ghost use Rattle.std.specs.Prelude.{◌≡◌, ℕ, ◌+◌, ◌<◌, ◌≤◌, List, Option, length, flat_map, slice_get, Some};
+ghost use Rattle.router_core.specs.Common.{Replays, Prefix6, Rte, RouteValue, Table, Gateway, adopted, by_reason, reason, forwards, Config, Hearing, route_after, held_after, State, Happening, Moves, Starts, forwards_before, Offer, pieces, OwnsOnce, HoldsOwned, Answer};
 ghost use Rattle.std.specs.FinMap as map_of;
-ghost use Rattle.fib.specs.Forwarding.{Replays};
-ghost use Rattle.prefix6.specs.Prefix.{Prefix6};
-ghost use Rattle.ripng_wire.specs.declared.rte.Rte.{Rte};
-ghost use Rattle.route_table.specs.Route.{RouteValue};
-ghost use Rattle.route_table.specs.Table.{Table};
-ghost use Rattle.router_core.specs.Adoption.{Gateway, adopted, by_reason, reason};
-ghost use Rattle.router_core.specs.Changes.{forwards};
-ghost use Rattle.router_core.specs.Config.{Config};
-ghost use Rattle.router_core.specs.Hearing.{Hearing, route_after, held_after};
-ghost use Rattle.router_core.specs.Machine.{State, Happening, Moves, Starts, forwards_before};
-ghost use Rattle.router_core.specs.Offers.{Offer};
-ghost use Rattle.router_core.specs.Output.{pieces};
-ghost use Rattle.router_core.specs.Owning.{OwnsOnce, HoldsOwned};
-ghost use Rattle.router_core.specs.declared.answer.Answer.{Answer};
 
 /// The changes of each answer, replayed onto the forwarding table before it, give that after it.
 pub fn changes_replay()

@@ -2,9 +2,7 @@
 //! and a choice of this project.
 
 ghost use Rattle.std.specs.Prelude.{◌≡◌, IfOk, Some};
-ghost use Rattle.std.specs.FinMap.{get};
-ghost use Rattle.router_core.specs.Changes.{change};
-ghost use Rattle.router_core.specs.LinkDown.{is_live_on, after_link_down, table_after_link_down, changes_of_link_down};
+ghost use Rattle.router_core.specs.Common.{get, change, is_live_on, after_link_down, table_after_link_down, changes_of_link_down};
 
 use crate::forwarding::change;
 use crate::timers::GARBAGE_TIME_MS;

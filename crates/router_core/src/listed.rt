@@ -1,6 +1,6 @@
 //! Lists in the public types of this crate: a `Vec` that contracts see as the list of its elements.
 
-ghost use Rattle.std.specs.Prelude.{◌≡◌};
+ghost use Rattle.std.specs.Prelude.{◌≡◌, List};
 
 use std::alloc::Global;
 use std::marker::Model;
@@ -13,8 +13,6 @@ pub struct Listed<T> {
 }
 
 impl<T> Model for Listed<T> {
-    ghost use Rattle.std.specs.Prelude.{List};
-
     ghost Value = { List T };
 
     ghost view = { λ l. l.items.items };

@@ -1,11 +1,7 @@
 //! The routes that an update advertises, a run of them at a time, found without a look at the others (RFC 2080, section 2.5).
 
 ghost use Rattle.std.specs.Prelude.{◌≡◌, ◌++◌, take, IfOk, IsTrue, OnOk};
-ghost use Rattle.std.specs.List.{list_any};
-ghost use Rattle.std.specs.FinMap.{entries};
-ghost use Rattle.route_table.specs.Table.{map_entries, past};
-ghost use Rattle.router_core.specs.Output.{selected};
-ghost use Rattle.router_core.specs.Settling.{settled, settled_table, told_route, may_be_told};
+ghost use Rattle.router_core.specs.Common.{list_any, entries, map_entries, past, selected, settled, settled_table, told_route, may_be_told};
 
 use crate::age::age;
 use crate::tell::Selection;

@@ -1,8 +1,7 @@
 //! The offers of a Response, for a caller that explains why a router adopts what it adopts (RFC 2080, section 2.4.2).
 
 ghost use Rattle.std.specs.Prelude.{◌≡◌, IfOk};
-ghost use Rattle.router_core.specs.Adoption.{adopted, metric_through, reason};
-ghost use Rattle.router_core.specs.Offering.{all_offered};
+ghost use Rattle.router_core.specs.Common.{adopted, metric_through, reason, all_offered, Offered as OfferedValue};
 
 use crate::adopt::{Gateway, Offer};
 use crate::config::RouterConfig;
@@ -23,8 +22,6 @@ pub struct Offered {
 }
 
 impl Model for Offered {
-    ghost use Rattle.router_core.specs.Offering.{Offered as OfferedValue};
-
     ghost Value = { OfferedValue };
 
     ghost view = { λ o. record { gateway = o.gateway; prefix = o.prefix; offer = o.offer } };

@@ -1,9 +1,7 @@
 //! Changes of the configuration of a running router, and why one is refused.
 
 ghost use Rattle.std.specs.Prelude.{◌≡◌, OnOk, Some};
-ghost use Rattle.std.specs.Result.{result_err};
-ghost use Rattle.prefix6.specs.Prefix.{IsPrefix};
-ghost use Rattle.router_core.specs.Reconfiguring.{IsNamed, NamesInterface, reconfigure_fault, reconfigure_name, reconfigure_number, reconfigure_text};
+ghost use Rattle.router_core.specs.Common.{result_err, IsPrefix, IsNamed, NamesInterface, reconfigure_fault, reconfigure_name, reconfigure_number, reconfigure_text, OutOfMemory};
 
 use crate::config::{OWNED_LIMIT, RouterConfig, is_usable_cost};
 use prefix6::Prefix;
@@ -86,8 +84,6 @@ impl Display for ReconfigureRefused {
 }
 
 impl From<AllocError> for ReconfigureRefused {
-    ghost use Rattle.router_core.specs.declared.reconfiguring.ReconfigureRefused.TheVariants.{OutOfMemory};
-
     ghost from_gives = { λ _ refusal. refusal ≡ OutOfMemory };
 
     fn from(_error: AllocError) -> ReconfigureRefused {

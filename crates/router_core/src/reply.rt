@@ -1,10 +1,8 @@
 //! The reply to a Request: the whole table, or entry by entry (RFC 2080, section 2.4.1).
 
 ghost use Rattle.std.specs.Prelude.{◌≡◌, ◌≤◌, max, true, length, IsOk, IfOk};
+ghost use Rattle.router_core.specs.Common.{mtu_at, ripng_port, AreSpelled, asks_for_all, reply, reply_entry, reply_messages};
 ghost use Rattle.std.specs.FinMap as map_of;
-ghost use Rattle.router_core.specs.Config.{mtu_at};
-ghost use Rattle.router_core.specs.Faults.{ripng_port};
-ghost use Rattle.router_core.specs.Output.{AreSpelled, asks_for_all, reply, reply_entry, reply_messages};
 
 use crate::answer::{Destination, Outgoing};
 use crate::arrival::{Arrival, RIPNG_PORT};

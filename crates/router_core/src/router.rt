@@ -1,17 +1,8 @@
 //! A router over any store of routes, and its main steps: start, arrival and tick (RFC 2080, sections 2.3 to 2.5).
 
 ghost use Rattle.std.specs.Prelude.{◌≡◌, ◌<◌, ◌≤◌, ◌*◌, ◌↔◌, max, [], IsTrue, None, Some, IsSome, IsOk, IfOk, OnErr, length};
+ghost use Rattle.router_core.specs.Common.{Replays, Spells, Request, Response, infinity, forwards, changes_of_ageing, changes_of_start, cost_at, fault, Happening, Hears, Moves, Replies, Starts, gateway_of, owned_table, tick_messages, AreSpelled, start_messages, update_due, update_of, regular_after, hold_after, entries_in, codes, coded_table, State};
 ghost use Rattle.std.specs.FinMap as map_of;
-ghost use Rattle.fib.specs.Forwarding.{Replays};
-ghost use Rattle.ripng_wire.specs.Layout.{Spells};
-ghost use Rattle.ripng_wire.specs.declared.rte.Command.TheVariants.{Request, Response};
-ghost use Rattle.route_table.specs.Route.{infinity};
-ghost use Rattle.router_core.specs.Changes.{forwards, changes_of_ageing, changes_of_start};
-ghost use Rattle.router_core.specs.Config.{cost_at};
-ghost use Rattle.router_core.specs.Faults.{fault};
-ghost use Rattle.router_core.specs.Machine.{Happening, Hears, Moves, Replies, Starts, gateway_of, owned_table, tick_messages};
-ghost use Rattle.router_core.specs.Output.{AreSpelled, start_messages};
-ghost use Rattle.router_core.specs.Updates.{update_due, update_of, regular_after, hold_after, entries_in};
 
 mod changing;
 mod links;
@@ -53,16 +44,9 @@ pub struct Router<S: RouteStore> {
 }
 
 impl<S: RouteStore> Model for Router<S> {
-    ghost use Rattle.std.specs.Coded.{codes};
-    ghost use Rattle.std.specs.FinMap as map_of;
-    ghost use Rattle.prefix6.specs.Prefix.{prefix_cmp};
-    ghost use Rattle.prefix6.specs.contracts.prefix.Prefix as prefix;
-    ghost use Rattle.route_table.specs.contracts.route.Route as route;
-    ghost use Rattle.router_core.specs.Machine.{State};
-
     ghost Value = { State };
 
-    ghost coded = { Prim.hlevel (codes, map_of.code {R = prefix_cmp} prefix.the_row.coded route.the_row.coded) };
+    ghost coded = { Prim.hlevel (codes, coded_table) };
 
     ghost view = { λ r. record {
       config = r.config;

@@ -2,9 +2,7 @@
 //! on one interface when the link there comes up.
 
 ghost use Rattle.std.specs.Prelude.{◌≡◌, ◌≤◌, true, length, IsOk, IfOk};
-ghost use Rattle.router_core.specs.Changes.{changes_of_start};
-ghost use Rattle.router_core.specs.Machine.{owned_table};
-ghost use Rattle.router_core.specs.Output.{AreSpelled, IsSpelled, link_up_messages, request_on, start_messages};
+ghost use Rattle.router_core.specs.Common.{changes_of_start, owned_table, AreSpelled, IsSpelled, link_up_messages, request_on, start_messages};
 
 use crate::answer::{Destination, Outgoing};
 use crate::config::RouterConfig;

@@ -2,12 +2,8 @@
 //! sections 2.5 and 2.6).
 
 ghost use Rattle.std.specs.Prelude.{◌≡◌, ◌≤◌, ◌+◌, ◌*◌, [], ◌∷◌, true, length, map, IsOk, IfOk, OnOk};
+ghost use Rattle.router_core.specs.Common.{most_entries, map_entries, AddsSpelled, AreSpelled, responses_at, selected, told_entry, told_message, update_messages, settled_table, told_route, Group};
 ghost use Rattle.std.specs.FinMap as map_of;
-ghost use Rattle.ripng_wire.specs.Layout.{most_entries};
-ghost use Rattle.route_table.specs.Table.{map_entries};
-ghost use Rattle.router_core.specs.Output.{AddsSpelled, AreSpelled, responses_at, selected, told_entry, told_message, update_messages};
-ghost use Rattle.router_core.specs.Settling.{settled_table, told_route};
-ghost use Rattle.router_core.specs.declared.answer.Destination.TheVariants.{Group};
 
 use crate::answer::{Destination, Outgoing};
 use crate::config::RouterConfig;

@@ -2,10 +2,7 @@
 //! advertised (RFC 2080, sections 2.3 and 2.5.1).
 
 ghost use Rattle.std.specs.Prelude.{◌≡◌, [], IsOk, IfOk, if◌then◌else◌, Some};
-ghost use Rattle.std.specs.FinMap.{get};
-ghost use Rattle.route_table.specs.Table.{with_value};
-ghost use Rattle.router_core.specs.Ageing.{aged, aged_table, unmarked};
-ghost use Rattle.router_core.specs.Changes.{change, changes_of_ageing};
+ghost use Rattle.router_core.specs.Common.{get, with_value, aged, aged_table, unmarked, change, changes_of_ageing};
 
 use crate::age::age;
 use crate::forwarding::change;

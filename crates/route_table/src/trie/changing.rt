@@ -1,10 +1,7 @@
 //! Adding a route to a trie, and removing one.
 
 ghost use Rattle.std.specs.Prelude.{◌≡◌, ◌≢◌, [], ◌∷◌, IfOk};
-ghost use Rattle.std.specs.FinMap.Entries.{put};
-ghost use Rattle.prefix6.specs.Prefix.{prefix_cmp};
-ghost use Rattle.prefix6.specs.Halves.{IsUnder};
-ghost use Rattle.route_table.specs.Trie.{linked, owned, fork_entries, without, AreParts, HasEntries, AreIn};
+ghost use Rattle.route_table.specs.Common.{put, prefix_cmp, IsUnder, linked, owned, fork_entries, without, AreParts, HasEntries, AreIn};
 
 use super::{Entry, Fork, Node};
 use crate::route::Route;

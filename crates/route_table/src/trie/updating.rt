@@ -1,12 +1,7 @@
 //! Replacing routes of a trie.
 
 ghost use Rattle.std.specs.Prelude.{◌≡◌, false, [], ◌∷◌, None, option_map, IfSome};
-ghost use Rattle.std.specs.FinMap.{find};
-ghost use Rattle.prefix6.specs.Prefix.{prefix_cmp};
-ghost use Rattle.route_table.specs.Due.{without_mark};
-ghost use Rattle.route_table.specs.Summary.{summary_of};
-ghost use Rattle.route_table.specs.Table.{map_entries};
-ghost use Rattle.route_table.specs.Trie.{linked, owned, fork_entries, entries_with, HasEntries};
+ghost use Rattle.route_table.specs.Common.{find, prefix_cmp, without_mark, summary_of, map_entries, linked, owned, fork_entries, entries_with, HasEntries};
 
 use super::{Entry, Fork, Node, summary_of_parts};
 use crate::route::Route;

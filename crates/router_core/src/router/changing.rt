@@ -1,12 +1,7 @@
 //! A step of a router: its configuration changes while it runs.
 
 ghost use Rattle.std.specs.Prelude.{◌≡◌, ℕ, ◌≤◌, max, None, IsOk, IfErr, IfOk, OnErr, OnOk, [], length, unwrap_or};
-ghost use Rattle.std.specs.List.{cons_option};
-ghost use Rattle.fib.specs.Forwarding.{Replays};
-ghost use Rattle.prefix6.specs.Prefix.{IsPrefix};
-ghost use Rattle.router_core.specs.Changes.{change, forwards};
-ghost use Rattle.router_core.specs.Machine.{Happening, Moves};
-ghost use Rattle.router_core.specs.Reconfiguring.{IsNamed, NamesInterface, reconfigure_fault, reconfigured_config, reconfigured_table, changes_of_reconfiguring};
+ghost use Rattle.router_core.specs.Common.{cons_option, Replays, IsPrefix, change, forwards, Happening, Moves, IsNamed, NamesInterface, reconfigure_fault, reconfigured_config, reconfigured_table, changes_of_reconfiguring};
 
 use super::Router;
 use crate::answer::{Answer, answer_of};

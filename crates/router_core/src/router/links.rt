@@ -1,9 +1,7 @@
 //! Links of a router go down and come up.
 
 ghost use Rattle.std.specs.Prelude.{◌≡◌, ◌≤◌, IfOk, OnErr, [], length};
-ghost use Rattle.fib.specs.Forwarding.{Replays};
-ghost use Rattle.router_core.specs.Changes.{forwards};
-ghost use Rattle.router_core.specs.Machine.{Happening, Moves};
+ghost use Rattle.router_core.specs.Common.{Replays, forwards, Happening, Moves};
 
 use super::Router;
 use crate::answer::{Answer, answer_of};

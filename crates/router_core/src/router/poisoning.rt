@@ -1,12 +1,8 @@
 //! A router shuts down: its last update advertises every route as unreachable.
 
 ghost use Rattle.std.specs.Prelude.{◌≡◌, ◌≤◌, ◌*◌, IfOk, OnErr, length};
+ghost use Rattle.router_core.specs.Common.{Replays, forwards, shutdown_messages, Happening, Moves, AreSpelled};
 ghost use Rattle.std.specs.FinMap as map_of;
-ghost use Rattle.fib.specs.Forwarding.{Replays};
-ghost use Rattle.router_core.specs.Changes.{forwards};
-ghost use Rattle.router_core.specs.Shutdown.{shutdown_messages};
-ghost use Rattle.router_core.specs.Machine.{Happening, Moves};
-ghost use Rattle.router_core.specs.Output.{AreSpelled};
 
 use super::Router;
 use crate::answer::{Answer, Outgoing, answer_of};

@@ -1,11 +1,7 @@
 //! When a router next has something to do without a datagram.
 
 ghost use Rattle.std.specs.Prelude.{◌≡◌, ℕ, ◌<◌, ◌↔◌, false, max};
-ghost use Rattle.std.specs.FinMap.{entries};
-ghost use Rattle.route_table.specs.Due.{is_reached, least_deadline, next_due};
-ghost use Rattle.router_core.specs.Machine.{Happening, Moves, State};
-ghost use Rattle.router_core.specs.Waking.{IsIdle, or_earlier, triggered_at, wakes_at};
-ghost use Rattle.router_core.specs.declared.answer.Answer.{Answer};
+ghost use Rattle.router_core.specs.Common.{entries, is_reached, least_deadline, next_due, Happening, Moves, State, IsIdle, or_earlier, triggered_at, wakes_at, Answer};
 
 use super::Router;
 use prefix6::Prefix;
