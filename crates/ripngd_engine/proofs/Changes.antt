@@ -7,7 +7,7 @@ use Rattle.router_core.specs.declared.answer.Answer.{Answer}
 use Rattle.router_core.specs.declared.reconfiguring.Change.{Change}
 use Rattle.ripngd_engine.specs.Telling.{Gains}
 use Rattle.ripngd_engine.specs.Observer.{LinkReport}
-use Rattle.ripngd_engine.specs.Run.{Machine, Trace, Moved, arrival_told, one_moment}
+use Rattle.ripngd_engine.specs.Run.{Moved, arrival_told, one_moment}
 use Rattle.ripngd_engine.specs.Outlet.{OutletSeen, CarriesOut}
 use Rattle.ripngd_engine.specs.Seen.{Acts}
 use Rattle.ripngd_engine.specs.Changing.{ReconfiguresOnce, ReconfiguresNothing, ShutsDownOnce, LinkGoesDownOnce, LinkComesUpOnce}

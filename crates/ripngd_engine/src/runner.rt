@@ -1,7 +1,7 @@
 //! A router that runs: the steps of one turn.
 
 ghost use Rattle.std.specs.Prelude.{◌≡◌, ◌<◌, ◌≤◌, [], ◌∷◌, false, IfOk, IfSome, is_err, length, vec_len};
-ghost use Rattle.ripngd_engine.specs.Common.{next_u32, Gains, recv_call, datagram_in, TakesArrival, TicksOnce, Coded-set, →_prop, forwards, NamesInterface, ShutsDownOnce, LinkComesUpOnce, LinkGoesDownOnce, ReconfigureAnswer, StepAnswer, NoLink, NoMemory};
+ghost use Rattle.ripngd_engine.specs.Common.{next_u32, Gains, recv_call, TicksOnce, Coded-set, →_prop, forwards, NamesInterface, ShutsDownOnce, LinkComesUpOnce, LinkGoesDownOnce, ReconfigureAnswer, StepAnswer, NoLink, NoMemory};
 ghost use Rattle.fib.specs.contracts.fib.Fib as forwarding;
 
 use crate::clock::TimeSource;
@@ -10,7 +10,7 @@ use crate::observer::{Arrived, NoObserver, TrafficObserver};
 use crate::outlet::{Outlet, one_more};
 use crate::report::ChangeFault;
 use rand_core::Rng;
-use route_table::{Moment, RouteStore};
+use route_table::RouteStore;
 use router_core::{Arrival, Change, ReconfigureRefused, Router};
 use std::alloc::AllocError;
 use std::io::Write;
@@ -62,15 +62,6 @@ fn listen<L: Link>(link: &mut L, buffer: &mut Vec<u8>) -> Result<Option<Received
     link.recv(buffer.as_mut_slice())
 }
 
-/// The input of a tick: the moment now, and the next random word.
-fn moment_and_word<C: TimeSource, R: Rng>(clock: &mut C, rng: &mut R) -> (Moment, u32)
-    ensures gained { Gains (C.moments clock.old) (C.moments clock.new) (result.0 ∷ []) }
-    ensures drawn { (result.1, R.stream rng.new) ≡ next_u32 (R.stream rng.old) }
-{
-    let now = clock.now();
-    (now, rng.next_u32())
-}
-
 impl<S: RouteStore, L: Link, C: TimeSource, R: Rng + Drop> Runner<S, L, C, R> {
     ghost use Rattle.ripngd_engine.specs.Runner.{runner_seen, ActsTold, TakesReceived, TurnAnswers};
 
@@ -85,7 +76,8 @@ impl<S: RouteStore, L: Link, C: TimeSource, R: Rng + Drop> Runner<S, L, C, R> {
             (runner_seen L.calls C.moments R.stream W.contents self.new log.new) }
         ensures ended { self.new.outlet.ended ≡ is_err result }
     {
-        let (now, word) = moment_and_word(&mut self.clock, &mut self.rng);
+        let now = self.clock.now();
+        let word = self.rng.next_u32();
         match self.router.tick(now, word) {
             Ok(answer) => self.outlet.carry_out(answer, log, observer),
             Err(_) => {
@@ -95,21 +87,25 @@ impl<S: RouteStore, L: Link, C: TimeSource, R: Rng + Drop> Runner<S, L, C, R> {
         }
     }
 
-    /// The arrival of a datagram, now. The observer gets the router's answer before that is carried out.
+    /// The arrival of a datagram, now, if there is one. The observer gets the router's answer before that is carried out.
     fn arrive<W: Write, V: TrafficObserver>(
         &mut self,
-        received: Received,
+        received: Option<Received>,
         buffer: &[u8],
         log: &mut W,
         observer: &mut V,
     ) -> Result<(), AllocError>
         requires ended { self.old.outlet.ended ≡ false }
-        requires interface { received.iface < length self.old.router.config.interfaces }
-        requires within { received.len ≤ length buffer.now }
-        ensures acts { ActsTold V.takes observer.old observer.new (TakesArrival (datagram_in received buffer.now)) (runner_seen L.calls C.moments R.stream W.contents self.old log.old)
+        requires interface { IfSome received (λ r. r.iface < length self.old.router.config.interfaces) }
+        requires within { IfSome received (λ r. r.len ≤ length buffer.now) }
+        ensures acts { ActsTold V.takes observer.old observer.new (TakesReceived received buffer.now) (runner_seen L.calls C.moments R.stream W.contents self.old log.old)
             (runner_seen L.calls C.moments R.stream W.contents self.new log.new) }
         ensures ended { self.new.outlet.ended ≡ is_err result }
     {
+        let received = match received {
+            Some(received) => received,
+            None => return Ok(()),
+        };
         let arrived = Arrived {
             moment: self.clock.now(),
             iface: received.iface,
@@ -138,27 +134,6 @@ impl<S: RouteStore, L: Link, C: TimeSource, R: Rng + Drop> Runner<S, L, C, R> {
         }
     }
 
-    /// An arrival, if there is a datagram.
-    fn take_in<W: Write, V: TrafficObserver>(
-        &mut self,
-        received: Option<Received>,
-        buffer: &[u8],
-        log: &mut W,
-        observer: &mut V,
-    ) -> Result<(), AllocError>
-        requires ended { self.old.outlet.ended ≡ false }
-        requires interface { IfSome received (λ r. r.iface < length self.old.router.config.interfaces) }
-        requires within { IfSome received (λ r. r.len ≤ length buffer.now) }
-        ensures acts { ActsTold V.takes observer.old observer.new (TakesReceived received buffer.now) (runner_seen L.calls C.moments R.stream W.contents self.old log.old)
-            (runner_seen L.calls C.moments R.stream W.contents self.new log.new) }
-        ensures ended { self.new.outlet.ended ≡ is_err result }
-    {
-        match received {
-            None => Ok(()),
-            Some(received) => self.arrive(received, buffer, log, observer),
-        }
-    }
-
     /// One `recv` into the buffer, an arrival if it gave a datagram, and then a tick.
     pub(crate) fn turn<W: Write, V: TrafficObserver>(
         &mut self,
@@ -171,7 +146,7 @@ impl<S: RouteStore, L: Link, C: TimeSource, R: Rng + Drop> Runner<S, L, C, R> {
             (runner_seen L.calls C.moments R.stream W.contents self.new log.new) }
     {
         let received = listen(&mut self.outlet.link, buffer)?;
-        self.take_in(received, buffer.as_slice(), log, observer)?;
+        self.arrive(received, buffer.as_slice(), log, observer)?;
         self.tick(log, observer)?;
         Ok(())
     }

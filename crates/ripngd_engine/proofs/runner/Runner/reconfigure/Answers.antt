@@ -1,4 +1,4 @@
-use Rattle.std.proofs.Common.{ap, sym, ◌∙◌, length}
+use Rattle.std.proofs.Common.{sym, ◌∙◌}
 use Rattle.ripngd_engine.proofs.Steps.{follows}
 use Rattle.ripngd_engine.proofs.Changes.{Acts-changed, Acts-unchanged}
 use Rattle.ripngd_engine.proofs.runner.Runner.reconfigure.Goals as goal

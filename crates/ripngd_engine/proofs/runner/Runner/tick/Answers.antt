@@ -11,16 +11,16 @@ invariant_of-self g c = record {
 
 pub returns-in-Ok-clause-acts : goal.returns-in-Ok-clause-acts
 returns-in-Ok-clause-acts g c =
-    let now = c.moment_and_word-now.result.0 in
-    let word = c.moment_and_word-now.result.1 in
-    Acts-ticks _ _ _ _ _ now word _ c.moment_and_word-now.ensures.drawn
-    (Acts-moved _ _ _ _ _ _ _ _ now (Ticks now word) c.moment_and_word-now.ensures.gained
+    let now = c.now-now.result in
+    let word = c.next_u32-word.result in
+    Acts-ticks _ _ _ _ _ now word _ c.next_u32-word.ensures
+    (Acts-moved _ _ _ _ _ _ _ _ now (Ticks now word) c.now-now.ensures.gained
     _ _ _ _ c.in-Ok.answer _ c.in-Ok.ensures.moves refl c.carry_out.ensures.carries)
 
 pub returns-in-Err-clause-acts : goal.returns-in-Err-clause-acts
 returns-in-Err-clause-acts g c =
-    let now = c.moment_and_word-now.result.0 in
-    let word = c.moment_and_word-now.result.1 in
-    Acts-ticks _ _ _ _ _ now word _ c.moment_and_word-now.ensures.drawn
-    (Acts-lost _ _ _ _ _ _ _ _ now (Ticks now word) c.moment_and_word-now.ensures.gained
+    let now = c.now-now.result in
+    let word = c.next_u32-word.result in
+    Acts-ticks _ _ _ _ _ now word _ c.next_u32-word.ensures
+    (Acts-lost _ _ _ _ _ _ _ _ now (Ticks now word) c.now-now.ensures.gained
     _ _ _ c.in-Err.ensures.err c.one_more-self.ensures)

@@ -7,18 +7,18 @@ pub returns : goal.returns
 returns g c = (
   Turn-whole-told _ _ _ _ _ _ _ _ c.in_ok-received.received c.listen.new.buffer.items c.requires
       (record { calls = c.in_ok-received.ensures.gained; machine = refl; rest = refl })
-      (rw c.as_slice.ensures.value at c.take_in.ensures.acts) c.in_ok-take_in.ensures.ended c.tick.ensures.acts,
+      (rw c.as_slice.ensures.value at c.arrive.ensures.acts) c.in_ok-arrive.ensures.ended c.tick.ensures.acts,
   c.in_ok-tick.ensures.ended,
 )
 
-pub returns-in_err-take_in : goal.returns-in_err-take_in
-returns-in_err-take_in g c =
-    let fault = err_from_is_err_and c.from_residual-in_err-take_in.result c.from_residual-in_err-take_in.ensures.1 in
+pub returns-in_err-arrive : goal.returns-in_err-arrive
+returns-in_err-arrive g c =
+    let fault = err_from_is_err_and c.from_residual-in_err-arrive.result c.from_residual-in_err-arrive.ensures.1 in
     rw (fault.1, fault.2) (
       Turn-refused-told _ _ _ _ _ _ c.in_ok-received.received c.listen.new.buffer.items c.requires
           (record { calls = c.in_ok-received.ensures.gained; machine = refl; rest = refl })
-          (rw c.as_slice.ensures.value at c.take_in.ensures.acts) c.in_err-take_in.ensures.ended,
-      c.in_err-take_in.ensures.ended,
+          (rw c.as_slice.ensures.value at c.arrive.ensures.acts) c.in_err-arrive.ensures.ended,
+      c.in_err-arrive.ensures.ended,
     )
 
 pub returns-in_err-tick : goal.returns-in_err-tick
@@ -27,6 +27,6 @@ returns-in_err-tick g c =
     rw (fault.1, fault.2) (
       Turn-whole-told _ _ _ _ _ _ _ _ c.in_ok-received.received c.listen.new.buffer.items c.requires
           (record { calls = c.in_ok-received.ensures.gained; machine = refl; rest = refl })
-          (rw c.as_slice.ensures.value at c.take_in.ensures.acts) c.in_ok-take_in.ensures.ended c.tick.ensures.acts,
+          (rw c.as_slice.ensures.value at c.arrive.ensures.acts) c.in_ok-arrive.ensures.ended c.tick.ensures.acts,
       c.in_err-tick.ensures.ended,
     )
